@@ -1,2 +1,3 @@
 pub mod Faults
+pub mod Id
 pub mod Name

@@ -1,6 +1,6 @@
 // Why a call could not do its work.
 
-use std::alloc::AllocError;
+use std::alloc::{AllocError, AllocFailed};
 
 /// A call of a source, a sink or a disk failed. The object's count of faults says so too.
 #[derive(Clone, Copy, Debug, PartialEq, Eq)]
@@ -11,10 +11,13 @@ pub struct Failed;
 pub struct NoMemory;
 
 impl From<AllocError> for NoMemory {
-    ghost use Rattle.std.specs.Prelude.{◌≡◌};
-    ghost use Rattle.hm_types.specs.declared.fault.NoMemory.{NoMemory};
-
     fn from(_: AllocError) -> NoMemory {
+        NoMemory
+    }
+}
+
+impl<T: Drop> From<AllocFailed<T>> for NoMemory {
+    fn from(_: AllocFailed<T>) -> NoMemory {
         NoMemory
     }
 }

@@ -1,0 +1,10 @@
+pub mod Reply
+pub mod Tree
+pub mod Volume
+pub mod Walk
+pub mod Due
+pub mod Change
+pub mod After
+pub mod Legal
+pub mod Lines
+pub mod Out

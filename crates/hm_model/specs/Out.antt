@@ -1,0 +1,44 @@
+-- What a run prints.
+use Rattle.std.specs.Prelude.{◌≡◌, ℕ, ◌<◌, List, [], ◌∷◌, ◌++◌, Bool, ◌==◌, Some, find, count_by, All, Any, Contains, codes}
+use Rattle.std.specs.List.{flat_map}
+use Rattle.std.specs.Option.{option_map_or}
+use Rattle.hm_types.specs.Id.{id_text}
+use Rattle.hm_model.specs.declared.entry.Entry.{Entry}
+use Rattle.hm_model.specs.Reply.{reply_text}
+use Rattle.hm_model.specs.Lines.{Line, line_feed}
+
+-- the printed line of an entry: its id and its reply
+abbrev pub entry_text : Entry → List ℕ
+entry_text e = id_text e.id ++ (codes " " ++ (reply_text e.reply ++ line_feed ∷ []))
+
+-- whether the entry answers the line with this number
+abbrev pub answers : ℕ → Entry → Bool
+answers number e = e.line == number
+
+-- what a line prints in a run with this history
+abbrev pub line_text : List Entry → Line → List ℕ
+line_text history line = option_map_or entry_text (find (answers line.number) history) []
+
+-- what the lines print, in their order
+abbrev pub out_text : List Line → List Entry → List ℕ
+out_text lines history = flat_map (line_text history) lines
+
+-- the entry has the line's lane, number and command
+pub record IsOf (line : Line) (e : Entry) : Type 0 where
+  pub lane : e.lane ≡ line.lane
+  pub number : e.line ≡ line.number
+  pub command : e.call ≡ line.command
+
+-- exactly one entry of the history is the line's
+pub record HasEntry (history : List Entry) (line : Line) : Type 0 where
+  pub entry : Entry
+  pub found : find (answers line.number) history ≡ Some entry
+  pub own : IsOf line entry
+  pub once : count_by (answers line.number) history ≡ 1
+
+-- The history answers the lines: each has its entry, every entry belongs to a line, and the ids of a
+-- line, which is a block by itself, lie before those of the lines after it.
+pub record Answers (lines : List Line) (history : List Entry) : Type 0 where
+  pub each : All (HasEntry history) lines
+  pub owned : All (λ e. Any (λ line. IsOf line e) lines) history
+  pub in_order : (a b : Entry) → Contains history a → Contains history b → a.line < b.line → a.id.0 < b.id.0

@@ -1,0 +1,60 @@
+-- A tree: its objects, and which directory has which object under which name.
+use Rattle.std.specs.Prelude.{ℕ, List, [], ◌∷◌, Bool, ◌==◌, ◌&&◌, if◌then◌else◌}
+use Rattle.std.specs.Bool.{nat_lt}
+use Rattle.std.specs.List.{list_any}
+use Rattle.std.specs.Ordering.{nat_cmp, ordering_then, is_lt}
+use Rattle.std.specs.Cmp.Lexicographic.{slice_cmp}
+use Rattle.std.specs.Str.{bytes_eq}
+use Rattle.std.specs.declared.cmp.Ordering.{Ordering}
+use Rattle.hm_types.specs.declared.id.Obj.{Obj}
+use Rattle.hm_model.specs.declared.object.Object.{Object}
+use Rattle.hm_model.specs.declared.object.Triple.{Triple}
+use Rattle.hm_model.specs.declared.object.Kind.TheVariants.{Directory}
+use Rattle.hm_model.specs.declared.object.Content.TheVariants.{Nothing}
+
+-- the objects rise by number, the triples by directory and then by the bytes of the name
+pub record FileTree : Type 0 where
+  pub objects : List Object
+  pub triples : List Triple
+
+-- the number of every root directory
+abbrev pub root_number : Obj
+root_number = record { 0 = 1 }
+
+-- a directory of its own, with one link
+abbrev pub directory_of : Obj → Object
+directory_of number = record { number = number; kind = Directory; content = Nothing; links = 1 }
+
+-- the tree of a new volume: the root directory, with no entry
+abbrev pub root_tree : FileTree
+root_tree = record { objects = directory_of root_number ∷ []; triples = [] }
+
+-- the tree without objects
+abbrev pub no_tree : FileTree
+no_tree = record { objects = []; triples = [] }
+
+-- whether the directory has an entry of this name
+abbrev pub has_name : FileTree → Obj → List ℕ → Bool
+has_name tree directory name =
+    list_any (λ t. (t.directory.0 == directory.0) && bytes_eq t.name name) tree.triples
+
+-- the order of triples
+abbrev pub triple_cmp : Triple → Triple → Ordering
+triple_cmp t u = ordering_then (nat_cmp t.directory.0 u.directory.0) (slice_cmp nat_cmp t.name u.name)
+
+-- the objects with one more, in its place
+abbrev pub insert_object : Object → List Object → List Object
+insert_object o [] = o ∷ []
+insert_object o (x ∷ xs) = if nat_lt o.number.0 x.number.0 then o ∷ x ∷ xs else x ∷ insert_object o xs
+
+-- the triples with one more, in its place
+abbrev pub insert_triple : Triple → List Triple → List Triple
+insert_triple t [] = t ∷ []
+insert_triple t (u ∷ us) = if is_lt (triple_cmp t u) then t ∷ u ∷ us else u ∷ insert_triple t us
+
+-- the tree with one more object, which the directory has under this name
+abbrev pub with_object : FileTree → Obj → List ℕ → Object → FileTree
+with_object tree directory name object = record {
+  objects = insert_object object tree.objects;
+  triples = insert_triple (record { directory = directory; name = name; object = object.number }) tree.triples;
+}
