@@ -5,7 +5,6 @@ use Rattle.std.specs.List.{list_any}
 use Rattle.std.specs.Ordering.{nat_cmp, ordering_then, is_lt}
 use Rattle.std.specs.Cmp.Lexicographic.{slice_cmp}
 use Rattle.std.specs.Str.{bytes_eq}
-use Rattle.std.specs.declared.cmp.Ordering.{Ordering}
 use Rattle.hm_types.specs.declared.id.Obj.{Obj}
 use Rattle.hm_model.specs.declared.object.Object.{Object}
 use Rattle.hm_model.specs.declared.object.Triple.{Triple}
@@ -38,23 +37,25 @@ abbrev pub has_name : FileTree → Obj → List ℕ → Bool
 has_name tree directory name =
     list_any (λ t. (t.directory.0 == directory.0) && bytes_eq t.name name) tree.triples
 
+-- the list with one more element, in front of the first that it goes before
+abbrev pub insert_by : {X : Type 0} → (X → X → Bool) → X → List X → List X
+insert_by before x [] = x ∷ []
+insert_by before x (y ∷ ys) = if before x y then x ∷ y ∷ ys else y ∷ insert_by before x ys
+
+-- the order of objects
+abbrev pub is_object_before : Object → Object → Bool
+is_object_before o p = nat_lt o.number.0 p.number.0
+
 -- the order of triples
-abbrev pub triple_cmp : Triple → Triple → Ordering
-triple_cmp t u = ordering_then (nat_cmp t.directory.0 u.directory.0) (slice_cmp nat_cmp t.name u.name)
-
--- the objects with one more, in its place
-abbrev pub insert_object : Object → List Object → List Object
-insert_object o [] = o ∷ []
-insert_object o (x ∷ xs) = if nat_lt o.number.0 x.number.0 then o ∷ x ∷ xs else x ∷ insert_object o xs
-
--- the triples with one more, in its place
-abbrev pub insert_triple : Triple → List Triple → List Triple
-insert_triple t [] = t ∷ []
-insert_triple t (u ∷ us) = if is_lt (triple_cmp t u) then t ∷ u ∷ us else u ∷ insert_triple t us
+abbrev pub is_triple_before : Triple → Triple → Bool
+is_triple_before t u =
+    is_lt (ordering_then (nat_cmp t.directory.0 u.directory.0) (slice_cmp nat_cmp t.name u.name))
 
 -- the tree with one more object, which the directory has under this name
 abbrev pub with_object : FileTree → Obj → List ℕ → Object → FileTree
 with_object tree directory name object = record {
-  objects = insert_object object tree.objects;
-  triples = insert_triple (record { directory = directory; name = name; object = object.number }) tree.triples;
+  objects = insert_by is_object_before object tree.objects;
+  triples = insert_by is_triple_before
+      (record { directory = directory; name = name; object = object.number })
+      tree.triples;
 }

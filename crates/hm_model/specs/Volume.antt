@@ -39,21 +39,33 @@ pub record Volume : Type 0 where
 abbrev pub open_end : ℕ
 open_end = 2 ^ 64 - 1
 
+-- a master with these versions, which keeps every id
+abbrev pub new_master : ℕ → ℕ → List (ℕ × FileTree) → PseudoFileSystem
+new_master number shared versions = record {
+  number = number;
+  role = Master;
+  shared = shared;
+  retention = (1, open_end) ∷ [];
+  sync_end = 0;
+  versions = versions;
+  origin = Nowhere;
+  clear = true;
+}
+
 -- a volume as it is made: one master, whose tree is the root alone, and the id 1 drawn
 abbrev pub fresh : ℕ → Volume
 fresh bigblocks = record {
   bigblocks = bigblocks;
   last = 1;
-  systems = record {
-    number = 0;
-    role = Master;
-    shared = 0;
-    retention = (1, open_end) ∷ [];
-    sync_end = 0;
-    versions = (1, root_tree) ∷ [];
-    origin = Nowhere;
-    clear = true;
-  } ∷ [];
+  systems = new_master 0 0 ((1, root_tree) ∷ []) ∷ [];
+}
+
+-- a volume as it is made, but with this last id and this tree
+abbrev pub fresh_with : ℕ → ℕ → FileTree → Volume
+fresh_with bigblocks last tree = record {
+  bigblocks = bigblocks;
+  last = last;
+  systems = new_master 0 0 ((0, tree) ∷ []) ∷ [];
 }
 
 -- the tree of the last of these versions whose first id is at most t, and before the first one this tree

@@ -3,7 +3,7 @@
 use hm_types::Text;
 
 /// One call, with the values of its words.
-#[derive(Clone, Debug, PartialEq, Drop)]
+#[derive(Debug, PartialEq, Drop)]
 pub enum Command {
     /// Makes an empty directory.
     Mkdir { path: Text },

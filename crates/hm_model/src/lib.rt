@@ -7,11 +7,13 @@
 mod command;
 mod entry;
 mod object;
+mod plain;
 mod reply;
 mod tree;
 
 pub use command::Command;
 pub use entry::Entry;
 pub use object::{Content, Kind, Object, Triple};
+pub use plain::apply;
 pub use reply::Reply;
 pub use tree::Tree;
