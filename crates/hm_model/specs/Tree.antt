@@ -32,10 +32,13 @@ root_tree = record { objects = directory_of root_number ∷ []; triples = [] }
 abbrev pub no_tree : FileTree
 no_tree = record { objects = []; triples = [] }
 
+-- the triple stands for this directory's entry of this name
+abbrev pub is_named : Obj → List ℕ → Triple → Bool
+is_named directory name t = (t.directory.0 == directory.0) && bytes_eq t.name name
+
 -- whether the directory has an entry of this name
 abbrev pub has_name : FileTree → Obj → List ℕ → Bool
-has_name tree directory name =
-    list_any (λ t. (t.directory.0 == directory.0) && bytes_eq t.name name) tree.triples
+has_name tree directory name = list_any (is_named directory name) tree.triples
 
 -- the list with one more element, in front of the first that it goes before
 abbrev pub insert_by : {X : Type 0} → (X → X → Bool) → X → List X → List X
