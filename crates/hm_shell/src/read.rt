@@ -1,0 +1,36 @@
+// A script from its source, whole.
+ghost use Rattle.std.specs.Prelude.{◌≡◌, ◌≤◌, IfErr, IfOk, MatchResult};
+ghost use Rattle.hm_shell.specs.Run.{WasRead, StoppedReading};
+
+use crate::stop::Stop;
+use hm_pipe::Source;
+use hm_types::MOST_SCRIPT_BYTES;
+use std::alloc::Global;
+
+// How many bytes are asked for at a time.
+const PIECE_BYTES: usize = 65_536;
+
+/// Reads the script to its end. It stops at a fault of the source, at the first piece that makes the
+/// script too long, and where memory runs out.
+pub(crate) fn read_script<S: Source>(alloc: Global, source: &mut S) -> Result<Vec<u8>, Stop>
+    ensures ok { IfOk result (λ script. WasRead S.left source.old source.new script.items) }
+    ensures err { IfErr result (StoppedReading S.left S.faults source.old source.new) }
+    ensures never_falls { S.faults source.old ≤ S.faults source.new }
+{
+    let before = source.faults();
+    let mut script = Vec::new(alloc);
+    let mut piece = vec![in alloc; 0u8; PIECE_BYTES]?;
+    'reading: while script.len() <= MOST_SCRIPT_BYTES {
+        let Ok(count) = source.take(&mut piece) else {
+            return Err(Stop::ScriptFault {
+                before,
+                after: source.faults(),
+            });
+        };
+        if count == 0 {
+            return Ok(script);
+        }
+        script.extend_from_slice(&piece[..count])?;
+    }
+    Err(Stop::TooLong)
+}
