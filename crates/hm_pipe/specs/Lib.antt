@@ -1,1 +1,4 @@
+pub mod Calls
+pub mod MemSink
+pub mod MemSource
 pub mod Pipe
