@@ -7,6 +7,10 @@ pub record Counts : Type 0 where
   pub made : ℕ
   pub faults : ℕ
 
+-- no calls yet, of which these are to fail
+abbrev pub no_calls : List ℕ → Counts
+no_calls fails = record { fails = fails; made = 0; faults = 0 }
+
 -- a count one higher, or as it was where it stands at the greatest `u64`
 abbrev pub raised : ℕ → ℕ
 raised count = min (count + 1) (2 ^ 64 - 1)

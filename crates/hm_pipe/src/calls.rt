@@ -1,7 +1,7 @@
 // The calls of a source or a sink in memory: each has a number, and those on a list fail.
 ghost use Rattle.std.specs.Prelude.{◌≡◌, ◌≤◌, ◌↔◌, [], IsTrue, IsErr, OnOk, OnErr, Contains};
 ghost use Rattle.hm_types.specs.Faults.{HasCause};
-ghost use Rattle.hm_pipe.specs.Calls.{Counts, IsNextListed, called, faulted};
+ghost use Rattle.hm_pipe.specs.Calls.{Counts, IsNextListed, no_calls, called, faulted};
 
 use hm_types::Failed;
 use std::marker::Model;
@@ -23,7 +23,7 @@ impl Model for Calls {
 impl Calls {
     /// No calls yet. Of those to come the numbers on the list fail, from 1 on.
     pub(crate) fn new(fails: Vec<u64>) -> Calls
-        ensures { result ≡ record { fails = fails.items; made = 0; faults = 0 } }
+        ensures { result ≡ no_calls fails.items }
     {
         Calls {
             fails,

@@ -2,6 +2,7 @@
 ghost use Rattle.std.specs.Prelude.{◌≡◌, ℕ, ◌≤◌, [], Some, IfOk, OnErr, length, take, drop, vec_len};
 ghost use Rattle.hm_types.specs.Faults.{HasCause};
 ghost use Rattle.hm_pipe.specs.Pipe.{Gives, IsAtEnd};
+ghost use Rattle.hm_pipe.specs.Calls.{no_calls};
 ghost use Rattle.hm_pipe.specs.MemSource.{SourceState, Takes};
 
 use crate::calls::Calls;
@@ -30,7 +31,7 @@ impl MemSource {
     /// A source of these bytes. `fails` has the numbers of the calls of `take` that fail, in any order;
     /// the first call is number 1.
     pub fn new(bytes: Vec<u8>, fails: Vec<u64>) -> MemSource
-        ensures { result ≡ record { rest = bytes.items; calls = record { fails = fails.items; made = 0; faults = 0 } } }
+        ensures { result ≡ record { rest = bytes.items; calls = no_calls fails.items } }
     {
         MemSource {
             bytes,
@@ -46,6 +47,7 @@ impl Source for MemSource {
     ghost faults = { λ s. s.calls.faults };
 
     fn take(&mut self, buf: &mut [u8]) -> Result<usize, Failed>
+        ensures within { IfOk result (λ n. n ≤ length buf.new) }
         ensures cause { HasCause self.old.calls.faults self.new.calls.faults result }
         ensures change { Takes self.old self.new buf.old buf.new result }
     {
@@ -58,5 +60,40 @@ impl Source for MemSource {
 
     fn faults(&self) -> u64 {
         self.calls.faults()
+    }
+}
+
+#[cfg(test)]
+mod tests {
+    use super::*;
+    use std::test::Fail;
+
+    #[test]
+    fn gives_its_bytes_in_order_and_fails_at_the_listed_calls(rt: HostRuntime) -> Result<(), Fail> {
+        let cases: [(&[u64], [Option<usize>; 5], u64); 5] = [
+            (&[], [Some(2), Some(2), Some(1), Some(0), Some(0)], 0),
+            (&[1], [None, Some(2), Some(2), Some(1), Some(0)], 1),
+            (&[2], [Some(2), None, Some(2), Some(1), Some(0)], 1),
+            (&[4, 0], [Some(2), Some(2), Some(1), None, Some(0)], 1),
+            (&[3, 1, 3], [None, Some(2), None, Some(2), Some(1)], 2),
+        ];
+        for (fails, answers, faults) in cases {
+            let mut source = MemSource::new(
+                b"hello".to_vec(rt.alloc())?,
+                fails.to_vec(rt.alloc())?,
+            );
+            let mut given = Vec::new(rt.alloc());
+            for want in answers {
+                let mut buf = [0; 2];
+                let answer = source.take(&mut buf);
+                assert_eq!(rt; answer.ok(), want, "with {fails:?}");
+                if let Ok(count) = answer {
+                    given.extend_from_slice(&buf[..count])?;
+                }
+            }
+            assert_eq!(rt; given.as_slice(), b"hello".as_slice());
+            assert_eq!(rt; source.faults(), faults, "with {fails:?}");
+        }
+        Ok(())
     }
 }
