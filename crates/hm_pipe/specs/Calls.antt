@@ -1,5 +1,5 @@
 -- Calls that are numbered from 1, of which those on a list fail.
-use Rattle.std.specs.Prelude.{◌≡◌, ℕ, ◌+◌, ◌-◌, ◌^◌, min, List, Contains}
+use Rattle.std.specs.Prelude.{ℕ, ◌+◌, ◌-◌, ◌^◌, min, List, Contains}
 
 -- the numbers of the calls that fail, how many calls there were, and how many of them failed
 pub record Counts : Type 0 where
