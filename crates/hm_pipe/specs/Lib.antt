@@ -1,1 +1,5 @@
+pub mod Calls
+pub mod Counted
+pub mod MemSink
+pub mod MemSource
 pub mod Pipe

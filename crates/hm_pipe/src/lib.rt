@@ -1,8 +1,19 @@
 //! Where bytes come from and where they go: sources and sinks, in memory and over std's readers and writers.
 #![tactic(auto)]
 
+mod calls;
+mod mem_sink;
+mod mem_source;
 mod sink;
 mod source;
+mod std_sink;
+mod std_source;
+#[cfg(test)]
+mod tests;
 
+pub use mem_sink::MemSink;
+pub use mem_source::MemSource;
 pub use sink::Sink;
 pub use source::Source;
+pub use std_sink::StdSink;
+pub use std_source::StdSource;

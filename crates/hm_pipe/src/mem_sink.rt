@@ -1,0 +1,99 @@
+// A sink in memory.
+ghost use Rattle.std.specs.Prelude.{◌≡◌, ℕ, [], Some, OnOk, OnErr, length, take};
+ghost use Rattle.hm_types.specs.Faults.{HasCause};
+ghost use Rattle.hm_pipe.specs.Pipe.{Gains};
+ghost use Rattle.hm_pipe.specs.Calls.{no_calls};
+ghost use Rattle.hm_pipe.specs.MemSink.{SinkState, Puts};
+
+use crate::calls::Calls;
+use crate::sink::Sink;
+use hm_types::Failed;
+use std::alloc::Global;
+use std::marker::Model;
+
+/// A sink in memory, which tells what it holds.
+#[derive(Drop)]
+pub struct MemSink {
+    bytes: Vec<u8>,
+    calls: Calls,
+}
+
+impl Model for MemSink {
+    ghost Value = { SinkState };
+
+    ghost view = { λ s. record { held = s.bytes.items; calls = s.calls } };
+}
+
+impl MemSink {
+    /// A sink that holds nothing. `fails` has the numbers of the calls of `put` that fail, in any order;
+    /// the first call is number 1.
+    pub fn new(alloc: Global, fails: Vec<u64>) -> MemSink
+        ensures { result ≡ record { held = []; calls = no_calls fails.items } }
+    {
+        MemSink {
+            bytes: Vec::new(alloc),
+            calls: Calls::new(fails),
+        }
+    }
+
+    /// All that it holds.
+    pub fn bytes(&self) -> &[u8]
+        ensures { result.now ≡ self.now.held }
+    {
+        &self.bytes
+    }
+}
+
+impl Sink for MemSink {
+    ghost held = { λ s. Some s.held };
+
+    ghost faults = { λ s. s.calls.faults };
+
+    fn put(&mut self, piece: &[u8]) -> Result<(), Failed>
+        ensures cause { HasCause self.old.calls.faults self.new.calls.faults result }
+        ensures change { Puts self.old self.new piece.now result }
+    {
+        if self.calls.begin().is_err() {
+            // The call has failed already, so a refused growth is no second fault.
+            let _ = self.bytes.extend_from_slice(&piece[..piece.len() / 2]);
+            return Err(Failed);
+        }
+        match self.bytes.extend_from_slice(piece) {
+            Ok(()) => Ok(()),
+            Err(_) => Err(self.calls.fail()),
+        }
+    }
+
+    fn faults(&self) -> u64 {
+        self.calls.faults()
+    }
+}
+
+#[cfg(test)]
+mod tests {
+    use super::*;
+    use std::test::Fail;
+
+    #[test]
+    fn appends_pieces_and_keeps_the_first_half_of_those_that_fail(
+        rt: HostRuntime,
+    ) -> Result<(), Fail> {
+        let cases: [(&[u64], &str, [bool; 3], u64); 5] = [
+            (&[], "onethreefive", [true, true, true], 0),
+            (&[1], "othreefive", [false, true, true], 1),
+            (&[2, 0], "onethfive", [true, false, true], 1),
+            (&[3, 3], "onethreefi", [true, true, false], 1),
+            (&[3, 2, 1], "othfi", [false, false, false], 3),
+        ];
+        for (fails, held, answers, faults) in cases {
+            let mut sink = MemSink::new(rt.alloc(), fails.to_vec(rt.alloc())?);
+            for (piece, want) in ["one", "three", "five"].iter().zip(answers) {
+                let answer = sink.put(piece.as_bytes());
+                assert_eq!(rt; answer.is_ok(), want, "{piece} with {fails:?}");
+            }
+            assert_eq!(rt; sink.bytes(), held.as_bytes());
+            assert_eq!(rt; sink.faults(), faults, "with {fails:?}");
+        }
+        Ok(())
+    }
+}

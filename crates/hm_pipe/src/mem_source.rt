@@ -1,0 +1,99 @@
+// A source in memory.
+ghost use Rattle.std.specs.Prelude.{◌≡◌, ℕ, ◌≤◌, [], Some, IfOk, OnErr, length, take, drop, vec_len};
+ghost use Rattle.hm_types.specs.Faults.{HasCause};
+ghost use Rattle.hm_pipe.specs.Pipe.{Gives, IsAtEnd};
+ghost use Rattle.hm_pipe.specs.Calls.{no_calls};
+ghost use Rattle.hm_pipe.specs.MemSource.{SourceState, Takes};
+
+use crate::calls::Calls;
+use crate::source::Source;
+use hm_types::Failed;
+use std::marker::Model;
+
+/// Bytes in memory, which tells what is left of them. It takes no memory.
+#[derive(Drop)]
+pub struct MemSource {
+    bytes: Vec<u8>,
+    // Where the bytes begin that are left.
+    at: usize,
+    calls: Calls,
+}
+
+impl Model for MemSource {
+    ghost Value = { SourceState };
+
+    ghost view = { λ s. record { rest = drop s.at s.bytes.items; calls = s.calls } };
+
+    ghost invariant = { λ s. s.at ≤ vec_len s.bytes };
+}
+
+impl MemSource {
+    /// A source of these bytes. `fails` has the numbers of the calls of `take` that fail, in any order;
+    /// the first call is number 1.
+    pub fn new(bytes: Vec<u8>, fails: Vec<u64>) -> MemSource
+        ensures { result ≡ record { rest = bytes.items; calls = no_calls fails.items } }
+    {
+        MemSource {
+            bytes,
+            at: 0,
+            calls: Calls::new(fails),
+        }
+    }
+}
+
+impl Source for MemSource {
+    ghost left = { λ s. Some s.rest };
+
+    ghost faults = { λ s. s.calls.faults };
+
+    fn take(&mut self, buf: &mut [u8]) -> Result<usize, Failed>
+        ensures within { IfOk result (λ n. n ≤ length buf.new) }
+        ensures cause { HasCause self.old.calls.faults self.new.calls.faults result }
+        ensures change { Takes self.old self.new buf.old buf.new result }
+    {
+        self.calls.begin()?;
+        let count = buf.len().min(self.bytes.len() - self.at);
+        buf[..count].copy_from_slice(&self.bytes[self.at..self.at + count]);
+        self.at += count;
+        Ok(count)
+    }
+
+    fn faults(&self) -> u64 {
+        self.calls.faults()
+    }
+}
+
+#[cfg(test)]
+mod tests {
+    use super::*;
+    use std::test::Fail;
+
+    #[test]
+    fn gives_its_bytes_in_order_and_fails_at_the_listed_calls(rt: HostRuntime) -> Result<(), Fail> {
+        let cases: [(&[u64], [Option<usize>; 5], u64); 5] = [
+            (&[], [Some(2), Some(2), Some(1), Some(0), Some(0)], 0),
+            (&[1], [None, Some(2), Some(2), Some(1), Some(0)], 1),
+            (&[2], [Some(2), None, Some(2), Some(1), Some(0)], 1),
+            (&[4, 0], [Some(2), Some(2), Some(1), None, Some(0)], 1),
+            (&[3, 1, 3], [None, Some(2), None, Some(2), Some(1)], 2),
+        ];
+        for (fails, answers, faults) in cases {
+            let mut source = MemSource::new(
+                b"hello".to_vec(rt.alloc())?,
+                fails.to_vec(rt.alloc())?,
+            );
+            let mut given = Vec::new(rt.alloc());
+            for want in answers {
+                let mut buf = [0; 2];
+                let answer = source.take(&mut buf);
+                assert_eq!(rt; answer.ok(), want, "with {fails:?}");
+                if let Ok(count) = answer {
+                    given.extend_from_slice(&buf[..count])?;
+                }
+            }
+            assert_eq!(rt; given.as_slice(), b"hello".as_slice());
+            assert_eq!(rt; source.faults(), faults, "with {fails:?}");
+        }
+        Ok(())
+    }
+}

@@ -1,0 +1,108 @@
+// A sink over a writer of std.
+ghost use Rattle.std.specs.Prelude.{◌≡◌, None, OnOk};
+ghost use Rattle.std.specs.Io.KnownBytes.{Appends};
+ghost use Rattle.hm_types.specs.Faults.{HasCause};
+
+use crate::sink::Sink;
+use hm_types::Failed;
+use std::io::Write;
+use std::marker::Model;
+
+/// A writer, of which nothing is told.
+#[derive(Drop)]
+pub struct StdSink<W> {
+    inner: W,
+    faults: u64,
+}
+
+impl<W> Model for StdSink<W> {
+    ghost use Rattle.hm_pipe.specs.Counted.{Counted};
+
+    ghost Value = { Counted W };
+
+    ghost view = { λ s. record { inner = s.inner; faults = s.faults } };
+}
+
+impl<W: Write> StdSink<W> {
+    pub fn new(inner: W) -> StdSink<W>
+        ensures { result ≡ record { inner = inner; faults = 0 } }
+    {
+        StdSink { inner, faults: 0 }
+    }
+}
+
+impl<W: Write> Sink for StdSink<W> {
+    ghost held = { λ _. None };
+
+    ghost faults = { λ s. s.faults };
+
+    fn put(&mut self, piece: &[u8]) -> Result<(), Failed>
+        ensures bytes { OnOk result (Appends (W.contents self.old.inner) (W.contents self.new.inner) piece.now) }
+        ensures cause { HasCause self.old.faults self.new.faults result }
+    {
+        match self.inner.write_all(piece) {
+            Ok(()) => Ok(()),
+            Err(_) => {
+                self.faults = self.faults.saturating_add(1);
+                Err(Failed)
+            }
+        }
+    }
+
+    fn faults(&self) -> u64 {
+        self.faults
+    }
+}
+
+#[cfg(test)]
+mod tests {
+    use super::*;
+    use std::io;
+    use std::test::Fail;
+
+    // Takes so many bytes, one a call, and then fails.
+    #[derive(Drop)]
+    struct Narrow {
+        room: u8,
+    }
+
+    impl Write for Narrow {
+        fn write(&mut self, buf: &[u8]) -> io::Result<usize> {
+            if buf.is_empty() {
+                return Ok(0);
+            }
+            if self.room == 0 {
+                return Err(io::Error::from(io::ErrorKind::StorageFull));
+            }
+            self.room -= 1;
+            Ok(1)
+        }
+
+        fn flush(&mut self) -> io::Result<()> {
+            Ok(())
+        }
+    }
+
+    #[test]
+    fn writes_whole_pieces(rt: HostRuntime) -> Result<(), Fail> {
+        let mut written = Vec::new(rt.alloc());
+        {
+            let mut sink = StdSink::new(&mut written);
+            for piece in ["one", "", "three"] {
+                assert!(rt; sink.put(piece.as_bytes()).is_ok(), "{piece}");
+            }
+            assert_eq!(rt; sink.faults(), 0);
+        }
+        assert_eq!(rt; written.as_slice(), b"onethree".as_slice());
+        Ok(())
+    }
+
+    #[test]
+    fn counts_each_failure(rt: HostRuntime) {
+        let mut sink = StdSink::new(Narrow { room: 4 });
+        for (piece, want, faults) in [("one", true, 0), ("two", false, 1), ("three", false, 2)] {
+            assert_eq!(rt; sink.put(piece.as_bytes()).is_ok(), want, "{piece}");
+            assert_eq!(rt; sink.faults(), faults, "{piece}");
+        }
+    }
+}
