@@ -1,0 +1,64 @@
+// The entries of a directory's listing.
+
+use crate::name::Name;
+use std::alloc::AllocError;
+use std::marker::Model;
+
+/// The entries of a directory, each with the kind of its object and its name. A contract sees the list
+/// of these pairs.
+#[derive(Debug, Drop)]
+pub struct Names {
+    names: Vec<(u8, Name)>,
+}
+
+impl Model for Names {
+    ghost use Rattle.std.specs.Prelude.{ℕ, List};
+
+    ghost Value = { List (ℕ × List ℕ) };
+
+    ghost view = { λ n. n.names.items };
+}
+
+impl Names {
+    ghost use Rattle.std.specs.Prelude.{◌≡◌};
+
+    /// Takes no memory, as `list` does not.
+    pub fn of(list: Vec<(u8, Name)>) -> Names
+        ensures { result ≡ list.items }
+    {
+        Names { names: list }
+    }
+
+    pub fn list(&self) -> &[(u8, Name)]
+        ensures { result.now ≡ self.now }
+    {
+        &self.names
+    }
+}
+
+impl Clone for Names {
+    ghost use Rattle.std.specs.Prelude.{◌≡◌};
+
+    ghost is_clone = { λ names copy. copy ≡ names };
+
+    fn clone(&self) -> Result<Names, AllocError> {
+        Ok(Names::of(self.names.clone()?))
+    }
+}
+
+impl PartialEq for Names {
+    ghost use Rattle.std.specs.Str.{bytes_eq};
+    ghost use Rattle.std.specs.Prelude.{ℕ, List, nat_eq};
+    ghost use Rattle.std.specs.Ordering.{on, eq_of_both};
+    ghost use Rattle.std.specs.Cmp.{partial_equiv_from_equiv, on_equiv, and_equiv, nat_eq_equiv};
+    ghost use Rattle.std.specs.Cmp.Lexicographic.{pointwise, lists_equiv};
+    ghost use Rattle.std.proofs.lemmas.Cmp.{nat_list_eq_equiv};
+
+    ghost eq = { pointwise (eq_of_both (on (λ (n : ℕ × List ℕ). n.0) nat_eq) (on (λ (n : ℕ × List ℕ). n.1) bytes_eq)) };
+
+    ghost laws = { partial_equiv_from_equiv (lists_equiv (and_equiv (on_equiv (λ (n : ℕ × List ℕ). n.0) nat_eq_equiv) (on_equiv (λ (n : ℕ × List ℕ). n.1) nat_list_eq_equiv))) };
+
+    fn eq(&self, other: &Names) -> bool {
+        self.names.as_slice() == other.names.as_slice()
+    }
+}
