@@ -1,5 +1,5 @@
--- The offsets of a volume. Bits 60 to 63 of a raw offset hold the zone, bits 52 to 59 the volume, and
--- bits 0 to 51 the byte, counted from the start of the volume.
+-- The offsets of a volume. Bits 60 to 63 of a raw offset hold the zone, bits 52 to 59 the volume,
+-- and bits 0 to 51 the byte, counted from the start of the volume.
 use Rattle.std.specs.Prelude.{◌≡◌, ◌⊎◌, ℕ, ◌+◌, ◌*◌, ◌/◌, ◌%◌, ◌^◌, ◌≤◌}
 
 -- the zone that a raw offset names

@@ -17,10 +17,11 @@ pub struct NoMemory;
 /// Why a call of a store could not do its work.
 #[derive(Clone, Copy, Debug, PartialEq, Eq)]
 pub enum Fault {
-    /// The disk failed. Its count of faults was `before` and rose to `after`, or both are the greatest
-    /// number, where the count stays.
+    /// The disk failed. Its count of faults was `before` and rose to `after`, or both are the
+    /// greatest number, where the count stays.
     Media { before: u64, after: u64 },
-    /// The bytes at this offset break the grammar of what stands there, in the way that `kind` numbers.
+    /// The bytes at this offset break the grammar of what stands there. `kind` is the number of the
+    /// rule that they break.
     Damaged { at: HOff, kind: u8 },
     /// An allocation was refused.
     NoMemory,
@@ -29,7 +30,8 @@ pub enum Fault {
 /// Why a call that takes space could not do its work.
 #[derive(Clone, Copy, Debug, PartialEq, Eq)]
 pub enum SpaceFault {
-    /// The call needs a new big-block in `needed` zones, and too few of the `free` ones are left to it.
+    /// The call needs a new big-block in `needed` zones, and too few of the `free` ones are left
+    /// to it.
     NoSpace { free: u32, needed: u32 },
     /// The store could not do its work.
     Fault(Fault),

@@ -1,10 +1,10 @@
-// The transaction ids of a listing.
+// Transaction ids, as a call hands them over together.
 
 use crate::id::Id;
 use std::alloc::AllocError;
 use std::marker::Model;
 
-/// Some transaction ids, such as those at which an object changed. A contract sees the list of them.
+/// Some transaction ids. A contract sees the list of them.
 #[derive(Debug, Drop)]
 pub struct Ids {
     ids: Vec<Id>,
@@ -55,7 +55,8 @@ impl PartialEq for Ids {
 
     ghost eq = { pointwise (on (λ (id : Id). id.0) nat_eq) };
 
-    ghost laws = { partial_equiv_from_equiv (lists_equiv (on_equiv (λ (id : Id). id.0) nat_eq_equiv)) };
+    ghost laws = { let each = on_equiv (λ (id : Id). id.0) nat_eq_equiv in
+        partial_equiv_from_equiv (lists_equiv each) };
 
     fn eq(&self, other: &Ids) -> bool {
         self.ids.as_slice() == other.ids.as_slice()

@@ -1,4 +1,5 @@
-//! The words of hammer that every crate speaks: ids, texts, names, the causes of failure, and the limits.
+//! The words of hammer that every crate speaks: ids, texts, names, offsets, zones, the causes of
+//! failure, and the limits.
 #![tactic(auto)]
 
 mod bytes;
@@ -9,6 +10,8 @@ mod limits;
 mod name;
 mod names;
 mod offset;
+#[cfg(test)]
+mod tests;
 mod text;
 mod zones;
 

@@ -54,7 +54,8 @@ pub const MOST_LEAF_ELEMENTS: usize = 63;
 /// The most children of an inner node.
 pub const MOST_INNER_CHILDREN: usize = 62;
 
-/// The fewest elements of a leaf, and the fewest children of an inner node. The root may have fewer.
+/// The fewest elements of a leaf, and the fewest children of an inner node. The root may have
+/// fewer.
 pub const LEAST_PLACES: usize = 16;
 
 /// The most lanes of a script, which are numbered from 1.

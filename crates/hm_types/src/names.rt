@@ -4,8 +4,8 @@ use crate::name::Name;
 use std::alloc::AllocError;
 use std::marker::Model;
 
-/// The entries of a directory, each with the kind of its object and its name. A contract sees the list
-/// of these pairs.
+/// The entries of a directory, each with the kind of its object and its name. A contract sees the
+/// list of these pairs.
 #[derive(Debug, Drop)]
 pub struct Names {
     names: Vec<(u8, Name)>,
@@ -47,16 +47,19 @@ impl Clone for Names {
 }
 
 impl PartialEq for Names {
+    ghost use Rattle.std.specs.Prelude.{nat_eq};
     ghost use Rattle.std.specs.Str.{bytes_eq};
-    ghost use Rattle.std.specs.Prelude.{ℕ, List, nat_eq};
     ghost use Rattle.std.specs.Ordering.{on, eq_of_both};
     ghost use Rattle.std.specs.Cmp.{partial_equiv_from_equiv, on_equiv, and_equiv, nat_eq_equiv};
     ghost use Rattle.std.specs.Cmp.Lexicographic.{pointwise, lists_equiv};
     ghost use Rattle.std.proofs.lemmas.Cmp.{nat_list_eq_equiv};
+    ghost use Rattle.hm_types.specs.Listing.{kind_of, name_of};
 
-    ghost eq = { pointwise (eq_of_both (on (λ (n : ℕ × List ℕ). n.0) nat_eq) (on (λ (n : ℕ × List ℕ). n.1) bytes_eq)) };
+    ghost eq = { pointwise (eq_of_both (on kind_of nat_eq) (on name_of bytes_eq)) };
 
-    ghost laws = { partial_equiv_from_equiv (lists_equiv (and_equiv (on_equiv (λ (n : ℕ × List ℕ). n.0) nat_eq_equiv) (on_equiv (λ (n : ℕ × List ℕ). n.1) nat_list_eq_equiv))) };
+    ghost laws = { let kinds = on_equiv kind_of nat_eq_equiv in
+        let names = on_equiv name_of nat_list_eq_equiv in
+        partial_equiv_from_equiv (lists_equiv (and_equiv kinds names)) };
 
     fn eq(&self, other: &Names) -> bool {
         self.names.as_slice() == other.names.as_slice()

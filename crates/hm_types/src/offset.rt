@@ -41,7 +41,8 @@ impl Model for HOff {
 }
 
 impl HOff {
-    /// The offset of a byte in a zone. None for a byte of 2^52 or above, and for a zone that has no name.
+    /// The offset of a byte in a zone. None for a byte of 2^52 or above, and for a zone that has no
+    /// name.
     pub fn make(zone: u8, byte: u64) -> Option<HOff>
         ensures some { IsSome result ↔ (IsZone zone × (byte < 2 ^ 52)) }
         ensures value { IfSome result (λ at. at ≡ raw_of zone byte) }
@@ -56,7 +57,7 @@ impl HOff {
         }
     }
 
-    /// The offset with these 64 bits. None where the zone has no name, and where a bit of the volume is set.
+    /// The offset with these 64 bits. None where the zone has no name, and where the volume is not 0.
     pub fn from_raw(raw: u64) -> Option<HOff>
         ensures some { IsSome result ↔ IsOffset raw }
         ensures value { IfSome result (λ at. at ≡ raw) }
