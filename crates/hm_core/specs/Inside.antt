@@ -6,7 +6,7 @@ use Rattle.hm_model.specs.Volume.{Volume, new_master, fresh, as_of}
 use Rattle.hm_model.specs.After.{after}
 use Rattle.hm_model.specs.Legal.{IsLegal}
 use Rattle.hm_core.specs.Names.{Entries, triples_of}
-use Rattle.hm_core.specs.declared.core.Core.TheInside.{Inside}
+use Rattle.hm_core.specs.declared.volume.Core.TheInside.{Inside}
 
 -- a volume of one master, whose tree now has these entries in its root directory
 pub record Shows (volume : Volume) (entries : Entries) : Type 0 where

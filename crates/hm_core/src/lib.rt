@@ -3,7 +3,7 @@
 //! `Core` answers calls and enters each in its history. So far it keeps its directories in memory.
 #![tactic(auto)]
 
-mod core;
 mod names;
+mod volume;
 
-pub use core::{Core, Step};
+pub use volume::{Core, Step};

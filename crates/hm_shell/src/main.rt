@@ -14,7 +14,7 @@ use run::{Ended, run};
 use std::process::ExitCode;
 use std::{env, io};
 
-fn words(rt: &HostRuntime) -> io::Result<Vec<String>> {
+fn given_words(rt: &HostRuntime) -> io::Result<Vec<String>> {
     let mut words = Vec::new(rt.alloc());
     for word in env::args(rt)?.skip(1) {
         words.push(word)?;
@@ -24,7 +24,7 @@ fn words(rt: &HostRuntime) -> io::Result<Vec<String>> {
 
 fn main(rt: HostRuntime) -> ExitCode {
     // Where the words cannot be had, no words are handed in, which is answered as wrong words are.
-    let words = words(&rt).unwrap_or(Vec::new(rt.alloc()));
+    let words = given_words(&rt).unwrap_or(Vec::new(rt.alloc()));
     let script = StdSource::new(rt.stdin());
     let out = StdSink::new(rt.stdout());
     let Ended { status, .. } = run(&rt, &words, script, out);

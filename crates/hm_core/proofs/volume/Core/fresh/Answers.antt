@@ -1,7 +1,7 @@
 use Rattle.std.proofs.Common.{refl, rules, arith}
 use Rattle.hm_model.specs.Volume.{fresh}
 use Rattle.hm_model.proofs.HistoryLemmas.{IsLegal-none}
-use Rattle.hm_core.proofs.core.Core.fresh.Goals as goal
+use Rattle.hm_core.proofs.volume.Core.fresh.Goals as goal
 
 pub invariant_of-result : goal.invariant_of-result
 invariant_of-result c = record {

@@ -5,7 +5,7 @@ use Rattle.hm_model.specs.After.{after, after_entry}
 use Rattle.hm_model.specs.Legal.{IsLegal, MayFollow}
 use Rattle.hm_model.proofs.HistoryLemmas.{IsLegal-push, after-push}
 use Rattle.hm_core.proofs.StepLemmas.{entry_of, MayFollow-step, Shows-step}
-use Rattle.hm_core.proofs.core.Core.call.Goals as goal
+use Rattle.hm_core.proofs.volume.Core.call.Goals as goal
 
 -- the entry that the call makes
 abbrev made : goal.After-push_reserved → Entry
