@@ -1,3 +1,5 @@
 pub mod Words
+pub mod Checking
 pub mod Stop
 pub mod Run
+pub mod Serving
