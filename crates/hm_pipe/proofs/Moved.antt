@@ -1,8 +1,7 @@
 -- What several calls move from a source to a sink.
-use Rattle.std.proofs.Common.{◌≡◌, ℕ, List, [], ◌++◌, Option, Some, None, refl, ap, sym, ◌∙◌, subst, append_assoc}
-use Rattle.std.proofs.lemmas.List.{append-nil}
-use Rattle.std.specs.Prelude.{IfSome, option_map}
-use Rattle.hm_pipe.specs.Pipe.{Gives, Gains, IsAtEnd}
+use Rattle.std.proofs.Common.{ℕ, List, ◌++◌, Option, Some, None, ap, sym, ◌∙◌, append_assoc}
+use Rattle.std.specs.Prelude.{option_map}
+use Rattle.hm_pipe.specs.Pipe.{Gives, Gains}
 
 -- some bytes left a source and came to a sink, in order
 pub record Moved (left_before left_after held_before held_after : Option (List ℕ)) : Type 0 where
@@ -10,34 +9,23 @@ pub record Moved (left_before left_after held_before held_after : Option (List �
   pub gives : Gives left_before bytes left_after
   pub gains : Gains held_before bytes held_after
 
-pub moved_none : (left held : Option (List ℕ)) → Moved left left held held
-moved_none None None = record { bytes = []; gives = refl; gains = refl }
-moved_none None (Some held) = record { bytes = []; gives = refl; gains = ap Some (sym (append-nil held)) }
-moved_none (Some left) None = record { bytes = []; gives = refl; gains = refl }
-moved_none (Some left) (Some held) = record { bytes = []; gives = refl; gains = ap Some (sym (append-nil held)) }
-
-gives_more : (left next last : Option (List ℕ)) (xs ys : List ℕ) → Gives left xs next → Gives next ys last → Gives left (xs ++ ys) last
+gives_more : (left next last : Option (List ℕ)) (xs ys : List ℕ)
+    → Gives left xs next → Gives next ys last → Gives left (xs ++ ys) last
 gives_more left next None xs ys p q = p ∙ ap (option_map (λ rest. xs ++ rest)) q
-gives_more left next (Some rest) xs ys p q = p ∙ ap (option_map (λ rest. xs ++ rest)) q ∙ ap Some (sym (append_assoc xs ys rest))
+gives_more left next (Some rest) xs ys p q =
+    p ∙ ap (option_map (λ rest. xs ++ rest)) q ∙ ap Some (sym (append_assoc xs ys rest))
 
-gains_more : (held more most : Option (List ℕ)) (xs ys : List ℕ) → Gains held xs more → Gains more ys most → Gains held (xs ++ ys) most
+gains_more : (held more most : Option (List ℕ)) (xs ys : List ℕ)
+    → Gains held xs more → Gains more ys most → Gains held (xs ++ ys) most
 gains_more None more most xs ys p q = q ∙ ap (option_map (λ front. front ++ ys)) p
-gains_more (Some front) more most xs ys p q = q ∙ ap (option_map (λ front. front ++ ys)) p ∙ ap Some (append_assoc front xs ys)
+gains_more (Some front) more most xs ys p q =
+    q ∙ ap (option_map (λ front. front ++ ys)) p ∙ ap Some (append_assoc front xs ys)
 
-pub moved_more : (left next last held more most : Option (List ℕ)) (bytes : List ℕ) → Moved left next held more → Gives next bytes last → Gains more bytes most → Moved left last held most
+-- one more piece
+pub moved_more : (left next last held more most : Option (List ℕ)) (bytes : List ℕ)
+    → Moved left next held more → Gives next bytes last → Gains more bytes most → Moved left last held most
 moved_more left next last held more most bytes m gives gains = record {
   bytes = m.bytes ++ bytes;
   gives = gives_more left next last m.bytes bytes m.gives gives;
   gains = gains_more held more most m.bytes bytes m.gains gains;
 }
-
--- at the end all that was left has come
-pub moved_all : (left last held most : Option (List ℕ)) → Moved left last held most → IsAtEnd last → IfSome left (λ bytes. Gains held bytes most)
-moved_all left None held most m ends =
-    let P : Option (List ℕ) → Type 0 = λ o. IfSome o (λ bytes. Gains held bytes most) in
-    subst P (sym m.gives) tt
-moved_all left (Some rest) held most m ends =
-    let P : Option (List ℕ) → Type 0 = λ o. IfSome o (λ bytes. Gains held bytes most) in
-    let Q : List ℕ → Type 0 = λ bytes. Gains held bytes most in
-    let e : m.bytes ++ rest ≡ m.bytes = ap (λ xs. m.bytes ++ xs) ends ∙ append-nil m.bytes in
-    subst P (sym m.gives) (subst Q (sym e) m.gains)

@@ -1,5 +1,5 @@
 // The calls of a source or a sink in memory: each has a number, and those on a list fail.
-ghost use Rattle.std.specs.Prelude.{◌≡◌, ◌≤◌, ◌↔◌, [], IsTrue, IsErr, OnOk, OnErr, Contains};
+ghost use Rattle.std.specs.Prelude.{◌≡◌, ◌≤◌, ◌↔◌, IsTrue, IsErr, OnOk, OnErr, Contains};
 ghost use Rattle.hm_types.specs.Faults.{HasCause};
 ghost use Rattle.hm_pipe.specs.Calls.{Counts, IsNextListed, no_calls, called, faulted};
 

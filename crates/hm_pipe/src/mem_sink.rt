@@ -1,7 +1,6 @@
 // A sink in memory.
-ghost use Rattle.std.specs.Prelude.{◌≡◌, ℕ, [], Some, OnOk, OnErr, length, take};
+ghost use Rattle.std.specs.Prelude.{◌≡◌, [], Some};
 ghost use Rattle.hm_types.specs.Faults.{HasCause};
-ghost use Rattle.hm_pipe.specs.Pipe.{Gains};
 ghost use Rattle.hm_pipe.specs.Calls.{no_calls};
 ghost use Rattle.hm_pipe.specs.MemSink.{SinkState, Puts};
 
@@ -11,7 +10,7 @@ use hm_types::Failed;
 use std::alloc::Global;
 use std::marker::Model;
 
-/// A sink in memory, which tells what it holds.
+/// Bytes in memory that pieces are appended to. It tells what it holds.
 #[derive(Drop)]
 pub struct MemSink {
     bytes: Vec<u8>,
@@ -25,8 +24,8 @@ impl Model for MemSink {
 }
 
 impl MemSink {
-    /// A sink that holds nothing. `fails` has the numbers of the calls of `put` that fail, in any order;
-    /// the first call is number 1.
+    /// A sink that holds nothing. `fails` lists the calls of `put` that fail, by their numbers from 1 on,
+    /// in any order.
     pub fn new(alloc: Global, fails: Vec<u64>) -> MemSink
         ensures { result ≡ record { held = []; calls = no_calls fails.items } }
     {
@@ -36,7 +35,7 @@ impl MemSink {
         }
     }
 
-    /// All that it holds.
+    /// All that it holds, from its first piece on.
     pub fn bytes(&self) -> &[u8]
         ensures { result.now ≡ self.now.held }
     {
@@ -49,6 +48,8 @@ impl Sink for MemSink {
 
     ghost faults = { λ s. s.calls.faults };
 
+    /// Appends the whole piece. A listed call is `Failed`, and appends the first half, rounded down. For
+    /// want of memory a call is `Failed` too, and appends nothing.
     fn put(&mut self, piece: &[u8]) -> Result<(), Failed>
         ensures cause { HasCause self.old.calls.faults self.new.calls.faults result }
         ensures change { Puts self.old self.new piece.now result }

@@ -1,7 +1,6 @@
 // A source in memory.
-ghost use Rattle.std.specs.Prelude.{◌≡◌, ℕ, ◌≤◌, [], Some, IfOk, OnErr, length, take, drop, vec_len};
+ghost use Rattle.std.specs.Prelude.{◌≡◌, ◌≤◌, Some, IfOk, length, drop, vec_len};
 ghost use Rattle.hm_types.specs.Faults.{HasCause};
-ghost use Rattle.hm_pipe.specs.Pipe.{Gives, IsAtEnd};
 ghost use Rattle.hm_pipe.specs.Calls.{no_calls};
 ghost use Rattle.hm_pipe.specs.MemSource.{SourceState, Takes};
 
@@ -10,11 +9,11 @@ use crate::source::Source;
 use hm_types::Failed;
 use std::marker::Model;
 
-/// Bytes in memory, which tells what is left of them. It takes no memory.
+/// Bytes in memory. It tells what is left of them, and takes no memory.
 #[derive(Drop)]
 pub struct MemSource {
     bytes: Vec<u8>,
-    // Where the bytes begin that are left.
+    // Where the bytes begin that are left: none is moved as they are given.
     at: usize,
     calls: Calls,
 }
@@ -28,8 +27,8 @@ impl Model for MemSource {
 }
 
 impl MemSource {
-    /// A source of these bytes. `fails` has the numbers of the calls of `take` that fail, in any order;
-    /// the first call is number 1.
+    /// A source of these bytes. `fails` lists the calls of `take` that fail, by their numbers from 1 on,
+    /// in any order.
     pub fn new(bytes: Vec<u8>, fails: Vec<u64>) -> MemSource
         ensures { result ≡ record { rest = bytes.items; calls = no_calls fails.items } }
     {
@@ -46,6 +45,7 @@ impl Source for MemSource {
 
     ghost faults = { λ s. s.calls.faults };
 
+    /// Gives as many bytes as fit `buf` or are left. A listed call is `Failed`, and gives none.
     fn take(&mut self, buf: &mut [u8]) -> Result<usize, Failed>
         ensures within { IfOk result (λ n. n ≤ length buf.new) }
         ensures cause { HasCause self.old.calls.faults self.new.calls.faults result }

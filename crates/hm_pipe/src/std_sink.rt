@@ -8,7 +8,10 @@ use hm_types::Failed;
 use std::io::Write;
 use std::marker::Model;
 
-/// A writer, of which nothing is told.
+/// A writer of std, such as standard output or a vector.
+///
+/// As a sink it tells nothing. At a writer whose bytes are known, the clauses of `put` say that it
+/// gains each piece. No call flushes the writer.
 #[derive(Drop)]
 pub struct StdSink<W> {
     inner: W,
@@ -24,6 +27,7 @@ impl<W> Model for StdSink<W> {
 }
 
 impl<W: Write> StdSink<W> {
+    /// A sink that has met no fault yet.
     pub fn new(inner: W) -> StdSink<W>
         ensures { result ≡ record { inner = inner; faults = 0 } }
     {
@@ -36,8 +40,11 @@ impl<W: Write> Sink for StdSink<W> {
 
     ghost faults = { λ s. s.faults };
 
+    /// Writes the whole piece, on past interruptions. An error is `Failed`; how much of the piece was
+    /// written before it is not known.
     fn put(&mut self, piece: &[u8]) -> Result<(), Failed>
-        ensures bytes { OnOk result (Appends (W.contents self.old.inner) (W.contents self.new.inner) piece.now) }
+        ensures bytes { OnOk result
+            (Appends (W.contents self.old.inner) (W.contents self.new.inner) piece.now) }
         ensures cause { HasCause self.old.faults self.new.faults result }
     {
         match self.inner.write_all(piece) {

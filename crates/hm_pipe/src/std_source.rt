@@ -8,7 +8,10 @@ use hm_types::Failed;
 use std::io::{ErrorKind, Read};
 use std::marker::Model;
 
-/// The bytes of a reader, of which nothing is told.
+/// The bytes of a reader of std, such as standard input or a slice.
+///
+/// As a source it tells nothing. At a reader whose bytes are known, the clauses of `take` say that it
+/// gives these.
 #[derive(Drop)]
 pub struct StdSource<R> {
     inner: R,
@@ -24,6 +27,7 @@ impl<R> Model for StdSource<R> {
 }
 
 impl<R: Read> StdSource<R> {
+    /// A source that has met no fault yet.
     pub fn new(inner: R) -> StdSource<R>
         ensures { result ≡ record { inner = inner; faults = 0 } }
     {
@@ -36,9 +40,11 @@ impl<R: Read> Source for StdSource<R> {
 
     ghost faults = { λ s. s.faults };
 
+    /// Reads once, and again where the read was interrupted. Any other error is `Failed`.
     fn take(&mut self, buf: &mut [u8]) -> Result<usize, Failed>
         ensures within { IfOk result (λ n. n ≤ length buf.new) }
-        ensures bytes { ReadConsumes (R.remaining self.old.inner) (R.remaining self.new.inner) result buf.new }
+        ensures bytes { ReadConsumes (R.remaining self.old.inner) (R.remaining self.new.inner)
+            result buf.new }
         ensures cause { HasCause self.old.faults self.new.faults result }
     {
         for _ in 0..u64::MAX {
