@@ -1,1 +1,3 @@
+pub mod CheckLemmas
 pub mod GrammarLemmas
+pub mod PrintLemmas
