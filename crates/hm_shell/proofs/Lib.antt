@@ -1,3 +1,4 @@
 pub mod CheckLemmas
 pub mod GrammarLemmas
 pub mod PrintLemmas
+pub mod ServeLemmas

@@ -1,11 +1,11 @@
 // A script from its source, whole.
-ghost use Rattle.std.specs.Prelude.{◌≡◌, ◌≤◌, IfErr, IfOk, MatchResult};
+ghost use Rattle.std.specs.Prelude.{◌<◌, ◌≤◌, IfErr, IfOk, vec_len};
 ghost use Rattle.hm_shell.specs.Run.{WasRead, StoppedReading};
 
 use crate::stop::Stop;
 use hm_pipe::Source;
 use hm_types::MOST_SCRIPT_BYTES;
-use std::alloc::Global;
+use std::alloc::{AllocError, Global};
 
 // How many bytes are asked for at a time.
 const PIECE_BYTES: usize = 65_536;
@@ -19,7 +19,7 @@ pub(crate) fn read_script<S: Source>(alloc: Global, source: &mut S) -> Result<Ve
 {
     let before = source.faults();
     let mut script = Vec::new(alloc);
-    let mut piece = vec![in alloc; 0u8; PIECE_BYTES]?;
+    let mut piece = piece_buffer(alloc)?;
     'reading: while script.len() <= MOST_SCRIPT_BYTES {
         let Ok(count) = source.take(&mut piece) else {
             return Err(Stop::ScriptFault {
@@ -33,4 +33,10 @@ pub(crate) fn read_script<S: Source>(alloc: Global, source: &mut S) -> Result<Ve
         script.extend_from_slice(&piece[..count])?;
     }
     Err(Stop::TooLong)
+}
+
+fn piece_buffer(alloc: Global) -> Result<Vec<u8>, AllocError>
+    ensures { IfOk result (λ buffer. 0 < vec_len buffer) }
+{
+    vec![in alloc; 0; PIECE_BYTES]
 }

@@ -3,6 +3,7 @@ use Rattle.hm_types.specs.declared.limits.TheConstants.{MOST_SCRIPT_BYTES}
 use Rattle.hm_pipe.specs.Pipe.{Gives}
 use Rattle.hm_shell.proofs.read.read_script.Given as goal
 
+-- the script so far is what the source gave
 abbrev pub invariant-reading : goal.invariant-reading
 invariant-reading g l =
     Gives (g.S.Source.left l.fn.source) l.script.items (g.S.Source.left l.source)
