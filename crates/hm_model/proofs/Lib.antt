@@ -1,3 +1,4 @@
 pub mod HistoryLemmas
 pub mod LineLemmas
+pub mod OutLemmas
 pub mod VersionLemmas

@@ -1,5 +1,5 @@
 -- What a run prints.
-use Rattle.std.specs.Prelude.{◌≡◌, ℕ, ◌<◌, List, [], ◌∷◌, ◌++◌, Bool, ◌==◌, Some, find, count_by, All, Any, Contains, codes}
+use Rattle.std.specs.Prelude.{◌≡◌, ℕ, ◌<◌, List, [], ◌∷◌, ◌++◌, Bool, ◌==◌, Some, find, count_by, All, Contains, codes}
 use Rattle.std.specs.List.{flat_map}
 use Rattle.std.specs.Option.{option_map_or}
 use Rattle.hm_types.specs.Id.{id_text}
@@ -29,6 +29,10 @@ pub record IsOf (line : Line) (e : Entry) : Type 0 where
   pub number : e.line ≡ line.number
   pub command : e.call ≡ line.command
 
+-- the line that an entry answers
+abbrev pub line_of : Entry → Line
+line_of e = record { lane = e.lane; number = e.line; command = e.call }
+
 -- exactly one entry of the history is the line's
 pub record HasEntry (history : List Entry) (line : Line) : Type 0 where
   pub entry : Entry
@@ -40,5 +44,5 @@ pub record HasEntry (history : List Entry) (line : Line) : Type 0 where
 -- line, which is a block by itself, lie before those of the lines after it.
 pub record Answers (lines : List Line) (history : List Entry) : Type 0 where
   pub each : All (HasEntry history) lines
-  pub owned : All (λ e. Any (λ line. IsOf line e) lines) history
+  pub owned : (e : Entry) → Contains history e → (line : Line) × Contains lines line × IsOf line e
   pub in_order : (a b : Entry) → Contains history a → Contains history b → a.line < b.line → a.id.0 < b.id.0

@@ -9,12 +9,12 @@ use Rattle.hm_model.specs.declared.entry.Entry.{Entry}
 use Rattle.hm_model.specs.Volume.{fresh}
 use Rattle.hm_model.specs.Legal.{IsLegal}
 use Rattle.hm_model.specs.Lines.{Line, ReadsFrom, Spells, IsLine, texts_of}
-use Rattle.hm_model.specs.Out.{entry_text}
+use Rattle.hm_model.specs.Out.{entry_text, line_of}
 use Rattle.hm_model.proofs.HistoryLemmas.{IsLegal-none}
 use Rattle.hm_core.specs.State.{CoreState}
 use Rattle.hm_shell.specs.declared.stop.Stop.{Stop}
 use Rattle.hm_shell.specs.declared.stop.Stop.TheVariants.{Usage, ScriptFault, OutFault, NoMemory, BadLine, TooLong}
-use Rattle.hm_shell.specs.Run.{Served, ServesLine, ServedInPart, StoppedServing, StoppedPrinting, line_of, entry_texts}
+use Rattle.hm_shell.specs.Run.{Served, ServesLine, ServedInPart, StoppedServing, StoppedPrinting, entry_texts}
 use Rattle.hm_shell.specs.Serving.{Serving}
 use Rattle.hm_shell.proofs.PrintLemmas.{Gains-front}
 

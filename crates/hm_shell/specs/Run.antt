@@ -9,7 +9,7 @@ use Rattle.hm_model.specs.declared.entry.Entry.{Entry}
 use Rattle.hm_model.specs.Volume.{fresh}
 use Rattle.hm_model.specs.Legal.{IsLegal}
 use Rattle.hm_model.specs.Lines.{Line, IsScript, ReadsFrom, Spells}
-use Rattle.hm_model.specs.Out.{Answers, entry_text, out_text}
+use Rattle.hm_model.specs.Out.{Answers, entry_text, line_of, out_text}
 use Rattle.hm_core.specs.State.{CoreState}
 use Rattle.hm_shell.specs.declared.stop.Stop.{Stop}
 use Rattle.hm_shell.specs.declared.stop.Stop.TheVariants.{Usage, ScriptFault, OutFault, NoMemory, BadLine, TooLong}
@@ -56,10 +56,6 @@ StoppedPrinting held faults line old new TooLong = ⊥
 abbrev pub joined : List (Bor (List ℕ)) → List ℕ
 joined [] = []
 joined (piece ∷ pieces) = piece.now ++ joined pieces
-
--- the line that an entry answers
-abbrev pub line_of : Entry → Line
-line_of e = record { lane = e.lane; number = e.line; command = e.call }
 
 -- the entries of these texts, in order, are the whole of a legal history
 pub record Served (texts : List (List ℕ)) (core : CoreState) : Type 0 where
