@@ -1,10 +1,9 @@
-use Rattle.std.proofs.Common.{◌≡◌, ℕ, List, ◌∙◌, arith, Result, Ok, true}
+use Rattle.std.proofs.Common.{◌≡◌, ℕ, List, ◌∙◌, arith, Result, Ok, true, inl, inr}
 use Rattle.std.specs.Str.Parse.{ParsesUnsigned}
 use Rattle.std.proofs.lemmas.Fmt.{parse-decimal}
 use Rattle.std.proofs.lemmas.Slice.Eq.{bytes_eq-Decides}
 use Rattle.hm_shell.specs.Words.{IsSize}
 use Rattle.hm_shell.proofs.words.size_of_word.Goals as goal
-use Rattle.hm_shell.proofs.words.size_of_word.Goals.{else-is_plain-via-then-is_plain+then-size-ge-LEAST_BIGBLOCKS+else-size-le-MOST_BIGBLOCKS, else-is_plain-via-then-is_plain+else-size-ge-LEAST_BIGBLOCKS, else-is_plain-via-else-is_plain}
 
 -- a word that spells a size parses to that size
 parses_size : {E : Type 0} (word : List ℕ) (r : Result ℕ E) (n : ℕ) → ParsesUnsigned 32 10 word r → IsSize word n → r ≡ Ok n
@@ -18,8 +17,4 @@ returns-else-is_plain c = λ n s.
     let same : c.in-Ok.size ≡ n = let e = parses_size _ _ n c.parse.ensures.value.0 s in cc in
     let text : c.format.result.now ≡ c.args.word.now = cc in
     let plain : c.eq-is_plain.result ≡ true = c.eq-is_plain.ensures ∙ (bytes_eq-Decides _ _).1 text in
-    elim c.else-is_plain.branch [
-      | else-is_plain-via-then-is_plain+then-size-ge-LEAST_BIGBLOCKS+else-size-le-MOST_BIGBLOCKS w ↦ omega arith
-      | else-is_plain-via-then-is_plain+else-size-ge-LEAST_BIGBLOCKS w ↦ omega arith
-      | else-is_plain-via-else-is_plain w ↦ cc
-    ]
+    elim c.else-is_plain.either [ inl w ↦ omega arith | inr (inl w) ↦ omega arith | inr (inr w) ↦ cc ]
