@@ -50,3 +50,42 @@ fn size_of_word(word: &str) -> Option<u32>
         None
     }
 }
+
+#[cfg(test)]
+mod tests {
+    use super::*;
+    use std::test::Fail;
+
+    #[test]
+    fn takes_a_volume_and_a_size_and_no_other_words(rt: HostRuntime) -> Result<(), Fail> {
+        assert_eq!(rt; planned_size(&[]), None);
+        for (line, want) in [
+            ("v|--newfs|24", Some(24)),
+            ("--newfs|24|v", Some(24)),
+            ("v|--newfs|1048576", Some(1_048_576)),
+            ("v", None),
+            ("v|w", None),
+            ("v|--newfs", None),
+            ("v|--newfs|24|w", None),
+            ("v|--newfs|23", None),
+            ("v|--newfs|1048577", None),
+            ("v|--newfs|024", None),
+            ("v|--newfs|+24", None),
+            ("v|--newfs=24", None),
+            ("-h", None),
+            ("|--newfs|24", None),
+            ("-v|--newfs|24", None),
+            ("v|--newfs|", None),
+            ("--newfs|--newfs|24", None),
+            ("v|--newfs|24x", None),
+            ("v|--newfs|99999999999", None),
+        ] {
+            let mut words = Vec::new(rt.alloc());
+            for word in line.split('|') {
+                words.push(String::from_str(rt.alloc(), word)?)?;
+            }
+            assert_eq!(rt; planned_size(&words), want, "{line:?}");
+        }
+        Ok(())
+    }
+}
