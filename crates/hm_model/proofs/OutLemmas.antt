@@ -1,16 +1,17 @@
 -- A history that answers its lines one after another.
-use Rattle.std.proofs.Common.{◌≡◌, ℕ, suc, ◌+◌, ◌<◌, ◌≤◌, Bool, true, false, List, [], ◌∷◌, ◌++◌, Some, length, get_or, map, refl, sym, ◌∙◌, ap, subst, arith, append_assoc, eqb, cond, count_by}
-use Rattle.std.specs.Prelude.{find, Contains, All}
+use Rattle.std.proofs.Common.{◌≡◌, ℕ, suc, ◌+◌, ◌<◌, ◌≤◌, true, false, List, [], ◌∷◌, ◌++◌, map, refl, ◌∙◌, ap, arith, append_assoc, eqb, filter}
+use Rattle.std.specs.Prelude.{Contains, All}
+use Rattle.std.proofs.Math.ListN.{get_or-map}
+use Rattle.std.proofs.lemmas.List.{length-map}
 use Rattle.std.specs.List.{AllByRecursion, flat_map}
-use Rattle.std.specs.Option.{option_map_or}
 use Rattle.std.proofs.lemmas.Bool.Decides.{nat_tests}
-use Rattle.std.proofs.lemmas.List.Elements.{All-from_recursion, recursion_from_All, All-contains}
+use Rattle.std.proofs.lemmas.List.Elements.{All-from_recursion, All-contains}
 use Rattle.hm_model.specs.declared.entry.Entry.{Entry}
 use Rattle.hm_model.specs.Volume.{Volume}
 use Rattle.hm_model.specs.After.{after, after_entry}
-use Rattle.hm_model.specs.Legal.{IsLegal, MayFollow}
-use Rattle.hm_model.specs.Lines.{Line, ReadsFrom}
-use Rattle.hm_model.specs.Out.{Answers, HasEntry, IsOf, answers, entry_text, line_of, line_text, out_text}
+use Rattle.hm_model.specs.Legal.{IsLegal}
+use Rattle.hm_model.specs.Lines.{ReadsFrom}
+use Rattle.hm_model.specs.Out.{Answers, HasEntry, answers, entries_of, entry_text, line_of, out_text}
 use Rattle.hm_model.proofs.HistoryLemmas.{after-push}
 
 -- the entries have these numbers, one after another
@@ -33,24 +34,82 @@ from_number : (n m : ℕ) (history : List Entry) → m ≤ n → IsNumbered n hi
 from_number n m [] low numbered = tt
 from_number n m (e ∷ es) low numbered = (omega (arith, numbered.0), from_number (n + 1) m es (omega arith) numbered.1)
 
--- the entry of a number is the first that has it
-found_each : (n : ℕ) (history : List Entry) → IsNumbered n history → AllByRecursion (λ e. find (answers e.line) history ≡ Some e) history
-found_each n [] numbered = tt
-found_each n (e ∷ es) numbered =
-    let own : eqb e.line e.line ≡ true = grind (arith, nat_tests) in
-    ( rw own refl
-    , each_both (λ f. suc n ≤ f.line) (λ f. find (answers f.line) es ≡ Some f) (λ f. find (answers f.line) (e ∷ es) ≡ Some f) (λ f above found. let no : eqb e.line f.line ≡ false = grind (arith, nat_tests, numbered.0) in rw no found) es (from_number (n + 1) (suc n) es (omega arith) numbered.1) (found_each (n + 1) es numbered.1))
+-- above all numbers there is no entry
+none_above : (m : ℕ) (history : List Entry) → AllByRecursion (λ e. suc m ≤ e.line) history → filter (answers m) history ≡ []
+none_above m [] above = refl
+none_above m (e ∷ es) above = let no : eqb e.line m ≡ false = grind (arith, nat_tests, above.0) in rw no (none_above m es above.1)
 
--- above all numbers nothing is counted
-count_none : (m : ℕ) (history : List Entry) → AllByRecursion (λ e. suc m ≤ e.line) history → count_by (answers m) history ≡ 0
-count_none m [] above = refl
-count_none m (e ∷ es) above = let no : eqb e.line m ≡ false = grind (arith, nat_tests, above.0) in rw no (count_none m es above.1)
-
--- each number is counted once
-once_each : (n : ℕ) (history : List Entry) → IsNumbered n history → AllByRecursion (λ e. count_by (answers e.line) history ≡ 1) history
-once_each n [] numbered = tt
-once_each n (e ∷ es) numbered =
+-- each number has its one entry
+only_each : (n : ℕ) (history : List Entry) → IsNumbered n history → AllByRecursion (λ e. filter (answers e.line) history ≡ e ∷ []) history
+only_each n [] numbered = tt
+only_each n (e ∷ es) numbered =
     let own : eqb e.line e.line ≡ true = grind (arith, nat_tests) in
-    let none : count_by (answers e.line) es ≡ 0 = count_none e.line es (from_number (n + 1) (suc e.line) es (omega (arith, numbered.0)) numbered.1) in
-    ( rw (own, none) refl
-    , each_both (λ f. suc n ≤ f.line) (λ f. count_by (answers f.line) es ≡ 1) (λ f. count_by (answers f.line) (e ∷ es) ≡ 1) (λ f above once. let no : eqb e.line f.line ≡ false = grind (arith, nat_tests, numbered.0) in rw no once) es (from_number (n + 1) (suc n) es (omega arith) numbered.1) (once_each (n + 1) es numbered.1))
+    let none : filter (answers e.line) es ≡ [] = none_above e.line es (from_number (n + 1) (suc e.line) es (omega (arith, numbered.0)) numbered.1) in (
+      rw (own, none) refl,
+      each_both (λ f. suc n ≤ f.line) (λ f. filter (answers f.line) es ≡ f ∷ []) (λ f. filter (answers f.line) (e ∷ es) ≡ f ∷ []) (λ f above only. let no : eqb e.line f.line ≡ false = grind (arith, nat_tests, numbered.0) in rw no only) es (from_number (n + 1) (suc n) es (omega arith) numbered.1) (only_each (n + 1) es numbered.1),
+    )
+
+append-none : (xs : List ℕ) → xs ++ [] ≡ xs
+append-none [] = refl
+append-none (x ∷ xs) = ap (λ ys. x ∷ ys) (append-none xs)
+
+-- what the lines of these entries print, whatever an entry prints
+texts_each : (text : Entry → List ℕ) (history es : List Entry) → AllByRecursion (λ e. filter (answers e.line) history ≡ e ∷ []) es → flat_map (λ line. flat_map text (entries_of history line)) (map line_of es) ≡ flat_map text es
+texts_each text history [] only = refl
+texts_each text history (e ∷ es) only = rw (only.0, texts_each text history es only.1, append-none (text e)) refl
+
+has_each : (history es : List Entry) → AllByRecursion (λ e. filter (answers e.line) history ≡ e ∷ []) es → AllByRecursion (HasEntry history) (map line_of es)
+has_each history [] only = tt
+has_each history (e ∷ es) only =
+    (record { entry = e; only = only.0; own = record { lane = refl; number = refl; command = refl } }, has_each history es only.1)
+
+-- the ids of entries, one after another
+abbrev Steps : Volume → List Entry → Type 0
+Steps volume [] = Unit {0}
+Steps volume (e ∷ es) = (e.id.0 ≡ volume.last + 1) × Steps (after_entry volume e) es
+
+steps_from : (opening : Volume) (before es : List Entry) → IsLegal opening (before ++ es) → Steps (after opening before) es
+steps_from opening before [] legal = tt
+steps_from opening before (e ∷ es) legal = (
+  (legal before e es refl).id,
+  let again : IsLegal opening ((before ++ e ∷ []) ++ es) = rw (append_assoc before (e ∷ []) es) legal in
+      rw (after-push opening before e) at (steps_from opening (before ++ e ∷ []) es again),
+)
+
+ids_by_numbers : (n : ℕ) (volume : Volume) (es : List Entry) → IsNumbered n es → Steps volume es → AllByRecursion (λ e. e.id.0 + n ≡ volume.last + 1 + e.line) es
+ids_by_numbers n volume [] numbered steps = tt
+ids_by_numbers n volume (e ∷ es) numbered steps = (
+  omega (arith, numbered.0, steps.0),
+  each_both (λ f. f.id.0 + (n + 1) ≡ (after_entry volume e).last + 1 + f.line) (λ f. Unit {0}) (λ f. f.id.0 + n ≡ volume.last + 1 + f.line) (λ f is _. omega (arith, is, steps.0)) es (ids_by_numbers (n + 1) (after_entry volume e) es numbered.1 steps.1) (nothing es),
+)
+  where
+    nothing : (es : List Entry) → AllByRecursion (λ f. Unit {0}) es
+    nothing [] = tt
+    nothing (f ∷ fs) = (tt, nothing fs)
+
+-- entries of later lines have greater ids
+in_order : (opening : Volume) (history : List Entry) → IsNumbered 1 history → IsLegal opening history → (a b : Entry) → Contains history a → Contains history b → a.line < b.line → a.id.0 < b.id.0
+in_order opening history numbered legal a b has_a has_b before =
+    let P : Entry → Type 0 = λ e. e.id.0 + 1 ≡ opening.last + 1 + e.line in
+    let ids : All P history = All-from_recursion P history (ids_by_numbers 1 opening history numbered (steps_from opening [] history legal)) in
+    let at_a : a.id.0 + 1 ≡ opening.last + 1 + a.line = All-contains P history a ids has_a in
+    let at_b : b.id.0 + 1 ≡ opening.last + 1 + b.line = All-contains P history b ids has_b in
+    omega arith
+
+-- the line of an entry is among the lines
+owned : (history : List Entry) (e : Entry) → Contains history e → Contains (map line_of history) (line_of e)
+owned history e has = (has.0, rw (length-map history line_of) has.1, get_or-map line_of history has.0 e ∙ ap line_of has.2)
+
+-- A legal history whose entries answer the lines one after another answers the lines.
+pub Answers-in_order : (opening : Volume) (texts : List (List ℕ)) (history : List Entry) → IsLegal opening history → ReadsFrom 1 texts (map line_of history) → Answers (map line_of history) history
+Answers-in_order opening texts history legal read =
+    let numbered : IsNumbered 1 history = numbered_by_lines 1 texts history read in
+    record {
+      each = All-from_recursion (HasEntry history) (map line_of history) (has_each history history (only_each 1 history numbered));
+      owned = λ e has. (line_of e, owned history e has, record { lane = refl; number = refl; command = refl });
+      in_order = in_order opening history numbered legal;
+    }
+
+-- it prints its entries
+pub out_text-in_order : (texts : List (List ℕ)) (history : List Entry) → ReadsFrom 1 texts (map line_of history) → out_text (map line_of history) history ≡ flat_map entry_text history
+out_text-in_order texts history read = texts_each entry_text history history (only_each 1 history (numbered_by_lines 1 texts history read))

@@ -1,7 +1,6 @@
 -- What a run prints.
-use Rattle.std.specs.Prelude.{◌≡◌, ℕ, ◌<◌, List, [], ◌∷◌, ◌++◌, Bool, ◌==◌, Some, find, count_by, All, Contains, codes}
+use Rattle.std.specs.Prelude.{◌≡◌, ℕ, ◌<◌, List, [], ◌∷◌, ◌++◌, Bool, ◌==◌, All, Contains, filter, codes}
 use Rattle.std.specs.List.{flat_map}
-use Rattle.std.specs.Option.{option_map_or}
 use Rattle.hm_types.specs.Id.{id_text}
 use Rattle.hm_model.specs.declared.entry.Entry.{Entry}
 use Rattle.hm_model.specs.Reply.{reply_text}
@@ -15,9 +14,13 @@ entry_text e = id_text e.id ++ (codes " " ++ (reply_text e.reply ++ line_feed �
 abbrev pub answers : ℕ → Entry → Bool
 answers number e = e.line == number
 
+-- the entries of a line
+abbrev pub entries_of : List Entry → Line → List Entry
+entries_of history line = filter (answers line.number) history
+
 -- what a line prints in a run with this history
 abbrev pub line_text : List Entry → Line → List ℕ
-line_text history line = option_map_or entry_text (find (answers line.number) history) []
+line_text history line = flat_map entry_text (entries_of history line)
 
 -- what the lines print, in their order
 abbrev pub out_text : List Line → List Entry → List ℕ
@@ -36,9 +39,8 @@ line_of e = record { lane = e.lane; number = e.line; command = e.call }
 -- exactly one entry of the history is the line's
 pub record HasEntry (history : List Entry) (line : Line) : Type 0 where
   pub entry : Entry
-  pub found : find (answers line.number) history ≡ Some entry
+  pub only : entries_of history line ≡ entry ∷ []
   pub own : IsOf line entry
-  pub once : count_by (answers line.number) history ≡ 1
 
 -- The history answers the lines: each has its entry, every entry belongs to a line, and the ids of a
 -- line, which is a block by itself, lie before those of the lines after it.
