@@ -17,7 +17,7 @@ Checked-more script rest count text after so_far first shorter line = record {
   split = so_far.split ∙ (ap (λ ts. so_far.before ++ ts) first ∙ sym (append_assoc so_far.before (text ∷ []) (texts_of after)));
   good = All-append IsLine so_far.before (text ∷ []) so_far.good (All-cons IsLine text [] line (All-nil IsLine));
   count_is = rw length-append (omega (arith, so_far.count_is));
-  fits = omega (arith, so_far.fits)
+  fits = omega (arith, so_far.fits);
 }
 
 -- a line that is none
@@ -29,7 +29,7 @@ IsFirstBad-here script rest count text after so_far first none = record {
   texts = so_far.split ∙ ap (λ ts. so_far.before ++ ts) first;
   good = so_far.good;
   no_line = none;
-  place = omega (arith, so_far.count_is)
+  place = omega (arith, so_far.count_is);
 }
 
 append-none : {X : Type 0} (xs : List X) → xs ++ [] ≡ xs

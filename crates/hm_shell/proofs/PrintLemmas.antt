@@ -22,11 +22,11 @@ joined-split (p ∷ ps) (suc i) d within =
 pub joined-more : (pieces : List (Bor (List ℕ))) (i : ℕ) (d : Bor (List ℕ)) → i < length pieces → joined (take (i + 1) pieces) ≡ joined (take i pieces) ++ (get_or pieces i d).now
 joined-more pieces i d within = rw add-one (more pieces i within)
   where
-  more : (pieces : List (Bor (List ℕ))) (i : ℕ) → i < length pieces → joined (take (suc i) pieces) ≡ joined (take i pieces) ++ (get_or pieces i d).now
-  more [] i within = absurd (omega arith)
-  more (p ∷ ps) zero within = append-none p.now
-  more (p ∷ ps) (suc i) within =
-      ap (λ xs. p.now ++ xs) (more ps i (omega arith)) ∙ sym (append_assoc p.now (joined (take i ps)) _)
+    more : (pieces : List (Bor (List ℕ))) (i : ℕ) → i < length pieces → joined (take (suc i) pieces) ≡ joined (take i pieces) ++ (get_or pieces i d).now
+    more [] i within = absurd (omega arith)
+    more (p ∷ ps) zero within = append-none p.now
+    more (p ∷ ps) (suc i) within =
+        ap (λ xs. p.now ++ xs) (more ps i (omega arith)) ∙ sym (append_assoc p.now (joined (take i ps)) _)
 
 -- a front of a list in the middle of a longer one ends a front of that
 pub front_within : (a p r : List ℕ) (k : ℕ) → (n : ℕ) × (a ++ take k p ≡ take n (a ++ (p ++ r)))

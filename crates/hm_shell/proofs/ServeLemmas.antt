@@ -51,7 +51,7 @@ pub Served-push : (texts : List (List ℕ)) (old new : CoreState) (number : ℕ)
 Served-push texts old new number text e served is serves = record {
   legal = serves.legal;
   reads = rw (serves.history, map_line-push old.history e)
-    (ReadsFrom-push 1 texts (map line_of old.history) text (line_of e) served.reads serves.lane (serves.line ∙ omega (arith, is)) serves.spells)
+      (ReadsFrom-push 1 texts (map line_of old.history) text (line_of e) served.reads serves.lane (serves.line ∙ omega (arith, is)) serves.spells);
 }
 
 -- nothing was served yet
@@ -63,7 +63,7 @@ Serving-none script core none good room = record {
   number_is = refl;
   good = good;
   room = room;
-  fits = omega arith
+  fits = omega arith;
 }
 
 -- one more line was served
@@ -77,7 +77,7 @@ Serving-more script rest number old new text after e so_far first shorter serves
       number_is = rw length-append (omega (arith, so_far.number_is));
       good = All-tail text (texts_of after) (rw first at so_far.good);
       room = omega (arith, both, so_far.room, serves.spare);
-      fits = omega (arith, so_far.fits)
+      fits = omega (arith, so_far.fits);
     }
 
 -- the line that comes next
@@ -101,7 +101,7 @@ stopped_before held script rest number core start old new so_far gained same = r
   split = so_far.split;
   served = so_far.served;
   printed = length (entry_texts core.history);
-  gained = rw (take-length (entry_texts core.history), same) gained
+  gained = rw (take-length (entry_texts core.history), same) gained;
 }
 
 -- a line was called, and not printed or not wholly
@@ -109,7 +109,7 @@ stopped_after : {K : Type 0} (held : K → Option (List ℕ)) (faults : K → �
 stopped_after held faults script rest number core later text after e start old new stop so_far first gained serves stopped =
     let part = stopped_front held faults (entry_text e) old new stop stopped in
     let whole : entry_texts later.history ≡ entry_texts core.history ++ (entry_text e ++ []) =
-      rw (serves.history, append-none (entry_text e)) (entry_texts-push core.history e) in
+    rw (serves.history, append-none (entry_text e)) (entry_texts-push core.history e) in
     let front = Gains-front (held start) (held old) (held new) (entry_texts later.history) (entry_texts core.history) (entry_text e) [] part.0 whole gained part.1 in
     record {
       front = so_far.before ++ text ∷ [];
@@ -117,13 +117,13 @@ stopped_after held faults script rest number core later text after e start old n
       split = so_far.split ∙ (ap (λ ts. so_far.before ++ ts) first ∙ sym (append_assoc so_far.before (text ∷ []) (texts_of after)));
       served = Served-push so_far.before core later (number + 1) text e so_far.served (omega (arith, so_far.number_is)) serves;
       printed = front.0;
-      gained = front.1
+      gained = front.1;
     }
 
 -- a front of the lines was served when a line stopped
 pub ServedInPart-stopped : {K : Type 0} (held : K → Option (List ℕ)) (faults : K → ℕ) (script rest : List ℕ) (number : ℕ) (core later : CoreState) (text after : List ℕ) (start old new : K) (stop : Stop) → Serving script rest number core → texts_of rest ≡ text ∷ texts_of after → Gains (held start) (entry_texts core.history) (held old) → StoppedServing held faults core later (number + 1) text old new stop → ServedInPart held (texts_of script) later start new
 ServedInPart-stopped held faults script rest number core later text after start old new stop so_far first gained stopped =
     elim stopped [
-      inl before ↦ rw before.0 (stopped_before held script rest number core start old new so_far gained before.1)
-    | inr called ↦ stopped_after held faults script rest number core later text after called.0 start old new stop so_far first gained called.1 called.2
+      | inl before ↦ rw before.0 (stopped_before held script rest number core start old new so_far gained before.1)
+      | inr called ↦ stopped_after held faults script rest number core later text after called.0 start old new stop so_far first gained called.1 called.2
     ]

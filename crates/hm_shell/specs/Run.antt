@@ -8,9 +8,10 @@ use Rattle.hm_pipe.specs.Pipe.{Gives, IsAtEnd, Gains}
 use Rattle.hm_model.specs.declared.entry.Entry.{Entry}
 use Rattle.hm_model.specs.Volume.{fresh}
 use Rattle.hm_model.specs.Legal.{IsLegal}
-use Rattle.hm_model.specs.Lines.{Line, IsScript, ReadsFrom, Spells}
+use Rattle.hm_model.specs.Lines.{Line, IsScript, IsFirstBad, ReadsFrom, Spells}
 use Rattle.hm_model.specs.Out.{Answers, entry_text, line_of, out_text}
 use Rattle.hm_core.specs.State.{CoreState}
+use Rattle.hm_shell.specs.Words.{IsPlan}
 use Rattle.hm_shell.specs.declared.stop.Stop.{Stop}
 use Rattle.hm_shell.specs.declared.stop.Stop.TheVariants.{Usage, ScriptFault, OutFault, NoMemory, BadLine, TooLong}
 
@@ -99,3 +100,61 @@ IsOutCause before after Usage = ⊥
 IsOutCause before after (ScriptFault b a) = ⊥
 IsOutCause before after (BadLine number) = ⊥
 IsOutCause before after TooLong = ⊥
+
+-- the words name a volume and its size
+abbrev pub HasPlan : List (List ℕ) → Type 0
+HasPlan words = (bigblocks : ℕ) × IsPlan words bigblocks
+
+-- The run of a script over a fresh volume: for some legal history that answers each of its lines, the
+-- sink gained what the lines print.
+pub record RunsAll {K : Type 0} (held : K → Option (List ℕ)) (bigblocks : ℕ) (script : List ℕ) (old new : K) : Type 0 where
+  pub lines : List Line
+  pub lines_are : IsScript script lines
+  pub history : List Entry
+  pub legal : IsLegal (fresh bigblocks) history
+  pub answers : Answers lines history
+  pub printed : Gains (held old) (out_text lines history) (held new)
+
+-- A run that came to a front of the lines only, with a legal history that answers these. The text is a
+-- front of what they print.
+pub record RunsInPart (bigblocks : ℕ) (script text : List ℕ) : Type 0 where
+  pub lines : List Line
+  pub lines_are : IsScript script lines
+  pub front : List Line
+  pub rest : List Line
+  pub split : lines ≡ front ++ rest
+  pub history : List Entry
+  pub legal : IsLegal (fresh bigblocks) history
+  pub answers : Answers front history
+  pub printed : ℕ
+  pub text_is : text ≡ take printed (out_text front history)
+
+-- The whole run, from the words to the sink: a volume of the size that they name, and the script that
+-- the source gave to its end.
+pub record Completes {S K : Type 0} (left : S → Option (List ℕ)) (held : K → Option (List ℕ)) (words : List (List ℕ)) (old_source new_source : S) (old_out new_out : K) : Type 0 where
+  pub bigblocks : ℕ
+  pub plan : IsPlan words bigblocks
+  pub script : List ℕ
+  pub read : WasRead left old_source new_source script
+  pub runs : RunsAll held bigblocks script old_out new_out
+
+-- the same, as far as it came
+pub record ComesTo {S : Type 0} (left : S → Option (List ℕ)) (words : List (List ℕ)) (old_source new_source : S) (text : List ℕ) : Type 0 where
+  pub bigblocks : ℕ
+  pub plan : IsPlan words bigblocks
+  pub script : List ℕ
+  pub read : WasRead left old_source new_source script
+  pub runs : RunsInPart bigblocks script text
+
+-- why the run of a script stopped: at a bad line, before anything was run; at the sink; or for want of memory
+abbrev pub StopsRunning : {K : Type 0} → (K → Option (List ℕ)) → (K → ℕ) → ℕ → List ℕ → K → K → Stop → Type 0
+StopsRunning held faults bigblocks script old new (BadLine number) =
+    IsFirstBad script number × (held new ≡ held old)
+StopsRunning held faults bigblocks script old new OutFault =
+    (text : List ℕ) × RunsInPart bigblocks script text × Gains (held old) text (held new)
+    × Rose (faults old) (faults new)
+StopsRunning held faults bigblocks script old new NoMemory =
+    (text : List ℕ) × ((text ≡ []) ⊎ RunsInPart bigblocks script text) × Gains (held old) text (held new)
+StopsRunning held faults bigblocks script old new Usage = ⊥
+StopsRunning held faults bigblocks script old new (ScriptFault before after) = ⊥
+StopsRunning held faults bigblocks script old new TooLong = ⊥

@@ -12,7 +12,8 @@ use hm_pipe::Sink;
 use hm_types::Failed;
 use std::alloc::Global;
 
-const USAGE: &[u8] = b"usage: hammer VOLUME [--newfs BIGBLOCKS] [--stream-in FILE] [--stream-out FILE] [--generate N]\n";
+const USAGE: &[u8] =
+    b"usage: hammer VOLUME [--newfs BIGBLOCKS] [--stream-in FILE] [--stream-out FILE] [--generate N]\n";
 
 /// Prints the line of one entry.
 pub(crate) fn print_entry<K: Sink>(alloc: Global, entry: &Entry, out: &mut K) -> Result<(), Stop>
@@ -56,7 +57,10 @@ fn put_last<K: Sink>(stop: Stop, out: &mut K) -> Result<(), Failed>
         Stop::NoMemory => out.put(b"no memory\n"),
         Stop::BadLine { number } => {
             let mut buffer = itoa::Buffer::new();
-            put_all(&[b"bad line ", buffer.format(number).as_bytes(), b"\n"], out)
+            put_all(
+                &[b"bad line ", buffer.format(number).as_bytes(), b"\n"],
+                out,
+            )
         }
         Stop::TooLong => out.put(b"script too long\n"),
     }

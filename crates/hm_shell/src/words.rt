@@ -1,13 +1,13 @@
 // The words of the command line.
-ghost use Rattle.std.specs.Prelude.{[], ◌∷◌, ◌↔◌, IsTrue, MatchOption, map, string_bytes};
-ghost use Rattle.hm_shell.specs.Words.{IsPlan, IsUsageFault, IsSize, IsNoSize, IsVolumeWord};
+ghost use Rattle.std.specs.Prelude.{[], ◌∷◌, ◌↔◌, IsTrue, MatchOption};
+ghost use Rattle.hm_shell.specs.Words.{IsPlan, IsUsageFault, IsSize, IsNoSize, IsVolumeWord, texts};
 
 use hm_types::{LEAST_BIGBLOCKS, MOST_BIGBLOCKS};
 
 /// The volume's size in big-blocks, where the words are VOLUME and `--newfs BIGBLOCKS`, in either
 /// order.
 pub(crate) fn planned_size(words: &[String]) -> Option<u32>
-    ensures { MatchOption result (IsUsageFault (map string_bytes words.now)) (IsPlan (map string_bytes words.now)) }
+    ensures { MatchOption result (IsUsageFault (texts words.now)) (IsPlan (texts words.now)) }
 {
     match words {
         [first, second, third] => size_in(first.as_str(), second.as_str(), third.as_str()),

@@ -9,6 +9,7 @@ returns-in_err-put-clause-err g c =
     on_err c.from_residual.result (Rose-wider _ _ _ _ c.loop-piece.invariant.1 c.in_err-put.ensures.cause.failed (omega arith), part.0, part.1)
 
 pub loop-piece-preserved : goal.loop-piece-preserved
-loop-piece-preserved g c =
-    ( Gains-piece _ _ _ c.args.pieces.now c.loop-piece.piece-index _ c.loop-piece-test.true c.loop-piece.invariant.0 c.in_ok-put.ensures.ok
-    , omega (arith, c.loop-piece.invariant.1, c.put.ensures.cause.never_falls))
+loop-piece-preserved g c = (
+  Gains-piece _ _ _ c.args.pieces.now c.loop-piece.piece-index _ c.loop-piece-test.true c.loop-piece.invariant.0 c.in_ok-put.ensures.ok,
+  omega (arith, c.loop-piece.invariant.1, c.put.ensures.cause.never_falls),
+)

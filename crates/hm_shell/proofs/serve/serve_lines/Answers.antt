@@ -19,8 +19,9 @@ returns-in_err-serve_line-clause-err g c =
 pub lines-preserved : goal.lines-preserved
 lines-preserved g c =
     let e = c.in_ok-serve_line.ensures.ok.0 in
-    let serves = c.in_ok-serve_line.ensures.ok.1 in
-    ( Serving-more c.args.script.now c.lines.rest.now c.lines.number c.lines.core c.serve_line.new.core c.split_line.result.0.now c.split_line.result.1.now e c.lines.invariant.0 c.split_line.ensures.texts c.split_line.ensures.shorter serves
-    , rw (serves.history, entry_texts-push c.lines.core.history e) (Gains-append _ _ _ _ _ c.lines.invariant.1 c.in_ok-serve_line.ensures.ok.2)
-    , omega (arith, c.lines.invariant.2, c.serve_line.ensures.never_falls)
-    , serves.size ∙ c.lines.invariant.3)
+    let serves = c.in_ok-serve_line.ensures.ok.1 in (
+      Serving-more c.args.script.now c.lines.rest.now c.lines.number c.lines.core c.serve_line.new.core c.split_line.result.0.now c.split_line.result.1.now e c.lines.invariant.0 c.split_line.ensures.texts c.split_line.ensures.shorter serves,
+      rw (serves.history, entry_texts-push c.lines.core.history e) (Gains-append _ _ _ _ _ c.lines.invariant.1 c.in_ok-serve_line.ensures.ok.2),
+      omega (arith, c.lines.invariant.2, c.serve_line.ensures.never_falls),
+      serves.size ∙ c.lines.invariant.3,
+    )
