@@ -29,6 +29,7 @@ pub(crate) fn split_line(script: &[u8]) -> (&[u8], &[u8])
 pub(crate) fn check_lines(script: &[u8]) -> Result<u32, BadLine>
     requires { length script.now ≤ MOST_SCRIPT_BYTES }
     ensures ok { IfOk result (λ count. (count ≡ length (texts_of script.now)) × All IsLine (texts_of script.now)) }
+    ensures few { IfOk result (λ count. count ≤ length script.now) }
     ensures err { IfErr result (λ bad. IsFirstBad script.now bad.0) }
 {
     let mut rest = script;
