@@ -1,6 +1,6 @@
 -- Lines, from what the searches of the code found.
-use Rattle.std.proofs.Common.{◌≡◌, ◌≢◌, ℕ, suc, ◌+◌, ◌-◌, ◌<◌, ◌↔◌, Bool, true, false, IsTrue, List, [], ◌∷◌, ◌++◌, length, get_or, take, drop, refl, sym, ◌∙◌, ap, arith, add-one, eqb, codes}
-use Rattle.std.specs.Prelude.{MatchBool, slice_index}
+use Rattle.std.proofs.Common.{◌≡◌, ◌≢◌, ℕ, ◌+◌, ◌-◌, ◌<◌, ◌↔◌, Bool, true, false, IsTrue, List, [], ◌∷◌, ◌++◌, length, take, drop, refl, arith, add-one, eqb, codes}
+use Rattle.std.specs.Prelude.{MatchBool}
 use Rattle.std.specs.List.{starts_with}
 use Rattle.std.proofs.Math.Seq.{take-length}
 use Rattle.std.proofs.lemmas.List.{length-drop}
@@ -9,9 +9,8 @@ use Rattle.std.proofs.lemmas.Bool.{false≢true}
 use Rattle.std.proofs.lemmas.Bool.Decides.{nat_tests, Decides-eqb}
 use Rattle.memchr.specs.Find.{Passes, NoneBefore, Nowhere, is_byte}
 use Rattle.hm_types.specs.Name.{IsName}
-use Rattle.hm_model.specs.declared.command.Command.{Command}
 use Rattle.hm_model.specs.declared.command.Command.TheVariants.{Mkdir}
-use Rattle.hm_model.specs.Lines.{line_feed, texts_of, IsLine, IsNoLine, Spells}
+use Rattle.hm_model.specs.Lines.{line_feed, texts_of, IsLine, IsNoLine}
 use Rattle.hm_model.proofs.LineLemmas.{texts_of-line, texts_of-last}
 
 is_feed : (x : ℕ) → is_byte line_feed x ≡ true → x ≡ line_feed

@@ -1,15 +1,13 @@
 -- From the lines that were served to the run of a script.
-use Rattle.std.proofs.Common.{◌≡◌, ℕ, suc, ◌+◌, ◌<◌, ◌≤◌, List, [], ◌∷◌, ◌++◌, length, take, refl, sym, ◌∙◌, ap, subst, inl, inr, arith, map, lit<}
+use Rattle.std.proofs.Common.{◌≡◌, ℕ, ◌+◌, ◌≤◌, List, [], ◌∷◌, ◌++◌, length, take, refl, sym, ap, subst, inl, inr, arith, map, lit<}
 use Rattle.std.specs.Prelude.{All, Option, Result, Ok, Err, OnOk, OnErr, IfErr}
 use Rattle.std.specs.List.{AllByRecursion}
 use Rattle.std.proofs.lemmas.List.Elements.{recursion_from_All}
-use Rattle.hm_types.specs.Faults.{Rose}
 use Rattle.hm_pipe.specs.Pipe.{Gains}
 use Rattle.hm_pipe.proofs.PipeLemmas.{Rose-wider}
-use Rattle.hm_model.specs.declared.entry.Entry.{Entry}
 use Rattle.hm_model.specs.Volume.{fresh}
-use Rattle.hm_model.specs.Lines.{Line, ReadsFrom, IsScript, IsLine, texts_of}
-use Rattle.hm_model.specs.Out.{line_of, out_text}
+use Rattle.hm_model.specs.Lines.{Line, ReadsFrom, IsLine, texts_of}
+use Rattle.hm_model.specs.Out.{line_of}
 use Rattle.hm_model.proofs.OutLemmas.{Answers-in_order, out_text-in_order}
 use Rattle.hm_core.specs.State.{CoreState}
 use Rattle.hm_shell.specs.declared.stop.Stop.{Stop}
@@ -55,7 +53,7 @@ RunsAll-served held bigblocks script core old new size served gained = record {
 RunsInPart-served : {K : Type 0} (held : K → Option (List ℕ)) (bigblocks : ℕ) (script : List ℕ) (core : CoreState) (old new : K) → core.bigblocks ≡ bigblocks → All IsLine (texts_of script) → (part : ServedInPart held (texts_of script) core old new) → RunsInPart bigblocks script (take part.printed (entry_texts core.history))
 RunsInPart-served held bigblocks script core old new size good part =
     let all : AllByRecursion IsLine (part.front ++ part.rest) =
-      subst (AllByRecursion IsLine) part.split (recursion_from_All IsLine (texts_of script) good) in
+    subst (AllByRecursion IsLine) part.split (recursion_from_All IsLine (texts_of script) good) in
     let later = read_on (1 + length part.front) part.rest (second_good part.front part.rest all) in
     record {
       lines = map line_of core.history ++ later.0;
@@ -110,9 +108,9 @@ module _ {S K : Type 0} (left : S → Option (List ℕ)) (source_faults : S → 
   pub Ends-script_fault : (words : List (List ℕ)) (s t : S) (k m l : K) (stop : Stop) → Stops left source_faults held out_faults words s t k m stop → Prints held out_faults [] (last_line stop) m l → out_faults k ≤ out_faults m → status_of stop ≡ 5 → Ends left source_faults held out_faults words s t k l (ScriptFault (source_faults s) (source_faults t))
   Ends-script_fault words s t k m l (ScriptFault before after) stops prints later status =
       let told : StoppedReading left source_faults s t (ScriptFault (source_faults s) (source_faults t)) =
-        (refl, refl, rw (← stops.1.0, ← stops.1.1) stops.1.2, stops.1.3, stops.1.4, stops.1.5) in
+      (refl, refl, rw (← stops.1.0, ← stops.1.1) stops.1.2, stops.1.3, stops.1.4, stops.1.5) in
       let line : Prints held out_faults [] (last_line (ScriptFault (source_faults s) (source_faults t))) m l =
-        rw (← stops.1.0, ← stops.1.1) prints in
+      rw (← stops.1.0, ← stops.1.1) prints in
       (stops.0, told, Prints-from held out_faults _ k m l stops.2 later line)
   Ends-script_fault words s t k m l Usage stops prints later status = absurd (omega arith)
   Ends-script_fault words s t k m l OutFault stops prints later status = absurd (omega arith)

@@ -1,13 +1,11 @@
 -- Lines that are served from the front.
-use Rattle.std.proofs.Common.{◌≡◌, ℕ, zero, suc, ◌+◌, ◌*◌, ◌<◌, ◌≤◌, List, [], ◌∷◌, ◌++◌, length, take, refl, sym, ◌∙◌, ap, subst, inl, inr, arith, append_assoc, length-append, map}
-use Rattle.std.specs.Prelude.{All, Option, ◌⊎◌}
-use Rattle.std.specs.List.{flat_map}
+use Rattle.std.proofs.Common.{◌≡◌, ℕ, suc, ◌+◌, ◌*◌, ◌<◌, ◌≤◌, List, [], ◌∷◌, ◌++◌, length, take, refl, sym, ◌∙◌, ap, inl, inr, arith, append_assoc, length-append, map}
+use Rattle.std.specs.Prelude.{All, Option}
 use Rattle.std.proofs.Math.Seq.{take-length}
 use Rattle.hm_pipe.specs.Pipe.{Gains}
-use Rattle.hm_pipe.proofs.PipeLemmas.{Gains-none, Gains-append}
+use Rattle.hm_pipe.proofs.PipeLemmas.{Gains-none}
 use Rattle.hm_model.specs.declared.entry.Entry.{Entry}
 use Rattle.hm_model.specs.Volume.{fresh}
-use Rattle.hm_model.specs.Legal.{IsLegal}
 use Rattle.hm_model.specs.Lines.{Line, ReadsFrom, Spells, IsLine, texts_of}
 use Rattle.hm_model.specs.Out.{entry_text, line_of}
 use Rattle.hm_model.proofs.HistoryLemmas.{IsLegal-none}

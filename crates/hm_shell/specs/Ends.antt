@@ -1,9 +1,8 @@
 -- How a run may end, by its status.
-use Rattle.std.specs.Prelude.{◌≡◌, ◌⊎◌, ℕ, ◌<◌, ◌≤◌, List, [], ◌∷◌, ◌++◌, Option, Some, length, Contains}
-use Rattle.hm_types.specs.declared.limits.TheConstants.{MOST_SCRIPT_BYTES}
+use Rattle.std.specs.Prelude.{◌≡◌, ◌⊎◌, ℕ, List, [], ◌∷◌, Option, Contains}
 use Rattle.hm_types.specs.Faults.{Rose}
-use Rattle.hm_pipe.specs.Pipe.{Gives, Gains}
-use Rattle.hm_model.specs.Lines.{Line, IsScript, IsFirstBad}
+use Rattle.hm_pipe.specs.Pipe.{Gains}
+use Rattle.hm_model.specs.Lines.{IsFirstBad}
 use Rattle.hm_shell.specs.declared.stop.Stop.{Stop}
 use Rattle.hm_shell.specs.declared.stop.Stop.TheVariants.{Usage, ScriptFault, OutFault, NoMemory, BadLine, TooLong}
 use Rattle.hm_shell.specs.Words.{IsUsageFault}

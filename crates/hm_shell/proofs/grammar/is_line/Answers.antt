@@ -1,4 +1,4 @@
-use Rattle.std.proofs.Common.{◌≡◌, ◌∙◌, sym}
+use Rattle.std.proofs.Common.{◌∙◌, sym}
 use Rattle.hm_shell.proofs.GrammarLemmas.{line_from_tests}
 use Rattle.hm_shell.proofs.grammar.is_line.Goals as goal
 

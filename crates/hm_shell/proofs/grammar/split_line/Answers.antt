@@ -1,6 +1,5 @@
-use Rattle.std.proofs.Common.{◌≡◌, ◌+◌, ◌∷◌, [], refl, length, ap}
+use Rattle.std.proofs.Common.{◌+◌, length}
 use Rattle.std.proofs.Math.Seq.{drop-length}
-use Rattle.hm_model.specs.Lines.{texts_of}
 use Rattle.hm_shell.proofs.GrammarLemmas.{first_line, only_line, rest_is}
 use Rattle.hm_shell.proofs.grammar.split_line.Goals as goal
 

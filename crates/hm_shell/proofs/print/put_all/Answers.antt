@@ -1,4 +1,4 @@
-use Rattle.std.proofs.Common.{◌≡◌, ◌≤◌, ◌+◌, arith}
+use Rattle.std.proofs.Common.{arith}
 use Rattle.hm_pipe.proofs.PipeLemmas.{Rose-wider}
 use Rattle.hm_shell.proofs.PrintLemmas.{Gains-piece, Gains-part, on_err}
 use Rattle.hm_shell.proofs.print.put_all.Goals as goal

@@ -1,4 +1,4 @@
-use Rattle.std.proofs.Common.{◌≡◌, ◌≤◌, ◌+◌, ◌-◌, ◌<◌, vec_len, length}
+use Rattle.std.proofs.Common.{◌≤◌, ◌+◌, ◌-◌, ◌<◌, vec_len}
 use Rattle.hm_types.specs.declared.limits.TheConstants.{MOST_SCRIPT_BYTES}
 use Rattle.hm_pipe.specs.Pipe.{Gives}
 use Rattle.hm_shell.proofs.read.read_script.Given as goal

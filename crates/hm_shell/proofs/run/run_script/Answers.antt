@@ -1,4 +1,4 @@
-use Rattle.std.proofs.Common.{◌≡◌, ◌∙◌, arith}
+use Rattle.std.proofs.Common.{◌∙◌, arith}
 use Rattle.hm_shell.proofs.RunLemmas.{all_served, not_served}
 use Rattle.hm_shell.proofs.run.run_script.Goals as goal
 

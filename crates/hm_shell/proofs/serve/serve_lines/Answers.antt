@@ -1,6 +1,5 @@
-use Rattle.std.proofs.Common.{◌≡◌, ◌∙◌, sym, refl, arith, ap}
+use Rattle.std.proofs.Common.{◌∙◌, refl, arith}
 use Rattle.hm_pipe.proofs.PipeLemmas.{Gains-none, Gains-append}
-use Rattle.hm_shell.specs.Run.{entry_texts}
 use Rattle.hm_shell.proofs.PrintLemmas.{on_err}
 use Rattle.hm_shell.proofs.ServeLemmas.{Serving-none, Serving-more, IsLine-next, ServedInPart-stopped, entry_texts-push}
 use Rattle.hm_shell.proofs.serve.serve_lines.Goals as goal

@@ -1,4 +1,4 @@
-use Rattle.std.proofs.Common.{◌≡◌, ◌≤◌, ◌*◌, length}
+use Rattle.std.proofs.Common.{◌≡◌, ◌≤◌, length}
 use Rattle.hm_pipe.specs.Pipe.{Gains}
 use Rattle.hm_shell.specs.Run.{entry_texts}
 use Rattle.hm_shell.specs.Serving.{Serving}
