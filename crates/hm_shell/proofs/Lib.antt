@@ -1,4 +1,5 @@
 pub mod CheckLemmas
+pub mod ExactLemmas
 pub mod GrammarLemmas
 pub mod PrintLemmas
 pub mod RunLemmas

@@ -1,8 +1,9 @@
 -- How a run may end, by its status.
-use Rattle.std.specs.Prelude.{◌≡◌, ◌⊎◌, ℕ, List, [], ◌∷◌, Option, Contains}
+use Rattle.std.specs.Prelude.{◌≡◌, ◌⊎◌, ℕ, ◌<◌, ◌≤◌, List, [], ◌∷◌, Option, length, Contains}
+use Rattle.hm_types.specs.declared.limits.TheConstants.{MOST_SCRIPT_BYTES}
 use Rattle.hm_types.specs.Faults.{Rose}
 use Rattle.hm_pipe.specs.Pipe.{Gains}
-use Rattle.hm_model.specs.Lines.{IsFirstBad}
+use Rattle.hm_model.specs.Lines.{Line, IsScript, IsFirstBad}
 use Rattle.hm_shell.specs.declared.stop.Stop.{Stop}
 use Rattle.hm_shell.specs.declared.stop.Stop.TheVariants.{Usage, ScriptFault, OutFault, NoMemory, BadLine, TooLong}
 use Rattle.hm_shell.specs.Words.{IsUsageFault}
@@ -47,3 +48,12 @@ module _ {S K : Type 0} (left : S → Option (List ℕ)) (source_faults : S → 
 -- the statuses that a run may end with
 abbrev pub IsStatus : ℕ → Type 0
 IsStatus status = Contains (0 ∷ 2 ∷ 5 ∷ 6 ∷ 7 ∷ 8 ∷ 9 ∷ []) status
+
+-- Which status a script brings, where nothing fails: 5, 6 and 7 come for other causes alone. It is too
+-- long, or it has a line that is none of the grammar, or all its lines are answered.
+pub record Brings (script : List ℕ) (status : ℕ) : Type 0 where
+  pub too_long : MOST_SCRIPT_BYTES < length script → Contains (9 ∷ 5 ∷ 7 ∷ []) status
+  pub bad : (number : ℕ) → length script ≤ MOST_SCRIPT_BYTES → IsFirstBad script number →
+      Contains (8 ∷ 5 ∷ 7 ∷ []) status
+  pub good : (lines : List Line) → length script ≤ MOST_SCRIPT_BYTES → IsScript script lines →
+      Contains (0 ∷ 5 ∷ 6 ∷ 7 ∷ []) status

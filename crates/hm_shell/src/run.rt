@@ -1,9 +1,9 @@
 // The top call.
-ghost use Rattle.std.specs.Prelude.{◌≡◌, ◌↔◌, ◌≤◌, ℕ, IfErr, OnOk, length};
+ghost use Rattle.std.specs.Prelude.{◌≡◌, ◌↔◌, ◌≤◌, ℕ, IfErr, IfSome, OnOk, length};
 ghost use Rattle.hm_types.specs.declared.limits.TheConstants.{MOST_SCRIPT_BYTES};
 ghost use Rattle.hm_shell.specs.Words.{IsUsageFault, texts};
-ghost use Rattle.hm_shell.specs.Run.{Completes, RunsAll, StopsRunning};
-ghost use Rattle.hm_shell.specs.Ends.{Ends, IsStatus, Stops};
+ghost use Rattle.hm_shell.specs.Run.{Completes, HasPlan, RunsAll, StopsRunning};
+ghost use Rattle.hm_shell.specs.Ends.{Brings, Ends, IsStatus, Stops};
 
 use crate::grammar::{BadLine, check_lines};
 use crate::print::print_last;
@@ -67,6 +67,8 @@ pub fn run<R: AllocGlobal, S: Source, K: Sink>(
     ensures too_long { result.status ≡ 9 → Ends S.left S.faults K.held K.faults
         (texts words.now) script result.script out result.out Stop.TooLong }
 
+    // Where the words are good and the source tells its script, the script decides which of these it is.
+    ensures exact { HasPlan (texts words.now) → IfSome (S.left script) (λ told. Brings told result.status) }
     ensures statuses { IsStatus result.status }
     ensures counts { (S.faults script ≤ S.faults result.script) × (K.faults out ≤ K.faults result.out) }
 {
