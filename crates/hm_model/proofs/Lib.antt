@@ -1,4 +1,5 @@
 pub mod HistoryLemmas
 pub mod LineLemmas
 pub mod OutLemmas
+pub mod StepLemmas
 pub mod VersionLemmas

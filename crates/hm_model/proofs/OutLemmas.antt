@@ -1,5 +1,5 @@
 -- A history that answers its lines one after another.
-use Rattle.std.proofs.Common.{◌≡◌, ℕ, suc, ◌+◌, ◌<◌, ◌≤◌, true, false, List, [], ◌∷◌, ◌++◌, map, refl, ◌∙◌, ap, arith, append_assoc, eqb, filter}
+use Rattle.std.proofs.Common.{◌≡◌, ℕ, suc, ◌+◌, ◌<◌, ◌≤◌, true, false, List, [], ◌∷◌, ◌++◌, map, refl, ◌∙◌, ap, arith, eqb, filter}
 use Rattle.std.specs.Prelude.{Contains, All}
 use Rattle.std.proofs.Math.ListN.{get_or-map}
 use Rattle.std.proofs.lemmas.List.{length-map}
@@ -8,11 +8,11 @@ use Rattle.std.proofs.lemmas.Bool.Decides.{nat_tests}
 use Rattle.std.proofs.lemmas.List.Elements.{All-from_recursion, All-contains}
 use Rattle.hm_model.specs.declared.entry.Entry.{Entry}
 use Rattle.hm_model.specs.Volume.{Volume}
-use Rattle.hm_model.specs.After.{after, after_entry}
+use Rattle.hm_model.specs.After.{after_entry}
 use Rattle.hm_model.specs.Legal.{IsLegal}
 use Rattle.hm_model.specs.Lines.{ReadsFrom}
 use Rattle.hm_model.specs.Out.{Answers, HasEntry, answers, entries_of, entry_text, line_of, out_text}
-use Rattle.hm_model.proofs.HistoryLemmas.{after-push}
+use Rattle.hm_model.proofs.StepLemmas.{Steps, steps_from}
 
 -- the entries have these numbers, one after another
 abbrev IsNumbered : ℕ → List Entry → Type 0
@@ -62,19 +62,6 @@ has_each : (history es : List Entry) → AllByRecursion (λ e. filter (answers e
 has_each history [] only = tt
 has_each history (e ∷ es) only =
     (record { entry = e; only = only.0; own = record { lane = refl; number = refl; command = refl } }, has_each history es only.1)
-
--- the ids of entries, one after another
-abbrev Steps : Volume → List Entry → Type 0
-Steps volume [] = Unit {0}
-Steps volume (e ∷ es) = (e.id.0 ≡ volume.last + 1) × Steps (after_entry volume e) es
-
-steps_from : (opening : Volume) (before es : List Entry) → IsLegal opening (before ++ es) → Steps (after opening before) es
-steps_from opening before [] legal = tt
-steps_from opening before (e ∷ es) legal = (
-  (legal before e es refl).id,
-  let again : IsLegal opening ((before ++ e ∷ []) ++ es) = rw (append_assoc before (e ∷ []) es) legal in
-      rw (after-push opening before e) at (steps_from opening (before ++ e ∷ []) es again),
-)
 
 ids_by_numbers : (n : ℕ) (volume : Volume) (es : List Entry) → IsNumbered n es → Steps volume es → AllByRecursion (λ e. e.id.0 + n ≡ volume.last + 1 + e.line) es
 ids_by_numbers n volume [] numbered steps = tt

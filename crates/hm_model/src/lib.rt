@@ -6,6 +6,7 @@
 
 mod command;
 mod entry;
+mod laws;
 mod object;
 mod plain;
 mod reply;
@@ -13,6 +14,7 @@ mod tree;
 
 pub use command::Command;
 pub use entry::Entry;
+pub use laws::legal_ids_rise;
 pub use object::{Content, Kind, Object, Triple};
 pub use plain::apply;
 pub use reply::Reply;
