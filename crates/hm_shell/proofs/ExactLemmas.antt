@@ -7,7 +7,8 @@ use Rattle.hm_model.specs.Lines.{Line, ReadsFrom, IsScript, IsLine, IsFirstBad, 
 use Rattle.hm_shell.specs.declared.stop.Stop.{Stop}
 use Rattle.hm_shell.specs.declared.stop.Stop.TheVariants.{Usage, ScriptFault, OutFault, NoMemory, BadLine, TooLong}
 use Rattle.hm_shell.specs.Stop.{status_of}
-use Rattle.hm_shell.specs.Run.{Completes, HasPlan, WasRead}
+use Rattle.hm_shell.specs.Reading.{WasRead}
+use Rattle.hm_shell.specs.Run.{Completes, HasPlan}
 use Rattle.hm_shell.specs.Ends.{Brings, Stops}
 
 -- what was read to the end is all that was told

@@ -5,7 +5,7 @@ use Rattle.std.proofs.lemmas.Grind.{common_steps}
 use Rattle.std.specs.Borrow.{Bor}
 use Rattle.hm_pipe.specs.Pipe.{Gains}
 use Rattle.hm_pipe.proofs.PipeLemmas.{Gains-append}
-use Rattle.hm_shell.specs.Run.{joined}
+use Rattle.hm_shell.specs.Printing.{joined}
 
 append-none : {X : Type 0} (xs : List X) → xs ++ [] ≡ xs
 append-none [] = refl

@@ -13,7 +13,10 @@ use Rattle.hm_core.specs.State.{CoreState}
 use Rattle.hm_shell.specs.declared.stop.Stop.{Stop}
 use Rattle.hm_shell.specs.declared.stop.Stop.TheVariants.{Usage, ScriptFault, OutFault, NoMemory, BadLine, TooLong}
 use Rattle.hm_shell.specs.Stop.{status_of, last_line}
-use Rattle.hm_shell.specs.Run.{Served, ServedInPart, RunsAll, RunsInPart, StoppedReading, StopsRunning, IsOutCause, Prints, entry_texts}
+use Rattle.hm_shell.specs.Reading.{StoppedReading}
+use Rattle.hm_shell.specs.Printing.{Prints}
+use Rattle.hm_shell.specs.Serving.{Served, ServedInPart, IsOutCause, entry_texts}
+use Rattle.hm_shell.specs.Run.{RunsAll, RunsInPart, StopsRunning}
 use Rattle.hm_shell.specs.Ends.{IsStatus, Stops, Ends}
 
 -- texts that are lines read as some lines

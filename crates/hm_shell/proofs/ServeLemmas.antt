@@ -12,7 +12,8 @@ use Rattle.hm_model.proofs.HistoryLemmas.{IsLegal-none}
 use Rattle.hm_core.specs.State.{CoreState}
 use Rattle.hm_shell.specs.declared.stop.Stop.{Stop}
 use Rattle.hm_shell.specs.declared.stop.Stop.TheVariants.{Usage, ScriptFault, OutFault, NoMemory, BadLine, TooLong}
-use Rattle.hm_shell.specs.Run.{Served, ServesLine, ServedInPart, StoppedServing, StoppedPrinting, entry_texts}
+use Rattle.hm_shell.specs.Printing.{StoppedPrinting}
+use Rattle.hm_shell.specs.Serving.{Served, ServesLine, ServedInPart, StoppedServing, entry_texts}
 use Rattle.hm_shell.specs.Serving.{Serving}
 use Rattle.hm_shell.proofs.PrintLemmas.{Gains-front}
 

@@ -4,7 +4,7 @@ ghost use Rattle.hm_types.specs.Faults.{Rose};
 ghost use Rattle.hm_pipe.specs.Pipe.{Gains};
 ghost use Rattle.hm_model.specs.Out.{entry_text};
 ghost use Rattle.hm_shell.specs.Stop.{last_line};
-ghost use Rattle.hm_shell.specs.Run.{Prints, IsCutShort, StoppedPrinting, joined};
+ghost use Rattle.hm_shell.specs.Printing.{Prints, IsCutShort, StoppedPrinting, joined};
 
 use crate::stop::Stop;
 use hm_model::Entry;

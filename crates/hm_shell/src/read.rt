@@ -1,6 +1,6 @@
 // A script from its source, whole.
 ghost use Rattle.std.specs.Prelude.{◌<◌, ◌≤◌, IfErr, IfOk, vec_len};
-ghost use Rattle.hm_shell.specs.Run.{WasRead, StoppedReading};
+ghost use Rattle.hm_shell.specs.Reading.{WasRead, StoppedReading};
 
 use crate::stop::Stop;
 use hm_pipe::Source;

@@ -6,7 +6,7 @@ ghost use Rattle.hm_pipe.specs.Pipe.{Gains};
 ghost use Rattle.hm_model.specs.declared.entry.Entry.{Entry};
 ghost use Rattle.hm_model.specs.Lines.{texts_of, IsLine};
 ghost use Rattle.hm_model.specs.Out.{entry_text};
-ghost use Rattle.hm_shell.specs.Run.{Served, ServedInPart, ServesLine, StoppedServing, IsOutCause, entry_texts};
+ghost use Rattle.hm_shell.specs.Serving.{Served, ServedInPart, ServesLine, StoppedServing, IsOutCause, entry_texts};
 
 use crate::grammar::{command_of, split_line};
 use crate::print::print_entry;

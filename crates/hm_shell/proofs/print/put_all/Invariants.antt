@@ -1,6 +1,6 @@
 use Rattle.std.proofs.Common.{◌≤◌, take}
 use Rattle.hm_pipe.specs.Pipe.{Gains}
-use Rattle.hm_shell.specs.Run.{joined}
+use Rattle.hm_shell.specs.Printing.{joined}
 use Rattle.hm_shell.proofs.print.put_all.Given as goal
 
 abbrev pub invariant-loop-piece : goal.invariant-loop-piece

@@ -1,6 +1,6 @@
 use Rattle.std.proofs.Common.{◌≡◌, ◌≤◌, length}
 use Rattle.hm_pipe.specs.Pipe.{Gains}
-use Rattle.hm_shell.specs.Run.{entry_texts}
+use Rattle.hm_shell.specs.Serving.{entry_texts}
 use Rattle.hm_shell.specs.Serving.{Serving}
 use Rattle.hm_shell.proofs.serve.serve_lines.Given as goal
 
