@@ -28,7 +28,8 @@ pub(crate) fn split_line(script: &[u8]) -> (&[u8], &[u8])
 /// Checks every line, and counts them. It takes no memory.
 pub(crate) fn check_lines(script: &[u8]) -> Result<u32, BadLine>
     requires { length script.now ≤ MOST_SCRIPT_BYTES }
-    ensures ok { IfOk result (λ count. (count ≡ length (texts_of script.now)) × All IsLine (texts_of script.now)) }
+    ensures ok { IfOk result (λ count. (count ≡ length (texts_of script.now))
+        × All IsLine (texts_of script.now)) }
     ensures few { IfOk result (λ count. count ≤ length script.now) }
     ensures err { IfErr result (λ bad. IsFirstBad script.now bad.0) }
 {

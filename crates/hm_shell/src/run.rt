@@ -23,14 +23,14 @@ pub struct Ended<S, K> {
     pub out: K,
 }
 
-/// Reads the words and the script, makes a fresh volume, runs the script's lines one after another, and
-/// prints each reply before the next line is run.
+/// Reads the words and the script, makes a fresh volume, runs the script's lines one after another,
+/// and prints each reply before the next line is run.
 ///
-/// It ends with status 0 once each line was answered. Else it ends at the first of these that it meets,
-/// and prints a last line for each but a fault of the sink, which ends it in silence: words that break the
-/// rule (2), a fault of the script's source (5), a script that is too long (9), a line that is none of the
-/// grammar, in which case nothing is run (8), a fault of the sink (6), and want of memory outside a
-/// call's own reply (7). A fault of the sink in the last line leaves the status as it is.
+/// It ends with status 0 once each line was answered. Else it ends at the first of these that it
+/// meets: words that break the rule (2), a fault of the script's source (5), a script that is too long
+/// (9), a line that is none of the grammar, in which case nothing is run (8), a fault of the sink (6),
+/// and want of memory outside a call's own reply (7). It then prints a last line, but for a fault of
+/// the sink, which ends it in silence. A fault of the sink in the last line leaves the status as it is.
 pub fn run<R: AllocGlobal, S: Source, K: Sink>(
     rt: &R,
     words: &[String],
@@ -46,7 +46,7 @@ pub fn run<R: AllocGlobal, S: Source, K: Sink>(
     ensures usage_line { result.status ≡ 2 → Ends S.left S.faults K.held K.faults
         (texts words.now) script result.script out result.out Stop.Usage }
 
-    // The count of faults of the script's source rose: from the count as the run began to that at its end.
+    // The count of faults of the script's source rose, from that as the run began to that at its end.
     ensures script_fault { result.status ≡ 5 → Ends S.left S.faults K.held K.faults
         (texts words.now) script result.script out result.out
         (Stop.ScriptFault (S.faults script) (S.faults result.script)) }
@@ -67,10 +67,12 @@ pub fn run<R: AllocGlobal, S: Source, K: Sink>(
     ensures too_long { result.status ≡ 9 → Ends S.left S.faults K.held K.faults
         (texts words.now) script result.script out result.out Stop.TooLong }
 
-    // Where the words are good and the source tells its script, the script decides which of these it is.
-    ensures exact { HasPlan (texts words.now) → IfSome (S.left script) (λ told. Brings told result.status) }
+    // Where the words are good and the source tells its script, the script decides which it is.
+    ensures exact { HasPlan (texts words.now) →
+        IfSome (S.left script) (λ told. Brings told result.status) }
     ensures statuses { IsStatus result.status }
-    ensures counts { (S.faults script ≤ S.faults result.script) × (K.faults out ≤ K.faults result.out) }
+    ensures counts { (S.faults script ≤ S.faults result.script)
+        × (K.faults out ≤ K.faults result.out) }
 {
     let mut script = script;
     let mut out = out;
@@ -95,7 +97,8 @@ fn serve<S: Source, K: Sink>(
     source: &mut S,
     out: &mut K,
 ) -> Result<(), Stop>
-    ensures ok { OnOk result (Completes S.left K.held (texts words.now) source.old source.new out.old out.new) }
+    ensures ok { OnOk result (Completes S.left K.held
+        (texts words.now) source.old source.new out.old out.new) }
     ensures err { IfErr result (Stops S.left S.faults K.held K.faults
         (texts words.now) source.old source.new out.old out.new) }
     ensures source_count { S.faults source.old ≤ S.faults source.new }

@@ -27,7 +27,8 @@ pub(crate) fn serve_lines<K: Sink>(
     requires start { core.old.history ≡ [] }
     requires room { 2 * length (texts_of script.now) ≤ core.old.spare }
     ensures ok { OnOk result (Served (texts_of script.now) core.new) }
-    ensures printed { OnOk result (Gains (K.held out.old) (entry_texts core.new.history) (K.held out.new)) }
+    ensures printed { OnOk result
+        (Gains (K.held out.old) (entry_texts core.new.history) (K.held out.new)) }
     ensures err { OnErr result (ServedInPart K.held (texts_of script.now) core.new out.old out.new) }
     ensures cause { IfErr result (IsOutCause (K.faults out.old) (K.faults out.new)) }
     ensures size { core.new.bigblocks ≡ core.old.bigblocks }
@@ -56,7 +57,8 @@ fn serve_line<K: Sink>(
     requires room { 2 ≤ core.old.spare }
     ensures ok { OnOk result ((e : Entry) × ServesLine core.old core.new number text.now e
         × Gains (K.held out.old) (entry_text e) (K.held out.new)) }
-    ensures err { IfErr result (StoppedServing K.held K.faults core.old core.new number text.now out.old out.new) }
+    ensures err { IfErr result (StoppedServing K.held K.faults
+        core.old core.new number text.now out.old out.new) }
     ensures never_falls { K.faults out.old ≤ K.faults out.new }
 {
     let command = command_of(alloc, text)?;
