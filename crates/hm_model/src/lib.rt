@@ -9,6 +9,8 @@ mod entry;
 mod object;
 mod plain;
 mod reply;
+#[cfg(test)]
+mod tests;
 mod tree;
 
 pub use command::Command;
