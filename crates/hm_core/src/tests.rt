@@ -35,13 +35,12 @@ fn answers_as_the_plain_program(rt: HostRuntime) -> Result<(), Fail> {
         b"\x80\xFF".as_slice(),
         b"ab".as_slice(),
         b"...".as_slice(),
-        b"\xFF".as_slice(),
         longest.as_slice(),
         b"A@".as_slice(),
     ];
     let mut tree = Tree::root(alloc)?;
     let mut core = Core::fresh(alloc, 24);
-    core.reserve(13)?;
+    core.reserve(12)?;
     for i in 0..names.len() {
         let id = Id(i as u64 + 2);
         let line = i as u32 + 1;
