@@ -4,6 +4,8 @@
 #![tactic(auto)]
 
 mod names;
+#[cfg(test)]
+mod tests;
 mod volume;
 
 pub use volume::{Core, Step};

@@ -10,6 +10,8 @@ mod laws;
 mod object;
 mod plain;
 mod reply;
+#[cfg(test)]
+mod tests;
 mod tree;
 
 pub use command::Command;
