@@ -6,7 +6,8 @@ use Rattle.hm_model.specs.Volume.{fresh}
 use Rattle.hm_model.specs.Legal.{MayFollow}
 use Rattle.hm_core.specs.State.{CoreState}
 
--- the history gained the entry of this call, which may follow what it had, and at most one place of the room is taken
+-- the history gained the entry of this call, which may follow what it had, and at most one place of
+-- the room is taken
 pub record Enters (old new : CoreState) (lane line : ℕ) (command : Command) : Type 0 where
   pub entry : Entry
   pub history : new.history ≡ old.history ++ entry ∷ []

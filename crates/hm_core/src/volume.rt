@@ -39,7 +39,11 @@ impl Model for Core {
 
     ghost use Rattle.hm_core.specs.Inside.{IsSound};
 
-    ghost view = { λ c. record { bigblocks = c.bigblocks; history = c.history.items; spare = vec_capacity c.history - vec_len c.history } };
+    ghost view = { λ c. record {
+      bigblocks = c.bigblocks;
+      history = c.history.items;
+      spare = vec_capacity c.history - vec_len c.history;
+    } };
 
     ghost invariant = { IsSound };
 }
@@ -68,7 +72,7 @@ impl Core {
         Ok(())
     }
 
-    /// Answers one call, draws its id and enters it, which takes no memory: a refusal for want of it
+    /// Answers one call, draws its id and enters it. Entering takes no memory: a refusal for want of it
     /// comes before, as the call's reply. `since` is the last id as the call began.
     pub fn call(&mut self, lane: u8, line: u32, since: Id, command: Command) -> Step
         requires room { 2 ≤ self.old.spare }

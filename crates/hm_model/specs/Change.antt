@@ -13,7 +13,10 @@ place_in (Mkdir path) = place_of path
 -- the tree after the call with this id
 abbrev pub changed : FileTree → Command → ℕ → FileTree
 changed tree (Mkdir path) id =
-    with_object tree (place_of path).directory (place_of path).name (directory_of (record { 0 = id }))
+    with_object tree
+    (place_of path).directory
+    (place_of path).name
+    (directory_of (record { 0 = id }))
 
 -- the volume after the call with this id: the PFS in which its walk ends has one more version
 abbrev pub change : Volume → Command → ℕ → Volume

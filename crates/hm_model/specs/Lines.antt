@@ -45,7 +45,8 @@ pub record Line : Type 0 where
 abbrev pub ReadsFrom : ℕ → List (List ℕ) → List Line → Type 0
 ReadsFrom number [] [] = Unit {0}
 ReadsFrom number (text ∷ texts) (line ∷ lines) =
-    (line.lane ≡ 0) × (line.number ≡ number) × Spells text line.command × ReadsFrom (number + 1) texts lines
+    (line.lane ≡ 0) × (line.number ≡ number) × Spells text line.command
+    × ReadsFrom (number + 1) texts lines
 ReadsFrom number [] (line ∷ lines) = ⊥
 ReadsFrom number (text ∷ texts) [] = ⊥
 

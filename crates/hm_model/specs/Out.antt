@@ -47,4 +47,5 @@ pub record HasEntry (history : List Entry) (line : Line) : Type 0 where
 pub record Answers (lines : List Line) (history : List Entry) : Type 0 where
   pub each : All (HasEntry history) lines
   pub owned : (e : Entry) → Contains history e → (line : Line) × Contains lines line × IsOf line e
-  pub in_order : (a b : Entry) → Contains history a → Contains history b → a.line < b.line → a.id.0 < b.id.0
+  pub in_order : (a b : Entry) → Contains history a → Contains history b → a.line < b.line →
+      a.id.0 < b.id.0

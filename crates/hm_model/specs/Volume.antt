@@ -88,7 +88,10 @@ shown_id last s = elim s.role [ Master ↦ last | Slave ↦ s.sync_end ]
 -- the tree of a PFS now
 abbrev pub shown : Volume → ℕ → FileTree
 shown volume pfs =
-    option_map_or (λ s. as_of (shown_id volume.last s) no_tree s.versions) (system_of volume pfs) no_tree
+    option_map_or
+    (λ s. as_of (shown_id volume.last s) no_tree s.versions)
+    (system_of volume pfs)
+    no_tree
 
 -- the PFS with one more version, from this id on
 abbrev pub add_version : ℕ → FileTree → PseudoFileSystem → PseudoFileSystem

@@ -7,5 +7,6 @@ ghost use Rattle.hm_model.specs.Volume.{Volume};
 
 /// The ids of a legal history rise strictly, whatever volume it began on.
 pub fn legal_ids_rise()
-    ensures { (opening : Volume) (history : List Entry) → IsLegal opening history → IsHistory history }
+    ensures { (opening : Volume) (history : List Entry) →
+        IsLegal opening history → IsHistory history }
 {}

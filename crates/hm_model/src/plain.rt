@@ -21,7 +21,8 @@ const ROOT: Obj = Obj(1);
 pub fn apply(alloc: Global, tree: &Tree, call: &Command, id: Id) -> Result<(Reply, Tree), NoMemory>
     requires range { IsInRange call.now }
     requires id { (1 ≤ id.0) × (id.0 ≤ GREATEST_ID) }
-    ensures reply { IfOk result (λ r. (n : ℕ) → r.0 ≡ due (fresh_with n (id.0 - 1) tree.now) call.now) }
+    ensures reply { IfOk result (λ r. (n : ℕ) →
+        r.0 ≡ due (fresh_with n (id.0 - 1) tree.now) call.now) }
     ensures tree { IfOk result (λ r. (n : ℕ) → r.1 ≡ (if is_refusal r.0 then tree.now
         else at (change (fresh_with n (id.0 - 1) tree.now) call.now id.0) 0 id.0)) }
 {
@@ -84,7 +85,8 @@ fn insert_new(
 // Where the object goes among those that rise by number.
 fn place_of_object(objects: &[Object], object: &Object) -> usize
     ensures within { result ≤ length objects.now }
-    ensures place { insert objects.now result object.now ≡ insert_by is_object_before object.now objects.now }
+    ensures place { insert objects.now result object.now
+        ≡ insert_by is_object_before object.now objects.now }
 {
     for (i, other) in objects.iter().enumerate() {
         if object.number < other.number {
@@ -97,7 +99,8 @@ fn place_of_object(objects: &[Object], object: &Object) -> usize
 // Where the triple goes among those that rise by directory and name.
 fn place_of_triple(triples: &[Triple], triple: &Triple) -> usize
     ensures within { result ≤ length triples.now }
-    ensures place { insert triples.now result triple.now ≡ insert_by is_triple_before triple.now triples.now }
+    ensures place { insert triples.now result triple.now
+        ≡ insert_by is_triple_before triple.now triples.now }
 {
     for (i, other) in triples.iter().enumerate() {
         if is_before(triple, other) {
