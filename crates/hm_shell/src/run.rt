@@ -131,3 +131,6 @@ fn run_script<K: Sink>(
     core.reserve(2 * lines)?;
     serve_lines(alloc, &mut core, script, out)
 }
+
+#[cfg(test)]
+mod tests;
