@@ -1,5 +1,5 @@
 // One volume in use.
-ghost use Rattle.std.specs.Prelude.{◌≡◌, ◌≤◌, ◌<◌, Some, OnOk, [], length, slice_get};
+ghost use Rattle.std.specs.Prelude.{◌≡◌, ◌≤◌, ◌<◌, Some, IsOk, OnOk, OnErr, [], length, slice_get};
 ghost use Rattle.hm_model.specs.Volume.{fresh};
 ghost use Rattle.hm_model.specs.After.{after};
 ghost use Rattle.hm_model.specs.Legal.{IsLegal};
@@ -66,6 +66,9 @@ impl Core {
     /// Makes room for this many more entries. After `NoMemory` all is as before.
     pub fn reserve(&mut self, entries: u32) -> Result<(), NoMemory>
         ensures ok { OnOk result (entries ≤ self.new.spare) }
+        ensures room { self.old.spare ≤ self.new.spare }
+        ensures succeeds { entries ≤ self.old.spare → IsOk result }
+        ensures err { OnErr result (self.new ≡ self.old) }
         ensures keeps { KeepsAll self.old self.new }
     {
         self.history.reserve(entries as usize)?;
