@@ -34,14 +34,14 @@ IsLine text = (command : Command) × Spells text command
 abbrev pub IsNoLine : List ℕ → Type 0
 IsNoLine text = (command : Command) → Spells text command → ⊥
 
--- A line that was read. Its lane is 1 to 8, or 0 for a line without a lane, and its number counts all
--- lines from 1.
+-- A line that was read: its lane, which is 0 for a line without one; its number, which counts all lines
+-- from 1; and its command.
 pub record Line : Type 0 where
   pub lane : ℕ
   pub number : ℕ
   pub command : Command
 
--- these texts are these lines, numbered from here on
+-- these texts are these lines, numbered from here on; so far no line has a lane
 abbrev pub ReadsFrom : ℕ → List (List ℕ) → List Line → Type 0
 ReadsFrom number [] [] = Unit {0}
 ReadsFrom number (text ∷ texts) (line ∷ lines) =

@@ -43,7 +43,7 @@ pub record HasEntry (history : List Entry) (line : Line) : Type 0 where
   pub own : IsOf line entry
 
 -- The history answers the lines: each has its entry, every entry belongs to a line, and the ids of a
--- line, which is a block by itself, lie before those of the lines after it.
+-- line lie before those of the lines after it, since a line without a lane runs alone.
 pub record Answers (lines : List Line) (history : List Entry) : Type 0 where
   pub each : All (HasEntry history) lines
   pub owned : (e : Entry) → Contains history e → (line : Line) × Contains lines line × IsOf line e

@@ -9,6 +9,7 @@ is_refusal Done = false
 is_refusal Exists = true
 is_refusal NoMemory = true
 
+-- how a reply is printed
 abbrev pub reply_text : Reply → List ℕ
 reply_text Done = codes "ok"
 reply_text Exists = codes "exists"

@@ -17,9 +17,10 @@ pub data Origin : Type 0 where
   Foreign : ℕ → Origin
   Mixed : Origin
 
--- A pseudo file system: its retention as intervals of ids, first and last; the end of its last pass,
--- for a slave; its versions as (first id, tree), with rising ids; and whether its trees are its
--- master's for certain.
+-- A pseudo file system: its number; its role; the shared id by which a master and its slaves know one
+-- another; its retention as intervals of ids, first and last; the end of its last pass, for a slave;
+-- its versions as (first id, tree), with rising ids; where a slave's elements come from; and whether
+-- its trees are its master's for certain.
 pub record PseudoFileSystem : Type 0 where
   pub number : ℕ
   pub role : Role
