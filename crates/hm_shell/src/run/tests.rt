@@ -20,13 +20,10 @@ fn run_with(
     takes: &[u64],
     puts: &[u64],
 ) -> Result<Ended<MemSource, MemSink>, AllocError> {
-    let mut owned = Vec::new(rt.alloc());
-    for word in words {
-        owned.push(String::from_str(rt.alloc(), word)?)?;
-    }
+    let words = owned_words(rt.alloc(), words)?;
     let source = MemSource::new(script, takes.to_vec(rt.alloc())?);
     let sink = MemSink::new(rt.alloc(), puts.to_vec(rt.alloc())?);
-    Ok(run(rt, &owned, source, sink))
+    Ok(run(rt, &words, source, sink))
 }
 
 // The same with words that are right.
@@ -38,6 +35,19 @@ fn run_script_with(
 ) -> Result<Ended<MemSource, MemSink>, AllocError> {
     let script = script.as_bytes().to_vec(rt.alloc())?;
     run_with(rt, &["v", "--newfs", "24"], script, takes, puts)
+}
+
+fn owned_words(alloc: Global, words: &[&str]) -> Result<Vec<String>, AllocError> {
+    let mut owned = Vec::new(alloc);
+    for word in words {
+        owned.push(String::from_str(alloc, word)?)?;
+    }
+    Ok(owned)
+}
+
+// Its length is a number that the prover is not to count up to, so no clause tells it.
+fn repeated(alloc: Global, byte: u8, count: usize) -> Result<Vec<u8>, AllocError> {
+    vec![in alloc; byte; count]
 }
 
 #[test]
@@ -179,11 +189,6 @@ fn takes_names_of_any_bytes_and_of_up_to_255(rt: HostRuntime) -> Result<(), Fail
     Ok(())
 }
 
-// Its length is a number that the prover is not to count up to, so no clause tells it.
-fn repeated(alloc: Global, byte: u8, count: usize) -> Result<Vec<u8>, AllocError> {
-    vec![in alloc; byte; count]
-}
-
 #[test]
 fn runs_nothing_where_the_source_fails(rt: HostRuntime) -> Result<(), Fail> {
     // The script comes in two pieces, and the third call finds its end.
@@ -213,10 +218,7 @@ fn tells_the_faults_of_the_source_from_before_the_run(rt: HostRuntime) -> Result
     for _ in 0..3 {
         assert!(rt; source.take(&mut buf).is_err());
     }
-    let mut words = Vec::new(rt.alloc());
-    for word in ["v", "--newfs", "24"] {
-        words.push(String::from_str(rt.alloc(), word)?)?;
-    }
+    let words = owned_words(rt.alloc(), &["v", "--newfs", "24"])?;
     let sink = MemSink::new(rt.alloc(), Vec::new(rt.alloc()));
     let ended = run(&rt, &words, source, sink);
     assert_eq!(rt; ended.out.bytes(), b"script fault 3 4\n".as_slice());
