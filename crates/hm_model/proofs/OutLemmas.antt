@@ -97,6 +97,18 @@ Answers-in_order opening texts history legal read =
       in_order = in_order opening history numbered legal;
     }
 
+-- what holds of all elements holds of those of each part
+parts_of : {X : Type 0} (P : X → Type 0) (xs ys : List X) → AllByRecursion P (xs ++ ys) → AllByRecursion P xs × AllByRecursion P ys
+parts_of P [] ys all = (tt, all)
+parts_of P (x ∷ xs) ys all = let more = parts_of P xs ys all.1 in ((all.0, more.0), more.1)
+
 -- it prints its entries
 pub out_text-in_order : (texts : List (List ℕ)) (history : List Entry) → ReadsFrom 1 texts (map line_of history) → out_text (map line_of history) history ≡ flat_map entry_text history
 out_text-in_order texts history read = texts_each entry_text history history (only_each 1 history (numbered_by_lines 1 texts history read))
+
+-- the lines of each part of it print that part
+pub out_text-parts : (texts : List (List ℕ)) (first second : List Entry) → ReadsFrom 1 texts (map line_of (first ++ second)) → (out_text (map line_of first) (first ++ second) ≡ flat_map entry_text first) × (out_text (map line_of second) (first ++ second) ≡ flat_map entry_text second)
+out_text-parts texts first second read =
+    let history : List Entry = first ++ second in
+    let only = parts_of (λ e. filter (answers e.line) history ≡ e ∷ []) first second (only_each 1 history (numbered_by_lines 1 texts history read)) in
+    (texts_each entry_text history first only.0, texts_each entry_text history second only.1)

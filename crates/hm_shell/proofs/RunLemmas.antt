@@ -1,14 +1,16 @@
 -- From the lines that were served to the run of a script.
-use Rattle.std.proofs.Common.{◌≡◌, ℕ, ◌+◌, ◌≤◌, List, [], ◌∷◌, ◌++◌, length, take, refl, sym, ap, subst, inl, inr, arith, map, lit<}
+use Rattle.std.proofs.Common.{◌≡◌, ℕ, ◌+◌, ◌≤◌, List, [], ◌∷◌, ◌++◌, length, take, refl, sym, ◌∙◌, ap, append_assoc, subst, inl, inr, arith, map, lit<}
 use Rattle.std.specs.Prelude.{All, Option, Result, Ok, Err, OnOk, OnErr, IfErr}
 use Rattle.std.specs.List.{AllByRecursion}
+use Rattle.std.proofs.lemmas.List.{map-append, length-map}
 use Rattle.std.proofs.lemmas.List.Elements.{recursion_from_All}
 use Rattle.hm_pipe.specs.Pipe.{Gains}
 use Rattle.hm_pipe.proofs.PipeLemmas.{Rose-wider}
 use Rattle.hm_model.specs.Volume.{fresh}
 use Rattle.hm_model.specs.Lines.{Line, ReadsFrom, IsLine, texts_of}
-use Rattle.hm_model.specs.Out.{line_of}
-use Rattle.hm_model.proofs.OutLemmas.{Answers-in_order, out_text-in_order}
+use Rattle.hm_model.specs.Legal.{IsLegal}
+use Rattle.hm_model.specs.Out.{Answers, line_of, out_text}
+use Rattle.hm_model.proofs.OutLemmas.{Answers-in_order, out_text-in_order, out_text-parts}
 use Rattle.hm_core.specs.State.{CoreState}
 use Rattle.hm_shell.specs.declared.stop.Stop.{Stop}
 use Rattle.hm_shell.specs.declared.stop.Stop.TheVariants.{Usage, ScriptFault, OutFault, NoMemory, BadLine, TooLong}
@@ -53,30 +55,39 @@ RunsAll-served held bigblocks script core old new size served gained = record {
 }
 
 -- a front of them was
-RunsInPart-served : {K : Type 0} (held : K → Option (List ℕ)) (bigblocks : ℕ) (script : List ℕ) (core : CoreState) (old new : K) → core.bigblocks ≡ bigblocks → All IsLine (texts_of script) → (part : ServedInPart held (texts_of script) core old new) → RunsInPart bigblocks script (take part.printed (entry_texts core.history))
+RunsInPart-served : {K : Type 0} (held : K → Option (List ℕ)) (bigblocks : ℕ) (script : List ℕ) (core : CoreState) (old new : K) → core.bigblocks ≡ bigblocks → All IsLine (texts_of script) → (part : ServedInPart held (texts_of script) core old new) → RunsInPart bigblocks script (entry_texts part.whole ++ take part.printed (entry_texts part.last))
 RunsInPart-served held bigblocks script core old new size good part =
     let all : AllByRecursion IsLine (part.front ++ part.rest) =
     subst (AllByRecursion IsLine) part.split (recursion_from_All IsLine (texts_of script) good) in
     let later = read_on (1 + length part.front) part.rest (second_good part.front part.rest all) in
+    let reads : ReadsFrom 1 part.front (map line_of (part.whole ++ part.last)) =
+    subst (λ h. ReadsFrom 1 part.front (map line_of h)) part.history part.served.reads in
+    let legal : IsLegal (fresh bigblocks) (part.whole ++ part.last) =
+    subst (λ n. IsLegal (fresh n) (part.whole ++ part.last)) size (subst (IsLegal (fresh core.bigblocks)) part.history part.served.legal) in
+    let prints = out_text-parts part.front part.whole part.last reads in
+    let both : map line_of (part.whole ++ part.last) ≡ map line_of part.whole ++ map line_of part.last =
+    map-append line_of part.whole part.last in
     record {
-      lines = map line_of core.history ++ later.0;
-      lines_are = subst (λ ts. ReadsFrom 1 ts (map line_of core.history ++ later.0)) (sym part.split) (ReadsFrom-append 1 part.front part.rest (map line_of core.history) later.0 part.served.reads later.1);
-      front = map line_of core.history;
+      lines = map line_of (part.whole ++ part.last) ++ later.0;
+      lines_are = subst (λ ts. ReadsFrom 1 ts (map line_of (part.whole ++ part.last) ++ later.0)) (sym part.split) (ReadsFrom-append 1 part.front part.rest (map line_of (part.whole ++ part.last)) later.0 reads later.1);
+      before = map line_of part.whole;
+      last = map line_of part.last;
       rest = later.0;
-      split = refl;
-      history = core.history;
-      legal = rw (← size) part.served.legal;
-      answers = Answers-in_order (fresh core.bigblocks) part.front core.history part.served.legal part.served.reads;
+      split = ap (λ ls. ls ++ later.0) both ∙ append_assoc (map line_of part.whole) (map line_of part.last) later.0;
+      one = rw (length-map part.last line_of) part.one;
+      history = part.whole ++ part.last;
+      legal = legal;
+      answers = subst (λ ls. Answers ls (part.whole ++ part.last)) both (Answers-in_order (fresh bigblocks) part.front (part.whole ++ part.last) legal reads);
       printed = part.printed;
-      text_is = ap (take part.printed) (sym (out_text-in_order part.front core.history part.served.reads));
+      text_is = sym (ap (λ xs. xs ++ take part.printed (out_text (map line_of part.last) (part.whole ++ part.last))) prints.0 ∙ ap (λ xs. entry_texts part.whole ++ take part.printed xs) prints.1);
     }
 
 -- why the run of a script stopped while its lines were served
 StopsRunning-served : {K : Type 0} (held : K → Option (List ℕ)) (faults : K → ℕ) (bigblocks : ℕ) (script : List ℕ) (core : CoreState) (old new : K) (stop : Stop) → core.bigblocks ≡ bigblocks → All IsLine (texts_of script) → ServedInPart held (texts_of script) core old new → IsOutCause (faults old) (faults new) stop → StopsRunning held faults bigblocks script old new stop
 StopsRunning-served held faults bigblocks script core old new OutFault size good part cause =
-    (take part.printed (entry_texts core.history), RunsInPart-served held bigblocks script core old new size good part, part.gained, cause)
+    (entry_texts part.whole ++ take part.printed (entry_texts part.last), RunsInPart-served held bigblocks script core old new size good part, part.gained, cause)
 StopsRunning-served held faults bigblocks script core old new NoMemory size good part cause =
-    (take part.printed (entry_texts core.history), inr (RunsInPart-served held bigblocks script core old new size good part), part.gained)
+    (entry_texts part.whole ++ take part.printed (entry_texts part.last), inr (RunsInPart-served held bigblocks script core old new size good part), part.gained)
 StopsRunning-served held faults bigblocks script core old new Usage size good part cause = absurd cause
 StopsRunning-served held faults bigblocks script core old new (ScriptFault b a) size good part cause = absurd cause
 StopsRunning-served held faults bigblocks script core old new (BadLine number) size good part cause = absurd cause

@@ -1,9 +1,8 @@
 -- Lines that are served from the front.
-use Rattle.std.proofs.Common.{◌≡◌, ℕ, suc, ◌+◌, ◌*◌, ◌<◌, ◌≤◌, List, [], ◌∷◌, ◌++◌, length, take, refl, sym, ◌∙◌, ap, inl, inr, arith, append_assoc, length-append, map}
+use Rattle.std.proofs.Common.{◌≡◌, ℕ, suc, ◌+◌, ◌*◌, ◌<◌, ◌≤◌, List, [], ◌∷◌, ◌++◌, length, take, refl, subst, sym, ◌∙◌, ap, inl, inr, arith, append_assoc, length-append, map}
 use Rattle.std.specs.Prelude.{All, Option}
-use Rattle.std.proofs.Math.Seq.{take-length}
 use Rattle.hm_pipe.specs.Pipe.{Gains}
-use Rattle.hm_pipe.proofs.PipeLemmas.{Gains-none}
+use Rattle.hm_pipe.proofs.PipeLemmas.{Gains-none, Gains-append}
 use Rattle.hm_model.specs.declared.entry.Entry.{Entry}
 use Rattle.hm_model.specs.Volume.{fresh}
 use Rattle.hm_model.specs.Lines.{Line, ReadsFrom, Spells, IsLine, texts_of}
@@ -15,7 +14,6 @@ use Rattle.hm_shell.specs.declared.stop.Stop.TheVariants.{Usage, ScriptFault, Ou
 use Rattle.hm_shell.specs.Printing.{StoppedPrinting}
 use Rattle.hm_shell.specs.Serving.{Served, ServesLine, ServedInPart, StoppedServing, entry_texts}
 use Rattle.hm_shell.specs.Serving.{Serving}
-use Rattle.hm_shell.proofs.PrintLemmas.{Gains-front}
 
 append-none : {X : Type 0} (xs : List X) → xs ++ [] ≡ xs
 append-none [] = refl
@@ -99,24 +97,29 @@ stopped_before held script rest number core start old new so_far gained same = r
   rest = texts_of rest;
   split = so_far.split;
   served = so_far.served;
-  printed = length (entry_texts core.history);
-  gained = rw (take-length (entry_texts core.history), same) gained;
+  whole = core.history;
+  last = [];
+  history = sym (append-none core.history);
+  one = omega arith;
+  printed = 0;
+  gained = rw (append-none (entry_texts core.history), same) gained;
 }
 
 -- a line was called, and not printed or not wholly
 stopped_after : {K : Type 0} (held : K → Option (List ℕ)) (faults : K → ℕ) (script rest : List ℕ) (number : ℕ) (core later : CoreState) (text after : List ℕ) (e : Entry) (start old new : K) (stop : Stop) → Serving script rest number core → texts_of rest ≡ text ∷ texts_of after → Gains (held start) (entry_texts core.history) (held old) → ServesLine core later (number + 1) text e → StoppedPrinting held faults (entry_text e) old new stop → ServedInPart held (texts_of script) later start new
 stopped_after held faults script rest number core later text after e start old new stop so_far first gained serves stopped =
     let part = stopped_front held faults (entry_text e) old new stop stopped in
-    let whole : entry_texts later.history ≡ entry_texts core.history ++ (entry_text e ++ []) =
-    rw (serves.history, append-none (entry_text e)) (entry_texts-push core.history e) in
-    let front = Gains-front (held start) (held old) (held new) (entry_texts later.history) (entry_texts core.history) (entry_text e) [] part.0 whole gained part.1 in
     record {
       front = so_far.before ++ text ∷ [];
       rest = texts_of after;
       split = so_far.split ∙ (ap (λ ts. so_far.before ++ ts) first ∙ sym (append_assoc so_far.before (text ∷ []) (texts_of after)));
       served = Served-push so_far.before core later (number + 1) text e so_far.served (omega (arith, so_far.number_is)) serves;
-      printed = front.0;
-      gained = front.1;
+      whole = core.history;
+      last = e ∷ [];
+      history = serves.history;
+      one = omega arith;
+      printed = part.0;
+      gained = subst (λ line. Gains (held start) (entry_texts core.history ++ take part.0 line) (held new)) (sym (append-none (entry_text e))) (Gains-append (held start) (held old) (held new) (entry_texts core.history) (take part.0 (entry_text e)) gained part.1);
     }
 
 -- a front of the lines was served when a line stopped

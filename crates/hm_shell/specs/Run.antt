@@ -1,5 +1,5 @@
 -- The run of a script, and the whole run from the words to the sink.
-use Rattle.std.specs.Prelude.{◌≡◌, ◌⊎◌, ℕ, List, [], ◌++◌, Option, take}
+use Rattle.std.specs.Prelude.{◌≡◌, ◌⊎◌, ℕ, ◌≤◌, List, [], ◌++◌, Option, length, take}
 use Rattle.hm_types.specs.Faults.{Rose}
 use Rattle.hm_pipe.specs.Pipe.{Gains}
 use Rattle.hm_model.specs.declared.entry.Entry.{Entry}
@@ -16,19 +16,22 @@ use Rattle.hm_shell.specs.Reading.{WasRead}
 abbrev pub HasPlan : List (List ℕ) → Type 0
 HasPlan words = (bigblocks : ℕ) × IsPlan words bigblocks
 
--- A run that came to a front of the lines only, with a legal history that answers these. The text is
--- a front of what they print.
+-- A run that stopped at a line. The lines before it were answered and printed whole; it itself, if it
+-- was run, was answered and printed in part or not at all; and those after it were not run, since the
+-- legal history answers the others alone. The text is what was printed.
 pub record RunsInPart (bigblocks : ℕ) (script text : List ℕ) : Type 0 where
   pub lines : List Line
   pub lines_are : IsScript script lines
-  pub front : List Line
+  pub before : List Line
+  pub last : List Line
   pub rest : List Line
-  pub split : lines ≡ front ++ rest
+  pub split : lines ≡ before ++ (last ++ rest)
+  pub one : length last ≤ 1
   pub history : List Entry
   pub legal : IsLegal (fresh bigblocks) history
-  pub answers : Answers front history
+  pub answers : Answers (before ++ last) history
   pub printed : ℕ
-  pub text_is : text ≡ take printed (out_text front history)
+  pub text_is : text ≡ out_text before history ++ take printed (out_text last history)
 
 module _ {K : Type 0} (held : K → Option (List ℕ)) where
   -- The run of a script over a fresh volume: for some legal history that answers each of its lines,
@@ -57,7 +60,7 @@ module _ {K : Type 0} (held : K → Option (List ℕ)) where
 
 module _ {S : Type 0} (left : S → Option (List ℕ)) (words : List (List ℕ)) (old_source new_source : S) where
   -- a run that came so far: a volume of the size that the words name, the script that the source gave
-  -- to its end, and this text, a front of what its lines print
+  -- to its end, and this text, which was printed
   pub record ComesTo (text : List ℕ) : Type 0 where
     pub bigblocks : ℕ
     pub plan : IsPlan words bigblocks

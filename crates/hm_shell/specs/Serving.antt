@@ -61,11 +61,16 @@ module _ {K : Type 0} (held : K → Option (List ℕ)) where
       ⊎ ((e : Entry) × ServesLine old new number text e
       × StoppedPrinting held faults (entry_text e) old_out new_out stop)
 
-  -- a front of the texts was served, and a front of the replies printed
+  -- a front of the texts was served: all entries but at most the last were printed whole, and a front
+  -- of the last one
   pub record ServedInPart (texts : List (List ℕ)) (core : CoreState) (old new : K) : Type 0 where
     pub front : List (List ℕ)
     pub rest : List (List ℕ)
     pub split : texts ≡ front ++ rest
     pub served : Served front core
+    pub whole : List Entry
+    pub last : List Entry
+    pub history : core.history ≡ whole ++ last
+    pub one : length last ≤ 1
     pub printed : ℕ
-    pub gained : Gains (held old) (take printed (entry_texts core.history)) (held new)
+    pub gained : Gains (held old) (entry_texts whole ++ take printed (entry_texts last)) (held new)
