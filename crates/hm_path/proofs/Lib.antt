@@ -1,0 +1,3 @@
+pub mod ComponentLemmas
+pub mod IdLemmas
+pub mod PathLemmas
