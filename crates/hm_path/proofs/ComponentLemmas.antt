@@ -1,7 +1,7 @@
 -- The part that a component says.
 use Rattle.std.proofs.Common.{◌≡◌, ℕ, ◌+◌, List, [], ◌∷◌, ◌++◌, false, Option, None, Some, length, refl, sym, ◌∙◌, ap, subst, arith, length-append}
 use Rattle.std.specs.Bool.{◌==◌}
-use Rattle.std.specs.Option.{is_some}
+use Rattle.std.specs.Option.{MatchOption, is_some}
 use Rattle.hm_types.specs.declared.id.Id.{Id}
 use Rattle.hm_types.specs.Name.{IsName}
 use Rattle.hm_path.specs.declared.part.Part.{Part}
@@ -78,3 +78,13 @@ none_from_test (Some id) test = cc
 pub some_from_test : (bytes : List ℕ) → false ≡ (length bytes == 0) → length bytes ≡ 0 → ⊥
 some_from_test [] test none = cc
 some_from_test (b ∷ bs) test none = omega (arith, none)
+
+-- what a reading of a component found
+pub no_part : (text : List ℕ) (found : Option Part) → MatchOption found (IsNoComponent text) (IsComponent text) → ((part : Part) → found ≡ Some part → ⊥) → IsNoComponent text
+no_part text None read none = read
+no_part text (Some part) read none = absurd (none part refl)
+
+pub one_part : (text : List ℕ) (found : Option Part) (part : Part) → found ≡ Some part → MatchOption found (IsNoComponent text) (IsComponent text) → IsComponent text part
+one_part text found part is read =
+    let P : Option Part → Type 0 = λ o. MatchOption o (IsNoComponent text) (IsComponent text) in
+    subst P is read
