@@ -21,6 +21,7 @@ pub record IsIdText (text : List ℕ) (id : Id) : Type 0 where
   pub written : text ≡ id_sign ++ digits
   pub spelled : IsHexId digits id
 
+-- no id is written so
 abbrev pub IsNoIdText : List ℕ → Type 0
 IsNoIdText text = (id : Id) → IsIdText text id → ⊥
 
@@ -41,6 +42,7 @@ IsWritten text None None = ⊥
 abbrev pub IsComponent : List ℕ → Part → Type 0
 IsComponent text part = IsWritten text part.name part.as_of
 
+-- the text is no component
 abbrev pub IsNoComponent : List ℕ → Type 0
 IsNoComponent text = (part : Part) → IsComponent text part → ⊥
 

@@ -44,19 +44,20 @@ pub record IsFirstBad (texts : List (List ℕ)) (place : ℕ) : Type 0 where
   pub cause : IsNoComponent bad ⊎ (length before ≡ MOST_PATH_PARTS)
   pub place_is : place ≡ offset_after before
 
--- where the text, which is no path, is bad: it is too long, does not begin with a slash, or has a bad
--- component or too many
+-- Where the text, which is no path, is bad: at its first byte too many; at its start, which is no slash;
+-- or at its first bad component, or the one past the greatest count.
 abbrev pub IsBadPlace : List ℕ → ℕ → Type 0
 IsBadPlace text place =
-    ((MOST_PATH_BYTES < length text) × (place ≡ 1023))
+    ((MOST_PATH_BYTES < length text) × (place ≡ MOST_PATH_BYTES))
     ⊎ ((length text ≤ MOST_PATH_BYTES) × (slice_index text 0 ≢ slash) × (place ≡ 0))
     ⊎ ((length text ≤ MOST_PATH_BYTES) × (slice_index text 0 ≡ slash)
     × IsFirstBad (component_texts (drop 1 text)) place)
 
--- why a text gave no path
+-- why a text gave no path: it is bad at this place, or memory ran out, which only components take
 abbrev pub IsPathFault : List ℕ → PathFault → Type 0
 IsPathFault text (BadPath place) = IsBadPlace text place
-IsPathFault text NoMemory = Unit {0}
+IsPathFault text NoMemory =
+    (1 < length text) × (length text ≤ MOST_PATH_BYTES) × (slice_index text 0 ≡ slash)
 
 -- why components gave no parts
 abbrev pub IsComponentFault : List (List ℕ) → PathFault → Type 0

@@ -11,14 +11,17 @@ use std::alloc::Global;
 
 /// The path that a text gives. Its names are copied, in one pass over the text.
 ///
-/// BadPath is answered only for a text that is no path, with the place that `PathFault` tells of.
-/// NoMemory is answered where an allocation is refused before a bad component was met.
+/// BadPath is answered for a text that is no path, with its bad place. NoMemory is answered where an
+/// allocation is refused before a bad component is met. A text that is too long, one without a slash
+/// first, and `/` take no memory.
 pub fn parse(alloc: Global, text: &[u8]) -> Result<Path, PathFault>
     ensures ok { IfOk result (IsPath text.now) }
     ensures err { IfErr result (IsPathFault text.now) }
 {
     if text.len() > MOST_PATH_BYTES {
-        return Err(PathFault::BadPath { place: 1_023 });
+        return Err(PathFault::BadPath {
+            place: MOST_PATH_BYTES as u32,
+        });
     }
     let Some(rest) = text.strip_prefix(b"/") else {
         return Err(PathFault::BadPath { place: 0 });
