@@ -1,12 +1,12 @@
 -- The part that a component says.
-use Rattle.std.proofs.Common.{◌≡◌, ℕ, ◌+◌, List, [], ◌∷◌, ◌++◌, false, Option, None, Some, length, refl, sym, ◌∙◌, ap, subst, arith, length-append}
+use Rattle.std.proofs.Common.{◌≡◌, ℕ, List, [], ◌∷◌, false, Option, None, Some, length, refl, sym, ◌∙◌, ap, subst, arith}
 use Rattle.std.specs.Bool.{◌==◌}
 use Rattle.std.specs.Option.{MatchOption, is_some}
 use Rattle.hm_types.specs.declared.id.Id.{Id}
 use Rattle.hm_types.specs.Name.{IsName}
 use Rattle.hm_path.specs.declared.part.Part.{Part}
-use Rattle.hm_path.specs.Component.{IsIdText, IsNoIdText, EndsWithId, IsWritten, IsComponent, IsNoComponent, CutsId}
-use Rattle.hm_path.proofs.IdLemmas.{length_id, end_is_one, no_id_in_name, id_is_one}
+use Rattle.hm_path.specs.Component.{IsIdText, EndsWithId, IsWritten, IsComponent, IsNoComponent, CutsId}
+use Rattle.hm_path.proofs.IdLemmas.{end_is_one, no_id_in_name, id_is_one}
 
 -- an id alone ends its text, after nothing
 pub ends_alone : (text : List ℕ) (id : Id) → IsIdText text id → EndsWithId text [] id

@@ -1,10 +1,10 @@
 -- Paths and the places of bad ones.
-use Rattle.std.proofs.Common.{◌≡◌, ◌≢◌, ◌⊎◌, inl, inr, ℕ, suc, ◌+◌, ◌-◌, ◌<◌, ◌≤◌, List, [], ◌∷◌, ◌++◌, length, get_or, drop, refl, sym, ◌∙◌, ap, subst, arith, length-append}
-use Rattle.std.specs.List.{AllZip, slice_split, onto_first}
-use Rattle.hm_types.specs.declared.limits.TheConstants.{MOST_PATH_BYTES, MOST_PATH_PARTS}
+use Rattle.std.proofs.Common.{◌≡◌, ◌⊎◌, inl, inr, ℕ, suc, ◌-◌, ◌≤◌, List, [], ◌∷◌, ◌++◌, length, drop, refl, sym, ◌∙◌, ap, arith, length-append}
+use Rattle.std.specs.List.{AllZip}
+use Rattle.hm_types.specs.declared.limits.TheConstants.{MOST_PATH_PARTS}
 use Rattle.hm_path.specs.declared.part.Part.{Part}
 use Rattle.hm_path.specs.Component.{IsComponent, IsNoComponent}
-use Rattle.hm_path.specs.Path.{slash, component_texts, SpellsParts, IsPath, offset_after, IsFirstBad, IsBadPlace}
+use Rattle.hm_path.specs.Path.{component_texts, SpellsParts, IsPath, offset_after, IsFirstBad, IsBadPlace}
 use Rattle.hm_path.proofs.ComponentLemmas.{component_is_one}
 
 -- as many parts as components
@@ -39,7 +39,7 @@ no_first_bad : (texts : List (List ℕ)) (parts : List Part) (place : ℕ) → S
 no_first_bad texts parts place good first =
     let all : AllZip IsComponent (first.before ++ first.bad ∷ first.rest) parts = rw first.texts_are at good.each in
     elim first.cause [
-      inl none ↦ let found = component_after first.before first.bad first.rest parts all in none found.0 found.1
+      | inl none ↦ let found = component_after first.before first.bad first.rest parts all in none found.0 found.1
       | inr many ↦ absurd (omega (arith, length_parts (first.before ++ first.bad ∷ first.rest) parts all, length-append first.before (first.bad ∷ first.rest), good.few, many))
     ]
 

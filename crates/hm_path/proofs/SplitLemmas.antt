@@ -1,10 +1,10 @@
 -- The components of a text that is read from the front.
-use Rattle.std.proofs.Common.{◌≡◌, ℕ, zero, suc, ◌+◌, ◌<◌, ◌≤◌, ◌⊎◌, Bool, true, false, List, [], ◌∷◌, ◌++◌, Option, None, Some, Bor, length, get_or, take, drop, map, refl, sym, ◌∙◌, ap, subst, arith, add-one, drop-cons, length-append}
+use Rattle.std.proofs.Common.{◌≡◌, ℕ, suc, ◌+◌, ◌<◌, ◌≤◌, ◌⊎◌, Bool, true, false, List, [], ◌∷◌, ◌++◌, Option, None, Some, Bor, length, get_or, take, drop, map, refl, sym, ◌∙◌, ap, arith, drop-cons, length-append}
 use Rattle.std.specs.Iterator.{Yields}
 use Rattle.std.specs.List.{AllZip, slice_split, onto_first}
 use Rattle.std.proofs.lemmas.Iterator.{YieldsList}
 use Rattle.std.proofs.lemmas.Iterator.Consumers.{YieldsList-so_far, YieldsList-turn, YieldsList-end}
-use Rattle.std.proofs.lemmas.List.{take-append-drop, map-append}
+use Rattle.std.proofs.lemmas.List.{take-append-drop}
 use Rattle.std.proofs.lemmas.List.Splits.{slice_split-cons_yes, slice_split-cons_no, length-slice_split}
 use Rattle.hm_types.specs.declared.limits.TheConstants.{MOST_PATH_PARTS}
 use Rattle.hm_path.specs.declared.part.Part.{Part}

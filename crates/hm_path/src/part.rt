@@ -1,6 +1,7 @@
 // A path and its parts.
 
 use hm_types::{Id, Name};
+use std::alloc::AllocError;
 use std::marker::Model;
 
 /// One step of a walk: what a component of a path says.
@@ -41,5 +42,15 @@ impl Path {
         ensures { result.now ≡ self.now }
     {
         &self.parts
+    }
+}
+
+impl Clone for Path {
+    ghost use Rattle.std.specs.Prelude.{◌≡◌};
+
+    ghost is_clone = { λ path copy. copy ≡ path };
+
+    fn clone(&self) -> Result<Path, AllocError> {
+        Ok(Path::of(self.parts.clone()?))
     }
 }

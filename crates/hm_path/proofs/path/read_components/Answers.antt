@@ -1,4 +1,4 @@
-use Rattle.std.proofs.Common.{◌≡◌, ℕ, ◌+◌, ◌<◌, List, ◌∷◌, [], ◌++◌, map, length, refl, ap,  sym, ◌∙◌, arith, rules, tests, inl, inr}
+use Rattle.std.proofs.Common.{◌≡◌, ℕ, ◌<◌, List, ◌∷◌, [], ◌++◌, map, length, refl, ◌∙◌, arith, rules, tests, inl, inr}
 use Rattle.std.specs.Bool.{◌==◌}
 use Rattle.std.proofs.lemmas.Iterator.Splits.{YieldsList-from_slice_split}
 use Rattle.std.proofs.lemmas.Iterator.Consumers.{YieldsList-at}
@@ -16,7 +16,7 @@ returns-then-len-eq-MOST_PATH_PARTS-clause-err c =
     let next = next_item c.loop-text.yielded _ c.loop-text.yielded_by _ _ c.in-Some.text c.in-Some.is c.next.ensures.steps (YieldsList-at c.into_iter-text-iterator.ensures.into_iter_gives (YieldsList-from_slice_split _ (λ x. x == slash) c.args.rest.now c.split-text-items.ensures.rest c.split-text-items.ensures.done c.split-text-items.ensures.closure (λ x b q k. search (rules, tests)))) in
     let before : List (List ℕ) = map (λ t. t.now) c.loop-text.yielded in
     let full : length before ≡ MOST_PATH_PARTS =
-        length_parts before c.loop-text.parts.items c.loop-text.invariant.good.each ∙ omega (arith, c.if-len-eq-MOST_PATH_PARTS.true, c.len.ensures, c.loop-text.parts.ok.0) in
+    length_parts before c.loop-text.parts.items c.loop-text.invariant.good.each ∙ omega (arith, c.if-len-eq-MOST_PATH_PARTS.true, c.len.ensures, c.loop-text.parts.ok.0) in
     bad_here c.args.rest.now before c.in-Some.text.now next.0 c.loop-text.parts.items c.loop-text.place c.requires.some next.1 c.loop-text.invariant.good c.loop-text.invariant.place_is (inr full)
 
 pub returns-in_default-clause-err : goal.returns-in_default-clause-err
@@ -38,7 +38,7 @@ loop-text-preserved c =
     let before : List (List ℕ) = map (λ t. t.now) c.loop-text.yielded in
     let more : map (λ t. t.now) (c.loop-text.yielded ++ c.in-Some.text ∷ []) ≡ before ++ c.in-Some.text.now ∷ [] = map-append (λ t. t.now) c.loop-text.yielded (c.in-Some.text ∷ []) in
     let room : length c.loop-text.parts.items < MOST_PATH_PARTS =
-        omega (arith, c.if-len-eq-MOST_PATH_PARTS.false, c.len.ensures, c.loop-text.parts.ok.0, c.loop-text.invariant.good.few) in
+    omega (arith, c.if-len-eq-MOST_PATH_PARTS.false, c.len.ensures, c.loop-text.parts.ok.0, c.loop-text.invariant.good.few) in
     let is = one_part c.in-Some.text.now c.in_ok-part.field-0 c.in-Some-2.part c.in-Some-2.is c.in_ok-part.ensures in
     record {
       good = rw (more, c.in_ok-push.ensures.items) (spells_more before c.loop-text.parts.items c.in-Some.text.now c.in-Some-2.part c.loop-text.invariant.good room is);
