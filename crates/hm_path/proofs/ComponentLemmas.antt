@@ -9,13 +9,8 @@ use Rattle.hm_path.specs.Component.{IsIdText, EndsWithId, IsWritten, IsComponent
 use Rattle.hm_path.proofs.IdLemmas.{end_is_one, no_id_in_name, id_is_one}
 
 -- an id alone ends its text, after nothing
-pub ends_alone : (text : List ℕ) (id : Id) → IsIdText text id → EndsWithId text [] id
+ends_alone : (text : List ℕ) (id : Id) → IsIdText text id → EndsWithId text [] id
 ends_alone text id is = record { end = text; text_is = refl; id_is = is }
-
-pub alone_from_end : (text : List ℕ) (id : Id) → EndsWithId text [] id → IsIdText text id
-alone_from_end text id ends =
-    let P : List ℕ → Type 0 = λ end. IsIdText end id in
-    subst P (sym ends.text_is) ends.id_is
 
 -- a name is not empty
 no_empty_name : IsName [] → ⊥
@@ -51,6 +46,7 @@ component_is_one text a b p q =
     let make : Option (List ℕ) → Option Id → Part = λ name as_of. record { name = name; as_of = as_of } in
     ap (λ name. make name a.as_of) same.0 ∙ ap (λ as_of. make b.name as_of) same.1
 
+-- no part is written so, where what stands before the id is no name
 no_written : (text name : List ℕ) (as_of : Option Id) → CutsId text name as_of → (IsName name → ⊥) → (length name ≡ 0 → as_of ≡ None) → (m : Option (List ℕ)) (a : Option Id) → IsWritten text m a → ⊥
 no_written text name as_of cuts unnamed bare None None is = is
 no_written text name None cuts unnamed bare (Some m) None is = unnamed (rw (cuts.0, is.0) is.1)
@@ -65,7 +61,7 @@ no_written text name (Some id) cuts unnamed bare None (Some a) is =
     let none : Some id ≡ None = bare (ap length same.0) in
     cc
 
--- what stands before the id is no name
+-- the text is no component, where what stands before the id is no name, nor empty before an id
 pub no_component : (text name : List ℕ) (as_of : Option Id) → CutsId text name as_of → (IsName name → ⊥) → (length name ≡ 0 → as_of ≡ None) → IsNoComponent text
 no_component text name as_of cuts unnamed bare part = no_written text name as_of cuts unnamed bare part.name part.as_of
 
@@ -79,7 +75,7 @@ pub some_from_test : (bytes : List ℕ) → false ≡ (length bytes == 0) → le
 some_from_test [] test none = cc
 some_from_test (b ∷ bs) test none = omega (arith, none)
 
--- what a reading of a component found
+-- what a reading found: no component, or this part
 pub no_part : (text : List ℕ) (found : Option Part) → MatchOption found (IsNoComponent text) (IsComponent text) → ((part : Part) → found ≡ Some part → ⊥) → IsNoComponent text
 no_part text None read none = read
 no_part text (Some part) read none = absurd (none part refl)

@@ -3,9 +3,8 @@ use Rattle.std.proofs.Common.{◌≡◌, ℕ, zero, suc, ◌+◌, ◌-◌, ◌^�
 use Rattle.std.specs.Char.{digit_value}
 use Rattle.std.specs.Str.Parse.{AllDigits, digits_value}
 use Rattle.std.proofs.lemmas.Int.Digits.{digits_value-lt}
-use Rattle.std.proofs.lemmas.List.{append_cancel_left}
 use Rattle.std.proofs.Math.Seq.{take-length, drop-append_seam}
-use Rattle.std.proofs.lemmas.List.{length-take, length-drop}
+use Rattle.std.proofs.lemmas.List.{append_cancel_left, length-take, length-drop}
 use Rattle.std.proofs.Math.Nat.{pow-le-pow_right}
 use Rattle.hm_types.specs.declared.id.Id.{Id}
 use Rattle.hm_types.specs.Name.{IsName, LacksId, at_sign}
@@ -17,14 +16,14 @@ digit_at [] i within all = absurd (omega arith)
 digit_at (d ∷ ds) zero within all = all.0
 digit_at (d ∷ ds) (suc i) within all = digit_at ds i (omega arith) all.1
 
--- the digits after the sign
-pub digits_are : (text digits : List ℕ) (id : Id) → text ≡ id_sign ++ digits → IsIdText text id → IsHexId digits id
+-- what follows the sign of an id is its digits
+digits_are : (text digits : List ℕ) (id : Id) → text ≡ id_sign ++ digits → IsIdText text id → IsHexId digits id
 digits_are text digits id written is =
     let same : is.digits ≡ digits = append_cancel_left id_sign is.digits digits (sym is.written ∙ written) in
     let P : List ℕ → Type 0 = λ ds. IsHexId ds id in
     subst P same is.spelled
 
--- a digit that is none
+-- no id has this byte among its digits
 pub no_id-digit : (text digits : List ℕ) (i : ℕ) → text ≡ id_sign ++ digits → i < length digits → (digit_value (get_or digits i 0) < 16 → ⊥) → IsNoIdText text
 no_id-digit text digits i written within none id is =
     none (digit_at digits i within (digits_are text digits id written is).each)
@@ -36,20 +35,12 @@ room_for_digit digits i few within all =
     let short : length (take i digits) ≤ 15 = omega (arith, length-take i digits) in
     omega (arith, below, pow-le-pow_right {n = 16} (omega arith) short)
 
--- all digits were read
-pub id_from_digits : (text digits : List ℕ) (id : Id) → text ≡ id_sign ++ digits → length digits ≡ 16 → AllDigits 16 (take (length digits) digits) → id.0 ≡ digits_value 16 (take (length digits) digits) → IsIdText text id
-id_from_digits text digits id written size all value = record {
-  digits = digits;
-  written = written;
-  spelled = record { size = size; each = rw take-length at all; value = rw take-length at value };
-}
-
--- how long an id is
+-- how many bytes an id takes
 pub length_id : (text : List ℕ) (id : Id) → IsIdText text id → length text ≡ 20
 length_id text id is = rw (is.written, length-append id_sign is.digits, is.spelled.size) refl
 
--- two ends of one length
-pub split_same : (f g d e : List ℕ) → f ++ d ≡ g ++ e → length d ≡ length e → (f ≡ g) × (d ≡ e)
+-- one text has one end of a length
+split_same : (f g d e : List ℕ) → f ++ d ≡ g ++ e → length d ≡ length e → (f ≡ g) × (d ≡ e)
 split_same [] [] d e same long = (refl, same)
 split_same [] (y ∷ g) d e same long = absurd (omega (arith, ap length same, length-append g e))
 split_same (x ∷ f) [] d e same long = absurd (omega (arith, ap length same, length-append f d))
@@ -59,7 +50,7 @@ split_same (x ∷ f) (y ∷ g) d e same long =
     let rest : (f ≡ g) × (d ≡ e) = split_same f g d e tail long in
     (cc, rest.1)
 
--- an id is spelled by its text
+-- a text is one id only
 pub id_is_one : (text : List ℕ) (a b : Id) → IsIdText text a → IsIdText text b → a ≡ b
 id_is_one text a b is is' =
     let h : IsHexId is.digits b = digits_are text is.digits b is.written is' in
@@ -67,13 +58,14 @@ id_is_one text a b is is' =
     let make : ℕ → Id = λ n. record { 0 = n } in
     ap make same
 
--- no text ends in two ids
+-- a text ends in one id only
 pub end_is_one : (text f g : List ℕ) (a b : Id) → EndsWithId text f a → EndsWithId text g b → (f ≡ g) × (a ≡ b)
 end_is_one text f g a b p q =
     let same : (f ≡ g) × (p.end ≡ q.end) = split_same f g p.end q.end (sym p.text_is ∙ q.text_is) (length_id _ _ p.id_is ∙ sym (length_id _ _ q.id_is)) in
     let P : List ℕ → Type 0 = λ end. IsIdText end b in
     (same.0, id_is_one p.end a b p.id_is (subst P (sym same.1) q.id_is))
 
+-- bytes with `@@` among them
 two_signs : (front rest : List ℕ) → LacksId (front ++ at_sign ∷ at_sign ∷ rest) → ⊥
 two_signs [] rest lacks = lacks 0 refl refl
 two_signs (b ∷ bs) rest lacks =

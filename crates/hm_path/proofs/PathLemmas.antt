@@ -24,10 +24,11 @@ all_are_one (text ∷ texts) (x ∷ a) [] p q = absurd q
 all_are_one (text ∷ texts) (x ∷ a) (y ∷ b) p q =
     cc (component_is_one text x y p.0 q.0, all_are_one texts a b p.1 q.1)
 
+-- a text is one path only
 pub path_is_one : (text : List ℕ) (a b : List Part) → IsPath text a → IsPath text b → a ≡ b
 path_is_one text a b p q = all_are_one (component_texts (drop 1 text)) a b p.spelled.each q.spelled.each
 
--- the components after those in front
+-- the component after those in front says a part too
 component_after : (before : List (List ℕ)) (bad : List ℕ) (rest : List (List ℕ)) (parts : List Part) → AllZip IsComponent (before ++ bad ∷ rest) parts → (part : Part) × IsComponent bad part
 component_after [] bad rest [] all = absurd all
 component_after [] bad rest (part ∷ parts) all = (part, all.0)
@@ -43,12 +44,14 @@ no_first_bad texts parts place good first =
       | inr many ↦ absurd (omega (arith, length_parts (first.before ++ first.bad ∷ first.rest) parts all, length-append first.before (first.bad ∷ first.rest), good.few, many))
     ]
 
+-- a path has no bad place
 pub no_bad_path : (text : List ℕ) (parts : List Part) (place : ℕ) → IsPath text parts → IsBadPlace text place → ⊥
 no_bad_path text parts place path (inl long) = absurd (omega (arith, long.0, path.size))
 no_bad_path text parts place path (inr (inl bare)) = bare.1 path.rooted
 no_bad_path text parts place path (inr (inr first)) = no_first_bad (component_texts (drop 1 text)) parts place path.spelled first.2
 
--- two lists that part the same texts where each is bad first are as long, where so many came before
+-- Two fronts of the same components have one end, where each goes to the first that is bad or to the
+-- greatest count.
 offsets_are_one : (most : ℕ) (f g : List (List ℕ)) (x y : List ℕ) (r s : List (List ℕ)) (a b : List Part) → f ++ x ∷ r ≡ g ++ y ∷ s → AllZip IsComponent f a → AllZip IsComponent g b → length f ≤ most → length g ≤ most → IsNoComponent x ⊎ (length f ≡ most) → IsNoComponent y ⊎ (length g ≡ most) → offset_after f ≡ offset_after g
 offsets_are_one most [] [] x y r s a b same p q short short' bad bad' = refl
 offsets_are_one most [] (t ∷ g) x y r s a [] same p q short short' bad bad' = absurd q
@@ -69,12 +72,14 @@ offsets_are_one most (t ∷ f) (u ∷ g) x y r s (part ∷ a) (part' ∷ b) same
     let rest = offsets_are_one (most - 1) f g x y r s a b tail p.1 q.1 (omega arith) (omega arith) less less' in
     cc (head, rest)
 
+-- components are bad at one place first
 first_bad_is_one : (texts : List (List ℕ)) (a b : ℕ) → IsFirstBad texts a → IsFirstBad texts b → a ≡ b
 first_bad_is_one texts a b p q =
     let short : length p.before ≤ MOST_PATH_PARTS = omega (arith, length_parts p.before p.parts p.good.each, p.good.few) in
     let short' : length q.before ≤ MOST_PATH_PARTS = omega (arith, length_parts q.before q.parts q.good.each, q.good.few) in
     p.place_is ∙ (offsets_are_one MOST_PATH_PARTS p.before q.before p.bad q.bad p.rest q.rest p.parts q.parts (sym p.texts_are ∙ q.texts_are) p.good.each q.good.each short short' p.cause q.cause ∙ sym q.place_is)
 
+-- a text has one bad place only
 pub bad_place_is_one : (text : List ℕ) (a b : ℕ) → IsBadPlace text a → IsBadPlace text b → a ≡ b
 bad_place_is_one text a b (inl p) (inl q) = p.1 ∙ sym q.1
 bad_place_is_one text a b (inl p) (inr (inl q)) = absurd (omega (arith, p.0, q.0))

@@ -31,35 +31,41 @@ pub texts_are : (rest : List ℕ) → 0 < length rest → component_texts rest �
 texts_are [] some = absurd (omega arith)
 texts_are (b ∷ bs) some = refl
 
+-- one more component and its part
 zip_push : (texts : List (List ℕ)) (parts : List Part) (text : List ℕ) (part : Part) → AllZip IsComponent texts parts → IsComponent text part → AllZip IsComponent (texts ++ text ∷ []) (parts ++ part ∷ [])
 zip_push [] [] text part all is = (is, tt)
 zip_push [] (p ∷ parts) text part all is = absurd all
 zip_push (t ∷ texts) [] text part all is = absurd all
 zip_push (t ∷ texts) (p ∷ parts) text part all is = (all.0, zip_push texts parts text part all.1 is)
 
--- one more component that is good
+-- the same, where there is room for it
 pub spells_more : (texts : List (List ℕ)) (parts : List Part) (text : List ℕ) (part : Part) → SpellsParts texts parts → length parts < MOST_PATH_PARTS → IsComponent text part → SpellsParts (texts ++ text ∷ []) (parts ++ part ∷ [])
 spells_more texts parts text part good room is = record {
   each = zip_push texts parts text part good.each is;
   few = rw length-append (omega (arith, room));
 }
 
+-- the offset after one more component
 pub offset_more : (texts : List (List ℕ)) (text : List ℕ) → offset_after (texts ++ text ∷ []) ≡ offset_after texts + (length text + 1)
 offset_more [] text = omega arith
 offset_more (t ∷ texts) text = omega (arith, offset_more texts text)
 
+-- a component begins after the first slash
 offset_some : (texts : List (List ℕ)) → 1 ≤ offset_after texts
 offset_some [] = omega arith
 offset_some (t ∷ texts) = omega (arith, offset_some texts)
 
+-- offsets rise
 offset_front : (before : List (List ℕ)) (text : List ℕ) (after : List (List ℕ)) → offset_after before + (length text + 1) ≤ offset_after (before ++ text ∷ after)
 offset_front [] text after = omega (arith, offset_some after)
 offset_front (t ∷ before) text after = omega (arith, offset_front before text after)
 
+-- one more byte in the first component
 offset_onto : (x : ℕ) (texts : List (List ℕ)) → 0 < length texts → offset_after (onto_first x texts) ≡ suc (offset_after texts)
 offset_onto x [] some = absurd (omega arith)
 offset_onto x (text ∷ texts) some = omega arith
 
+-- one more byte of the text, a slash or not
 offset_step : (p : ℕ → Bool) (x : ℕ) (xs : List ℕ) (b : Bool) → p x ≡ b → offset_after (slice_split p xs) ≡ length xs + 2 → offset_after (slice_split p (x ∷ xs)) ≡ length (x ∷ xs) + 2
 offset_step p x xs true passes so_far = rw (slice_split-cons_yes p x xs passes) (omega (arith, so_far))
 offset_step p x xs false other so_far =

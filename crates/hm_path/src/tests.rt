@@ -130,3 +130,12 @@ fn a_name_has_255_bytes_at_most_and_a_path_1023(rt: HostRuntime) -> Result<(), F
     }
     Ok(())
 }
+
+#[test]
+fn a_clone_has_the_same_parts(rt: HostRuntime) -> Result<(), Fail> {
+    let path = parse(rt.alloc(), b"/a@@0x0000000000000001/b")?;
+    let copy = path.clone()?;
+    assert_eq!(rt; copy.parts(), path.parts());
+    assert_eq!(rt; copy.parts().len(), 2);
+    Ok(())
+}
