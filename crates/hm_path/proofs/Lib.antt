@@ -1,0 +1,4 @@
+pub mod ComponentLemmas
+pub mod IdLemmas
+pub mod PathLemmas
+pub mod SplitLemmas

@@ -1,0 +1,16 @@
+//! The paths of hammer: the parts that a path's text gives, or where the text is no path.
+#![tactic(auto)]
+
+mod component;
+mod fault;
+mod id;
+mod laws;
+mod part;
+mod path;
+#[cfg(test)]
+mod tests;
+
+pub use fault::PathFault;
+pub use laws::{bad_places_are_one, no_path_has_a_bad_place, parts_are_one};
+pub use part::{Part, Path};
+pub use path::parse;
