@@ -16,4 +16,4 @@ BeginBy first (interval ∷ more) = (interval.0 ≤ first) × BeginBy first more
 -- the ids of an interval are added, and no other
 pub record Adds (added : ℕ × ℕ) (old new : List (ℕ × ℕ)) : Type 0 where
   pub keeps : (id : ℕ) → (Keeps new id ↔ (Keeps old id ⊎ Holds added id))
-  pub begin : BeginBy (added.0) new
+  pub begin : BeginBy added.0 new

@@ -29,7 +29,8 @@ impl Model for Retention {
 }
 
 impl Retention {
-    ghost use Rattle.std.specs.Prelude.{◌≡◌, ◌↔◌, ◌-◌, ◌^◌, [], ◌∷◌, IfOk, IfErr, IfSome, IsSome, IsTrue};
+    ghost use Rattle.std.specs.Prelude.{◌≡◌, ◌↔◌, ◌-◌, ◌^◌, ◌≤◌, [], ◌∷◌, length};
+    ghost use Rattle.std.specs.Prelude.{IfOk, IsOk, IfErr, IfSome, IsSome, IsTrue};
     ghost use Rattle.hm_retain.specs.Intervals.{numbers_of, Keeps};
     ghost use Rattle.hm_retain.specs.Retention.{IsRetention, IsCut, IsJoin, TellsOf};
 
@@ -117,6 +118,7 @@ impl Retention {
 
     // Refuses more intervals than a retention may have.
     fn of_intervals(set: Intervals) -> Result<Retention, RetainFault>
+        ensures exact { IsOk result ↔ (length set ≤ MOST_INTERVALS) }
         ensures ok { IfOk result (λ retention. retention ≡ set) }
         ensures retention { IfOk result IsRetention }
         ensures err { IfErr result (TellsOf (λ list. list ≡ set)) }

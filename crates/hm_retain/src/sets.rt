@@ -1,5 +1,5 @@
 // Sets of ids made of others: each walks its lists together once, in rising order.
-ghost use Rattle.std.specs.Prelude.{◌⊎◌, ◌↔◌, ℕ, ◌<◌, ◌≤◌, ◌^◌, ◌≡◌, [], max, IfOk, OnOk, MatchOption};
+ghost use Rattle.std.specs.Prelude.{◌⊎◌, ◌↔◌, ℕ, ◌<◌, ◌≤◌, ◌≡◌, [], max, IfOk, OnOk, MatchOption};
 ghost use Rattle.std.specs.List.Sorted.{IsNonDecreasingBy};
 ghost use Rattle.hm_types.specs.declared.id.Id.{Id};
 ghost use Rattle.hm_retain.specs.Growth.{BeginBy};
