@@ -1,0 +1,4 @@
+pub mod Growth
+pub mod Intervals
+pub mod Retention
+pub mod Walk
