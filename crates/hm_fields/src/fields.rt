@@ -34,6 +34,7 @@ pub fn get_u64(page: &Page, at: usize) -> u64
 pub fn put_u16(page: &mut Page, at: usize, value: u16)
     requires { at + 2 ≤ PAGE_BYTES }
     ensures change { page.new ≡ put page.old at 2 value }
+    ensures held { get page.new at 2 ≡ value }
     ensures sized { length page.new ≡ PAGE_BYTES }
 {
     LittleEndian::write_u16(&mut page.bytes[at..at + 2], value);
@@ -43,6 +44,7 @@ pub fn put_u16(page: &mut Page, at: usize, value: u16)
 pub fn put_u32(page: &mut Page, at: usize, value: u32)
     requires { at + 4 ≤ PAGE_BYTES }
     ensures change { page.new ≡ put page.old at 4 value }
+    ensures held { get page.new at 4 ≡ value }
     ensures sized { length page.new ≡ PAGE_BYTES }
 {
     LittleEndian::write_u32(&mut page.bytes[at..at + 4], value);
@@ -52,6 +54,7 @@ pub fn put_u32(page: &mut Page, at: usize, value: u32)
 pub fn put_u64(page: &mut Page, at: usize, value: u64)
     requires { at + 8 ≤ PAGE_BYTES }
     ensures change { page.new ≡ put page.old at 8 value }
+    ensures held { get page.new at 8 ≡ value }
     ensures sized { length page.new ≡ PAGE_BYTES }
 {
     LittleEndian::write_u64(&mut page.bytes[at..at + 8], value);
