@@ -1,6 +1,6 @@
 -- What a number put into a field changes, and what it leaves.
-use Rattle.std.proofs.Common.{◌≡◌, ℕ, zero, suc, ◌+◌, ◌-◌, ◌*◌, ◌^◌, ◌<◌, ◌≤◌, ◌⊎◌, inl, inr, List, [], ◌∷◌, ◌++◌, length, take, drop, replicate, slice_index, refl, sym, ap, ◌∙◌, arith, length-append, length-drop, length-take, append-nil, add-suc, add-zero}
-use Rattle.std.proofs.lemmas.List.{drop_at, drop_all, drop-drop, length-take-le, length-replicate, get_or-take, get_or-drop, get_or_append_left, get_or-append_right, get_or_past, get_or-replicate, take-append-le}
+use Rattle.std.proofs.Common.{◌≡◌, ℕ, zero, suc, ◌+◌, ◌-◌, ◌^◌, ◌<◌, ◌≤◌, inl, inr, List, [], ◌∷◌, ◌++◌, length, take, drop, replicate, slice_index, refl, sym, ap, ◌∙◌, arith, length-append, length-drop, length-take, append-nil, add-suc, add-zero}
+use Rattle.std.proofs.lemmas.List.{drop_at, drop_all, drop-drop, length-take-le, length-replicate, get_or-take, get_or-drop, get_or_append_left, get_or-append_right, take-append-le}
 use Rattle.std.specs.List.{between}
 use borrow.Rule.Slice.PartMut.{put_mid, mid_of}
 use Rattle.byteorder.specs.Numbers.{little_from-take, little_number-reads_back, length-bytes_low_first}

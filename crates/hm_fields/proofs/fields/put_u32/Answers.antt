@@ -5,7 +5,7 @@ use Rattle.hm_fields.proofs.fields.put_u32.Goals as goal
 pub returns-clause-change : goal.returns-clause-change
 returns-clause-change c =
     put_is c.page.inside.bytes c.args.page.now c.write_u32.new.buf c.args.at 4 c.args.value c.page.view_is
-      (omega arith) c.write_u32.ensures
+    (omega arith) c.write_u32.ensures
 
 pub returns-clause-held : goal.returns-clause-held
 returns-clause-held c =
