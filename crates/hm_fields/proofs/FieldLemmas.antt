@@ -42,7 +42,8 @@ get_is bytes page at size same = rw same (sym (get_bytes page at size))
 
 length-before : (page : List ℕ) (at : ℕ) → length (before page at) ≡ at
 length-before page at =
-    length-take-le at (page ++ replicate at 0) (omega (arith, length-append page (replicate at 0), length-replicate {A = ℕ} at 0))
+    length-take-le at (page ++ replicate at 0)
+    (omega (arith, length-append page (replicate at 0), length-replicate {A = ℕ} at 0))
 
 -- a put within a page changes the bytes of the field alone
 pub put_bytes : (page : List ℕ) (at size value : ℕ) → at + size ≤ length page
@@ -86,20 +87,23 @@ index_filled (x ∷ xs) n (suc k) = index_filled xs n k
 index-before : (page : List ℕ) (at k : ℕ) → k < at → slice_index (before page at) k ≡ slice_index page k
 index-before page at k low = get_or-take at (page ++ replicate at 0) k 0 low ∙ index_filled page at k
 
--- a byte outside a field is as it was when the field is put
+-- a byte before a field is as it was when the field is put
 index-put_below : (page : List ℕ) (at size value k : ℕ) → k < at
     → slice_index (put page at size value) k ≡ slice_index page k
 unfolding put
 index-put_below page at size value k low =
-    get_or_append_left (before page at) (little_bytes size value ++ drop (at + size) page) 0 k (omega (arith, length-before page at))
-    ∙ index-before page at k low
+    let bytes = little_bytes size value ++ drop (at + size) page in
+    get_or_append_left (before page at) bytes 0 k (omega (arith, length-before page at)) ∙ index-before page at k low
 
+-- a byte after a field is as it was when the field is put
 index-put_above : (page : List ℕ) (at size value k : ℕ) → at + size ≤ k
     → slice_index (put page at size value) k ≡ slice_index page k
 unfolding put
 index-put_above page at size value k high =
-    get_or-append_right (before page at) (little_bytes size value ++ drop (at + size) page) at k 0 (length-before page at) (omega arith)
-    ∙ get_or-append_right (little_bytes size value) (drop (at + size) page) size (k - at) 0 (length-bytes_low_first 0 size value) (omega arith)
+    let bytes = little_bytes size value in
+    let rest = drop (at + size) page in
+    get_or-append_right (before page at) (bytes ++ rest) at k 0 (length-before page at) (omega arith)
+    ∙ get_or-append_right bytes rest size (k - at) 0 (length-bytes_low_first 0 size value) (omega arith)
     ∙ get_or-drop (at + size) page (k - at - size) 0
     ∙ ap (λ (j : ℕ). slice_index page j) (omega arith)
 
@@ -107,10 +111,12 @@ index-put_above page at size value k high =
 pub get_put_apart : (page : List ℕ) (at size value at' size' : ℕ) → Apart at size at' size'
     → get (put page at size value) at' size' ≡ get page at' size'
 unfolding get
-get_put_apart page at size value at' size' (inr below) =
-    little_from-same at' size' (put page at size value) page (λ k low high. index-put_below page at size value k (omega arith))
 get_put_apart page at size value at' size' (inl above) =
-    little_from-same at' size' (put page at size value) page (λ k low high. index-put_above page at size value k (omega arith))
+    little_from-same at' size' (put page at size value) page
+    (λ k low high. index-put_above page at size value k (omega arith))
+get_put_apart page at size value at' size' (inr below) =
+    little_from-same at' size' (put page at size value) page
+    (λ k low high. index-put_below page at size value k (omega arith))
 
 -- the same of two puts, and of four: a chain of as many takes `grind` one step in place of two or four
 pub get_put_apart_two : (page : List ℕ) (a m x b n y at size : ℕ) → Apart a m at size → Apart b n at size
@@ -135,12 +141,15 @@ unfolding get zero_page
 get_zero at size = little_from-zeros at size PAGE_BYTES
 
 -- a put into a field that lies in the page keeps its length
-pub put_length : (page : List ℕ) (at size value : ℕ) → at + size ≤ length page → length (put page at size value) ≡ length page
+pub put_length : (page : List ℕ) (at size value : ℕ) → at + size ≤ length page
+    → length (put page at size value) ≡ length page
 unfolding put
 put_length page at size value room =
-    let bytes = length-bytes_low_first 0 size value in
-    let rest = length-drop (at + size) page in
-    omega (arith, length-append (before page at) (little_bytes size value ++ drop (at + size) page), length-append (little_bytes size value) (drop (at + size) page), length-before page at)
+    let bytes = little_bytes size value in
+    let rest = drop (at + size) page in
+    let all = length-append (before page at) (bytes ++ rest) in
+    let back = length-append bytes rest in
+    omega (arith, all, back, length-before page at, length-bytes_low_first 0 size value, length-drop (at + size) page)
 
 -- what callers of several puts and gets need
 pub ruleset fields = (get_put, get_put_apart, get_put_apart_two, get_put_apart_four, get_zero)

@@ -12,8 +12,8 @@ zero_page = replicate PAGE_BYTES 0
 unfoldable pub get : List ℕ → ℕ → ℕ → ℕ
 get page at size = little_from at size page
 
--- the bytes before a place. Those past the end of a list are zeros, as `get` reads them too: so no law of
--- `get` and `put` has to ask how long a page is
+-- the bytes before a place. Where a list ends before it, zeros follow, since `get` reads a byte past the
+-- end as 0 too: so no law of `get` and `put` has to ask how long a page is
 abbrev pub before : List ℕ → ℕ → List ℕ
 before page at = take at (page ++ replicate at 0)
 
