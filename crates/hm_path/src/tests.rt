@@ -128,6 +128,10 @@ fn a_name_has_255_bytes_at_most_and_a_path_1023(rt: HostRuntime) -> Result<(), F
         let bytes = text.len();
         assert_eq!(rt; place, want, "{bytes} bytes");
     }
+    // The length counts before the first byte does.
+    let long = "n".repeat(rt.alloc(), 1_024)?;
+    let answer = parse(rt.alloc(), long.as_bytes());
+    assert_eq!(rt; shown(rt.alloc(), &answer)?.as_str(), "bad at 1023");
     Ok(())
 }
 
