@@ -1,5 +1,9 @@
 -- What a count of faults says of a call.
-use Rattle.std.specs.Prelude.{ℕ, ◌+◌, ◌-◌, ◌^◌, ◌≤◌, min, Result, OnErr}
+use Rattle.std.specs.Prelude.{ℕ, ◌+◌, ◌-◌, ◌^◌, ◌≤◌, min, Result, OnErr, IfErr}
+use Rattle.hm_types.specs.declared.fault.Fault.{Fault}
+use Rattle.hm_types.specs.declared.fault.Fault.TheVariants.{Media, Damaged, NoMemory}
+use Rattle.hm_types.specs.declared.fault.SpaceFault.{SpaceFault}
+use Rattle.hm_types.specs.declared.fault.SpaceFault.TheVariants.{NoSpace, Fault as of_store}
 
 -- a count rose, or stands at the greatest that it can be
 abbrev pub Rose : ℕ → ℕ → Type 0
@@ -9,3 +13,31 @@ Rose before after = min (before + 1) (2 ^ 64 - 1) ≤ after
 pub record HasCause {T E : Type 0} (before after : ℕ) (result : Result T E) : Type 0 where
   pub never_falls : before ≤ after
   pub failed : OnErr result (Rose before after)
+
+-- the device failed: its count rose from `before` to `after`, within a call over which the count of
+-- faults went from `old` to `new`
+pub record IsMedia (old new before after : ℕ) : Type 0 where
+  pub begin : old ≤ before
+  pub rose : Rose before after
+  pub end : after ≤ new
+
+-- a fault has its cause in such a call; damage and want of memory have theirs elsewhere
+abbrev pub IsCaused : ℕ → ℕ → Fault → Type 0
+IsCaused old new (Media before after) = IsMedia old new before after
+IsCaused old new (Damaged at kind) = Unit {0}
+IsCaused old new NoMemory = Unit {0}
+
+-- a call kept or raised the count, and each fault that it answers has its cause
+pub record HasFaultCause {T : Type 0} (old new : ℕ) (result : Result T Fault) : Type 0 where
+  pub never_falls : old ≤ new
+  pub caused : IfErr result (IsCaused old new)
+
+-- a refusal for want of space has its cause elsewhere
+abbrev pub IsSpaceCaused : ℕ → ℕ → SpaceFault → Type 0
+IsSpaceCaused old new (NoSpace free needed) = Unit {0}
+IsSpaceCaused old new (of_store fault) = IsCaused old new fault
+
+-- a call kept or raised the count, and each fault of the store that it answers has its cause
+pub record HasSpaceCause {T : Type 0} (old new : ℕ) (result : Result T SpaceFault) : Type 0 where
+  pub never_falls : old ≤ new
+  pub caused : IfErr result (IsSpaceCaused old new)

@@ -1,5 +1,8 @@
 pub mod Faults
 pub mod Id
+pub mod Intervals
+pub mod Elements
+pub mod Layout
 pub mod Listing
 pub mod Name
 pub mod Offset

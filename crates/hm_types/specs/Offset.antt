@@ -25,3 +25,7 @@ IsZone zone = ((1 ≤ zone) × (zone ≤ 4)) ⊎ ((8 ≤ zone) × (zone ≤ 11))
 -- a raw offset with a zone that has a name, in volume 0
 abbrev pub IsOffset : ℕ → Type 0
 IsOffset raw = IsZone (zone_of raw) × (volume_of raw ≡ 0)
+
+-- the first byte of the volume, in the zone of the whole volume
+abbrev pub volume_start : ℕ
+volume_start = raw_of 1 0

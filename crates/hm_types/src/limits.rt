@@ -42,6 +42,9 @@ pub const MOST_TARGET_BYTES: usize = 1_023;
 /// The most pages of one flush group: 66,060,288 bytes.
 pub const MOST_GROUP_PAGES: u32 = 16_128;
 
+/// How many big-blocks of a volume hold its UNDO FIFO.
+pub const UNDO_BIGBLOCKS: u32 = 8;
+
 /// How many entries the UNDO FIFO holds, each with the old bytes of one page.
 pub const UNDO_ENTRIES: u32 = 16_256;
 

@@ -40,6 +40,20 @@ impl Model for HOff {
     ghost inverse = { λ n. record { raw = n } };
 }
 
+impl Default for HOff {
+    ghost use Rattle.std.specs.Prelude.{◌≡◌};
+    ghost use Rattle.hm_types.specs.Offset.{volume_start};
+
+    ghost is_default = { λ at. at ≡ volume_start };
+
+    /// The first byte of the volume. It fills places that are not in use.
+    fn default() -> HOff {
+        HOff {
+            raw: 1 << ZONE_SHIFT,
+        }
+    }
+}
+
 impl HOff {
     /// The offset of a byte in a zone. None for a byte of 2^52 or above, and for a zone that has no
     /// name.
@@ -130,6 +144,11 @@ mod tests {
                 "{zone} {byte}"
             );
         }
+    }
+
+    #[test]
+    fn the_default_is_the_start_of_the_volume(rt: HostRuntime) {
+        assert_eq!(rt; Some(HOff::default()), HOff::make(1, 0));
     }
 
     #[test]
