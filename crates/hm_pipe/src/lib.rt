@@ -2,6 +2,9 @@
 #![tactic(auto)]
 
 mod calls;
+mod file_sink;
+mod file_source;
+mod gate;
 mod mem_sink;
 mod mem_source;
 mod sink;
@@ -11,6 +14,9 @@ mod std_source;
 #[cfg(test)]
 mod tests;
 
+pub use file_sink::FileSink;
+pub use file_source::FileSource;
+pub use gate::{Gate, NoGate};
 pub use mem_sink::MemSink;
 pub use mem_source::MemSource;
 pub use sink::Sink;
