@@ -1,0 +1,13 @@
+use Rattle.std.proofs.Common.{◌≡◌, ◌∷◌, [], ◌++◌, ◌∙◌, sym, ap, length, get_or}
+use Rattle.hm_disk.specs.declared.change.Change.TheVariants.{Sync}
+use Rattle.hm_disk.proofs.SoundLemmas.{bytes-sync}
+use Rattle.hm_disk.proofs.mem_disk.MemDisk.settle.Goals as goal
+
+pub invariant_of-self-2 : goal.invariant_of-self-2
+invariant_of-self-2 c =
+    let same = bytes-sync c.self.inside.size c.self.inside.changes.items in
+    let noted : c.push.new.self.items ≡ c.self.inside.changes.items ++ Sync ∷ [] = c.in_ok-push.ensures.items in
+    record {
+      sized = rw noted (ap length same ∙ c.self.invariant.sized);
+      reads = rw noted (λ byte below. c.self.invariant.reads byte below ∙ sym (ap (λ bs. get_or bs byte 0) same));
+    }

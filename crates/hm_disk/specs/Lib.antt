@@ -1,0 +1,10 @@
+pub mod Calls
+pub mod Crash
+pub mod Disk
+pub mod FileDisk
+pub mod MemDisk
+pub mod MemLaws
+pub mod Moments
+pub mod Pages
+pub mod Sound
+pub mod Transfer

@@ -1,0 +1,103 @@
+-- A disk in memory: what its record of changes says that it holds, and what a call does to it.
+use Rattle.std.specs.Prelude.{◌≡◌, ◌⊎◌, ℕ, ◌+◌, ◌/◌, ◌≤◌, List, [], ◌∷◌, ◌++◌, length, take, replicate, ◌↔◌, Result, Ok, Err, IsErr, OnOk, OnErr}
+use Rattle.hm_disk.specs.Crash.{Told, MayLeave}
+use Rattle.hm_disk.specs.Disk.{overwritten}
+use Rattle.hm_disk.specs.Calls.{Counts, IsNextListed, called, faulted, no_calls}
+use Rattle.hm_disk.specs.declared.change.Change.{Change}
+use Rattle.hm_disk.specs.declared.change.Change.TheVariants.{Write, Sync}
+
+-- its size in bytes, all that changed it, from the first on, and its calls
+pub record DiskState : Type 0 where
+  pub size : ℕ
+  pub changes : List Change
+  pub calls : Counts
+
+-- so many bytes, each of them 0
+unfoldable pub zeros : ℕ → List ℕ
+zeros size = replicate size 0
+
+-- a disk of zeros that has had no call
+abbrev pub blank : ℕ → List ℕ → DiskState
+blank size fails = record { size = size; changes = []; calls = no_calls fails }
+
+-- what a disk tells after one more change; each is a moment of its own
+abbrev pub changed : Change → Told → Told
+changed (Write place count bytes) told = record {
+  bytes = overwritten told.bytes place bytes;
+  unsettled = (place, count) ∷ told.unsettled;
+  moment = told.moment + 1;
+}
+changed Sync told = record { bytes = told.bytes; unsettled = []; moment = told.moment + 1 }
+
+-- what a disk tells after some changes
+abbrev pub replayed : List Change → Told → Told
+replayed [] told = told
+replayed (change ∷ changes) told = replayed changes (changed change told)
+
+-- what a disk of this size tells after these changes, from zeros on
+abbrev pub told_after : ℕ → List Change → Told
+told_after size changes =
+    replayed changes (record { bytes = zeros size; unsettled = []; moment = 0 })
+
+-- what a disk tells
+abbrev pub told_of : DiskState → Told
+told_of d = told_after d.size d.changes
+
+-- a crash since this moment may have left this image: after some of the changes, not earlier, it was
+-- among those that a crash then may leave
+abbrev pub left_after : ℕ → List Change → ℕ → List ℕ → Type 0
+left_after size changes moment image =
+    (k : ℕ) × (moment ≤ k) × (k ≤ length changes)
+    × MayLeave (told_after size (take k changes)).bytes
+    (told_after size (take k changes)).unsettled image
+
+-- what a crash since a moment may have left of a disk
+abbrev pub left_of : DiskState → ℕ → List ℕ → Type 0
+left_of d moment image = left_after d.size d.changes moment image
+
+-- a disk with one more change
+abbrev pub with_change : DiskState → Change → DiskState
+with_change d change =
+    record { size = d.size; changes = d.changes ++ change ∷ []; calls = d.calls }
+
+-- a disk with other counts of its calls
+abbrev pub with_calls : DiskState → Counts → DiskState
+with_calls d calls = record { size = d.size; changes = d.changes; calls = calls }
+
+-- one call more was counted, and a fault where it failed
+abbrev pub counted : {T E : Type 0} → Counts → Result T E → Counts
+counted calls (Ok value) = called calls
+counted calls (Err error) = faulted (called calls)
+
+-- the whole change of a call that takes no memory: it fails exactly where it is listed, and is counted
+pub record OnlyCounts {T E : Type 0} (old new : DiskState) (result : Result T E) : Type 0 where
+  pub fails : IsErr result ↔ IsNextListed old.calls
+  pub change : new ≡ with_calls old (counted old.calls result)
+
+-- a write of these bytes is recorded; it put this front of them there
+abbrev pub with_write : DiskState → ℕ → List ℕ → List ℕ → DiskState
+with_write d place bytes front = with_change d (Write place (length bytes) front)
+
+-- what a failed write leaves: nothing for want of memory, and the first half of the bytes where the
+-- call is listed
+abbrev pub MayKeepHalf : DiskState → DiskState → ℕ → List ℕ → Type 0
+MayKeepHalf old new place bytes =
+    (new ≡ with_calls old (faulted (called old.calls)))
+    ⊎ (IsNextListed old.calls
+    × (new ≡ with_calls (with_write old place bytes (take (length bytes / 2) bytes))
+    (faulted (called old.calls))))
+
+-- the whole change of a write: a listed call fails, and any other puts all the bytes, or fails for
+-- want of memory
+pub record Writes {E : Type 0} (old new : DiskState) (place : ℕ) (bytes : List ℕ)
+    (result : Result (Unit {0}) E) : Type 0 where
+  pub listed : IsNextListed old.calls → IsErr result
+  pub ok : OnOk result (new ≡ with_calls (with_write old place bytes bytes) (called old.calls))
+  pub err : OnErr result (MayKeepHalf old new place bytes)
+
+-- the whole change of a sync: a listed call fails, and any other settles all, or fails for want of
+-- memory; a failed one is only counted
+pub record Syncs {E : Type 0} (old new : DiskState) (result : Result (Unit {0}) E) : Type 0 where
+  pub listed : IsNextListed old.calls → IsErr result
+  pub ok : OnOk result (new ≡ with_calls (with_change old Sync) (called old.calls))
+  pub err : OnErr result (new ≡ with_calls old (faulted (called old.calls)))

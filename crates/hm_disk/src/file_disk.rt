@@ -1,0 +1,194 @@
+// A disk over a file.
+ghost use Rattle.std.specs.Prelude.{◌≡◌, None, string_bytes};
+ghost use Rattle.hm_types.specs.Faults.{HasCause};
+
+use crate::disk::Disk;
+use hm_types::{BIGBLOCK_BYTES, Failed};
+use std::fs::{OpenFile, OpenOptions};
+use std::io;
+use std::io::{Read, Seek, SeekFrom, Write};
+use std::marker::Model;
+use std::rt::Files;
+
+/// A file as a disk. It tells nothing of what it holds: a contract sees what it was made from and its
+/// count of faults.
+///
+/// The first call opens the file, and a failure to open is a failed call, after which the next call
+/// tries again. A call whose range does not lie inside the file fails.
+#[derive(Drop)]
+pub struct FileDisk<R: Files> {
+    rt: R,
+    name: String,
+    bigblocks: Option<u32>,
+    file: Option<Opened<R::File>>,
+    faults: u64,
+}
+
+// An open file, with its size in bytes as it was opened.
+#[derive(Drop)]
+struct Opened<F> {
+    file: F,
+    size: u64,
+}
+
+impl<R: Files> Model for FileDisk<R> {
+    ghost use Rattle.std.specs.Prelude.{string_bytes};
+    ghost use Rattle.hm_disk.specs.FileDisk.{FileState};
+
+    ghost Value = { FileState };
+
+    ghost view = { λ d. record {
+      name = string_bytes d.name;
+      bigblocks = d.bigblocks;
+      faults = d.faults;
+    } };
+}
+
+impl<R: Files> FileDisk<R> {
+    /// The file of this name, which is not opened yet. With a number of big-blocks of 8,388,608 bytes
+    /// it is made where it is missing, and gets exactly that size as it is opened. Without one it must
+    /// exist, and keeps its size. The empty name fails to open.
+    pub fn named(rt: R, name: String, bigblocks: Option<u32>) -> FileDisk<R>
+        ensures { result ≡ record { name = string_bytes name; bigblocks = bigblocks; faults = 0 } }
+    {
+        FileDisk {
+            rt,
+            name,
+            bigblocks,
+            file: None,
+            faults: 0,
+        }
+    }
+
+    // The open file, which the caller puts back.
+    fn take_file(&mut self) -> io::Result<Opened<R::File>>
+        ensures { self.new ≡ self.old }
+    {
+        match self.file.take() {
+            Some(file) => Ok(file),
+            None => open(&self.rt, self.name.as_str(), self.bigblocks),
+        }
+    }
+
+    fn try_size(&mut self) -> io::Result<u64>
+        ensures { self.new ≡ self.old }
+    {
+        let file = self.take_file()?;
+        let size = file.size;
+        self.file = Some(file);
+        Ok(size)
+    }
+
+    fn try_read(&mut self, place: u64, buf: &mut [u8]) -> io::Result<()>
+        ensures { self.new ≡ self.old }
+    {
+        let mut file = self.take_file()?;
+        let answer = file.read(place, buf);
+        self.file = Some(file);
+        answer
+    }
+
+    fn try_write(&mut self, place: u64, bytes: &[u8]) -> io::Result<()>
+        ensures { self.new ≡ self.old }
+    {
+        let mut file = self.take_file()?;
+        let answer = file.write(place, bytes);
+        self.file = Some(file);
+        answer
+    }
+
+    fn try_sync(&mut self) -> io::Result<()>
+        ensures { self.new ≡ self.old }
+    {
+        let file = self.take_file()?;
+        let answer = file.file.sync_all();
+        self.file = Some(file);
+        answer
+    }
+
+    // The answer of a call, which is counted where it is a fault.
+    fn counted<T>(&mut self, answer: io::Result<T>) -> Result<T, Failed>
+        ensures { HasCause self.old.faults self.new.faults result }
+    {
+        match answer {
+            Ok(value) => Ok(value),
+            Err(_) => {
+                self.faults = self.faults.saturating_add(1);
+                Err(Failed)
+            }
+        }
+    }
+}
+
+fn open<R: Files>(rt: &R, name: &str, bigblocks: Option<u32>) -> io::Result<Opened<R::File>> {
+    let mut options = OpenOptions::new();
+    options.read(true).write(true).create(bigblocks.is_some());
+    let file = options.open(rt, name)?;
+    if let Some(count) = bigblocks {
+        file.set_len(u64::from(count) * BIGBLOCK_BYTES)?;
+    }
+    let size = file.metadata()?.len();
+    Ok(Opened { file, size })
+}
+
+impl<F: Read + Write + Seek> Opened<F> {
+    // Moves to a range that must lie inside the file.
+    fn seek(&mut self, place: u64, len: usize) -> io::Result<()> {
+        match place.checked_add(len as u64) {
+            Some(end) if end <= self.size => {
+                self.file.seek(SeekFrom::Start(place))?;
+                Ok(())
+            }
+            _ => Err(io::Error::from(io::ErrorKind::InvalidInput)),
+        }
+    }
+
+    fn read(&mut self, place: u64, buf: &mut [u8]) -> io::Result<()> {
+        self.seek(place, buf.len())?;
+        self.file.read_exact(buf)
+    }
+
+    fn write(&mut self, place: u64, bytes: &[u8]) -> io::Result<()> {
+        self.seek(place, bytes.len())?;
+        self.file.write_all(bytes)
+    }
+}
+
+impl<R: Files> Disk for FileDisk<R> {
+    ghost told = { λ _. None };
+
+    ghost left_since = { λ _ _ _. Unit {0} };
+
+    ghost faults = { λ d. d.faults };
+
+    ghost counts_now = { λ d moment image. tt };
+
+    ghost only_now = { λ d image. tt };
+
+    ghost since_earlier = { λ d earlier moment image. tt };
+
+    fn size(&mut self) -> Result<u64, Failed> {
+        let answer = self.try_size();
+        self.counted(answer)
+    }
+
+    fn read_at(&mut self, place: u64, buf: &mut [u8]) -> Result<(), Failed> {
+        let answer = self.try_read(place, buf);
+        self.counted(answer)
+    }
+
+    fn write_at(&mut self, place: u64, bytes: &[u8]) -> Result<(), Failed> {
+        let answer = self.try_write(place, bytes);
+        self.counted(answer)
+    }
+
+    /// Waits until the file and its size are on the device.
+    fn sync(&mut self) -> Result<(), Failed> {
+        let answer = self.try_sync();
+        self.counted(answer)
+    }
+
+    fn faults(&self) -> u64 {
+        self.faults
+    }
+}

@@ -1,0 +1,235 @@
+// Disks by tables of calls, with each call failing in turn, and a disk over a real file.
+ghost use Rattle.std.specs.Prelude.{◌≡◌, IfOk, OnOk, length, vec_len};
+ghost use Rattle.hm_disk.specs.MemDisk.{told_of};
+
+use crate::*;
+use hm_types::{BIGBLOCK_BYTES, Failed};
+use std::alloc::Global;
+use std::fs;
+use std::test::Fail;
+
+const SIZE: u64 = 24 * BIGBLOCK_BYTES;
+
+// A disk in memory of 24 big-blocks.
+fn mem_disk(alloc: Global, fails: &[u64]) -> Result<MemDisk, Fail>
+    ensures { IfOk result (λ d. length (told_of d).bytes ≡ 201326592) }
+{
+    Ok(MemDisk::new(alloc, 24, fails.to_vec(alloc)?))
+}
+
+// Writes where the range lies inside the disk.
+fn put(disk: &mut MemDisk, place: u64, bytes: &[u8]) -> Result<(), Failed>
+    requires { length (told_of disk.old).bytes ≡ 201326592 }
+    ensures { length (told_of disk.new).bytes ≡ 201326592 }
+{
+    if bytes.len() as u64 > SIZE || place > SIZE - bytes.len() as u64 {
+        return Err(Failed);
+    }
+    disk.write_at(place, bytes)
+}
+
+// Reads where the range lies inside the disk.
+fn get(disk: &mut MemDisk, place: u64, buf: &mut [u8]) -> Result<(), Failed>
+    requires { length (told_of disk.old).bytes ≡ 201326592 }
+    ensures { length (told_of disk.new).bytes ≡ 201326592 }
+{
+    if buf.len() as u64 > SIZE || place > SIZE - buf.len() as u64 {
+        return Err(Failed);
+    }
+    disk.read_at(place, buf)
+}
+
+#[test]
+fn reads_what_was_written_and_zeros_elsewhere(rt: HostRuntime) -> Result<(), Fail> {
+    let mut disk = mem_disk(rt.alloc(), &[])?;
+    assert_eq!(rt; disk.size(), Ok(201_326_592));
+    for (place, text) in [
+        (0, "start"),
+        (4_090, "over the end of a page"),
+        (4_092, "ER"),
+        (201_326_589, "end"),
+        (8_388_608, ""),
+    ] {
+        assert_eq!(rt; put(&mut disk, place, text.as_bytes()), Ok(()), "{text}");
+    }
+    for (place, want) in [
+        (0, "start\0\0"),
+        (4_088, "\0\0ovER the end of a page\0"),
+        (4_096, "he en"),
+        (8_388_606, "\0\0\0\0"),
+        (201_326_586, "\0\0\0end"),
+        (201_326_592, ""),
+    ] {
+        let mut buf = [0xFF; 32];
+        let part = &mut buf[..want.len().min(32)];
+        assert_eq!(rt; get(&mut disk, place, part), Ok(()), "{place}");
+        assert_eq!(rt; &*part, want.as_bytes(), "{place}");
+    }
+    assert_eq!(rt; disk.faults(), 0);
+    Ok(())
+}
+
+#[test]
+fn fails_at_each_listed_call_and_goes_on(rt: HostRuntime) -> Result<(), Fail> {
+    // The call that fails, and what the disk then holds from 4,092 on. No call has the number 0.
+    for (fails, held, faults) in [
+        (0, "\0abcdeXY", 0),
+        (1, "\0abcdeXY", 1),
+        (2, "\0abc\0\0XY", 1),
+        (3, "\0abcdeXY", 1),
+        (4, "\0abcdeX\0", 1),
+        (5, "--------", 1),
+        (6, "\0abcdeXY", 0),
+    ] {
+        let mut disk = mem_disk(rt.alloc(), &[fails])?;
+        let mut buf = [b'-'; 8];
+        assert_eq!(rt; disk.size().is_ok(), fails != 1, "{fails}");
+        assert_eq!(rt;
+            put(&mut disk, 4_093, b"abcdef").is_ok(),
+            fails != 2,
+            "{fails}"
+        );
+        assert_eq!(rt; disk.sync().is_ok(), fails != 3, "{fails}");
+        assert_eq!(rt; put(&mut disk, 4_098, b"XY").is_ok(), fails != 4, "{fails}");
+        assert_eq!(rt;
+            get(&mut disk, 4_092, &mut buf).is_ok(),
+            fails != 5,
+            "{fails}"
+        );
+        assert_eq!(rt; buf.as_slice(), held.as_bytes(), "{fails}");
+        assert_eq!(rt; disk.faults(), faults, "{fails}");
+    }
+    Ok(())
+}
+
+#[test]
+fn counts_its_calls_anew(rt: HostRuntime) -> Result<(), Fail> {
+    let mut disk = mem_disk(rt.alloc(), &[1, 2])?;
+    assert_eq!(rt; put(&mut disk, 0, b"ab"), Err(Failed));
+    assert_eq!(rt; disk.faults(), 1);
+    let mut disk = disk.failing([2].to_vec(rt.alloc())?);
+    let mut buf = [0; 2];
+    for want in [Ok(()), Err(Failed), Ok(())] {
+        assert_eq!(rt; get(&mut disk, 0, &mut buf), want);
+    }
+    assert_eq!(rt; buf.as_slice(), b"a\0".as_slice());
+    assert_eq!(rt; disk.faults(), 1);
+    Ok(())
+}
+
+// So many bytes, none of them 0 and no two neighbours equal.
+fn pattern(alloc: Global, count: usize) -> Result<Vec<u8>, Fail>
+    ensures { IfOk result (λ bytes. vec_len bytes ≡ count) }
+{
+    let mut bytes = Vec::new(alloc);
+    for index in 0..count {
+        bytes.push((index % 251) as u8 + 1)?;
+    }
+    Ok(bytes)
+}
+
+#[test]
+fn moves_long_ranges_in_pieces(rt: HostRuntime) -> Result<(), Fail> {
+    let alloc = rt.alloc();
+    let bytes = pattern(alloc, 300_000)?;
+    // The call that fails, and how many of the bytes are then on the disk: the pieces have 131,072
+    // bytes, 131,072 and 37,856, and the fourth call is the sync.
+    for (fails, written) in [
+        (0, 300_000),
+        (1, 65_536),
+        (2, 196_608),
+        (3, 281_072),
+        (4, 300_000),
+        (5, 300_000),
+    ] {
+        let mut disk = mem_disk(alloc, &[fails])?;
+        let answer = write_synced(&mut disk, 100, &bytes);
+        assert_eq!(rt; answer.is_ok(), fails == 0 || fails == 5, "{fails}");
+        let mut disk = disk.failing(Vec::new(alloc));
+        let mut read = Vec::from_elem(alloc, 0xFF, 300_000)?;
+        assert_eq!(rt; read_all_at(&mut disk, 100, &mut read), Ok(()), "{fails}");
+        let front = read
+            .iter()
+            .zip(bytes.iter())
+            .take_while(|(read, put)| read == put)
+            .count();
+        assert_eq!(rt; front, written, "{fails}");
+        assert_eq!(rt;
+            read.iter().filter(|byte| **byte != 0).count(),
+            written,
+            "{fails}"
+        );
+    }
+    Ok(())
+}
+
+#[test]
+fn a_long_read_ends_where_a_piece_fails(rt: HostRuntime) -> Result<(), Fail> {
+    let alloc = rt.alloc();
+    for (fails, faults) in [(0, 0), (1, 1), (2, 1), (3, 0)] {
+        let mut disk = mem_disk(alloc, &[fails])?;
+        let mut read = Vec::from_elem(alloc, 0xFF, 131_073)?;
+        assert_eq!(rt;
+            read_all_at(&mut disk, 0, &mut read).is_ok(),
+            faults == 0,
+            "{fails}"
+        );
+        assert_eq!(rt; disk.faults(), faults, "{fails}");
+    }
+    Ok(())
+}
+
+#[test]
+fn a_file_of_24_bigblocks_is_a_disk(rt: HostRuntime) -> Result<(), Fail> {
+    let name = String::from_str(rt.alloc(), "volume")?;
+    let mut disk = FileDisk::named(rt, name.clone()?, Some(24));
+    assert_eq!(rt; disk.size(), Ok(201_326_592));
+    assert_eq!(rt; disk.write_at(201_326_584, b"the end."), Ok(()));
+    assert_eq!(rt; disk.sync(), Ok(()));
+    let mut buf = [0xFF; 10];
+    assert_eq!(rt; disk.read_at(201_326_582, &mut buf), Ok(()));
+    assert_eq!(rt; buf.as_slice(), b"\0\0the end.".as_slice());
+    // A range that does not lie inside the file.
+    assert_eq!(rt; disk.read_at(201_326_583, &mut buf), Err(Failed));
+    assert_eq!(rt; disk.write_at(201_326_585, b"the end."), Err(Failed));
+    assert_eq!(rt; disk.write_at(u64::MAX, b"x"), Err(Failed));
+    assert_eq!(rt; disk.faults(), 3);
+    // Without a number the file keeps its size.
+    let mut again = FileDisk::named(rt, name, None);
+    let mut end = [0xFF; 8];
+    assert_eq!(rt; again.read_at(201_326_584, &mut end), Ok(()));
+    assert_eq!(rt; end.as_slice(), b"the end.".as_slice());
+    assert_eq!(rt; again.size(), Ok(201_326_592));
+    assert_eq!(rt; again.faults(), 0);
+    fs::remove_file(&rt, "volume")?;
+    // No file is made without a number, nor of the empty name.
+    for (name, bigblocks) in [
+        ("missing", None),
+        ("missing", None),
+        ("", None),
+        ("", Some(24)),
+    ] {
+        let mut none = FileDisk::named(rt, String::from_str(rt.alloc(), name)?, bigblocks);
+        assert_eq!(rt; none.size(), Err(Failed), "{name}");
+        assert_eq!(rt; none.sync(), Err(Failed), "{name}");
+        assert_eq!(rt; none.faults(), 2, "{name}");
+    }
+    Ok(())
+}
+
+// Any image.
+struct Any;
+
+impl Property for Any {
+    ghost has = { λ _. Unit {0} };
+}
+
+#[test]
+fn laws_can_be_called() {
+    the_disk_as_it_reads_may_be_left();
+    a_settled_disk_alone_is_left();
+    a_property_holds_now::<MemDisk, Any>();
+    a_property_holds_over_a_write::<MemDisk, Any>();
+    a_property_holds_over_a_sync::<MemDisk, Any>();
+    a_property_holds_over_a_read::<MemDisk, Any>();
+}
