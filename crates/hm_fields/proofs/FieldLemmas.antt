@@ -1,8 +1,9 @@
 -- What a number put into a field changes, and what it leaves.
-use Rattle.std.proofs.Common.{◌≡◌, ℕ, zero, suc, ◌+◌, ◌-◌, ◌^◌, ◌<◌, ◌≤◌, inl, inr, List, [], ◌∷◌, ◌++◌, length, take, drop, replicate, slice_index, refl, sym, ap, ◌∙◌, arith, length-append, length-drop, length-take, append-nil, add-suc, add-zero}
-use Rattle.std.proofs.lemmas.List.{drop_at, drop_all, drop-drop, length-take-le, length-replicate, get_or-take, get_or-drop, get_or_append_left, get_or-append_right, take-append-le}
+use Rattle.std.proofs.Common.{◌≡◌, ℕ, zero, suc, ◌+◌, ◌-◌, ◌^◌, ◌<◌, ◌≤◌, inl, inr, List, [], ◌∷◌, ◌++◌, length, take, drop, replicate, slice_index, slice_set, refl, sym, ap, ◌∙◌, arith, length-append, length-drop, length-take, append-nil, add-suc, add-zero}
+use Rattle.std.proofs.lemmas.List.{drop_at, drop_all, take-append-drop, take-set, drop-set, drop-drop, length-take-le, length-replicate, get_or-take, get_or-drop, get_or_append_left, get_or-append_right, take-append-le}
 use Rattle.std.specs.List.{between}
 use borrow.Rule.Slice.PartMut.{put_mid, mid_of}
+use Rattle.std.specs.Int.{byte_at as low_byte}
 use Rattle.byteorder.specs.Numbers.{little_from-take, little_number-reads_back, length-bytes_low_first}
 use Rattle.byteorder.specs.Endian.{little_bytes, little_from, little_number}
 use Rattle.hm_types.specs.declared.limits.TheConstants.{PAGE_BYTES}
@@ -63,6 +64,24 @@ put_is bytes page part at size value same room written =
     drop_all size (take size (drop at bytes)) (omega (arith, length-take size (drop at bytes))) in
     let here = put_bytes page at size value (omega (arith, ap length same)) in
     rw (here, written, size_is, none, same, drop-drop size at page, append-nil (little_bytes size value)) refl
+
+-- the field of one byte
+byte_at : (page : List ℕ) (at : ℕ) → get page at 1 ≡ slice_index page at
+unfolding get
+byte_at page at = omega arith
+
+-- the same for what is read, where the bytes are those of the page
+pub byte_is : (bytes page : List ℕ) (at : ℕ) → bytes ≡ page → slice_index bytes at ≡ get page at 1
+byte_is bytes page at same = rw same (sym (byte_at page at))
+
+-- what a write to one byte makes of the page
+pub byte_put_is : (bytes page : List ℕ) (at value : ℕ) → bytes ≡ page → at < length bytes → value < 256
+    → slice_set bytes at value ≡ put page at 1 value
+byte_put_is bytes page at value same room fits =
+    let here = put_bytes page at 1 value (omega (arith, ap length same)) in
+    let byte : low_byte 0 value ≡ value = omega arith in
+    let split = take-append-drop at (slice_set bytes at value) in
+    sym split ∙ rw (take-set bytes at value, drop-set bytes at value room, same) (sym (here ∙ rw byte refl))
 
 -- a field holds what was put into it
 pub get_put : (page : List ℕ) (at size value : ℕ) → value < 256 ^ size → get (put page at size value) at size ≡ value

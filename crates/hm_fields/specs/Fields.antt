@@ -1,6 +1,6 @@
 -- The fields of a page, which is the list of its bytes. A field is so many bytes from a place on, and holds
 -- a number with its lowest byte first.
-use Rattle.std.specs.Prelude.{ℕ, ◌+◌, ◌≤◌, ◌⊎◌, List, ◌++◌, take, drop, replicate}
+use Rattle.std.specs.Prelude.{ℕ, ◌+◌, ◌<◌, ◌≤◌, ◌⊎◌, List, ◌++◌, take, drop, replicate}
 use Rattle.byteorder.specs.Endian.{little_bytes, little_from}
 use Rattle.hm_types.specs.declared.limits.TheConstants.{PAGE_BYTES}
 
@@ -24,3 +24,7 @@ put page at size value = before page at ++ (little_bytes size value ++ drop (at 
 -- two fields share no byte
 abbrev pub Apart : ℕ → ℕ → ℕ → ℕ → Type 0
 Apart at size at' size' = (at + size ≤ at') ⊎ (at' + size' ≤ at)
+
+-- each byte of the list is one, as those of a page are
+abbrev pub AreBytes : List ℕ → Type 0
+AreBytes page = (k : ℕ) → get page k 1 < 256

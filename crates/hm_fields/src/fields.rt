@@ -6,6 +6,14 @@ ghost use Rattle.hm_fields.specs.Fields.{get, put};
 use crate::page::Page;
 use byteorder::{ByteOrder, LittleEndian};
 
+/// The number in the byte at `at`, counted from the start of the page.
+pub fn get_u8(page: &Page, at: usize) -> u8
+    requires { at + 1 ≤ PAGE_BYTES }
+    ensures { result ≡ get page.now at 1 }
+{
+    page.bytes[at]
+}
+
 /// The number in the 2 bytes from `at` on, counted from the start of the page.
 pub fn get_u16(page: &Page, at: usize) -> u16
     requires { at + 2 ≤ PAGE_BYTES }
@@ -28,6 +36,16 @@ pub fn get_u64(page: &Page, at: usize) -> u64
     ensures { result ≡ get page.now at 8 }
 {
     LittleEndian::read_u64(&page.bytes[at..at + 8])
+}
+
+/// Puts a number into the byte at `at`, counted from the start of the page.
+pub fn put_u8(page: &mut Page, at: usize, value: u8)
+    requires { at + 1 ≤ PAGE_BYTES }
+    ensures change { page.new ≡ put page.old at 1 value }
+    ensures held { get page.new at 1 ≡ value }
+    ensures sized { length page.new ≡ PAGE_BYTES }
+{
+    page.bytes[at] = value;
 }
 
 /// Puts a number into the 2 bytes from `at` on, counted from the start of the page.

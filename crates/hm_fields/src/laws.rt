@@ -1,7 +1,7 @@
 // What follows from the definitions alone: each function states one law, and does nothing.
 ghost use Rattle.std.specs.Prelude.{◌≡◌, ◌≤◌, ◌<◌, ◌+◌, ◌^◌, ◌++◌, ℕ, List, length, take, drop, slice_range};
 ghost use Rattle.byteorder.specs.Endian.{little_bytes, little_number};
-ghost use Rattle.hm_fields.specs.Fields.{Apart, get, put, zero_page};
+ghost use Rattle.hm_fields.specs.Fields.{Apart, AreBytes, get, put, zero_page};
 
 /// A field holds the number that was put into it.
 #[tactic(auto, using(crate::proofs::FieldLemmas::fields))]
@@ -43,4 +43,21 @@ pub fn put_changes_its_bytes_alone()
 pub fn put_keeps_the_length()
     ensures { (page : List ℕ) (at size value : ℕ) → at + size ≤ length page →
         length (put page at size value) ≡ length page }
+{}
+
+/// A field is 0 exactly where each of its bytes is.
+pub fn field_is_zero_where_its_bytes_are()
+    ensures there { (page : List ℕ) (at size : ℕ) → get page at size ≡ 0 →
+        (k : ℕ) → at ≤ k → k < at + size → get page k 1 ≡ 0 }
+    ensures back { (page : List ℕ) (at size : ℕ) →
+        ((k : ℕ) → at ≤ k → k < at + size → get page k 1 ≡ 0) → get page at size ≡ 0 }
+{}
+
+/// The number in a field fixes its bytes, and its bytes fix a page.
+pub fn fields_fix_the_page()
+    ensures bytes { (p q : List ℕ) (at size : ℕ) → AreBytes p → AreBytes q →
+        get p at size ≡ get q at size →
+        (k : ℕ) → at ≤ k → k < at + size → get p k 1 ≡ get q k 1 }
+    ensures page { (p q : List ℕ) → length p ≡ length q →
+        ((k : ℕ) → k < length p → get p k 1 ≡ get q k 1) → p ≡ q }
 {}

@@ -1,7 +1,7 @@
 // A page.
 ghost use Rattle.std.specs.Prelude.{◌≡◌, length};
 ghost use Rattle.hm_types.specs.declared.limits.TheConstants.{PAGE_BYTES};
-ghost use Rattle.hm_fields.specs.Fields.{zero_page};
+ghost use Rattle.hm_fields.specs.Fields.{AreBytes, zero_page};
 
 use hm_types::PAGE_BYTES;
 use std::marker::Model;
@@ -38,8 +38,19 @@ impl Page {
     pub fn bytes(&self) -> &[u8; PAGE_BYTES]
         ensures value { result.now ≡ self.now }
         ensures sized { length self.now ≡ PAGE_BYTES }
+        ensures bytes { AreBytes self.now }
     {
+        are_bytes(&self.bytes);
         &self.bytes
+    }
+
+    /// Makes each byte of the page 0.
+    #[tactic(auto, unfolding(crate::specs::Fields::zero_page))]
+    pub fn clear(&mut self)
+        ensures value { self.new ≡ zero_page }
+        ensures sized { length self.new ≡ PAGE_BYTES }
+    {
+        self.bytes = [0; PAGE_BYTES];
     }
 
     /// Fills the page with these bytes, of which there must be as many as a page has.
@@ -50,3 +61,9 @@ impl Page {
         self.bytes.copy_from_slice(bytes);
     }
 }
+
+// Does nothing, and says what the type of a slice tells of its bytes.
+#[inline]
+fn are_bytes(bytes: &[u8])
+    ensures { AreBytes bytes.now }
+{}

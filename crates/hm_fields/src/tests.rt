@@ -3,7 +3,7 @@ ghost use Rattle.std.specs.Prelude.{◌≡◌, ◌≤◌, ◌+◌, ℕ, length};
 ghost use Rattle.hm_types.specs.declared.limits.TheConstants.{PAGE_BYTES};
 ghost use Rattle.hm_fields.specs.Fields.{Apart, get};
 
-use crate::{Page, get_u16, get_u32, get_u64, put_u16, put_u32, put_u64};
+use crate::{Page, get_u8, get_u16, get_u32, get_u64, put_u8, put_u16, put_u32, put_u64};
 use hm_types::PAGE_BYTES;
 
 // A head of 24 bytes, which is proved from the contracts alone: what each field of it holds, and that
@@ -123,6 +123,13 @@ fn numbers_stand_with_their_lowest_byte_first(rt: HostRuntime) {
         assert!(rt; holds_alone(&page, at, &bytes), "{value:x}");
         assert_eq!(rt; get_u16(&page, at), value);
     }
+    for (at, value) in [(0, 0x01), (35, 0xFF), (4_095, 0x80)] {
+        assert!(rt; at < PAGE_BYTES);
+        let mut page = filled();
+        put_u8(&mut page, at, value);
+        assert!(rt; holds_alone(&page, at, &[value]), "{value:x}");
+        assert_eq!(rt; get_u8(&page, at), value);
+    }
 }
 
 #[test]
@@ -137,6 +144,9 @@ fn a_page_is_read_at_any_place(rt: HostRuntime) {
     assert_eq!(rt; get_u32(&page, 4_092), 0x0A09_0807);
     assert_eq!(rt; get_u16(&page, 4_094), 0x0A09);
     assert_eq!(rt; get_u16(&page, 0), 0);
+    assert_eq!(rt; get_u8(&page, 4_094), 0x09);
+    page.clear();
+    assert!(rt; page.bytes().iter().all(|b| *b == 0));
 }
 
 #[test]
