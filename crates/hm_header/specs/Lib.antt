@@ -1,0 +1,4 @@
+pub mod Layout
+pub mod Parts
+pub mod Range
+pub mod Slots
