@@ -1,0 +1,11 @@
+pub mod AddLemmas
+pub mod BalanceLemmas
+pub mod ElementLemmas
+pub mod ExtentLemmas
+pub mod HeldLemmas
+pub mod KeyLemmas
+pub mod MarkLemmas
+pub mod MemoryLemmas
+pub mod PlaceLemmas
+pub mod SearchLemmas
+pub mod SweepLemmas

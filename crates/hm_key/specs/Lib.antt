@@ -1,0 +1,12 @@
+pub mod Balance
+pub mod Element
+pub mod Elements
+pub mod Extents
+pub mod Job
+pub mod Key
+pub mod Memory
+pub mod Places
+pub mod Props
+pub mod Space
+pub mod Stores
+pub mod Sweep
