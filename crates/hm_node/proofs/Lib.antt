@@ -1,0 +1,12 @@
+pub mod BrokenLemmas
+pub mod FieldLemmas
+pub mod InnerLemmas
+pub mod LawLemmas
+pub mod LeafLemmas
+pub mod NodeLemmas
+pub mod PlaceLemmas
+pub mod ReadLemmas
+pub mod SameLemmas
+pub mod SpellLemmas
+pub mod WriteLemmas
+pub mod ZeroLemmas

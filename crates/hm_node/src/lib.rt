@@ -1,0 +1,28 @@
+//! The nodes of the B-tree, as pages of 4,096 bytes.
+//!
+//! `encode` writes a node into a page, and `decode` reads it and tells the first rule that a page
+//! breaks. Neither takes memory.
+#![tactic(auto)]
+
+mod base;
+mod head;
+mod inner;
+mod laws;
+mod leaf;
+mod node;
+mod places;
+mod rule;
+#[cfg(test)]
+mod tests;
+
+pub use base::read_base;
+pub use head::{Head, INNER, LEAF, LEAF_LEVEL};
+pub use inner::{Child, Inner};
+pub use laws::{
+    node_has_one_page, one_kind_is_the_lowest, page_spells_one_node, sound_page_spells_its_node,
+    spelled_node_is_sound,
+};
+pub use leaf::Leaf;
+pub use node::{Node, decode, encode};
+pub use places::place;
+pub use rule::Rule;

@@ -1,0 +1,68 @@
+// The places of a page, and the bytes of it that are 0.
+ghost use Rattle.std.specs.Prelude.{◌≡◌, ◌≤◌, ◌+◌, ◌*◌, ◌%◌, ◌↔◌, IsTrue};
+ghost use Rattle.std.specs.List.Sorted.{IsStrictlySortedBy};
+ghost use Rattle.hm_types.specs.declared.limits.TheConstants.{PAGE_BYTES};
+ghost use Rattle.hm_node.specs.Base.{base_cmp};
+ghost use Rattle.hm_node.specs.Places.{place, bases_in, IsZero, IsZeroOutside};
+
+use crate::base::read_base;
+use hm_fields::{Page, get_u32, get_u64};
+use hm_types::PAGE_BYTES;
+use std::cmp::Ordering;
+
+// The size of a place, and that of the head before the first one, in bytes.
+const PLACE_BYTES: usize = 64;
+
+/// Where a place begins, in bytes from the start of the page.
+pub fn place(number: usize) -> usize
+    requires { number ≤ 63 }
+    ensures { result ≡ place number }
+{
+    PLACE_BYTES + PLACE_BYTES * number
+}
+
+// Whether the 4 bytes from `at` on are 0.
+pub(crate) fn is_zero_u32(page: &Page, at: usize) -> bool
+    requires { at + 4 ≤ PAGE_BYTES }
+    ensures { IsTrue result ↔ IsZero page.now at (at + 4) }
+{
+    get_u32(page, at) == 0
+}
+
+// Whether so many times 8 bytes are 0.
+pub(crate) fn are_zero(page: &Page, from: usize, words: usize) -> bool
+    requires { from + 8 * words ≤ PAGE_BYTES }
+    ensures { IsTrue result ↔ IsZero page.now from (from + 8 * words) }
+{
+    for i in 0..words {
+        if get_u64(page, from + 8 * i) != 0 {
+            return false;
+        }
+    }
+    true
+}
+
+// Whether the bytes of the head that have no meaning, and all bytes from `end` on, are 0.
+pub(crate) fn is_zero_outside(page: &Page, end: usize) -> bool
+    requires within { end ≤ PAGE_BYTES }
+    requires aligned { end % 8 ≡ 0 }
+    ensures { IsTrue result ↔ IsZeroOutside page.now end }
+{
+    is_zero_u32(page, 4) && are_zero(page, 16, 6) && are_zero(page, end, (PAGE_BYTES - end) / 8)
+}
+
+// Whether the bases of so many places are in strictly rising order.
+pub(crate) fn are_rising(page: &Page, count: usize) -> bool
+    requires { count ≤ 63 }
+    ensures { IsTrue result ↔ IsStrictlySortedBy base_cmp (bases_in page.now count) }
+{
+    let mut before = read_base(page, place(0));
+    for i in 1..count {
+        let base = read_base(page, place(i));
+        if before.order(&base) != Ordering::Less {
+            return false;
+        }
+        before = base;
+    }
+    true
+}
