@@ -4,7 +4,8 @@ use Rattle.std.specs.Prelude.{◌⊎◌, ◌↔◌}
 use Rattle.hm_types.specs.declared.id.Id.{Id}
 use Rattle.hm_retain.specs.declared.fault.RetainFault.{RetainFault}
 use Rattle.hm_retain.specs.declared.fault.RetainFault.TheVariants.{TooMany, NoMemory}
-use Rattle.hm_retain.specs.Intervals.{Keeps, KeepsExactly}
+use Rattle.hm_types.specs.Intervals.{Keeps}
+use Rattle.hm_retain.specs.Intervals.{KeepsExactly}
 use Rattle.hm_retain.specs.Retention.{IsListed, IsCut, IsJoin, TellsOf}
 
 -- what a retention shares with the wanted ids is the cut

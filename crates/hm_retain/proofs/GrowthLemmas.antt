@@ -3,7 +3,8 @@ use Rattle.std.proofs.Common.{◌≡◌, ℕ, ◌+◌, ◌<◌, ◌≤◌, ◌^�
 use Rattle.std.specs.Prelude.{◌⊎◌, ◌↔◌}
 use Rattle.std.proofs.lemmas.List.{map-append, take_rest}
 use Rattle.hm_types.specs.declared.id.Id.{Id}
-use Rattle.hm_retain.specs.Intervals.{numbers_of, Holds, Keeps, IsInterval, RiseFrom, IsIntervals}
+use Rattle.hm_types.specs.Intervals.{Holds, Keeps}
+use Rattle.hm_retain.specs.Intervals.{numbers_of, IsInterval, RiseFrom, IsIntervals}
 use Rattle.hm_retain.specs.Growth.{BeginBy, Adds}
 use Rattle.hm_retain.proofs.SetLemmas.{less_or_not}
 

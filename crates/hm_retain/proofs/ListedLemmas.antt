@@ -9,7 +9,8 @@ use Rattle.std.proofs.lemmas.List.Sorted.{IsNonDecreasingBy-from_all_adjacent, C
 use Rattle.std.proofs.lemmas.Map.Keys.{le_from_is_le}
 use Rattle.std.specs.List.Sorted.{IsPermutation}
 use Rattle.hm_types.specs.declared.id.Id.{Id}
-use Rattle.hm_retain.specs.Intervals.{Keeps, KeepsExactly}
+use Rattle.hm_types.specs.Intervals.{Keeps}
+use Rattle.hm_retain.specs.Intervals.{KeepsExactly}
 use Rattle.hm_retain.specs.Growth.{BeginBy, Adds}
 use Rattle.hm_retain.specs.Retention.{IsListed}
 use Rattle.hm_retain.proofs.SetLemmas.{less_or_not, BeginBy-higher}

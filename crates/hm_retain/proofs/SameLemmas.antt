@@ -1,6 +1,7 @@
 -- One list alone stands for a set.
 use Rattle.std.proofs.Common.{◌≡◌, ℕ, ◌+◌, ◌<◌, ◌≤◌, ◌^◌, List, [], ◌∷◌, length, refl, inl, inr, arith}
-use Rattle.hm_retain.specs.Intervals.{Keeps, KeepsExactly, RiseFrom}
+use Rattle.hm_types.specs.Intervals.{Keeps}
+use Rattle.hm_retain.specs.Intervals.{KeepsExactly, RiseFrom}
 use Rattle.hm_retain.specs.Retention.{IsRetention, IsTooMany}
 use Rattle.hm_retain.proofs.SetLemmas.{kept_from, less_or_not}
 

@@ -4,7 +4,8 @@ use Rattle.std.proofs.Math.Seq.{drop-cons}
 use Rattle.std.proofs.lemmas.List.{length-map, length-take, map-append, take-append-drop, take_rest}
 use Rattle.hm_types.specs.declared.id.Id.{Id}
 use Rattle.std.specs.Prelude.{◌↔◌}
-use Rattle.hm_retain.specs.Intervals.{numbers_of, Holds, Keeps, IsInterval, RiseFrom}
+use Rattle.hm_types.specs.Intervals.{Holds, Keeps}
+use Rattle.hm_retain.specs.Intervals.{numbers_of, IsInterval, RiseFrom}
 use Rattle.hm_retain.specs.Retention.{IsRetention}
 use Rattle.hm_retain.proofs.GrowthLemmas.{number_pair}
 use Rattle.hm_retain.proofs.SetLemmas.{kept_from}

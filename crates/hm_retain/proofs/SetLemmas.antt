@@ -1,7 +1,8 @@
 -- What the intervals of a rising list may hold.
 use Rattle.std.proofs.Common.{ℕ, zero, suc, ◌+◌, ◌<◌, ◌≤◌, ◌^◌, List, [], ◌∷◌, inl, inr, arith}
 use Rattle.std.specs.Prelude.{◌⊎◌}
-use Rattle.hm_retain.specs.Intervals.{Keeps, RiseFrom}
+use Rattle.hm_types.specs.Intervals.{Keeps}
+use Rattle.hm_retain.specs.Intervals.{RiseFrom}
 use Rattle.hm_retain.specs.Growth.{BeginBy}
 
 -- of two numbers one is less, or it is not

@@ -1,7 +1,8 @@
 -- Two lists of intervals whose ids are put together.
 use Rattle.std.proofs.Common.{ℕ, ◌+◌, ◌≤◌, List, [], ◌∷◌, inl, inr, arith}
 use Rattle.std.specs.Prelude.{◌⊎◌, ◌↔◌}
-use Rattle.hm_retain.specs.Intervals.{Keeps, RiseFrom}
+use Rattle.hm_types.specs.Intervals.{Keeps}
+use Rattle.hm_retain.specs.Intervals.{RiseFrom}
 use Rattle.hm_retain.specs.Growth.{BeginBy, Adds}
 use Rattle.hm_retain.specs.Walk.{HeadFrom, TakesEarliest}
 use Rattle.hm_retain.proofs.SetLemmas.{BeginBy-higher, RiseFrom-lower}

@@ -3,7 +3,8 @@ use Rattle.std.proofs.Common.{ℕ, ◌+◌, ◌<◌, ◌≤◌, max, min, List, 
 use Rattle.std.proofs.lemmas.List.{take_rest}
 use Rattle.hm_types.specs.declared.id.Id.{Id}
 use Rattle.std.specs.Prelude.{◌⊎◌, ◌↔◌}
-use Rattle.hm_retain.specs.Intervals.{numbers_of, Keeps, RiseFrom}
+use Rattle.hm_types.specs.Intervals.{Keeps}
+use Rattle.hm_retain.specs.Intervals.{numbers_of, RiseFrom}
 use Rattle.hm_retain.specs.Growth.{BeginBy, Adds}
 use Rattle.hm_retain.specs.Walk.{AddsShared}
 use Rattle.hm_retain.proofs.GrowthLemmas.{number_pair}

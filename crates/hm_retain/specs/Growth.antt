@@ -1,7 +1,7 @@
 -- A list of intervals that grows at its end.
 use Rattle.std.specs.Prelude.{◌⊎◌, ◌↔◌, ℕ, ◌+◌, ◌≤◌, List, [], ◌∷◌, Option, Some, None}
 use Rattle.hm_types.specs.declared.id.Id.{Id}
-use Rattle.hm_retain.specs.Intervals.{Holds, Keeps}
+use Rattle.hm_types.specs.Intervals.{Holds, Keeps}
 
 -- the least id at which an interval may begin after one that ends at the given id, if there is one
 abbrev pub least_after : Option Id → ℕ

@@ -1,19 +1,11 @@
--- Sets of ids, written as lists of intervals. An interval is the pair of its first and its last id.
-use Rattle.std.specs.Prelude.{◌⊎◌, ◌↔◌, ℕ, ◌+◌, ◌^◌, ◌<◌, ◌≤◌, List, [], ◌∷◌, map}
+-- Lists of intervals of ids that are maximal, and the sets for which they stand.
+use Rattle.std.specs.Prelude.{◌↔◌, ℕ, ◌+◌, ◌^◌, ◌<◌, ◌≤◌, List, [], ◌∷◌, map}
 use Rattle.hm_types.specs.declared.id.Id.{Id}
+use Rattle.hm_types.specs.Intervals.{Keeps}
 
 -- the numbers of pairs of ids
 abbrev pub numbers_of : List (Id × Id) → List (ℕ × ℕ)
 numbers_of = map (λ (pair : Id × Id). (pair.0.0, pair.1.0))
-
--- the interval holds the id
-abbrev pub Holds : ℕ × ℕ → ℕ → Type 0
-Holds interval id = (interval.0 ≤ id) × (id ≤ interval.1)
-
--- some interval of the list holds the id
-abbrev pub Keeps : List (ℕ × ℕ) → ℕ → Type 0
-Keeps [] id = ⊥
-Keeps (interval ∷ more) id = Holds interval id ⊎ Keeps more id
 
 -- the list keeps exactly the ids of the set
 abbrev pub KeepsExactly : List (ℕ × ℕ) → (ℕ → Type 0) → Type 0

@@ -5,7 +5,8 @@ use Rattle.hm_types.specs.declared.id.Id.{Id}
 use Rattle.hm_types.specs.declared.limits.TheConstants.{MOST_INTERVALS}
 use Rattle.hm_retain.specs.declared.fault.RetainFault.{RetainFault}
 use Rattle.hm_retain.specs.declared.fault.RetainFault.TheVariants.{TooMany, NoMemory}
-use Rattle.hm_retain.specs.Intervals.{KeepsExactly, Keeps, IsIntervals}
+use Rattle.hm_types.specs.Intervals.{Keeps}
+use Rattle.hm_retain.specs.Intervals.{KeepsExactly, IsIntervals}
 
 -- a retention: at most 4,096 maximal intervals
 pub record IsRetention (list : List (ℕ × ℕ)) : Type 0 where

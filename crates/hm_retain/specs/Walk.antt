@@ -1,6 +1,6 @@
 -- Two lists of intervals that are walked together.
 use Rattle.std.specs.Prelude.{◌≡◌, ◌⊎◌, ◌↔◌, ℕ, ◌≤◌, max, List, [], ◌∷◌}
-use Rattle.hm_retain.specs.Intervals.{Holds, Keeps}
+use Rattle.hm_types.specs.Intervals.{Holds, Keeps}
 use Rattle.hm_retain.specs.Growth.{BeginBy}
 
 -- the ids that two intervals share are added, and no other

@@ -1,7 +1,8 @@
 // What follows from the definitions alone: each function states one law, and does nothing.
 ghost use Rattle.std.specs.Prelude.{◌≡◌, ℕ, List};
 ghost use Rattle.hm_types.specs.declared.id.Id.{Id};
-ghost use Rattle.hm_retain.specs.Intervals.{IsIntervals, Keeps, KeepsExactly};
+ghost use Rattle.hm_types.specs.Intervals.{Keeps};
+ghost use Rattle.hm_retain.specs.Intervals.{IsIntervals, KeepsExactly};
 ghost use Rattle.hm_retain.specs.Retention.{IsRetention, IsCut, IsJoin, IsTooMany};
 
 /// One list alone of maximal intervals stands for a set of ids. So what a cut or a join answers is

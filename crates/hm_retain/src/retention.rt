@@ -31,7 +31,8 @@ impl Model for Retention {
 impl Retention {
     ghost use Rattle.std.specs.Prelude.{◌≡◌, ◌↔◌, ◌-◌, ◌^◌, ◌≤◌, [], ◌∷◌, length};
     ghost use Rattle.std.specs.Prelude.{IfOk, IsOk, IfErr, IfSome, IsSome, IsTrue};
-    ghost use Rattle.hm_retain.specs.Intervals.{numbers_of, Keeps};
+    ghost use Rattle.hm_types.specs.Intervals.{Keeps};
+    ghost use Rattle.hm_retain.specs.Intervals.{numbers_of};
     ghost use Rattle.hm_retain.specs.Retention.{IsRetention, IsCut, IsJoin, TellsOf};
 
     /// What a new master keeps: every id from 1 on.

@@ -3,7 +3,8 @@ ghost use Rattle.std.specs.Prelude.{◌⊎◌, ◌↔◌, ℕ, ◌<◌, ◌≤�
 ghost use Rattle.std.specs.List.Sorted.{IsNonDecreasingBy};
 ghost use Rattle.hm_types.specs.declared.id.Id.{Id};
 ghost use Rattle.hm_retain.specs.Growth.{BeginBy};
-ghost use Rattle.hm_retain.specs.Intervals.{Keeps, KeepsExactly, numbers_of, IsIntervals};
+ghost use Rattle.hm_types.specs.Intervals.{Keeps};
+ghost use Rattle.hm_retain.specs.Intervals.{KeepsExactly, numbers_of, IsIntervals};
 ghost use Rattle.hm_retain.specs.Retention.{IsListed};
 ghost use Rattle.hm_retain.specs.Walk.{AddsShared, TakesEarliest};
 
