@@ -3,8 +3,8 @@ use Rattle.std.proofs.Common.{◌≡◌, List, [], ◌∷◌, ◌++◌, refl, ap
 use Rattle.std.specs.Prelude.{◌⊎◌}
 use Rattle.hm_model.specs.declared.entry.Entry.{Entry}
 use Rattle.hm_model.specs.Volume.{Volume}
-use Rattle.hm_model.specs.After.{after, after_entry}
-use Rattle.hm_model.specs.Legal.{IsLegal, MayFollow}
+use Rattle.hm_model.specs.Served.After.{after, after_entry}
+use Rattle.hm_model.specs.Served.Legal.{IsLegal, MayFollow}
 
 -- no element stands in the empty list
 pub nothing_in_none : {X : Type 0} (before : List X) (x : X) (rest : List X) → [] ≡ before ++ x ∷ rest → ⊥

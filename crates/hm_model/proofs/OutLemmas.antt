@@ -8,10 +8,10 @@ use Rattle.std.proofs.lemmas.Bool.Decides.{nat_tests}
 use Rattle.std.proofs.lemmas.List.Elements.{All-from_recursion, All-contains}
 use Rattle.hm_model.specs.declared.entry.Entry.{Entry}
 use Rattle.hm_model.specs.Volume.{Volume}
-use Rattle.hm_model.specs.After.{after_entry}
-use Rattle.hm_model.specs.Legal.{IsLegal}
-use Rattle.hm_model.specs.Lines.{ReadsFrom}
-use Rattle.hm_model.specs.Out.{Answers, HasEntry, answers, entries_of, entry_text, line_of, out_text}
+use Rattle.hm_model.specs.Served.After.{after_entry}
+use Rattle.hm_model.specs.Served.Legal.{IsLegal}
+use Rattle.hm_model.specs.Served.Lines.{ReadsFrom}
+use Rattle.hm_model.specs.Served.Out.{Answers, HasEntry, answers, entries_of, entry_text, line_of, out_text}
 use Rattle.hm_model.proofs.StepLemmas.{Steps, steps_from}
 
 -- the entries have these numbers, one after another

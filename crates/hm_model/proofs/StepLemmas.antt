@@ -3,8 +3,8 @@ use Rattle.std.proofs.Common.{◌≡◌, ℕ, zero, suc, ◌+◌, ◌<◌, List,
 use Rattle.std.proofs.lemmas.List.{length-map}
 use Rattle.hm_model.specs.declared.entry.Entry.{Entry}
 use Rattle.hm_model.specs.Volume.{Volume}
-use Rattle.hm_model.specs.After.{after, after_entry}
-use Rattle.hm_model.specs.Legal.{IsLegal}
+use Rattle.hm_model.specs.Served.After.{after, after_entry}
+use Rattle.hm_model.specs.Served.Legal.{IsLegal}
 use Rattle.hm_model.specs.History.{IsHistory, ids_of}
 use Rattle.hm_model.proofs.HistoryLemmas.{after-push}
 

@@ -1,29 +1,34 @@
--- The reply that a call is due.
-use Rattle.std.specs.Prelude.{List, [], ◌∷◌, Option, Some, None, if◌then◌else◌, unwrap_or}
+-- The reply that a call is due: the refusal of the first check that fails, or else the accepted one.
+use Rattle.std.specs.Prelude.{◌≡◌, ℕ, ◌+◌, ◌-◌, ◌*◌, ◌/◌, ◌^◌, List, [], ◌∷◌, ◌++◌, Bool, true, false, Option, Some, None, ◌==◌, ◌&&◌, ◌||◌, if◌then◌else◌, filter, find, length, map, min}
+use Rattle.std.specs.Bool.{nat_le, nat_lt}
+use Rattle.std.specs.List.{AllZip, list_any, count_by}
+use Rattle.std.specs.Option.{option_map_or}
+use Rattle.hm_types.specs.declared.id.Id.{Id}
+use Rattle.hm_types.specs.declared.id.Obj.{Obj}
+use Rattle.hm_types.specs.declared.limits.TheConstants.{GREATEST_ID, MOST_FILE_BYTES, MOST_INTERVALS, MOST_PFS}
+use Rattle.hm_path.specs.declared.part.Part.{Part}
 use Rattle.hm_model.specs.declared.command.Command.{Command}
-use Rattle.hm_model.specs.declared.command.Command.TheVariants.{Mkdir}
+use Rattle.hm_model.specs.declared.command.Command.TheVariants.{Mkdir, Touch, Symlink, Snapshot, Ln, Mv, Write, Fill, Truncate, Rm, Rmdir, Ls, Cat, Stat, Readlink, Prune, PruneAll, PfsMaster, PfsSlave, PfsStatus, PfsUpgrade, MirrorRead, MirrorWrite, MirrorCopy}
 use Rattle.hm_model.specs.declared.reply.Reply.{Reply}
-use Rattle.hm_model.specs.declared.reply.Reply.TheVariants.{Done, Exists}
-use Rattle.hm_model.specs.Tree.{has_name}
-use Rattle.hm_model.specs.Volume.{Volume, shown}
-use Rattle.hm_model.specs.Walk.{Place, IsRootPath, place_of}
-
--- the values of a command's words keep their ranges: so far, a path has one component under the root
-abbrev pub IsInRange : Command → Type 0
-IsInRange (Mkdir path) = IsRootPath path
+use Rattle.hm_model.specs.declared.reply.Reply.TheVariants.{Done, MadePfs, Exists, NotFound, NotDir, IsDir, NotEmpty, BadPath, ReadOnly, Future, TooBig, CrossPfs, IntoItself, HashFull, PfsFull, NoSnapshots, TooManyIntervals, NotSlave, NotMaster, IdsSpent, SharedDiffers, Busy, NotLink, NotFile}
+use Rattle.hm_model.specs.declared.object.Object.{Object}
+use Rattle.hm_model.specs.declared.object.Triple.{Triple}
+use Rattle.hm_model.specs.declared.object.Kind.{Kind}
+use Rattle.hm_model.specs.declared.object.Kind.TheVariants.{Directory, File, Softlink, PfsLink}
+use Rattle.hm_model.specs.Tree.{FileTree, entries_in, named_in}
+use Rattle.hm_model.specs.Volume.{Volume, PseudoFileSystem}
+use Rattle.hm_model.specs.Sites.{Use, MakesName, TakesName, Walks, Parsed, Parts, BadAt, IsParsed, Site, Located, At, Nowhere, uses_of, last_name}
+use Rattle.hm_model.specs.Cut.{pruned, snapshot_ids}
+use Rattle.hm_model.specs.Call.{Call, all_located, call_shown, first_site, own_id, second_site, site_object, site_system, site_tree, standing}
+use Rattle.hm_model.specs.Answer.{answer, is_master}
 
 -- a check: the refusal that it gives where it fails
 abbrev pub Check : Type 0
 Check = Option Reply
 
--- a new name does not stand in its directory yet
-abbrev pub name_is_new : Volume → Place → Check
-name_is_new volume place =
-    if has_name (shown volume place.pfs) place.directory place.name then Some Exists else None
-
--- the checks of a command, in their order
-abbrev pub checks : Volume → Command → List Check
-checks volume (Mkdir path) = name_is_new volume (place_of path) ∷ []
+-- a check that fails with this refusal where the test holds
+abbrev pub refuse_if : Bool → Reply → Check
+refuse_if test refusal = if test then Some refusal else None
 
 -- the refusal of the first check that fails
 abbrev pub first_refusal : List Check → Check
@@ -31,10 +36,333 @@ first_refusal [] = None
 first_refusal (None ∷ checks) = first_refusal checks
 first_refusal (Some refusal ∷ checks) = Some refusal
 
--- the reply of a command that is accepted
-abbrev pub accepted : Volume → Command → Reply
-accepted volume (Mkdir path) = Done
+-- the kinds of commands, as far as checks tell them apart
+pub data Class : Type 0 where
+  TreeCall : Class
+  PfsCall : Class
+  OtherCall : Class
 
--- the reply that a command is due, where memory lasts
-abbrev pub due : Volume → Command → Reply
-due volume command = unwrap_or (first_refusal (checks volume command)) (accepted volume command)
+abbrev pub class_of : Command → Class
+class_of (Mkdir path) = TreeCall
+class_of (Touch path) = TreeCall
+class_of (Symlink target path) = TreeCall
+class_of (Snapshot path) = TreeCall
+class_of (Ln old new) = TreeCall
+class_of (Mv old new) = TreeCall
+class_of (Write path offset bytes) = TreeCall
+class_of (Fill path offset count byte) = TreeCall
+class_of (Truncate path size) = TreeCall
+class_of (Rm path) = TreeCall
+class_of (Rmdir path) = TreeCall
+class_of (PfsMaster path shared) = TreeCall
+class_of (PfsSlave path shared) = TreeCall
+class_of (Prune path) = PfsCall
+class_of (PruneAll path) = PfsCall
+class_of (PfsStatus path) = PfsCall
+class_of (PfsUpgrade path) = PfsCall
+class_of (MirrorRead path begin) = PfsCall
+class_of (MirrorWrite path) = PfsCall
+class_of (MirrorCopy master slave limit) = PfsCall
+class_of other = OtherCall
+
+-- whether a command changes a tree, and whether it speaks of a PFS
+abbrev pub is_tree_call : Command → Bool
+is_tree_call command = elim (class_of command) [ TreeCall ↦ true | PfsCall ↦ false | OtherCall ↦ false ]
+
+abbrev pub is_pfs_call : Command → Bool
+is_pfs_call command = elim (class_of command) [ TreeCall ↦ false | PfsCall ↦ true | OtherCall ↦ false ]
+
+-- whether a command is one of the four of which one at a time may be open
+abbrev pub is_pass : Command → Bool
+is_pass (MirrorRead path begin) = true
+is_pass (MirrorWrite path) = true
+is_pass (MirrorCopy master slave limit) = true
+is_pass (PfsUpgrade path) = true
+is_pass other = false
+
+-- The checks in their order. The first: an id is left to draw.
+abbrev pub ids_left : Call → Check
+ids_left call = refuse_if (nat_le GREATEST_ID call.volume.last) IdsSpent
+
+-- no other mirror or upgrade call is open
+abbrev pub none_open : Option ℕ → Command → Check
+none_open busy command =
+    if is_pass command then option_map_or (λ opening. Some (Busy (record { 0 = opening }))) busy None else None
+
+-- whether a path has a last name where its use needs one
+abbrev pub has_its_name : Use → List Part → Bool
+has_its_name (Walks mode) parts = true
+has_its_name MakesName parts = option_map_or (λ name. true) (last_name parts) false
+has_its_name TakesName parts = option_map_or (λ name. true) (last_name parts) false
+
+-- a path word is a path, with a last name where one is needed
+abbrev pub good_path : Use → Parsed → Check
+good_path u (BadAt place) = Some (BadPath place)
+good_path u (Parts parts) = if has_its_name u parts then None else Some (BadPath 0)
+
+abbrev pub good_paths : List (Use × List ℕ) → List Parsed → List Check
+good_paths [] paths = []
+good_paths (u ∷ uses) [] = []
+good_paths (u ∷ uses) (path ∷ paths) = good_path u.0 path ∷ good_paths uses paths
+
+-- the parts of a path word
+abbrev pub parts_in : Parsed → List Part
+parts_in (Parts parts) = parts
+parts_in (BadAt place) = []
+
+-- whether a part has an id above this one
+abbrev pub is_above : ℕ → Part → Bool
+is_above last part = option_map_or (λ (id : Id). nat_lt last id.0) part.as_of false
+
+-- no id of a path lies in the future
+abbrev pub no_future : ℕ → Parsed → Check
+no_future last path = refuse_if (list_any (is_above last) (parts_in path)) (Future (record { 0 = last }))
+
+-- nor does the begin id of a stream
+abbrev pub no_future_begin : ℕ → Command → Check
+no_future_begin last (MirrorRead path begin) = refuse_if (nat_lt last begin.0) (Future (record { 0 = last }))
+no_future_begin last other = None
+
+-- whether a path has an id
+abbrev pub has_id : Parsed → Bool
+has_id path = list_any (λ (part : Part). option_map_or (λ id. true) part.as_of false) (parts_in path)
+
+-- the past is read only: no path of a call on a tree or a PFS has an id
+abbrev pub past_stays : Command → List Parsed → Check
+past_stays command paths =
+    refuse_if ((is_tree_call command || is_pfs_call command) && list_any has_id paths) ReadOnly
+
+-- a walk comes to its end
+abbrev pub walks : Located → Check
+walks (At site) = None
+walks (Nowhere refusal passed) = Some refusal
+
+-- whether a site lies in a slave
+abbrev pub is_in_slave : Call → Located → Bool
+is_in_slave call (At site) = option_map_or (λ s. if is_master s then false else true) (site_system call site) false
+is_in_slave call (Nowhere refusal passed) = false
+
+-- a slave changes by mirroring alone
+abbrev pub slaves_stay : Call → Check
+slaves_stay call = refuse_if (is_tree_call call.command && list_any (is_in_slave call) (all_located call)) ReadOnly
+
+-- whether the object at a site has a kind
+abbrev pub is_kind : (Kind → Bool) → Call → Site → Bool
+is_kind test call site = option_map_or (λ (o : Object). test o.kind) (site_object call site) false
+
+abbrev pub is_dir : Kind → Bool
+is_dir kind = elim kind [ Directory ↦ true | File ↦ false | Softlink ↦ false | PfsLink ↦ false ]
+
+abbrev pub is_dir_or_link : Kind → Bool
+is_dir_or_link kind = elim kind [ Directory ↦ true | File ↦ false | Softlink ↦ false | PfsLink ↦ true ]
+
+abbrev pub is_softlink : Kind → Bool
+is_softlink kind = elim kind [ Directory ↦ false | File ↦ false | Softlink ↦ true | PfsLink ↦ false ]
+
+abbrev pub is_link : Kind → Bool
+is_link kind = elim kind [ Directory ↦ false | File ↦ false | Softlink ↦ true | PfsLink ↦ true ]
+
+-- a new name does not stand in its directory yet
+abbrev pub name_is_new : Call → Site → Check
+name_is_new call site = option_map_or (λ o. Some Exists) (named_in (site_tree call site) site.directory.object site.name) None
+
+-- the object is neither a directory nor a PFS link; it is a directory; it is no softlink; it is a link
+abbrev pub no_dir : Call → Site → Check
+no_dir call site = refuse_if (is_kind is_dir_or_link call site) IsDir
+
+abbrev pub a_dir : Call → Site → Check
+a_dir call site = if is_kind is_dir call site then None else Some NotDir
+
+abbrev pub a_file : Call → Site → Check
+a_file call site = refuse_if (is_kind is_softlink call site) NotFile
+
+abbrev pub a_link : Call → Site → Check
+a_link call site = if is_kind is_link call site then None else Some NotLink
+
+-- a directory is empty
+abbrev pub is_empty : Call → Site → Check
+is_empty call site = refuse_if (nat_lt 0 (length (entries_in (site_tree call site) site.at.object))) NotEmpty
+
+-- both paths end in one PFS
+abbrev pub one_pfs : Call → Check
+one_pfs call = if (first_site call).at.pfs == (second_site call).at.pfs then None else Some CrossPfs
+
+-- a file is no larger than it may be
+abbrev pub fits_file : ℕ → Check
+fits_file end = refuse_if (nat_lt MOST_FILE_BYTES end) TooBig
+
+-- a count of links can rise
+abbrev pub links_left : Call → Site → Check
+links_left call site =
+    refuse_if (option_map_or (λ (o : Object). nat_le (2 ^ 32 - 1) o.links) (site_object call site) false) TooBig
+
+-- whether a walk passed the object at a site
+abbrev pub is_passed : Site → Site → Bool
+is_passed site walk = list_any (λ p. (p.0 == site.at.pfs) && (p.1 == site.at.object.0)) walk.passed
+
+-- what is moved does not stand on the walk of its new name
+abbrev pub not_into_itself : Call → Check
+not_into_itself call = refuse_if (is_passed (first_site call) (second_site call)) IntoItself
+
+-- whether what stands under a new name gives way to the object that is moved there: it is that object, or
+-- it is a file or softlink and the moved one is no directory
+abbrev pub gives_way : Call → Object → Object → Bool
+gives_way call moved there =
+    (moved.number.0 == there.number.0)
+    || ((if is_dir_or_link there.kind then false else true) && (if is_dir moved.kind then false else true))
+
+-- nothing that stays stands under the new name
+abbrev pub way_is_free : Call → Check
+way_is_free call =
+    option_map_or (λ there.
+    if option_map_or (λ moved. gives_way call moved there) (site_object call (first_site call)) false then None else Some Exists)
+    (standing call (second_site call)) None
+
+-- a number of a PFS is left
+abbrev pub pfs_left : Call → Check
+pfs_left call = refuse_if (nat_le MOST_PFS (length call.volume.systems)) PfsFull
+
+-- the ids that a prune keeps
+abbrev pub kept_ids : Call → List ℕ
+kept_ids call =
+    option_map_or (λ s. snapshot_ids (site_tree call (first_site call)) (first_site call).at.object (call_shown call s))
+    (site_system call (first_site call)) []
+
+-- a prune finds an id to keep
+abbrev pub has_snapshots : Call → Check
+has_snapshots call = refuse_if (length (kept_ids call) == 0) NoSnapshots
+
+-- a fact of the PFS in which a site lies
+abbrev pub of_system : Call → Site → (PseudoFileSystem → Check) → Check
+of_system call site check = option_map_or check (site_system call site) None
+
+-- the PFS is a slave, or a master; a slave has had a pass
+abbrev pub a_slave : Call → Site → Check
+a_slave call site = of_system call site (λ s. refuse_if (is_master s) NotSlave)
+
+abbrev pub a_master : Call → Site → Check
+a_master call site = of_system call site (λ s. if is_master s then None else Some NotMaster)
+
+abbrev pub was_passed : Call → Site → Check
+was_passed call site = of_system call site (λ s. refuse_if (s.sync_end == 0) NotFound)
+
+-- master and slave have one shared id
+abbrev pub one_shared : Call → Check
+one_shared call =
+    of_system call (first_site call) (λ m.
+    of_system call (second_site call) (λ s.
+    if s.shared == m.shared then None else Some (SharedDiffers s.shared m.shared)))
+
+-- a command's own checks, in their order
+abbrev pub own_checks : Call → List Check
+own_checks call =
+    let a : Site = first_site call in
+    let b : Site = second_site call in
+    elim call.command [
+      | Mkdir path ↦ name_is_new call a ∷ []
+      | Touch path ↦ name_is_new call a ∷ []
+      | Symlink target path ↦ name_is_new call a ∷ []
+      | Snapshot path ↦ name_is_new call a ∷ []
+      | Ln old new ↦ no_dir call a ∷ a_file call a ∷ one_pfs call ∷ name_is_new call b ∷ links_left call a ∷ []
+      | Write path offset bytes ↦ no_dir call a ∷ a_file call a ∷ fits_file (offset + length bytes) ∷ []
+      | Fill path offset count byte ↦ no_dir call a ∷ a_file call a ∷ fits_file (offset + count) ∷ []
+      | Truncate path size ↦ no_dir call a ∷ a_file call a ∷ fits_file size ∷ []
+      | Rm path ↦ no_dir call a ∷ []
+      | Rmdir path ↦ a_dir call a ∷ is_empty call a ∷ []
+      | Mv old new ↦ one_pfs call ∷ not_into_itself call ∷ way_is_free call ∷ []
+      | Ls path ↦ a_dir call a ∷ []
+      | Cat path offset count ↦ no_dir call a ∷ a_file call a ∷ []
+      | Readlink path ↦ a_link call a ∷ []
+      | Prune path ↦ a_dir call a ∷ has_snapshots call ∷ []
+      | PfsMaster path shared ↦ name_is_new call a ∷ pfs_left call ∷ []
+      | PfsSlave path shared ↦ name_is_new call a ∷ pfs_left call ∷ []
+      | PfsUpgrade path ↦ a_slave call a ∷ was_passed call a ∷ []
+      | MirrorRead path begin ↦ a_master call a ∷ []
+      | MirrorWrite path ↦ a_slave call a ∷ []
+      | MirrorCopy master slave limit ↦ a_master call a ∷ a_slave call b ∷ one_shared call ∷ []
+      | other ↦ []
+    ]
+
+-- the site at which a call makes a name, if it does
+abbrev pub new_name : List (Use × List ℕ) → List Located → Option Site
+new_name ((MakesName, path) ∷ uses) (At site ∷ more) = Some site
+new_name (u ∷ uses) (l ∷ more) = new_name uses more
+new_name uses more = None
+
+-- how many entries of a directory have the hash of a name, in bits 17 to 63
+abbrev pub same_hash : (List ℕ → ℕ) → List ℕ → Triple → Bool
+same_hash hash name t = (hash t.name / 2 ^ 17) == (hash name / 2 ^ 17)
+
+abbrev pub hash_is_full : Call → Site → Bool
+hash_is_full call site =
+    option_map_or (λ o. false) (named_in (site_tree call site) site.directory.object site.name)
+    (nat_le 1024 (count_by (same_hash call.hash site.name) (entries_in (site_tree call site) site.directory.object)))
+
+-- fewer than 1,024 names of the directory have the hash of a name that is new there
+abbrev pub hash_left : Call → Check
+hash_left call =
+    option_map_or (λ site. refuse_if (hash_is_full call site) HashFull)
+    (new_name (uses_of call.command) (all_located call)) None
+
+-- the number of intervals that a prune leaves
+abbrev pub pruned_count : Call → ℕ
+pruned_count call =
+    option_map_or (λ s. length (pruned s.retention (kept_ids call))) (site_system call (first_site call)) 0
+
+-- a cut leaves no more intervals than a retention may have
+abbrev pub intervals_left : Call → Check
+intervals_left call = elim call.command [
+  | Prune path ↦
+      refuse_if (nat_lt MOST_INTERVALS (pruned_count call)) (TooManyIntervals (min (pruned_count call) (2 ^ 32 - 1)))
+  | other ↦ None
+]
+
+-- the checks that come before the walks; they ask nothing of trees
+abbrev pub early_checks : ℕ → Option ℕ → Command → List Parsed → List Check
+early_checks last busy command paths =
+    none_open busy command ∷ good_paths (uses_of command) paths
+    ++ map (no_future last) paths ++ no_future_begin last command ∷ past_stays command paths ∷ []
+
+-- all checks of a call in their order, but for the one on space
+abbrev pub checks : Call → List Check
+checks call =
+    ids_left call ∷ early_checks call.volume.last call.busy call.command call.paths
+    ++ map walks (all_located call) ++ slaves_stay call ∷ own_checks call
+    ++ hash_left call ∷ intervals_left call ∷ []
+
+-- the least number that no PFS has
+abbrev pub numbers_to : ℕ → List ℕ → List ℕ
+numbers_to first [] = first ∷ []
+numbers_to first (x ∷ xs) = first ∷ numbers_to (first + 1) xs
+
+abbrev pub least_unused : List ℕ → ℕ
+least_unused used =
+    option_map_or (λ n. n) (find (λ n. if list_any (λ m. m == n) used then false else true) (numbers_to 0 used)) 0
+
+abbrev pub new_pfs : Volume → ℕ
+new_pfs volume = least_unused (map (λ (s : PseudoFileSystem). s.number) volume.systems)
+
+-- the reply of a call that is accepted
+abbrev pub accepted : Call → Reply
+accepted call = elim call.command [
+  | Ls path ↦ answer call
+  | Cat path offset count ↦ answer call
+  | Stat path ↦ answer call
+  | Readlink path ↦ answer call
+  | PfsStatus path ↦ answer call
+  | PfsMaster path shared ↦ MadePfs (record { 0 = new_pfs call.volume })
+  | PfsSlave path shared ↦ MadePfs (record { 0 = new_pfs call.volume })
+  | other ↦ Done
+]
+
+-- the refusal that a call is due, if it is due one
+abbrev pub refusal : Call → Check
+refusal call = first_refusal (checks call)
+
+-- the reply that a call is due, where memory and space last
+abbrev pub due : Call → Reply
+due call = option_map_or (λ r. r) (refusal call) (accepted call)
+
+-- the path words of the call are read so
+abbrev pub ReadsPaths : Call → Type 0
+ReadsPaths call = AllZip (λ u path. IsParsed u.1 path) (uses_of call.command) call.paths

@@ -1,24 +1,181 @@
 -- The histories that a run may have.
-use Rattle.std.specs.Prelude.{◌≡◌, ◌⊎◌, ◌+◌, List, ◌∷◌, ◌++◌}
+use Rattle.std.specs.Prelude.{◌≡◌, ◌≢◌, ◌⊎◌, ℕ, ◌+◌, ◌-◌, ◌<◌, ◌≤◌, List, [], ◌∷◌, ◌++◌, Bool, true, false, Option, Some, None, if◌then◌else◌, map, length, IsTrue}
+use Rattle.std.specs.List.{list_any}
+use Rattle.std.specs.Option.{option_map_or}
+use Rattle.hm_types.specs.Intervals.{Keeps}
+use Rattle.hm_types.specs.Layout.{first_pool}
+use Rattle.hm_types.specs.declared.id.Id.{Id}
+use Rattle.hm_types.specs.declared.limits.TheConstants.{GREATEST_ID, MOST_INTERVALS}
+use Rattle.hm_model.specs.declared.command.Command.{Command}
+use Rattle.hm_model.specs.declared.command.Command.TheVariants.{Sync, Synctid, Df, Progress, End, MirrorRead, MirrorWrite, MirrorCopy}
 use Rattle.hm_model.specs.declared.entry.Entry.{Entry}
 use Rattle.hm_model.specs.declared.reply.Reply.{Reply}
-use Rattle.hm_model.specs.declared.reply.Reply.TheVariants.{NoMemory}
-use Rattle.hm_model.specs.declared.command.Command.{Command}
-use Rattle.hm_model.specs.Volume.{Volume}
-use Rattle.hm_model.specs.Due.{due}
-use Rattle.hm_model.specs.After.{after}
+use Rattle.hm_model.specs.declared.reply.Reply.TheVariants.{Synced, Space, Passed, Cut, NoSpace, Media, Damaged, NoMemory, TooManyIntervals, SharedDiffers, BeginDiffers, EndPruned, Finished}
+use Rattle.hm_model.specs.Volume.{Volume, PseudoFileSystem, system_of}
+use Rattle.hm_model.specs.View.{is_clear}
+use Rattle.hm_model.specs.Sites.{Located, passed_by}
+use Rattle.hm_model.specs.Call.{Call, all_located, own_id}
+use Rattle.hm_model.specs.Due.{Check, ReadsPaths, accepted, refusal}
+use Rattle.hm_model.specs.Hash.{name_hash}
+use Rattle.hm_model.specs.Foreign.{Foreigners}
+use Rattle.hm_model.specs.After.{Event, OpenCall, State, after, call_of, opened_with}
+use Rattle.hm_model.specs.Needs.{MayLack, floor, rows_after, rows_of}
+use Rattle.hm_model.specs.Caused.{Counts, IsCaused, known_at}
 
--- the replies that a call may have: the one that it is due, or want of memory
-abbrev pub IsAllowed : Volume → Command → Reply → Type 0
-IsAllowed volume command reply = (reply ≡ due volume command) ⊎ (reply ≡ NoMemory)
+-- What a run begins with: its volume, what is known of foreign masters, the number of free big-blocks, and
+-- the counts of faults; and these counts now.
+pub record Setting : Type 0 where
+  pub opening : Volume
+  pub foreigners : Foreigners
+  pub free : ℕ
+  pub start : Counts
+  pub now : Counts
 
--- the entry may follow this history: it has the next id and a reply that its call may have
-pub record MayFollow (opening : Volume) (history : List Entry) (e : Entry) : Type 0 where
-  pub id : e.id.0 ≡ (after opening history).last + 1
-  pub reply : IsAllowed (after opening history) e.call e.reply
+-- the state of a run after these events
+abbrev pub state_after : Setting → List Event → State
+state_after run events = after run.opening run.foreigners events
 
--- each entry may follow those before it
-abbrev pub IsLegal : Volume → List Entry → Type 0
-IsLegal opening history =
-    (before : List Entry) (e : Entry) (rest : List Entry) →
-    history ≡ before ++ e ∷ rest → MayFollow opening before e
+-- the call of an event that comes after these
+abbrev pub call_after : Setting → List Event → Event → Call
+call_after run before event = call_of name_hash (state_after run before) event
+
+-- the entries of events
+abbrev pub entries_of : List Event → List Entry
+entries_of events = map (λ (event : Event). event.entry) events
+
+-- the least number of big-blocks that are free after these events
+abbrev pub floor_after : Setting → List Event → ℕ
+floor_after run events = floor run.free (entries_of events)
+
+-- whether a walk of the call enters a PFS whose trees are not certain
+abbrev pub enters_unclear : Call → Bool
+enters_unclear call =
+    list_any (λ (l : Located). list_any (λ (p : ℕ × ℕ). if is_clear call.volume p.0 then false else true) (passed_by l)) (all_located call)
+
+-- how many big-blocks the pool has
+abbrev pub pool_of : Volume → ℕ
+pool_of volume = volume.bigblocks - first_pool volume.bigblocks
+
+-- the pool, and a number of free big-blocks in it that is not below the least
+abbrev pub IsSpace : ℕ → Volume → Reply → Type 0
+IsSpace least volume (Space pool free) = (pool ≡ pool_of volume) × (least ≤ free) × (free ≤ pool)
+IsSpace least volume other = ⊥
+
+-- a boundary: which one, its cause says
+abbrev pub IsSynced : Reply → Type 0
+IsSynced (Synced boundary) = Unit {0}
+IsSynced other = ⊥
+
+-- the reply of an accepted call
+abbrev pub IsAccepted : ℕ → Call → Reply → Type 0
+IsAccepted least call reply = elim call.command [
+  | Sync ↦ IsSynced reply
+  | Synctid ↦ IsSynced reply
+  | Df ↦ IsSpace least call.volume reply
+  | Progress ↦ ⊥
+  | other ↦ reply ≡ accepted call
+]
+
+-- the reply that a call is due
+abbrev pub IsDue : ℕ → Call → Check → Reply → Type 0
+IsDue least call (Some refusal) reply = reply ≡ refusal
+IsDue least call None reply = IsAccepted least call reply
+
+-- a refusal that comes where the call would else be accepted, or where a device or memory failed
+abbrev pub IsException : ℕ → Call → Reply → Type 0
+IsException least call (NoSpace free needed) =
+    (refusal call ≡ None) × MayLack (rows_of call) free needed × (least ≤ free)
+IsException least call (Media before after) = Unit {0}
+IsException least call NoMemory = Unit {0}
+IsException least call other = ⊥
+
+-- the reply of a single call or an opening
+abbrev pub IsReply : ℕ → Call → Reply → Type 0
+IsReply least call reply = IsDue least call (refusal call) reply ⊎ IsException least call reply
+
+-- the begin id of an open pass: the one that was given, or the slave's sync end
+abbrev pub begin_of : Volume → OpenCall → ℕ
+begin_of volume o = elim o.command [
+  | MirrorRead path begin ↦ begin.0
+  | other ↦ option_map_or (λ (s : PseudoFileSystem). s.sync_end) (system_of volume o.pfs) 0
+]
+
+-- the master of an open pass within this volume keeps an id
+abbrev pub MasterKeeps : Volume → OpenCall → ℕ → Type 0
+MasterKeeps volume o id =
+    Keeps (option_map_or (λ (s : PseudoFileSystem). s.retention) (system_of volume o.master) []) id
+
+-- the end id of a pass within this volume: it lies between the call's opening and its ending
+pub record IsEndId (o : OpenCall) (ending end : ℕ) : Type 0 where
+  pub opened : o.opening ≤ end
+  pub before : end < ending
+
+-- the ids of a pass that came to its end
+abbrev pub IsPassed : Volume → OpenCall → ℕ → ℕ → ℕ → Type 0
+IsPassed volume o ending begin end = elim o.command [
+  | MirrorWrite path ↦ (begin ≡ begin_of volume o) × (begin ≤ end) × (end ≤ GREATEST_ID)
+  | other ↦ (begin ≡ begin_of volume o) × IsEndId o ending end × MasterKeeps volume o end
+]
+
+-- the master does not keep the end id, and this is the least kept id above it
+pub record IsEndPruned (volume : Volume) (o : OpenCall) (ending end first : ℕ) : Type 0 where
+  pub between : IsEndId o ending end
+  pub gone : MasterKeeps volume o end → ⊥
+  pub kept : MasterKeeps volume o first
+  pub above : end < first
+  pub least : (t : ℕ) → end < t → MasterKeeps volume o t → first ≤ t
+
+-- a pass was cut after as many items as its limit says
+abbrev pub IsCutAt : Command → ℕ → Type 0
+IsCutAt (MirrorCopy master slave (Some limit)) items = items ≡ limit
+IsCutAt other items = ⊥
+
+-- two numbers that should be one are a PFS's own and another
+abbrev pub Differ : Volume → OpenCall → (PseudoFileSystem → ℕ) → ℕ → ℕ → Type 0
+Differ volume o own slave stream =
+    (slave ≡ option_map_or own (system_of volume o.pfs) 0) × (slave ≢ stream)
+
+-- the reply of the ending of an open call
+abbrev pub IsEnding : ℕ → Volume → OpenCall → ℕ → Reply → Type 0
+IsEnding least volume o ending reply = elim reply [
+  | Passed begin end ↦ IsPassed volume o ending begin.0 end.0
+  | EndPruned end first ↦ IsEndPruned volume o ending end.0 first.0
+  | Cut items ↦ IsCutAt o.command items
+  | NoSpace free needed ↦ MayLack (rows_after o.command) free needed × (least ≤ free)
+  | TooManyIntervals count ↦ MOST_INTERVALS < count
+  | SharedDiffers slave stream ↦ Differ volume o (λ (s : PseudoFileSystem). s.shared) slave stream
+  | BeginDiffers slave stream ↦ Differ volume o (λ (s : PseudoFileSystem). s.sync_end) slave.0 stream.0
+  | Damaged at kind ↦ ⊥
+  | other ↦ Unit {0}
+]
+
+-- the reply of an event, by its call
+abbrev pub IsAllowed : Setting → List Event → Event → Type 0
+IsAllowed run before event = elim event.entry.call [
+  | End opening ↦ (o : OpenCall) × (opened_with opening.0 (state_after run before).opened ≡ Some o)
+      × IsEnding (floor_after run before) (state_after run before).volume o event.entry.id.0 event.entry.reply
+  | other ↦ IsReply (floor_after run before) (call_after run before event) event.entry.reply
+]
+
+-- a reply tells of no damage
+abbrev pub IsUndamaged : Reply → Type 0
+IsUndamaged (Damaged at kind) = ⊥
+IsUndamaged other = Unit {0}
+
+-- An event may follow others: it has its cause; its path words are read as it says; and where no walk of it
+-- enters a PFS whose trees are not certain, its reply is one that its call may have.
+pub record MayFollow (run : Setting) (before : List Event) (event : Event) : Type 0 where
+  pub caused : IsCaused run.now (known_at run.opening.last run.start) before event
+  pub read : ReadsPaths (call_after run before event)
+  pub allowed : enters_unclear (call_after run before event) ≡ false → IsAllowed run before event
+  pub undamaged : IsUndamaged event.entry.reply
+
+-- each event may follow those before it
+abbrev pub IsLegal : Setting → List Event → Type 0
+IsLegal run events =
+    (before : List Event) (event : Event) (rest : List Event) →
+    events ≡ before ++ event ∷ rest → MayFollow run before event
+
+-- no fault was counted
+abbrev pub no_counts : Counts
+no_counts = record { disk = 0; input = 0; output = 0 }

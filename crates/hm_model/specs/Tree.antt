@@ -1,5 +1,5 @@
 -- A tree: its objects, and which directory has which object under which name.
-use Rattle.std.specs.Prelude.{ℕ, List, [], ◌∷◌, Bool, ◌==◌, ◌&&◌, if◌then◌else◌}
+use Rattle.std.specs.Prelude.{ℕ, ◌-◌, List, [], ◌∷◌, Bool, true, false, Option, ◌==◌, ◌&&◌, if◌then◌else◌, filter, find, map, option_map}
 use Rattle.std.specs.Bool.{nat_lt}
 use Rattle.std.specs.List.{list_any}
 use Rattle.std.specs.Ordering.{nat_cmp, ordering_then, is_lt}
@@ -8,6 +8,7 @@ use Rattle.std.specs.Str.{bytes_eq}
 use Rattle.hm_types.specs.declared.id.Obj.{Obj}
 use Rattle.hm_model.specs.declared.object.Object.{Object}
 use Rattle.hm_model.specs.declared.object.Triple.{Triple}
+use Rattle.hm_model.specs.declared.object.Content.{Content}
 use Rattle.hm_model.specs.declared.object.Kind.TheVariants.{Directory}
 use Rattle.hm_model.specs.declared.object.Content.TheVariants.{Nothing}
 
@@ -62,3 +63,58 @@ with_object tree directory name object = record {
       (record { directory = directory; name = name; object = object.number })
       tree.triples;
 }
+
+-- the object with this number, if the tree has it
+abbrev pub object_in : FileTree → Obj → Option Object
+object_in tree number = find (λ o. o.number.0 == number.0) tree.objects
+
+-- the number of the object that a directory has under a name
+abbrev pub named_in : FileTree → Obj → List ℕ → Option Obj
+named_in tree directory name = option_map (λ t. t.object) (find (is_named directory name) tree.triples)
+
+-- the entries of a directory
+abbrev pub entries_in : FileTree → Obj → List Triple
+entries_in tree directory = filter (λ t. t.directory.0 == directory.0) tree.triples
+
+-- those elements of a list that fail a test
+abbrev pub without : {X : Type 0} → (X → Bool) → List X → List X
+without test xs = filter (λ x. if test x then false else true) xs
+
+-- the tree with one entry more
+abbrev pub with_name : FileTree → Obj → List ℕ → Obj → FileTree
+with_name tree directory name object = record tree {
+  triples = insert_by is_triple_before
+      (record { directory = directory; name = name; object = object })
+      tree.triples;
+}
+
+-- the tree without this entry
+abbrev pub without_name : FileTree → Obj → List ℕ → FileTree
+without_name tree directory name = record tree { triples = without (is_named directory name) tree.triples }
+
+-- the tree without the object with this number
+abbrev pub without_object : FileTree → Obj → FileTree
+without_object tree number = record tree { objects = without (λ o. o.number.0 == number.0) tree.objects }
+
+-- the tree with a change of the object with this number
+abbrev pub with_change : FileTree → Obj → (Object → Object) → FileTree
+with_change tree number change =
+    record tree { objects = map (λ o. if o.number.0 == number.0 then change o else o) tree.objects }
+
+-- an object with so many links
+abbrev pub with_links : ℕ → Object → Object
+with_links links object = record object { links = links }
+
+-- an object that holds something else
+abbrev pub holding : Content → Object → Object
+holding content object = record object { content = content }
+
+-- the tree in which a link less leads to an object; with the last one the object is gone
+abbrev pub without_link : FileTree → Object → FileTree
+without_link tree object =
+    if nat_lt 1 object.links then with_change tree object.number (with_links (object.links - 1))
+    else without_object tree object.number
+
+-- an entry is removed, as `rm` does it: its object has a link less
+abbrev pub without_entry : FileTree → Obj → List ℕ → Object → FileTree
+without_entry tree directory name object = without_link (without_name tree directory name) object

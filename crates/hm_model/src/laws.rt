@@ -1,12 +1,28 @@
-// What follows from the definitions alone: each function states one law, and does nothing.
-ghost use Rattle.std.specs.Prelude.{List};
-ghost use Rattle.hm_model.specs.declared.entry.Entry.{Entry};
-ghost use Rattle.hm_model.specs.History.{IsHistory};
-ghost use Rattle.hm_model.specs.Legal.{IsLegal};
-ghost use Rattle.hm_model.specs.Volume.{Volume};
+//! What follows from the definitions alone: each function states one law, and does nothing.
 
-/// The ids of a legal history rise strictly, whatever volume it began on.
-pub fn legal_ids_rise()
-    ensures { (opening : Volume) (history : List Entry) →
-        IsLegal opening history → IsHistory history }
-{}
+mod calls;
+mod histories;
+mod masters;
+mod passes;
+mod refusals;
+mod retentions;
+mod served;
+mod slaves;
+mod walks;
+
+pub use calls::{calls_change_one_pfs, calls_leave_the_past, new_numbers_are_unused};
+pub use histories::{after_goes_on, beginnings_are_legal, legal_goes_on, legal_ids_rise};
+pub use masters::{
+    masters_have_what_was_done, masters_stay_masters, only_passes_and_upgrades_rewrite,
+};
+pub use passes::{
+    copies_bring_the_masters_trees, passes_keep_what_was_shown, passes_set_the_sync_end,
+    streams_bring_their_masters_trees,
+};
+pub use refusals::{
+    checks_give_refusals, refused_calls_change_nothing, refused_endings_keep_all_but_sources,
+};
+pub use retentions::{cuts_keep_what_is_listed, joins_keep_both, walks_find_what_is_kept};
+pub use served::served_ids_rise;
+pub use slaves::slaves_show_their_masters_trees;
+pub use walks::{ids_come_before_names, no_part_goes_nowhere};

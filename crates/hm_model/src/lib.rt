@@ -1,23 +1,46 @@
 //! What hammer means: commands, replies and the history that they make, on plain trees.
 //!
 //! The definitions of `specs/` say it: no node, page, freemap entry or flush stands in them. `apply`
-//! is a plain slow program that computes them, which tests compare the real one with.
+//! and `look` are a plain slow program that computes them, which tests compare the real one with.
 #![tactic(auto)]
 
+mod answer;
+mod checks;
 mod command;
+mod edit;
 mod entry;
+mod file_bytes;
+mod hash;
 mod laws;
+mod line;
 mod object;
+mod paths;
+mod place;
 mod plain;
+mod print;
+mod read;
 mod reply;
+mod stop;
 #[cfg(test)]
 mod tests;
 mod tree;
+mod tree_edit;
+mod walk;
 
 pub use command::Command;
 pub use entry::Entry;
-pub use laws::legal_ids_rise;
+pub use laws::{
+    after_goes_on, beginnings_are_legal, calls_change_one_pfs, calls_leave_the_past,
+    checks_give_refusals, copies_bring_the_masters_trees, cuts_keep_what_is_listed,
+    ids_come_before_names, joins_keep_both, legal_goes_on, legal_ids_rise,
+    masters_have_what_was_done, masters_stay_masters, new_numbers_are_unused, no_part_goes_nowhere,
+    only_passes_and_upgrades_rewrite, passes_keep_what_was_shown, passes_set_the_sync_end,
+    refused_calls_change_nothing, refused_endings_keep_all_but_sources, served_ids_rise,
+    slaves_show_their_masters_trees, streams_bring_their_masters_trees, walks_find_what_is_kept,
+};
+pub use line::Line;
 pub use object::{Content, Kind, Object, Triple};
-pub use plain::apply;
+pub use plain::{apply, look};
+pub use print::push_answer;
 pub use reply::Reply;
 pub use tree::Tree;

@@ -3,7 +3,7 @@ ghost use Rattle.std.specs.Prelude.{◌≡◌};
 ghost use Rattle.hm_model.specs.Tree.{directory_of};
 
 use crate::object::{Content, Kind, Object, Triple};
-use hm_types::{NoMemory, Obj};
+use hm_types::{Name, NoMemory, Obj};
 use std::alloc::Global;
 use std::marker::Model;
 
@@ -24,8 +24,10 @@ impl Model for Tree {
 }
 
 impl Tree {
-    ghost use Rattle.std.specs.Prelude.{◌≡◌, IfOk};
-    ghost use Rattle.hm_model.specs.Tree.{root_tree};
+    ghost use Rattle.std.specs.Prelude.{◌≡◌, IfOk, false, length};
+    ghost use Rattle.std.specs.Option.{option_copied, option_map_or};
+    ghost use Rattle.hm_model.specs.Tree.{root_tree, object_in, named_in, entries_in};
+    ghost use Rattle.hm_model.specs.Walk.{is_directory};
 
     /// The tree of a new volume: the root directory, with no entry.
     pub fn root(alloc: Global) -> Result<Tree, NoMemory>
@@ -37,6 +39,43 @@ impl Tree {
             objects,
             triples: Vec::new(alloc),
         })
+    }
+
+    /// The object with this number, if the tree has it.
+    pub(crate) fn object(&self, number: Obj) -> Option<&Object>
+        ensures { option_copied result ≡ object_in self.now number }
+    {
+        self.objects.iter().find(|o| o.number == number)
+    }
+
+    /// The number of the object that a directory has under a name.
+    pub(crate) fn named(&self, directory: Obj, name: &Name) -> Option<Obj>
+        ensures { result ≡ named_in self.now directory name.now }
+    {
+        self.triples
+            .iter()
+            .find(|t| t.directory == directory && t.name == *name)
+            .map(|t| t.object)
+    }
+
+    /// How many entries a directory has.
+    pub(crate) fn entry_count(&self, directory: Obj) -> usize
+        ensures { result ≡ length (entries_in self.now directory) }
+    {
+        self.triples
+            .iter()
+            .filter(|t| t.directory == directory)
+            .count()
+    }
+
+    /// Whether it has this object, and that is a directory.
+    pub(crate) fn is_directory(&self, number: Obj) -> bool
+        ensures { result ≡ option_map_or is_directory (object_in self.now number) false }
+    {
+        match self.object(number) {
+            Some(object) => object.kind == Kind::Directory,
+            None => false,
+        }
     }
 }
 

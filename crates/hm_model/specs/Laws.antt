@@ -1,0 +1,106 @@
+-- Words in which the laws of the definitions are said.
+use Rattle.std.specs.Prelude.{◌≡◌, ℕ, ◌≤◌, List, [], ◌∷◌, ◌++◌, Bool, true, false, Some, ◌==◌, ◌&&◌, filter}
+use Rattle.std.specs.Bool.{nat_le}
+use Rattle.std.specs.List.{AllByRecursion, list_any}
+use Rattle.std.specs.Option.{option_map_or}
+use Rattle.hm_types.specs.declared.id.Id.{Id}
+use Rattle.hm_types.specs.Intervals.{Keeps}
+use Rattle.hm_model.specs.declared.command.Command.{Command}
+use Rattle.hm_model.specs.declared.command.Command.TheVariants.{End, MirrorCopy, MirrorWrite, PfsMaster, PfsSlave, PfsUpgrade}
+use Rattle.hm_model.specs.declared.reply.Reply.TheVariants.{Passed}
+use Rattle.hm_model.specs.After.{Event, OpenCall, State, opened_with}
+use Rattle.hm_model.specs.Legal.{Setting, call_after, enters_unclear, state_after}
+use Rattle.hm_model.specs.Tree.{FileTree}
+use Rattle.hm_model.specs.Volume.{PseudoFileSystem, Master, Slave, Nowhere, Local, Volume, at, system_of}
+
+-- the same PFS, but for the source of its elements
+abbrev pub IsButOrigin : PseudoFileSystem → PseudoFileSystem → Type 0
+IsButOrigin old new = new ≡ record old { origin = new.origin }
+
+-- whether a call, once it is open, may rewrite the versions of its PFS at its end
+abbrev pub rewrites : Command → Bool
+rewrites (MirrorCopy master slave limit) = true
+rewrites (MirrorWrite path) = true
+rewrites (PfsUpgrade path) = true
+rewrites other = false
+
+-- whether an open call may rewrite the versions of this PFS
+abbrev pub is_rewriter : ℕ → OpenCall → Bool
+is_rewriter pfs o = (o.pfs == pfs) && rewrites o.command
+
+-- the retention of a PFS
+abbrev pub retention_of : Volume → ℕ → List (ℕ × ℕ)
+retention_of volume pfs = option_map_or (λ (s : PseudoFileSystem). s.retention) (system_of volume pfs) []
+
+-- no pass into the PFS is open, and no upgrade of it
+abbrev pub IsUnfed : State → ℕ → Type 0
+IsUnfed state pfs = list_any (is_rewriter pfs) state.opened ≡ false
+
+-- the versions of a PFS
+abbrev pub versions_of : Volume → ℕ → List (ℕ × FileTree)
+versions_of volume pfs = option_map_or (λ (s : PseudoFileSystem). s.versions) (system_of volume pfs) []
+
+-- whether a command makes a PFS
+abbrev pub adds_pfs : Command → Bool
+adds_pfs (PfsMaster path shared) = true
+adds_pfs (PfsSlave path shared) = true
+adds_pfs other = false
+
+-- a PFS is a master, with no pass into it open and no upgrade of it
+pub record IsSteadyMaster (state : State) (pfs : ℕ) : Type 0 where
+  pub system : PseudoFileSystem
+  pub found : system_of state.volume pfs ≡ Some system
+  pub master : system.role ≡ Master
+  pub unfed : IsUnfed state pfs
+
+-- it is one after each beginning of a history
+abbrev pub IsMasterThroughout : Setting → List Event → ℕ → Type 0
+IsMasterThroughout run events pfs =
+    (before rest : List Event) → events ≡ before ++ rest → IsSteadyMaster (state_after run before) pfs
+
+-- no walk of a history enters a PFS whose trees are not certain
+abbrev pub AreClear : Setting → List Event → Type 0
+AreClear run events =
+    (before : List Event) (event : Event) (rest : List Event) → events ≡ before ++ event ∷ rest →
+    enters_unclear (call_after run before event) ≡ false
+
+-- the events with ids up to one
+abbrev pub events_to : ℕ → List Event → List Event
+events_to id events = filter (λ (e : Event). nat_le e.entry.id.0 id) events
+
+-- these versions begin by an id
+abbrev pub BeginBy : ℕ → List (ℕ × FileTree) → Type 0
+BeginBy id versions = AllByRecursion (λ (v : ℕ × FileTree). v.0 ≤ id) versions
+
+-- whether a call merges a master's elements into a slave
+abbrev pub merges : Command → Bool
+merges (MirrorCopy master slave limit) = true
+merges (MirrorWrite path) = true
+merges other = false
+
+-- an event is the ending of this open call, a pass into a slave, which came to its end with these ids
+pub record EndsPass (state : State) (event : Event) (o : OpenCall) (begin end : Id) : Type 0 where
+  pub opening : Id
+  pub call : event.entry.call ≡ End opening
+  pub reply : event.entry.reply ≡ Passed begin end
+  pub found : opened_with opening.0 state.opened ≡ Some o
+  pub pass : merges o.command ≡ true
+
+-- the first ids of versions do not fall, from one on
+abbrev pub RiseFrom : ℕ → List (ℕ × FileTree) → Type 0
+RiseFrom least [] = Unit {0}
+RiseFrom least (v ∷ vs) = (least ≤ v.0) × RiseFrom v.0 vs
+
+abbrev pub AreRising : List (ℕ × FileTree) → Type 0
+AreRising versions = RiseFrom 0 versions
+
+-- A slave shows its master's trees. Where that master of this volume is its only source, it has as of each
+-- id up to its sync end that both keep what the master has. As long as it has no source, it keeps no id.
+-- Its sync end was drawn.
+pub record FollowsMaster (volume : Volume) (slave master : ℕ) : Type 0 where
+  pub own : PseudoFileSystem
+  pub found : system_of volume slave ≡ Some own
+  pub drawn : own.sync_end ≤ volume.last
+  pub empty : own.role ≡ Slave → own.origin ≡ Nowhere → (id : ℕ) → Keeps own.retention id → ⊥
+  pub same : own.role ≡ Slave → own.origin ≡ Local master → (id : ℕ) → id ≤ own.sync_end →
+      Keeps own.retention id → Keeps (retention_of volume master) id → at volume slave id ≡ at volume master id
