@@ -1,0 +1,9 @@
+pub mod LineLemmas
+pub mod NumberLemmas
+pub mod FormLemmas
+pub mod WordLemmas
+pub mod TextLemmas
+pub mod BlockLemmas
+pub mod ReadingLemmas
+pub mod OneLemmas
+pub mod ScriptLemmas

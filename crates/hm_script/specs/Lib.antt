@@ -1,0 +1,7 @@
+pub mod Values
+pub mod Texts
+pub mod Lanes
+pub mod PathForms
+pub mod Commands
+pub mod Gathering
+pub mod Reading
