@@ -7,9 +7,9 @@ use Rattle.hm_model.specs.declared.reply.Reply.{Reply}
 use Rattle.hm_model.specs.declared.reply.Reply.TheVariants.{Done, Exists, NoMemory}
 use Rattle.hm_model.specs.Tree.{FileTree, no_tree}
 use Rattle.hm_model.specs.Volume.{Volume, as_of, shown, new_master}
-use Rattle.hm_model.specs.Change.{changed}
-use Rattle.hm_model.specs.After.{after, after_entry}
-use Rattle.hm_model.specs.Legal.{IsAllowed, MayFollow}
+use Rattle.hm_model.specs.Served.Change.{changed}
+use Rattle.hm_model.specs.Served.After.{after, after_entry}
+use Rattle.hm_model.specs.Served.Legal.{IsAllowed, MayFollow}
 use Rattle.hm_model.proofs.VersionLemmas.{as_of-push, as_of-later, by_later, by_push}
 use Rattle.hm_core.specs.Names.{Entries, triples_of, Makes, Serves}
 use Rattle.hm_core.specs.Inside.{Shows}
@@ -45,6 +45,7 @@ mkdir_is_due : (volume : Volume) (old new : Entries) (path : List ℕ) (reply : 
 mkdir_is_due volume old new path Done shows makes = inl (rw (names_are volume old shows, makes.0) refl)
 mkdir_is_due volume old new path Exists shows makes = inl (rw (names_are volume old shows, makes.0) refl)
 mkdir_is_due volume old new path NoMemory shows makes = inr refl
+mkdir_is_due volume old new path other shows makes = absurd makes
 
 mkdir_shows : (volume : Volume) (old new : Entries) (lane line : ℕ) (path : List ℕ) (reply : Reply) → Shows volume old → Makes old new path (volume.last + 1) reply → Shows (after_entry volume (entry_of (volume.last + 1) lane line (Mkdir path) reply)) new
 mkdir_shows volume old new lane line path Done shows makes =
@@ -58,14 +59,17 @@ mkdir_shows volume old new lane line path Done shows makes =
     }
 mkdir_shows volume old new lane line path Exists shows makes = rw makes.1 (Shows-refused volume old (volume.last + 1) (omega arith) shows)
 mkdir_shows volume old new lane line path NoMemory shows makes = rw makes (Shows-refused volume old (volume.last + 1) (omega arith) shows)
+mkdir_shows volume old new lane line path other shows makes = absurd makes
 
 -- the reply of a step is one that its call may have
 pub IsAllowed-step : (volume : Volume) (old new : Entries) (command : Command) (id : ℕ) (reply : Reply) → Shows volume old → id ≡ volume.last + 1 → Serves old new command id reply → IsAllowed volume command reply
 IsAllowed-step volume old new (Mkdir path) id reply shows next serves = mkdir_is_due volume old new path reply shows (rw (← next) serves)
+IsAllowed-step volume old new other id reply shows next serves = absurd serves
 
 -- after a step the volume shows the new names
 pub Shows-step : (volume : Volume) (old new : Entries) (id lane line : ℕ) (command : Command) (reply : Reply) → Shows volume old → id ≡ volume.last + 1 → Serves old new command id reply → Shows (after_entry volume (entry_of id lane line command reply)) new
 Shows-step volume old new id lane line (Mkdir path) reply shows next serves = rw next (mkdir_shows volume old new lane line path reply shows (rw (← next) serves))
+Shows-step volume old new id lane line other reply shows next serves = absurd serves
 
 -- the entry of a step may follow the history
 pub MayFollow-step : (opening : Volume) (history : List Entry) (old new : Entries) (last lane line : ℕ) (command : Command) (reply : Reply) → Shows (after opening history) old → (after opening history).last ≡ last → Serves old new command (last + 1) reply → MayFollow opening history (entry_of (last + 1) lane line command reply)

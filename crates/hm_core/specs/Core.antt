@@ -3,7 +3,7 @@ use Rattle.std.specs.Prelude.{◌≡◌, ℕ, ◌+◌, ◌≤◌, [], ◌∷◌,
 use Rattle.hm_model.specs.declared.command.Command.{Command}
 use Rattle.hm_model.specs.declared.entry.Entry.{Entry}
 use Rattle.hm_model.specs.Volume.{fresh}
-use Rattle.hm_model.specs.Legal.{MayFollow}
+use Rattle.hm_model.specs.Served.Legal.{MayFollow}
 use Rattle.hm_core.specs.State.{CoreState}
 
 -- the history gained the entry of this call, which may follow what it had, and at most one place of

@@ -3,8 +3,8 @@ use Rattle.std.specs.Prelude.{◌≡◌, ℕ, ◌≤◌, ◌+◌, List, [], ◌�
 use Rattle.std.specs.List.{AllByRecursion}
 use Rattle.hm_model.specs.Tree.{FileTree, no_tree}
 use Rattle.hm_model.specs.Volume.{Volume, new_master, fresh, as_of}
-use Rattle.hm_model.specs.After.{after}
-use Rattle.hm_model.specs.Legal.{IsLegal}
+use Rattle.hm_model.specs.Served.After.{after}
+use Rattle.hm_model.specs.Served.Legal.{IsLegal}
 use Rattle.hm_core.specs.Names.{Entries, triples_of}
 use Rattle.hm_core.specs.declared.volume.Core.TheInside.{Inside}
 

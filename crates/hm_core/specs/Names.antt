@@ -35,7 +35,9 @@ Makes old new path id Done =
     × (triples_of new ≡ insert_by is_triple_before (made_triple path id) (triples_of old))
 Makes old new path id Exists = (is_taken path old ≡ true) × (new ≡ old)
 Makes old new path id NoMemory = new ≡ old
+Makes old new path id other = ⊥
 
 -- what a command with this id does to the entries, by its reply
 abbrev pub Serves : Entries → Entries → Command → ℕ → Reply → Type 0
 Serves old new (Mkdir path) id reply = Makes old new path id reply
+Serves old new other id reply = ⊥

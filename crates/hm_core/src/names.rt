@@ -1,7 +1,7 @@
 // The names of the root directory, each with its object.
 ghost use Rattle.std.specs.Prelude.{◌≡◌, IfOk, OnErr, drop};
-ghost use Rattle.hm_model.specs.Walk.{IsRootPath};
-ghost use Rattle.hm_model.specs.Due.{IsInRange};
+ghost use Rattle.hm_model.specs.Served.Walk.{IsRootPath};
+ghost use Rattle.hm_model.specs.Served.Due.{IsServed};
 ghost use Rattle.hm_core.specs.Names.{Makes, Serves};
 
 use hm_model::{Command, Reply};
@@ -13,11 +13,12 @@ pub(crate) type Names = BTreeMap<Name, Obj>;
 
 /// Answers a command that draws this id. A refusal leaves the names as they are.
 pub(crate) fn answer(alloc: Global, names: &mut Names, command: &Command, id: Id) -> Reply
-    requires { IsInRange command.now }
+    requires { IsServed command.now }
     ensures { Serves names.old.entries names.new.entries command.now id.0 result }
 {
     match command {
         Command::Mkdir { path } => mkdir(alloc, names, path, id),
+        _ => unreachable!(),
     }
 }
 

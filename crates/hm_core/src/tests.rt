@@ -1,6 +1,6 @@
 // A core against the plain program, and against replies that were written out by hand.
 ghost use Rattle.std.specs.Prelude.{IfOk};
-ghost use Rattle.hm_model.specs.Due.{IsInRange};
+ghost use Rattle.hm_model.specs.Served.Due.{IsServed};
 
 use super::*;
 use hm_model::{Command, Entry, Reply, Tree, apply};
@@ -11,7 +11,7 @@ use std::test::Fail;
 
 // `mkdir` of this name under the root.
 fn mkdir(rt: &impl Abort, alloc: Global, name: &[u8]) -> Result<Command, NoMemory>
-    ensures { IfOk result IsInRange }
+    ensures { IfOk result IsServed }
 {
     assert!(rt; is_name(name));
     let mut path = vec![in alloc; b'/']?;
@@ -72,22 +72,25 @@ fn makes_a_name_once(rt: HostRuntime) -> Result<(), Fail> {
 
     let Step::Answered(place) = core.call(3, 7, since, mkdir(&rt, alloc, b"a")?);
     assert_eq!(rt; place, 0);
+    let want = Entry {
+        id: Id(2),
+        lane: 3,
+        line: 7,
+        call: mkdir(&rt, alloc, b"a")?,
+        reply: Reply::Done,
+    };
+    assert!(rt; *core.entry(place) == want);
+
     let Step::Answered(place) = core.call(8, 9, since, mkdir(&rt, alloc, b"a")?);
     assert_eq!(rt; place, 1);
+    let want = Entry {
+        id: Id(3),
+        lane: 8,
+        line: 9,
+        call: mkdir(&rt, alloc, b"a")?,
+        reply: Reply::Exists,
+    };
+    assert!(rt; *core.entry(place) == want);
     assert_eq!(rt; core.last(), Id(3));
-
-    for (place, id, lane, line, reply) in [
-        (0, Id(2), 3, 7, Reply::Done),
-        (1, Id(3), 8, 9, Reply::Exists),
-    ] {
-        let want = Entry {
-            id,
-            lane,
-            line,
-            call: mkdir(&rt, alloc, b"a")?,
-            reply,
-        };
-        assert!(rt; *core.entry(place) == want, "{place}");
-    }
     Ok(())
 }

@@ -1,9 +1,9 @@
 // One volume in use.
 ghost use Rattle.std.specs.Prelude.{◌≡◌, ◌≤◌, ◌<◌, Some, IsOk, OnOk, OnErr, [], length, slice_get};
 ghost use Rattle.hm_model.specs.Volume.{fresh};
-ghost use Rattle.hm_model.specs.After.{after};
-ghost use Rattle.hm_model.specs.Legal.{IsLegal};
-ghost use Rattle.hm_model.specs.Due.{IsInRange};
+ghost use Rattle.hm_model.specs.Served.After.{after};
+ghost use Rattle.hm_model.specs.Served.Legal.{IsLegal};
+ghost use Rattle.hm_model.specs.Served.Due.{IsServed};
 ghost use Rattle.hm_core.specs.Core.{Enters, KeepsAll};
 
 use crate::names::{Names, answer};
@@ -80,7 +80,7 @@ impl Core {
     pub fn call(&mut self, lane: u8, line: u32, since: Id, command: Command) -> Step
         requires room { 2 ≤ self.old.spare }
         requires since { since.0 ≤ (after (fresh self.old.bigblocks) self.old.history).last }
-        requires range { IsInRange command }
+        requires range { IsServed command }
         ensures place { result ≡ Step.Answered (length self.old.history) }
         ensures entered { Enters self.old self.new lane line command }
         ensures legal { IsLegal (fresh self.new.bigblocks) self.new.history }

@@ -3,7 +3,8 @@ use Rattle.std.proofs.Common.{◌≡◌, ℕ, ◌+◌, ◌<◌, List, [], ◌∷
 use Rattle.std.specs.Prelude.{All}
 use Rattle.std.proofs.lemmas.Bool.Decides.{nat_tests}
 use Rattle.std.proofs.lemmas.List.Elements.{All-append, All-cons, All-nil}
-use Rattle.hm_model.specs.Lines.{texts_of, IsLine, IsNoLine, IsFirstBad}
+use Rattle.hm_model.specs.Lines.{texts_of}
+use Rattle.hm_model.specs.Served.Lines.{IsLine, IsNoLine, IsFirstBad}
 use Rattle.hm_shell.specs.Checking.{Checked}
 
 -- nothing was checked yet

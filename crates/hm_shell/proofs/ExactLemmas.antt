@@ -3,7 +3,7 @@ use Rattle.std.proofs.Common.{◌≡◌, ℕ, ◌+◌, ◌<◌, ◌≤◌, List,
 use Rattle.std.specs.Prelude.{Contains, IfSome}
 use Rattle.hm_types.specs.declared.limits.TheConstants.{MOST_SCRIPT_BYTES}
 use Rattle.hm_pipe.specs.Pipe.{Gives, IsAtEnd}
-use Rattle.hm_model.specs.Lines.{Line, ReadsFrom, IsScript, IsLine, IsFirstBad}
+use Rattle.hm_model.specs.Served.Lines.{Line, ReadsFrom, IsScript, IsLine, IsFirstBad}
 use Rattle.hm_shell.specs.declared.stop.Stop.{Stop}
 use Rattle.hm_shell.specs.declared.stop.Stop.TheVariants.{Usage, ScriptFault, OutFault, NoMemory, BadLine, TooLong}
 use Rattle.hm_shell.specs.Stop.{status_of}

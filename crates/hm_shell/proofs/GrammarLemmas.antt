@@ -10,7 +10,8 @@ use Rattle.std.proofs.lemmas.Bool.Decides.{nat_tests, Decides-eqb}
 use Rattle.memchr.specs.Find.{Passes, NoneBefore, Nowhere, is_byte}
 use Rattle.hm_types.specs.Name.{IsName}
 use Rattle.hm_model.specs.declared.command.Command.TheVariants.{Mkdir}
-use Rattle.hm_model.specs.Lines.{line_feed, texts_of, IsLine, IsNoLine}
+use Rattle.hm_model.specs.Lines.{line_feed, texts_of}
+use Rattle.hm_model.specs.Served.Lines.{IsLine, IsNoLine}
 use Rattle.hm_model.proofs.LineLemmas.{texts_of-line, texts_of-last}
 
 is_feed : (x : ℕ) → is_byte line_feed x ≡ true → x ≡ line_feed
@@ -41,6 +42,7 @@ no_line text begins unnamed (Mkdir path) spells =
     let name : List ℕ = spells.in_range.0 in
     let rest : drop 7 text ≡ name = rw (spells.written, spells.in_range.2) refl in
     unnamed (rw rest spells.in_range.1)
+no_line text begins unnamed other spells = absurd spells.in_range
 
 -- what follows it is a name, or the text is no line
 line_from_name : (text : List ℕ) (b : Bool) → text ≡ mkdir_root ++ drop 7 text → IsTrue b ↔ IsName (drop 7 text) → MatchBool b (IsLine text) (IsNoLine text)

@@ -7,9 +7,10 @@ use Rattle.std.proofs.lemmas.List.Elements.{recursion_from_All}
 use Rattle.hm_pipe.specs.Pipe.{Gains}
 use Rattle.hm_pipe.proofs.PipeLemmas.{Rose-wider}
 use Rattle.hm_model.specs.Volume.{fresh}
-use Rattle.hm_model.specs.Lines.{Line, ReadsFrom, IsLine, texts_of}
-use Rattle.hm_model.specs.Legal.{IsLegal}
-use Rattle.hm_model.specs.Out.{Answers, line_of, out_text}
+use Rattle.hm_model.specs.Lines.{texts_of}
+use Rattle.hm_model.specs.Served.Lines.{Line, ReadsFrom, IsLine}
+use Rattle.hm_model.specs.Served.Legal.{IsLegal}
+use Rattle.hm_model.specs.Served.Out.{Answers, line_of, out_text}
 use Rattle.hm_model.proofs.OutLemmas.{Answers-in_order, out_text-in_order, out_text-parts}
 use Rattle.hm_core.specs.State.{CoreState}
 use Rattle.hm_shell.specs.declared.stop.Stop.{Stop}

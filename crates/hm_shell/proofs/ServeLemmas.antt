@@ -5,8 +5,9 @@ use Rattle.hm_pipe.specs.Pipe.{Gains}
 use Rattle.hm_pipe.proofs.PipeLemmas.{Gains-none, Gains-append}
 use Rattle.hm_model.specs.declared.entry.Entry.{Entry}
 use Rattle.hm_model.specs.Volume.{fresh}
-use Rattle.hm_model.specs.Lines.{Line, ReadsFrom, Spells, IsLine, texts_of}
-use Rattle.hm_model.specs.Out.{entry_text, line_of}
+use Rattle.hm_model.specs.Lines.{texts_of}
+use Rattle.hm_model.specs.Served.Lines.{Line, ReadsFrom, Spells, IsLine}
+use Rattle.hm_model.specs.Served.Out.{entry_text, line_of}
 use Rattle.hm_model.proofs.HistoryLemmas.{IsLegal-none}
 use Rattle.hm_core.specs.State.{CoreState}
 use Rattle.hm_shell.specs.declared.stop.Stop.{Stop}

@@ -1,6 +1,7 @@
 -- A script whose lines are checked from the front.
 use Rattle.std.specs.Prelude.{◌≡◌, ℕ, ◌+◌, ◌≤◌, List, ◌++◌, length, All}
-use Rattle.hm_model.specs.Lines.{texts_of, IsLine}
+use Rattle.hm_model.specs.Lines.{texts_of}
+use Rattle.hm_model.specs.Served.Lines.{IsLine}
 
 -- all lines before the rest are of the grammar, and so many
 pub record Checked (script rest : List ℕ) (count : ℕ) : Type 0 where

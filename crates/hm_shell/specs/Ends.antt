@@ -3,7 +3,7 @@ use Rattle.std.specs.Prelude.{◌≡◌, ◌⊎◌, ℕ, ◌<◌, ◌≤◌, Lis
 use Rattle.hm_types.specs.declared.limits.TheConstants.{MOST_SCRIPT_BYTES}
 use Rattle.hm_types.specs.Faults.{Rose}
 use Rattle.hm_pipe.specs.Pipe.{Gains}
-use Rattle.hm_model.specs.Lines.{Line, IsScript, IsFirstBad}
+use Rattle.hm_model.specs.Served.Lines.{Line, IsScript, IsFirstBad}
 use Rattle.hm_shell.specs.declared.stop.Stop.{Stop}
 use Rattle.hm_shell.specs.declared.stop.Stop.TheVariants.{Usage, ScriptFault, OutFault, NoMemory, BadLine, TooLong}
 use Rattle.hm_shell.specs.Words.{IsUsageFault}

@@ -4,9 +4,9 @@ use Rattle.hm_types.specs.Faults.{Rose}
 use Rattle.hm_pipe.specs.Pipe.{Gains}
 use Rattle.hm_model.specs.declared.entry.Entry.{Entry}
 use Rattle.hm_model.specs.Volume.{fresh}
-use Rattle.hm_model.specs.Legal.{IsLegal}
-use Rattle.hm_model.specs.Lines.{Line, IsScript, IsFirstBad}
-use Rattle.hm_model.specs.Out.{Answers, out_text}
+use Rattle.hm_model.specs.Served.Legal.{IsLegal}
+use Rattle.hm_model.specs.Served.Lines.{Line, IsScript, IsFirstBad}
+use Rattle.hm_model.specs.Served.Out.{Answers, out_text}
 use Rattle.hm_shell.specs.declared.stop.Stop.{Stop}
 use Rattle.hm_shell.specs.declared.stop.Stop.TheVariants.{Usage, ScriptFault, OutFault, NoMemory, BadLine, TooLong}
 use Rattle.hm_shell.specs.Words.{IsPlan}

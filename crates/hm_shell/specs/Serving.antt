@@ -5,9 +5,10 @@ use Rattle.hm_types.specs.Faults.{Rose}
 use Rattle.hm_pipe.specs.Pipe.{Gains}
 use Rattle.hm_model.specs.declared.entry.Entry.{Entry}
 use Rattle.hm_model.specs.Volume.{fresh}
-use Rattle.hm_model.specs.Legal.{IsLegal}
-use Rattle.hm_model.specs.Lines.{texts_of, IsLine, ReadsFrom, Spells}
-use Rattle.hm_model.specs.Out.{entry_text, line_of}
+use Rattle.hm_model.specs.Served.Legal.{IsLegal}
+use Rattle.hm_model.specs.Lines.{texts_of}
+use Rattle.hm_model.specs.Served.Lines.{IsLine, ReadsFrom, Spells}
+use Rattle.hm_model.specs.Served.Out.{entry_text, line_of}
 use Rattle.hm_core.specs.State.{CoreState}
 use Rattle.hm_shell.specs.declared.stop.Stop.{Stop}
 use Rattle.hm_shell.specs.declared.stop.Stop.TheVariants.{Usage, ScriptFault, OutFault, NoMemory, BadLine, TooLong}

@@ -1,7 +1,8 @@
 // The lines of a script: where each ends, and whether it is one of the grammar.
 ghost use Rattle.std.specs.Prelude.{◌≡◌, ◌<◌, ◌≤◌, ◌∷◌, IfErr, IfOk, MatchBool, All, length};
 ghost use Rattle.hm_types.specs.declared.limits.TheConstants.{MOST_SCRIPT_BYTES};
-ghost use Rattle.hm_model.specs.Lines.{texts_of, IsLine, IsNoLine, IsFirstBad, Spells};
+ghost use Rattle.hm_model.specs.Lines.{texts_of};
+ghost use Rattle.hm_model.specs.Served.Lines.{IsLine, IsNoLine, IsFirstBad, Spells};
 
 use hm_model::Command;
 use hm_types::{NoMemory, Text, is_name};

@@ -1,15 +1,15 @@
 // What a run prints.
-ghost use Rattle.std.specs.Prelude.{◌≡◌, ◌≤◌, [], IfErr, OnErr, OnOk};
+ghost use Rattle.std.specs.Prelude.{◌≡◌, ◌≤◌, [], IfErr, IfOk, OnErr, OnOk};
 ghost use Rattle.hm_types.specs.Faults.{Rose};
 ghost use Rattle.hm_pipe.specs.Pipe.{Gains};
-ghost use Rattle.hm_model.specs.Out.{entry_text};
+ghost use Rattle.hm_model.specs.Served.Out.{entry_text};
 ghost use Rattle.hm_shell.specs.Stop.{last_line};
 ghost use Rattle.hm_shell.specs.Printing.{Prints, IsCutShort, StoppedPrinting, joined};
 
 use crate::stop::Stop;
-use hm_model::Entry;
+use hm_model::{Entry, push_answer};
 use hm_pipe::Sink;
-use hm_types::Failed;
+use hm_types::{Failed, NoMemory};
 use std::alloc::Global;
 
 const USAGE: &[u8] =
@@ -21,13 +21,22 @@ pub(crate) fn print_entry<K: Sink>(alloc: Global, entry: &Entry, out: &mut K) ->
     ensures err { IfErr result (StoppedPrinting K.held K.faults (entry_text entry.now) out.old out.new) }
     ensures never_falls { K.faults out.old ≤ K.faults out.new }
 {
-    let id = entry.id;
-    let reply = entry.reply;
-    let line = format!(in alloc; "{id} {reply}\n")?;
-    match out.put(line.as_bytes()) {
+    let line = entry_line(alloc, entry)?;
+    match out.put(&line) {
         Ok(()) => Ok(()),
         Err(Failed) => Err(Stop::OutFault),
     }
+}
+
+fn entry_line(alloc: Global, entry: &Entry) -> Result<Vec<u8>, NoMemory>
+    ensures { IfOk result (λ line. line.items ≡ entry_text entry.now) }
+{
+    let id = entry.id;
+    let mut line = Vec::new(alloc);
+    line.extend_from_slice(format!(in alloc; "{id} ")?.as_bytes())?;
+    push_answer(alloc, &mut line, &entry.call, &entry.reply)?;
+    line.push(b'\n')?;
+    Ok(line)
 }
 
 /// Prints the last line of a run that stops, if it has one. It takes no memory, and a fault of the sink

@@ -4,8 +4,9 @@ ghost use Rattle.hm_types.specs.declared.limits.TheConstants.{MOST_SCRIPT_BYTES}
 ghost use Rattle.hm_types.specs.Faults.{Rose};
 ghost use Rattle.hm_pipe.specs.Pipe.{Gains};
 ghost use Rattle.hm_model.specs.declared.entry.Entry.{Entry};
-ghost use Rattle.hm_model.specs.Lines.{texts_of, IsLine};
-ghost use Rattle.hm_model.specs.Out.{entry_text};
+ghost use Rattle.hm_model.specs.Lines.{texts_of};
+ghost use Rattle.hm_model.specs.Served.Lines.{IsLine};
+ghost use Rattle.hm_model.specs.Served.Out.{entry_text};
 ghost use Rattle.hm_shell.specs.Serving.{Served, ServedInPart, ServesLine, StoppedServing, IsOutCause, entry_texts};
 
 use crate::grammar::{command_of, split_line};

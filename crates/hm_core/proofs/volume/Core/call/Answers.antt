@@ -1,8 +1,8 @@
 use Rattle.std.proofs.Common.{◌≡◌, ◌+◌, refl, sym, ap, arith}
 use Rattle.hm_model.specs.declared.entry.Entry.{Entry}
 use Rattle.hm_model.specs.Volume.{Volume, fresh}
-use Rattle.hm_model.specs.After.{after, after_entry}
-use Rattle.hm_model.specs.Legal.{IsLegal, MayFollow}
+use Rattle.hm_model.specs.Served.After.{after, after_entry}
+use Rattle.hm_model.specs.Served.Legal.{IsLegal, MayFollow}
 use Rattle.hm_model.proofs.HistoryLemmas.{IsLegal-push, after-push}
 use Rattle.hm_core.proofs.StepLemmas.{entry_of, MayFollow-step, Shows-step}
 use Rattle.hm_core.proofs.volume.Core.call.Goals as goal
@@ -34,3 +34,15 @@ invariant_of-self c = record {
 
 pub returns-clause-legal : goal.returns-clause-legal
 returns-clause-legal c = legal c
+
+pub returns-clause-entered : goal.returns-clause-entered
+returns-clause-entered c = rw (← c.self.view_is) (record {
+  entry = made c;
+  history = c.push_reserved.ensures.items;
+  lane_is = refl;
+  line_is = refl;
+  call_is = refl;
+  follows = follows c;
+  size = refl;
+  spare = omega (arith, c.push_reserved.ensures.len, c.push_reserved.ensures.capacity);
+})
