@@ -67,30 +67,25 @@ fn makes_a_name_once(rt: HostRuntime) -> Result<(), Fail> {
     let alloc = rt.alloc();
     let mut core = Core::fresh(alloc, 24);
     core.reserve(3)?;
-    let since = core.last();
-    assert_eq!(rt; since, Id(1));
+    let first = core.call(0, 1, Id(1), mkdir(&rt, alloc, b"a")?);
+    assert_eq!(rt; first, Step::Answered(0));
+    let second = core.call(0, 2, Id(1), mkdir(&rt, alloc, b"a")?);
+    assert_eq!(rt; second, Step::Answered(1));
+    assert!(rt; core.entry(0).reply == Reply::Done);
+    assert!(rt; core.entry(1).reply == Reply::Exists);
+    Ok(())
+}
 
-    let Step::Answered(place) = core.call(3, 7, since, mkdir(&rt, alloc, b"a")?);
-    assert_eq!(rt; place, 0);
-    let want = Entry {
-        id: Id(2),
-        lane: 3,
-        line: 7,
-        call: mkdir(&rt, alloc, b"a")?,
-        reply: Reply::Done,
-    };
-    assert!(rt; *core.entry(place) == want);
-
-    let Step::Answered(place) = core.call(8, 9, since, mkdir(&rt, alloc, b"a")?);
-    assert_eq!(rt; place, 1);
-    let want = Entry {
-        id: Id(3),
-        lane: 8,
-        line: 9,
-        call: mkdir(&rt, alloc, b"a")?,
-        reply: Reply::Exists,
-    };
-    assert!(rt; *core.entry(place) == want);
-    assert_eq!(rt; core.last(), Id(3));
+#[test]
+fn enters_lane_line_and_id(rt: HostRuntime) -> Result<(), Fail> {
+    let alloc = rt.alloc();
+    let mut core = Core::fresh(alloc, 24);
+    core.reserve(2)?;
+    assert_eq!(rt; core.last(), Id(1));
+    core.call(3, 7, Id(1), mkdir(&rt, alloc, b"a")?);
+    assert_eq!(rt; core.last(), Id(2));
+    assert_eq!(rt; core.entry(0).id, Id(2));
+    assert_eq!(rt; core.entry(0).lane, 3);
+    assert_eq!(rt; core.entry(0).line, 7);
     Ok(())
 }
