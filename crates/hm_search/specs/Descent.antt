@@ -1,15 +1,26 @@
 -- Descents over any pages, sound or not: to which places one comes, and what it may tell there.
-use Rattle.std.specs.Prelude.{◌≡◌, ℕ, zero, suc, Option, Some, Result, IfSome, IfErr, slice_get, ⊤}
+use Rattle.std.specs.Prelude.{◌≡◌, ℕ, zero, suc, ◌+◌, Option, Some, None, Result, IfSome, IfErr, slice_get, ⊤}
 use Rattle.hm_types.specs.Faults.{HasFaultCause}
 use Rattle.hm_types.specs.declared.fault.Fault.{Fault}
 use Rattle.hm_types.specs.declared.fault.Fault.TheVariants.{Media, Damaged, NoMemory}
+use Rattle.hm_types.specs.declared.limits.TheConstants.{MOST_LEVELS}
 use Rattle.hm_fields.specs.Pages.{PageMap, page_in}
 use Rattle.hm_key.specs.Stores.{IsUndamaged}
 use Rattle.hm_node.specs.declared.inner.Inner.{Inner}
 use Rattle.hm_node.specs.declared.node.Node.TheVariants.{Inner as inner_node}
 use Rattle.hm_search.specs.Place.{SpellsHere, TellsDamage}
 use Rattle.hm_search.specs.Tree.{children_of, IsStoredTree}
+use Rattle.hm_search.specs.declared.subtree.Parent.{Parent}
 use Rattle.hm_search.specs.declared.subtree.Subtree.{Subtree}
+
+-- the level of a parent, and one more than the greatest where there is none
+abbrev pub levels_under : Option Parent → ℕ
+levels_under None = MOST_LEVELS + 1
+levels_under (Some parent) = parent.level
+
+-- how many levels may be from a place down: a measure of descents
+abbrev pub levels_below : Subtree → ℕ
+levels_below subtree = levels_under subtree.parent
 
 -- the page at the first place spells an inner node that is sound where it stands, and the second is the place
 -- of one of its children

@@ -1,6 +1,5 @@
 -- What a node must be where it stands: the rules that its own page does not tell.
-use Rattle.std.specs.Prelude.{◌≡◌, ◌⊎◌, ℕ, ◌+◌, ◌<◌, ◌≤◌, List, [], ◌∷◌, Option, None, Some, All, length, ⊤}
-use Rattle.arrayvec.specs.ArrayVec.{array_vec_len}
+use Rattle.std.specs.Prelude.{◌≡◌, ◌⊎◌, ℕ, ◌+◌, ◌<◌, ◌≤◌, List, [], ◌∷◌, Option, None, Some, All, ⊤}
 use Rattle.hm_types.specs.declared.fault.Fault.{Fault}
 use Rattle.hm_types.specs.declared.fault.Fault.TheVariants.{Media, Damaged, NoMemory}
 use Rattle.hm_types.specs.declared.limits.TheConstants.{LEAST_PLACES}
@@ -10,7 +9,7 @@ use Rattle.hm_key.specs.Elements.{element_key}
 use Rattle.hm_key.specs.declared.base.Base.{Base}
 use Rattle.hm_key.specs.declared.element.Element.{Element}
 use Rattle.hm_node.specs.Damage.{Keeps, number_of}
-use Rattle.hm_node.specs.Node.{node_in, level_of, IsNode, Spells}
+use Rattle.hm_node.specs.Node.{node_in, level_of, count_of, IsNode, Spells}
 use Rattle.hm_node.specs.declared.inner.Child.{Child}
 use Rattle.hm_node.specs.declared.inner.Inner.{Inner}
 use Rattle.hm_node.specs.declared.node.Node.{Node}
@@ -36,11 +35,15 @@ abbrev pub FitsLevel : Option Parent → Node → Type 0
 FitsLevel None node = ⊤
 FitsLevel (Some parent) node = level_of node + 1 ≡ parent.level
 
+-- how many elements or children a node below the root has at least
+abbrev pub least_count : Node → ℕ
+least_count (leaf_node leaf) = 1
+least_count (inner_node inner) = LEAST_PLACES
+
 -- below the root, a leaf has an element, and an inner node 16 children
 abbrev pub FitsCount : Option Parent → Node → Type 0
 FitsCount None node = ⊤
-FitsCount (Some parent) (leaf_node leaf) = 1 ≤ array_vec_len leaf.places
-FitsCount (Some parent) (inner_node inner) = LEAST_PLACES ≤ array_vec_len inner.places
+FitsCount (Some parent) node = least_count node ≤ count_of node
 
 -- the first of these children begins at a left boundary
 abbrev pub BeginsAt : Base → List Child → Type 0

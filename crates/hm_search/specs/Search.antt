@@ -28,6 +28,6 @@ pub record IsPlaceOf (map : PageMap) (height : ℕ) (subtree : Subtree) (key : K
   pub place : found.place ≡ leading key (elements_in map 0 (node_at map found.leaf))
 
 -- an end after the key that is not after a right boundary
-pub record IsEndBy (at : Key) (right : Base) (end : Base) : Type 0 where
-  pub end : IsEnd at end
+pub record IsEndBy (at : Key) (right end : Base) : Type 0 where
+  pub is_end : IsEnd at end
   pub within : IsFrom (key_of end) (key_of right)

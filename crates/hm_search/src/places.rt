@@ -8,16 +8,14 @@ ghost use Rattle.hm_search.specs.Search.{holder_place};
 
 use hm_key::Base;
 use hm_node::{Inner, Leaf};
-use std::cmp::Ordering;
 
 /// How many elements of a leaf stand before the key of `at`, by halving.
 pub fn leaf_place(leaf: &Leaf, at: &Base) -> usize
     requires { HasLeafOrder leaf.now }
     ensures { result ≡ leading (key_of at.now) leaf.now.places.items }
 {
-    leaf.places
-        .as_slice()
-        .partition_point(|e| e.base.order(at) == Ordering::Less)
+    let elements = leaf.places.as_slice();
+    elements.partition_point(|e| e.base.order(at).is_lt())
 }
 
 /// The place of the child whose boundaries hold the key of `at`, by halving. What is before all
@@ -26,9 +24,7 @@ pub fn child_place(inner: &Inner, at: &Base) -> usize
     requires { HasInnerOrder inner.now }
     ensures { result ≡ holder_place (key_of at.now) inner.now.places.items }
 {
-    inner
-        .places
-        .as_slice()
-        .partition_point(|c| c.left.order(at) != Ordering::Greater)
-        .saturating_sub(1)
+    let children = inner.places.as_slice();
+    let begun = children.partition_point(|c| !at.order(&c.left).is_lt());
+    begun.saturating_sub(1)
 }

@@ -1,17 +1,19 @@
 // Reads nodes, and checks them where they stand.
 ghost use Rattle.std.specs.Prelude.{◌≡◌, ℕ, Option, IfSome, IfOk, IfErr};
 ghost use Rattle.hm_types.specs.Faults.{HasFaultCause};
+ghost use Rattle.hm_types.specs.declared.fault.Fault.TheVariants.{Damaged};
 ghost use Rattle.hm_fields.specs.Pages.{page_in};
-ghost use Rattle.hm_key.specs.Stores.{IsUndamaged};
 ghost use Rattle.hm_node.specs.Node.{IsNode};
 ghost use Rattle.hm_search.specs.Descent.{Reads};
 ghost use Rattle.hm_search.specs.Place.{Fits, SpellsHere, TellsDamage};
 
-use crate::place_rule::PlaceRule;
 use crate::subtree::Subtree;
 use hm_fields::{Page, Pages};
 use hm_node::{Node, decode};
 use hm_types::{Counted, Fault};
+
+// Above the number of each rule.
+const ALL_RULES: u8 = 10;
 
 /// Reads a node and checks it where it stands: by the rules that it keeps by itself, and by those of
 /// its place. It is damaged where it breaks any of them: the fault tells the offset and the lowest
@@ -36,19 +38,28 @@ pub fn read_node<P: Pages>(pages: &mut P, subtree: &Subtree) -> Result<Node, Fau
 // The node in a page, if it is sound where it stands.
 fn decode_at(subtree: &Subtree, page: &Page) -> Result<Node, Fault>
     ensures ok { IfOk result (SpellsHere subtree.now page.now) }
-    ensures err { IfErr result (λ fault. TellsDamage subtree.now page.now fault) }
+    ensures err { IfErr result (TellsDamage subtree.now page.now) }
     ensures cause { (count : ℕ) → HasFaultCause count count result }
 {
-    let (rule, kind) = match decode(subtree.at, page) {
-        Ok(node) => match subtree.first_broken(page, 10) {
-            None => return Ok(node),
-            Some(rule) => (Some(rule), 10),
+    match decode(subtree.at, page) {
+        Ok(node) => match subtree.first_broken(page, ALL_RULES) {
+            None => Ok(node),
+            Some(rule) => Err(damage(subtree, rule.kind())),
         },
-        Err(Fault::Damaged { kind, .. }) => (subtree.first_broken(page, kind), kind),
-        Err(fault) => return Err(fault),
-    };
-    Err(Fault::Damaged {
+        Err(Fault::Damaged { kind, .. }) => match subtree.first_broken(page, kind) {
+            None => Err(damage(subtree, kind)),
+            Some(rule) => Err(damage(subtree, rule.kind())),
+        },
+        Err(fault) => Err(fault),
+    }
+}
+
+// Damage of the page at a place.
+fn damage(subtree: &Subtree, kind: u8) -> Fault
+    ensures { result ≡ Damaged subtree.now.at kind }
+{
+    Fault::Damaged {
         at: subtree.at,
-        kind: rule.map_or(kind, PlaceRule::kind),
-    })
+        kind,
+    }
 }

@@ -1,10 +1,11 @@
 // Searches from the root of the tree down.
-ghost use Rattle.std.specs.Prelude.{◌≡◌, ◌<◌, ℕ, None, Option, IfSome, IfOk, IfErr};
+ghost use Rattle.std.specs.Prelude.{◌≡◌, ◌≢◌, ◌<◌, ℕ, None, Some, Option, IfSome, IfOk, IfErr, slice_get};
 ghost use Rattle.hm_key.specs.Elements.{first_from};
 ghost use Rattle.hm_key.specs.Key.{key_of, greatest_key, IsBefore};
 ghost use Rattle.hm_key.specs.Stores.{IsFound, IsEnd, IsQuiet};
 ghost use Rattle.hm_node.specs.Inner.{IsBound};
 ghost use Rattle.hm_search.specs.Descent.{HasSearchCause, Reads};
+ghost use Rattle.hm_search.specs.Place.{mirror_of};
 ghost use Rattle.hm_search.specs.Search.{IsPlaceOf, IsEndBy};
 ghost use Rattle.hm_search.specs.Tree.{node_at, elements_in, elements_of, mark_in, mark_of, height_of, root_place, IsStoredTree, IsSoundTree};
 
@@ -112,17 +113,29 @@ fn first_below<P: Pages>(
         Node::Leaf(leaf) => Ok(leaf.places.get(leaf_place(&leaf, at)).copied()),
         Node::Inner(inner) => {
             let place = child_place(&inner, at);
-            let found = first_below(pages, &Subtree::child(&inner, place), at)?;
-            if found.is_some() || inner.places.len() <= place + 1 {
-                return Ok(found);
+            let child = Subtree::child(&inner, place);
+            if let Some(found) = first_below(pages, &child, at)? {
+                return Ok(Some(found));
             }
-            Ok(Some(first_of(pages, &Subtree::child(&inner, place + 1))?))
+            if inner.places.len() <= place + 1 {
+                return Ok(None);
+            }
+            let next = Subtree::child(&inner, place + 1);
+            Ok(Some(first_of(pages, &next)?))
         }
     }
 }
 
 // The first element below a place that is not the root's.
 fn first_of<P: Pages>(pages: &mut P, subtree: &Subtree) -> Result<Element, Fault>
+    requires below { subtree.now.parent ≢ None }
+    ensures ok { IfSome (P.pages pages.old) (λ map. (height : ℕ) →
+        IsStoredTree map height subtree.now → IfOk result (λ found.
+        slice_get (elements_in map height (node_at map subtree.now.at)) 0 ≡ Some found)) }
+    ensures found { IfOk result (IsFound (key_of subtree.now.left)) }
+    ensures same { Reads P.name P.pages pages.old pages.new }
+    ensures cause { HasSearchCause (P.pages pages.old) subtree.now
+        (P.faults pages.old) (P.faults pages.new) result }
 {
     match read_node(pages, subtree)? {
         Node::Leaf(leaf) => Ok(leaf.places[0]),
