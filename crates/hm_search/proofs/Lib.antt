@@ -1,5 +1,7 @@
 pub mod ChildLemmas
 pub mod ContentLemmas
+pub mod DamageLemmas
+pub mod DescentLemmas
 pub mod FrameLemmas
 pub mod ListLemmas
 pub mod MarkLemmas
