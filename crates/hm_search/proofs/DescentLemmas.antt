@@ -39,17 +39,18 @@ child_lower s inner i child sound fits is = by_parent s.parent fits.level where
   by_parent (Some p) fits = omega (arith, child_parent inner i child is, fits)
 
 -- a child of an inner node in a sound tree is sound, and one level lower
-pub record IsStoredBelow (map : PageMap) (height : ℕ) (child : Subtree) : Type 0 where
+pub record IsStoredBelow (map : PageMap) (height : ℕ) (s : Subtree) (inner : Inner) (child : Subtree) : Type 0 where
   pub lower : ℕ
   pub is : height ≡ suc lower
+  pub tree : IsTree map (suc lower) s (inner_node inner)
   pub stored : IsStoredTree map lower child
 
 pub child_stored : (map : PageMap) (height : ℕ) (s : Subtree) (inner : Inner) (i : ℕ) (child : Subtree) → IsStoredTree map height s → node_at map s.at ≡ inner_node inner
-    → slice_get (children_of inner) i ≡ Some child → IsStoredBelow map height child
+    → slice_get (children_of inner) i ≡ Some child → IsStoredBelow map height s inner child
 child_stored map height s inner i child stored is at = by_height height (subst (λ (n : Node). IsTree map height s n) is stored.tree) where
-  by_height : (h : ℕ) → IsTree map h s (inner_node inner) → IsStoredBelow map h child
+  by_height : (h : ℕ) → IsTree map h s (inner_node inner) → IsStoredBelow map h s inner child
   by_height zero tree = absurd (omega (arith, tree.level, tree.sound.level.0))
-  by_height (suc h) tree = record { lower = h; is = refl; stored = each_get (IsStoredTree map h) (children_of inner) i child at tree.below }
+  by_height (suc h) tree = record { lower = h; is = refl; tree = tree; stored = each_get (IsStoredTree map h) (children_of inner) i child at tree.below }
 
 -- the places on the way
 pub leads : (map : PageMap) (s : Subtree) (inner : Inner) (i : ℕ) (child : Subtree) → SpellsHere s (page_in (map s.at)) (inner_node inner) → slice_get (children_of inner) i ≡ Some child → LeadsTo map s child

@@ -114,14 +114,14 @@ fn first_below<P: Pages>(
         Node::Inner(inner) => {
             let place = child_place(&inner, at);
             let child = Subtree::child(&inner, place);
-            if let Some(found) = first_below(pages, &child, at)? {
-                return Ok(Some(found));
+            match first_below(pages, &child, at)? {
+                Some(found) => Ok(Some(found)),
+                None if place + 1 < inner.places.len() => {
+                    let next = Subtree::child(&inner, place + 1);
+                    Ok(Some(first_of(pages, &next)?))
+                }
+                None => Ok(None),
             }
-            if inner.places.len() <= place + 1 {
-                return Ok(None);
-            }
-            let next = Subtree::child(&inner, place + 1);
-            Ok(Some(first_of(pages, &next)?))
         }
     }
 }
