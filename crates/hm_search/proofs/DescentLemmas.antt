@@ -1,0 +1,125 @@
+-- Descents: each step goes one level down, and damage is told only where one comes to.
+use Rattle.std.proofs.Common.{◌≡◌, ◌≢◌, ℕ, zero, suc, ◌+◌, ◌<◌, ◌≤◌, List, [], ◌∷◌, length, drop, refl, sym, ap, subst, ◌∙◌, arith}
+use Rattle.std.specs.Prelude.{Option, Some, None, Result, Ok, Err, IfSome, IfOk, IfErr, slice_get}
+use Rattle.std.specs.List.{AllByRecursion}
+use Rattle.std.proofs.lemmas.Result.{IfErr-weaker}
+use Rattle.hm_types.specs.Faults.{HasFaultCause, IsCaused}
+use Rattle.hm_types.specs.declared.fault.Fault.{Fault}
+use Rattle.hm_types.specs.declared.fault.Fault.TheVariants.{Media, Damaged, NoMemory}
+use Rattle.hm_types.specs.declared.limits.TheConstants.{MOST_LEVELS}
+use Rattle.hm_fields.specs.Pages.{PageMap, page_in}
+use Rattle.hm_key.specs.Stores.{IsUndamaged}
+use Rattle.hm_key.specs.declared.base.Base.{Base}
+use Rattle.hm_node.specs.Inner.{HasInnerLevel}
+use Rattle.hm_node.specs.Node.{IsNode, HasLevel, level_of}
+use Rattle.hm_node.specs.declared.inner.Child.{Child}
+use Rattle.hm_node.specs.declared.inner.Inner.{Inner}
+use Rattle.hm_node.specs.declared.node.Node.{Node}
+use Rattle.hm_node.specs.declared.node.Node.TheVariants.{Leaf, Inner as inner_node}
+use Rattle.hm_search.specs.Descent.{levels_under, levels_below, LeadsTo, Descends, IsFaultBelow, HasSearchCause}
+use Rattle.hm_search.specs.Place.{Fits, FitsLevel, SpellsHere, TellsDamage}
+use Rattle.hm_search.specs.Tree.{node_at, child_place, places_of, children_of, HasChildren, IsTree, IsStoredTree}
+use Rattle.hm_search.specs.declared.subtree.Parent.{Parent}
+use Rattle.hm_search.specs.declared.subtree.Subtree.{Subtree}
+use Rattle.hm_search.proofs.ChildLemmas.{place_is}
+use Rattle.hm_search.proofs.DamageLemmas.{stored_here, tells_undamaged, cause_since}
+use Rattle.hm_search.proofs.ListLemmas.{each_get}
+
+-- what an inner node says of the parent of its children
+pub child_parent : (inner : Inner) (i : ℕ) (child : Subtree) → slice_get (children_of inner) i ≡ Some child → levels_below child ≡ inner.level
+child_parent inner i child is =
+    let at = place_is inner.level inner.right inner.places.items i child is in
+    ap levels_below at.place
+
+-- a child has fewer levels below it
+pub child_lower : (s : Subtree) (inner : Inner) (i : ℕ) (child : Subtree) → IsNode (inner_node inner) → Fits s (inner_node inner) → slice_get (children_of inner) i ≡ Some child → levels_below child < levels_below s
+child_lower s inner i child sound fits is = by_parent s.parent fits.level where
+  by_parent : (p : Option Parent) → FitsLevel p (inner_node inner) → levels_below child < levels_under p
+  by_parent None fits = omega (arith, child_parent inner i child is, sound.level.1)
+  by_parent (Some p) fits = omega (arith, child_parent inner i child is, fits)
+
+-- a child of an inner node in a sound tree is sound, and one level lower
+pub record IsStoredBelow (map : PageMap) (height : ℕ) (s : Subtree) (inner : Inner) (child : Subtree) : Type 0 where
+  pub lower : ℕ
+  pub is : height ≡ suc lower
+  pub tree : IsTree map (suc lower) s (inner_node inner)
+  pub stored : IsStoredTree map lower child
+
+pub child_stored : (map : PageMap) (height : ℕ) (s : Subtree) (inner : Inner) (i : ℕ) (child : Subtree) → IsStoredTree map height s → node_at map s.at ≡ inner_node inner
+    → slice_get (children_of inner) i ≡ Some child → IsStoredBelow map height s inner child
+child_stored map height s inner i child stored is at = by_height height (subst (λ (n : Node). IsTree map height s n) is stored.tree) where
+  by_height : (h : ℕ) → IsTree map h s (inner_node inner) → IsStoredBelow map h s inner child
+  by_height zero tree = absurd (omega (arith, tree.level, tree.sound.level.0))
+  by_height (suc h) tree = record { lower = h; is = refl; tree = tree; stored = each_get (IsStoredTree map h) (children_of inner) i child at tree.below }
+
+-- the places on the way
+pub leads : (map : PageMap) (s : Subtree) (inner : Inner) (i : ℕ) (child : Subtree) → SpellsHere s (page_in (map s.at)) (inner_node inner) → slice_get (children_of inner) i ≡ Some child → LeadsTo map s child
+leads map s inner i child here at = (inner, here, i, at)
+
+-- a fault at the place itself, and one further down
+pub fault_here : (map : PageMap) (s : Subtree) (fault : Fault) → TellsDamage s (page_in (map s.at)) fault → IsFaultBelow map s fault
+fault_here map s (Media before after) tells = tt
+fault_here map s (Damaged at kind) tells = (0, s, refl, tells)
+fault_here map s NoMemory tells = tt
+
+pub fault_below : (map : PageMap) (s child : Subtree) (fault : Fault) → LeadsTo map s child → IsFaultBelow map child fault → IsFaultBelow map s fault
+fault_below map s child (Media before after) to below = tt
+fault_below map s child (Damaged at kind) to (steps, end, descends, tells) = (suc steps, end, (child, to, descends), tells)
+fault_below map s child NoMemory to below = tt
+
+-- descents in a sound tree come to sound trees alone
+pub descent_sound : (map : PageMap) (steps height : ℕ) (s end : Subtree) → IsStoredTree map height s → Descends map steps s end → (lower : ℕ) × IsStoredTree map lower end
+descent_sound map zero height s end stored is = (height, subst (IsStoredTree map height) is stored)
+descent_sound map (suc steps) height s end stored (next, (inner, here, i, at), descends) =
+    let below = child_stored map height s inner i next stored here.spelled.value at in
+    descent_sound map steps below.lower next end below.stored descends
+
+pub sound_undamaged : (map : PageMap) (height : ℕ) (s : Subtree) (fault : Fault) → IsStoredTree map height s → IsFaultBelow map s fault → IsUndamaged fault
+sound_undamaged map height s (Media before after) stored below = tt
+sound_undamaged map height s (Damaged at kind) stored (steps, end, descends, tells) =
+    let sound = descent_sound map steps height s end stored descends in
+    tells_undamaged end (page_in (map end.at)) (node_at map end.at) (Damaged at kind) (stored_here map sound.0 end sound.1) tells
+sound_undamaged map height s NoMemory stored below = tt
+
+-- the cause of each fault of a search
+pub search_cause : {T : Type 0} (told : Option PageMap) (s : Subtree) (old new : ℕ) (result : Result T Fault) → HasFaultCause old new result → IfSome told (λ map. IfErr result (IsFaultBelow map s)) → HasSearchCause told s old new result
+search_cause None s old new result counted damage = record { counted = counted; damage = tt; undamaged = tt }
+search_cause (Some map) s old new result counted damage = record {
+  counted = counted;
+  damage = damage;
+  undamaged = λ height stored. IfErr-weaker result (IsFaultBelow map s) IsUndamaged (λ fault below. sound_undamaged map height s fault stored below) damage;
+}
+
+-- a result that is no fault
+pub cause_ok : {T : Type 0} (told : Option PageMap) (s : Subtree) (old new : ℕ) (value : T) → old ≤ new → HasSearchCause told s old new (Ok value)
+cause_ok told s old new value low = search_cause told s old new (Ok value) (record { never_falls = low; caused = tt }) (if_told told) where
+  if_told : (o : Option PageMap) → IfSome o (λ map. Unit {0})
+  if_told None = tt
+  if_told (Some map) = tt
+
+-- a fault of the first node that is read
+pub cause_here : {T : Type 0} (told : Option PageMap) (s : Subtree) (old new : ℕ) (fault : Fault) → HasFaultCause {T = Node} old new (Err fault) → IfSome told (λ map. TellsDamage s (page_in (map s.at)) fault) → HasSearchCause {T = T} told s old new (Err fault)
+cause_here {T = T} told s old new fault counted damage = search_cause {T = T} told s old new (Err fault) (record { never_falls = counted.never_falls; caused = counted.caused }) (if_told told damage) where
+  if_told : (o : Option PageMap) → IfSome o (λ map. TellsDamage s (page_in (map s.at)) fault) → IfSome o (λ map. IsFaultBelow map s fault)
+  if_told None damage = tt
+  if_told (Some map) damage = fault_here map s fault damage
+
+-- a fault of a search that goes on at a child, after a node was read
+pub cause_below : {T : Type 0} (told now : Option PageMap) (s child : Subtree) (old mid new : ℕ) (result : Result T Fault) → now ≡ told → old ≤ mid → IfSome told (λ map. LeadsTo map s child)
+    → HasSearchCause now child mid new result → HasSearchCause told s old new result
+cause_below told now s child old mid new result same low to cause =
+    search_cause told s old new result (cause_since old mid new result low cause.counted)
+    (if_told told to (subst (λ (o : Option PageMap). IfSome o (λ map. IfErr result (IsFaultBelow map child))) same cause.damage)) where
+      if_told : (o : Option PageMap) → IfSome o (λ map. LeadsTo map s child) → IfSome o (λ map. IfErr result (IsFaultBelow map child)) → IfSome o (λ map. IfErr result (IsFaultBelow map s))
+      if_told None to damage = tt
+      if_told (Some map) to damage = IfErr-weaker result (IsFaultBelow map child) (IsFaultBelow map s) (λ fault below. fault_below map s child fault to below) damage
+
+-- the same fault as another result's
+pub cause_other : {T U : Type 0} (told : Option PageMap) (s : Subtree) (old new : ℕ) (fault : Fault) → HasSearchCause {T = T} told s old new (Err fault) → HasSearchCause {T = U} told s old new (Err fault)
+cause_other told s old new fault cause = record { counted = record { never_falls = cause.counted.never_falls; caused = cause.counted.caused }; damage = cause.damage; undamaged = cause.undamaged }
+
+-- the step to a child, where the pages are told
+pub leads_told : (told : Option PageMap) (s : Subtree) (node : Node) (inner : Inner) (i : ℕ) (child : Subtree) → IfSome told (λ map. SpellsHere s (page_in (map s.at)) node) → node ≡ inner_node inner
+    → slice_get (children_of inner) i ≡ Some child → IfSome told (λ map. LeadsTo map s child)
+leads_told None s node inner i child here is at = tt
+leads_told (Some map) s node inner i child here is at = leads map s inner i child (subst (λ (n : Node). SpellsHere s (page_in (map s.at)) n) is here) at

@@ -1,0 +1,12 @@
+pub mod ChildLemmas
+pub mod ContentLemmas
+pub mod DamageLemmas
+pub mod DescentLemmas
+pub mod FirstLemmas
+pub mod FrameLemmas
+pub mod ListLemmas
+pub mod MarkLemmas
+pub mod OrderLemmas
+pub mod PageLemmas
+pub mod ReachLemmas
+pub mod SearchLemmas

@@ -1,0 +1,210 @@
+// Where a node stands in the tree, and what that asks of its page.
+ghost use Rattle.std.specs.Prelude.{◌≡◌, ◌≤◌, ◌<◌, ◌+◌, ◌↔◌, ℕ, All, IfSome, IfNone, IsTrue, slice_get, drop, Some};
+ghost use Rattle.arrayvec.specs.ArrayVec.{array_vec_len};
+ghost use Rattle.hm_key.specs.Key.{key_of};
+ghost use Rattle.hm_key.specs.Elements.{element_key};
+ghost use Rattle.hm_node.specs.Base.{base_in};
+ghost use Rattle.hm_node.specs.Damage.{Keeps, number_of};
+ghost use Rattle.hm_node.specs.Head.{head_in};
+ghost use Rattle.hm_node.specs.Leaf.{elements_in};
+ghost use Rattle.hm_node.specs.Node.{node_in, SaysLevel, HasCount};
+ghost use Rattle.hm_node.specs.Places.{place as place_at};
+ghost use Rattle.hm_node.specs.declared.rule.Rule.{Rule as NodeRule};
+ghost use Rattle.hm_search.specs.Place.{FitsBy, FitsLevel, FitsCount, FitsBounds, FitsMirror, IsInside, place_number};
+ghost use Rattle.hm_search.specs.Tree.{root_place, children_of, next_left};
+
+use crate::place_rule::PlaceRule;
+use hm_fields::Page;
+use hm_key::Base;
+use hm_node::{Head, Inner, LEAF, place, read_base};
+use hm_types::{HOff, LEAST_PLACES};
+
+/// What a node's parent says of it.
+#[derive(Clone, Copy, Debug, PartialEq, Eq)]
+pub struct Parent {
+    /// The parent's level: one more than the node's.
+    pub level: u8,
+    /// The `mirror` that the parent has for the node.
+    pub mirror: u64,
+}
+
+/// A node as its parent names it: where its page stands, and what it has to be there.
+#[derive(Clone, Copy, Debug, PartialEq, Eq)]
+pub struct Subtree {
+    /// Where its page stands.
+    pub at: HOff,
+    /// The left boundary: nothing below the node is before it.
+    pub left: Base,
+    /// The right boundary: everything below the node is before it.
+    pub right: Base,
+    /// None for the root.
+    pub parent: Option<Parent>,
+}
+
+impl Subtree {
+    /// The whole tree, from its root on.
+    pub fn root(at: HOff) -> Subtree
+        ensures { result ≡ root_place at }
+    {
+        Subtree {
+            at,
+            left: Base::least(),
+            right: Base::greatest(),
+            parent: None,
+        }
+    }
+
+    /// What is below the child in a place of an inner node.
+    pub fn child(inner: &Inner, i: usize) -> Subtree
+        requires { i < array_vec_len inner.now.places }
+        ensures { slice_get (children_of inner.now) i ≡ Some result }
+    {
+        let child = &inner.places[i];
+        Subtree {
+            at: child.child,
+            left: child.left,
+            right: right_of(inner, i),
+            parent: Some(Parent {
+                level: inner.level,
+                mirror: child.mirror,
+            }),
+        }
+    }
+
+    // The first rule of this place that the node in a page breaks, of those with a number below
+    // `limit`, where the page keeps its own rules up to there.
+    pub(crate) fn first_broken(&self, page: &Page, limit: u8) -> Option<PlaceRule>
+        requires { (rule : NodeRule) → number_of rule < limit → Keeps page.now rule }
+        ensures low { IfSome result (λ rule. place_number rule < limit) }
+        ensures broken { IfSome result (λ rule. FitsBy self.now (node_in page.now) rule → ⊥) }
+        ensures kept { IfSome result (λ rule. (other : PlaceRule) →
+            place_number other < place_number rule → FitsBy self.now (node_in page.now) other) }
+        ensures none { IfNone result ((rule : PlaceRule) →
+            place_number rule < limit → FitsBy self.now (node_in page.now) rule) }
+    {
+        let head = Head::read(page);
+        if limit <= 1 {
+            return None;
+        }
+        if !self.fits_level(page, &head) {
+            return Some(PlaceRule::Level);
+        }
+        if limit <= 2 {
+            return None;
+        }
+        if !self.fits_count(page, &head) {
+            return Some(PlaceRule::Count);
+        }
+        if limit <= 4 {
+            return None;
+        }
+        if !self.fits_bounds(page, &head) {
+            return Some(PlaceRule::Bounds);
+        }
+        if limit <= 9 {
+            return None;
+        }
+        if !self.fits_mirror(page, &head) {
+            return Some(PlaceRule::Mirror);
+        }
+        None
+    }
+
+    // Whether the node's level is the parent's less 1.
+    fn fits_level(&self, page: &Page, head: &Head) -> bool
+        requires head { head.now ≡ head_in page.now }
+        requires says { SaysLevel page.now (node_in page.now) }
+        ensures { IsTrue result ↔ FitsLevel self.now.parent (node_in page.now) }
+    {
+        match self.parent {
+            None => true,
+            Some(parent) => u16::from(head.level) + 1 == u16::from(parent.level),
+        }
+    }
+
+    // Whether it has as many elements or children as its place asks for.
+    fn fits_count(&self, page: &Page, head: &Head) -> bool
+        requires { head.now ≡ head_in page.now }
+        ensures { IsTrue result ↔ FitsCount self.now.parent (node_in page.now) }
+    {
+        match self.parent {
+            None => true,
+            Some(_) if head.kind == LEAF => 1 <= head.count,
+            Some(_) => LEAST_PLACES <= usize::from(head.count),
+        }
+    }
+
+    // Whether it lies inside the boundaries.
+    fn fits_bounds(&self, page: &Page, head: &Head) -> bool
+        requires head { head.now ≡ head_in page.now }
+        requires count { HasCount (node_in page.now) }
+        ensures { IsTrue result ↔ FitsBounds self.now.left self.now.right (node_in page.now) }
+    {
+        let count = usize::from(head.count);
+        if head.kind == LEAF {
+            self.holds_all(page, count)
+        } else {
+            self.bounds_all(page, count)
+        }
+    }
+
+    // Whether the bases of so many elements lie inside the boundaries.
+    fn holds_all(&self, page: &Page, count: usize) -> bool
+        requires { count ≤ 63 }
+        ensures { IsTrue result ↔ All (λ e. IsInside self.now.left self.now.right (element_key e))
+            (elements_in page.now count) }
+    {
+        for i in 0..count {
+            if !self.holds(&read_base(page, place(i))) {
+                return false;
+            }
+        }
+        true
+    }
+
+    // Whether a base lies inside the boundaries.
+    fn holds(&self, base: &Base) -> bool
+        ensures { IsTrue result ↔ IsInside self.now.left self.now.right (key_of base.now) }
+    {
+        !base.order(&self.left).is_lt() && base.order(&self.right).is_lt()
+    }
+
+    // Whether the first and the last boundary of so many children are these ones.
+    fn bounds_all(&self, page: &Page, count: usize) -> bool
+        requires { count ≤ 62 }
+        ensures { IsTrue result ↔ ((key_of (base_in page.now (place_at 0)) ≡ key_of self.now.left)
+            × (key_of (base_in page.now (place_at count)) ≡ key_of self.now.right)) }
+    {
+        is_at(&read_base(page, place(0)), &self.left)
+            && is_at(&read_base(page, place(count)), &self.right)
+    }
+
+    // Whether its `mirror` is the one that the parent has for it.
+    fn fits_mirror(&self, page: &Page, head: &Head) -> bool
+        requires { head.now ≡ head_in page.now }
+        ensures { IsTrue result ↔ FitsMirror self.now.parent (node_in page.now) }
+    {
+        match self.parent {
+            None => true,
+            Some(parent) => head.mirror == parent.mirror,
+        }
+    }
+}
+
+// The right boundary of a child: the left one of the next child, if there is one.
+fn right_of(inner: &Inner, i: usize) -> Base
+    requires { i < array_vec_len inner.now.places }
+    ensures { result ≡ next_left inner.now.right (drop (i + 1) inner.now.places.items) }
+{
+    match inner.places.get(i + 1) {
+        Some(next) => next.left,
+        None => inner.right,
+    }
+}
+
+// Whether two bases have one key.
+fn is_at(base: &Base, other: &Base) -> bool
+    ensures { IsTrue result ↔ (key_of base.now ≡ key_of other.now) }
+{
+    base.order(other).is_eq()
+}
