@@ -1,5 +1,5 @@
 -- What the calls of a store keep, and what they change. A store's members come as functions of it.
-use Rattle.std.specs.Prelude.{◌≡◌, ℕ, ◌<◌, ◌≤◌, List, Option, None, Some, Result, is_some, option_map, IfSome, IfErr, ⊤}
+use Rattle.std.specs.Prelude.{◌≡◌, ℕ, ◌<◌, ◌≤◌, List, Option, None, Some, Result, is_some, option_map, IfSome, OnOk, IfErr, ⊤}
 use Rattle.hm_types.specs.Elements.{Key}
 use Rattle.hm_types.specs.Faults.{HasFaultCause, HasSpaceCause}
 use Rattle.hm_types.specs.declared.fault.Fault.{Fault}
@@ -20,11 +20,12 @@ BothTell None (Some y) P = ⊥
 BothTell (Some x) None P = ⊥
 BothTell (Some x) (Some y) P = P x y
 
--- a call leaves which object this is, and whether it tells its elements and its extents
-pub record Keeps {S : Type 0} (name_of : S → ℕ) (elements_of : S → Option (List Element)) (extents_of : S → Option (List Extent)) (old new : S) : Type 0 where
+-- A call leaves which object this is. Where it succeeds, it leaves whether this tells its elements and its
+-- extents; after an error nothing is known of these, also not whether they are told.
+pub record Keeps {S A E : Type 0} (name_of : S → ℕ) (elements_of : S → Option (List Element)) (extents_of : S → Option (List Extent)) (old new : S) (result : Result A E) : Type 0 where
   pub name : name_of new ≡ name_of old
-  pub elements : is_some (elements_of new) ≡ is_some (elements_of old)
-  pub extents : is_some (extents_of new) ≡ is_some (extents_of old)
+  pub elements : OnOk result (is_some (elements_of new) ≡ is_some (elements_of old))
+  pub extents : OnOk result (is_some (extents_of new) ≡ is_some (extents_of old))
 
 -- a call leaves a store as it was
 pub record Same {S : Type 0} (name_of : S → ℕ) (elements_of : S → Option (List Element)) (mark_of : S → Key → ℕ) (extents_of : S → Option (List Extent)) (room_of : S → ℕ → ℕ) (free_of : S → ℕ) (old new : S) : Type 0 where

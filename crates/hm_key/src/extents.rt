@@ -13,7 +13,7 @@ use hm_types::{Fault, HOff, SpaceFault, Zones};
 /// A condition that speaks of the content binds only where the store tells it.
 ///
 /// The faults of its calls are those of an `ElementStore`. After an error that holds a fault, of a
-/// call other than `fetch`, nothing is known of the content but that it is told, or that it is not.
+/// call other than `fetch`, nothing is known of the content, also not whether it is told.
 pub trait Extents: HasElements {
     /// Lets each named zone have room of at least its reserve: 1,048,576 bytes in zone 8, and
     /// 131,072 bytes in the zones 9, 10 and 11. A zone that has less room takes one free big-block.
@@ -29,7 +29,7 @@ pub trait Extents: HasElements {
             Same Self.name Self.elements Self.mark Self.extents Self.room Self.free
             self.old self.new)) }
         ensures room { (zone : ℕ) → Self.room self.old zone ≤ Self.room self.new zone }
-        ensures keeps { Keeps Self.name Self.elements Self.extents self.old self.new }
+        ensures keeps { Keeps Self.name Self.elements Self.extents self.old self.new result }
         ensures cause { HasAdmitCause (Self.extents self.old)
             (Self.faults self.old) (Self.faults self.new) result };
 
@@ -57,7 +57,7 @@ pub trait Extents: HasElements {
             (Self.room self.new zone + rounded (length bytes.now) ≡ Self.room self.old zone) }
         ensures space { Spends Self.room Self.free (in_zone zone (rounded (length bytes.now)))
             self.old self.new }
-        ensures keeps { Keeps Self.name Self.elements Self.extents self.old self.new }
+        ensures keeps { Keeps Self.name Self.elements Self.extents self.old self.new result }
         ensures cause { HasStoreCause (Self.extents self.old)
             (Self.faults self.old) (Self.faults self.new) result };
 
@@ -68,7 +68,7 @@ pub trait Extents: HasElements {
             IsSomeAnd (extent_at at xs) (λ x. (x.len ≡ rounded len) × (x.refs < 64))) }
         ensures ok { OnOk result (ExtentsChange Self.elements Self.mark Self.extents
             (λ xs ys. ys ≡ shared_at at xs) self.old self.new) }
-        ensures keeps { Keeps Self.name Self.elements Self.extents self.old self.new }
+        ensures keeps { Keeps Self.name Self.elements Self.extents self.old self.new result }
         ensures space { Spends Self.room Self.free nothing self.old self.new }
         ensures cause { HasStoreCause (Self.extents self.old)
             (Self.faults self.old) (Self.faults self.new) result };
@@ -80,7 +80,7 @@ pub trait Extents: HasElements {
             IsSomeAnd (extent_at at xs) (λ x. x.len ≡ rounded len)) }
         ensures ok { OnOk result (ExtentsChange Self.elements Self.mark Self.extents
             (λ xs ys. ys ≡ given_back_at at xs) self.old self.new) }
-        ensures keeps { Keeps Self.name Self.elements Self.extents self.old self.new }
+        ensures keeps { Keeps Self.name Self.elements Self.extents self.old self.new result }
         ensures space { Spends Self.room Self.free nothing self.old self.new }
         ensures cause { HasStoreCause (Self.extents self.old)
             (Self.faults self.old) (Self.faults self.new) result };

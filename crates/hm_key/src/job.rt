@@ -38,7 +38,7 @@ pub trait Job<T: ElementStore + Extents> {
     ghost places: { Self → Bool };
 
     /// One unit of the work. After an error, which is one of the store's, the job is at the start
-    /// of that unit, and nothing is known of the store's content.
+    /// of that unit, and nothing is known of the store's content, also not whether it is told.
     fn unit(&mut self, store: &mut T) -> Result<Progress, Fault>
         requires fits { fits self.old store.old }
         ensures goes { IfOk result (IfMore (goes self.new store.new)) }
@@ -52,7 +52,7 @@ pub trait Job<T: ElementStore + Extents> {
             (Works (kept self.old) old))) }
         ensures marks { OnOk result (OnSome (T.elements store.old)
             ((key : Key) → T.mark store.old key ≤ T.mark store.new key)) }
-        ensures keeps { Keeps T.name T.elements T.extents store.old store.new }
+        ensures keeps { Keeps T.name T.elements T.extents store.old store.new result }
         ensures free { T.free store.old ≤ T.free store.new }
         ensures room { IsFalse (places self.old) →
             (zone : ℕ) → T.room store.old zone ≤ T.room store.new zone }

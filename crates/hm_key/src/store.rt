@@ -33,8 +33,9 @@ impl<T: HasElements> HasElements for &mut T {
 ///
 /// Each call can answer `Media` where the count of faults rose in it, `NoMemory` where an
 /// allocation was refused, and `Damaged` where the bytes that it read break their grammar, which is
-/// never where the content is told. After an error of a call that writes, nothing is known of the content but
-/// that it is told, or that it is not. A call that reads changes nothing, whatever it answers.
+/// never where the content is told. After an error of a call that writes, nothing is known of the
+/// content, also not whether it is told: a tree that was left in the middle of a change has no list
+/// to tell. A call that reads changes nothing, whatever it answers.
 pub trait ElementStore: HasElements {
     /// The first element at the key of `at` or after it, and None where no element is there.
     fn first_at_or_after(&mut self, at: &Base) -> Result<Option<Element>, Fault>
@@ -55,7 +56,7 @@ pub trait ElementStore: HasElements {
         requires room { INSERT_ROOM ≤ Self.room self.old TREE_ZONE }
         ensures ok { OnOk result (ElementsChange Self.elements Self.mark Self.extents
             (inserted e.now) (key_of e.now.base) (last_id e.now) self.old self.new) }
-        ensures keeps { Keeps Self.name Self.elements Self.extents self.old self.new }
+        ensures keeps { Keeps Self.name Self.elements Self.extents self.old self.new result }
         ensures space { Spends Self.room Self.free (in_zone TREE_ZONE INSERT_ROOM)
             self.old self.new }
         ensures cause { HasStoreCause (Self.elements self.old)
@@ -68,7 +69,7 @@ pub trait ElementStore: HasElements {
         requires later { (delete ≡ 0) ⊎ (at.now.create < delete) }
         ensures ok { OnOk result (ElementsChange Self.elements Self.mark Self.extents
             (with_delete (key_of at.now) delete) (key_of at.now) delete self.old self.new) }
-        ensures keeps { Keeps Self.name Self.elements Self.extents self.old self.new }
+        ensures keeps { Keeps Self.name Self.elements Self.extents self.old self.new result }
         ensures space { Spends Self.room Self.free nothing self.old self.new }
         ensures cause { HasStoreCause (Self.elements self.old)
             (Self.faults self.old) (Self.faults self.new) result };
@@ -79,7 +80,7 @@ pub trait ElementStore: HasElements {
             IsSome (element_at (key_of at.now) es)) }
         ensures ok { OnOk result (ElementsChange Self.elements Self.mark Self.extents
             (removed (key_of at.now)) (key_of at.now) 0 self.old self.new) }
-        ensures keeps { Keeps Self.name Self.elements Self.extents self.old self.new }
+        ensures keeps { Keeps Self.name Self.elements Self.extents self.old self.new result }
         ensures space { Spends Self.room Self.free nothing self.old self.new }
         ensures cause { HasStoreCause (Self.elements self.old)
             (Self.faults self.old) (Self.faults self.new) result };
@@ -90,7 +91,7 @@ pub trait ElementStore: HasElements {
             IsSome (element_at (key_of at.now) es)) }
         ensures ok { OnOk result (ElementsChange Self.elements Self.mark Self.extents
             (with_payload (key_of at.now) to) (key_of at.now) 0 self.old self.new) }
-        ensures keeps { Keeps Self.name Self.elements Self.extents self.old self.new }
+        ensures keeps { Keeps Self.name Self.elements Self.extents self.old self.new result }
         ensures space { Spends Self.room Self.free nothing self.old self.new }
         ensures cause { HasStoreCause (Self.elements self.old)
             (Self.faults self.old) (Self.faults self.new) result };

@@ -73,7 +73,7 @@ fn clear<T: ElementStore + Extents>(
         element_at (key_of element.now.base) es ≡ Some element.now) }
     ensures ok { OnOk result (Clears T.elements T.mark T.extents is_over element.now
         store.old store.new) }
-    ensures keeps { Keeps T.name T.elements T.extents store.old store.new }
+    ensures keeps { Keeps T.name T.elements T.extents store.old store.new result }
     ensures space { Spends T.room T.free nothing store.old store.new }
     ensures cause { HasStoreCause (content_of (T.elements store.old) (T.extents store.old))
         (T.faults store.old) (T.faults store.new) result }
