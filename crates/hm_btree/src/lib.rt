@@ -3,4 +3,9 @@
 
 mod inner_edit;
 mod leaf_edit;
+mod mem_space;
 mod places;
+mod space;
+
+pub use mem_space::MemSpace;
+pub use space::{NODE_BYTES, NodeSpace};

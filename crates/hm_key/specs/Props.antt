@@ -29,7 +29,7 @@ IsRecType-prop rec_type =
     (disjoint_prop (hlevel props) (hlevel props) (λ is other. omega arith)) (λ is other. omega arith)) (λ is other. omega arith))
     (λ is other. omega arith)) (λ is other. omega arith)
 
-IsElement-prop : (e : Element) → IsProp (IsElement e)
+pub IsElement-prop : (e : Element) → IsProp (IsElement e)
 IsElement-prop e = hlevel (closed_prop, IsRecType-prop, props)
 
 pub IsContent-prop : (es : List Element) → IsProp (IsContent es)

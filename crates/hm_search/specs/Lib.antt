@@ -1,0 +1,5 @@
+pub mod Descent
+pub mod Place
+pub mod Props
+pub mod Search
+pub mod Tree

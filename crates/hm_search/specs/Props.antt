@@ -1,0 +1,2 @@
+-- Facts of ghost fields have one proof at most.
+use Rattle.std.specs.Prelude.{ℕ}

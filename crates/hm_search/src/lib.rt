@@ -1,0 +1,15 @@
+//! The descent from the root of the B-tree: reads each node and checks it where it stands, and finds
+//! the place of a key.
+#![tactic(auto)]
+
+mod place_rule;
+mod places;
+mod read;
+mod search;
+mod subtree;
+
+pub use place_rule::PlaceRule;
+pub use places::{child_place, leaf_place};
+pub use read::read_node;
+pub use search::{Found, find, first_at_or_after, unchanged_until};
+pub use subtree::{Parent, Subtree};
