@@ -12,15 +12,9 @@ use Rattle.hm_node.specs.declared.node.Node.{Node}
 use Rattle.hm_node.specs.declared.node.Node.TheVariants.{Leaf, Inner as inner_node}
 use Rattle.hm_search.specs.Tree.{node_at, elements_in, mark_in, leaf_in, reaches, Reaches, holder, at_holder, starts_after, next_left, child_place, places_of, children_of, HasChildren, IsTreeWith, IsStoredWith, IsTree, IsStoredTree}
 use Rattle.hm_search.specs.declared.subtree.Subtree.{Subtree}
-use Rattle.hm_search.proofs.ReachLemmas.{is_under, or_left, or_right}
-
--- the new map is the old one at each offset that a node reaches
-pub record IsSameBelow (old new : PageMap) (height : ℕ) (node : Node) : Type 0 where
-  pub same : (x : ℕ) → Reaches old height node x → new x ≡ old x
-
--- the same of each offset under some children
-pub record IsSameUnder (old new : PageMap) (height : ℕ) (cs : List Child) : Type 0 where
-  pub same : (x : ℕ) → list_any (is_under old height x) cs ≡ true → new x ≡ old x
+pub use Rattle.hm_search.specs.Reach.{IsSameBelow, IsSameUnder}
+use Rattle.hm_search.specs.Reach.{is_under}
+use Rattle.hm_search.proofs.ReachLemmas.{or_left, or_right}
 
 module _ (old new : PageMap) (height : ℕ) where
   pub same_first : (c : Child) (cs : List Child) → IsSameUnder old new height (c ∷ cs) → new c.child ≡ old c.child

@@ -4,6 +4,7 @@ pub mod DamageLemmas
 pub mod DescentLemmas
 pub mod FirstLemmas
 pub mod FrameLemmas
+pub mod LawLemmas
 pub mod ListLemmas
 pub mod MarkLemmas
 pub mod OrderLemmas

@@ -19,6 +19,7 @@ use Rattle.hm_node.specs.declared.node.Node.{Node}
 use Rattle.hm_node.specs.declared.node.Node.TheVariants.{Leaf, Inner as inner_node}
 use Rattle.hm_search.specs.Place.{IsInside, BeginsAt, FitsCount, FitsBounds}
 use Rattle.hm_search.specs.Tree.{node_at, reaches, Reaches, next_left, child_place, places_of, children_of, HasChildren, IsTree, IsStoredTree}
+pub use Rattle.hm_search.specs.Reach.{is_under}
 use Rattle.hm_search.specs.declared.subtree.Parent.{Parent}
 use Rattle.hm_search.specs.declared.subtree.Subtree.{Subtree}
 use Rattle.hm_search.proofs.ChildLemmas.{bounds, next_by_right, from_next, later_sorted, begins_before}
@@ -44,20 +45,16 @@ fails true not = absurd (not refl)
 fails false not = refl
 
 module _ (map : PageMap) (height : ℕ) where
-  -- an offset is that of a child, or of a node below it
-  abbrev pub is_under : ℕ → Child → Bool
-  is_under x c = nat_eq c.child x || reaches map height (node_at map c.child) x
-
   -- the child under which an offset is, among some that all keep a fact
   pub record IsUnderOne (P : Subtree → Type 0) (x : ℕ) : Type 0 where
     pub place : Subtree
     pub fact : P place
     pub under : (place.at ≡ x) ⊎ Reaches map height (node_at map place.at) x
 
-  pub one_under : (P : Subtree → Type 0) (x level : ℕ) (right : Base) (cs : List Child) → AllByRecursion P (places_of level right cs) → list_any (is_under x) cs ≡ true → IsUnderOne P x
+  pub one_under : (P : Subtree → Type 0) (x level : ℕ) (right : Base) (cs : List Child) → AllByRecursion P (places_of level right cs) → list_any (is_under map height x) cs ≡ true → IsUnderOne P x
   one_under P x level right [] each is = absurd (true≢false (sym is))
   one_under P x level right (c ∷ cs) each is =
-      elim (either (is_under x c) (list_any (is_under x) cs) is) [
+      elim (either (is_under map height x c) (list_any (is_under map height x) cs) is) [
         | inl here ↦ record { place = child_place level (next_left right cs) c; fact = each.0; under = by_side (either (nat_eq c.child x) (reaches map height (node_at map c.child) x) here) }
         | inr later ↦ one_under P x level right cs each.1 later
       ] where

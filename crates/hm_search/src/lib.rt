@@ -2,12 +2,19 @@
 //! the place of a key.
 #![tactic(auto)]
 
+mod laws;
 mod place_rule;
 mod places;
 mod read;
 mod search;
 mod subtree;
+#[cfg(test)]
+mod tests;
 
+pub use laws::{
+    elements_are_in_order, marks_are_between_ids_and_mirror, nodes_below_are_lower,
+    what_is_not_reached_does_not_matter,
+};
 pub use place_rule::PlaceRule;
 pub use places::{child_place, leaf_place};
 pub use read::read_node;

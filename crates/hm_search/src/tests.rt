@@ -1,0 +1,286 @@
+// Searches in a tree of three levels that is written by hand, and what each damage below its root is
+// told as.
+ghost use Rattle.std.specs.Prelude.{◌≡◌, ◌<◌, ◌≤◌, ◌+◌, length};
+
+use crate::{Found, find, first_at_or_after, unchanged_until};
+use arrayvec::ArrayVec;
+use hm_fields::{MemPages, Page, Pages, put_u8, put_u64};
+use hm_key::{Base, DIRECTORY_ENTRY, ELEMENT, Element};
+use hm_node::{Child, Inner, Leaf, Node, encode};
+use hm_types::{Fault, HOff, Id, Obj};
+use std::alloc::Global;
+use std::test::Fail;
+
+// The page with this number.
+fn offset(number: u8) -> Result<HOff, Fail> {
+    Ok(HOff::make(8, u64::from(number) * 4_096).ok_or("no offset")?)
+}
+
+// An entry of a directory, open since id 3.
+fn entry(obj: u16) -> Element {
+    Element {
+        base: Base {
+            obj: Obj(u64::from(obj)),
+            key: 7,
+            create: 3,
+            delete: 0,
+            rec_type: DIRECTORY_ENTRY,
+            obj_type: 2,
+            btype: ELEMENT,
+            localization: 2,
+        },
+        payload: HOff::default(),
+        len: 9,
+    }
+}
+
+// The left boundary of leaf `number` of 32, and the right one of the leaf before it.
+fn boundary(number: u8) -> Base {
+    match number {
+        0 => Base::least(),
+        32 => Base::greatest(),
+        _ => entry(u16::from(number) * 10).base.boundary(),
+    }
+}
+
+// A leaf with entries of these directories.
+fn leaf_of(mirror: u8, objects: &[u16]) -> Result<Node, Fail> {
+    let mut places = ArrayVec::new();
+    for object in objects {
+        places.try_push(entry(*object)).ok().ok_or("no room")?;
+    }
+    Ok(Node::Leaf(Leaf {
+        mirror: u64::from(mirror),
+        places,
+    }))
+}
+
+// Leaf `number` of 32: it has two entries, its `mirror` is 10 and its number, and its page has that
+// number too.
+fn leaf(number: u8) -> Result<Node, Fail> {
+    let obj = u16::from(number) * 10;
+    leaf_of(number.saturating_add(10), &[obj + 3, obj + 6])
+}
+
+// An inner node above so many leaves, from one of them on.
+fn inner(level: u8, mirror: u8, first: u8, count: u8) -> Result<Node, Fail> {
+    let mut places = ArrayVec::new();
+    for i in 0..count {
+        let number = first.saturating_add(i);
+        let child = Child {
+            left: boundary(number),
+            child: offset(number.saturating_add(10))?,
+            mirror: u64::from(number.saturating_add(10)),
+        };
+        places.try_push(child).ok().ok_or("no room")?;
+    }
+    Ok(Node::Inner(Inner {
+        level,
+        mirror: u64::from(mirror),
+        places,
+        right: boundary(first.saturating_add(count)),
+    }))
+}
+
+// The root, at page 1, above two inner nodes at the pages 2 and 3.
+fn root() -> Result<Node, Fail> {
+    let mut places = ArrayVec::new();
+    places.push(Child {
+        left: boundary(0),
+        child: offset(2)?,
+        mirror: 25,
+    });
+    places.push(Child {
+        left: boundary(16),
+        child: offset(3)?,
+        mirror: 41,
+    });
+    Ok(Node::Inner(Inner {
+        level: 3,
+        mirror: 41,
+        places,
+        right: boundary(32),
+    }))
+}
+
+fn put(pages: &mut MemPages, number: u8, node: &Node) -> Result<(), Fail> {
+    let mut page = Page::zero();
+    encode(node, &mut page);
+    pages.change(offset(number)?, &page)?;
+    Ok(())
+}
+
+// The whole tree.
+fn tree(alloc: Global) -> Result<MemPages, Fail> {
+    let mut pages = MemPages::new(alloc);
+    put(&mut pages, 1, &root()?)?;
+    put(&mut pages, 2, &inner(2, 25, 0, 16)?)?;
+    put(&mut pages, 3, &inner(2, 41, 16, 16)?)?;
+    for number in 0u8..32 {
+        put(&mut pages, number.saturating_add(10), &leaf(number)?)?;
+    }
+    Ok(pages)
+}
+
+// The first entry from a directory on, by counting: those of leaf k are of 10 k + 3 and 10 k + 6.
+fn wanted_from(obj: u16) -> Option<u16> {
+    let next = match obj % 10 {
+        0..=3 => obj / 10 * 10 + 3,
+        4..=6 => obj / 10 * 10 + 6,
+        _ => obj / 10 * 10 + 13,
+    };
+    if next < 320 { Some(next) } else { None }
+}
+
+#[test]
+fn a_search_finds_the_first_element_from_each_key_on(rt: HostRuntime) -> Result<(), Fail> {
+    let mut pages = tree(rt.alloc())?;
+    for obj in 0u16..330 {
+        let found = first_at_or_after(&mut pages, offset(1)?, &entry(obj).base)?;
+        let wanted = wanted_from(obj).map(entry);
+        assert_eq!(rt; found, wanted, "{obj}");
+    }
+    let found = first_at_or_after(&mut pages, offset(1)?, &Base::least())?;
+    assert_eq!(rt; found, Some(entry(3)));
+    let found = first_at_or_after(&mut pages, offset(1)?, &Base::greatest())?;
+    assert_eq!(rt; found, None);
+    Ok(())
+}
+
+#[test]
+fn each_key_has_its_place(rt: HostRuntime) -> Result<(), Fail> {
+    let mut pages = tree(rt.alloc())?;
+    for number in 0u8..32 {
+        for (digit, place) in [(0, 0), (3, 0), (4, 1), (6, 1), (7, 2), (9, 2)] {
+            let at = entry(u16::from(number) * 10 + digit).base;
+            let leaf = offset(number.saturating_add(10))?;
+            assert_eq!(rt; find(&mut pages, offset(1)?, &at)?, Found { leaf, place });
+        }
+    }
+    Ok(())
+}
+
+#[test]
+fn what_did_not_change_goes_as_far_as_marks_say(rt: HostRuntime) -> Result<(), Fail> {
+    let mut pages = tree(rt.alloc())?;
+    for (obj, since, wanted) in [
+        (0, 9, None),
+        (0, 10, Some(boundary(1))),
+        (0, 12, Some(boundary(1))),
+        (25, 12, Some(boundary(3))),
+        (35, 12, None),
+        (35, 24, Some(boundary(4))),
+        (155, 24, None),
+        (35, 25, Some(boundary(16))),
+        (155, 25, Some(boundary(16))),
+        (160, 25, None),
+        (160, 40, Some(boundary(17))),
+        (319, 40, None),
+        (0, 41, Some(boundary(32))),
+        (319, 41, Some(boundary(32))),
+    ] {
+        let end = unchanged_until(&mut pages, offset(1)?, &entry(obj).base, Id(since))?;
+        assert_eq!(rt; end, wanted, "{obj} {since}");
+    }
+    Ok(())
+}
+
+// Puts a node at a page, with bytes of it changed.
+fn put_damaged(
+    pages: &mut MemPages,
+    number: u8,
+    node: &Node,
+    bytes: &[(u16, u8)],
+) -> Result<(), Fail> {
+    let mut page = Page::zero();
+    encode(node, &mut page);
+    for &(at, byte) in bytes {
+        if at < 4_096 {
+            put_u8(&mut page, usize::from(at), byte);
+        }
+    }
+    pages.change(offset(number)?, &page)?;
+    Ok(())
+}
+
+#[test]
+fn a_damaged_leaf_below_the_root_tells_the_first_rule_that_it_breaks(rt: HostRuntime) -> Result<(), Fail> {
+    // Leaf 1, at page 11, has the boundaries 10 and 20 and the mirror 11.
+    let rows: [(&str, &[u16], u8, &[(u16, u8)], u8); 14] = [
+        ("an inner node", &[13, 16], 11, &[(0, 2), (1, 2)], 1),
+        ("no element", &[], 11, &[], 2),
+        ("no element, and another mirror", &[], 12, &[], 2),
+        ("an element before the left boundary", &[9, 16], 11, &[], 4),
+        ("an element at the right boundary", &[13, 20], 11, &[], 4),
+        ("an element after the right boundary", &[13, 21], 11, &[], 4),
+        ("another mirror", &[13, 16], 12, &[], 9),
+        ("a lower mirror", &[13, 16], 10, &[], 9),
+        ("an element outside, and another mirror", &[13, 21], 12, &[], 4),
+        ("an element outside, and a broken field", &[13, 21], 11, &[(99, 2)], 4),
+        ("elements swapped, and one outside", &[21, 13], 11, &[], 3),
+        ("a broken field, and another mirror", &[13, 16], 12, &[(99, 2)], 5),
+        ("a byte that is not 0, and another mirror", &[13], 12, &[(4_095, 1)], 5),
+        ("an element outside, and a mirror below its id", &[13, 21], 2, &[], 4),
+    ];
+    for (damage, objects, mirror, bytes, kind) in rows {
+        let mut pages = tree(rt.alloc())?;
+        put_damaged(&mut pages, 11, &leaf_of(mirror, objects)?, bytes)?;
+        let at = offset(11)?;
+        let told = find(&mut pages, offset(1)?, &entry(15).base).err();
+        assert_eq!(rt; told, Some(Fault::Damaged { at, kind }), "{damage}");
+    }
+    Ok(())
+}
+
+#[test]
+fn a_damaged_inner_node_below_the_root_tells_the_first_rule_that_it_breaks(rt: HostRuntime) -> Result<(), Fail> {
+    // The node at page 2 has the level 2, the mirror 25, and the leaves 0 to 15.
+    let rows: [(&str, Node, &[(u16, u8)], u8); 9] = [
+        ("a leaf", leaf(1)?, &[], 1),
+        ("level 3", inner(3, 25, 0, 16)?, &[], 1),
+        ("level 1", inner(2, 25, 0, 16)?, &[(1, 1)], 1),
+        ("15 children", inner(2, 25, 0, 15)?, &[], 2),
+        ("another first boundary", inner(2, 25, 1, 16)?, &[], 4),
+        ("another right boundary", inner(2, 25, 0, 17)?, &[], 4),
+        ("another mirror", inner(2, 26, 0, 16)?, &[], 9),
+        ("another boundary and mirror", inner(2, 33, 0, 17)?, &[], 4),
+        ("another mirror, and a byte that is not 0", inner(2, 26, 0, 16)?, &[(4, 1)], 5),
+    ];
+    for (damage, node, bytes, kind) in rows {
+        let mut pages = tree(rt.alloc())?;
+        put_damaged(&mut pages, 2, &node, bytes)?;
+        let at = offset(2)?;
+        let told = find(&mut pages, offset(1)?, &entry(15).base).err();
+        assert_eq!(rt; told, Some(Fault::Damaged { at, kind }), "{damage}");
+    }
+    Ok(())
+}
+
+#[test]
+fn a_child_that_is_its_own_parent_is_damage(rt: HostRuntime) -> Result<(), Fail> {
+    let mut pages = tree(rt.alloc())?;
+    let mut page = Page::zero();
+    encode(&root()?, &mut page);
+    let at = offset(1)?;
+    put_u64(&mut page, 104, at.raw());
+    pages.change(at, &page)?;
+    let damage = Fault::Damaged { at, kind: 1 };
+    let base = entry(15).base;
+    assert_eq!(rt; find(&mut pages, at, &base).err(), Some(damage));
+    assert_eq!(rt; first_at_or_after(&mut pages, at, &base).err(), Some(damage));
+    assert_eq!(rt; unchanged_until(&mut pages, at, &base, Id(9)).err(), Some(damage));
+    Ok(())
+}
+
+#[test]
+fn a_root_may_be_a_leaf_without_elements(rt: HostRuntime) -> Result<(), Fail> {
+    let mut pages = MemPages::new(rt.alloc());
+    put(&mut pages, 1, &leaf_of(5, &[])?)?;
+    let at = offset(1)?;
+    let base = entry(15).base;
+    assert_eq!(rt; find(&mut pages, at, &base)?, Found { leaf: at, place: 0 });
+    assert_eq!(rt; first_at_or_after(&mut pages, at, &base)?, None);
+    assert_eq!(rt; unchanged_until(&mut pages, at, &base, Id(4))?, None);
+    assert_eq!(rt; unchanged_until(&mut pages, at, &base, Id(5))?, Some(Base::greatest()));
+    Ok(())
+}
