@@ -1,7 +1,10 @@
 -- What the calls of a core do.
-use Rattle.std.specs.Prelude.{◌≡◌, ◌⊎◌, ℕ, ◌+◌, ◌≤◌, [], ◌∷◌, ◌++◌, List, Option, IfSome, length}
+use Rattle.std.specs.Prelude.{◌≡◌, ◌≢◌, ◌⊎◌, ℕ, ◌+◌, ◌≤◌, [], ◌∷◌, ◌++◌, List, Option, IfSome, IfErr, Result, IsOk, OnOk, OnErr, length}
+use Rattle.hm_types.specs.declared.fault.Fault.{Fault}
 use Rattle.hm_types.specs.declared.limits.TheConstants.{GREATEST_ID}
+use Rattle.hm_types.specs.Faults.{HasFaultCause}
 use Rattle.hm_disk.specs.Crash.{Told}
+use Rattle.hm_disk.specs.Disk.{BothTell}
 use Rattle.hm_model.specs.declared.command.Command.{Command}
 use Rattle.hm_model.specs.declared.entry.Entry.{Entry}
 use Rattle.hm_model.specs.Volume.{Volume}
@@ -9,8 +12,15 @@ use Rattle.hm_model.specs.Served.After.{after}
 use Rattle.hm_model.specs.Served.Legal.{MayFollow}
 use Rattle.hm_core.specs.declared.volume.Step.{Step}
 use Rattle.hm_core.specs.declared.volume.Step.TheVariants.{Answered, Spent}
+use Rattle.hm_core.specs.declared.fault.OpenFault.{OpenFault}
+use Rattle.hm_core.specs.Finish.{IsNoDamage}
+use Rattle.hm_core.specs.Open.{IsOpenFault, IsOpenCaused}
 use Rattle.hm_core.specs.State.{CoreState}
 use Rattle.hm_core.specs.Stands.{StandsFor}
+
+-- a disk stands for one of two volumes
+abbrev pub StandsForEither : Volume → Volume → Told → Type 0
+StandsForEither first second t = StandsFor t.bytes first ⊎ StandsFor t.bytes second
 
 module _ {D I O : Type 0} where
   -- the volume after all that the history has
@@ -57,6 +67,31 @@ module _ {D I O : Type 0} where
     pub input_is : core.input ≡ input
     pub output_is : core.output ≡ output
 
--- a disk stands for one of two volumes
-abbrev pub StandsForEither : Volume → Volume → Told → Type 0
-StandsForEither first second t = StandsFor t.bytes first ⊎ StandsFor t.bytes second
+  -- No volume was mounted over a disk, which tells what it told, and this is why. The disk's count of faults
+  -- does not fall, and has risen where the disk failed.
+  pub record IsNotMounted (told_of : D → Option Told) (faults_of : D → ℕ) (old new : D) (fault : OpenFault)
+      : Type 0 where
+    pub told : told_of new ≡ told_of old
+    pub why : IfSome (told_of old) (λ t. IsOpenFault t.bytes fault)
+    pub never_falls : faults_of old ≤ faults_of new
+    pub caused : IsOpenCaused (faults_of old) (faults_of new) fault
+
+  -- What ending the use of a core makes of its disk. Where nothing was done, nothing is written. Else the disk
+  -- stands for the volume as it is now and all is settled, or after an error for that volume or the one
+  -- that was mounted.
+  pub record IsFinished (told_of : D → Option Told) (faults_of : D → ℕ) (core : CoreState D I O) (disk : D)
+      (outcome : Result (Unit {0}) Fault) : Type 0 where
+    pub nothing : core.history ≡ [] → IsOk outcome × (told_of disk ≡ told_of core.disk)
+    pub ok : OnOk outcome
+        (BothTell (told_of core.disk) (told_of disk) (λ _ t. StandsFor t.bytes (now_of core)))
+    pub settled : OnOk outcome (core.history ≢ [] → IfSome (told_of disk) (λ t. t.unsettled ≡ []))
+    pub err : OnErr outcome
+        (BothTell (told_of core.disk) (told_of disk) (λ _ t. StandsForEither core.opening (now_of core) t))
+    pub cause : HasFaultCause (faults_of core.disk) (faults_of disk) outcome
+    pub damage : IfErr outcome IsNoDamage
+
+  -- these are the disk and the streams of a core
+  pub record HandsBack (core : CoreState D I O) (disk : D) (input : I) (output : O) : Type 0 where
+    pub disk_is : disk ≡ core.disk
+    pub input_is : input ≡ core.input
+    pub output_is : output ≡ core.output

@@ -1,12 +1,21 @@
 -- The directories that were made on a volume, and the volume that they make.
-use Rattle.std.specs.Prelude.{◌≢◌, ℕ, ◌≤◌, ◌<◌, List, [], ◌∷◌, All, length, slice_get, Some, ◌≡◌}
+use Rattle.std.specs.Prelude.{ℕ, ◌≤◌, List, [], ◌∷◌, All, length, map}
+use Rattle.std.specs.List.{IsDistinct}
 use Rattle.std.specs.List.Sorted.{IsStrictlySortedBy}
 use Rattle.std.specs.Ordering.{nat_cmp, on}
+use Rattle.std.specs.Str.{bytes_eq}
 use Rattle.hm_types.specs.Name.{IsName}
 use Rattle.hm_model.specs.declared.served.TheConstants.{MOST_DIRECTORIES}
 use Rattle.hm_model.specs.Tree.{FileTree, root_number, root_tree, directory_of, with_object}
 use Rattle.hm_model.specs.Volume.{Volume, new_master}
 use Rattle.hm_core.specs.declared.directory.Directory.{Directory}
+
+-- the number of a directory's id, and the bytes of its name
+abbrev pub id_of : Directory → ℕ
+id_of d = d.id.0
+
+abbrev pub name_of : Directory → List ℕ
+name_of d = d.name
 
 -- the tree with one more directory
 abbrev pub with_one : FileTree → Directory → FileTree
@@ -33,12 +42,11 @@ pub record IsDirectory (last : ℕ) (d : Directory) : Type 0 where
 
 -- no two of them have one name
 abbrev pub AreNamedApart : List Directory → Type 0
-AreNamedApart ds =
-    (i j : ℕ) (a b : Directory) → i < j → slice_get ds i ≡ Some a → slice_get ds j ≡ Some b → a.name ≢ b.name
+AreNamedApart ds = IsDistinct bytes_eq (map name_of ds)
 
 -- The directories that a volume with this last id may have: not too many, in the order of their ids.
 pub record AreDirectories (last : ℕ) (ds : List Directory) : Type 0 where
   pub few : length ds ≤ MOST_DIRECTORIES
-  pub rising : IsStrictlySortedBy (on (λ (d : Directory). d.id.0) nat_cmp) ds
+  pub rising : IsStrictlySortedBy nat_cmp (map id_of ds)
   pub each : All (IsDirectory last) ds
   pub apart : AreNamedApart ds

@@ -1,18 +1,18 @@
 -- What comes of making a volume, and of opening one.
-use Rattle.std.specs.Prelude.{◌≡◌, ℕ, ◌<◌, ◌*◌, List, [], Option, Some, length, IfSome}
+use Rattle.std.specs.Prelude.{◌≡◌, ℕ, ◌<◌, ◌≤◌, ◌*◌, List, [], length, Result, IfErr}
 use Rattle.hm_types.specs.declared.limits.TheConstants.{BIGBLOCK_BYTES}
-use Rattle.hm_types.specs.Faults.{HasFaultCause}
+use Rattle.hm_types.specs.Faults.{IsCaused}
 use Rattle.hm_types.specs.declared.fault.Fault.{Fault}
 use Rattle.hm_types.specs.declared.fault.Fault.TheVariants.{Media, Damaged, NoMemory}
 use Rattle.hm_disk.specs.Crash.{Told}
 use Rattle.hm_header.specs.declared.header.Header.{Header}
 use Rattle.hm_header.specs.declared.fault.HeaderFault.TheVariants.{NotVolume as no_volume, BadField as bad_field}
 use Rattle.hm_header.specs.Slots.{IsFault}
-use Rattle.hm_model.specs.Volume.{Volume, fresh}
+use Rattle.hm_model.specs.Volume.{Volume}
 use Rattle.hm_core.specs.declared.fault.OpenFault.{OpenFault}
 use Rattle.hm_core.specs.declared.fault.OpenFault.TheVariants.{NotVolume, BadField, Fault as of_disk}
 use Rattle.hm_core.specs.declared.directory.Directory.{Directory}
-use Rattle.hm_core.specs.Stands.{Stands, StandsFor, HasHeader, HasList, first_slot, second_slot}
+use Rattle.hm_core.specs.Stands.{StandsFor, HasHeader, HasList, first_slot, second_slot}
 
 -- a disk that tells this is too small for so many big-blocks
 abbrev pub IsTooSmall : ℕ → Told → Type 0
@@ -42,3 +42,14 @@ abbrev pub IsOpenFault : List ℕ → OpenFault → Type 0
 IsOpenFault bytes NotVolume = IsFault (first_slot bytes) (second_slot bytes) (length bytes) no_volume
 IsOpenFault bytes (BadField place) = IsFault (first_slot bytes) (second_slot bytes) (length bytes) (bad_field place)
 IsOpenFault bytes (of_disk fault) = IsListDamage bytes fault
+
+-- a fault of the disk has its cause in such a call; a volume that is none has its in the bytes
+abbrev pub IsOpenCaused : ℕ → ℕ → OpenFault → Type 0
+IsOpenCaused old new NotVolume = Unit {0}
+IsOpenCaused old new (BadField place) = Unit {0}
+IsOpenCaused old new (of_disk fault) = IsCaused old new fault
+
+-- a call kept or raised the count, and each fault of the disk that it answers has its cause
+pub record HasOpenCause {T : Type 0} (old new : ℕ) (result : Result T OpenFault) : Type 0 where
+  pub never_falls : old ≤ new
+  pub caused : IfErr result (IsOpenCaused old new)
