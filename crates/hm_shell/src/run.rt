@@ -1,6 +1,9 @@
 // The top call.
-ghost use Rattle.std.specs.Prelude.{◌≡◌, ◌≢◌, ◌↔◌, ◌≤◌};
+ghost use Rattle.std.specs.Prelude.{◌≡◌, ◌≢◌, ◌↔◌, ◌≤◌, [], IfErr, OnOk};
 ghost use Rattle.hm_shell.specs.Devices.{Between, NeverFall};
+ghost use Rattle.hm_shell.specs.Printing.{Prints};
+ghost use Rattle.hm_shell.specs.Seen.{seen};
+ghost use Rattle.hm_shell.specs.Stop.{last_line, status_of};
 ghost use Rattle.hm_shell.specs.Words.{IsUsageFault, texts};
 ghost use Rattle.hm_shell.specs.Run.{Completes, StopsWith};
 ghost use Rattle.hm_shell.specs.Exact.{Brings, IsStatus};
@@ -8,6 +11,7 @@ ghost use Rattle.hm_shell.specs.Exact.{Brings, IsStatus};
 use crate::devices::{Devices, Ended};
 use crate::job::prepare;
 use crate::print::print_last;
+use crate::stop::Stop;
 use crate::volume::{Closed, run_job};
 use hm_disk::Disk;
 use hm_pipe::{Gate, Sink, Source};
@@ -89,13 +93,7 @@ pub fn run<
         stream_out,
         outcome,
     } = closed;
-    let status = match outcome {
-        Ok(()) => 0,
-        Err(stop) => {
-            print_last(stop, &mut out);
-            stop.status()
-        }
-    };
+    let status = end(outcome, &mut out);
     Ended {
         status,
         devices: Devices {
@@ -105,6 +103,22 @@ pub fn run<
             stream_in,
             stream_out,
         },
+    }
+}
+
+// Prints the last line of a run that stopped, and gives the exit status.
+fn end<K: Sink>(outcome: Result<(), Stop>, out: &mut K) -> u8
+    ensures done { OnOk outcome ((result ≡ 0) × (K.held out.new ≡ K.held out.old)) }
+    ensures stopped { IfErr outcome (λ stop. (result ≡ status_of stop) × Prints [] (last_line stop)
+        (seen K.held K.faults out.old) (seen K.held K.faults out.new)) }
+    ensures never_falls { K.faults out.old ≤ K.faults out.new }
+{
+    match outcome {
+        Ok(()) => 0,
+        Err(stop) => {
+            print_last(stop, out);
+            stop.status()
+        }
     }
 }
 
