@@ -1,2 +1,1 @@
-pub mod NamesLemmas
-pub mod StepLemmas
+

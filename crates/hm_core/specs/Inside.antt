@@ -1,23 +1,37 @@
 -- What always holds of a core's fields.
-use Rattle.std.specs.Prelude.{◌≡◌, ℕ, ◌≤◌, ◌+◌, List, [], ◌∷◌, vec_len}
-use Rattle.std.specs.List.{AllByRecursion}
-use Rattle.hm_model.specs.Tree.{FileTree, no_tree}
-use Rattle.hm_model.specs.Volume.{Volume, new_master, fresh, as_of}
+use Rattle.std.specs.Prelude.{◌≡◌, ℕ, ◌≤◌, List, Option, IfSome, filter}
+use Rattle.std.specs.Bool.{nat_le}
+use Rattle.hm_types.specs.declared.limits.TheConstants.{GREATEST_ID}
+use Rattle.hm_disk.specs.Crash.{Told}
+use Rattle.hm_header.specs.declared.header.Header.{Header}
+use Rattle.hm_header.specs.Range.{IsHeader}
+use Rattle.hm_model.specs.declared.entry.Entry.{Entry}
+use Rattle.hm_model.specs.Volume.{Volume}
 use Rattle.hm_model.specs.Served.After.{after}
 use Rattle.hm_model.specs.Served.Legal.{IsLegal}
-use Rattle.hm_core.specs.Names.{Entries, triples_of}
-use Rattle.hm_core.specs.declared.volume.Core.TheInside.{Inside}
+use Rattle.hm_core.specs.declared.directory.Directory.{Directory}
+use Rattle.hm_core.specs.Directories.{AreDirectories, volume_of}
+use Rattle.hm_core.specs.Listed.{list_root}
+use Rattle.hm_core.specs.Stands.{Stands}
 
--- a volume of one master, whose tree now has these entries in its root directory
-pub record Shows (volume : Volume) (entries : Entries) : Type 0 where
-  pub versions : List (ℕ × FileTree)
-  pub one : volume.systems ≡ new_master 0 0 versions ∷ []
-  pub by_now : AllByRecursion (λ v. v.0 ≤ volume.last) versions
-  pub entries_are : (as_of volume.last no_tree versions).triples ≡ triples_of entries
+-- the directories that were made up to this id
+abbrev pub made_until : ℕ → List Directory → List Directory
+made_until id ds = filter (λ d. nat_le d.id.0 id) ds
 
--- the history is legal, each call has drawn one id, and the names are those of the tree after it
-pub record IsSound (c : Inside) : Type 0 where
-  pub legal : IsLegal (fresh c.bigblocks) c.history.items
-  pub last_is : (after (fresh c.bigblocks) c.history.items).last ≡ c.last.0
-  pub each_one : c.last.0 ≡ vec_len c.history + 1
-  pub shows : Shows (after (fresh c.bigblocks) c.history.items) c.names.entries
+-- the volume that a header stands for, of which these are the directories and those made since
+abbrev pub opening_of : Header → List Directory → Volume
+opening_of header ds = volume_of header.bigblocks header.last.0 (made_until header.last.0 ds)
+
+-- A core's header is in range and names the place of its generation, and the disk stands for it. The
+-- history is legal over the volume of this header, and the directories are those of the volume after it.
+pub record IsSound (told : Option Told) (header : Header) (slot last : ℕ) (ds : List Directory)
+    (history : List Entry) : Type 0 where
+  pub header_is : IsHeader header
+  pub rooted : header.root ≡ list_root header.bigblocks header.generation
+  pub one_of_two : slot ≤ 1
+  pub stands : IfSome told (λ t. Stands t.bytes header slot (made_until header.last.0 ds))
+  pub later : header.last.0 ≤ last
+  pub greatest : last ≤ GREATEST_ID
+  pub kept : AreDirectories last ds
+  pub legal : IsLegal (opening_of header ds) history
+  pub now_is : after (opening_of header ds) history ≡ volume_of header.bigblocks last ds

@@ -1,4 +1,15 @@
+pub mod Directories
+pub mod Listed
+pub mod Stands
+pub mod Open
+pub mod Slots
+pub mod Commit
+pub mod Fresh
 pub mod State
-pub mod Names
-pub mod Core
 pub mod Inside
+pub mod Index
+pub mod Answer
+pub mod Read
+pub mod Mount
+pub mod Finish
+pub mod Core

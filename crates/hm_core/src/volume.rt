@@ -1,16 +1,19 @@
 // One volume in use.
-ghost use Rattle.std.specs.Prelude.{◌≡◌, ◌≤◌, ◌<◌, Some, IsOk, OnOk, OnErr, [], length, slice_get};
-ghost use Rattle.hm_model.specs.Volume.{fresh};
-ghost use Rattle.hm_model.specs.Served.After.{after};
+ghost use Rattle.std.specs.Prelude.{◌≡◌, ◌≤◌, ◌<◌, Some, IsOk, IfOk, IfErr, OnOk, OnErr, length, slice_get};
 ghost use Rattle.hm_model.specs.Served.Legal.{IsLegal};
 ghost use Rattle.hm_model.specs.Served.Due.{IsServed};
-ghost use Rattle.hm_core.specs.Core.{Enters, KeepsAll};
+ghost use Rattle.hm_core.specs.Core.{Steps, KeepsAll, IsMounted, IsNotMounted, IsFinished, HandsBack, now_of};
 
-use crate::names::{Names, answer};
+use crate::answer::answer;
+use crate::directories::Directories;
+use crate::fault::OpenFault;
+use crate::finish::write_back;
+use crate::mount::{Opened, open_volume};
+use hm_disk::Disk;
+use hm_header::Header;
 use hm_model::{Command, Entry};
-use hm_types::{Id, NoMemory};
+use hm_types::{Fault, GREATEST_ID, Id, NoMemory};
 use std::alloc::Global;
-use std::collections::BTreeMap;
 use std::marker::Model;
 
 /// What one step of a core came to.
@@ -18,75 +21,112 @@ use std::marker::Model;
 pub enum Step {
     /// The call was answered. Its entry stands at this place of the history.
     Answered(usize),
+    /// No id was left: the last one is 9,223,372,036,854,775,807. Nothing has changed.
+    Spent,
 }
 
-/// One volume in use, with the history of the run. A contract sees the volume's size in big-blocks,
-/// the history, and the room for entries that was reserved.
+/// One volume in use on a disk, with the history of the run, and the two streams of the run, which it only
+/// keeps. A contract sees the volume as the run began, the history, the room for entries that was
+/// reserved, the last id on the disk, the disk and the streams.
+///
+/// The volume is read as it is mounted, and written once, by `finish`.
 #[derive(Drop)]
-pub struct Core {
+pub struct Core<D: Disk, I, O> {
     alloc: Global,
-    bigblocks: u32,
-    names: Names,
+    disk: D,
+    input: I,
+    output: O,
+    header: Header,
+    slot: u8,
+    directories: Directories,
     last: Id,
     history: Vec<Entry>,
 }
 
-impl Model for Core {
+impl<D: Disk, I, O> Model for Core<D, I, O> {
     ghost use Rattle.std.specs.Prelude.{◌-◌, vec_len, vec_capacity};
     ghost use Rattle.hm_core.specs.State.{CoreState};
 
-    ghost Value = { CoreState };
+    ghost Value = { CoreState D I O };
 
-    ghost use Rattle.hm_core.specs.Inside.{IsSound};
+    ghost use Rattle.hm_core.specs.Inside.{IsSound, opening_of};
 
     ghost view = { λ c. record {
-      bigblocks = c.bigblocks;
+      opening = opening_of c.header c.directories;
       history = c.history.items;
       spare = vec_capacity c.history - vec_len c.history;
+      boundary = c.header.last.0;
+      disk = c.disk;
+      input = c.input;
+      output = c.output;
     } };
 
-    ghost invariant = { IsSound };
+    ghost invariant = { λ c.
+      IsSound (D.told c.disk) c.header c.slot c.last.0 c.directories c.history.items };
 }
 
-impl Core {
-    /// A new volume of this many big-blocks, with nothing in its history. It takes no memory.
-    pub fn fresh(alloc: Global, bigblocks: u32) -> Core
-        ensures size { result.bigblocks ≡ bigblocks }
-        ensures history { result.history ≡ [] }
+impl<D: Disk, I, O> Core<D, I, O> {
+    /// Opens the volume on a disk, and keeps two streams for it. It reads both header slots and the list of
+    /// directories, and writes nothing. An error hands back the disk and the streams, and says why: that
+    /// the disk has no volume, that a field of its header is out of range or its list is damaged, a
+    /// fault of reading, or want of memory.
+    pub fn mount(
+        alloc: Global,
+        disk: D,
+        input: I,
+        output: O,
+    ) -> Result<Core<D, I, O>, (D, I, O, OpenFault)>
+        ensures ok { IfOk result (IsMounted D.told disk input output) }
+        ensures faults { IfOk result (λ core. D.faults disk ≤ D.faults core.disk) }
+        ensures err { IfErr result
+            (λ e. IsNotMounted D.told D.faults disk e.0 e.3 × (e.1 ≡ input) × (e.2 ≡ output)) }
     {
-        Core {
-            alloc,
-            bigblocks,
-            names: BTreeMap::new(alloc),
-            last: Id(1),
-            history: Vec::new(alloc),
+        let mut disk = disk;
+        match open_volume(alloc, &mut disk) {
+            Ok(Opened {
+                header,
+                slot,
+                directories,
+            }) => Ok(Core {
+                alloc,
+                disk,
+                input,
+                output,
+                header,
+                slot,
+                directories,
+                last: header.last,
+                history: Vec::new(alloc),
+            }),
+            Err(fault) => Err((disk, input, output, fault)),
         }
     }
 
-    /// Makes room for this many more entries. After `NoMemory` all is as before.
+    /// Makes room for at least so many more entries. Where memory is refused, all is as before.
     pub fn reserve(&mut self, entries: u32) -> Result<(), NoMemory>
         ensures ok { OnOk result (entries ≤ self.new.spare) }
-        ensures room { self.old.spare ≤ self.new.spare }
-        ensures succeeds { entries ≤ self.old.spare → IsOk result }
-        ensures err { OnErr result (self.new ≡ self.old) }
+        ensures err { OnErr result (self.new.spare ≡ self.old.spare) }
         ensures keeps { KeepsAll self.old self.new }
     {
         self.history.reserve(entries as usize)?;
         Ok(())
     }
 
-    /// Answers one call, draws its id and enters it. Entering takes no memory: a refusal for want of it
-    /// comes before, as the call's reply. `since` is the last id as the call began.
+    /// Answers a call and enters it in the history, with the next id. The reply is the one that the call is
+    /// due, or `Reply::NoMemory`. Where no id is left it does nothing. `since` is the last id when the
+    /// call began.
     pub fn call(&mut self, lane: u8, line: u32, since: Id, command: Command) -> Step
         requires room { 2 ≤ self.old.spare }
-        requires since { since.0 ≤ (after (fresh self.old.bigblocks) self.old.history).last }
+        requires since { since.0 ≤ (now_of self.old).last }
         requires range { IsServed command }
-        ensures place { result ≡ Step.Answered (length self.old.history) }
-        ensures entered { Enters self.old self.new lane line command }
-        ensures legal { IsLegal (fresh self.new.bigblocks) self.new.history }
+        ensures steps { Steps self.old self.new lane line command result }
+        ensures legal { IsLegal self.new.opening self.new.history }
     {
+        if self.last.0 == GREATEST_ID {
+            return Step::Spent;
+        }
+        let reply = answer(self.alloc, &mut self.directories, &command, self.last);
         let id = Id(self.last.0 + 1);
-        let reply = answer(self.alloc, &mut self.names, &command, id);
         let place = self.history.len();
         self.last = id;
         self.history.push_reserved(Entry {
@@ -101,9 +141,16 @@ impl Core {
 
     /// The last id that was drawn.
     pub fn last(&self) -> Id
-        ensures { result.0 ≡ (after (fresh self.now.bigblocks) self.now.history).last }
+        ensures { result.0 ≡ (now_of self.now).last }
     {
         self.last
+    }
+
+    /// The last id on the disk.
+    pub fn boundary(&self) -> Id
+        ensures { result.0 ≡ self.now.boundary }
+    {
+        self.header.last
     }
 
     /// The entry at this place of the history.
@@ -112,5 +159,49 @@ impl Core {
         ensures { slice_get self.now.history place ≡ Some result.now }
     {
         &self.history[place]
+    }
+
+    /// Ends the use of the volume: writes what was done to the disk, unless nothing was, and hands back the
+    /// disk and the streams. After an error, which is a fault of the disk or want of memory, the disk has the
+    /// volume as it was mounted or as it is now.
+    pub fn finish(self) -> (D, I, O, Result<(), Fault>)
+        ensures disk { IsFinished D.told D.faults self result.0 result.3 }
+        ensures streams { (result.1 ≡ self.input) × (result.2 ≡ self.output) }
+    {
+        let Core {
+            alloc,
+            mut disk,
+            input,
+            output,
+            header,
+            slot,
+            directories,
+            last,
+            history,
+        } = self;
+        let outcome = if history.is_empty() {
+            Ok(())
+        } else {
+            write_back(alloc, &mut disk, &header, slot, directories.list(), last)
+        };
+        (disk, input, output, outcome)
+    }
+
+    /// Ends the use of the volume without a write, and hands back the disk and the streams.
+    pub fn into_devices(self) -> (D, I, O)
+        ensures { HandsBack self result.0 result.1 result.2 }
+    {
+        let Core {
+            alloc: _,
+            disk,
+            input,
+            output,
+            header: _,
+            slot: _,
+            directories: _,
+            last: _,
+            history: _,
+        } = self;
+        (disk, input, output)
     }
 }

@@ -20,6 +20,7 @@ mod plain;
 mod print;
 mod read;
 mod reply;
+mod served;
 mod stop;
 #[cfg(test)]
 mod tests;
@@ -43,4 +44,5 @@ pub use object::{Content, Kind, Object, Triple};
 pub use plain::{apply, look};
 pub use print::push_answer;
 pub use reply::Reply;
+pub use served::MOST_DIRECTORIES;
 pub use tree::Tree;

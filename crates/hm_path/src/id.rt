@@ -20,10 +20,13 @@ pub(crate) fn cut_id(text: &[u8]) -> (&[u8], Option<Id>)
     }
 }
 
-fn read_id(text: &[u8]) -> Option<Id>
-    requires { length text.now ≡ ID_BYTES }
+/// The id that a text spells: `@@0x` and 16 hexadecimal digits of either case. None for any other text.
+pub fn read_id(text: &[u8]) -> Option<Id>
     ensures { MatchOption result (IsNoIdText text.now) (IsIdText text.now) }
 {
+    if text.len() != ID_BYTES {
+        return None;
+    }
     let digits = text.strip_prefix(b"@@0x")?;
     let mut number = 0u64;
     for digit in digits {

@@ -1,6 +1,7 @@
 pub mod CheckLemmas
-pub mod ExactLemmas
 pub mod GrammarLemmas
+pub mod HexLemmas
+pub mod OpenLemmas
 pub mod PrintLemmas
-pub mod RunLemmas
+pub mod ReadLemmas
 pub mod ServeLemmas

@@ -1,8 +1,13 @@
+pub mod Seen
 pub mod Words
 pub mod Checking
 pub mod Stop
 pub mod Reading
 pub mod Printing
+pub mod Preparing
+pub mod Opening
 pub mod Serving
+pub mod Running
+pub mod Devices
 pub mod Run
-pub mod Ends
+pub mod Exact

@@ -1,15 +1,20 @@
 // The lines of a script: where each ends, and whether it is one of the grammar.
-ghost use Rattle.std.specs.Prelude.{◌≡◌, ◌<◌, ◌≤◌, ◌∷◌, IfErr, IfOk, MatchBool, All, length};
+ghost use Rattle.std.specs.Prelude.{◌≡◌, ◌<◌, ◌≤◌, ◌∷◌, ◌↔◌, IfErr, IfOk, IsTrue, MatchBool, MatchOption, All, false, length};
 ghost use Rattle.hm_types.specs.declared.limits.TheConstants.{MOST_SCRIPT_BYTES};
 ghost use Rattle.hm_model.specs.Lines.{texts_of};
-ghost use Rattle.hm_model.specs.Served.Lines.{IsLine, IsNoLine, IsFirstBad, Spells};
+ghost use Rattle.hm_model.specs.Script.{is_remark};
+ghost use Rattle.hm_model.specs.Served.Lines.{IsCall, IsNoCall, IsLine, IsNoLine, IsFirstBad, Spells};
+ghost use Rattle.hm_model.specs.Served.Walk.{IsRootAsOf, IsRootPath};
+ghost use Rattle.hm_shell.specs.Checking.{GivesCommand};
 
 use hm_model::Command;
+use hm_path::read_id;
 use hm_types::{NoMemory, Text, is_name};
 use memchr::memchr;
 use std::alloc::Global;
 
 const MKDIR: &[u8] = b"mkdir ";
+const LS: &[u8] = b"ls ";
 
 /// A line outside the grammar, by its number, counted from 1.
 pub(crate) struct BadLine(pub(crate) u32);
@@ -31,7 +36,6 @@ pub(crate) fn check_lines(script: &[u8]) -> Result<u32, BadLine>
     requires { length script.now ≤ MOST_SCRIPT_BYTES }
     ensures ok { IfOk result (λ count. (count ≡ length (texts_of script.now))
         × All IsLine (texts_of script.now)) }
-    ensures few { IfOk result (λ count. count ≤ length script.now) }
     ensures err { IfErr result (λ bad. IsFirstBad script.now bad.0) }
 {
     let mut rest = script;
@@ -47,18 +51,65 @@ pub(crate) fn check_lines(script: &[u8]) -> Result<u32, BadLine>
     Ok(count)
 }
 
-/// Whether the text is a line of the grammar: `mkdir /NAME`.
+/// Whether the text is a line of the grammar: a remark, `mkdir /NAME`, `ls /`, or `ls /@@0x` and 16
+/// hexadecimal digits.
 fn is_line(text: &[u8]) -> bool
     ensures { MatchBool result (IsLine text.now) (IsNoLine text.now) }
 {
-    text.starts_with(b"mkdir /") && is_name(&text[MKDIR.len() + 1..])
+    is_remark(text) || is_call(text)
 }
 
-/// The command of a line of the grammar.
-pub(crate) fn command_of(alloc: Global, text: &[u8]) -> Result<Command, NoMemory>
-    requires { IsLine text.now }
-    ensures { IfOk result (Spells text.now) }
+// An empty line, or one whose first byte is `#`.
+fn is_remark(text: &[u8]) -> bool
+    ensures { result ≡ is_remark text.now }
 {
-    let path = Text::of(text[MKDIR.len()..].to_vec(alloc)?);
-    Ok(Command::Mkdir { path })
+    text.is_empty() || text[0] == b'#'
+}
+
+fn is_call(text: &[u8]) -> bool
+    ensures { MatchBool result (IsCall text.now) (IsNoCall text.now) }
+{
+    if let Some(path) = text.strip_prefix(MKDIR) {
+        is_root_path(path)
+    } else if let Some(path) = text.strip_prefix(LS) {
+        is_root_as_of(path)
+    } else {
+        false
+    }
+}
+
+// A path of one component under the root: `/NAME`.
+fn is_root_path(path: &[u8]) -> bool
+    ensures { IsTrue result ↔ IsRootPath path.now }
+{
+    match path.strip_prefix(b"/") {
+        Some(name) => is_name(name),
+        None => false,
+    }
+}
+
+// The path of the root, now or as of an id: `/`, or `/@@0x` and 16 hexadecimal digits.
+fn is_root_as_of(path: &[u8]) -> bool
+    ensures { IsTrue result ↔ IsRootAsOf path.now }
+{
+    match path.strip_prefix(b"/") {
+        Some(id) => id.is_empty() || read_id(id).is_some(),
+        None => false,
+    }
+}
+
+/// The command of a line of the grammar. A remark has none.
+pub(crate) fn command_of(alloc: Global, text: &[u8]) -> Result<Option<Command>, NoMemory>
+    requires { IsLine text.now }
+    ensures { IfOk result (GivesCommand text.now) }
+{
+    if is_remark(text) {
+        return Ok(None);
+    }
+    if let Some(path) = text.strip_prefix(MKDIR) {
+        let path = Text::of(path.to_vec(alloc)?);
+        return Ok(Some(Command::Mkdir { path }));
+    }
+    let path = Text::of(text[LS.len()..].to_vec(alloc)?);
+    Ok(Some(Command::Ls { path }))
 }

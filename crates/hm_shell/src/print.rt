@@ -1,28 +1,52 @@
 // What a run prints.
-ghost use Rattle.std.specs.Prelude.{◌≡◌, ◌≤◌, [], IfErr, IfOk, OnErr, OnOk};
-ghost use Rattle.hm_types.specs.Faults.{Rose};
+ghost use Rattle.std.specs.Prelude.{◌≡◌, ◌≤◌, [], ◌∷◌, ◌++◌, IfErr, IfOk, OnErr, OnOk, decimal};
 ghost use Rattle.hm_pipe.specs.Pipe.{Gains};
+ghost use Rattle.hm_model.specs.Lines.{line_feed};
+ghost use Rattle.hm_model.specs.Out.{spent_words};
 ghost use Rattle.hm_model.specs.Served.Out.{entry_text};
-ghost use Rattle.hm_shell.specs.Stop.{last_line};
+ghost use Rattle.hm_shell.specs.Stop.{counts_line, damage_line, last_line};
 ghost use Rattle.hm_shell.specs.Printing.{Prints, IsCutShort, StoppedPrinting, joined};
+ghost use Rattle.hm_shell.specs.Seen.{seen};
 
+use crate::hex::hex_digits;
 use crate::stop::Stop;
 use hm_model::{Entry, push_answer};
 use hm_pipe::Sink;
-use hm_types::{Failed, NoMemory};
+use hm_types::{Failed, HOff, NoMemory};
 use std::alloc::Global;
 
 const USAGE: &[u8] =
     b"usage: hammer VOLUME [--newfs BIGBLOCKS] [--stream-in FILE] [--stream-out FILE] [--generate N]\n";
 
-/// Prints the line of one entry.
+/// Prints the line of one entry, in one piece.
 pub(crate) fn print_entry<K: Sink>(alloc: Global, entry: &Entry, out: &mut K) -> Result<(), Stop>
     ensures ok { OnOk result (Gains (K.held out.old) (entry_text entry.now) (K.held out.new)) }
-    ensures err { IfErr result (StoppedPrinting K.held K.faults (entry_text entry.now) out.old out.new) }
+    ensures err { IfErr result (StoppedPrinting (entry_text entry.now)
+        (seen K.held K.faults out.old) (seen K.held K.faults out.new)) }
     ensures never_falls { K.faults out.old ≤ K.faults out.new }
 {
     let line = entry_line(alloc, entry)?;
-    match out.put(&line) {
+    put_line(&line, out)
+}
+
+/// Prints the line of a call that found no id left.
+pub(crate) fn print_spent<K: Sink>(out: &mut K) -> Result<(), Stop>
+    ensures ok { OnOk result
+        (Gains (K.held out.old) (spent_words ++ line_feed ∷ []) (K.held out.new)) }
+    ensures err { IfErr result (StoppedPrinting (spent_words ++ line_feed ∷ [])
+        (seen K.held K.faults out.old) (seen K.held K.faults out.new)) }
+    ensures never_falls { K.faults out.old ≤ K.faults out.new }
+{
+    put_line(b"- ids spent\n", out)
+}
+
+fn put_line<K: Sink>(line: &[u8], out: &mut K) -> Result<(), Stop>
+    ensures ok { OnOk result (Gains (K.held out.old) line.now (K.held out.new)) }
+    ensures err { IfErr result (StoppedPrinting line.now
+        (seen K.held K.faults out.old) (seen K.held K.faults out.new)) }
+    ensures never_falls { K.faults out.old ≤ K.faults out.new }
+{
+    match out.put(line) {
         Ok(()) => Ok(()),
         Err(Failed) => Err(Stop::OutFault),
     }
@@ -42,7 +66,8 @@ fn entry_line(alloc: Global, entry: &Entry) -> Result<Vec<u8>, NoMemory>
 /// Prints the last line of a run that stops, if it has one. It takes no memory, and a fault of the sink
 /// cuts the line short.
 pub(crate) fn print_last<K: Sink>(stop: Stop, out: &mut K)
-    ensures line { Prints K.held K.faults [] (last_line stop) out.old out.new }
+    ensures line { Prints [] (last_line stop)
+        (seen K.held K.faults out.old) (seen K.held K.faults out.new) }
     ensures never_falls { K.faults out.old ≤ K.faults out.new }
 {
     let _ = put_last(stop, out);
@@ -50,35 +75,69 @@ pub(crate) fn print_last<K: Sink>(stop: Stop, out: &mut K)
 
 fn put_last<K: Sink>(stop: Stop, out: &mut K) -> Result<(), Failed>
     ensures ok { OnOk result (Gains (K.held out.old) (last_line stop) (K.held out.new)) }
-    ensures err { OnErr result (IsCutShort K.held K.faults (last_line stop) out.old out.new) }
+    ensures err { OnErr result (IsCutShort (last_line stop)
+        (seen K.held K.faults out.old) (seen K.held K.faults out.new)) }
     ensures never_falls { K.faults out.old ≤ K.faults out.new }
 {
     match stop {
         Stop::Usage => out.put(USAGE),
-        Stop::ScriptFault { before, after } => {
-            let mut first = itoa::Buffer::new();
-            let mut second = itoa::Buffer::new();
-            let before = first.format(before).as_bytes();
-            let after = second.format(after).as_bytes();
-            put_all(&[b"script fault ", before, b" ", after, b"\n"], out)
-        }
+        Stop::NotVolume => out.put(b"not a volume\n"),
+        Stop::BadField { place } => put_number(b"bad header field ", u64::from(place), out),
+        Stop::DiskFault { before, after } => put_counts(b"media ", before, after, out),
+        Stop::Damaged { at, kind } => put_damage(at, kind, out),
+        Stop::ScriptFault { before, after } => put_counts(b"script fault ", before, after, out),
         Stop::OutFault => Ok(()),
         Stop::NoMemory => out.put(b"no memory\n"),
-        Stop::BadLine { number } => {
-            let mut buffer = itoa::Buffer::new();
-            put_all(
-                &[b"bad line ", buffer.format(number).as_bytes(), b"\n"],
-                out,
-            )
-        }
+        Stop::BadLine { number } => put_number(b"bad line ", u64::from(number), out),
         Stop::TooLong => out.put(b"script too long\n"),
     }
+}
+
+// Puts some words and a number.
+fn put_number<K: Sink>(words: &[u8], number: u64, out: &mut K) -> Result<(), Failed>
+    ensures ok { OnOk result (Gains (K.held out.old)
+        (words.now ++ (decimal number ++ line_feed ∷ [])) (K.held out.new)) }
+    ensures err { OnErr result (IsCutShort (words.now ++ (decimal number ++ line_feed ∷ []))
+        (seen K.held K.faults out.old) (seen K.held K.faults out.new)) }
+    ensures never_falls { K.faults out.old ≤ K.faults out.new }
+{
+    let mut buffer = itoa::Buffer::new();
+    put_all(&[words, buffer.format(number).as_bytes(), b"\n"], out)
+}
+
+// Puts some words and two counts.
+fn put_counts<K: Sink>(words: &[u8], before: u64, after: u64, out: &mut K) -> Result<(), Failed>
+    ensures ok { OnOk result (Gains (K.held out.old)
+        (counts_line words.now before after) (K.held out.new)) }
+    ensures err { OnErr result (IsCutShort (counts_line words.now before after)
+        (seen K.held K.faults out.old) (seen K.held K.faults out.new)) }
+    ensures never_falls { K.faults out.old ≤ K.faults out.new }
+{
+    let mut first = itoa::Buffer::new();
+    let mut second = itoa::Buffer::new();
+    let before = first.format(before).as_bytes();
+    let after = second.format(after).as_bytes();
+    put_all(&[words, before, b" ", after, b"\n"], out)
+}
+
+// Puts where the disk is damaged, and the number of the rule that is broken.
+fn put_damage<K: Sink>(at: HOff, kind: u8, out: &mut K) -> Result<(), Failed>
+    ensures ok { OnOk result (Gains (K.held out.old) (damage_line at kind) (K.held out.new)) }
+    ensures err { OnErr result (IsCutShort (damage_line at kind)
+        (seen K.held K.faults out.old) (seen K.held K.faults out.new)) }
+    ensures never_falls { K.faults out.old ≤ K.faults out.new }
+{
+    let digits = hex_digits(at.raw());
+    let mut buffer = itoa::Buffer::new();
+    let kind = buffer.format(kind).as_bytes();
+    put_all(&[b"damaged 0x", &digits, b" ", kind, b"\n"], out)
 }
 
 // Puts the pieces one after another, as far as the sink takes them.
 fn put_all<K: Sink>(pieces: &[&[u8]], out: &mut K) -> Result<(), Failed>
     ensures ok { OnOk result (Gains (K.held out.old) (joined pieces.now) (K.held out.new)) }
-    ensures err { OnErr result (IsCutShort K.held K.faults (joined pieces.now) out.old out.new) }
+    ensures err { OnErr result (IsCutShort (joined pieces.now)
+        (seen K.held K.faults out.old) (seen K.held K.faults out.new)) }
     ensures never_falls { K.faults out.old ≤ K.faults out.new }
 {
     for piece in pieces {

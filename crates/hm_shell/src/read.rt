@@ -1,10 +1,11 @@
 // A script from its source, whole.
-ghost use Rattle.std.specs.Prelude.{◌<◌, ◌≤◌, IfErr, IfOk, vec_len};
-ghost use Rattle.hm_shell.specs.Reading.{WasRead, StoppedReading};
+ghost use Rattle.std.specs.Prelude.{◌≡◌, ◌<◌, ◌≤◌, IfErr, IfOk, vec_len};
+ghost use Rattle.hm_shell.specs.Reading.{WasRead, StoppedReading, feeds};
+ghost use Rattle.hm_shell.specs.Seen.{seen};
 
 use crate::stop::Stop;
 use hm_pipe::Source;
-use hm_types::MOST_SCRIPT_BYTES;
+use hm_types::{MOST_SCRIPT_BYTES, MOST_SCRIPT_LINES};
 use std::alloc::{AllocError, Global};
 
 // How many bytes are asked for at a time.
@@ -13,14 +14,18 @@ const PIECE_BYTES: usize = 65_536;
 /// Reads the script to its end. It stops at a fault of the source, at the first piece that makes the
 /// script too long, and where memory runs out.
 pub(crate) fn read_script<S: Source>(alloc: Global, source: &mut S) -> Result<Vec<u8>, Stop>
-    ensures ok { IfOk result (λ script. WasRead S.left source.old source.new script.items) }
-    ensures err { IfErr result (StoppedReading S.left S.faults source.old source.new) }
+    ensures ok { IfOk result (λ script.
+        WasRead (seen S.left S.faults source.old) (seen S.left S.faults source.new) script.items) }
+    ensures err { IfErr result
+        (StoppedReading (seen S.left S.faults source.old) (seen S.left S.faults source.new)) }
     ensures never_falls { S.faults source.old ≤ S.faults source.new }
 {
     let before = source.faults();
     let mut script = Vec::new(alloc);
     let mut piece = piece_buffer(alloc)?;
-    'reading: while script.len() <= MOST_SCRIPT_BYTES {
+    let mut feeds = 0;
+    let mut lines = 0;
+    'reading: while script.len() <= MOST_SCRIPT_BYTES && lines <= MOST_SCRIPT_LINES as usize {
         let Ok(count) = source.take(&mut piece) else {
             return Err(Stop::ScriptFault {
                 before,
@@ -30,6 +35,12 @@ pub(crate) fn read_script<S: Source>(alloc: Global, source: &mut S) -> Result<Ve
         if count == 0 {
             return Ok(script);
         }
+        feeds += count_feeds(&piece[..count]);
+        lines = if piece[count - 1] == b'\n' {
+            feeds
+        } else {
+            feeds + 1
+        };
         script.extend_from_slice(&piece[..count])?;
     }
     Err(Stop::TooLong)
@@ -39,4 +50,10 @@ fn piece_buffer(alloc: Global) -> Result<Vec<u8>, AllocError>
     ensures { IfOk result (λ buffer. 0 < vec_len buffer) }
 {
     vec![in alloc; 0; PIECE_BYTES]
+}
+
+fn count_feeds(piece: &[u8]) -> usize
+    ensures { result ≡ feeds piece.now }
+{
+    piece.iter().filter(|byte| **byte == b'\n').count()
 }

@@ -1,135 +1,125 @@
 // The top call.
-ghost use Rattle.std.specs.Prelude.{◌≡◌, ◌↔◌, ◌≤◌, ℕ, IfErr, IfSome, OnOk, length};
-ghost use Rattle.hm_types.specs.declared.limits.TheConstants.{MOST_SCRIPT_BYTES};
+ghost use Rattle.std.specs.Prelude.{◌≡◌, ◌≢◌, ◌↔◌, ◌≤◌, [], IfErr, OnOk};
+ghost use Rattle.hm_shell.specs.Devices.{Between, NeverFall};
+ghost use Rattle.hm_shell.specs.Printing.{Prints};
+ghost use Rattle.hm_shell.specs.Seen.{seen};
+ghost use Rattle.hm_shell.specs.Stop.{last_line, status_of};
 ghost use Rattle.hm_shell.specs.Words.{IsUsageFault, texts};
-ghost use Rattle.hm_shell.specs.Run.{Completes, HasPlan, RunsAll, StopsRunning};
-ghost use Rattle.hm_shell.specs.Ends.{Brings, Ends, IsStatus, Stops};
+ghost use Rattle.hm_shell.specs.Run.{Completes, StopsWith};
+ghost use Rattle.hm_shell.specs.Exact.{Brings, IsStatus};
 
-use crate::grammar::{BadLine, check_lines};
+use crate::devices::{Devices, Ended};
+use crate::job::prepare;
 use crate::print::print_last;
-use crate::read::read_script;
-use crate::serve::serve_lines;
 use crate::stop::Stop;
-use crate::words::planned_size;
-use hm_core::Core;
-use hm_pipe::{Sink, Source};
-use std::alloc::Global;
+use crate::volume::{Closed, run_job};
+use hm_disk::Disk;
+use hm_pipe::{Gate, Sink, Source};
+use std::sync::Wait;
+use std::thread::Threads;
 
-/// How a run ended: the exit status, and what it was given.
-#[derive(Drop)]
-pub struct Ended<S, K> {
-    pub status: u8,
-    pub script: S,
-    pub out: K,
-}
-
-/// Reads the words and the script, makes a fresh volume, runs the script's lines one after another,
-/// and prints each reply before the next line is run.
+/// Reads the words and the script, makes a volume on the disk where the words ask for one, opens the
+/// disk's volume, runs the script's lines one after another, prints each reply before the next line is
+/// run, and writes the volume back.
 ///
-/// It ends with status 0 once each line was answered. Else it ends at the first of these that it
-/// meets: words that break the rule (2), a fault of the script's source (5), a script that is too long
-/// (9), a line that is none of the grammar, in which case nothing is run (8), a fault of the sink (6),
-/// and want of memory outside a call's own reply (7). It then prints a last line, but for a fault of
-/// the sink, which ends it in silence. A fault of the sink in the last line leaves the status as it is.
-pub fn run<R: AllocGlobal, S: Source, K: Sink>(
+/// It ends with status 0 once each line was answered and the volume is on the disk. Else it ends at the
+/// first of these that it meets: words that break the rule (2), a fault of the script's source (5), a
+/// script that is too long (9), a line that is none of the grammar (8), a disk that fails (4), that has
+/// no volume or one whose header is out of range (3), or whose directories are damaged (10), a fault of
+/// the sink (6), and want of memory outside a call's own reply (7). It then prints a last line, but for
+/// a fault of the sink, which ends it in silence. A fault of the sink in the last line leaves the status
+/// as it is. Nothing is written to the disk before words and script were found good, and after a fault of
+/// the sink.
+///
+/// The streams are handed back as they are, and the gate is not called.
+pub fn run<
+    R: AllocGlobal + Threads + Wait + Sync,
+    D: Disk + Send,
+    S: Source,
+    K: Sink,
+    I: Source + Send,
+    O: Sink + Send,
+    G: Gate + Sync,
+>(
     rt: &R,
     words: &[String],
-    script: S,
-    out: K,
-) -> Ended<S, K>
-    // Each line of the script was answered, in one legal history.
-    ensures done { result.status ≡ 0 → Completes S.left K.held
-        (texts words.now) script result.script out result.out }
+    devices: Devices<D, S, K, I, O>,
+    _gate: &G,
+) -> Ended<D, S, K, I, O>
+    // Each line of the script was answered, in one legal history, and the disk keeps what it made.
+    ensures done { result.status ≡ 0 →
+        Between D.told D.faults S.left S.faults K.held K.faults devices result.devices
+        (Completes (texts words.now)) }
 
-    // The words break the rule, exactly there, and nothing was taken from the script.
+    // Any other status has its cause, tells it in the last line, and says how far the run came.
+    ensures stopped { result.status ≢ 0 →
+        Between D.told D.faults S.left S.faults K.held K.faults devices result.devices
+        (StopsWith (texts words.now) result.status) }
+
+    // The words break the rule, exactly there.
     ensures usage { (result.status ≡ 2) ↔ IsUsageFault (texts words.now) }
-    ensures usage_line { result.status ≡ 2 → Ends S.left S.faults K.held K.faults
-        (texts words.now) script result.script out result.out Stop.Usage }
 
-    // The count of faults of the script's source rose, from that as the run began to that at its end.
-    ensures script_fault { result.status ≡ 5 → Ends S.left S.faults K.held K.faults
-        (texts words.now) script result.script out result.out
-        (Stop.ScriptFault (S.faults script) (S.faults result.script)) }
-
-    // The sink's count of faults rose.
-    ensures out_fault { result.status ≡ 6 → Ends S.left S.faults K.held K.faults
-        (texts words.now) script result.script out result.out Stop.OutFault }
-
-    // Memory ran out.
-    ensures no_memory { result.status ≡ 7 → Ends S.left S.faults K.held K.faults
-        (texts words.now) script result.script out result.out Stop.NoMemory }
-
-    // The first line that is none of the grammar is told by its number, and nothing was run.
-    ensures bad_line { result.status ≡ 8 → (number : ℕ) × Ends S.left S.faults K.held K.faults
-        (texts words.now) script result.script out result.out (Stop.BadLine number) }
-
-    // More bytes were taken than a script may have.
-    ensures too_long { result.status ≡ 9 → Ends S.left S.faults K.held K.faults
-        (texts words.now) script result.script out result.out Stop.TooLong }
-
-    // Where the words are good and the source tells its script, the script decides which it is.
-    ensures exact { HasPlan (texts words.now) →
-        IfSome (S.left script) (λ told. Brings told result.status) }
+    // Where the source and the disk tell, they decide which it is.
+    ensures exact {
+        Between D.told D.faults S.left S.faults K.held K.faults devices result.devices
+        (λ old _. Brings (texts words.now) old result.status) }
     ensures statuses { IsStatus result.status }
-    ensures counts { (S.faults script ≤ S.faults result.script)
-        × (K.faults out ≤ K.faults result.out) }
+
+    // The streams are those that were given, and no count of faults falls.
+    ensures stream_in { result.devices.stream_in ≡ devices.stream_in }
+    ensures stream_out { result.devices.stream_out ≡ devices.stream_out }
+    ensures counts {
+        Between D.told D.faults S.left S.faults K.held K.faults devices result.devices NeverFall }
 {
-    let mut script = script;
-    let mut out = out;
-    let status = match serve(rt.alloc(), words, &mut script, &mut out) {
-        Ok(()) => 0,
-        Err(stop) => {
-            print_last(stop, &mut out);
-            stop.status()
-        }
+    let Devices {
+        disk,
+        mut script,
+        mut out,
+        stream_in,
+        stream_out,
+    } = devices;
+    let closed = match prepare(rt.alloc(), words, &mut script) {
+        Ok(job) => run_job(rt.alloc(), &job, disk, stream_in, stream_out, &mut out),
+        Err(stop) => Closed {
+            disk,
+            stream_in,
+            stream_out,
+            outcome: Err(stop),
+        },
     };
+    let Closed {
+        disk,
+        stream_in,
+        stream_out,
+        outcome,
+    } = closed;
+    let status = end(outcome, &mut out);
     Ended {
         status,
-        script,
-        out,
+        devices: Devices {
+            disk,
+            script,
+            out,
+            stream_in,
+            stream_out,
+        },
     }
 }
 
-// Runs up to the last line that is due where the run stops early.
-fn serve<S: Source, K: Sink>(
-    alloc: Global,
-    words: &[String],
-    source: &mut S,
-    out: &mut K,
-) -> Result<(), Stop>
-    ensures ok { OnOk result (Completes S.left K.held
-        (texts words.now) source.old source.new out.old out.new) }
-    ensures err { IfErr result (Stops S.left S.faults K.held K.faults
-        (texts words.now) source.old source.new out.old out.new) }
-    ensures source_count { S.faults source.old ≤ S.faults source.new }
-    ensures out_count { K.faults out.old ≤ K.faults out.new }
-{
-    let Some(bigblocks) = planned_size(words) else {
-        return Err(Stop::Usage);
-    };
-    let script = read_script(alloc, source)?;
-    run_script(alloc, bigblocks, &script, out)
-}
-
-// Checks every line of a script, and then runs them.
-fn run_script<K: Sink>(
-    alloc: Global,
-    bigblocks: u32,
-    script: &[u8],
-    out: &mut K,
-) -> Result<(), Stop>
-    requires { length script.now ≤ MOST_SCRIPT_BYTES }
-    ensures ok { OnOk result (RunsAll K.held bigblocks script.now out.old out.new) }
-    ensures err { IfErr result (StopsRunning K.held K.faults bigblocks script.now out.old out.new) }
+// Prints the last line of a run that stopped, and gives the exit status.
+fn end<K: Sink>(outcome: Result<(), Stop>, out: &mut K) -> u8
+    ensures done { OnOk outcome ((result ≡ 0) × (K.held out.new ≡ K.held out.old)) }
+    ensures stopped { IfErr outcome (λ stop. (result ≡ status_of stop) × Prints [] (last_line stop)
+        (seen K.held K.faults out.old) (seen K.held K.faults out.new)) }
     ensures never_falls { K.faults out.old ≤ K.faults out.new }
 {
-    let lines = match check_lines(script) {
-        Ok(lines) => lines,
-        Err(BadLine(number)) => return Err(Stop::BadLine { number }),
-    };
-    let mut core = Core::fresh(alloc, bigblocks);
-    core.reserve(2 * lines)?;
-    serve_lines(alloc, &mut core, script, out)
+    match outcome {
+        Ok(()) => 0,
+        Err(stop) => {
+            print_last(stop, out);
+            stop.status()
+        }
+    }
 }
 
 #[cfg(test)]

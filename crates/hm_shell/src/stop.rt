@@ -1,8 +1,9 @@
 // Why a run stops before its end, with the status and the last line that tell so.
 ghost use Rattle.std.specs.Prelude.{◌≡◌};
-ghost use Rattle.hm_shell.specs.Stop.{status_of};
+ghost use Rattle.hm_shell.specs.Stop.{of_fault, of_open, status_of};
 
-use hm_types::NoMemory;
+use hm_core::OpenFault;
+use hm_types::{Fault, HOff, NoMemory};
 use std::alloc::{AllocError, AllocFailed};
 
 /// Why a run stops before its end.
@@ -10,6 +11,15 @@ use std::alloc::{AllocError, AllocFailed};
 pub(crate) enum Stop {
     /// The words break the rule.
     Usage,
+    /// The disk has no header slot with an open gate and the signature.
+    NotVolume,
+    /// The field at this place of the header that counts is out of range, or at 12 the disk is too
+    /// small.
+    BadField { place: u32 },
+    /// The disk failed outside a line: its counts of faults, as the call began and after it.
+    DiskFault { before: u64, after: u64 },
+    /// What the disk holds at this offset breaks the rule of this number.
+    Damaged { at: HOff, kind: u8 },
     /// The script's source failed: its counts of faults, as the run began and now.
     ScriptFault { before: u64, after: u64 },
     /// The sink failed.
@@ -18,7 +28,7 @@ pub(crate) enum Stop {
     NoMemory,
     /// The line with this number, counted from 1, is none of the grammar.
     BadLine { number: u32 },
-    /// The script has more bytes than it may have.
+    /// The script has more bytes or more lines than it may have.
     TooLong,
 }
 
@@ -29,11 +39,36 @@ impl Stop {
     {
         match self {
             Stop::Usage => 2,
+            Stop::NotVolume | Stop::BadField { .. } => 3,
+            Stop::DiskFault { .. } => 4,
             Stop::ScriptFault { .. } => 5,
             Stop::OutFault => 6,
             Stop::NoMemory => 7,
             Stop::BadLine { .. } => 8,
             Stop::TooLong => 9,
+            Stop::Damaged { .. } => 10,
+        }
+    }
+
+    /// A volume was not made or not opened.
+    pub(crate) fn of_open(fault: OpenFault) -> Stop
+        ensures { result ≡ of_open fault }
+    {
+        match fault {
+            OpenFault::NotVolume => Stop::NotVolume,
+            OpenFault::BadField { place } => Stop::BadField { place },
+            OpenFault::Fault(fault) => Stop::of_fault(fault),
+        }
+    }
+
+    /// The disk, what it holds, or memory failed a call.
+    pub(crate) fn of_fault(fault: Fault) -> Stop
+        ensures { result ≡ of_fault fault }
+    {
+        match fault {
+            Fault::Media { before, after } => Stop::DiskFault { before, after },
+            Fault::Damaged { at, kind } => Stop::Damaged { at, kind },
+            Fault::NoMemory => Stop::NoMemory,
         }
     }
 }
@@ -45,6 +80,17 @@ impl From<AllocError> for Stop {
     ghost from_gives = { λ _ stop. stop ≡ NoMemory };
 
     fn from(_: AllocError) -> Stop {
+        Stop::NoMemory
+    }
+}
+
+impl<T: Drop> From<AllocFailed<T>> for Stop {
+    ghost use Rattle.std.specs.Prelude.{◌≡◌};
+    ghost use Rattle.hm_shell.specs.declared.stop.Stop.TheVariants.{NoMemory};
+
+    ghost from_gives = { λ _ stop. stop ≡ NoMemory };
+
+    fn from(_: AllocFailed<T>) -> Stop {
         Stop::NoMemory
     }
 }

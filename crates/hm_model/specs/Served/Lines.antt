@@ -1,13 +1,15 @@
 -- The lines that are served so far.
-use Rattle.std.specs.Prelude.{◌≡◌, ℕ, ◌+◌, List, [], ◌∷◌, ◌++◌, codes, length, All}
+use Rattle.std.specs.Prelude.{◌≡◌, ◌⊎◌, ℕ, ◌+◌, List, [], ◌∷◌, ◌++◌, Option, Some, None, false, codes, length, All, IsTrue}
 use Rattle.hm_model.specs.declared.command.Command.{Command}
-use Rattle.hm_model.specs.declared.command.Command.TheVariants.{Mkdir}
+use Rattle.hm_model.specs.declared.command.Command.TheVariants.{Mkdir, Ls}
 use Rattle.hm_model.specs.Lines.{texts_of}
+use Rattle.hm_model.specs.Script.{is_remark}
 use Rattle.hm_model.specs.Served.Due.{IsServed}
 
 -- how a command is written
 abbrev pub spelling : Command → List ℕ
 spelling (Mkdir path) = codes "mkdir " ++ path
+spelling (Ls path) = codes "ls " ++ path
 spelling other = []
 
 -- the text is a line that gives this command
@@ -15,12 +17,20 @@ pub record Spells (text : List ℕ) (command : Command) : Type 0 where
   pub written : text ≡ spelling command
   pub in_range : IsServed command
 
--- the text is a line of the grammar, or it is not
-abbrev pub IsLine : List ℕ → Type 0
-IsLine text = (command : Command) × Spells text command
+-- the text is a line that gives a command, or it is not
+abbrev pub IsCall : List ℕ → Type 0
+IsCall text = (command : Command) × Spells text command
 
+abbrev pub IsNoCall : List ℕ → Type 0
+IsNoCall text = (command : Command) → Spells text command → ⊥
+
+-- the text is one of the grammar: it gives a command, or it is a remark, which answers nothing
+abbrev pub IsLine : List ℕ → Type 0
+IsLine text = IsTrue (is_remark text) ⊎ IsCall text
+
+-- the text is none of the grammar
 abbrev pub IsNoLine : List ℕ → Type 0
-IsNoLine text = (command : Command) → Spells text command → ⊥
+IsNoLine text = (is_remark text ≡ false) × IsNoCall text
 
 -- A line that was read: its lane, which is 0 for a line without one; its number, which counts all lines
 -- from 1; and its command.
@@ -29,14 +39,20 @@ pub record Line : Type 0 where
   pub number : ℕ
   pub command : Command
 
--- these texts are these lines, numbered from here on; so far no line has a lane
+-- the text with this number is this line, or answers nothing; so far no line has a lane
+abbrev pub Reads : ℕ → List ℕ → Option Line → Type 0
+Reads number text None = IsTrue (is_remark text)
+Reads number text (Some line) =
+    (is_remark text ≡ false) × (line.lane ≡ 0) × (line.number ≡ number) × Spells text line.command
+
+-- these texts, numbered from here on, are these lines
 abbrev pub ReadsFrom : ℕ → List (List ℕ) → List Line → Type 0
 ReadsFrom number [] [] = Unit {0}
-ReadsFrom number (text ∷ texts) (line ∷ lines) =
-    (line.lane ≡ 0) × (line.number ≡ number) × Spells text line.command
-    × ReadsFrom (number + 1) texts lines
 ReadsFrom number [] (line ∷ lines) = ⊥
-ReadsFrom number (text ∷ texts) [] = ⊥
+ReadsFrom number (text ∷ texts) [] = Reads number text None × ReadsFrom (number + 1) texts []
+ReadsFrom number (text ∷ texts) (line ∷ lines) =
+    (Reads number text None × ReadsFrom (number + 1) texts (line ∷ lines))
+    ⊎ (Reads number text (Some line) × ReadsFrom (number + 1) texts lines)
 
 -- the script is these lines
 abbrev pub IsScript : List ℕ → List Line → Type 0

@@ -9,7 +9,7 @@ use Rattle.hm_path.proofs.id.read_id.Goals as goal
 
 pub overflow_mul-number : goal.overflow_mul-number
 overflow_mul-number c =
-    let few : length c.in_ok-digits.digits.now ≡ 16 = omega (arith, c.in_ok-digits.ensures.cases.2, c.requires) in
+    let few : length c.in_ok-digits.digits.now ≡ 16 = omega (arith, c.in_ok-digits.ensures.cases.2) in
     let room = room_for_digit c.in_ok-digits.digits.now c.loop-digit.digit-index (omega arith) (omega arith) c.loop-digit.invariant.each in
     omega (arith, room)
 
@@ -22,7 +22,7 @@ returns-in_err-to_digit c =
 
 pub overflow_add-number : goal.overflow_add-number
 overflow_add-number c =
-    let few : length c.in_ok-digits.digits.now ≡ 16 = omega (arith, c.in_ok-digits.ensures.cases.2, c.requires) in
+    let few : length c.in_ok-digits.digits.now ≡ 16 = omega (arith, c.in_ok-digits.ensures.cases.2) in
     let room = room_for_digit c.in_ok-digits.digits.now c.loop-digit.digit-index (omega arith) (omega arith) c.loop-digit.invariant.each in
     let small : c.in_ok-to_digit.field-0 < 16 = rw c.in_ok-to_digit.ensures.value.1 c.in_ok-to_digit.ensures.value.0 in
     omega (arith, room, small)

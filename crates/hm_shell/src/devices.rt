@@ -1,0 +1,23 @@
+// What a run is given, and what it hands back.
+
+/// The devices of a run.
+#[derive(Drop)]
+pub struct Devices<D, S, K, I, O> {
+    /// The volume's disk.
+    pub disk: D,
+    /// Where the script comes from.
+    pub script: S,
+    /// Where the replies go.
+    pub out: K,
+    /// Where a stream would come from. No line reads one so far.
+    pub stream_in: I,
+    /// Where a stream would go. No line writes one so far.
+    pub stream_out: O,
+}
+
+/// How a run ended: the exit status, and the devices that it was given.
+#[derive(Drop)]
+pub struct Ended<D, S, K, I, O> {
+    pub status: u8,
+    pub devices: Devices<D, S, K, I, O>,
+}
