@@ -1,0 +1,57 @@
+-- What a change of the header does.
+use Rattle.std.specs.Prelude.{◌≡◌, ◌⊎◌, ℕ, ◌+◌, ◌-◌, ◌%◌, ◌^◌, List, [], ◌∷◌, length, slice_range}
+use Rattle.hm_types.specs.declared.limits.TheConstants.{BIGBLOCK_BYTES}
+use Rattle.hm_disk.specs.Crash.{Told, MayLeave}
+use Rattle.hm_header.specs.declared.header.Header.{Header}
+use Rattle.hm_header.specs.declared.header.TheConstants.{SLOT_BYTES}
+use Rattle.hm_core.specs.Listed.{list_place}
+use Rattle.hm_core.specs.Slots.{slot_place}
+use Rattle.hm_core.specs.Stands.{HasHeader}
+
+-- the header that is written after another, on the same volume
+pub record IsNext (header next : Header) : Type 0 where
+  pub bigblocks : next.bigblocks ≡ header.bigblocks
+  pub generation : next.generation ≡ (header.generation + 1) % 2 ^ 64
+
+-- where the list of a header stands
+abbrev pub list_of : Header → ℕ
+list_of header = list_place header.bigblocks header.generation
+
+-- the big-block in which it stands
+abbrev pub list_block_of : List ℕ → Header → List ℕ
+list_block_of bytes header = slice_range bytes (list_of header) (list_of header + BIGBLOCK_BYTES)
+
+-- the slot of this number counts, with this header, and these bytes stand at the place of its list
+pub record HasHeaderAndList (bytes : List ℕ) (header : Header) (number : ℕ) (list : List ℕ) : Type 0 where
+  pub header_is : HasHeader bytes header number
+  pub list_is : slice_range bytes (list_of header) (list_of header + length list) ≡ list
+
+-- the slot counts that counted, with this header, and the big-block of its list is as before
+pub record CountsStill (header : Header) (number : ℕ) (old new : List ℕ) : Type 0 where
+  pub header_is : HasHeader new header number
+  pub list_is : list_block_of new header ≡ list_block_of old header
+
+-- each byte outside the slot of this number is as before
+abbrev pub KeepsOthers : ℕ → List ℕ → List ℕ → Type 0
+KeepsOthers number old new = MayLeave old ((slot_place number, SLOT_BYTES) ∷ []) new
+
+-- a header counts, in the slot of this number, which alone was written, and nothing is unsettled
+pub record Changes (header : Header) (number : ℕ) (old new : Told) : Type 0 where
+  pub header_is : HasHeader new.bytes header number
+  pub others : KeepsOthers number old.bytes new.bytes
+  pub settled : new.unsettled ≡ []
+
+-- the old header counts still, or the next one, in the other slot, which alone was written
+pub record MayChange (header : Header) (slot : ℕ) (next : Header) (old new : List ℕ) : Type 0 where
+  pub header_is : HasHeader new header slot ⊎ HasHeader new next (1 - slot)
+  pub others : KeepsOthers (1 - slot) old new
+
+-- the next header counts, in the slot that did not count, with this list, and nothing is unsettled
+pub record Commits (next : Header) (slot : ℕ) (list : List ℕ) (new : Told) : Type 0 where
+  pub stands : HasHeaderAndList new.bytes next (1 - slot) list
+  pub settled : new.unsettled ≡ []
+
+-- the old header counts still, with its list, or the next one, with this list
+abbrev pub MayCommit : Header → ℕ → Header → List ℕ → Told → Told → Type 0
+MayCommit header slot next list old new =
+    CountsStill header slot old.bytes new.bytes ⊎ HasHeaderAndList new.bytes next (1 - slot) list
