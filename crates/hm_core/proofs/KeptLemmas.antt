@@ -1,13 +1,13 @@
 -- The directories that a volume may have, as one more is made.
-use Rattle.std.proofs.Common.{◌≡◌, ℕ, ◌+◌, ◌<◌, ◌≤◌, Bool, true, false, List, [], ◌∷◌, ◌++◌, All, length, refl, sym, ◌∙◌, ap, arith, length-append}
+use Rattle.std.proofs.Common.{◌≡◌, ℕ, ◌+◌, ◌-◌, ◌<◌, ◌≤◌, Bool, true, false, IsTrue, List, [], ◌∷◌, ◌++◌, All, length, get_or, refl, sym, ◌∙◌, ap, subst, arith, length-append}
 use Rattle.std.specs.Prelude.{◌||◌, map}
 use Rattle.std.specs.List.{list_any, AllByRecursion, IsDistinct}
 use Rattle.std.specs.List.Sorted.{IsStrictlySortedBy}
 use Rattle.std.specs.declared.cmp.Ordering.TheVariants.{Less}
-use Rattle.std.specs.Ordering.{nat_cmp}
+use Rattle.std.specs.Ordering.{nat_cmp, is_lt}
 use Rattle.std.specs.Str.{bytes_eq}
 use Rattle.std.proofs.lemmas.Bool.Decides.{nat_tests}
-use Rattle.std.proofs.lemmas.List.Elements.{All-push, All-weaker, recursion_from_All}
+use Rattle.std.proofs.lemmas.List.Elements.{All-from_recursion, All-push, All-weaker, recursion_from_All}
 use Rattle.hm_model.specs.declared.served.TheConstants.{MOST_DIRECTORIES}
 use Rattle.hm_core.specs.declared.directory.Directory.{Directory}
 use Rattle.hm_core.specs.Directories.{AreDirectories, IsDirectory, id_of, name_of}
@@ -55,12 +55,12 @@ sorted_push [] d sorted below = (tt, tt)
 sorted_push (c ∷ ds) d sorted below = (all_less c.id.0 ds d sorted.0 below.0, sorted_push ds d sorted.1 below.1)
 
 pub first_false : (b c : Bool) → (b || c) ≡ false → b ≡ false
-first_false true c no = no
-first_false false c no = refl
+first_false true c h = h
+first_false false c h = refl
 
 pub second_false : (b c : Bool) → (b || c) ≡ false → c ≡ false
-second_false true c no = absurd (cc)
-second_false false c no = no
+second_false true c h = absurd (cc)
+second_false false c h = h
 
 all_apart : (name : List ℕ) (ds : List Directory) (d : Directory) → AllByRecursion (λ y. bytes_eq name y ≡ false) (map name_of ds) → bytes_eq name d.name ≡ false → AllByRecursion (λ y. bytes_eq name y ≡ false) (map name_of (ds ++ d ∷ []))
 all_apart name [] d apart differ = (differ, tt)
@@ -87,3 +87,35 @@ kept_push last next ds d later kept room below new is = record {
 pub below_next : (last next : ℕ) (ds : List Directory) → last < next → AreUntil last ds → AllByRecursion (λ (c : Directory). c.id.0 < next) ds
 below_next last next [] later until = tt
 below_next last next (d ∷ ds) later until = (omega (arith, until.0), below_next last next ds later until.1)
+
+-- the last of directories whose ids rise is above the others
+below_last : (d : Directory) (ds : List Directory) (b : Directory) → Rise (d ∷ ds) → b ≡ get_or (d ∷ ds) (length ds) b → AllByRecursion (λ (e : Directory). e.id.0 ≤ b.id.0) (d ∷ ds)
+below_last d [] b rise is = let same = ap id_of is in (omega (arith, same), tt)
+below_last d (e ∷ es) b rise is =
+    let rest = below_last e es b rise.1 is in
+    (omega (arith, rise.0.0, rest.0), rest)
+
+less_all : (t id : ℕ) (ds : List Directory) → t < id → AllByRecursion (λ (e : Directory). e.id.0 ≤ t) ds → AllByRecursion (λ (e : Directory). e.id.0 < id) ds
+less_all t id [] less below = tt
+less_all t id (d ∷ ds) less below = (omega (arith, below.0), less_all t id ds less below.1)
+
+all_below : (ds : List Directory) (b : Directory) (id : ℕ) → Rise ds → b ≡ get_or ds (length ds - 1) b → b.id.0 < id → AllByRecursion (λ (e : Directory). e.id.0 < id) ds
+all_below [] b id rise is less = tt
+all_below (d ∷ ds) b id rise is less =
+    let last : b ≡ get_or (d ∷ ds) (length ds) b = is ∙ ap (λ n. get_or (d ∷ ds) n b) (omega arith) in
+    less_all b.id.0 id (d ∷ ds) less (below_last d ds b rise last)
+
+-- an id is above all where it is above the last
+pub above_last : (xs now : List Directory) (b : Directory) (id : ℕ) (r : Bool) → xs ≡ now → IsStrictlySortedBy nat_cmp (map id_of now) → 0 < length xs → b ≡ get_or xs (length xs - 1) b → r ≡ is_lt (nat_cmp b.id.0 id) → (IsTrue r → All (λ (e : Directory). e.id.0 < id) now) × (All (λ (e : Directory). e.id.0 < id) now → IsTrue r)
+above_last xs now b id r same sorted some last told = (
+  (λ yes.
+      let less : b.id.0 < id = grind (arith, nat_tests, told, yes) in
+      All-from_recursion (λ (e : Directory). e.id.0 < id) now (all_below now b id (Rise-sorted now sorted) here less)),
+  (λ all.
+      let P : Directory → Type 0 = λ e. e.id.0 < id in
+      let less : b.id.0 < id = subst P (sym here) (all (length now - 1) b (omega (arith, ap length same))) in
+      grind (arith, nat_tests, told, less)),
+)
+  where
+    here : b ≡ get_or now (length now - 1) b
+    here = last ∙ ap (λ ys. get_or ys (length ys - 1) b) same

@@ -1,3 +1,9 @@
+pub mod ChangeLemmas
+pub mod HeaderLemmas
+pub mod GateLemmas
+pub mod SlotLemmas
+pub mod AnswerLemmas
+pub mod RangeLemmas
 pub mod IndexLemmas
 pub mod TreeLemmas
 pub mod VersionLemmas
@@ -6,3 +12,5 @@ pub mod StepLemmas
 pub mod BytesLemmas
 pub mod ReadLemmas
 pub mod MountLemmas
+pub mod FinishLemmas
+pub mod AsOfLemmas

@@ -57,7 +57,7 @@ HoldsAt-read bytes place count buf size n last ds was number read =
     ∙ (take-add 8 long tail
     ∙ rw (head, rest) refl))
 
-short_each : (last : ℕ) (ds : List Directory) → AllByRecursion (IsDirectory last) ds → length (entry_bytes ds) ≤ 265 * length ds
+pub short_each : (last : ℕ) (ds : List Directory) → AllByRecursion (IsDirectory last) ds → length (entry_bytes ds) ≤ 265 * length ds
 short_each last [] each = omega arith
 short_each last (d ∷ ds) each =
     omega (arith, short_each last ds each.1, length-append (directory_bytes d) (entry_bytes ds), length-directory_bytes d, each.0.name.size)

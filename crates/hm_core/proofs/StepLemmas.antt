@@ -93,7 +93,8 @@ module _ (bigblocks last : ℕ) (ds : List Directory) (kept : Kept last ds) (lat
   when_is_due greatest path Now NotRetained is lists = absurd (cc)
   when_is_due greatest path (AsOf t) NotRetained is lists =
       let none : when_of path ≡ AsOf 0 = is ∙ lists in
-      inl (rw none refl)
+      let here : nat_lt last 0 ≡ false = grind (arith, nat_tests) in
+      inl (rw (none, here) refl)
   when_is_due greatest path when NoMemory is lists = inr refl
   when_is_due greatest path when other is lists = absurd lists
 

@@ -84,7 +84,8 @@ entries-tree_of ds new = rw (triples-tree_of ds new) (entries_in-triples (index_
 -- the root has as many entries as there are directories
 pub length-entries : (ds : List Directory) → AreNew [] ds → length (entries_in (tree_from root_tree ds) root_number) ≡ length ds
 length-entries ds new =
-    ap length (entries-tree_of ds new) ∙ (length-triples_of (index_of ds) ∙ length-indexed [] ds new)
+    let more = length-indexed [] ds new in
+    ap length (entries-tree_of ds new) ∙ (length-triples_of (index_of ds) ∙ omega (arith, more))
 
 -- each object is a directory
 abbrev AreDirs : List Object → Type 0
@@ -167,11 +168,11 @@ Holds-tree_of ds = Holds-from root_tree [] ds (record { dirs = (refl, tt); have 
 -- an object that is there is a directory
 kind_is : (objects : List Object) (number : ℕ) → AreDirs objects → has_object objects number ≡ true → option_map_or (λ (o : Object). kind_number o.kind) (find (λ o. o.number.0 == number) objects) 0 ≡ 1
 kind_is [] number dirs has = absurd (cc)
-kind_is (o ∷ os) number dirs has = by_test (o.number.0 == number) refl
+kind_is (o ∷ os) number dirs has = by_test (o.number.0 == number) refl (λ later. kind_is os number dirs.1 later)
   where
-    by_test : (b : Bool) → (o.number.0 == number) ≡ b → option_map_or (λ (p : Object). kind_number p.kind) (find (λ p. p.number.0 == number) (o ∷ os)) 0 ≡ 1
-    by_test true is = rw is (ap kind_number dirs.0)
-    by_test false is = rw is (kind_is os number dirs.1 (rw is at has))
+    by_test : (b : Bool) → (o.number.0 == number) ≡ b → (has_object os number ≡ true → option_map_or (λ (p : Object). kind_number p.kind) (find (λ p. p.number.0 == number) os) 0 ≡ 1) → option_map_or (λ (p : Object). kind_number p.kind) (find (λ p. p.number.0 == number) (o ∷ os)) 0 ≡ 1
+    by_test true is later = rw is (ap kind_number dirs.0)
+    by_test false is later = rw is (later (rw is at has))
 
 shown_triples : (tree : FileTree) (es : Entries) → AreDirs tree.objects → HaveObjects tree.objects es → map (λ t. (entry_kind tree t.object, t.name)) (triples_of es) ≡ shown_names es
 shown_triples tree [] dirs have = refl

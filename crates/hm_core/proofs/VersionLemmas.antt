@@ -59,7 +59,8 @@ as_of-above : (t : ℕ) (tree next : FileTree) (ds : List Directory) → AreAbov
 as_of-above t tree next [] above = refl
 as_of-above t tree next (d ∷ ds) above =
     let no : nat_le d.id.0 t ≡ false = grind (arith, nat_tests, above.0) in
-    rw no (as_of-above t tree (with_one next d) ds above.1)
+    ap (λ b. as_of t (if b then with_one next d else tree) (versions_from (with_one next d) ds)) no
+    ∙ as_of-above t tree (with_one next d) ds above.1
 
 made_until-above : (t : ℕ) (ds : List Directory) → AreAbove t ds → made_until t ds ≡ []
 made_until-above t [] above = refl
@@ -70,14 +71,19 @@ made_until-above t (d ∷ ds) above =
 -- as of an id the tree of those shows that were made up to it
 pub as_of-versions : (t : ℕ) (tree : FileTree) (ds : List Directory) → Rise ds → as_of t tree (versions_from tree ds) ≡ tree_from tree (made_until t ds)
 as_of-versions t tree [] rise = refl
-as_of-versions t tree (d ∷ ds) rise = by_test (nat_le d.id.0 t) refl
+as_of-versions t tree (d ∷ ds) rise = by_test (nat_le d.id.0 t) refl (as_of-versions t (with_one tree d) ds rise.1)
   where
-    by_test : (b : Bool) → nat_le d.id.0 t ≡ b → as_of t tree (versions_from tree (d ∷ ds)) ≡ tree_from tree (made_until t (d ∷ ds))
-    by_test true is = rw is (as_of-versions t (with_one tree d) ds rise.1)
-    by_test false is =
+    by_test : (b : Bool) → nat_le d.id.0 t ≡ b → as_of t (with_one tree d) (versions_from (with_one tree d) ds) ≡ tree_from (with_one tree d) (made_until t ds) → as_of t (if nat_le d.id.0 t then with_one tree d else tree) (versions_from (with_one tree d) ds) ≡ tree_from tree (if nat_le d.id.0 t then d ∷ made_until t ds else made_until t ds)
+    by_test true is later =
+        ap (λ b. as_of t (if b then with_one tree d else tree) (versions_from (with_one tree d) ds)) is
+        ∙ (later ∙ sym (ap (λ b. tree_from tree (if b then d ∷ made_until t ds else made_until t ds)) is))
+    by_test false is later =
         let late : t < d.id.0 = grind (arith, nat_tests, is) in
         let above : AreAbove t ds = above_more t d.id.0 ds (omega arith) rise.0 in
-        rw (is, as_of-above t tree (with_one tree d) ds above, made_until-above t ds above) refl
+        ap (λ b. as_of t (if b then with_one tree d else tree) (versions_from (with_one tree d) ds)) is
+        ∙ (as_of-above t tree (with_one tree d) ds above
+        ∙ sym (ap (λ b. tree_from tree (if b then d ∷ made_until t ds else made_until t ds)) is
+        ∙ ap (λ xs. tree_from tree xs) (made_until-above t ds above)))
 
 pub made_until-all : (t : ℕ) (ds : List Directory) → AreUntil t ds → made_until t ds ≡ ds
 made_until-all t [] until = refl
@@ -89,12 +95,14 @@ made_until-all t (d ∷ ds) until =
 pub at-volume_of : (bigblocks last t : ℕ) (ds : List Directory) → Rise ds → 1 ≤ t → at (volume_of bigblocks last ds) 0 t ≡ tree_from root_tree (made_until t ds)
 at-volume_of bigblocks last t ds rise later =
     let yes : nat_le 1 t ≡ true = grind (arith, nat_tests, later) in
-    rw yes (as_of-versions t root_tree ds rise)
+    ap (λ b. as_of t (if b then root_tree else no_tree) (versions_from root_tree ds)) yes
+    ∙ as_of-versions t root_tree ds rise
 
 pub shown-volume_of : (bigblocks last : ℕ) (ds : List Directory) → Rise ds → AreUntil last ds → 1 ≤ last → shown (volume_of bigblocks last ds) 0 ≡ tree_from root_tree ds
 shown-volume_of bigblocks last ds rise until later =
     let yes : nat_le 1 last ≡ true = grind (arith, nat_tests, later) in
-    rw (yes, as_of-versions last root_tree ds rise, made_until-all last ds until) refl
+    ap (λ b. as_of last (if b then root_tree else no_tree) (versions_from root_tree ds)) yes
+    ∙ (as_of-versions last root_tree ds rise ∙ ap (λ xs. tree_from root_tree xs) (made_until-all last ds until))
 
 -- one more directory is one more version
 pub versions_from-push : (tree : FileTree) (ds : List Directory) (d : Directory) → versions_from tree (ds ++ d ∷ []) ≡ versions_from tree ds ++ (d.id.0, with_one (tree_from tree ds) d) ∷ []
@@ -149,11 +157,12 @@ filter-made t (e ∷ es) made = rw made.0 (ap (λ xs. e ∷ xs) (filter-made t e
 
 filter-indexed : (t : ℕ) (es : Entries) (ds : List Directory) → AreNew es ds → Rise ds → WereMade t es → filter (was_made t) (indexed es ds) ≡ indexed es (made_until t ds)
 filter-indexed t es [] new rise made = filter-made t es made
-filter-indexed t es (d ∷ ds) new rise made = by_test (nat_le d.id.0 t) refl
+filter-indexed t es (d ∷ ds) new rise made =
+    by_test (nat_le d.id.0 t) refl (λ made. filter-indexed t (with_entry es d.name d.id) ds new.1 rise.1 made)
   where
-    by_test : (b : Bool) → nat_le d.id.0 t ≡ b → filter (was_made t) (indexed es (d ∷ ds)) ≡ indexed es (made_until t (d ∷ ds))
-    by_test true is = rw is (filter-indexed t (with_entry es d.name d.id) ds new.1 rise.1 (WereMade-entry t es d.name d.id is made))
-    by_test false is =
+    by_test : (b : Bool) → nat_le d.id.0 t ≡ b → (WereMade t (with_entry es d.name d.id) → filter (was_made t) (indexed (with_entry es d.name d.id) ds) ≡ indexed (with_entry es d.name d.id) (made_until t ds)) → filter (was_made t) (indexed es (d ∷ ds)) ≡ indexed es (made_until t (d ∷ ds))
+    by_test true is later = rw is (later (WereMade-entry t es d.name d.id is made))
+    by_test false is later =
         let late : t < d.id.0 = grind (arith, nat_tests, is) in
         let above : AreAbove t ds = above_more t d.id.0 ds (omega arith) rise.0 in
         rw (is, made_until-above t ds above) (filter-above t es (d ∷ ds) new (late, above) ∙ filter-made t es made)
@@ -165,11 +174,11 @@ filter-index t ds new rise = filter-indexed t [] ds new rise tt
 -- of directories that are new one after another, those up to an id are too
 still_new : (t : ℕ) (es : Entries) (ds : List Directory) → AreNew es ds → Rise ds → AreNew es (made_until t ds)
 still_new t es [] new rise = tt
-still_new t es (d ∷ ds) new rise = by_test (nat_le d.id.0 t) refl
+still_new t es (d ∷ ds) new rise = by_test (nat_le d.id.0 t) refl (still_new t (with_entry es d.name d.id) ds new.1 rise.1)
   where
-    by_test : (b : Bool) → nat_le d.id.0 t ≡ b → AreNew es (made_until t (d ∷ ds))
-    by_test true is = rw is (new.0, still_new t (with_entry es d.name d.id) ds new.1 rise.1)
-    by_test false is =
+    by_test : (b : Bool) → nat_le d.id.0 t ≡ b → AreNew (with_entry es d.name d.id) (made_until t ds) → AreNew es (made_until t (d ∷ ds))
+    by_test true is later = rw is (new.0, later)
+    by_test false is later =
         let late : t < d.id.0 = grind (arith, nat_tests, is) in
         let above : AreAbove t ds = above_more t d.id.0 ds (omega arith) rise.0 in
         rw (is, made_until-above t ds above) tt

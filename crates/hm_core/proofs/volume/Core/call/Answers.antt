@@ -12,7 +12,7 @@ returns-clause-legal g c =
 
 pub returns-clause-steps : goal.returns-clause-steps
 returns-clause-steps g c = rw (← c.self.view_is) (
-  c.len-place.ensures,
+  omega (arith, c.len-place.ensures, c.self.inside.history.ok),
   record {
     entry = entry_of (c.self.inside.last.0 + 1) c.args.lane c.args.line c.args.command c.answer-reply.result;
     history = c.push_reserved.ensures.items;
