@@ -19,3 +19,7 @@ OnErr-all (Err error) P p = p
 pub IfSome-map : (told : Option Told) (P Q : Told → Type 0) → ((t : Told) → P t → Q t) → IfSome told P → IfSome told Q
 IfSome-map None P Q step p = tt
 IfSome-map (Some t) P Q step p = step t p
+
+pub IfSome-both : (told : Option Told) (P Q R : Told → Type 0) → ((t : Told) → P t → Q t → R t) → IfSome told P → IfSome told Q → IfSome told R
+IfSome-both None P Q R step p q = tt
+IfSome-both (Some t) P Q R step p q = step t p q

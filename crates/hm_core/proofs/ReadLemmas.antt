@@ -1,120 +1,110 @@
--- Reading a list of directories, one after another.
-use Rattle.std.proofs.Common.{◌≡◌, ℕ, ◌+◌, ◌-◌, ◌*◌, ◌^◌, ◌<◌, ◌≤◌, Bool, false, List, [], ◌∷◌, ◌++◌, All, length, refl, sym, ◌∙◌, ap, subst, arith, append_assoc, append-nil, length-append}
-use Rattle.std.specs.Prelude.{◌||◌, map}
-use Rattle.std.specs.List.{flat_map, AllByRecursion, IsDistinct, list_any}
-use Rattle.std.specs.List.Sorted.{IsStrictlySortedBy}
-use Rattle.std.specs.declared.cmp.Ordering.TheVariants.{Less}
-use Rattle.std.specs.Ordering.{nat_cmp}
-use Rattle.std.specs.Str.{bytes_eq}
-use Rattle.std.proofs.lemmas.Bool.Decides.{nat_tests}
-use Rattle.std.proofs.lemmas.List.Concat.{flat_map-append}
-use Rattle.std.proofs.lemmas.List.Elements.{All-from_recursion, recursion_from_All}
-use Rattle.hm_types.specs.declared.limits.TheConstants.{GREATEST_ID}
-use Rattle.hm_model.specs.declared.served.TheConstants.{MOST_DIRECTORIES}
-use Rattle.hm_core.specs.declared.directory.Directory.{Directory}
-use Rattle.hm_core.specs.Directories.{AreDirectories, IsDirectory, id_of, name_of}
-use Rattle.hm_core.specs.Index.{is_taken}
-use Rattle.hm_core.specs.Listed.{directory_bytes}
-use Rattle.hm_core.specs.Read.{BeginsWith, BeginsWithNone, IsReadFrom, IsNoneReadFrom, MayAdd}
-use Rattle.hm_core.proofs.BytesLemmas.{MayStand, entry_bytes, begins_longer}
-use Rattle.hm_core.proofs.KeptLemmas.{kept_push}
+-- Reading the slots of a disk.
+use Rattle.std.proofs.Common.{◌≡◌, ◌⊎◌, inl, inr, ℕ, ◌+◌, ◌-◌, ◌<◌, ◌≤◌, min, List, [], ◌∷◌, ◌++◌, refl, sym, ap, subst, ◌∙◌, arith, length, take, drop, get_or, slice_range, Option, Some, None, IfSome, Result, Ok, Err, IfOk, IfErr}
+use Rattle.std.proofs.lemmas.List.{places, ext_get_or, take_at}
+use Rattle.hm_types.specs.declared.fault.Failed.{Failed}
+use Rattle.hm_types.specs.declared.fault.Fault.{Fault}
+use Rattle.hm_disk.specs.Crash.{Told}
+use Rattle.hm_core.specs.Slots.{with_counts}
+use Rattle.hm_core.specs.Stands.{first_slot, second_slot}
 
--- so many directories were read from bytes, and these bytes are left
-pub record ReadSoFar (bytes : List ℕ) (count last : ℕ) (ds : List Directory) (rest : List ℕ) : Type 0 where
-  pub bytes_are : bytes ≡ entry_bytes ds ++ rest
-  pub count_is : length ds ≡ count
-  pub kept : AreDirectories last ds
-
--- none were read yet
-pub ReadSoFar-none : (bytes : List ℕ) (last : ℕ) → ReadSoFar bytes 0 last [] bytes
-unfolding IsStrictlySortedBy IsDistinct
-ReadSoFar-none bytes last = record {
-  bytes_are = refl;
-  count_is = refl;
-  kept = record { few = omega arith; rising = tt; each = All-from_recursion (IsDirectory last) [] tt; apart = tt };
-}
-
--- one more was read
-pub ReadSoFar-more : (bytes : List ℕ) (count last : ℕ) (ds : List Directory) (d : Directory) (rest after : List ℕ) → count < MOST_DIRECTORIES → ReadSoFar bytes count last ds rest → BeginsWith rest d after → MayAdd last ds d → ReadSoFar bytes (count + 1) last (ds ++ d ∷ []) after
-ReadSoFar-more bytes count last ds d rest after few so_far begins may = record {
-  bytes_are =
-      so_far.bytes_are
-      ∙ (ap (λ xs. entry_bytes ds ++ xs) begins.bytes_are
-      ∙ (sym (append_assoc (entry_bytes ds) (directory_bytes d) after)
-      ∙ ap (λ xs. xs ++ after) (sym (flat_map-append directory_bytes ds (d ∷ []) ∙ ap (λ xs. entry_bytes ds ++ xs) (append-nil (directory_bytes d))))));
-  count_is = omega (arith, length-append ds (d ∷ []), so_far.count_is);
-  kept = kept_push last last ds d (omega arith) so_far.kept (omega (arith, so_far.count_is)) (recursion_from_All (λ (e : Directory). e.id.0 < d.id.0) ds may.rises) may.new (record { later = may.later; drawn = may.drawn; name = begins.named });
-}
-
--- all were read
-pub IsReadFrom-all : (bytes : List ℕ) (count last : ℕ) (ds : List Directory) (rest : List ℕ) → ReadSoFar bytes count last ds rest → IsReadFrom bytes count last ds
-IsReadFrom-all bytes count last ds rest so_far = record {
-  rest = rest;
-  bytes_are = so_far.bytes_are;
-  count_is = so_far.count_is;
-  kept = so_far.kept;
-}
-
-stand_each : (last : ℕ) → last < 2 ^ 64 → (ds : List Directory) → AllByRecursion (IsDirectory last) ds → AllByRecursion MayStand ds
-stand_each last small [] each = tt
-stand_each last small (d ∷ ds) each = (record { id = omega (arith, each.0.drawn); named = each.0.name }, stand_each last small ds each.1)
-
--- directories of a volume may stand in a list
-MayStand-kept : (last : ℕ) (ds : List Directory) → last < 2 ^ 64 → AreDirectories last ds → AllByRecursion MayStand ds
-MayStand-kept last ds small kept = stand_each last small ds (recursion_from_All (IsDirectory last) ds kept.each)
-
-less_here : (t : ℕ) (ds more : List Directory) (d : Directory) → AllByRecursion (λ y. nat_cmp t y ≡ Less) (map id_of (ds ++ d ∷ more)) → t < d.id.0
-less_here t [] more d less = grind (arith, nat_tests, less.0)
-less_here t (c ∷ ds) more d less = less_here t ds more d less.1
-
-rises_here : (ds more : List Directory) (d : Directory) → IsStrictlySortedBy nat_cmp (map id_of (ds ++ d ∷ more)) → AllByRecursion (λ (e : Directory). e.id.0 < d.id.0) ds
-unfolding IsStrictlySortedBy
-rises_here [] more d sorted = tt
-rises_here (c ∷ ds) more d sorted = (less_here c.id.0 ds more d sorted.0, rises_here ds more d sorted.1)
-
-apart_here : (name : List ℕ) (ds more : List Directory) (d : Directory) → AllByRecursion (λ y. bytes_eq name y ≡ false) (map name_of (ds ++ d ∷ more)) → bytes_eq name d.name ≡ false
-apart_here name [] more d apart = apart.0
-apart_here name (c ∷ ds) more d apart = apart_here name ds more d apart.1
-
-none_of_both : (b c : Bool) → b ≡ false → c ≡ false → (b || c) ≡ false
-none_of_both b c first second = rw (first, second) refl
-
-new_here : (ds more : List Directory) (d : Directory) → IsDistinct bytes_eq (map name_of (ds ++ d ∷ more)) → is_taken d.name ds ≡ false
-unfolding IsDistinct
-new_here [] more d apart = refl
-new_here (c ∷ ds) more d apart =
-    none_of_both (bytes_eq c.name d.name) (is_taken d.name ds) (apart_here c.name ds more d apart.0) (new_here ds more d apart.1)
-
-each_here : (last : ℕ) (ds more : List Directory) (d : Directory) → AllByRecursion (IsDirectory last) (ds ++ d ∷ more) → IsDirectory last d
-each_here last [] more d each = each.0
-each_here last (c ∷ ds) more d each = each_here last ds more d each.1
-
--- each directory of such a list may be added to those before it
-may_add_here : (last : ℕ) (ds more : List Directory) (d : Directory) → AreDirectories last (ds ++ d ∷ more) → MayAdd last ds d
-may_add_here last ds more d kept =
-    let is : IsDirectory last d = each_here last ds more d (recursion_from_All (IsDirectory last) (ds ++ d ∷ more) kept.each) in
-    record {
-      later = is.later;
-      drawn = is.drawn;
-      rises = All-from_recursion (λ (e : Directory). e.id.0 < d.id.0) ds (rises_here ds more d kept.rising);
-      new = new_here ds more d kept.apart;
-    }
-
--- where no directory that may be added comes next, the bytes begin with no such list
-pub IsNoneReadFrom-next : (bytes : List ℕ) (i count last : ℕ) (ds : List Directory) (rest : List ℕ) → last < 2 ^ 64 → i < count → ReadSoFar bytes i last ds rest → ((d : Directory) (after : List ℕ) → BeginsWith rest d after → MayAdd last ds d → ⊥) → IsNoneReadFrom bytes count last
-IsNoneReadFrom-next bytes i count last ds rest small within so_far none es read =
-    let longer = begins_longer ds es rest read.rest (MayStand-kept last ds small so_far.kept) (MayStand-kept last es small read.kept) (sym so_far.bytes_are ∙ read.bytes_are) (omega (arith, so_far.count_is, read.count_is)) in
-    next longer.0 longer.1 longer.2
+-- so many bytes as there are, of at most that many
+take-most : (bytes : List ℕ) (count most : ℕ) → count ≡ min (length bytes) most → take count bytes ≡ take most bytes
+take-most bytes count most is =
+    ext_get_or 0 (take count bytes) (take most bytes) (grind (arith, places)) (λ i below. each i (short i below))
   where
-    next : (more : List Directory) → es ≡ ds ++ more → rest ≡ entry_bytes more ++ read.rest → ⊥
-    next [] is after = absurd (omega (arith, so_far.count_is, read.count_is, ap length is, length-append ds []))
-    next (d ∷ more) is after =
-        let P : List Directory → Type 0 = λ xs. AreDirectories last xs in
-        let kept : AreDirectories last (ds ++ d ∷ more) = subst P is read.kept in
-        let this : IsDirectory last d = each_here last ds more d (recursion_from_All (IsDirectory last) (ds ++ d ∷ more) kept.each) in
-        let begins : BeginsWith rest d (entry_bytes more ++ read.rest) = record {
-          bytes_are = after ∙ append_assoc (directory_bytes d) (entry_bytes more) read.rest;
-          id = omega (arith, this.drawn);
-          named = this.name;
-        } in
-        none d (entry_bytes more ++ read.rest) begins (may_add_here last ds more d kept)
+    short : (i : ℕ) → i < length (take count bytes) → (i < count) × (i < most)
+    short i below =
+        let low : i < count = grind (arith, places) in
+        (low, omega (arith, low, is))
+
+    each : (i : ℕ) → (i < count) × (i < most) → get_or (take count bytes) i 0 ≡ get_or (take most bytes) i 0
+    each i low =
+        let early = low.0 in
+        let late = low.1 in
+        grind (arith, places)
+
+-- the first part of what was read of two parts
+first-part : (bytes : List ℕ) (half one both : ℕ) → one ≤ both → half ≡ min (min (length bytes) both) one → take half (take both bytes) ≡ take one bytes
+first-part bytes half one both order is =
+    ext_get_or 0 (take half (take both bytes)) (take one bytes) (grind (arith, places)) (λ i below. each i (short i below))
+  where
+    short : (i : ℕ) → i < length (take half (take both bytes)) → i < half
+    short i below = grind (arith, places)
+
+    each : (i : ℕ) → i < half → get_or (take half (take both bytes)) i 0 ≡ get_or (take one bytes) i 0
+    each i low = grind (arith, places)
+
+-- and the second one
+second-part : (bytes : List ℕ) (half one both : ℕ) → one ≤ both → half ≡ min (min (length bytes) both) one → drop half (take both bytes) ≡ slice_range bytes one both
+second-part bytes half one both order is =
+    ext_get_or 0 (drop half (take both bytes)) (slice_range bytes one both) sizes (λ i below. each i (short i below))
+  where
+    sizes : length (drop half (take both bytes)) ≡ length (slice_range bytes one both)
+    sizes = grind (arith, places)
+
+    short : (i : ℕ) → i < length (drop half (take both bytes)) → (half ≡ one) × (i < both - one)
+    short i below =
+        let long : i + half < min both (length bytes) = grind (arith, places) in
+        (omega (arith, long, is, order), omega (arith, long, is, order))
+
+    each : (i : ℕ) → (half ≡ one) × (i < both - one) → get_or (drop half (take both bytes)) i 0 ≡ get_or (slice_range bytes one both) i 0
+    each i at =
+        let here = at.0 in
+        let low = at.1 in
+        grind (arith, places)
+
+-- both slots were read, or as much of them as there is
+pub slots-filled : (told : Option Told) (size count : ℕ) (old piece : List ℕ) → length old ≡ 32768 → count ≡ min size 32768
+    → IfSome told (λ t. size ≡ length t.bytes) → IfSome told (λ t. piece ≡ slice_range t.bytes 0 (0 + length (take count old)))
+    → IfSome told (λ t. take (min size 32768) (piece ++ drop count old) ≡ take 32768 t.bytes)
+slots-filled None size count old piece sized is long read = tt
+slots-filled (Some t) size count old piece sized is long read =
+    ap (λ n. take n (piece ++ drop count old)) (sym is) ∙ (take_at piece (drop count old) count whole
+    ∙ (read ∙ (ap (λ n. slice_range t.bytes 0 (0 + n)) asked ∙ (ap (λ n. take n t.bytes) none ∙ take-most t.bytes count 32768 (is ∙ ap (λ n. min n 32768) long)))))
+  where
+    none : 0 + count - 0 ≡ count
+    none = omega arith
+
+    asked : length (take count old) ≡ count
+    asked = grind (arith, places)
+
+    taken : (n : ℕ) → n ≤ length t.bytes → length (slice_range t.bytes 0 (0 + n)) ≡ n
+    taken n within = grind (arith, places)
+
+    whole : length piece ≡ count
+    whole = ap (λ (bs : List ℕ). length bs) read ∙ (ap (λ n. length (slice_range t.bytes 0 (0 + n))) asked ∙ taken count (omega (arith, is, long)))
+
+-- what is said of the parts of what was read holds of the two slots
+pub slots-read : (P : List ℕ → List ℕ → ℕ → Type 0) (bytes slots first second : List ℕ) (size count half : ℕ)
+    → size ≡ length bytes → take (min size 32768) slots ≡ take 32768 bytes → count ≡ min size 32768 → half ≡ min count 16384
+    → first ≡ take half (take count slots) → second ≡ drop half (take count slots)
+    → P first second size → P (first_slot bytes) (second_slot bytes) (length bytes)
+slots-read P bytes slots first second size count half sized same counted halved first_is second_is p =
+    subst (λ (f : List ℕ). P f (second_slot bytes) (length bytes)) (first_is ∙ (ap (λ (bs : List ℕ). take half bs) read ∙ first-part bytes half 16384 32768 (omega arith) at))
+    (subst (λ (s : List ℕ). P first s (length bytes)) (second_is ∙ (ap (λ (bs : List ℕ). drop half bs) read ∙ second-part bytes half 16384 32768 (omega arith) at))
+    (subst (λ n. P first second n) sized p))
+  where
+    read : take count slots ≡ take 32768 bytes
+    read = ap (λ n. take n slots) counted ∙ same
+
+    at : half ≡ min (min (length bytes) 32768) 16384
+    at = halved ∙ ap (λ n. min n 16384) (counted ∙ ap (λ n. min n 32768) sized)
+
+-- what an answer says where the disk tells
+pub IfOk-told : {T E : Type 0} (told : Option Told) (r : Result T E) (P : T → Told → Type 0)
+    → IfSome told (λ t. IfOk r (λ value. P value t)) → IfOk r (λ value. IfSome told (λ t. P value t))
+IfOk-told None (Ok value) P p = tt
+IfOk-told None (Err error) P p = tt
+IfOk-told (Some t) r P p = p
+
+pub IfErr-told : {T E : Type 0} (told : Option Told) (r : Result T E) (P : E → Told → Type 0)
+    → IfSome told (λ t. IfErr r (λ error. P error t)) → IfErr r (λ error. IfSome told (λ t. P error t))
+IfErr-told None (Ok value) P p = tt
+IfErr-told None (Err error) P p = tt
+IfErr-told (Some t) r P p = p
+
+-- what was answered, of an answer that tells the counts of faults
+pub with_counts-ok : {T : Type 0} (before after : ℕ) (r : Result T Failed) (value : T) (P : T → Type 0)
+    → with_counts before after r ≡ Ok value → IfOk r P → P value
+with_counts-ok {T} before after (Ok other) value P is p = subst (λ (r : Result T Fault). IfOk r P) is p
+with_counts-ok {T} before after (Err failed) value P is p = absurd (subst (λ (r : Result T Fault). IfOk r (λ _. ⊥)) is tt)
