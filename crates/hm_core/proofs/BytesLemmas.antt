@@ -1,5 +1,5 @@
 -- The bytes of directories: where one ends, and that bytes are those of one list alone.
-use Rattle.std.proofs.Common.{◌≡◌, ℕ, zero, suc, ◌+◌, ◌-◌, ◌*◌, ◌^◌, ◌<◌, ◌≤◌, List, [], ◌∷◌, ◌++◌, length, take, drop, slice_index, refl, sym, ◌∙◌, ap, subst, arith, append_assoc, length-append, length-drop}
+use Rattle.std.proofs.Common.{◌≡◌, ℕ, zero, suc, ◌+◌, ◌-◌, ◌*◌, ◌^◌, ◌<◌, ◌≤◌, Bool, true, false, IsTrue, List, [], ◌∷◌, ◌++◌, length, take, drop, slice_index, rules, refl, sym, ◌∙◌, ap, subst, arith, append_assoc, length-append, length-drop}
 use Rattle.std.specs.List.{flat_map, AllByRecursion}
 use Rattle.std.proofs.lemmas.List.{take_at, drop_at, drop-drop, take-append-drop, length-take-le}
 use Rattle.byteorder.specs.Endian.{little_bytes, little_number, little_from}
@@ -87,6 +87,39 @@ begins-read bytes id len small long id_is len_is fits range named =
       id = range;
       named = named;
     }
+
+-- bytes that are too short begin with no directory
+pub none-short : (bytes : List ℕ) → length bytes < 10 → BeginsWithNone bytes
+none-short bytes short d rest begins =
+    omega (arith, short, ap length begins.bytes_are, length-append (directory_bytes d) rest, length-directory_bytes d)
+
+-- nor do those that end within its name
+pub none-long : (bytes others : List ℕ) (len : ℕ) → len ≡ little_number 2 (take 2 (drop 8 bytes)) → others ≡ drop 10 bytes → length others < len → BeginsWithNone bytes
+none-long bytes others len is rest_is short d rest begins =
+    let says : Says bytes d rest = Says-begins bytes d rest begins in
+    omega (arith, short, is ∙ says.len, ap length (rest_is ∙ says.others), length-append d.name rest)
+
+-- nor do those that have no name where it stands
+pub none-unnamed : (bytes others name : List ℕ) (len : ℕ) (r : Bool) → len ≡ little_number 2 (take 2 (drop 8 bytes)) → others ≡ drop 10 bytes → name ≡ take len others → (IsTrue r → IsName name) × (IsName name → IsTrue r) → r ≡ false → BeginsWithNone bytes
+none-unnamed bytes others name len r is rest_is name_is tests no d rest begins =
+    let says : Says bytes d rest = Says-begins bytes d rest begins in
+    let same : name ≡ d.name =
+        name_is ∙ (ap (λ xs. take len xs) (rest_is ∙ says.others) ∙ take_at d.name rest len (sym (is ∙ says.len))) in
+    let P : List ℕ → Type 0 = λ xs. IsName xs in
+    let Q : Bool → Type 0 = λ b. IsTrue b in
+    let yes : IsTrue false = subst Q no (tests.1 (subst P (sym same) begins.named)) in
+    absurd (grind (arith, yes))
+
+-- bytes that are read begin with what was read
+pub begins-cut : (bytes others name after : List ℕ) (id len : ℕ) (r : Bool) → ((k : ℕ) → slice_index bytes k < 256) → 10 ≤ length bytes → id ≡ little_number 8 (take 8 bytes) → len ≡ little_number 2 (take 2 (drop 8 bytes)) → others ≡ drop 10 bytes → len ≤ length others → name ≡ take len others → after ≡ drop len others → id < 2 ^ 64 → (IsTrue r → IsName name) × (IsName name → IsTrue r) → r ≡ true → BeginsWith bytes (record { id = record { 0 = id }; name = name }) after
+begins-cut bytes others name after id len r small long id_is len_is rest_is fits name_is after_is range tests yes =
+    let front : name ≡ take len (drop 10 bytes) = name_is ∙ ap (λ xs. take len xs) rest_is in
+    let back : after ≡ drop len (drop 10 bytes) = after_is ∙ ap (λ xs. drop len xs) rest_is in
+    let P : List ℕ → Type 0 = λ xs. IsName xs in
+    let Q : Bool → Type 0 = λ b. IsTrue b in
+    let named : IsName (take len (drop 10 bytes)) = subst P front (tests.0 (subst Q (sym yes) (search rules))) in
+    let begins = begins-read bytes id len small long id_is len_is (omega (arith, fits, ap length rest_is)) range named in
+    rw (front, back) begins
 
 -- a directory that a list may have
 pub record MayStand (d : Directory) : Type 0 where

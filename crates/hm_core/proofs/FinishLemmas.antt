@@ -10,6 +10,7 @@ use Rattle.hm_types.specs.declared.limits.TheConstants.{BIGBLOCK_BYTES, GREATEST
 use Rattle.hm_disk.specs.Crash.{Told}
 use Rattle.hm_disk.specs.Disk.{BothTell}
 use Rattle.hm_header.specs.declared.header.Header.{Header}
+use Rattle.hm_header.specs.Range.{IsHeader, IsRoot, IsSize}
 use Rattle.hm_core.specs.declared.directory.Directory.{Directory}
 use Rattle.hm_core.specs.Commit.{Commits, CountsStill, HasHeaderAndList, MayCommit, list_block_of, list_of}
 use Rattle.hm_core.specs.Directories.{AreDirectories, IsDirectory, volume_of}
@@ -92,3 +93,26 @@ IsEither-may_commit header next slot last ds list s t follows kept is before (in
 })
 IsEither-may_commit header next slot last ds list s t follows kept is before (inr has) =
     inr (stands_for header next slot last ds list t.bytes follows kept is has)
+
+is_root : (bigblocks generation : ℕ) → IsSize bigblocks → IsRoot bigblocks (list_root bigblocks generation)
+is_root bigblocks generation size = record {
+  zone = omega (arith, size.0, size.1);
+  volume = omega (arith, size.0, size.1);
+  pool = (omega (arith, size.0, size.1), omega (arith, size.0, size.1));
+  page = omega (arith, size.0, size.1);
+}
+
+-- the header that is written after another is in range
+pub IsHeader-next : (header : Header) (generation last root : ℕ) → IsHeader header → generation < 2 ^ 64 → header.last.0 ≤ last → last ≤ GREATEST_ID → root ≡ list_root header.bigblocks generation → IsHeader (record header { generation = generation; last = record { 0 = last }; root = root })
+IsHeader-next header generation last root fine small later greatest is = record {
+  version = fine.version;
+  bigblocks = fine.bigblocks;
+  generation = small;
+  last = (omega (arith, fine.last.0), greatest);
+  root = rw is (is_root header.bigblocks generation fine.bigblocks);
+  undo_first = fine.undo_first;
+  undo_count = fine.undo_count;
+  undo_next = fine.undo_next;
+  four = fine.four;
+  append = fine.append;
+}

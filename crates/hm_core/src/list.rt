@@ -102,12 +102,15 @@ fn cut_directory(bytes: &[u8]) -> Option<(Id, &[u8], &[u8])>
     if bytes.len() < HEAD_BYTES {
         return None;
     }
-    let (head, rest) = bytes.split_at(HEAD_BYTES);
-    let id = Id(LittleEndian::read_u64(&head[..8]));
-    let len = usize::from(LittleEndian::read_u16(&head[8..]));
+    let id = Id(LittleEndian::read_u64(&bytes[..8]));
+    let len = usize::from(LittleEndian::read_u16(&bytes[8..HEAD_BYTES]));
+    let (_, rest) = bytes.split_at(HEAD_BYTES);
     if rest.len() < len {
         return None;
     }
     let (name, after) = rest.split_at(len);
-    is_name(name).then_some((id, name, after))
+    if !is_name(name) {
+        return None;
+    }
+    Some((id, name, after))
 }
