@@ -3,7 +3,7 @@ use Rattle.std.proofs.Common.{◌≡◌, ℕ, zero, suc, ◌+◌, ◌-◌, ◌*�
 use Rattle.std.specs.List.{flat_map, AllByRecursion}
 use Rattle.std.proofs.lemmas.List.{take_at, drop_at, drop-drop, take-append-drop, length-take-le}
 use Rattle.byteorder.specs.Endian.{little_bytes, little_number, little_from}
-use Rattle.byteorder.specs.Numbers.{little_from-take, little_number-reads_back, length-bytes_low_first}
+use Rattle.byteorder.specs.Numbers.{little_from-lt, little_from-take, little_number-reads_back, length-bytes_low_first}
 use Rattle.hm_fields.specs.Fields.{get}
 use Rattle.hm_header.proofs.NumberLemmas.{bytes_back}
 use Rattle.hm_types.specs.declared.id.Id.{Id}
@@ -65,7 +65,7 @@ number_of size xs = refl
 -- bytes that are a number
 back : (size : ℕ) (xs : List ℕ) → ((k : ℕ) → slice_index xs k < 256) → size ≤ length xs → little_bytes size (little_number size (take size xs)) ≡ take size xs
 back size xs small fits =
-    ap (λ n. little_bytes size n) (little_from-take 0 size size xs (omega arith) ∙ sym (number_of size xs)) ∙ bytes_back 0 size xs small fits
+    ap (λ n. little_bytes size n) (little_from-take 0 size size xs (omega arith) ∙ sym (number_of size xs)) ∙ bytes_back 0 size xs small (omega (arith, fits))
 
 small_drop : (n : ℕ) (xs : List ℕ) → ((k : ℕ) → slice_index xs k < 256) → (k : ℕ) → slice_index (drop n xs) k < 256
 small_drop zero xs small k = small k
@@ -83,7 +83,11 @@ begins-read bytes id len small long id_is len_is fits range named =
         ap (λ n. little_bytes 2 n) (size ∙ len_is) ∙ back 2 (drop 8 bytes) (small_drop 8 bytes small) (omega (arith, length-drop 8 bytes)) in
     let last : name ++ drop len (drop 10 bytes) ≡ drop 2 (drop 8 bytes) = take-append-drop len (drop 10 bytes) ∙ sym (drop-drop 2 8 bytes) in
     record {
-      bytes_are = sym (parts d (drop len (drop 10 bytes)) ∙ rw (first, second, last, take-append-drop 2 (drop 8 bytes), take-append-drop 8 bytes) refl);
+      bytes_are = sym (parts d (drop len (drop 10 bytes))
+          ∙ (ap (λ xs. xs ++ (little_bytes 2 (length name) ++ (name ++ drop len (drop 10 bytes)))) first
+          ∙ (ap (λ xs. take 8 bytes ++ (xs ++ (name ++ drop len (drop 10 bytes)))) second
+          ∙ (ap (λ xs. take 8 bytes ++ (take 2 (drop 8 bytes) ++ xs)) last
+          ∙ (ap (λ xs. take 8 bytes ++ xs) (take-append-drop 2 (drop 8 bytes)) ∙ take-append-drop 8 bytes)))));
       id = range;
       named = named;
     }
@@ -101,23 +105,24 @@ none-long bytes others len is rest_is short d rest begins =
 
 -- nor do those that have no name where it stands
 pub none-unnamed : (bytes others name : List ℕ) (len : ℕ) (r : Bool) → len ≡ little_number 2 (take 2 (drop 8 bytes)) → others ≡ drop 10 bytes → name ≡ take len others → (IsTrue r → IsName name) × (IsName name → IsTrue r) → r ≡ false → BeginsWithNone bytes
-none-unnamed bytes others name len r is rest_is name_is tests no d rest begins =
+none-unnamed bytes others name len r is rest_is name_is tests fails d rest begins =
     let says : Says bytes d rest = Says-begins bytes d rest begins in
     let same : name ≡ d.name =
         name_is ∙ (ap (λ xs. take len xs) (rest_is ∙ says.others) ∙ take_at d.name rest len (sym (is ∙ says.len))) in
     let P : List ℕ → Type 0 = λ xs. IsName xs in
     let Q : Bool → Type 0 = λ b. IsTrue b in
-    let yes : IsTrue false = subst Q no (tests.1 (subst P (sym same) begins.named)) in
-    absurd (grind (arith, yes))
+    let holds : IsTrue false = subst Q fails (tests.1 (subst P (sym same) begins.named)) in
+    absurd (search (rules, holds))
 
 -- bytes that are read begin with what was read
-pub begins-cut : (bytes others name after : List ℕ) (id len : ℕ) (r : Bool) → ((k : ℕ) → slice_index bytes k < 256) → 10 ≤ length bytes → id ≡ little_number 8 (take 8 bytes) → len ≡ little_number 2 (take 2 (drop 8 bytes)) → others ≡ drop 10 bytes → len ≤ length others → name ≡ take len others → after ≡ drop len others → id < 2 ^ 64 → (IsTrue r → IsName name) × (IsName name → IsTrue r) → r ≡ true → BeginsWith bytes (record { id = record { 0 = id }; name = name }) after
-begins-cut bytes others name after id len r small long id_is len_is rest_is fits name_is after_is range tests yes =
+pub begins-cut : (bytes others name after : List ℕ) (id len : ℕ) (r : Bool) → ((k : ℕ) → slice_index bytes k < 256) → 10 ≤ length bytes → id ≡ little_number 8 (take 8 bytes) → len ≡ little_number 2 (take 2 (drop 8 bytes)) → others ≡ drop 10 bytes → len ≤ length others → name ≡ take len others → after ≡ drop len others → (IsTrue r → IsName name) × (IsName name → IsTrue r) → r ≡ true → BeginsWith bytes (record { id = record { 0 = id }; name = name }) after
+begins-cut bytes others name after id len r small long id_is len_is rest_is fits name_is after_is tests passes =
     let front : name ≡ take len (drop 10 bytes) = name_is ∙ ap (λ xs. take len xs) rest_is in
     let back : after ≡ drop len (drop 10 bytes) = after_is ∙ ap (λ xs. drop len xs) rest_is in
     let P : List ℕ → Type 0 = λ xs. IsName xs in
     let Q : Bool → Type 0 = λ b. IsTrue b in
-    let named : IsName (take len (drop 10 bytes)) = subst P front (tests.0 (subst Q (sym yes) (search rules))) in
+    let named : IsName (take len (drop 10 bytes)) = subst P front (tests.0 (subst Q (sym passes) (search rules))) in
+    let range : id < 2 ^ 64 = omega (arith, id_is, little_from-take 0 8 8 bytes (omega arith), little_from-lt 0 8 bytes small) in
     let begins = begins-read bytes id len small long id_is len_is (omega (arith, fits, ap length rest_is)) range named in
     rw (front, back) begins
 
@@ -153,4 +158,4 @@ begins_longer (d ∷ ds) (e ∷ es) p q fine other same fits =
         sym (append_assoc (directory_bytes d) (entry_bytes ds) p) ∙ (same ∙ append_assoc (directory_bytes e) (entry_bytes es) q) in
     let one = one_directory d e (entry_bytes ds ++ p) (entry_bytes es ++ q) fine.0 other.0 both in
     let rest = begins_longer ds es p q fine.1 other.1 one.1 (omega arith) in
-    (rest.0, rw (one.0, rest.1) refl, rest.2)
+    (rest.0, ap (λ x. x ∷ es) (sym one.0) ∙ ap (λ xs. d ∷ xs) rest.1, rest.2)

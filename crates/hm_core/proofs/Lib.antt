@@ -6,6 +6,7 @@ pub mod HeaderLemmas
 pub mod ChangeLemmas
 pub mod CommitLemmas
 pub mod ReadLemmas
+pub mod FreshLemmas
 pub mod IndexLemmas
 pub mod TreeLemmas
 pub mod VersionLemmas

@@ -1,11 +1,12 @@
 -- Reading a list of directories, one after another.
-use Rattle.std.proofs.Common.{◌≡◌, ℕ, ◌+◌, ◌-◌, ◌*◌, ◌^◌, ◌<◌, ◌≤◌, Bool, false, List, [], ◌∷◌, ◌++◌, All, length, refl, sym, ◌∙◌, ap, subst, arith, append_assoc, append-nil, length-append}
+use Rattle.std.proofs.Common.{◌≡◌, ℕ, ◌+◌, ◌-◌, ◌*◌, ◌^◌, ◌<◌, ◌≤◌, Bool, true, false, IsTrue, List, [], ◌∷◌, ◌++◌, All, length, refl, sym, ◌∙◌, ap, subst, arith, append_assoc, append-nil, length-append}
 use Rattle.std.specs.Prelude.{◌||◌, map}
 use Rattle.std.specs.List.{flat_map, AllByRecursion, IsDistinct, list_any}
 use Rattle.std.specs.List.Sorted.{IsStrictlySortedBy}
 use Rattle.std.specs.declared.cmp.Ordering.TheVariants.{Less}
 use Rattle.std.specs.Ordering.{nat_cmp}
 use Rattle.std.specs.Str.{bytes_eq}
+use Rattle.std.proofs.lemmas.Bool.{false≢true}
 use Rattle.std.proofs.lemmas.Bool.Decides.{nat_tests}
 use Rattle.std.proofs.lemmas.List.Concat.{flat_map-append}
 use Rattle.std.proofs.lemmas.List.Elements.{All-from_recursion, recursion_from_All}
@@ -16,7 +17,7 @@ use Rattle.hm_core.specs.Directories.{AreDirectories, IsDirectory, id_of, name_o
 use Rattle.hm_core.specs.Index.{is_taken}
 use Rattle.hm_core.specs.Listed.{directory_bytes}
 use Rattle.hm_core.specs.Read.{BeginsWith, BeginsWithNone, IsReadFrom, IsNoneReadFrom, MayAdd}
-use Rattle.hm_core.proofs.BytesLemmas.{MayStand, entry_bytes, begins_longer}
+use Rattle.hm_core.proofs.BytesLemmas.{MayStand, entry_bytes, begins_longer, one_directory}
 use Rattle.hm_core.proofs.KeptLemmas.{kept_push}
 
 -- so many directories were read from bytes, and these bytes are left
@@ -118,3 +119,10 @@ IsNoneReadFrom-next bytes i count last ds rest small within so_far none es read 
           named = this.name;
         } in
         none d (entry_bytes more ++ read.rest) begins (may_add_here last ds more d kept)
+
+-- where what comes next may not be added, no other directory comes next
+pub refused : (rest : List ℕ) (last : ℕ) (ds : List Directory) (e : Directory) (others : List ℕ) (r : Bool) → BeginsWith rest e others → (MayAdd last ds e → IsTrue r) → r ≡ false → (d : Directory) (after : List ℕ) → BeginsWith rest d after → MayAdd last ds d → ⊥
+refused rest last ds e others r there tests fails d after begins may =
+    let one = one_directory d e after others (record { id = begins.id; named = begins.named }) (record { id = there.id; named = there.named }) (sym begins.bytes_are ∙ there.bytes_are) in
+    let P : Directory → Type 0 = λ x. MayAdd last ds x in
+    false≢true (sym fails ∙ tests (subst P one.0 may))

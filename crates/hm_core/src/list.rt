@@ -1,6 +1,7 @@
 // The list of directories as bytes, and back.
 ghost use Rattle.std.specs.Prelude.{◌≡◌, ◌≤◌, ◌++◌, All, IfOk, IfSome, IfNone, OnOk};
 ghost use Rattle.byteorder.specs.Endian.{little_bytes};
+ghost use Rattle.hm_types.specs.declared.limits.TheConstants.{GREATEST_ID};
 ghost use Rattle.hm_model.specs.declared.served.TheConstants.{MOST_DIRECTORIES};
 ghost use Rattle.hm_core.specs.declared.directory.Directory.{Directory};
 ghost use Rattle.hm_core.specs.Listed.{directory_bytes, list_bytes};
@@ -71,7 +72,8 @@ pub(crate) fn read_list(
     count: usize,
     last: Id,
 ) -> Result<Option<Directories>, NoMemory>
-    requires { count ≤ MOST_DIRECTORIES }
+    requires few { count ≤ MOST_DIRECTORIES }
+    requires greatest { last.0 ≤ GREATEST_ID }
     ensures some { IfOk result (λ read. IfSome read (IsReadFrom bytes.now count last.0)) }
     ensures none { IfOk result (λ read. IfNone read (IsNoneReadFrom bytes.now count last.0)) }
 {
