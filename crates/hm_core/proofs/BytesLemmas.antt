@@ -63,7 +63,7 @@ unfolding get
 number_of size xs = refl
 
 -- bytes that are a number
-back : (size : ℕ) (xs : List ℕ) → ((k : ℕ) → slice_index xs k < 256) → size ≤ length xs → little_bytes size (little_number size (take size xs)) ≡ take size xs
+pub back : (size : ℕ) (xs : List ℕ) → ((k : ℕ) → slice_index xs k < 256) → size ≤ length xs → little_bytes size (little_number size (take size xs)) ≡ take size xs
 back size xs small fits =
     ap (λ n. little_bytes size n) (little_from-take 0 size size xs (omega arith) ∙ sym (number_of size xs)) ∙ bytes_back 0 size xs small (omega (arith, fits))
 

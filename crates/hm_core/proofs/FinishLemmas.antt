@@ -1,12 +1,13 @@
 -- A volume as it was written, and as a write left it.
 use Rattle.std.proofs.Common.{◌≡◌, ◌⊎◌, inl, inr, ℕ, ◌+◌, ◌-◌, ◌*◌, ◌%◌, ◌^◌, ◌<◌, ◌≤◌, List, [], ◌∷◌, ◌++◌, length, take, drop, refl, sym, ◌∙◌, ap, subst, arith, length-append}
-use Rattle.std.specs.Prelude.{slice_range, Option, Some, None, IfSome}
+use Rattle.std.specs.Prelude.{slice_range, Option, Some, None, IfSome, Result, Ok, Err, OnOk, OnErr}
 use Rattle.std.specs.List.{flat_map, AllByRecursion}
 use Rattle.std.proofs.lemmas.List.{take-take}
 use Rattle.std.proofs.lemmas.List.Elements.{recursion_from_All}
 use Rattle.byteorder.specs.Endian.{little_bytes}
 use Rattle.byteorder.specs.Numbers.{length-bytes_low_first}
 use Rattle.hm_types.specs.declared.limits.TheConstants.{BIGBLOCK_BYTES, GREATEST_ID}
+use Rattle.hm_types.specs.declared.fault.Failed.{Failed}
 use Rattle.hm_disk.specs.Crash.{Told}
 use Rattle.hm_disk.specs.Disk.{BothTell}
 use Rattle.hm_header.specs.declared.header.Header.{Header}
@@ -17,6 +18,7 @@ use Rattle.hm_core.specs.Directories.{AreDirectories, IsDirectory, volume_of}
 use Rattle.hm_core.specs.Finish.{IsBefore, IsEither, IsWritten}
 use Rattle.hm_core.specs.Inside.{made_until, opening_of}
 use Rattle.hm_core.specs.Listed.{HoldsAt, directory_bytes, list_bytes, list_place, list_root}
+use Rattle.hm_core.specs.Slots.{with_counts}
 use Rattle.hm_core.specs.Stands.{HasList, Stands, StandsFor}
 use Rattle.hm_core.proofs.BytesLemmas.{entry_bytes}
 use Rattle.hm_core.proofs.MountLemmas.{short_each}
@@ -116,3 +118,22 @@ IsHeader-next header generation last root fine small later greatest is = record 
   four = fine.four;
   append = fine.append;
 }
+
+-- a relation of what was told and what is told, from another
+both_map : (old new : Option Told) (P Q : Told → Told → Type 0) → ((s t : Told) → P s t → Q s t) → BothTell old new P → BothTell old new Q
+both_map None None P Q step both = tt
+both_map (Some s) (Some t) P Q step both = step s t both
+both_map None (Some t) P Q step both = both
+both_map (Some s) None P Q step both = both
+
+module _ (header next : Header) (slot last : ℕ) (ds : List Directory) (list : List ℕ) (old new : Option Told) (follows : Follows header next last) (kept : AreDirectories last ds) (is : list ≡ list_bytes ds) where
+  -- where the header was changed, the volume was written
+  pub written : (before after : ℕ) (r : Result (Unit {0}) Failed) → OnOk r (BothTell old new (λ _ t. Commits next slot list t)) → OnOk (with_counts before after r) (BothTell old new (λ _ t. IsWritten header last ds t))
+  written before after (Ok value) both = both_map old new (λ _ t. Commits next slot list t) (λ _ t. IsWritten header last ds t) (λ s t. IsWritten-commits header next slot last ds list t follows kept is) both
+  written before after (Err failed) both = both
+
+  -- and else the disk stands for what it stood for, or for that
+  pub not_written : (before after : ℕ) (r : Result (Unit {0}) Failed) → IfSome old (IsBefore header slot ds) → OnErr r (BothTell old new (MayCommit header slot next list)) → OnErr (with_counts before after r) (BothTell old new (λ _ t. IsEither header last ds t))
+  not_written before after (Ok value) stood both = both
+  not_written before after (Err failed) stood both =
+      BothTell-more old new (IsBefore header slot ds) (MayCommit header slot next list) (λ _ t. IsEither header last ds t) stood (λ s t. IsEither-may_commit header next slot last ds list s t follows kept is) both
