@@ -24,10 +24,10 @@ number_back count n long small is =
     sym (ap (λ k. little_bytes 8 k) is ∙ (ap (λ xs. little_bytes 8 (little_number 8 xs)) (sym whole) ∙ (back 8 count small (omega (arith, long)) ∙ whole)))
 
 -- the number that was read of a disk
-pub count_told : (told : Option Told) (place size n : ℕ) (buf : List ℕ) → size ≡ 8 → length buf ≡ 8 → ((k : ℕ) → slice_index buf k < 256) → n ≡ little_number 8 buf → IfSome told (λ t. buf ≡ slice_range t.bytes place (place + size)) → IfSome told (HasCount place n)
-count_told None place size n buf eight long small is read = tt
-count_told (Some t) place size n buf eight long small is read =
-    sym (read ∙ ap (λ k. slice_range t.bytes place (place + k)) eight) ∙ number_back buf n long small is
+pub count_told : (told : Option Told) (place size n : ℕ) (buf : List ℕ) → size ≡ 8 → buf ≡ little_bytes 8 n → IfSome told (λ t. buf ≡ slice_range t.bytes place (place + size)) → IfSome told (HasCount place n)
+count_told None place size n buf eight is read = tt
+count_told (Some t) place size n buf eight is read =
+    sym (read ∙ ap (λ k. slice_range t.bytes place (place + k)) eight) ∙ is
 
 cut : (a b : ℕ) (xs : List ℕ) → slice_range xs a (a + b) ≡ take b (drop a xs)
 cut a b xs = ap (λ n. take n (drop a xs)) (omega arith)

@@ -1,5 +1,6 @@
 // Reading a volume from its disk.
 ghost use Rattle.std.specs.Prelude.{◌≡◌, ◌≤◌, ◌<◌, ◌+◌, ◌*◌, ◌^◌, IfOk, IfErr, IfSome, OnOk, length, slice_range};
+ghost use Rattle.byteorder.specs.Endian.{little_bytes};
 ghost use Rattle.hm_types.specs.Faults.{HasFaultCause};
 ghost use Rattle.hm_header.specs.Range.{IsHeader, HasRoom};
 ghost use Rattle.hm_core.specs.Open.{IsOpenFault, HasOpenCause};
@@ -97,7 +98,15 @@ fn read_count<D: Disk>(disk: &mut D, place: u64) -> Result<u64, Fault>
 {
     let mut count = [0; COUNT_BYTES];
     read_bytes(disk, place, &mut count)?;
-    Ok(LittleEndian::read_u64(&count))
+    Ok(number_of(&count))
+}
+
+/// The number in these bytes.
+fn number_of(bytes: &[u8; COUNT_BYTES]) -> u64
+    ensures value { bytes.now ≡ little_bytes 8 result }
+    ensures small { result < 2 ^ 64 }
+{
+    LittleEndian::read_u64(bytes)
 }
 
 /// Reads as many bytes as so many directories take at most.
