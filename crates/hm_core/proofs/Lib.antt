@@ -17,3 +17,4 @@ pub mod BytesLemmas
 pub mod ParseLemmas
 pub mod MountLemmas
 pub mod FinishLemmas
+pub mod CoreLemmas
