@@ -1,5 +1,5 @@
 -- Reading the slots of a disk.
-use Rattle.std.proofs.Common.{◌≡◌, ◌⊎◌, inl, inr, ℕ, ◌+◌, ◌-◌, ◌<◌, ◌≤◌, min, List, [], ◌∷◌, ◌++◌, refl, sym, ap, subst, ◌∙◌, arith, length, take, drop, get_or, slice_range, Option, Some, None, IfSome, Result, Ok, Err, IfOk, IfErr}
+use Rattle.std.proofs.Common.{◌≡◌, ℕ, ◌+◌, ◌-◌, ◌<◌, ◌≤◌, min, List, ◌++◌, sym, ap, subst, ◌∙◌, arith, length, take, drop, get_or, slice_range, Option, Some, None, IfSome, Result, Ok, Err, IfOk, IfErr}
 use Rattle.std.proofs.lemmas.List.{places, ext_get_or, take_at}
 use Rattle.hm_types.specs.declared.fault.Failed.{Failed}
 use Rattle.hm_types.specs.declared.fault.Fault.{Fault}

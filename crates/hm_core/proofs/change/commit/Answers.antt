@@ -1,5 +1,4 @@
 use Rattle.std.proofs.Common.{ℕ, length, subst}
-use Rattle.hm_disk.specs.Crash.{Told}
 use Rattle.hm_disk.specs.Disk.{BothTell}
 use Rattle.hm_disk.specs.Transfer.{TornAll, WrittenSynced}
 use Rattle.hm_disk.proofs.DiskLemmas.{BothTell-map, BothTell-then, IfSome-then}
