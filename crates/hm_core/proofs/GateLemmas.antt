@@ -91,10 +91,10 @@ byte-read bytes buf place read = ap (λ (bs : List ℕ). get_or bs 0 0) read ∙
 -- a gate was read
 module _ (old told new : Option Told) (place number : ℕ) (buf : List ℕ) (small : number ≤ 1) (at : place ≡ gate_place number)
     (both : IfSome old (λ t. HasSlots t.bytes)) (read : IfSome old (λ t. buf ≡ slice_range t.bytes place (place + 1))) (same : told ≡ old) where
-  abbrev Seen : Told → Type 0
+  abbrev pub Seen : Told → Type 0
   Seen t = HasSlots t.bytes × (get_or buf 0 0 ≡ slice_index t.bytes (gate_place number))
 
-  seen : IfSome old Seen
+  pub seen : IfSome old Seen
   seen = see old both read
     where
       see : (old : Option Told) → IfSome old (λ t. HasSlots t.bytes) → IfSome old (λ t. buf ≡ slice_range t.bytes place (place + 1)) → IfSome old Seen
