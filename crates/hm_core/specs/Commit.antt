@@ -74,4 +74,5 @@ ChangeElapses header slot next past since old new =
 -- a crash while a gate is closed leaves it as it was or closed
 abbrev pub CloseElapses : ℕ → LeftSince → LeftSince → Told → Told → Type 0
 CloseElapses number past since old new =
-    IsAllSettled old → Elapses (λ image. (image ≡ old.bytes) ⊎ Closed number old.bytes image) past since old new
+    IsAllSettled old
+    → Elapses (λ image. (image ≡ old.bytes) ⊎ Closed number old.bytes image) past since old new

@@ -21,10 +21,11 @@ use hm_types::Failed;
 // The value of a gate that is closed: any but that of an open one would do.
 pub(crate) const GATE_CLOSED: u8 = 0;
 
-/// Writes a list at the place that `next` names, and then `next` as the header that counts. `header`
-/// counts so far, in this slot; `next` goes into the other one. The list is settled before the header
-/// changes, and the gate of `next` is opened last. After `Failed` the old header counts, and its list is
-/// as it was, or the new one counts, with the new list. So it is after a crash at any moment.
+/// Writes a list at the place that `next` names, and then `next` as the header that counts.
+/// `header` counts so far, in this slot; `next` goes into the other one. The list is settled before
+/// the header changes, and the gate of `next` is opened last. After `Failed` the old header counts,
+/// and its list is as it was, or the new one counts, with the new list. So it is after a crash at
+/// any moment, where nothing was unsettled at the start.
 pub(crate) fn commit<D: Disk>(
     disk: &mut D,
     header: &Header,
@@ -75,7 +76,8 @@ fn change_header<D: Disk>(
     open_gate(disk, other)
 }
 
-/// Closes the gate of a slot where it is open, and settles that. A gate that is closed is not written.
+/// Closes the gate of a slot where it is open, and settles that. A gate that is closed is not
+/// written.
 fn close_gate<D: Disk>(disk: &mut D, number: u8) -> Result<(), Failed>
     requires number { number ≤ 1 }
     requires slots { IfSome (D.told disk.old) (λ t. HasSlots t.bytes) }
@@ -98,7 +100,7 @@ fn close_gate<D: Disk>(disk: &mut D, number: u8) -> Result<(), Failed>
 }
 
 /// Writes the body of a slot, whose gate is closed, and settles it.
-pub(crate) fn write_body<D: Disk>(disk: &mut D, number: u8, header: &Header) -> Result<(), Failed>
+fn write_body<D: Disk>(disk: &mut D, number: u8, header: &Header) -> Result<(), Failed>
     requires number { number ≤ 1 }
     requires slots { IfSome (D.told disk.old) (λ t. HasSlots t.bytes) }
     requires gate { IfSome (D.told disk.old) (HasClosed number) }
@@ -106,8 +108,8 @@ pub(crate) fn write_body<D: Disk>(disk: &mut D, number: u8, header: &Header) -> 
         (WrittenSynced (slot_place number) (body_of header.now))) }
     ensures err { OnErr result (BothTell (D.told disk.old) (D.told disk.new)
         (TornAll (slot_place number) BODY_BYTES)) }
-    ensures any_moment { BothTell (D.told disk.old) (D.told disk.new) (WriteElapses (slot_place number)
-        BODY_BYTES (D.left_since disk.old) (D.left_since disk.new)) }
+    ensures any_moment { BothTell (D.told disk.old) (D.told disk.new) (WriteElapses
+        (slot_place number) BODY_BYTES (D.left_since disk.old) (D.left_since disk.new)) }
     ensures cause { HasCause (D.faults disk.old) (D.faults disk.new) result }
 {
     let mut body = [0; BODY_BYTES];
@@ -124,8 +126,8 @@ pub(crate) fn open_gate<D: Disk>(disk: &mut D, number: u8) -> Result<(), Failed>
         (WrittenSynced (gate_place number) (GATE_OPEN ∷ []))) }
     ensures err { OnErr result (BothTell (D.told disk.old) (D.told disk.new)
         (TornAll (gate_place number) 1)) }
-    ensures any_moment { BothTell (D.told disk.old) (D.told disk.new) (WriteElapses (gate_place number)
-        1 (D.left_since disk.old) (D.left_since disk.new)) }
+    ensures any_moment { BothTell (D.told disk.old) (D.told disk.new) (WriteElapses
+        (gate_place number) 1 (D.left_since disk.old) (D.left_since disk.new)) }
     ensures cause { HasCause (D.faults disk.old) (D.faults disk.new) result }
 {
     write_synced(disk, gate_place(number), &[GATE_OPEN])
