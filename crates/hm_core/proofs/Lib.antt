@@ -5,6 +5,7 @@ pub mod GateLemmas
 pub mod HeaderLemmas
 pub mod ChangeLemmas
 pub mod CommitLemmas
+pub mod ElapseLemmas
 pub mod ReadLemmas
 pub mod FreshLemmas
 pub mod IndexLemmas
