@@ -20,10 +20,7 @@ const HEAD_BYTES: usize = 10;
 pub(crate) const MOST_DIRECTORY_BYTES: usize = 265;
 
 /// The list as bytes.
-pub(crate) fn encode_list(
-    alloc: Global,
-    directories: &[Directory],
-) -> Result<Vec<u8>, NoMemory>
+pub(crate) fn encode_list(alloc: Global, directories: &[Directory]) -> Result<Vec<u8>, NoMemory>
     requires { All IsNamed directories.now }
     ensures { IfOk result (λ bytes. bytes.items ≡ list_bytes directories.now) }
 {

@@ -62,7 +62,7 @@ impl<D: Disk, I, O> Model for Core<D, I, O> {
     } };
 
     ghost invariant = { λ c.
-      IsSound (D.told c.disk) c.header c.slot c.last.0 c.directories c.history.items };
+        IsSound (D.told c.disk) c.header c.slot c.last.0 c.directories c.history.items };
 }
 
 impl<D: Disk, I, O> Core<D, I, O> {
@@ -83,11 +83,13 @@ impl<D: Disk, I, O> Core<D, I, O> {
     {
         let mut disk = disk;
         match open_volume(alloc, &mut disk) {
-            Ok(Opened {
-                header,
-                slot,
-                directories,
-            }) => Ok(Core {
+            Ok(
+                Opened {
+                    header,
+                    slot,
+                    directories,
+                },
+            ) => Ok(Core {
                 alloc,
                 disk,
                 input,
