@@ -292,8 +292,8 @@ fn after_the_greatest_id_nothing_is_entered(rt: HostRuntime) -> Result<(), Fail>
     Ok(())
 }
 
-// What a volume with one directory comes to, where this call of its disk fails as it is written: how many
-// directories it has as it is mounted again, or none where it was written.
+// What a volume with one directory comes to, where this call of its disk fails as it is written:
+// how many directories it has as it is mounted again, or none where it was written.
 fn interrupted(rt: &impl Abort, alloc: Global, call: u64) -> Result<Option<usize>, NoMemory> {
     let mut core = mounted(rt, alloc, made(rt, alloc).failing(vec![in alloc; call]?));
     run(&mut core, mkdir(rt, alloc, b"a")?)?;
@@ -319,8 +319,8 @@ fn interrupted(rt: &impl Abort, alloc: Global, call: u64) -> Result<Option<usize
 #[test]
 fn a_write_that_fails_leaves_the_old_volume_or_the_new_one(rt: HostRuntime) -> Result<(), Fail> {
     let alloc = rt.alloc();
-    // The first 3 calls mount it: the size, the slots, and the number of directories. Then the list is
-    // written, the gate closed, the body written and the gate opened, each with a sync.
+    // The first 3 calls mount it: the size, the slots, and the number of directories. Then the list
+    // is written, the gate closed, the body written and the gate opened, each with a sync.
     for (call, want) in [
         (4, Some(0)),
         (5, Some(0)),
