@@ -13,6 +13,6 @@ now_without path bytes None (inl is) same read = rw is refl
 now_without path bytes None (inr past) same read =
     let text : List ℕ = past.1 in
     let whole : take (length bytes - 1) (drop 1 bytes) ≡ text =
-        ap (λ xs. take (length xs - 1) (drop 1 xs)) (same ∙ past.3) ∙ (ap (λ n. take n text) (omega arith) ∙ take-length text) in
+    ap (λ xs. take (length xs - 1) (drop 1 xs)) (same ∙ past.3) ∙ (ap (λ n. take n text) (omega arith) ∙ take-length text) in
     let P : List ℕ → Type 0 = λ xs. IsIdText xs past.0 in
     absurd (read past.0 (subst P (sym whole) past.2))

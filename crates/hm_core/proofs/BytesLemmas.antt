@@ -49,9 +49,9 @@ pub Says-begins : (bytes : List ℕ) (d : Directory) (rest : List ℕ) → Begin
 Says-begins bytes d rest begins =
     let is : bytes ≡ little_bytes 8 d.id.0 ++ (little_bytes 2 (length d.name) ++ (d.name ++ rest)) = begins.bytes_are ∙ parts d rest in
     let second : drop 8 bytes ≡ little_bytes 2 (length d.name) ++ (d.name ++ rest) =
-        ap (λ xs. drop 8 xs) is ∙ drop_at (little_bytes 8 d.id.0) (little_bytes 2 (length d.name) ++ (d.name ++ rest)) 8 (length-bytes_low_first 0 8 d.id.0) in
+    ap (λ xs. drop 8 xs) is ∙ drop_at (little_bytes 8 d.id.0) (little_bytes 2 (length d.name) ++ (d.name ++ rest)) 8 (length-bytes_low_first 0 8 d.id.0) in
     let third : drop 2 (drop 8 bytes) ≡ d.name ++ rest =
-        ap (λ xs. drop 2 xs) second ∙ drop_at (little_bytes 2 (length d.name)) (d.name ++ rest) 2 (length-bytes_low_first 0 2 (length d.name)) in
+    ap (λ xs. drop 2 xs) second ∙ drop_at (little_bytes 2 (length d.name)) (d.name ++ rest) 2 (length-bytes_low_first 0 2 (length d.name)) in
     record {
       id = little_from-take 0 8 8 bytes (omega arith) ∙ (ap (λ xs. little_from 0 8 xs) is ∙ little_number-reads_back 8 d.id.0 (little_bytes 2 (length d.name) ++ (d.name ++ rest)) (begins.id));
       len = little_from-take 0 2 2 (drop 8 bytes) (omega arith) ∙ (ap (λ xs. little_from 0 2 xs) second ∙ little_number-reads_back 2 (length d.name) (d.name ++ rest) (omega (arith, begins.named.size)));
@@ -80,7 +80,7 @@ begins-read bytes id len small long id_is len_is fits range named =
     let size : length name ≡ len = length-take-le len (drop 10 bytes) fits in
     let first : little_bytes 8 id ≡ take 8 bytes = ap (λ n. little_bytes 8 n) id_is ∙ back 8 bytes small (omega arith) in
     let second : little_bytes 2 (length name) ≡ take 2 (drop 8 bytes) =
-        ap (λ n. little_bytes 2 n) (size ∙ len_is) ∙ back 2 (drop 8 bytes) (small_drop 8 bytes small) (omega (arith, length-drop 8 bytes)) in
+    ap (λ n. little_bytes 2 n) (size ∙ len_is) ∙ back 2 (drop 8 bytes) (small_drop 8 bytes small) (omega (arith, length-drop 8 bytes)) in
     let last : name ++ drop len (drop 10 bytes) ≡ drop 2 (drop 8 bytes) = take-append-drop len (drop 10 bytes) ∙ sym (drop-drop 2 8 bytes) in
     record {
       bytes_are = sym (parts d (drop len (drop 10 bytes))
@@ -108,7 +108,7 @@ pub none-unnamed : (bytes others name : List ℕ) (len : ℕ) (r : Bool) → len
 none-unnamed bytes others name len r is rest_is name_is tests fails d rest begins =
     let says : Says bytes d rest = Says-begins bytes d rest begins in
     let same : name ≡ d.name =
-        name_is ∙ (ap (λ xs. take len xs) (rest_is ∙ says.others) ∙ take_at d.name rest len (sym (is ∙ says.len))) in
+    name_is ∙ (ap (λ xs. take len xs) (rest_is ∙ says.others) ∙ take_at d.name rest len (sym (is ∙ says.len))) in
     let P : List ℕ → Type 0 = λ xs. IsName xs in
     let Q : Bool → Type 0 = λ b. IsTrue b in
     let holds : IsTrue false = subst Q fails (tests.1 (subst P (sym same) begins.named)) in
@@ -155,7 +155,7 @@ begins_longer [] es p q fine other same fits = (es, refl, same)
 begins_longer (d ∷ ds) [] p q fine other same fits = absurd (omega arith)
 begins_longer (d ∷ ds) (e ∷ es) p q fine other same fits =
     let both : directory_bytes d ++ (entry_bytes ds ++ p) ≡ directory_bytes e ++ (entry_bytes es ++ q) =
-        sym (append_assoc (directory_bytes d) (entry_bytes ds) p) ∙ (same ∙ append_assoc (directory_bytes e) (entry_bytes es) q) in
+    sym (append_assoc (directory_bytes d) (entry_bytes ds) p) ∙ (same ∙ append_assoc (directory_bytes e) (entry_bytes es) q) in
     let one = one_directory d e (entry_bytes ds ++ p) (entry_bytes es ++ q) fine.0 other.0 both in
     let rest = begins_longer ds es p q fine.1 other.1 one.1 (omega arith) in
     (rest.0, ap (λ x. x ∷ es) (sym one.0) ∙ ap (λ xs. d ∷ xs) rest.1, rest.2)

@@ -85,7 +85,7 @@ module _ {D I O : Type 0} (told_of : D → Option Told) (faults_of : D → ℕ) 
       let same : now_of core ≡ core.opening = ap (λ es. after core.opening es) empty in
       let now = subst (λ (v : Volume). IfSome (told_of core.disk) (λ t. StandsFor t.bytes v)) (sym same) stands in
       subst (λ (d : D). IsFinished told_of faults_of core d outcome) (sym disk_is)
-          (subst (λ (r : Result (Unit {0}) Fault). IsFinished told_of faults_of core core.disk r) (sym outcome_is) (record {
+      (subst (λ (r : Result (Unit {0}) Fault). IsFinished told_of faults_of core core.disk r) (sym outcome_is) (record {
         nothing = λ _. (refl, refl);
         ok = both_same (told_of core.disk) (λ t. StandsFor t.bytes (now_of core)) now;
         settled = λ done. absurd (done empty);

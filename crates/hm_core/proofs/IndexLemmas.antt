@@ -58,10 +58,10 @@ is_found-with_entry q name id (e ∷ es) = by_order (slice_cmp nat_cmp name e.0)
     by_order Equal is later =
         let same : name ≡ e.0 = exact_bytes name e.0 is in
         rw (is, front (is_eq (slice_cmp nat_cmp q e.0)) id (lookup (is_at (slice_cmp nat_cmp q)) es), front (is_eq (slice_cmp nat_cmp q e.0)) e.1 (lookup (is_at (slice_cmp nat_cmp q)) es), same)
-            (twice (is_eq (slice_cmp nat_cmp q e.0)) (is_found q es))
+        (twice (is_eq (slice_cmp nat_cmp q e.0)) (is_found q es))
     by_order Greater is later =
         rw (is, front (is_eq (slice_cmp nat_cmp q e.0)) e.1 (lookup (is_at (slice_cmp nat_cmp q)) (with_entry es name id)), front (is_eq (slice_cmp nat_cmp q e.0)) e.1 (lookup (is_at (slice_cmp nat_cmp q)) es), later)
-            (swapped (is_eq (slice_cmp nat_cmp q name)) (is_eq (slice_cmp nat_cmp q e.0)) (is_found q es))
+        (swapped (is_eq (slice_cmp nat_cmp q name)) (is_eq (slice_cmp nat_cmp q e.0)) (is_found q es))
 
 associated : (b c d : Bool) → ((b || c) || d) ≡ (c || (b || d))
 associated true true d = refl
@@ -74,7 +74,7 @@ pub is_found-indexed : (q : List ℕ) (es : Entries) (ds : List Directory) → i
 is_found-indexed q es [] = refl
 is_found-indexed q es (d ∷ ds) =
     rw (is_found-indexed q (with_entry es d.name d.id) ds, is_found-with_entry q d.name d.id es, ties d.name q)
-        (sym (associated (is_eq (slice_cmp nat_cmp q d.name)) (is_taken q ds) (is_found q es)))
+    (sym (associated (is_eq (slice_cmp nat_cmp q d.name)) (is_taken q ds) (is_found q es)))
 
 or_false : (b : Bool) → (b || false) ≡ b
 or_false true = refl

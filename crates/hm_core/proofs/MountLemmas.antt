@@ -60,7 +60,7 @@ module _ (t : Told) (place n : ℕ) (buf : List ℕ) (count : HasCount place n t
       let there : take (265 * n) (drop 8 (drop place t.bytes)) ≡ entry_bytes ds ++ read.rest = sym others ∙ read.bytes_are in
       let fits : long ≤ 265 * n = omega (arith, ap length there, length-append (entry_bytes ds) read.rest, length-take (265 * n) (drop 8 (drop place t.bytes))) in
       let rest : take long (drop 8 (drop place t.bytes)) ≡ entry_bytes ds =
-          sym (take-take long (265 * n) (drop 8 (drop place t.bytes)) fits) ∙ (ap (λ xs. take long xs) there ∙ take_at (entry_bytes ds) read.rest long refl) in
+      sym (take-take long (265 * n) (drop 8 (drop place t.bytes)) fits) ∙ (ap (λ xs. take long xs) there ∙ take_at (entry_bytes ds) read.rest long refl) in
       ap (λ k. slice_range t.bytes place (place + k)) (length_list ds)
       ∙ (two_parts t.bytes place long
       ∙ (ap (λ xs. xs ++ take long (drop 8 (drop place t.bytes))) (first ∙ ap (λ k. little_bytes 8 k) (sym read.count_is))
@@ -71,7 +71,7 @@ pub number-held : (t : Told) (place n last : ℕ) (ds : List Directory) → HasC
 number-held t place n last ds count small kept held =
     let long : ℕ = length (entry_bytes ds) in
     let stands : take 8 (drop place t.bytes) ++ take long (drop 8 (drop place t.bytes)) ≡ little_bytes 8 (length ds) ++ entry_bytes ds =
-        sym (two_parts t.bytes place long) ∙ (ap (λ k. slice_range t.bytes place (place + k)) (sym (length_list ds)) ∙ held) in
+    sym (two_parts t.bytes place long) ∙ (ap (λ k. slice_range t.bytes place (place + k)) (sym (length_list ds)) ∙ held) in
     let head : take 8 (drop place t.bytes) ≡ little_bytes 8 n = sym (cut place 8 t.bytes) ∙ count in
     let eight : length (take 8 (drop place t.bytes)) ≡ length (little_bytes 8 (length ds)) = ap length head ∙ (length-bytes_low_first 0 8 n ∙ sym (length-bytes_low_first 0 8 (length ds))) in
     let both = same_fronts (take 8 (drop place t.bytes)) (little_bytes 8 (length ds)) (take long (drop 8 (drop place t.bytes))) (entry_bytes ds) eight stands in
@@ -85,11 +85,11 @@ IsReadFrom-held t place last buf ds entries kept held =
     let long : ℕ = length (entry_bytes ds) in
     let short : long ≤ 265 * n = short_each last ds (recursion_from_All (IsDirectory last) ds kept.each) in
     let stands : take 8 (drop place t.bytes) ++ take long (drop 8 (drop place t.bytes)) ≡ little_bytes 8 n ++ entry_bytes ds =
-        sym (two_parts t.bytes place long) ∙ (ap (λ k. slice_range t.bytes place (place + k)) (sym (length_list ds)) ∙ held) in
+    sym (two_parts t.bytes place long) ∙ (ap (λ k. slice_range t.bytes place (place + k)) (sym (length_list ds)) ∙ held) in
     let rest : take long (drop 8 (drop place t.bytes)) ≡ entry_bytes ds = end_is stands in
     let front : take long buf ≡ entry_bytes ds =
-        ap (λ xs. take long xs) (entries ∙ (cut (place + 8) (265 * n) t.bytes ∙ ap (λ xs. take (265 * n) xs) (sym (drop-drop 8 place t.bytes))))
-        ∙ (take-take long (265 * n) (drop 8 (drop place t.bytes)) short ∙ rest) in
+    ap (λ xs. take long xs) (entries ∙ (cut (place + 8) (265 * n) t.bytes ∙ ap (λ xs. take (265 * n) xs) (sym (drop-drop 8 place t.bytes))))
+    ∙ (take-take long (265 * n) (drop 8 (drop place t.bytes)) short ∙ rest) in
     record {
       rest = drop long buf;
       bytes_are = sym (ap (λ xs. xs ++ drop long buf) (sym front) ∙ take-append-drop long buf);

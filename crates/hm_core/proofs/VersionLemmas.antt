@@ -126,6 +126,7 @@ filter-dropped t (e ∷ es) name id absent late = by_order (slice_cmp nat_cmp na
     by_test : (b : Bool) (xs ys : Entries) → xs ≡ ys → (if b then e ∷ xs else xs) ≡ (if b then e ∷ ys else ys)
     by_test true xs ys same = ap (λ zs. e ∷ zs) same
     by_test false xs ys same = same
+
     by_order : (o : Ordering) → slice_cmp nat_cmp name e.0 ≡ o → (lookup (is_at (slice_cmp nat_cmp name)) es ≡ None → filter (was_made t) (with_entry es name id) ≡ filter (was_made t) es) → filter (was_made t) (with_entry (e ∷ es) name id) ≡ filter (was_made t) (e ∷ es)
     by_order Less is later = rw (is, late) refl
     by_order Equal is later = let found : Some e.1 ≡ None = rw is at absent in absurd (cc)

@@ -19,10 +19,12 @@ made_by path id = record { id = record { 0 = id }; name = drop 1 path }
 -- there is no room for it.
 abbrev pub Makes : List Directory → List Directory → List ℕ → ℕ → Reply → Type 0
 Makes old new path last Done =
-    (is_taken (drop 1 path) old ≡ false) × (length old < MOST_DIRECTORIES) × (new ≡ old ++ made_by path (last + 1) ∷ [])
+    (is_taken (drop 1 path) old ≡ false) × (length old < MOST_DIRECTORIES)
+    × (new ≡ old ++ made_by path (last + 1) ∷ [])
 Makes old new path last Exists = (is_taken (drop 1 path) old ≡ true) × (new ≡ old)
 Makes old new path last (NoSpace free needed) =
-    (free ≡ 0) × (needed ≡ 1) × (is_taken (drop 1 path) old ≡ false) × (MOST_DIRECTORIES ≤ length old) × (new ≡ old)
+    (free ≡ 0) × (needed ≡ 1) × (is_taken (drop 1 path) old ≡ false)
+    × (MOST_DIRECTORIES ≤ length old) × (new ≡ old)
 Makes old new path last NoMemory = new ≡ old
 Makes old new path last other = ⊥
 

@@ -58,7 +58,8 @@ module _ {D I O : Type 0} where
 
   -- a call was answered and entered, or no id was left and all is as before
   abbrev pub Steps : CoreState D I O → CoreState D I O → ℕ → ℕ → Command → Step → Type 0
-  Steps old new lane line command (Answered place) = (place ≡ length old.history) × Enters old new lane line command
+  Steps old new lane line command (Answered place) =
+      (place ≡ length old.history) × Enters old new lane line command
   Steps old new lane line command Spent = ((now_of old).last ≡ GREATEST_ID) × (new ≡ old)
 
   -- history and rest are as before
@@ -68,7 +69,8 @@ module _ {D I O : Type 0} where
 
   -- A core as it is mounted over a disk and two streams: nothing has happened yet, and the disk, which tells
   -- what it told, stands for the opening volume.
-  pub record IsMounted (told_of : D → Option Told) (disk : D) (input : I) (output : O) (core : CoreState D I O) : Type 0 where
+  pub record IsMounted (told_of : D → Option Told) (disk : D) (input : I) (output : O)
+      (core : CoreState D I O) : Type 0 where
     pub history : core.history ≡ []
     pub told : told_of core.disk ≡ told_of disk
     pub stands : IfSome (told_of disk) (λ t. StandsFor t.bytes core.opening)
@@ -76,9 +78,9 @@ module _ {D I O : Type 0} where
     pub input_is : core.input ≡ input
     pub output_is : core.output ≡ output
 
-  -- What ending the use of a core makes of its disk. Where nothing was done, nothing is written. Else the disk
-  -- stands for the volume as it is now and all is settled, or after an error for that volume or the one
-  -- that was mounted.
+  -- What ending the use of a core makes of its disk. Where nothing was done, nothing is written. Else the
+  -- disk stands for the volume as it is now and all is settled, or after an error for that volume or the
+  -- one that was mounted.
   pub record IsFinished (told_of : D → Option Told) (faults_of : D → ℕ) (core : CoreState D I O) (disk : D)
       (outcome : Result (Unit {0}) Fault) : Type 0 where
     pub nothing : core.history ≡ [] → IsOk outcome × (told_of disk ≡ told_of core.disk)

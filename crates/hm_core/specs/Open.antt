@@ -40,7 +40,8 @@ IsListDamage bytes NoMemory = Unit {0}
 -- why bytes gave no volume
 abbrev pub IsOpenFault : List ℕ → OpenFault → Type 0
 IsOpenFault bytes NotVolume = IsFault (first_slot bytes) (second_slot bytes) (length bytes) no_volume
-IsOpenFault bytes (BadField place) = IsFault (first_slot bytes) (second_slot bytes) (length bytes) (bad_field place)
+IsOpenFault bytes (BadField place) =
+    IsFault (first_slot bytes) (second_slot bytes) (length bytes) (bad_field place)
 IsOpenFault bytes (of_disk fault) = IsListDamage bytes fault
 
 -- a fault of the disk has its cause in such a call; a volume that is none has its in the bytes

@@ -13,8 +13,8 @@ use hm_path::read_id;
 use hm_types::{Id, Name, NoMemory, Text};
 use std::alloc::Global;
 
-/// Answers a command where `last` was drawn last; a directory that it makes has the next id. A refusal
-/// leaves the directories as they are.
+/// Answers a command where `last` was drawn last; a directory that it makes has the next id. A
+/// refusal leaves the directories as they are.
 pub(crate) fn answer(
     alloc: Global,
     directories: &mut Directories,

@@ -19,7 +19,8 @@ const FIRST_ID: Id = Id(2);
 // The number of a directory's kind, in a listing.
 const DIRECTORY_KIND: u8 = 1;
 
-/// The directories of a volume. A contract sees the list of them, in the order in which they were added.
+/// The directories of a volume. A contract sees the list of them, in the order in which they were
+/// added.
 #[derive(Drop)]
 pub(crate) struct Directories {
     list: Vec<Directory>,
@@ -74,8 +75,8 @@ impl Directories {
         }
     }
 
-    /// Whether a directory may come after these on a volume with this last id: its id is above theirs, and
-    /// its name is a new one.
+    /// Whether a directory may come after these on a volume with this last id: its id is above
+    /// theirs, and its name is a new one.
     pub(crate) fn may_add(&self, directory: &Directory, last: Id) -> bool
         requires { IsStrictlySortedBy nat_cmp (map id_of self.now) }
         ensures { IsTrue result ↔ MayAdd last.0 self.now directory.now }

@@ -2,7 +2,8 @@
 
 use hm_types::{Id, Name};
 
-/// A directory under the root: the id of the call that made it, which is its number too, and its name.
+/// A directory under the root: the id of the call that made it, which is its number too, and its
+/// name.
 #[derive(Debug, Drop, PartialEq)]
 pub struct Directory {
     pub id: Id,

@@ -17,8 +17,8 @@ use hm_header::Header;
 use hm_types::{Fault, Id};
 use std::alloc::Global;
 
-/// Writes these directories and this last id in the place of those that the header names, which stands in
-/// the slot of this number. All memory is taken before the first write.
+/// Writes these directories and this last id in the place of those that the header names, which
+/// stands in the slot of this number. All memory is taken before the first write.
 pub(crate) fn write_back<D: Disk>(
     alloc: Global,
     disk: &mut D,

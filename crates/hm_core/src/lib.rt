@@ -1,7 +1,7 @@
 //! The state of one volume, and one step of it at a time.
 //!
-//! `newfs` makes a volume on a disk. `Core` reads it, answers calls and enters each in its history, and
-//! writes it. So far the directories of a volume stand in one list on the disk.
+//! `newfs` makes a volume on a disk. `Core` reads it, answers calls and enters each in its history,
+//! and writes it. So far the directories of a volume stand in one list on the disk.
 #![tactic(auto)]
 
 mod answer;

@@ -20,10 +20,7 @@ const HEAD_BYTES: usize = 10;
 pub(crate) const MOST_DIRECTORY_BYTES: usize = 265;
 
 /// The list as bytes.
-pub(crate) fn encode_list(
-    alloc: Global,
-    directories: &[Directory],
-) -> Result<Vec<u8>, NoMemory>
+pub(crate) fn encode_list(alloc: Global, directories: &[Directory]) -> Result<Vec<u8>, NoMemory>
     requires { All IsNamed directories.now }
     ensures { IfOk result (λ bytes. bytes.items ≡ list_bytes directories.now) }
 {
@@ -64,8 +61,8 @@ fn push_u16(bytes: &mut Vec<u8>, value: u16) -> Result<(), NoMemory>
     Ok(())
 }
 
-/// Reads so many directories. None where the bytes do not begin with as many that a volume with this
-/// last id may have.
+/// Reads so many directories. None where the bytes do not begin with as many that a volume with
+/// this last id may have.
 pub(crate) fn read_list(
     alloc: Global,
     bytes: &[u8],
@@ -94,8 +91,8 @@ pub(crate) fn read_list(
     Ok(Some(directories))
 }
 
-/// The id and the name of the directory that some bytes begin with, and the bytes after it. None where
-/// they begin with none.
+/// The id and the name of the directory that some bytes begin with, and the bytes after it. None
+/// where they begin with none.
 fn cut_directory(bytes: &[u8]) -> Option<(Id, &[u8], &[u8])>
     ensures some { IfSome result (λ cut. BeginsWith bytes.now
         (record { id = cut.0; name = cut.1.now }) cut.2.now) }

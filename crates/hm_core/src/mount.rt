@@ -27,8 +27,8 @@ const COUNT_BYTES: usize = 8;
 /// The number of the rule that a list breaks which is none: a field is broken.
 const BROKEN_FIELD: u8 = 5;
 
-/// A volume as it was read: the header that counts, the number of its slot, and the directories of the
-/// list that it names.
+/// A volume as it was read: the header that counts, the number of its slot, and the directories of
+/// the list that it names.
 pub(crate) struct Opened {
     pub(crate) header: Header,
     pub(crate) slot: u8,

@@ -8,8 +8,9 @@ use hm_types::{BIGBLOCK_BYTES, HOff, first_pool};
 // The zone of the B-tree's nodes.
 const TREE_ZONE: u8 = 8;
 
-/// The first byte of the list that a header of this generation names, from the start of the volume: the
-/// list stands in the first big-block of the pool where the generation is odd, and else in the second.
+/// The first byte of the list that a header of this generation names, from the start of the volume:
+/// the list stands in the first big-block of the pool where the generation is odd, and else in the
+/// second.
 pub(crate) fn list_place(bigblocks: u32, generation: u64) -> u64
     requires { bigblocks ≤ MOST_BIGBLOCKS }
     ensures value { result ≡ list_place bigblocks generation }

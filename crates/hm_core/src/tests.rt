@@ -159,7 +159,10 @@ fn a_disk_without_a_volume_says_why(rt: HostRuntime) {
     let zeros = MemDisk::new(alloc, 24, Vec::new(alloc));
     assert_eq!(rt; refusal(alloc, zeros), Some(OpenFault::NotVolume));
     let mut small = MemDisk::new(alloc, 24, Vec::new(alloc));
-    assert_eq!(rt; newfs(&mut small, 25), Err(OpenFault::BadField { place: 12 }));
+    assert_eq!(rt;
+        newfs(&mut small, 25),
+        Err(OpenFault::BadField { place: 12 })
+    );
     for (place, byte, want) in [
         (16_383, 0x00, OpenFault::NotVolume),
         (16_383, 0xA4, OpenFault::NotVolume),
@@ -185,16 +188,37 @@ fn a_list_that_breaks_its_grammar_is_damage(rt: HostRuntime) {
     let alloc = rt.alloc();
     for (list, want) in [
         // One directory: its id, the length of its name, and the name.
-        (b"\x01\0\0\0\0\0\0\0\x02\0\0\0\0\0\0\0\x01\0a".as_slice(), true),
-        (b"\x01\0\0\0\0\0\0\0\x08\0\0\0\0\0\0\0\x01\0a".as_slice(), true),
+        (
+            b"\x01\0\0\0\0\0\0\0\x02\0\0\0\0\0\0\0\x01\0a".as_slice(),
+            true,
+        ),
+        (
+            b"\x01\0\0\0\0\0\0\0\x08\0\0\0\0\0\0\0\x01\0a".as_slice(),
+            true,
+        ),
         // Ids that no call up to 8 has drawn.
-        (b"\x01\0\0\0\0\0\0\0\x01\0\0\0\0\0\0\0\x01\0a".as_slice(), false),
-        (b"\x01\0\0\0\0\0\0\0\x09\0\0\0\0\0\0\0\x01\0a".as_slice(), false),
+        (
+            b"\x01\0\0\0\0\0\0\0\x01\0\0\0\0\0\0\0\x01\0a".as_slice(),
+            false,
+        ),
+        (
+            b"\x01\0\0\0\0\0\0\0\x09\0\0\0\0\0\0\0\x01\0a".as_slice(),
+            false,
+        ),
         // No name, and a name that is none.
-        (b"\x01\0\0\0\0\0\0\0\x02\0\0\0\0\0\0\0\0\0".as_slice(), false),
-        (b"\x01\0\0\0\0\0\0\0\x02\0\0\0\0\0\0\0\x01\0/".as_slice(), false),
+        (
+            b"\x01\0\0\0\0\0\0\0\x02\0\0\0\0\0\0\0\0\0".as_slice(),
+            false,
+        ),
+        (
+            b"\x01\0\0\0\0\0\0\0\x02\0\0\0\0\0\0\0\x01\0/".as_slice(),
+            false,
+        ),
         // More directories than stand there, and too many.
-        (b"\x02\0\0\0\0\0\0\0\x02\0\0\0\0\0\0\0\x01\0a".as_slice(), false),
+        (
+            b"\x02\0\0\0\0\0\0\0\x02\0\0\0\0\0\0\0\x01\0a".as_slice(),
+            false,
+        ),
         (b"\x01\x10\0\0\0\0\0\0".as_slice(), false),
         (b"\0\0\0\0\0\0\0\x01".as_slice(), false),
     ] {
@@ -258,15 +282,18 @@ fn after_the_greatest_id_nothing_is_entered(rt: HostRuntime) -> Result<(), Fail>
     let greatest = [0xFE, 0xFF, 0xFF, 0xFF, 0xFF, 0xFF, 0xFF, 0x7F];
     let disk = patched(&rt, made(&rt, alloc), 24, &greatest);
     let mut core = mounted(&rt, alloc, disk);
-    assert_eq!(rt; run(&mut core, mkdir(&rt, alloc, b"a")?)?, Step::Answered(0));
+    assert_eq!(rt;
+        run(&mut core, mkdir(&rt, alloc, b"a")?)?,
+        Step::Answered(0)
+    );
     assert_eq!(rt; core.last(), Id(0x7FFF_FFFF_FFFF_FFFF));
     assert_eq!(rt; run(&mut core, mkdir(&rt, alloc, b"b")?)?, Step::Spent);
     assert_eq!(rt; core.last(), Id(0x7FFF_FFFF_FFFF_FFFF));
     Ok(())
 }
 
-// What a volume with one directory comes to, where this call of its disk fails as it is written: how many
-// directories it has as it is mounted again, or none where it was written.
+// What a volume with one directory comes to, where this call of its disk fails as it is written:
+// how many directories it has as it is mounted again, or none where it was written.
 fn interrupted(rt: &impl Abort, alloc: Global, call: u64) -> Result<Option<usize>, NoMemory> {
     let mut core = mounted(rt, alloc, made(rt, alloc).failing(vec![in alloc; call]?));
     run(&mut core, mkdir(rt, alloc, b"a")?)?;
@@ -274,7 +301,13 @@ fn interrupted(rt: &impl Abort, alloc: Global, call: u64) -> Result<Option<usize
     let failed = match outcome {
         Ok(()) => false,
         Err(fault) => {
-            assert!(rt; fault == Fault::Media { before: 0, after: 1 });
+            assert!(rt;
+                fault
+                    == Fault::Media {
+                        before: 0,
+                        after: 1
+                    }
+            );
             true
         }
     };
@@ -286,8 +319,8 @@ fn interrupted(rt: &impl Abort, alloc: Global, call: u64) -> Result<Option<usize
 #[test]
 fn a_write_that_fails_leaves_the_old_volume_or_the_new_one(rt: HostRuntime) -> Result<(), Fail> {
     let alloc = rt.alloc();
-    // The first 3 calls mount it: the size, the slots, and the number of directories. Then the list is
-    // written, the gate closed, the body written and the gate opened, each with a sync.
+    // The first 3 calls mount it: the size, the slots, and the number of directories. Then the list
+    // is written, the gate closed, the body written and the gate opened, each with a sync.
     for (call, want) in [
         (4, Some(0)),
         (5, Some(0)),

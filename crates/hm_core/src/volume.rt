@@ -25,9 +25,9 @@ pub enum Step {
     Spent,
 }
 
-/// One volume in use on a disk, with the history of the run, and the two streams of the run, which it only
-/// keeps. A contract sees the volume as the run began, the history, the room for entries that was
-/// reserved, the last id on the disk, the disk and the streams.
+/// One volume in use on a disk, with the history of the run, and the two streams of the run, which
+/// it only keeps. A contract sees the volume as the run began, the history, the room for entries
+/// that was reserved, the last id on the disk, the disk and the streams.
 ///
 /// The volume is read as it is mounted, and written once, by `finish`.
 #[derive(Drop)]
@@ -62,14 +62,14 @@ impl<D: Disk, I, O> Model for Core<D, I, O> {
     } };
 
     ghost invariant = { λ c.
-      IsSound (D.told c.disk) c.header c.slot c.last.0 c.directories c.history.items };
+        IsSound (D.told c.disk) c.header c.slot c.last.0 c.directories c.history.items };
 }
 
 impl<D: Disk, I, O> Core<D, I, O> {
-    /// Opens the volume on a disk, and keeps two streams for it. It reads both header slots and the list of
-    /// directories, and writes nothing. An error hands back the disk and the streams, and says why: that
-    /// the disk has no volume, that a field of its header is out of range or its list is damaged, a
-    /// fault of reading, or want of memory.
+    /// Opens the volume on a disk, and keeps two streams for it. It reads both header slots and the
+    /// list of directories, and writes nothing. An error hands back the disk and the streams, and
+    /// says why: that the disk has no volume, that a field of its header is out of range or its
+    /// list is damaged, a fault of reading, or want of memory.
     pub fn mount(
         alloc: Global,
         disk: D,
@@ -83,11 +83,13 @@ impl<D: Disk, I, O> Core<D, I, O> {
     {
         let mut disk = disk;
         match open_volume(alloc, &mut disk) {
-            Ok(Opened {
-                header,
-                slot,
-                directories,
-            }) => Ok(Core {
+            Ok(
+                Opened {
+                    header,
+                    slot,
+                    directories,
+                },
+            ) => Ok(Core {
                 alloc,
                 disk,
                 input,
@@ -112,9 +114,9 @@ impl<D: Disk, I, O> Core<D, I, O> {
         Ok(())
     }
 
-    /// Answers a call and enters it in the history, with the next id. The reply is the one that the call is
-    /// due, or `Reply::NoMemory`. Where no id is left it does nothing. `since` is the last id when the
-    /// call began.
+    /// Answers a call and enters it in the history, with the next id. The reply is the one that the
+    /// call is due, or `Reply::NoMemory`. Where no id is left it does nothing. `since` is the last
+    /// id when the call began.
     pub fn call(&mut self, lane: u8, line: u32, since: Id, command: Command) -> Step
         requires room { 2 ≤ self.old.spare }
         requires since { since.0 ≤ (now_of self.old).last }
@@ -161,9 +163,9 @@ impl<D: Disk, I, O> Core<D, I, O> {
         &self.history[place]
     }
 
-    /// Ends the use of the volume: writes what was done to the disk, unless nothing was, and hands back the
-    /// disk and the streams. After an error, which is a fault of the disk or want of memory, the disk has the
-    /// volume as it was mounted or as it is now.
+    /// Ends the use of the volume: writes what was done to the disk, unless nothing was, and hands
+    /// back the disk and the streams. After an error, which is a fault of the disk or want of
+    /// memory, the disk has the volume as it was mounted or as it is now.
     pub fn finish(self) -> (D, I, O, Result<(), Fault>)
         ensures disk { IsFinished D.told D.faults self result.0 result.3 }
         ensures streams { (result.1 ≡ self.input) × (result.2 ≡ self.output) }

@@ -15,7 +15,7 @@ returns-then-not-may_add-clause-none c =
     let named : c.of-name.result ≡ c.in-Some.name.now = c.of-name.ensures ∙ c.in_ok-to_vec.ensures.items_if_clones_equal (λ x y same. same) in
     let begins = subst (λ (xs : List ℕ). BeginsWith c.loop.rest.now (record { id = c.in-Some.id; name = xs }) c.in-Some.after.now) (sym named) c.in-Some.ensures.some in
     IsNoneReadFrom-next c.args.bytes.now c.loop.counter c.args.count c.args.last.0 c.loop.directories c.loop.rest.now (omega (arith, c.requires.greatest)) c.loop-test.true c.loop.invariant
-        (refused c.loop.rest.now c.args.last.0 c.loop.directories (record { id = c.in-Some.id; name = c.of-name.result }) c.in-Some.after.now c.may_add.result begins c.may_add.ensures.1 c.if-not-may_add.true)
+    (refused c.loop.rest.now c.args.last.0 c.loop.directories (record { id = c.in-Some.id; name = c.of-name.result }) c.in-Some.after.now c.may_add.result begins c.may_add.ensures.1 c.if-not-may_add.true)
 
 pub loop-preserved : goal.loop-preserved
 loop-preserved c =
