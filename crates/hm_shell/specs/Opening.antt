@@ -39,7 +39,14 @@ StoppedMaking None old new stop = ⊥
 StoppedMaking (Some size) old new (BadField place) =
     (new.told ≡ old.told) × (place ≡ 12) × IfSome old.told (IsTooSmall size)
 StoppedMaking (Some size) old new (DiskFault before after) = IsMedia old.faults new.faults before after
-StoppedMaking (Some size) old new other = ⊥
+StoppedMaking (Some size) old new NoMemory = Unit {0}
+StoppedMaking (Some size) old new Usage = ⊥
+StoppedMaking (Some size) old new NotVolume = ⊥
+StoppedMaking (Some size) old new (Damaged at kind) = ⊥
+StoppedMaking (Some size) old new (ScriptFault before after) = ⊥
+StoppedMaking (Some size) old new OutFault = ⊥
+StoppedMaking (Some size) old new (BadLine number) = ⊥
+StoppedMaking (Some size) old new TooLong = ⊥
 
 -- Why no volume was opened: the disk has none, which nothing was written on; or it failed, or memory ran
 -- out, and nothing was written unless a volume was to be made.

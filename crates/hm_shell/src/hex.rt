@@ -1,8 +1,7 @@
 // Numbers in hexadecimal digits, without memory.
-ghost use Rattle.std.specs.Prelude.{◌≡◌};
+ghost use Rattle.std.specs.Prelude.{◌≡◌, ◌<◌, false};
+ghost use Rattle.std.specs.Fmt.{digit_glyph};
 ghost use Rattle.hm_types.specs.Id.{hex16};
-
-const DIGITS: &[u8; 16] = b"0123456789abcdef";
 
 /// The 16 lower-case hexadecimal digits of a number.
 pub(crate) fn hex_digits(number: u64) -> [u8; 16]
@@ -11,10 +10,21 @@ pub(crate) fn hex_digits(number: u64) -> [u8; 16]
     let mut digits = [b'0'; 16];
     let mut rest = number;
     for done in 0..16usize {
-        digits[15 - done] = DIGITS[(rest % 16) as usize];
+        digits[15 - done] = hex_digit((rest % 16) as u8);
         rest /= 16;
     }
     digits
+}
+
+fn hex_digit(number: u8) -> u8
+    requires { number < 16 }
+    ensures { result ≡ digit_glyph false number }
+{
+    if number < 10 {
+        b'0' + number
+    } else {
+        b'a' + (number - 10)
+    }
 }
 
 #[cfg(test)]

@@ -1,16 +1,21 @@
 // The top call.
-ghost use Rattle.std.specs.Prelude.{◌≡◌, ◌≢◌, ◌↔◌, ◌≤◌};
+ghost use Rattle.std.specs.Prelude.{◌≡◌, ◌≢◌, ◌↔◌, ◌≤◌, [], IfErr, OnOk};
 ghost use Rattle.hm_shell.specs.Devices.{Between, NeverFall};
+ghost use Rattle.hm_shell.specs.Printing.{Prints};
+ghost use Rattle.hm_shell.specs.Seen.{seen};
+ghost use Rattle.hm_shell.specs.Stop.{last_line, status_of};
 ghost use Rattle.hm_shell.specs.Words.{IsUsageFault, texts};
-ghost use Rattle.hm_shell.specs.Run.{Completes, StopsWith};
+ghost use Rattle.hm_shell.specs.Run.{Completes, Stops, StopsWith};
 ghost use Rattle.hm_shell.specs.Exact.{Brings, IsStatus};
 
 use crate::devices::{Devices, Ended};
 use crate::job::prepare;
 use crate::print::print_last;
+use crate::stop::Stop;
 use crate::volume::{Closed, run_job};
 use hm_disk::Disk;
 use hm_pipe::{Gate, Sink, Source};
+use std::alloc::Global;
 use std::sync::Wait;
 use std::thread::Threads;
 
@@ -67,6 +72,28 @@ pub fn run<
     ensures counts {
         Between D.told D.faults S.left S.faults K.held K.faults devices result.devices NeverFall }
 {
+    let (mut devices, outcome) = perform(rt.alloc(), words, devices);
+    let status = end(outcome, &mut devices.out);
+    Ended { status, devices }
+}
+
+// Runs up to the last line that is due where the run stops early.
+fn perform<D: Disk, S: Source, K: Sink, I, O>(
+    alloc: Global,
+    words: &[String],
+    devices: Devices<D, S, K, I, O>,
+) -> (Devices<D, S, K, I, O>, Result<(), Stop>)
+    ensures ok { OnOk result.1
+        (Between D.told D.faults S.left S.faults K.held K.faults devices result.0
+        (Completes (texts words.now))) }
+    ensures err { IfErr result.1 (λ stop.
+        Between D.told D.faults S.left S.faults K.held K.faults devices result.0
+        (λ old new. Stops (texts words.now) old new stop)) }
+    ensures stream_in { result.0.stream_in ≡ devices.stream_in }
+    ensures stream_out { result.0.stream_out ≡ devices.stream_out }
+    ensures counts {
+        Between D.told D.faults S.left S.faults K.held K.faults devices result.0 NeverFall }
+{
     let Devices {
         disk,
         mut script,
@@ -74,8 +101,8 @@ pub fn run<
         stream_in,
         stream_out,
     } = devices;
-    let closed = match prepare(rt.alloc(), words, &mut script) {
-        Ok(job) => run_job(rt.alloc(), &job, disk, stream_in, stream_out, &mut out),
+    let closed = match prepare(alloc, words, &mut script) {
+        Ok(job) => run_job(alloc, &job, disk, stream_in, stream_out, &mut out),
         Err(stop) => Closed {
             disk,
             stream_in,
@@ -89,22 +116,29 @@ pub fn run<
         stream_out,
         outcome,
     } = closed;
-    let status = match outcome {
+    let devices = Devices {
+        disk,
+        script,
+        out,
+        stream_in,
+        stream_out,
+    };
+    (devices, outcome)
+}
+
+// Prints the last line of a run that stopped, and gives the exit status.
+fn end<K: Sink>(outcome: Result<(), Stop>, out: &mut K) -> u8
+    ensures done { OnOk outcome ((result ≡ 0) × (K.held out.new ≡ K.held out.old)) }
+    ensures stopped { IfErr outcome (λ stop. (result ≡ status_of stop) × Prints [] (last_line stop)
+        (seen K.held K.faults out.old) (seen K.held K.faults out.new)) }
+    ensures never_falls { K.faults out.old ≤ K.faults out.new }
+{
+    match outcome {
         Ok(()) => 0,
         Err(stop) => {
-            print_last(stop, &mut out);
+            print_last(stop, out);
             stop.status()
         }
-    };
-    Ended {
-        status,
-        devices: Devices {
-            disk,
-            script,
-            out,
-            stream_in,
-            stream_out,
-        },
     }
 }
 

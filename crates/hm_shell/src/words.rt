@@ -1,12 +1,13 @@
 // The words of the command line.
-ghost use Rattle.std.specs.Prelude.{◌≡◌, ◌↔◌, ◌∷◌, None, [], IfErr, IfOk, IsTrue, MatchOption, string_bytes};
+ghost use Rattle.std.specs.Prelude.{◌↔◌, ◌∷◌, [], IfErr, IfOk, IsTrue, List, MatchOption, ℕ};
 ghost use Rattle.hm_shell.specs.Words.{IsNoSize, IsPlan, IsPlanFault, IsPlanned, IsSize, IsUsageFault, IsVolumeWord, texts};
 
 use crate::plan::{Plan, PlanFault};
 use hm_types::{LEAST_BIGBLOCKS, MOST_BIGBLOCKS};
 use std::alloc::Global;
 
-// The words, where they keep the rule: the volume's, and the size of a new volume in big-blocks.
+// What the words name: the volume, and the size of a new one in big-blocks.
+#[derive(Clone, Copy, Drop)]
 struct Words<'a> {
     volume: &'a str,
     newfs: Option<u32>,
