@@ -1,1 +1,19 @@
-
+pub mod AnswerLemmas
+pub mod RangeLemmas
+pub mod SlotLemmas
+pub mod GateLemmas
+pub mod HeaderLemmas
+pub mod ChangeLemmas
+pub mod CommitLemmas
+pub mod ReadLemmas
+pub mod FreshLemmas
+pub mod IndexLemmas
+pub mod TreeLemmas
+pub mod VersionLemmas
+pub mod KeptLemmas
+pub mod AsOfLemmas
+pub mod StepLemmas
+pub mod BytesLemmas
+pub mod ParseLemmas
+pub mod MountLemmas
+pub mod FinishLemmas

@@ -22,6 +22,15 @@ use Rattle.hm_core.specs.Stands.{StandsFor}
 abbrev pub StandsForEither : Volume → Volume → Told → Type 0
 StandsForEither first second t = StandsFor t.bytes first ⊎ StandsFor t.bytes second
 
+-- No volume was mounted over a disk, which tells what it told, and this is why. The disk's count of faults
+-- does not fall, and has risen where the disk failed.
+pub record IsNotMounted {D : Type 0} (told_of : D → Option Told) (faults_of : D → ℕ) (old new : D)
+    (fault : OpenFault) : Type 0 where
+  pub told : told_of new ≡ told_of old
+  pub why : IfSome (told_of old) (λ t. IsOpenFault t.bytes fault)
+  pub never_falls : faults_of old ≤ faults_of new
+  pub caused : IsOpenCaused (faults_of old) (faults_of new) fault
+
 module _ {D I O : Type 0} where
   -- the volume after all that the history has
   abbrev pub now_of : CoreState D I O → Volume
@@ -66,15 +75,6 @@ module _ {D I O : Type 0} where
     pub boundary : core.boundary ≡ core.opening.last
     pub input_is : core.input ≡ input
     pub output_is : core.output ≡ output
-
-  -- No volume was mounted over a disk, which tells what it told, and this is why. The disk's count of faults
-  -- does not fall, and has risen where the disk failed.
-  pub record IsNotMounted (told_of : D → Option Told) (faults_of : D → ℕ) (old new : D) (fault : OpenFault)
-      : Type 0 where
-    pub told : told_of new ≡ told_of old
-    pub why : IfSome (told_of old) (λ t. IsOpenFault t.bytes fault)
-    pub never_falls : faults_of old ≤ faults_of new
-    pub caused : IsOpenCaused (faults_of old) (faults_of new) fault
 
   -- What ending the use of a core makes of its disk. Where nothing was done, nothing is written. Else the disk
   -- stands for the volume as it is now and all is settled, or after an error for that volume or the one

@@ -22,7 +22,7 @@ fresh_header bigblocks = record {
   undo_first = 0;
   undo_count = 0;
   undo_next = 0;
-  append = first_pool bigblocks ∷ first_pool bigblocks + 1 ∷ first_pool bigblocks + 2 ∷ first_pool bigblocks + 3 ∷ [];
+  append = first_pool bigblocks ∷ (first_pool bigblocks + 1) ∷ (first_pool bigblocks + 2) ∷ (first_pool bigblocks + 3) ∷ [];
 }
 
 -- a disk that tells this has room for so many big-blocks

@@ -1,5 +1,6 @@
 -- What reading a volume gives.
-use Rattle.std.specs.Prelude.{◌≡◌, ℕ, ◌≤◌, List, Option, IfSome}
+use Rattle.std.specs.Prelude.{◌≡◌, ℕ, ◌+◌, ◌*◌, ◌≤◌, List, Option, IfSome, slice_range}
+use Rattle.byteorder.specs.Endian.{little_bytes}
 use Rattle.hm_types.specs.declared.fault.Fault.{Fault}
 use Rattle.hm_types.specs.declared.fault.Fault.TheVariants.{Media, Damaged, NoMemory}
 use Rattle.hm_disk.specs.Crash.{Told}
@@ -10,6 +11,14 @@ use Rattle.hm_core.specs.declared.mount.Opened.{Opened}
 use Rattle.hm_core.specs.Directories.{AreDirectories}
 use Rattle.hm_core.specs.Listed.{list_root}
 use Rattle.hm_core.specs.Stands.{Stands, HasList}
+
+-- the disk has this number at the place of a list
+abbrev pub HasCount : ℕ → ℕ → Told → Type 0
+HasCount place count t = slice_range t.bytes place (place + 8) ≡ little_bytes 8 count
+
+-- these are as many bytes of the disk, from this place on, as so many directories take at most
+abbrev pub HasEntries : ℕ → ℕ → List ℕ → Told → Type 0
+HasEntries place count bytes t = bytes ≡ slice_range t.bytes place (place + 265 * count)
 
 -- the directories are those of the list that a header names, where the disk tells
 pub record HasListIfTold (told : Option Told) (header : Header) (ds : List Directory) : Type 0 where

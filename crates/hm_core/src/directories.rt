@@ -1,7 +1,8 @@
 // The directories of a volume, by their ids and by their names.
-ghost use Rattle.std.specs.Prelude.{◌≡◌, ◌↔◌, [], ◌∷◌, ◌++◌, IfOk, OnOk, OnErr, IsTrue, false, map};
+ghost use Rattle.std.specs.Prelude.{◌≡◌, ◌↔◌, ◌<◌, [], ◌∷◌, ◌++◌, All, IfOk, OnOk, OnErr, IsTrue, false, map};
 ghost use Rattle.std.specs.List.Sorted.{IsStrictlySortedBy};
 ghost use Rattle.std.specs.Ordering.{nat_cmp};
+ghost use Rattle.hm_core.specs.declared.directory.Directory.{Directory};
 ghost use Rattle.hm_core.specs.Directories.{id_of};
 ghost use Rattle.hm_core.specs.Index.{is_taken, names_until};
 ghost use Rattle.hm_core.specs.Read.{MayAdd};
@@ -62,6 +63,17 @@ impl Directories {
         self.index.contains_key(name)
     }
 
+    /// Whether an id is above theirs.
+    fn is_above(&self, id: Id) -> bool
+        requires { IsStrictlySortedBy nat_cmp (map id_of self.now) }
+        ensures { IsTrue result ↔ All (λ (e : Directory). e.id.0 < id.0) self.now }
+    {
+        match self.list.last() {
+            None => true,
+            Some(before) => before.id < id,
+        }
+    }
+
     /// Whether a directory may come after these on a volume with this last id: its id is above theirs, and
     /// its name is a new one.
     pub(crate) fn may_add(&self, directory: &Directory, last: Id) -> bool
@@ -69,8 +81,7 @@ impl Directories {
         ensures { IsTrue result ↔ MayAdd last.0 self.now directory.now }
     {
         let id = directory.id;
-        let rises = self.list.last().is_none_or(|before| before.id < id);
-        FIRST_ID <= id && id <= last && rises && !self.is_taken(&directory.name)
+        FIRST_ID <= id && id <= last && self.is_above(id) && !self.is_taken(&directory.name)
     }
 
     /// Adds a directory whose name is a new one. Where memory is refused all is as before.

@@ -15,6 +15,8 @@ mod list;
 mod mount;
 mod place;
 mod slots;
+#[cfg(test)]
+mod tests;
 mod volume;
 
 pub use directory::Directory;

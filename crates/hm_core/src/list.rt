@@ -1,6 +1,7 @@
 // The list of directories as bytes, and back.
 ghost use Rattle.std.specs.Prelude.{◌≡◌, ◌≤◌, ◌++◌, All, IfOk, IfSome, IfNone, OnOk};
 ghost use Rattle.byteorder.specs.Endian.{little_bytes};
+ghost use Rattle.hm_types.specs.declared.limits.TheConstants.{GREATEST_ID};
 ghost use Rattle.hm_model.specs.declared.served.TheConstants.{MOST_DIRECTORIES};
 ghost use Rattle.hm_core.specs.declared.directory.Directory.{Directory};
 ghost use Rattle.hm_core.specs.Listed.{directory_bytes, list_bytes};
@@ -71,7 +72,8 @@ pub(crate) fn read_list(
     count: usize,
     last: Id,
 ) -> Result<Option<Directories>, NoMemory>
-    requires { count ≤ MOST_DIRECTORIES }
+    requires few { count ≤ MOST_DIRECTORIES }
+    requires greatest { last.0 ≤ GREATEST_ID }
     ensures some { IfOk result (λ read. IfSome read (IsReadFrom bytes.now count last.0)) }
     ensures none { IfOk result (λ read. IfNone read (IsNoneReadFrom bytes.now count last.0)) }
 {
@@ -102,12 +104,15 @@ fn cut_directory(bytes: &[u8]) -> Option<(Id, &[u8], &[u8])>
     if bytes.len() < HEAD_BYTES {
         return None;
     }
-    let (head, rest) = bytes.split_at(HEAD_BYTES);
-    let id = Id(LittleEndian::read_u64(&head[..8]));
-    let len = usize::from(LittleEndian::read_u16(&head[8..]));
+    let id = Id(LittleEndian::read_u64(&bytes[..8]));
+    let len = usize::from(LittleEndian::read_u16(&bytes[8..HEAD_BYTES]));
+    let (_, rest) = bytes.split_at(HEAD_BYTES);
     if rest.len() < len {
         return None;
     }
     let (name, after) = rest.split_at(len);
-    is_name(name).then_some((id, name, after))
+    if !is_name(name) {
+        return None;
+    }
+    Some((id, name, after))
 }

@@ -1,9 +1,12 @@
 // Reading a volume from its disk.
-ghost use Rattle.std.specs.Prelude.{◌≡◌, ◌≤◌, ◌<◌, ◌+◌, ◌^◌, IfOk, IfErr, IfSome, OnOk, length, slice_range};
+ghost use Rattle.std.specs.Prelude.{◌≡◌, ◌≤◌, ◌<◌, ◌+◌, ◌*◌, ◌^◌, IfOk, IfErr, IfSome, OnOk, length, slice_range};
+ghost use Rattle.byteorder.specs.Endian.{little_bytes};
 ghost use Rattle.hm_types.specs.Faults.{HasFaultCause};
 ghost use Rattle.hm_header.specs.Range.{IsHeader, HasRoom};
 ghost use Rattle.hm_core.specs.Open.{IsOpenFault, HasOpenCause};
-ghost use Rattle.hm_core.specs.Mount.{IsOpened, HasListIfTold, IsListFault};
+ghost use Rattle.hm_model.specs.declared.served.TheConstants.{MOST_DIRECTORIES};
+ghost use Rattle.hm_core.specs.Finish.{IsNoDamage};
+ghost use Rattle.hm_core.specs.Mount.{IsOpened, HasCount, HasEntries, HasListIfTold, IsListFault};
 ghost use Rattle.hm_core.specs.Slots.{IsOfDevice};
 
 use crate::directories::Directories;
@@ -71,16 +74,60 @@ fn read_directories<D: Disk>(
         return Err(damage);
     }
     let place = list_place(header.bigblocks, header.generation);
-    let mut count = [0; COUNT_BYTES];
-    read_bytes(disk, place, &mut count)?;
-    let count = LittleEndian::read_u64(&count);
+    let count = read_count(disk, place)?;
     if count > MOST_DIRECTORIES as u64 {
         return Err(damage);
     }
     let count = count as usize;
+    let bytes = read_entries(alloc, disk, place + COUNT_BYTES as u64, count)?;
+    match read_list(alloc, &bytes, count, header.last)? {
+        Some(directories) => Ok(directories),
+        None => Err(damage),
+    }
+}
+
+/// Reads the number of directories at the place of a list.
+fn read_count<D: Disk>(disk: &mut D, place: u64) -> Result<u64, Fault>
+    requires range { place + 8 < 2 ^ 64 }
+    requires within { IfSome (D.told disk.old) (λ t. place + 8 ≤ length t.bytes) }
+    ensures ok { IfOk result (λ count. IfSome (D.told disk.old) (HasCount place count)) }
+    ensures small { IfOk result (λ count. count < 2 ^ 64) }
+    ensures device { IfErr result IsOfDevice }
+    ensures same { D.told disk.new ≡ D.told disk.old }
+    ensures cause { HasFaultCause (D.faults disk.old) (D.faults disk.new) result }
+{
+    let mut count = [0; COUNT_BYTES];
+    read_bytes(disk, place, &mut count)?;
+    Ok(number_of(&count))
+}
+
+/// The number in these bytes.
+fn number_of(bytes: &[u8; COUNT_BYTES]) -> u64
+    ensures value { bytes.now ≡ little_bytes 8 result }
+    ensures small { result < 2 ^ 64 }
+{
+    LittleEndian::read_u64(bytes)
+}
+
+/// Reads as many bytes as so many directories take at most.
+fn read_entries<D: Disk>(
+    alloc: Global,
+    disk: &mut D,
+    place: u64,
+    count: usize,
+) -> Result<Vec<u8>, Fault>
+    requires few { count ≤ MOST_DIRECTORIES }
+    requires range { place + 265 * count < 2 ^ 64 }
+    requires within { IfSome (D.told disk.old) (λ t. place + 265 * count ≤ length t.bytes) }
+    ensures ok { IfOk result
+        (λ bytes. IfSome (D.told disk.old) (HasEntries place count bytes.items)) }
+    ensures err { IfErr result IsNoDamage }
+    ensures same { D.told disk.new ≡ D.told disk.old }
+    ensures cause { HasFaultCause (D.faults disk.old) (D.faults disk.new) result }
+{
     let mut bytes = vec![in alloc; 0; count * MOST_DIRECTORY_BYTES]?;
-    read_bytes(disk, place + COUNT_BYTES as u64, &mut bytes)?;
-    read_list(alloc, &bytes, count, header.last)?.ok_or(damage)
+    read_bytes(disk, place, &mut bytes)?;
+    Ok(bytes)
 }
 
 /// Reads from the disk. A fault tells its counts at the start of this call and at the end.
