@@ -5,10 +5,6 @@ use Rattle.std.specs.List.{AllByRecursion}
 use Rattle.std.proofs.lemmas.Bool.{true≢false}
 use Rattle.std.proofs.lemmas.List.Elements.{recursion_from_All}
 use Rattle.hm_types.specs.declared.limits.TheConstants.{MOST_SCRIPT_BYTES, MOST_SCRIPT_LINES}
-use Rattle.hm_header.specs.declared.fault.HeaderFault.{HeaderFault}
-use Rattle.hm_header.specs.declared.fault.HeaderFault.TheVariants.{NotVolume as header_none, BadField as header_field}
-use Rattle.hm_header.specs.Slots.{IsFault}
-use Rattle.hm_header.proofs.SlotLemmas.{chosen_has_none}
 use Rattle.hm_pipe.specs.Pipe.{Gives, IsAtEnd}
 use Rattle.hm_disk.specs.Crash.{Told}
 use Rattle.hm_model.specs.Lines.{texts_of}
@@ -16,8 +12,8 @@ use Rattle.hm_model.specs.Script.{IsTooLong}
 use Rattle.hm_model.specs.Volume.{Volume}
 use Rattle.hm_model.specs.Served.Lines.{IsFirstBad, IsLine}
 use Rattle.hm_core.specs.Open.{HasBrokenList, IsOpenFault, IsTooSmall}
-use Rattle.hm_core.specs.Stands.{StandsFor, first_slot, second_slot}
-use Rattle.hm_core.proofs.StandsLemmas.{StandsFor-no_fault, StandsFor-unbroken}
+use Rattle.hm_core.specs.Stands.{StandsFor}
+use Rattle.hm_core.proofs.StandsLemmas.{HasBrokenList-header, HasNoHeader, StandsFor-header, StandsFor-unbroken, no_header_at_all, no_header_in_range}
 use Rattle.hm_shell.specs.declared.stop.Stop.{Stop}
 use Rattle.hm_shell.specs.declared.stop.Stop.TheVariants.{Usage, NotVolume, BadField, DiskFault, Damaged, ScriptFault, OutFault, NoMemory, BadLine, TooLong}
 use Rattle.hm_shell.specs.Devices.{Sight}
@@ -76,11 +72,6 @@ no_bad script number good bad =
 some_is_none : (size : ℕ) → Some size ≡ None → ⊥
 some_is_none size is = absurd (cc)
 
--- two faults of the header, or one and a broken list
-no_broken : (bytes : List ℕ) (fault : HeaderFault) (at : ℕ) → IsFault (first_slot bytes) (second_slot bytes) (length bytes) fault → HasBrokenList bytes at → ⊥
-no_broken bytes fault at is broken =
-    chosen_has_none (first_slot bytes) (second_slot bytes) (length bytes) broken.header broken.number fault broken.header_is is
-
 -- a status that comes anyway
 any_disk : (newfs : Option ℕ) (t : Told) (status : ℕ) → Contains (3 ∷ 4 ∷ 5 ∷ 7 ∷ []) status → Contains (0 ∷ 4 ∷ 5 ∷ 6 ∷ 7 ∷ []) status → Contains (10 ∷ 4 ∷ 5 ∷ 7 ∷ []) status → DiskBrings newfs t status
 any_disk newfs t status three zero ten = record {
@@ -98,8 +89,8 @@ opened_brings newfs None opened opening status opens zero = tt
 opened_brings None (Some t) opened opening status opens zero = record {
   small = λ size is small. absurd (some_is_none size (sym is));
   made = λ _ _ _. zero;
-  none = λ _ is. absurd (StandsFor-no_fault t.bytes opening header_none opens.1 is);
-  field = λ place _ is. absurd (StandsFor-no_fault t.bytes opening (header_field place) opens.1 is);
+  none = λ _ is. absurd (StandsFor-header t.bytes opening opens.1 (no_header_at_all t.bytes is));
+  field = λ place _ is. absurd (StandsFor-header t.bytes opening opens.1 (no_header_in_range t.bytes place is));
   broken = λ at _ is. absurd (StandsFor-unbroken t.bytes opening at opens.1 is);
   stands = λ _ _ _. zero;
 }
@@ -116,14 +107,14 @@ opened_brings (Some size) (Some t) (Some u) opening status opens zero = record {
     same_size : (other : ℕ) → Some size ≡ Some other → other ≡ size
     same_size other is = cc
 
-none_brings : (t : Told) (fault : HeaderFault) → IsFault (first_slot t.bytes) (second_slot t.bytes) (length t.bytes) fault → DiskBrings None t 3
-none_brings t fault is = record {
+none_brings : (t : Told) → HasNoHeader t.bytes → DiskBrings None t 3
+none_brings t is = record {
   small = λ _ _ _. (0, lit< tt, refl);
   made = λ size is _. absurd (some_is_none size (sym is));
   none = λ _ _. (0, lit< tt, refl);
   field = λ _ _ _. (0, lit< tt, refl);
-  broken = λ at _ broken. absurd (no_broken t.bytes fault at is broken);
-  stands = λ volume _ stands. absurd (StandsFor-no_fault t.bytes volume fault stands is);
+  broken = λ at _ broken. absurd (HasBrokenList-header t.bytes at broken is);
+  stands = λ volume _ stands. absurd (StandsFor-header t.bytes volume stands is);
 }
 
 small_brings : (size : ℕ) (t : Told) → IsTooSmall size t → DiskBrings (Some size) t 3
@@ -143,8 +134,8 @@ broken_brings : (t : Told) (at : ℕ) → HasBrokenList t.bytes at → DiskBring
 broken_brings t at broken = record {
   small = λ size is _. absurd (some_is_none size (sym is));
   made = λ size is _. absurd (some_is_none size (sym is));
-  none = λ _ is. absurd (no_broken t.bytes header_none at is broken);
-  field = λ place _ is. absurd (no_broken t.bytes (header_field place) at is broken);
+  none = λ _ is. absurd (HasBrokenList-header t.bytes at broken (no_header_at_all t.bytes is));
+  field = λ place _ is. absurd (HasBrokenList-header t.bytes at broken (no_header_in_range t.bytes place is));
   broken = λ _ _ _. (0, lit< tt, refl);
   stands = λ volume _ stands. absurd (StandsFor-unbroken t.bytes volume at stands broken);
 }
@@ -163,11 +154,11 @@ seven_anyway : (newfs : Option ℕ) (o : Option Told) → IfSome o (λ t. DiskBr
 seven_anyway newfs o = told_gives o (λ t. DiskBrings newfs t 7) (λ t _. any_disk newfs t 7 (3, lit< tt, refl) (4, lit< tt, refl) (3, lit< tt, refl))
 
 gives_header : (newfs : Option ℕ) (t : Told) → GivesNone newfs t NotVolume → DiskBrings newfs t 3
-gives_header None t is = none_brings t header_none is
+gives_header None t is = none_brings t (no_header_at_all t.bytes is)
 gives_header (Some size) t is = absurd is
 
 gives_field : (newfs : Option ℕ) (t : Told) (place : ℕ) → GivesNone newfs t (BadField place) → DiskBrings newfs t 3
-gives_field None t place is = none_brings t (header_field place) is
+gives_field None t place is = none_brings t (no_header_in_range t.bytes place is)
 gives_field (Some size) t place is = small_brings size t is.1
 
 gives_damage : (newfs : Option ℕ) (t : Told) (at kind : ℕ) → GivesNone newfs t (Damaged at kind) → DiskBrings newfs t 10

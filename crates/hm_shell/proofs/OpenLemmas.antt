@@ -11,8 +11,7 @@ use Rattle.hm_core.specs.declared.fault.OpenFault.TheVariants.{NotVolume as no_v
 use Rattle.hm_core.specs.Fresh.{HasSpace, IsMakeFault}
 use Rattle.hm_core.specs.Open.{IsListDamage, IsOpenCaused, IsOpenFault, IsSettled, IsTooSmall}
 use Rattle.hm_core.specs.Stands.{StandsFor}
-use Rattle.hm_core.proofs.StandsLemmas.{StandsFor-no_fault, StandsFor-one, StandsFor-unbroken}
-use Rattle.hm_header.specs.declared.fault.HeaderFault.TheVariants.{NotVolume as header_none, BadField as header_field}
+use Rattle.hm_core.proofs.StandsLemmas.{StandsFor-header, StandsFor-one, StandsFor-unbroken, no_header_at_all, no_header_in_range}
 use Rattle.hm_shell.specs.declared.stop.Stop.{Stop}
 use Rattle.hm_shell.specs.declared.stop.Stop.TheVariants.{Usage, NotVolume, BadField, DiskFault, Damaged, ScriptFault, OutFault, NoMemory, BadLine, TooLong}
 use Rattle.hm_shell.specs.Opening.{GivesNone, IsMade, OpensOn, StoppedMaking, StoppedOpening}
@@ -29,6 +28,11 @@ made_from size (Some s) (Some t) settled room = (settled, λ small. absurd (omeg
 pub IsMade-ok : (size : ℕ) (old new : Option Told) (r : Result (Unit {0}) OpenFault) → OnOk r (BothTell old new (λ _ t. IsSettled (fresh size) t)) → OnOk r (IfSome old (HasSpace size)) → OnOk r (IsMade (Some size) old new)
 IsMade-ok size old new (Ok done) settled room = made_from size old new settled room
 IsMade-ok size old new (Err fault) settled room = tt
+
+-- what did not fail has made it
+pub IsMade-not_err : (newfs : Option ℕ) (old new : Option Told) (r : Result (Unit {0}) Stop) → OnOk r (IsMade newfs old new) → ((stop : Stop) → r ≡ Err stop → ⊥) → IsMade newfs old new
+IsMade-not_err newfs old new (Ok done) made not_err = made
+IsMade-not_err newfs old new (Err stop) made not_err = absurd (not_err stop refl)
 
 -- a volume was not made
 pub StoppedMaking-fault : (size : ℕ) (old new : Seen Told) (fault : OpenFault) → IsMakeFault size old.told new.told fault → IsOpenCaused old.faults new.faults fault → StoppedMaking (Some size) old new (of_open fault)
@@ -91,11 +95,11 @@ gives_none newfs stop (Some t) F gives why = subst (λ n. GivesNone n t stop) (s
 pub StoppedOpening-mount : (newfs : Option ℕ) (a b c : Seen Told) (fault : OpenFault) → IsMade newfs a.told b.told → c.told ≡ b.told → IfSome b.told (λ t. IsOpenFault t.bytes fault) → IsOpenCaused b.faults c.faults fault → a.faults ≤ b.faults → StoppedOpening newfs a c (of_open fault)
 StoppedOpening-mount newfs a b c no_volume made same why caused later =
     let F : Told → Type 0 = λ t. IsOpenFault t.bytes no_volume in
-    let none = made_has_none newfs a.told b.told F made (λ t size settled is. StandsFor-no_fault t.bytes (fresh size) header_none settled.stands is) why in
+    let none = made_has_none newfs a.told b.told F made (λ t size settled is. StandsFor-header t.bytes (fresh size) settled.stands (no_header_at_all t.bytes is)) why in
     (same ∙ none.0, gives_none newfs NotVolume a.told F (λ t f. f) none.1)
 StoppedOpening-mount newfs a b c (bad_field place) made same why caused later =
     let F : Told → Type 0 = λ t. IsOpenFault t.bytes (bad_field place) in
-    let none = made_has_none newfs a.told b.told F made (λ t size settled is. StandsFor-no_fault t.bytes (fresh size) (header_field place) settled.stands is) why in
+    let none = made_has_none newfs a.told b.told F made (λ t size settled is. StandsFor-header t.bytes (fresh size) settled.stands (no_header_in_range t.bytes place is)) why in
     (same ∙ none.0, gives_none newfs (BadField place) a.told F (λ t f. f) none.1)
 StoppedOpening-mount newfs a b c (of_disk (damage at kind)) made same why caused later =
     let F : Told → Type 0 = λ t. IsListDamage t.bytes (damage at kind) in
