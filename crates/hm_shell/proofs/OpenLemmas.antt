@@ -71,13 +71,17 @@ OpensOn-mounted (Some size) (Some s) None c opening made same stands = absurd ma
 OpensOn-mounted (Some size) (Some s) (Some t) c opening made same stands =
     rw same (record { stands = stands; settled = made.0.settled }, StandsFor-one t.bytes opening (fresh size) stands made.0.stands, made.1)
 
+-- no size of a new volume
+abbrev no_size : Option ℕ
+no_size = None
+
+with_none : (o : Option Told) (F : Told → Type 0) → IfSome o F → IfSome o (λ t. (no_size ≡ None) × F t)
+with_none None F f = tt
+with_none (Some t) F f = (refl, f)
+
 -- Where no volume was to be made, the disk is as it was. One that was made has no such fault.
 made_has_none : (newfs : Option ℕ) (a b : Option Told) (F : Told → Type 0) → IsMade newfs a b → ((t : Told) (size : ℕ) → IsSettled (fresh size) t → F t → ⊥) → IfSome b F → (b ≡ a) × IfSome a (λ t. (newfs ≡ None) × F t)
-made_has_none None a b F made contra why = (made, pair a (subst (λ o. IfSome o F) made why))
-  where
-    pair : (o : Option Told) → IfSome o F → IfSome o (λ t. (None ≡ None) × F t)
-    pair None f = tt
-    pair (Some t) f = (refl, f)
+made_has_none None a b F made contra why = (made, with_none a F (subst (λ o. IfSome o F) made why))
 made_has_none (Some size) None None F made contra why = (refl, tt)
 made_has_none (Some size) None (Some t) F made contra why = absurd made
 made_has_none (Some size) (Some s) None F made contra why = absurd made

@@ -3,7 +3,7 @@ use Rattle.std.proofs.Common.{◌≡◌, ◌≢◌, ℕ, zero, suc, ◌+◌, ◌
 use Rattle.std.specs.Prelude.{◌⊎◌}
 use Rattle.std.specs.List.{count_by, sum_by}
 use Rattle.std.proofs.lemmas.Bool.Decides.{nat_tests}
-use Rattle.std.proofs.lemmas.List.{get_or-append-add, get_or-take, length-take-le}
+use Rattle.std.proofs.lemmas.List.{get_or-append-add}
 use Rattle.std.proofs.lemmas.List.Sums.{count_by-le-length, sum_by-append, sum_by-cons}
 use Rattle.hm_model.specs.Lines.{line_feed, texts_of, with_first}
 use Rattle.hm_shell.specs.Reading.{feeds}
@@ -76,12 +76,3 @@ lines_more false b bs texts is fewer = rw is (with_fewer (texts_of bs) texts few
 pub lines_of_front : (s r : List ℕ) → length (texts_of s) ≤ length (texts_of (s ++ r))
 lines_of_front [] r = omega arith
 lines_of_front (b ∷ s) r = lines_more (eqb b line_feed) b s (texts_of (s ++ r)) refl (lines_of_front s r)
-
--- the same of a piece that is the front of a buffer, and of its last byte
-pub ended_lines : (s buf : List ℕ) (n d : ℕ) → 0 < n → n ≤ length buf → get_or buf (n - 1) d ≡ line_feed → length (texts_of (s ++ take n buf)) ≡ feeds s + feeds (take n buf)
-ended_lines s buf n d some fits last =
-    lines_ended s (take n buf) (n - 1) d (omega (arith, some, length-take-le n buf fits)) (get_or-take n buf (n - 1) d (omega (arith, some)) ∙ last)
-
-pub open_lines : (s buf : List ℕ) (n d : ℕ) → 0 < n → n ≤ length buf → get_or buf (n - 1) d ≢ line_feed → length (texts_of (s ++ take n buf)) ≡ feeds s + feeds (take n buf) + 1
-open_lines s buf n d some fits last =
-    lines_open s (take n buf) (n - 1) d (omega (arith, some, length-take-le n buf fits)) (λ is. last (sym (get_or-take n buf (n - 1) d (omega (arith, some))) ∙ is))

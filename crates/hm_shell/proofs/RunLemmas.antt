@@ -40,6 +40,7 @@ module _ {D I O : Type 0} where
 
   -- all lines were served, and the volume was written back
   pub RunsFrom-finished : (told : D → Option Told) (faults : D → ℕ) (script : List ℕ) (core later : CoreState D I O) (disk : D) (outcome : Result (Unit {0}) Fault) (old new : Option (List ℕ)) → KeepsRest core later → Served (texts_of script) later old new → IsFinished told faults later disk outcome → OnOk outcome (RunsFrom script core.opening (told core.disk) (told disk) old new)
+  unfolding AnswersAll-served
   RunsFrom-finished told faults script core later disk (Err fault) old new rest served finished = tt
   RunsFrom-finished told faults script core later disk (Ok done) old new rest served finished =
       let runs : RunsFrom script later.opening (told later.disk) (told disk) old new = record {
@@ -54,6 +55,7 @@ module _ {D I O : Type 0} where
 
   -- all lines were served, and the volume could not be written back
   pub StoppedFrom-finished : (told : D → Option Told) (faults : D → ℕ) (script : List ℕ) (core later : CoreState D I O) (disk : D) (outcome : Result (Unit {0}) Fault) (old new : Seen (List ℕ)) → KeepsRest core later → Served (texts_of script) later old.told new.told → IsFinished told faults later disk outcome → IfErr outcome (λ fault. StoppedFrom script core.opening (seen told faults core.disk) (seen told faults disk) old new (of_fault fault))
+  unfolding AnswersAll-served
   StoppedFrom-finished told faults script core later disk (Ok done) old new rest served finished = tt
   StoppedFrom-finished told faults script core later disk (Err fault) old new rest served finished =
       let stopped : StoppedWriting script later.opening (told later.disk) (told disk) old.told new.told = record {
