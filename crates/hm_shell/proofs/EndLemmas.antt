@@ -37,12 +37,15 @@ HasEnded words old new status = ((status ≡ 0) × Completes words old new) ⊎ 
 -- from what was done, and the last line
 pub HasEnded-from : (words : List (List ℕ)) (old mid new : Sight) (outcome : Result (Unit {0}) Stop) (status : ℕ) → OnOk outcome (Completes words old mid) → IfErr outcome (λ stop. Stops words old mid stop) → OnOk outcome ((status ≡ 0) × (new.out.told ≡ mid.out.told)) → IfErr outcome (λ stop. (status ≡ status_of stop) × Prints [] (last_line stop) mid.out new.out) → new.disk ≡ mid.disk → new.script ≡ mid.script → HasEnded words old new status
 HasEnded-from words old mid new (Ok done) status completes stops ended line disk script =
-    inl (ended.0, record {
-      newfs = completes.newfs;
-      script = completes.script;
-      prepared = rw script completes.prepared;
-      runs = rw (disk, ended.1) completes.runs;
-    })
+    inl (
+      ended.0,
+      record {
+        newfs = completes.newfs;
+        script = completes.script;
+        prepared = rw script completes.prepared;
+        runs = rw (disk, ended.1) completes.runs;
+      },
+    )
 HasEnded-from words old mid new (Err stop) status completes stops ended line disk script =
     let there : Sight = record { disk = new.disk; script = new.script; out = mid.out } in
     let make : Seen _ → Seen _ → Sight = λ d s. record { disk = d; script = s; out = mid.out } in
@@ -78,9 +81,9 @@ plan_or_usage words old new stop (inr later) =
     none Usage is later = elim later.stopped [
       | inl opening ↦ absurd opening.0
       | inr using ↦ elim using.stops [
-            | inl serving ↦ absurd serving.4
-            | inr writing ↦ absurd writing.1
-          ]
+        | inl serving ↦ absurd serving.4
+        | inr writing ↦ absurd writing.1
+      ]
     ]
     none NotVolume is later = absurd (omega (arith, is))
     none (BadField place) is later = absurd (omega (arith, is))

@@ -222,33 +222,49 @@ good_brings words old new_script newfs script status prepared may plan = (
 
 preparing_brings : (words : List (List ℕ)) (old : Sight) (new : Seen (List ℕ)) (stop : Stop) → StoppedPreparing words old.script new stop → Brings words old (status_of stop)
 preparing_brings words old new Usage stopped plan = absurd (stopped.0 plan.0 plan.1 plan.2)
-preparing_brings words old new (ScriptFault before after) stopped plan = (plan.0, plan.1, plan.2,
+preparing_brings words old new (ScriptFault before after) stopped plan = (
+  plan.0,
+  plan.1,
+  plan.2,
   told_gives old.script.told (λ bytes. ScriptBrings plan.1 old.disk.told bytes 5) (λ bytes is. record {
     too_long = λ _. (1, lit< tt, refl);
     bad = λ _ _ _. (1, lit< tt, refl);
     good = λ _ _. ((3, lit< tt, refl), five_anyway plan.1 old.disk.told);
-  }))
-preparing_brings words old new NoMemory stopped plan = (plan.0, plan.1, plan.2,
+  }),
+)
+preparing_brings words old new NoMemory stopped plan = (
+  plan.0,
+  plan.1,
+  plan.2,
   told_gives old.script.told (λ bytes. ScriptBrings plan.1 old.disk.told bytes 7) (λ bytes is. record {
     too_long = λ _. (2, lit< tt, refl);
     bad = λ _ _ _. (2, lit< tt, refl);
     good = λ _ _. ((5, lit< tt, refl), seven_anyway plan.1 old.disk.told);
-  }))
-preparing_brings words old new TooLong stopped plan = (plan.0, plan.1, plan.2,
+  }),
+)
+preparing_brings words old new TooLong stopped plan = (
+  plan.0,
+  plan.1,
+  plan.2,
   told_gives old.script.told (λ bytes. ScriptBrings plan.1 old.disk.told bytes 9) (λ bytes is.
-    let long : IsTooLong bytes = too_long_told stopped.1.0 bytes new.told (rw is at stopped.1.1) stopped.1.2 in
-    record {
-      too_long = λ _. (0, lit< tt, refl);
-      bad = λ _ short _. absurd (short long);
-      good = λ short _. absurd (short long);
-    }))
-preparing_brings words old new (BadLine number) stopped plan = (plan.0, plan.1, plan.2,
+      let long : IsTooLong bytes = too_long_told stopped.1.0 bytes new.told (rw is at stopped.1.1) stopped.1.2 in
+      record {
+        too_long = λ _. (0, lit< tt, refl);
+        bad = λ _ short _. absurd (short long);
+        good = λ short _. absurd (short long);
+      }),
+)
+preparing_brings words old new (BadLine number) stopped plan = (
+  plan.0,
+  plan.1,
+  plan.2,
   told_gives old.script.told (λ bytes. ScriptBrings plan.1 old.disk.told bytes 8) (λ bytes is.
-    subst (λ b. ScriptBrings plan.1 old.disk.told b 8) (sym (same_script old.script new stopped.1 bytes stopped.2 is)) (record {
-      too_long = λ long. absurd (short_enough old.script new stopped.1 stopped.2 long);
-      bad = λ _ _ _. (0, lit< tt, refl);
-      good = λ _ good. absurd (no_bad stopped.1 number good stopped.3);
-    })))
+      subst (λ b. ScriptBrings plan.1 old.disk.told b 8) (sym (same_script old.script new stopped.1 bytes stopped.2 is)) (record {
+        too_long = λ long. absurd (short_enough old.script new stopped.1 stopped.2 long);
+        bad = λ _ _ _. (0, lit< tt, refl);
+        good = λ _ good. absurd (no_bad stopped.1 number good stopped.3);
+      })),
+)
 preparing_brings words old new NotVolume stopped plan = absurd stopped
 preparing_brings words old new (BadField place) stopped plan = absurd stopped
 preparing_brings words old new (DiskFault b a) stopped plan = absurd stopped

@@ -87,8 +87,8 @@ next_digit number rest digits done digit within long is so_far =
     let first : 16 - (done + 1) ≡ 15 - done = omega arith in
     let before : 16 - done ≡ suc (15 - done) = omega arith in
     let one : drop (16 - (done + 1)) (set digits (15 - done) digit) ≡ digit ∷ drop (15 - done + 1) digits =
-        drop-set_at digits (15 - done) (16 - (done + 1)) digit first (omega (arith, long)) in
+    drop-set_at digits (15 - done) (16 - (done + 1)) digit first (omega (arith, long)) in
     let after : 15 - done + 1 ≡ 16 - done = omega arith in
     let there : drop (16 - (done + 1)) (set digits (15 - done) digit) ≡ digit_glyph false (rest % 16) ∷ drop (16 - done) digits =
-        one ∙ (ap (λ d. d ∷ drop (15 - done + 1) digits) is ∙ ap (λ n. digit_glyph false (rest % 16) ∷ drop n digits) after) in
+    one ∙ (ap (λ d. d ∷ drop (15 - done + 1) digits) is ∙ ap (λ n. digit_glyph false (rest % 16) ∷ drop n digits) after) in
     ap (λ xs. fixed_onto (16 - (done + 1)) (rest / 16) xs) there ∙ (ap (λ j. fixed_onto j (rest / 16) (digit_glyph false (rest % 16) ∷ drop (16 - done) digits)) first ∙ (ap (λ j. fixed_onto j rest (drop (16 - done) digits)) (sym before) ∙ so_far))

@@ -24,9 +24,9 @@ read_on number (text ∷ texts) good =
     elim good.0 [
       | inl remark ↦ (more.0, remark_first number text texts more.0 remark more.1)
       | inr call ↦ (
-            record { lane = 0; number = number; command = call.0 } ∷ more.0,
-            inr ((plain_call text call.0 call.1, refl, refl, call.1), more.1),
-          )
+        record { lane = 0; number = number; command = call.0 } ∷ more.0,
+        inr ((plain_call text call.0 call.1, refl, refl, call.1), more.1),
+      )
     ]
 
 -- more texts that read on

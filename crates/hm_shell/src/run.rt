@@ -41,12 +41,7 @@ pub fn run<
     I: Source + Send,
     O: Sink + Send,
     G: Gate + Sync,
->(
-    rt: &R,
-    words: &[String],
-    devices: Devices<D, S, K, I, O>,
-    _gate: &G,
-) -> Ended<D, S, K, I, O>
+>(rt: &R, words: &[String], devices: Devices<D, S, K, I, O>, _gate: &G) -> Ended<D, S, K, I, O>
     // Each line of the script was answered, in one legal history, and the disk keeps what it made.
     ensures done { result.status ≡ 0 →
         Between D.told D.faults S.left S.faults K.held K.faults devices result.devices
@@ -61,16 +56,14 @@ pub fn run<
     ensures usage { (result.status ≡ 2) ↔ IsUsageFault (texts words.now) }
 
     // Where the source and the disk tell, they decide which it is.
-    ensures exact {
-        Between D.told D.faults S.left S.faults K.held K.faults devices result.devices
+    ensures exact { Between D.told D.faults S.left S.faults K.held K.faults devices result.devices
         (λ old _. Brings (texts words.now) old result.status) }
     ensures statuses { IsStatus result.status }
 
     // The streams are those that were given, and no count of faults falls.
     ensures stream_in { result.devices.stream_in ≡ devices.stream_in }
     ensures stream_out { result.devices.stream_out ≡ devices.stream_out }
-    ensures counts {
-        Between D.told D.faults S.left S.faults K.held K.faults devices result.devices NeverFall }
+    ensures counts { Between D.told D.faults S.left S.faults K.held K.faults devices result.devices NeverFall }
 {
     let (mut devices, outcome) = perform(rt.alloc(), words, devices);
     let status = end(outcome, &mut devices.out);
@@ -91,8 +84,7 @@ fn perform<D: Disk, S: Source, K: Sink, I, O>(
         (λ old new. Stops (texts words.now) old new stop)) }
     ensures stream_in { result.0.stream_in ≡ devices.stream_in }
     ensures stream_out { result.0.stream_out ≡ devices.stream_out }
-    ensures counts {
-        Between D.told D.faults S.left S.faults K.held K.faults devices result.0 NeverFall }
+    ensures counts { Between D.told D.faults S.left S.faults K.held K.faults devices result.0 NeverFall }
 {
     let Devices {
         disk,

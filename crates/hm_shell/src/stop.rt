@@ -67,10 +67,7 @@ impl Stop {
     {
         match fault {
             Fault::Media { before, after } => Stop::DiskFault { before, after },
-            Fault::Damaged { at, kind } => Stop::Damaged {
-                at: at.raw(),
-                kind,
-            },
+            Fault::Damaged { at, kind } => Stop::Damaged { at: at.raw(), kind },
             Fault::NoMemory => Stop::NoMemory,
         }
     }

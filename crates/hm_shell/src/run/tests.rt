@@ -14,15 +14,17 @@ const TWICE: &str = "mkdir /a\nmkdir /a\n";
 
 const FIRST_OK: &str = "0x0000000000000002 ok\n";
 
-const FIRST_RUN: &str = "mkdir /a\nmkdir /b\nls /\nls /@@0x0000000000000002\nls /@@0x0000000000000000\nls /@@0x0000000000000009\n";
+const FIRST_RUN: &str =
+    "mkdir /a\nmkdir /b\nls /\nls /@@0x0000000000000002\nls /@@0x0000000000000000\nls /@@0x0000000000000009\n";
 
-const FIRST_PRINTED: &str = "0x0000000000000002 ok\n0x0000000000000003 ok\n0x0000000000000004 ok 2 d:a d:b\n0x0000000000000005 ok 1 d:a\n0x0000000000000006 not retained\n0x0000000000000007 future 0x0000000000000006\n";
+const FIRST_PRINTED: &str =
+    "0x0000000000000002 ok\n0x0000000000000003 ok\n0x0000000000000004 ok 2 d:a d:b\n0x0000000000000005 ok 1 d:a\n0x0000000000000006 not retained\n0x0000000000000007 future 0x0000000000000006\n";
 
 type Memory = Ended<MemDisk, MemSource, MemSink, MemSource, MemSink>;
 
 // Runs a script over a disk, and over a source and a sink whose calls of these numbers fail.
-fn run_over(
-    rt: &HostRuntime,
+fn run_over<R: AllocGlobal + Threads + Wait + Sync>(
+    rt: &R,
     words: &[&str],
     disk: MemDisk,
     script: Vec<u8>,
@@ -42,8 +44,8 @@ fn run_over(
 }
 
 // The same over a new disk that is large enough for any volume.
-fn run_with(
-    rt: &HostRuntime,
+fn run_with<R: AllocGlobal + Threads + Wait + Sync>(
+    rt: &R,
     words: &[&str],
     script: Vec<u8>,
     takes: &[u64],
@@ -54,8 +56,8 @@ fn run_with(
 }
 
 // The same with words that are right.
-fn run_script_with(
-    rt: &HostRuntime,
+fn run_script_with<R: AllocGlobal + Threads + Wait + Sync>(
+    rt: &R,
     script: &str,
     takes: &[u64],
     puts: &[u64],
@@ -83,8 +85,14 @@ fn answers_each_line_in_order(rt: HostRuntime) -> Result<(), Fail> {
         ("", ""),
         ("\n# a remark\n\n#", ""),
         ("mkdir /a", "0x0000000000000002 ok\n"),
-        ("\n#mkdir /b\nmkdir /a\n\nls /", "0x0000000000000002 ok\n0x0000000000000003 ok 1 d:a\n"),
-        ("ls /\nls /@@0xFFFFFFFFFFFFFFFF\n", "0x0000000000000002 ok 0\n0x0000000000000003 future 0x0000000000000002\n"),
+        (
+            "\n#mkdir /b\nmkdir /a\n\nls /",
+            "0x0000000000000002 ok\n0x0000000000000003 ok 1 d:a\n",
+        ),
+        (
+            "ls /\nls /@@0xFFFFFFFFFFFFFFFF\n",
+            "0x0000000000000002 ok 0\n0x0000000000000003 future 0x0000000000000002\n",
+        ),
         (FIRST_RUN, FIRST_PRINTED),
         (TWICE, "0x0000000000000002 ok\n0x0000000000000003 exists\n"),
         (
@@ -372,7 +380,11 @@ fn reads_no_script_of_one_line_more(rt: HostRuntime) -> Result<(), Fail> {
             script.extend_from_slice(end.as_bytes())?;
             let ended = run_with(&rt, &["v", "--newfs", "24"], script, &[], &[])?;
             let too_long = status == 9 || !end.is_empty();
-            let want = if too_long { "script too long\n" } else { printed };
+            let want = if too_long {
+                "script too long\n"
+            } else {
+                printed
+            };
             assert_eq!(rt; ended.devices.out.bytes(), want.as_bytes(), "{lines} {end}");
             assert_eq!(rt; ended.status, if too_long { 9 } else { 0 }, "{lines} {end}");
         }
@@ -387,9 +399,21 @@ fn finds_on_the_disk_what_an_earlier_run_made(rt: HostRuntime) -> Result<(), Fai
         (&["v", "--newfs", "24"], FIRST_RUN, FIRST_PRINTED),
         (&["v"], "ls /\n", "0x0000000000000008 ok 2 d:a d:b\n"),
         (&["w"], "", ""),
-        (&["v"], "mkdir /b\nmkdir /c\n", "0x0000000000000009 exists\n0x000000000000000a ok\n"),
-        (&["v"], "ls /@@0x0000000000000009\nls /\n", "0x000000000000000b ok 2 d:a d:b\n0x000000000000000c ok 3 d:a d:b d:c\n"),
-        (&["--newfs", "24", "v"], "ls /\n", "0x0000000000000002 ok 0\n"),
+        (
+            &["v"],
+            "mkdir /b\nmkdir /c\n",
+            "0x0000000000000009 exists\n0x000000000000000a ok\n",
+        ),
+        (
+            &["v"],
+            "ls /@@0x0000000000000009\nls /\n",
+            "0x000000000000000b ok 2 d:a d:b\n0x000000000000000c ok 3 d:a d:b d:c\n",
+        ),
+        (
+            &["--newfs", "24", "v"],
+            "ls /\n",
+            "0x0000000000000002 ok 0\n",
+        ),
     ];
     for (words, script, printed) in runs {
         let script = script.as_bytes().to_vec(rt.alloc())?;
@@ -413,7 +437,11 @@ fn tells_of_a_disk_without_a_volume(rt: HostRuntime) -> Result<(), Fail> {
         let disk = MemDisk::new(rt.alloc(), bigblocks, Vec::new(rt.alloc()));
         let script = TWICE.as_bytes().to_vec(rt.alloc())?;
         let ended = run_over(&rt, words, disk, script, &[], &[])?;
-        assert_eq!(rt; ended.devices.out.bytes(), printed.as_bytes(), "{bigblocks}");
+        assert_eq!(rt;
+            ended.devices.out.bytes(),
+            printed.as_bytes(),
+            "{bigblocks}"
+        );
         assert_eq!(rt; ended.status, 3, "{bigblocks}");
     }
     Ok(())
@@ -422,20 +450,34 @@ fn tells_of_a_disk_without_a_volume(rt: HostRuntime) -> Result<(), Fail> {
 #[test]
 fn tells_of_a_list_that_breaks_its_rules(rt: HostRuntime) -> Result<(), Fail> {
     let disk = MemDisk::new(rt.alloc(), 24, Vec::new(rt.alloc()));
-    let ended = run_over(&rt, &["v", "--newfs", "24"], disk, Vec::new(rt.alloc()), &[], &[])?;
+    let ended = run_over(
+        &rt,
+        &["v", "--newfs", "24"],
+        disk,
+        Vec::new(rt.alloc()),
+        &[],
+        &[],
+    )?;
     assert_eq!(rt; ended.status, 0);
     let mut disk = ended.devices.disk;
+    assert!(rt; disk.size() == Ok(201_326_592));
     // 4,097 directories, in the first big-block of the pool.
     assert!(rt; disk.write_at(0x580_0000, &4_097u64.to_le_bytes()).is_ok());
     let script = TWICE.as_bytes().to_vec(rt.alloc())?;
     let ended = run_over(&rt, &["v"], disk, script, &[], &[])?;
-    assert_eq!(rt; ended.devices.out.bytes(), b"damaged 0x8000000005800000 5\n".as_slice());
+    assert_eq!(rt;
+        ended.devices.out.bytes(),
+        b"damaged 0x8000000005800000 5\n".as_slice()
+    );
     assert_eq!(rt; ended.status, 10);
     Ok(())
 }
 
 // A disk with the directory `a`, whose calls are counted anew.
-fn made_disk(rt: &HostRuntime, fails: &[u64]) -> Result<MemDisk, AllocError> {
+fn made_disk<R: AllocGlobal + Threads + Wait + Sync>(
+    rt: &R,
+    fails: &[u64],
+) -> Result<MemDisk, AllocError> {
     let disk = MemDisk::new(rt.alloc(), 24, Vec::new(rt.alloc()));
     let script = b"mkdir /a\n".to_vec(rt.alloc())?;
     let ended = run_over(rt, &["v", "--newfs", "24"], disk, script, &[], &[])?;
@@ -448,17 +490,20 @@ fn keeps_the_old_or_the_new_volume_where_a_call_of_the_disk_fails(
 ) -> Result<(), Fail> {
     const OLD: &[u8] = b"0x0000000000000003 ok 1 d:a\n";
     const NEW: &[u8] = b"0x0000000000000004 ok 2 d:a d:b\n";
-    let mut whole = 0;
+    let mut completed = false;
     for call in 1..40u64 {
         let disk = made_disk(&rt, &[call])?;
         let script = b"mkdir /b\n".to_vec(rt.alloc())?;
         let ended = run_over(&rt, &["v"], disk, script, &[], &[])?;
         let status = ended.status;
         if status == 0 {
-            whole += 1;
+            completed = true;
         } else {
             assert_eq!(rt; status, 4, "{call}");
-            assert!(rt; ended.devices.out.bytes().ends_with(b"media 0 1\n"), "{call}");
+            assert!(rt;
+                ended.devices.out.bytes().ends_with(b"media 0 1\n"),
+                "{call}"
+            );
         }
         let disk = ended.devices.disk.failing(Vec::new(rt.alloc()));
         let script = b"ls /\n".to_vec(rt.alloc())?;
@@ -468,7 +513,7 @@ fn keeps_the_old_or_the_new_volume_where_a_call_of_the_disk_fails(
         assert!(rt; printed == NEW || (status == 4 && printed == OLD), "{call}");
     }
     // The run makes fewer calls than these.
-    assert!(rt; whole > 0);
+    assert!(rt; completed);
     Ok(())
 }
 
@@ -480,7 +525,10 @@ fn writes_nothing_after_a_fault_of_the_sink(rt: HostRuntime) -> Result<(), Fail>
     assert_eq!(rt; ended.status, 6);
     let script = b"ls /\n".to_vec(rt.alloc())?;
     let ended = run_over(&rt, &["v"], ended.devices.disk, script, &[], &[])?;
-    assert_eq!(rt; ended.devices.out.bytes(), b"0x0000000000000003 ok 1 d:a\n".as_slice());
+    assert_eq!(rt;
+        ended.devices.out.bytes(),
+        b"0x0000000000000003 ok 1 d:a\n".as_slice()
+    );
     Ok(())
 }
 
@@ -490,8 +538,20 @@ fn keeps_a_volume_in_a_file(rt: HostRuntime) -> Result<(), Fail> {
     fs::create_dir(&rt, "folder")?;
     let runs: [(&[&str], &str, &str, u8, &str); 5] = [
         (&["v"], "volume", "ls /\n", 4, "media 0 1\n"),
-        (&["v", "--newfs", "24"], "volume", FIRST_RUN, 0, FIRST_PRINTED),
-        (&["v"], "volume", "ls /\n", 0, "0x0000000000000008 ok 2 d:a d:b\n"),
+        (
+            &["v", "--newfs", "24"],
+            "volume",
+            FIRST_RUN,
+            0,
+            FIRST_PRINTED,
+        ),
+        (
+            &["v"],
+            "volume",
+            "ls /\n",
+            0,
+            "0x0000000000000008 ok 2 d:a d:b\n",
+        ),
         (&["v"], "folder", "ls /\n", 4, "media 0 1\n"),
         (&["v"], "", "ls /\n", 4, "media 0 1\n"),
     ];
