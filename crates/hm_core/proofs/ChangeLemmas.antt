@@ -1,8 +1,7 @@
 -- The steps of a header change.
-use Rattle.std.proofs.Common.{◌≡◌, ◌⊎◌, inl, inr, ⊎_elim, ℕ, ◌+◌, ◌-◌, ◌*◌, ◌<◌, ◌≤◌, List, [], ◌∷◌, ◌++◌, refl, sym, ap, subst, ◌∙◌, arith, length, slice_index, Option, IfSome}
-use Rattle.std.proofs.lemmas.Bool.{cases_lt}
-use Rattle.hm_disk.specs.Crash.{Told, Outside, MayLeave}
-use Rattle.hm_disk.specs.Disk.{BothTell, overwritten}
+use Rattle.std.proofs.Common.{◌≡◌, ◌⊎◌, inl, inr, ⊎_elim, ℕ, ◌+◌, ◌-◌, ◌<◌, ◌≤◌, List, [], ◌∷◌, ◌++◌, sym, ap, subst, ◌∙◌, arith, slice_index, Option, IfSome}
+use Rattle.hm_disk.specs.Crash.{Told, MayLeave}
+use Rattle.hm_disk.specs.Disk.{BothTell}
 use Rattle.hm_disk.specs.Transfer.{TornAll, WrittenSynced}
 use Rattle.hm_disk.proofs.CrashLemmas.{MayLeave-fewer, MayLeave-same, MayLeave-through}
 use Rattle.hm_disk.proofs.DiskLemmas.{BothTell-then}

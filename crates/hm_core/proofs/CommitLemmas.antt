@@ -1,17 +1,16 @@
 -- A list is written, and then the header that names it.
-use Rattle.std.proofs.Common.{◌≡◌, ◌⊎◌, inl, inr, ⊎_elim, ℕ, ◌+◌, ◌-◌, ◌*◌, ◌/◌, ◌%◌, ◌^◌, ◌<◌, ◌≤◌, List, [], ◌∷◌, refl, sym, ap, subst, ◌∙◌, arith, length, slice_range}
+use Rattle.std.proofs.Common.{◌≡◌, ◌⊎◌, inl, inr, ⊎_elim, ℕ, ◌+◌, ◌-◌, ◌*◌, ◌%◌, ◌^◌, ◌≤◌, List, [], ◌∷◌, sym, ap, subst, ◌∙◌, arith, length, slice_range}
 use Rattle.std.proofs.lemmas.Bool.{cases_lt}
 use Rattle.hm_types.specs.declared.limits.TheConstants.{BIGBLOCK_BYTES}
 use Rattle.hm_disk.specs.Crash.{Told, MayLeave}
-use Rattle.hm_disk.specs.Disk.{overwritten}
 use Rattle.hm_disk.specs.Transfer.{TornAll, WrittenSynced}
 use Rattle.hm_disk.proofs.OverwriteLemmas.{MayLeave-overwritten}
 use Rattle.hm_header.specs.declared.header.Header.{Header}
 use Rattle.hm_header.specs.declared.header.TheConstants.{SLOT_BYTES}
 use Rattle.hm_header.specs.Range.{IsHeader, IsSize}
-use Rattle.hm_core.specs.Commit.{Changes, Commits, CountsStill, HasHeaderAndList, IsNext, KeepsOthers, MayChange, MayCommit, list_block_of, list_of}
+use Rattle.hm_core.specs.Commit.{Changes, Commits, IsNext, KeepsOthers, MayChange, MayCommit, list_of}
 use Rattle.hm_core.specs.Listed.{list_place}
-use Rattle.hm_core.specs.Slots.{slot_in, slot_place}
+use Rattle.hm_core.specs.Slots.{slot_place}
 use Rattle.hm_core.specs.Stands.{HasHeader}
 use Rattle.hm_core.proofs.HeaderLemmas.{header-same}
 use Rattle.hm_core.proofs.RangeLemmas.{slice-kept, slice-overwritten}

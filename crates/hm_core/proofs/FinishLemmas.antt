@@ -120,7 +120,7 @@ IsHeader-next header generation last root fine small later greatest is = record 
 }
 
 -- a relation of what was told and what is told, from another
-both_map : (old new : Option Told) (P Q : Told → Told → Type 0) → ((s t : Told) → P s t → Q s t) → BothTell old new P → BothTell old new Q
+pub both_map : (old new : Option Told) (P Q : Told → Told → Type 0) → ((s t : Told) → P s t → Q s t) → BothTell old new P → BothTell old new Q
 both_map None None P Q step both = tt
 both_map (Some s) (Some t) P Q step both = step s t both
 both_map None (Some t) P Q step both = both

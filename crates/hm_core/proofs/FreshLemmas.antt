@@ -1,5 +1,5 @@
 -- The steps of making a volume.
-use Rattle.std.proofs.Common.{◌≡◌, ◌⊎◌, inl, inr, ⊎_elim, ℕ, zero, suc, ◌+◌, ◌-◌, ◌*◌, ◌/◌, ◌<◌, ◌≤◌, List, [], ◌∷◌, ◌++◌, refl, sym, ap, subst, ◌∙◌, lit<, lit≤, arith, length, slice_index, slice_range}
+use Rattle.std.proofs.Common.{◌≡◌, inl, inr, ℕ, zero, suc, ◌+◌, ◌<◌, ◌≤◌, List, [], ◌∷◌, ◌++◌, refl, sym, ap, subst, ◌∙◌, lit<, lit≤, arith, length, slice_index, slice_range}
 use Rattle.std.specs.List.{IsDistinct}
 use Rattle.std.specs.List.Sorted.{IsStrictlySortedBy}
 use Rattle.hm_disk.specs.Crash.{Told, MayLeave}
@@ -7,7 +7,7 @@ use Rattle.hm_disk.specs.Disk.{Synced, Written, overwritten}
 use Rattle.hm_disk.specs.Transfer.{WrittenSynced}
 use Rattle.hm_disk.proofs.OverwriteLemmas.{MayLeave-overwritten, get_or-overwritten_out, length-overwritten}
 use Rattle.hm_header.specs.declared.header.Header.{Header}
-use Rattle.hm_header.specs.declared.header.TheConstants.{GATE_OPEN, SLOT_BYTES}
+use Rattle.hm_header.specs.declared.header.TheConstants.{GATE_OPEN}
 use Rattle.hm_header.specs.Layout.{body_of}
 use Rattle.hm_header.specs.Range.{IsAppendAt, IsHeader, IsRoot, IsSize}
 use Rattle.hm_header.specs.Slots.{IsClosed, TakesPart}

@@ -1,8 +1,8 @@
 -- What closing a gate does to the bytes of a disk.
-use Rattle.std.proofs.Common.{◌≡◌, ◌⊎◌, inl, inr, ⊎_elim, ℕ, ◌+◌, ◌-◌, ◌*◌, ◌<◌, ◌≤◌, List, [], ◌∷◌, refl, sym, ap, subst, ◌∙◌, arith, length, get_or, slice_index, slice_range, Option, Some, None, IfSome}
+use Rattle.std.proofs.Common.{◌≡◌, ◌⊎◌, inl, inr, ⊎_elim, ℕ, ◌+◌, ◌-◌, ◌<◌, ◌≤◌, List, [], ◌∷◌, sym, ap, subst, ◌∙◌, arith, length, get_or, slice_index, slice_range, Option, Some, None, IfSome}
 use Rattle.std.proofs.lemmas.List.{places, ext_get_or}
 use Rattle.std.proofs.lemmas.Bool.{cases_lt}
-use Rattle.hm_disk.specs.Crash.{Told, Outside, MayLeave}
+use Rattle.hm_disk.specs.Crash.{Told, MayLeave}
 use Rattle.hm_disk.specs.Disk.{overwritten, BothTell, Synced}
 use Rattle.hm_disk.specs.Transfer.{TornAll, WrittenSynced}
 use Rattle.hm_disk.proofs.CrashLemmas.{MayLeave-same}
@@ -91,10 +91,10 @@ byte-read bytes buf place read = ap (λ (bs : List ℕ). get_or bs 0 0) read ∙
 -- a gate was read
 module _ (old told new : Option Told) (place number : ℕ) (buf : List ℕ) (small : number ≤ 1) (at : place ≡ gate_place number)
     (both : IfSome old (λ t. HasSlots t.bytes)) (read : IfSome old (λ t. buf ≡ slice_range t.bytes place (place + 1))) (same : told ≡ old) where
-  abbrev Seen : Told → Type 0
+  abbrev pub Seen : Told → Type 0
   Seen t = HasSlots t.bytes × (get_or buf 0 0 ≡ slice_index t.bytes (gate_place number))
 
-  seen : IfSome old Seen
+  pub seen : IfSome old Seen
   seen = see old both read
     where
       see : (old : Option Told) → IfSome old (λ t. HasSlots t.bytes) → IfSome old (λ t. buf ≡ slice_range t.bytes place (place + 1)) → IfSome old Seen

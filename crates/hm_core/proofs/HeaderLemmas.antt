@@ -1,11 +1,11 @@
 -- Which header counts, after changes of the slot that does not count.
-use Rattle.std.proofs.Common.{◌≡◌, ◌⊎◌, inl, inr, ℕ, zero, suc, ◌+◌, ◌-◌, ◌*◌, ◌%◌, ◌^◌, ◌<◌, ◌≤◌, List, [], ◌∷◌, ◌++◌, refl, sym, ap, subst, ◌∙◌, arith, length, take, drop, slice_index}
+use Rattle.std.proofs.Common.{◌≡◌, ℕ, zero, suc, ◌+◌, ◌-◌, ◌*◌, ◌%◌, ◌^◌, ◌≤◌, List, [], ◌∷◌, ◌++◌, sym, ap, subst, ◌∙◌, arith, length, drop}
 use Rattle.std.proofs.lemmas.List.{take_at}
 use Rattle.hm_header.specs.declared.header.Header.{Header}
 use Rattle.hm_header.specs.declared.header.TheConstants.{GATE_OPEN}
 use Rattle.hm_header.specs.Layout.{body_of, header_in, zeros}
 use Rattle.hm_header.specs.Range.{HasRoom, IsHeader}
-use Rattle.hm_header.specs.Slots.{Counts, FirstCounts, Follows, IsChosen, IsClosed, SecondCounts, Spells, TakesPart, slot_of}
+use Rattle.hm_header.specs.Slots.{Counts, Follows, IsChosen, IsClosed, Spells, TakesPart, slot_of}
 use Rattle.hm_header.proofs.LayoutLemmas.{begins, header_back}
 use Rattle.hm_header.proofs.SlotLemmas.{encoded_is_chosen, encoded_takes_part, last_counts, length-body}
 use Rattle.hm_core.specs.Commit.{IsNext}

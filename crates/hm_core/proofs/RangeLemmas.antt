@@ -1,9 +1,8 @@
 -- Ranges of bytes that changed elsewhere, or were overwritten.
 use Rattle.std.proofs.Common.{◌≡◌, ◌⊎◌, inl, inr, ℕ, ◌+◌, ◌-◌, ◌<◌, ◌≤◌, List, [], ◌∷◌, sym, ◌∙◌, arith, length, get_or, slice_range}
 use Rattle.std.proofs.lemmas.List.{places, ext_get_or}
-use Rattle.hm_disk.specs.Crash.{Outside, MayLeave}
+use Rattle.hm_disk.specs.Crash.{MayLeave}
 use Rattle.hm_disk.specs.Disk.{overwritten}
-use Rattle.hm_disk.proofs.OverwriteLemmas.{get_or-overwritten_in, length-overwritten}
 
 -- a byte of a range
 pub slice-byte : (bytes : List ℕ) (from to i : ℕ) → i < to - from → get_or (slice_range bytes from to) i 0 ≡ get_or bytes (from + i) 0

@@ -1,5 +1,5 @@
 -- Reading the slots of a disk.
-use Rattle.std.proofs.Common.{◌≡◌, ◌⊎◌, inl, inr, ℕ, ◌+◌, ◌-◌, ◌<◌, ◌≤◌, min, List, [], ◌∷◌, ◌++◌, refl, sym, ap, subst, ◌∙◌, arith, length, take, drop, get_or, slice_range, Option, Some, None, IfSome, Result, Ok, Err, IfOk, IfErr}
+use Rattle.std.proofs.Common.{◌≡◌, ℕ, ◌+◌, ◌-◌, ◌<◌, ◌≤◌, min, List, ◌++◌, sym, ap, subst, ◌∙◌, arith, length, take, drop, get_or, slice_range, Option, Some, None, IfSome, Result, Ok, Err, IfOk, IfErr}
 use Rattle.std.proofs.lemmas.List.{places, ext_get_or, take_at}
 use Rattle.hm_types.specs.declared.fault.Failed.{Failed}
 use Rattle.hm_types.specs.declared.fault.Fault.{Fault}
@@ -104,7 +104,7 @@ IfErr-told None (Err error) P p = tt
 IfErr-told (Some t) r P p = p
 
 -- what was answered, of an answer that tells the counts of faults
-pub with_counts-ok : {T : Type 0} (before after : ℕ) (r : Result T Failed) (value : T) (P : T → Type 0)
-    → with_counts before after r ≡ Ok value → IfOk r P → P value
-with_counts-ok {T} before after (Ok other) value P is p = subst (λ (r : Result T Fault). IfOk r P) is p
-with_counts-ok {T} before after (Err failed) value P is p = absurd (subst (λ (r : Result T Fault). IfOk r (λ _. ⊥)) is tt)
+pub with_counts-ok : {T : Type 0} (before after : ℕ) (r : Result T Failed) (answer : Result T Fault) (value : T) (P : T → Type 0)
+    → answer ≡ with_counts before after r → answer ≡ Ok value → IfOk r P → P value
+with_counts-ok {T} before after (Ok other) answer value P made is p = subst (λ (r : Result T Fault). IfOk r P) (sym made ∙ is) p
+with_counts-ok {T} before after (Err failed) answer value P made is p = absurd (subst (λ (r : Result T Fault). IfOk r (λ _. ⊥)) (sym made ∙ is) tt)

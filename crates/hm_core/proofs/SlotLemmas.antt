@@ -1,11 +1,11 @@
 -- The header slots of bytes that changed in a range.
-use Rattle.std.proofs.Common.{◌≡◌, ◌⊎◌, inl, inr, ⊎_elim, ℕ, zero, suc, ◌+◌, ◌-◌, ◌*◌, ◌<◌, ◌≤◌, List, [], ◌∷◌, ◌++◌, refl, sym, ap, subst, ◌∙◌, arith, length, take, drop, get_or, slice_range, slice_index}
+use Rattle.std.proofs.Common.{◌≡◌, ◌⊎◌, inl, inr, ⊎_elim, ℕ, zero, suc, ◌+◌, ◌-◌, ◌<◌, ◌≤◌, List, [], ◌∷◌, ◌++◌, refl, sym, ap, subst, ◌∙◌, arith, length, get_or, slice_range, slice_index}
 use Rattle.std.proofs.lemmas.List.{places, ext_get_or}
 use Rattle.std.proofs.lemmas.Bool.{cases_lt}
-use Rattle.hm_disk.specs.Crash.{Outside, MayLeave}
+use Rattle.hm_disk.specs.Crash.{MayLeave}
 use Rattle.hm_disk.specs.Disk.{overwritten}
-use Rattle.hm_disk.proofs.OverwriteLemmas.{get_or-overwritten_in, length-overwritten}
-use Rattle.hm_header.specs.declared.header.TheConstants.{SLOT_BYTES, GATE_PLACE}
+use Rattle.hm_disk.proofs.OverwriteLemmas.{get_or-overwritten_in}
+use Rattle.hm_header.specs.declared.header.TheConstants.{SLOT_BYTES}
 use Rattle.hm_core.specs.Slots.{HasSlots, gate_place, slot_in, slot_place}
 use Rattle.hm_core.proofs.RangeLemmas.{length-slice, slice-byte, slice-kept}
 

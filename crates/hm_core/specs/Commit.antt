@@ -2,10 +2,11 @@
 use Rattle.std.specs.Prelude.{◌≡◌, ◌⊎◌, ℕ, ◌+◌, ◌-◌, ◌%◌, ◌^◌, List, [], ◌∷◌, length, slice_range}
 use Rattle.hm_types.specs.declared.limits.TheConstants.{BIGBLOCK_BYTES}
 use Rattle.hm_disk.specs.Crash.{Told, MayLeave}
+use Rattle.hm_disk.specs.Moments.{Elapses, LeftSince}
 use Rattle.hm_header.specs.declared.header.Header.{Header}
 use Rattle.hm_header.specs.declared.header.TheConstants.{SLOT_BYTES}
 use Rattle.hm_core.specs.Listed.{list_place}
-use Rattle.hm_core.specs.Slots.{slot_place}
+use Rattle.hm_core.specs.Slots.{Closed, IsAllSettled, slot_place}
 use Rattle.hm_core.specs.Stands.{HasHeader}
 
 -- the header that is written after another, on the same volume
@@ -52,6 +53,26 @@ pub record Commits (next : Header) (slot : ℕ) (list : List ℕ) (new : Told) :
   pub settled : new.unsettled ≡ []
 
 -- the old header counts still, with its list, or the next one, with this list
+abbrev pub MayHave : Header → ℕ → Header → List ℕ → List ℕ → List ℕ → Type 0
+MayHave header slot next list old new =
+    CountsStill header slot old new ⊎ HasHeaderAndList new next (1 - slot) list
+
+-- so after a call that failed
 abbrev pub MayCommit : Header → ℕ → Header → List ℕ → Told → Told → Type 0
-MayCommit header slot next list old new =
-    CountsStill header slot old.bytes new.bytes ⊎ HasHeaderAndList new.bytes next (1 - slot) list
+MayCommit header slot next list old new = MayHave header slot next list old.bytes new.bytes
+
+-- And so at each moment: a crash within leaves one of the two, where all was settled at the start.
+abbrev pub CommitElapses : Header → ℕ → Header → List ℕ → LeftSince → LeftSince → Told → Told → Type 0
+CommitElapses header slot next list past since old new =
+    IsAllSettled old → Elapses (MayHave header slot next list old.bytes) past since old new
+
+-- the same of the header change alone
+abbrev pub ChangeElapses : Header → ℕ → Header → LeftSince → LeftSince → Told → Told → Type 0
+ChangeElapses header slot next past since old new =
+    IsAllSettled old → Elapses (MayChange header slot next old.bytes) past since old new
+
+-- a crash while a gate is closed leaves it as it was or closed
+abbrev pub CloseElapses : ℕ → LeftSince → LeftSince → Told → Told → Type 0
+CloseElapses number past since old new =
+    IsAllSettled old
+    → Elapses (λ image. (image ≡ old.bytes) ⊎ Closed number old.bytes image) past since old new

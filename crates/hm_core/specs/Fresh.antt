@@ -22,7 +22,8 @@ fresh_header bigblocks = record {
   undo_first = 0;
   undo_count = 0;
   undo_next = 0;
-  append = first_pool bigblocks ∷ (first_pool bigblocks + 1) ∷ (first_pool bigblocks + 2) ∷ (first_pool bigblocks + 3) ∷ [];
+  append = first_pool bigblocks ∷ (first_pool bigblocks + 1) ∷ (first_pool bigblocks + 2)
+      ∷ (first_pool bigblocks + 3) ∷ [];
 }
 
 -- a disk that tells this has room for so many big-blocks
@@ -33,5 +34,7 @@ HasSpace bigblocks t = HasRoom (length t.bytes) bigblocks
 -- is as before; and so is it where it failed before its size was known
 abbrev pub IsMakeFault : ℕ → Option Told → Option Told → OpenFault → Type 0
 IsMakeFault bigblocks old new NotVolume = ⊥
-IsMakeFault bigblocks old new (BadField place) = (place ≡ 12) × IfSome old (IsTooSmall bigblocks) × (new ≡ old)
-IsMakeFault bigblocks old new (of_disk fault) = IsOfDevice fault × (IfSome old (HasSpace bigblocks) ⊎ (new ≡ old))
+IsMakeFault bigblocks old new (BadField place) =
+    (place ≡ 12) × IfSome old (IsTooSmall bigblocks) × (new ≡ old)
+IsMakeFault bigblocks old new (of_disk fault) =
+    IsOfDevice fault × (IfSome old (HasSpace bigblocks) ⊎ (new ≡ old))

@@ -29,8 +29,8 @@ const EMPTY_LIST: [u8; 8] = [0; 8];
 
 /// Makes an empty volume of this many big-blocks. Takes no memory.
 ///
-/// `BadField` is answered with place 12 where the disk has fewer bytes, and then it is as before. A crash
-/// within, or a call of the disk that fails, may leave a disk without a volume.
+/// `BadField` is answered with place 12 where the disk has fewer bytes, and then it is as before. A
+/// crash within, or a call of the disk that fails, may leave a disk without a volume.
 pub fn newfs<D: Disk>(disk: &mut D, bigblocks: u32) -> Result<(), OpenFault>
     requires size { IsSize bigblocks }
     ensures ok { OnOk result
@@ -78,7 +78,8 @@ fn close_gates<D: Disk>(disk: &mut D) -> Result<(), Failed>
     disk.sync()
 }
 
-/// Writes the body of the first slot, and an empty list where its header names one, and settles both.
+/// Writes the body of the first slot, and an empty list where its header names one, and settles
+/// both.
 fn write_state<D: Disk>(disk: &mut D, header: &Header) -> Result<(), Failed>
     requires size { IsSize header.now.bigblocks }
     requires room { IfSome (D.told disk.old) (HasSpace header.now.bigblocks) }

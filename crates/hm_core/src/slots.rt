@@ -29,12 +29,14 @@ pub(crate) fn gate_place(number: u8) -> u64
     slot_place(number) + GATE_PLACE as u64
 }
 
-/// The header of the slot that counts, and the slot's number, 0 or 1. It changes nothing on the disk.
+/// The header of the slot that counts, and the slot's number, 0 or 1. It changes nothing on the
+/// disk.
 pub(crate) fn read_header<D: Disk>(disk: &mut D) -> Result<(Header, u8), OpenFault>
     ensures header { IfOk result (λ answer. IsHeader answer.0 × (answer.1 ≤ 1)) }
     ensures chosen { IfOk result
         (λ answer. IfSome (D.told disk.old) (λ t. HasHeader t.bytes answer.0 answer.1)) }
-    ensures err { IfErr result (λ fault. IfSome (D.told disk.old) (λ t. IsOpenFault t.bytes fault)) }
+    ensures err { IfErr result
+        (λ fault. IfSome (D.told disk.old) (λ t. IsOpenFault t.bytes fault)) }
     ensures only { IfErr result IsNoHeader }
     ensures same { D.told disk.new ≡ D.told disk.old }
     ensures any_moment { SameLeft (D.left_since disk.old) (D.left_since disk.new) }
@@ -83,8 +85,8 @@ fn choose_header(slots: &[u8; SLOTS_BYTES], size: u64) -> Result<(Header, u8), O
     }
 }
 
-/// The answer of calls of a disk that began with a count of `before` faults: where they failed, the fault
-/// tells the counts then and now.
+/// The answer of calls of a disk that began with a count of `before` faults: where they failed, the
+/// fault tells the counts then and now.
 pub(crate) fn with_counts<D: Disk, T>(
     disk: &D,
     before: u64,

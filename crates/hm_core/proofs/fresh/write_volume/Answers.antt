@@ -1,11 +1,10 @@
-use Rattle.std.proofs.Common.{ℕ, [], ◌≡◌, ◌≤◌, arith, length, subst, sym, IfSome}
-use Rattle.hm_disk.specs.Crash.{Told}
+use Rattle.std.proofs.Common.{[], ◌≡◌, arith, subst, sym, IfSome}
 use Rattle.hm_disk.specs.Disk.{BothTell, overwritten}
 use Rattle.hm_disk.proofs.DiskLemmas.{BothTell-then, IfSome-then}
 use Rattle.hm_header.specs.declared.header.Header.{Header}
 use Rattle.hm_header.specs.Layout.{body_of}
 use Rattle.hm_header.specs.Range.{IsSize}
-use Rattle.hm_core.specs.Fresh.{HasSpace, fresh_header}
+use Rattle.hm_core.specs.Fresh.{HasSpace}
 use Rattle.hm_core.specs.Listed.{list_bytes, list_place}
 use Rattle.hm_core.specs.Slots.{HasClosed, IsAllSettled}
 use Rattle.hm_core.proofs.AnswerLemmas.{OnOk-map}
