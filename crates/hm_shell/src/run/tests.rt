@@ -66,6 +66,19 @@ fn run_script_with<R: AllocGlobal + Threads + Wait + Sync>(
     run_with(rt, &["v", "--newfs", "24"], script, takes, puts)
 }
 
+// The disk of a run that ended.
+fn into_disk(ended: Memory) -> MemDisk {
+    let Ended { status: _, devices } = ended;
+    let Devices {
+        disk,
+        script: _,
+        out: _,
+        stream_in: _,
+        stream_out: _,
+    } = devices;
+    disk
+}
+
 fn owned_words(alloc: Global, words: &[&str]) -> Result<Vec<String>, AllocError> {
     let mut owned = Vec::new(alloc);
     for word in words {
@@ -420,7 +433,7 @@ fn finds_on_the_disk_what_an_earlier_run_made(rt: HostRuntime) -> Result<(), Fai
         let ended = run_over(&rt, words, disk, script, &[], &[])?;
         assert_eq!(rt; ended.devices.out.bytes(), printed.as_bytes());
         assert_eq!(rt; ended.status, 0, "{printed}");
-        disk = ended.devices.disk;
+        disk = into_disk(ended);
     }
     Ok(())
 }
@@ -459,7 +472,7 @@ fn tells_of_a_list_that_breaks_its_rules(rt: HostRuntime) -> Result<(), Fail> {
         &[],
     )?;
     assert_eq!(rt; ended.status, 0);
-    let mut disk = ended.devices.disk;
+    let mut disk = into_disk(ended);
     assert!(rt; disk.size() == Ok(201_326_592));
     // 4,097 directories, in the first big-block of the pool.
     assert!(rt; disk.write_at(0x580_0000, &4_097u64.to_le_bytes()).is_ok());
@@ -481,7 +494,7 @@ fn made_disk<R: AllocGlobal + Threads + Wait + Sync>(
     let disk = MemDisk::new(rt.alloc(), 24, Vec::new(rt.alloc()));
     let script = b"mkdir /a\n".to_vec(rt.alloc())?;
     let ended = run_over(rt, &["v", "--newfs", "24"], disk, script, &[], &[])?;
-    Ok(ended.devices.disk.failing(fails.to_vec(rt.alloc())?))
+    Ok(into_disk(ended).failing(fails.to_vec(rt.alloc())?))
 }
 
 #[test]
@@ -505,7 +518,7 @@ fn keeps_the_old_or_the_new_volume_where_a_call_of_the_disk_fails(
                 "{call}"
             );
         }
-        let disk = ended.devices.disk.failing(Vec::new(rt.alloc()));
+        let disk = into_disk(ended).failing(Vec::new(rt.alloc()));
         let script = b"ls /\n".to_vec(rt.alloc())?;
         let ended = run_over(&rt, &["v"], disk, script, &[], &[])?;
         let printed = ended.devices.out.bytes();
@@ -524,7 +537,7 @@ fn writes_nothing_after_a_fault_of_the_sink(rt: HostRuntime) -> Result<(), Fail>
     let ended = run_over(&rt, &["v"], disk, script, &[], &[2])?;
     assert_eq!(rt; ended.status, 6);
     let script = b"ls /\n".to_vec(rt.alloc())?;
-    let ended = run_over(&rt, &["v"], ended.devices.disk, script, &[], &[])?;
+    let ended = run_over(&rt, &["v"], into_disk(ended), script, &[], &[])?;
     assert_eq!(rt;
         ended.devices.out.bytes(),
         b"0x0000000000000003 ok 1 d:a\n".as_slice()
