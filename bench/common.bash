@@ -3,6 +3,7 @@
 export LC_ALL=C
 top=$(cd "$(dirname "${BASH_SOURCE[0]}")/.." && pwd)
 room=$(mktemp -d) || exit 1
+volume=$room/volume
 trap 'rm -rf "$room"' EXIT
 
 stop() {
@@ -12,7 +13,7 @@ stop() {
 
 # Builds the program where that is due, so that no build falls into a figure.
 prepare() {
-    "$top/hammer" v --newfs 24 </dev/null || stop "an empty script ended with status $?"
+    "$top/hammer" "$volume" --newfs 24 </dev/null || stop "an empty script ended with status $?"
 }
 
 # Runs the words once: the processor time that they took, user and system, in seconds, into $seconds,

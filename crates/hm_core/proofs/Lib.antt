@@ -19,3 +19,4 @@ pub mod ParseLemmas
 pub mod MountLemmas
 pub mod FinishLemmas
 pub mod CoreLemmas
+pub mod StandsLemmas

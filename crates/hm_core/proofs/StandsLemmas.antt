@@ -8,14 +8,16 @@ use Rattle.byteorder.specs.Endian.{little_bytes, little_from}
 use Rattle.byteorder.specs.Numbers.{little_number-reads_back, length-bytes_low_first}
 use Rattle.hm_types.specs.declared.limits.TheConstants.{GREATEST_ID}
 use Rattle.hm_header.specs.declared.fault.HeaderFault.{HeaderFault}
+use Rattle.hm_header.specs.declared.fault.HeaderFault.TheVariants.{NotVolume as header_none, BadField as header_field}
 use Rattle.hm_header.specs.declared.header.Header.{Header}
 use Rattle.hm_header.specs.Slots.{IsFault}
 use Rattle.hm_header.proofs.SlotLemmas.{chosen_has_none, chosen_is_one}
 use Rattle.hm_model.specs.Volume.{Volume}
 use Rattle.hm_core.specs.declared.directory.Directory.{Directory}
+use Rattle.hm_core.specs.declared.fault.OpenFault.TheVariants.{NotVolume as no_volume, BadField as bad_field}
 use Rattle.hm_core.specs.Directories.{AreDirectories, IsDirectory, volume_of}
 use Rattle.hm_core.specs.Listed.{HoldsAt, list_bytes, list_place}
-use Rattle.hm_core.specs.Open.{HasBrokenList}
+use Rattle.hm_core.specs.Open.{HasBrokenList, IsOpenFault}
 use Rattle.hm_core.specs.Stands.{HasList, StandsFor, first_slot, second_slot}
 use Rattle.hm_core.proofs.BytesLemmas.{MayStand, begins_longer, entry_bytes, same_fronts}
 
@@ -61,12 +63,27 @@ StandsFor-one bytes v w a b =
         HoldsAt-one bytes (list_place a.header.bigblocks a.header.generation) a.header.last.0 a.directories b.directories (omega (arith, a.stands.header_is.in_range.last.1)) a.stands.list.kept also.kept a.stands.list.held also.held in
     a.volume_is ∙ (ap (λ ds. volume_of a.header.bigblocks a.header.last.0 ds) list_is ∙ (ap (λ (h : Header). volume_of h.bigblocks h.last.0 b.directories) (sym header_is) ∙ sym b.volume_is))
 
--- bytes that stand for a volume have no fault of the header
-pub StandsFor-no_fault : (bytes : List ℕ) (v : Volume) (fault : HeaderFault) → StandsFor bytes v → IsFault (first_slot bytes) (second_slot bytes) (length bytes) fault → ⊥
-StandsFor-no_fault bytes v fault a is =
-    chosen_has_none (first_slot bytes) (second_slot bytes) (length bytes) a.header a.number fault a.stands.header_is is
+-- no header is to be had from bytes
+abbrev pub HasNoHeader : List ℕ → Type 0
+HasNoHeader bytes = (fault : HeaderFault) × IsFault (first_slot bytes) (second_slot bytes) (length bytes) fault
 
--- and no broken list
+pub no_header_at_all : (bytes : List ℕ) → IsOpenFault bytes no_volume → HasNoHeader bytes
+no_header_at_all bytes is = (header_none, is)
+
+pub no_header_in_range : (bytes : List ℕ) (place : ℕ) → IsOpenFault bytes (bad_field place) → HasNoHeader bytes
+no_header_in_range bytes place is = (header_field place, is)
+
+-- bytes that stand for a volume have a header
+pub StandsFor-header : (bytes : List ℕ) (v : Volume) → StandsFor bytes v → HasNoHeader bytes → ⊥
+StandsFor-header bytes v a none =
+    chosen_has_none (first_slot bytes) (second_slot bytes) (length bytes) a.header a.number none.0 a.stands.header_is none.1
+
+-- and so have those with a broken list
+pub HasBrokenList-header : (bytes : List ℕ) (at : ℕ) → HasBrokenList bytes at → HasNoHeader bytes → ⊥
+HasBrokenList-header bytes at broken none =
+    chosen_has_none (first_slot bytes) (second_slot bytes) (length bytes) broken.header broken.number none.0 broken.header_is none.1
+
+-- no bytes that stand for a volume have a broken list
 pub StandsFor-unbroken : (bytes : List ℕ) (v : Volume) (at : ℕ) → StandsFor bytes v → HasBrokenList bytes at → ⊥
 StandsFor-unbroken bytes v at a broken =
     let header_is : a.header ≡ broken.header = (chosen_is_one (first_slot bytes) (second_slot bytes) (length bytes) a.header broken.header a.number broken.number a.stands.header_is broken.header_is).0 in

@@ -1,8 +1,9 @@
 -- Hexadecimal digits with zeros before them.
-use Rattle.std.proofs.Common.{◌≡◌, ℕ, zero, suc, ◌+◌, ◌-◌, ◌/◌, ◌%◌, ◌^◌, ◌<◌, ◌≤◌, Bool, true, false, List, [], ◌∷◌, ◌++◌, length, refl, sym, ◌∙◌, ap, subst, arith, eqb}
+use Rattle.std.proofs.Common.{◌≡◌, ℕ, zero, suc, ◌+◌, ◌-◌, ◌/◌, ◌%◌, ◌^◌, ◌<◌, ◌≤◌, Bool, true, false, List, [], ◌∷◌, ◌++◌, drop, length, refl, set, sym, ◌∙◌, ap, subst, arith, eqb, if◌then◌else◌}
 use Rattle.std.specs.Fmt.{digit_glyph, digits, digits_onto, padded_integral, char_count}
 use Rattle.std.specs.Prelude.{replicate}
 use Rattle.std.proofs.lemmas.Bool.Decides.{nat_tests}
+use Rattle.std.proofs.lemmas.Grind.{drop-set_at}
 use Rattle.hm_types.specs.Id.{hex16}
 
 -- the last k digits of n, followed by acc
@@ -62,7 +63,10 @@ append-none (x ∷ xs) = ap (λ ys. x ∷ ys) (append-none xs)
 
 hex16_is : (n : ℕ) → hex16 n ≡ replicate (16 - length (digits 16 false n)) 48 ++ digits 16 false n
 unfolding padded_integral char_count
-hex16_is n = ap (λ xs. replicate (16 - length (digits 16 false n)) 48 ++ xs) (append-none (digits 16 false n))
+hex16_is n =
+    let len : ℕ = length (digits 16 false n) in
+    let width : 16 - len - 0 - 0 ≡ 16 - len = omega arith in
+    ap (λ z. replicate z 48 ++ (digits 16 false n ++ [])) width ∙ ap (λ xs. replicate (16 - len) 48 ++ xs) (append-none (digits 16 false n))
 
 digits_are : (n : ℕ) → digits 16 false n ≡ digits_onto 64 16 false n []
 unfolding digits
@@ -75,3 +79,16 @@ fixed_is_hex16 n small =
     let whole = filled 64 15 n [] (omega arith) has in
     let zeros_are : whole.zeros ≡ 16 - length (digits_onto 64 16 false n []) = omega (arith, whole.length_is) in
     sym (hex16_is n ∙ (ap (λ ds. replicate (16 - length ds) 48 ++ ds) (digits_are n) ∙ (ap (λ z. replicate z 48 ++ digits_onto 64 16 false n []) (sym zeros_are) ∙ sym whole.whole_is)))
+
+-- one more digit at the front of those that stand there
+pub next_digit : (number rest : ℕ) (digits : List ℕ) (done digit : ℕ) → done < 16 → length digits ≡ 16 → digit ≡ digit_glyph false (rest % 16) → fixed_onto (16 - done) rest (drop (16 - done) digits) ≡ fixed_onto 16 number [] → fixed_onto (16 - (done + 1)) (rest / 16) (drop (16 - (done + 1)) (set digits (15 - done) digit)) ≡ fixed_onto 16 number []
+next_digit number rest digits done digit within long is so_far =
+    let k : ℕ = 15 - done in
+    let first : 16 - (done + 1) ≡ 15 - done = omega arith in
+    let before : 16 - done ≡ suc (15 - done) = omega arith in
+    let one : drop (16 - (done + 1)) (set digits (15 - done) digit) ≡ digit ∷ drop (15 - done + 1) digits =
+    drop-set_at digits (15 - done) (16 - (done + 1)) digit first (omega (arith, long)) in
+    let after : 15 - done + 1 ≡ 16 - done = omega arith in
+    let there : drop (16 - (done + 1)) (set digits (15 - done) digit) ≡ digit_glyph false (rest % 16) ∷ drop (16 - done) digits =
+    one ∙ (ap (λ d. d ∷ drop (15 - done + 1) digits) is ∙ ap (λ n. digit_glyph false (rest % 16) ∷ drop n digits) after) in
+    ap (λ xs. fixed_onto (16 - (done + 1)) (rest / 16) xs) there ∙ (ap (λ j. fixed_onto j (rest / 16) (digit_glyph false (rest % 16) ∷ drop (16 - done) digits)) first ∙ (ap (λ j. fixed_onto j rest (drop (16 - done) digits)) (sym before) ∙ so_far))

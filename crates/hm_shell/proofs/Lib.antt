@@ -1,7 +1,11 @@
 pub mod CheckLemmas
+pub mod EndLemmas
+pub mod ExactLemmas
 pub mod GrammarLemmas
 pub mod HexLemmas
+pub mod LinesLemmas
 pub mod OpenLemmas
 pub mod PrintLemmas
 pub mod ReadLemmas
+pub mod RunLemmas
 pub mod ServeLemmas

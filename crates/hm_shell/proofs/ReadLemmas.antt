@@ -1,8 +1,9 @@
 -- How many lines a text has, by its line feeds.
-use Rattle.std.proofs.Common.{◌≡◌, ◌≢◌, ℕ, zero, suc, ◌+◌, ◌-◌, ◌<◌, ◌≤◌, Bool, true, false, List, [], ◌∷◌, ◌++◌, length, get_or, take, refl, sym, ◌∙◌, ap, subst, arith, eqb, cond, inl, inr, length-append}
+use Rattle.std.proofs.Common.{◌≡◌, ◌≢◌, ℕ, zero, suc, ◌+◌, ◌-◌, ◌<◌, ◌≤◌, Bool, true, false, List, [], ◌∷◌, ◌++◌, length, get_or, take, refl, sym, ◌∙◌, ap, subst, arith, eqb, cond, inl, inr, length-append, if◌then◌else◌}
 use Rattle.std.specs.Prelude.{◌⊎◌}
 use Rattle.std.specs.List.{count_by, sum_by}
 use Rattle.std.proofs.lemmas.Bool.Decides.{nat_tests}
+use Rattle.std.proofs.lemmas.List.{get_or-append-add}
 use Rattle.std.proofs.lemmas.List.Sums.{count_by-le-length, sum_by-append, sum_by-cons}
 use Rattle.hm_model.specs.Lines.{line_feed, texts_of, with_first}
 use Rattle.hm_shell.specs.Reading.{feeds}
@@ -52,15 +53,26 @@ one_at_feed b is = let yes : eqb b line_feed ≡ true = grind (arith, nat_tests,
 one_at_other : (b : ℕ) → b ≢ line_feed → one_at b ≡ 0
 one_at_other b other = let no : eqb b line_feed ≡ false = grind (arith, nat_tests, other) in ap (λ x. cond x 1 0) no
 
-last_of : (s p : List ℕ) (i d : ℕ) → get_or (s ++ p) (length s + i) d ≡ get_or p i d
-last_of [] p i d = refl
-last_of (x ∷ s) p i d = last_of s p i d
-
 -- how many lines there are after one more piece, which is not empty
 pub lines_ended : (s p : List ℕ) (i d : ℕ) → suc i ≡ length p → get_or p i d ≡ line_feed → length (texts_of (s ++ p)) ≡ feeds s + feeds p
 lines_ended s p i d is last =
-    omega (arith, lines_by_last (s ++ p) (length s + i) d (omega (arith, is, length-append s p)), ap one_at (last_of s p i d), one_at_feed (get_or p i d) last, feeds-append s p)
+    omega (arith, lines_by_last (s ++ p) (length s + i) d (omega (arith, is, length-append s p)), ap one_at (get_or-append-add s p i d), one_at_feed (get_or p i d) last, feeds-append s p)
 
 pub lines_open : (s p : List ℕ) (i d : ℕ) → suc i ≡ length p → get_or p i d ≢ line_feed → length (texts_of (s ++ p)) ≡ feeds s + feeds p + 1
 lines_open s p i d is last =
-    omega (arith, lines_by_last (s ++ p) (length s + i) d (omega (arith, is, length-append s p)), ap one_at (last_of s p i d), one_at_other (get_or p i d) last, feeds-append s p)
+    omega (arith, lines_by_last (s ++ p) (length s + i) d (omega (arith, is, length-append s p)), ap one_at (get_or-append-add s p i d), one_at_other (get_or p i d) last, feeds-append s p)
+
+lines_more : (x : Bool) (b : ℕ) (bs : List ℕ) (texts : List (List ℕ)) → eqb b line_feed ≡ x → length (texts_of bs) ≤ length texts → length (texts_of (b ∷ bs)) ≤ length (if eqb b line_feed then [] ∷ texts else with_first b texts)
+lines_more true b bs texts is fewer = rw is (omega (arith, fewer))
+lines_more false b bs texts is fewer = rw is (with_fewer (texts_of bs) texts fewer)
+  where
+    with_fewer : (ts us : List (List ℕ)) → length ts ≤ length us → length (with_first b ts) ≤ length (with_first b us)
+    with_fewer [] [] fewer = omega arith
+    with_fewer [] (u ∷ us) fewer = omega arith
+    with_fewer (t ∷ ts) [] fewer = absurd (omega (arith, fewer))
+    with_fewer (t ∷ ts) (u ∷ us) fewer = fewer
+
+-- a front of a text has no more lines
+pub lines_of_front : (s r : List ℕ) → length (texts_of s) ≤ length (texts_of (s ++ r))
+lines_of_front [] r = omega arith
+lines_of_front (b ∷ s) r = lines_more (eqb b line_feed) b s (texts_of (s ++ r)) refl (lines_of_front s r)

@@ -9,7 +9,7 @@ use Rattle.hm_core.specs.declared.fault.OpenFault.TheVariants.{NotVolume as no_v
 use Rattle.hm_core.specs.Open.{HasBrokenList, IsOpenFault, IsTooSmall}
 use Rattle.hm_core.specs.Stands.{StandsFor}
 use Rattle.hm_shell.specs.Devices.{Sight}
-use Rattle.hm_shell.specs.Words.{IsPlan}
+use Rattle.hm_shell.specs.Words.{HasPlan, IsPlan}
 
 -- the statuses that a run may end with
 abbrev pub IsStatus : ℕ → Type 0
@@ -40,5 +40,5 @@ pub record ScriptBrings (newfs : Option ℕ) (disk : Option Told) (script : List
 -- which status is brought by words that keep the rule, and by devices that tell
 abbrev pub Brings : List (List ℕ) → Sight → ℕ → Type 0
 Brings words old status =
-    (volume : List ℕ) (newfs : Option ℕ) → IsPlan words volume newfs →
-    IfSome old.script.told (λ script. ScriptBrings newfs old.disk.told script status)
+    HasPlan words → (volume : List ℕ) × (newfs : Option ℕ) × IsPlan words volume newfs
+    × IfSome old.script.told (λ script. ScriptBrings newfs old.disk.told script status)

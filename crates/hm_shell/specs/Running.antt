@@ -1,6 +1,6 @@
 -- The run of a script on the volume of a disk.
 use Rattle.std.specs.Prelude.{◌≡◌, ◌≢◌, ◌⊎◌, ℕ, ◌≤◌, List, [], ◌++◌, Option, Some, All, IfSome, length, take}
-use Rattle.hm_types.specs.declared.limits.TheConstants.{LEAST_BIGBLOCKS, MOST_BIGBLOCKS, MOST_SCRIPT_BYTES}
+use Rattle.hm_types.specs.declared.limits.TheConstants.{LEAST_BIGBLOCKS, MOST_BIGBLOCKS, MOST_SCRIPT_BYTES, MOST_SCRIPT_LINES}
 use Rattle.hm_types.specs.Faults.{IsMedia}
 use Rattle.hm_pipe.specs.Pipe.{Gains}
 use Rattle.hm_disk.specs.Crash.{Told}
@@ -31,6 +31,7 @@ pub record IsDue (job : Job) : Type 0 where
   pub size : IfSome job.newfs IsNewSize
   pub good : All IsLine (texts_of job.script.items)
   pub lines : job.lines ≡ length (texts_of job.script.items)
+  pub few : job.lines ≤ MOST_SCRIPT_LINES
   pub bytes : length job.script.items ≤ MOST_SCRIPT_BYTES
 
 -- All lines of a script were answered on this volume: for a legal history that answers each of them, the

@@ -14,6 +14,7 @@ use memchr::memchr;
 use std::alloc::Global;
 
 const MKDIR: &[u8] = b"mkdir ";
+
 const LS: &[u8] = b"ls ";
 
 /// A line outside the grammar, by its number, counted from 1.

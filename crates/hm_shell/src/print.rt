@@ -12,7 +12,7 @@ use crate::hex::hex_digits;
 use crate::stop::Stop;
 use hm_model::{Entry, push_answer};
 use hm_pipe::Sink;
-use hm_types::{Failed, HOff, NoMemory};
+use hm_types::{Failed, NoMemory};
 use std::alloc::Global;
 
 const USAGE: &[u8] =
@@ -121,13 +121,13 @@ fn put_counts<K: Sink>(words: &[u8], before: u64, after: u64, out: &mut K) -> Re
 }
 
 // Puts where the disk is damaged, and the number of the rule that is broken.
-fn put_damage<K: Sink>(at: HOff, kind: u8, out: &mut K) -> Result<(), Failed>
+fn put_damage<K: Sink>(at: u64, kind: u8, out: &mut K) -> Result<(), Failed>
     ensures ok { OnOk result (Gains (K.held out.old) (damage_line at kind) (K.held out.new)) }
     ensures err { OnErr result (IsCutShort (damage_line at kind)
         (seen K.held K.faults out.old) (seen K.held K.faults out.new)) }
     ensures never_falls { K.faults out.old ≤ K.faults out.new }
 {
-    let digits = hex_digits(at.raw());
+    let digits = hex_digits(at);
     let mut buffer = itoa::Buffer::new();
     let kind = buffer.format(kind).as_bytes();
     put_all(&[b"damaged 0x", &digits, b" ", kind, b"\n"], out)

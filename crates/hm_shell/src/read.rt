@@ -1,5 +1,6 @@
 // A script from its source, whole.
-ghost use Rattle.std.specs.Prelude.{◌≡◌, ◌<◌, ◌≤◌, IfErr, IfOk, vec_len};
+ghost use Rattle.std.specs.Prelude.{◌≡◌, ◌<◌, ◌≤◌, ◌+◌, ◌-◌, ◌^◌, ◌++◌, ℕ, IfErr, IfOk, List, length, vec_len};
+ghost use Rattle.hm_model.specs.Lines.{texts_of};
 ghost use Rattle.hm_shell.specs.Reading.{WasRead, StoppedReading, feeds};
 ghost use Rattle.hm_shell.specs.Seen.{seen};
 
@@ -35,13 +36,9 @@ pub(crate) fn read_script<S: Source>(alloc: Global, source: &mut S) -> Result<Ve
         if count == 0 {
             return Ok(script);
         }
-        feeds += count_feeds(&piece[..count]);
-        lines = if piece[count - 1] == b'\n' {
-            feeds
-        } else {
-            feeds + 1
-        };
-        script.extend_from_slice(&piece[..count])?;
+        let taken = &piece[..count];
+        (feeds, lines) = count_on(feeds, taken);
+        script.extend_from_slice(taken)?;
     }
     Err(Stop::TooLong)
 }
@@ -52,8 +49,22 @@ fn piece_buffer(alloc: Global) -> Result<Vec<u8>, AllocError>
     vec![in alloc; 0; PIECE_BYTES]
 }
 
+// The line feeds and the lines of a text that goes on by this piece, from its line feeds so far.
+fn count_on(feeds_so_far: usize, piece: &[u8]) -> (usize, usize)
+    requires some { 0 < length piece.now }
+    requires few { feeds_so_far + length piece.now < 2 ^ 64 - 1 }
+    ensures { (text : List ℕ) → feeds_so_far ≡ feeds text →
+        (result.0 ≡ feeds (text ++ piece.now))
+        × (result.1 ≡ length (texts_of (text ++ piece.now))) }
+{
+    let feeds = feeds_so_far + count_feeds(piece);
+    let is_ended = piece[piece.len() - 1] == b'\n';
+    (feeds, if is_ended { feeds } else { feeds + 1 })
+}
+
 fn count_feeds(piece: &[u8]) -> usize
-    ensures { result ≡ feeds piece.now }
+    ensures value { result ≡ feeds piece.now }
+    ensures few { result ≤ length piece.now }
 {
     piece.iter().filter(|byte| **byte == b'\n').count()
 }

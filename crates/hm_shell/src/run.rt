@@ -5,7 +5,7 @@ ghost use Rattle.hm_shell.specs.Printing.{Prints};
 ghost use Rattle.hm_shell.specs.Seen.{seen};
 ghost use Rattle.hm_shell.specs.Stop.{last_line, status_of};
 ghost use Rattle.hm_shell.specs.Words.{IsUsageFault, texts};
-ghost use Rattle.hm_shell.specs.Run.{Completes, StopsWith};
+ghost use Rattle.hm_shell.specs.Run.{Completes, Stops, StopsWith};
 ghost use Rattle.hm_shell.specs.Exact.{Brings, IsStatus};
 
 use crate::devices::{Devices, Ended};
@@ -15,6 +15,7 @@ use crate::stop::Stop;
 use crate::volume::{Closed, run_job};
 use hm_disk::Disk;
 use hm_pipe::{Gate, Sink, Source};
+use std::alloc::Global;
 use std::sync::Wait;
 use std::thread::Threads;
 
@@ -40,12 +41,7 @@ pub fn run<
     I: Source + Send,
     O: Sink + Send,
     G: Gate + Sync,
->(
-    rt: &R,
-    words: &[String],
-    devices: Devices<D, S, K, I, O>,
-    _gate: &G,
-) -> Ended<D, S, K, I, O>
+>(rt: &R, words: &[String], devices: Devices<D, S, K, I, O>, _gate: &G) -> Ended<D, S, K, I, O>
     // Each line of the script was answered, in one legal history, and the disk keeps what it made.
     ensures done { result.status ≡ 0 →
         Between D.told D.faults S.left S.faults K.held K.faults devices result.devices
@@ -60,16 +56,35 @@ pub fn run<
     ensures usage { (result.status ≡ 2) ↔ IsUsageFault (texts words.now) }
 
     // Where the source and the disk tell, they decide which it is.
-    ensures exact {
-        Between D.told D.faults S.left S.faults K.held K.faults devices result.devices
+    ensures exact { Between D.told D.faults S.left S.faults K.held K.faults devices result.devices
         (λ old _. Brings (texts words.now) old result.status) }
     ensures statuses { IsStatus result.status }
 
     // The streams are those that were given, and no count of faults falls.
     ensures stream_in { result.devices.stream_in ≡ devices.stream_in }
     ensures stream_out { result.devices.stream_out ≡ devices.stream_out }
-    ensures counts {
-        Between D.told D.faults S.left S.faults K.held K.faults devices result.devices NeverFall }
+    ensures counts { Between D.told D.faults S.left S.faults K.held K.faults devices result.devices NeverFall }
+{
+    let (mut devices, outcome) = perform(rt.alloc(), words, devices);
+    let status = end(outcome, &mut devices.out);
+    Ended { status, devices }
+}
+
+// Runs up to the last line that is due where the run stops early.
+fn perform<D: Disk, S: Source, K: Sink, I, O>(
+    alloc: Global,
+    words: &[String],
+    devices: Devices<D, S, K, I, O>,
+) -> (Devices<D, S, K, I, O>, Result<(), Stop>)
+    ensures ok { OnOk result.1
+        (Between D.told D.faults S.left S.faults K.held K.faults devices result.0
+        (Completes (texts words.now))) }
+    ensures err { IfErr result.1 (λ stop.
+        Between D.told D.faults S.left S.faults K.held K.faults devices result.0
+        (λ old new. Stops (texts words.now) old new stop)) }
+    ensures stream_in { result.0.stream_in ≡ devices.stream_in }
+    ensures stream_out { result.0.stream_out ≡ devices.stream_out }
+    ensures counts { Between D.told D.faults S.left S.faults K.held K.faults devices result.0 NeverFall }
 {
     let Devices {
         disk,
@@ -78,8 +93,8 @@ pub fn run<
         stream_in,
         stream_out,
     } = devices;
-    let closed = match prepare(rt.alloc(), words, &mut script) {
-        Ok(job) => run_job(rt.alloc(), &job, disk, stream_in, stream_out, &mut out),
+    let closed = match prepare(alloc, words, &mut script) {
+        Ok(job) => run_job(alloc, &job, disk, stream_in, stream_out, &mut out),
         Err(stop) => Closed {
             disk,
             stream_in,
@@ -93,17 +108,14 @@ pub fn run<
         stream_out,
         outcome,
     } = closed;
-    let status = end(outcome, &mut out);
-    Ended {
-        status,
-        devices: Devices {
-            disk,
-            script,
-            out,
-            stream_in,
-            stream_out,
-        },
-    }
+    let devices = Devices {
+        disk,
+        script,
+        out,
+        stream_in,
+        stream_out,
+    };
+    (devices, outcome)
 }
 
 // Prints the last line of a run that stopped, and gives the exit status.

@@ -1,6 +1,6 @@
 // The lines of a script, run one after another.
 ghost use Rattle.std.specs.Prelude.{◌≡◌, ◌*◌, ◌≤◌, [], IfErr, IfOk, OnErr, OnOk, All, length};
-ghost use Rattle.hm_types.specs.declared.limits.TheConstants.{MOST_SCRIPT_BYTES};
+ghost use Rattle.hm_types.specs.declared.limits.TheConstants.{MOST_SCRIPT_BYTES, MOST_SCRIPT_LINES};
 ghost use Rattle.hm_pipe.specs.Pipe.{Gains};
 ghost use Rattle.hm_model.specs.Lines.{texts_of};
 ghost use Rattle.hm_model.specs.Served.Lines.{IsLine};
@@ -27,6 +27,7 @@ pub(crate) fn serve_script<D: Disk, I, O, K: Sink>(
 ) -> Result<(), Stop>
     requires lines { All IsLine (texts_of script.now) }
     requires count { lines ≡ length (texts_of script.now) }
+    requires few { lines ≤ MOST_SCRIPT_LINES }
     requires numbers { length script.now ≤ MOST_SCRIPT_BYTES }
     requires start { core.old.history ≡ [] }
     ensures ok { OnOk result

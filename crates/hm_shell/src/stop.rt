@@ -3,7 +3,7 @@ ghost use Rattle.std.specs.Prelude.{◌≡◌};
 ghost use Rattle.hm_shell.specs.Stop.{of_fault, of_open, status_of};
 
 use hm_core::OpenFault;
-use hm_types::{Fault, HOff, NoMemory};
+use hm_types::{Fault, NoMemory};
 use std::alloc::{AllocError, AllocFailed};
 
 /// Why a run stops before its end.
@@ -19,7 +19,7 @@ pub(crate) enum Stop {
     /// The disk failed outside a line: its counts of faults, as the call began and after it.
     DiskFault { before: u64, after: u64 },
     /// What the disk holds at this offset breaks the rule of this number.
-    Damaged { at: HOff, kind: u8 },
+    Damaged { at: u64, kind: u8 },
     /// The script's source failed: its counts of faults, as the run began and now.
     ScriptFault { before: u64, after: u64 },
     /// The sink failed.
@@ -67,7 +67,7 @@ impl Stop {
     {
         match fault {
             Fault::Media { before, after } => Stop::DiskFault { before, after },
-            Fault::Damaged { at, kind } => Stop::Damaged { at, kind },
+            Fault::Damaged { at, kind } => Stop::Damaged { at: at.raw(), kind },
             Fault::NoMemory => Stop::NoMemory,
         }
     }

@@ -116,14 +116,15 @@ mod tests {
         for word in line.split('|') {
             words.push(String::from_str(alloc, word)?)?;
         }
-        let text = match plan(alloc, &words) {
-            Ok(Plan { volume, newfs, .. }) => match newfs {
-                Some(size) => format!(in alloc; "{volume}:{size}")?,
-                None => volume,
-            },
-            Err(PlanFault::Usage) => String::from_str(alloc, "usage")?,
-            Err(PlanFault::NoMemory) => String::from_str(alloc, "no memory")?,
+        let plan = match plan(alloc, &words) {
+            Ok(plan) => plan,
+            Err(PlanFault::Usage) => return Ok(String::from_str(alloc, "usage")?),
+            Err(PlanFault::NoMemory) => return Ok(String::from_str(alloc, "no memory")?),
         };
+        let mut text = plan.volume.clone()?;
+        if let Some(size) = plan.newfs {
+            text.push_str(format!(in alloc; ":{size}")?.as_str())?;
+        }
         Ok(text)
     }
 
