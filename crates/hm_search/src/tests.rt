@@ -1,6 +1,7 @@
 // Searches in a tree of three levels that is written by hand, and what each damage below its root is
 // told as.
-ghost use Rattle.std.specs.Prelude.{◌≡◌, ◌<◌, ◌≤◌, ◌+◌, length};
+ghost use Rattle.std.specs.Prelude.{◌<◌};
+ghost use Rattle.hm_key.specs.Key.{key_of, greatest_key, IsBefore};
 
 use crate::{Found, find, first_at_or_after, unchanged_until};
 use arrayvec::ArrayVec;
@@ -17,7 +18,9 @@ fn offset(number: u8) -> Result<HOff, Fail> {
 }
 
 // An entry of a directory, open since id 3.
-fn entry(obj: u16) -> Element {
+fn entry(obj: u16) -> Element
+    ensures { IsBefore (key_of result.base) greatest_key }
+{
     Element {
         base: Base {
             obj: Obj(u64::from(obj)),
@@ -123,7 +126,9 @@ fn tree(alloc: Global) -> Result<MemPages, Fail> {
 }
 
 // The first entry from a directory on, by counting: those of leaf k are of 10 k + 3 and 10 k + 6.
-fn wanted_from(obj: u16) -> Option<u16> {
+fn wanted_from(obj: u16) -> Option<u16>
+    requires { obj < 400 }
+{
     let next = match obj % 10 {
         0..=3 => obj / 10 * 10 + 3,
         4..=6 => obj / 10 * 10 + 6,
