@@ -35,9 +35,13 @@ impl Counted for MemPages {
 }
 
 impl Pages for MemPages {
+    type Rest = ();
+
     ghost use Rattle.std.specs.Prelude.{Some};
 
     ghost pages = { λ m. Some (kept m) };
+
+    ghost rest = { λ _. tt };
 
     fn page(&mut self, at: HOff, into: &mut Page) -> Result<(), Fault> {
         match self.pages.get(&at) {

@@ -8,14 +8,21 @@ use hm_types::{Counted, Fault, HOff};
 /// Pages by their offsets, as the layers above read and change them. It may tell what it has; one
 /// over a disk tells nothing unless the disk does.
 pub trait Pages: Counted {
+    /// What else the object tells, and `()` where there is nothing else.
+    type Rest;
+
     /// The bytes of the page at each offset, where it tells them.
     ghost pages: { Self → Option PageMap };
+
+    /// What else the object tells. No call of this trait changes it.
+    ghost rest: { Self → Self.Rest };
 
     /// Reads the page at `at` into `into`. A page that is not there reads as zeros. It changes
     /// nothing that is told; what `into` holds after an error is not known.
     fn page(&mut self, at: HOff, into: &mut Page) -> Result<(), Fault>
         ensures ok { OnOk result (IfSome (pages self.old) (λ map. into.new ≡ page_in (map at))) }
         ensures same { pages self.new ≡ pages self.old }
+        ensures rest { rest self.new ≡ rest self.old }
         ensures name { Self.name self.new ≡ Self.name self.old }
         ensures cause { HasPageCause (pages self.old)
             (Self.faults self.old) (Self.faults self.new) result };
@@ -25,13 +32,18 @@ pub trait Pages: Counted {
     fn change(&mut self, at: HOff, with: &Page) -> Result<(), Fault>
         ensures ok { OnOk result (BothTell (pages self.old) (pages self.new) (HasPut at with.now)) }
         ensures err { OnErr result (BothTell (pages self.old) (pages self.new) AnyMaps) }
+        ensures rest { rest self.new ≡ rest self.old }
         ensures name { Self.name self.new ≡ Self.name self.old }
         ensures cause { HasPageCause (pages self.old)
             (Self.faults self.old) (Self.faults self.new) result };
 }
 
 impl<P: Pages> Pages for &mut P {
+    type Rest = P::Rest;
+
     ghost pages = { λ p. P.pages p.now };
+
+    ghost rest = { λ p. P.rest p.now };
 
     fn page(&mut self, at: HOff, into: &mut Page) -> Result<(), Fault> {
         (**self).page(at, into)

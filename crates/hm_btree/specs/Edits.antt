@@ -1,0 +1,54 @@
+-- What edits make of one node or of two neighbours, as lists of their places.
+use Rattle.std.specs.Prelude.{◌≡◌, ℕ, suc, ◌+◌, ◌/◌, ◌≤◌, max, List, [], ◌∷◌, ◌++◌, length, take, drop, slice_set, slice_index_or, Option, Some, None}
+use Rattle.hm_key.specs.declared.base.Base.{Base}
+use Rattle.hm_key.specs.declared.element.Element.{Element}
+use Rattle.hm_node.specs.declared.leaf.Leaf.{Leaf}
+use Rattle.hm_node.specs.declared.inner.Child.{Child}
+use Rattle.hm_node.specs.declared.inner.Inner.{Inner}
+
+-- a leaf with these elements
+abbrev pub leaf_of : ℕ → List Element → Leaf
+leaf_of mirror es = record { mirror = mirror; places = record { items = es } }
+
+-- an inner node with these children
+abbrev pub inner_of : ℕ → ℕ → List Child → Base → Inner
+inner_of level mirror cs right = record { level = level; mirror = mirror; places = record { items = cs }; right = right }
+
+-- the left boundary of some children, or what comes after them where there are none
+abbrev pub left_of : List Child → Base → Base
+left_of [] right = right
+left_of (c ∷ cs) right = c.left
+
+-- how many of so many places the left one of two halves gets, with one more
+abbrev pub half_of : ℕ → ℕ
+half_of count = count / 2 + 1
+
+-- A leaf that shall have these elements has them, or has half of them where they are too many for
+-- one; a new leaf then has the others. Both have one `mirror`.
+abbrev pub LeafGrown : ℕ → List Element → Leaf → Option Leaf → Type 0
+LeafGrown mirror es leaf None = (leaf ≡ leaf_of mirror es) × (length es ≤ 63)
+LeafGrown mirror es leaf (Some upper) =
+    (leaf ≡ leaf_of mirror (take 32 es)) × (upper ≡ leaf_of mirror (drop 32 es)) × (length es ≡ 64)
+
+-- The same for an inner node. The boundary between the halves is that of the first child of the new one.
+abbrev pub InnerGrown : ℕ → ℕ → List Child → Base → Inner → Option Inner → Type 0
+InnerGrown level mirror cs right inner None = (inner ≡ inner_of level mirror cs right) × (length cs ≤ 62)
+InnerGrown level mirror cs right inner (Some upper) =
+    (inner ≡ inner_of level mirror (take 32 cs) (left_of (drop 32 cs) right))
+    × (upper ≡ inner_of level mirror (drop 32 cs) right) × (length cs ≡ 63)
+
+-- the element at a place changed, and no other
+abbrev pub ElementChange : (Element → Element) → List Element → ℕ → List Element → Type 0
+ElementChange change old at new = (d : Element) → new ≡ slice_set old at (change (slice_index_or old at d))
+
+-- the child at a place changed, and no other
+abbrev pub ChildChange : (Child → Child) → List Child → ℕ → List Child → Type 0
+ChildChange change old at new = (d : Child) → new ≡ slice_set old at (change (slice_index_or old at d))
+
+-- a child with another `mirror`
+abbrev pub with_mirror : ℕ → Child → Child
+with_mirror mirror c = record c { mirror = mirror }
+
+-- a child with another left boundary
+abbrev pub with_left : Base → Child → Child
+with_left left c = record c { left = left }

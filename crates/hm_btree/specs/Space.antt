@@ -1,0 +1,19 @@
+-- What the calls of a space of nodes do to its pages.
+use Rattle.std.specs.Prelude.{◌≡◌, ℕ, ◌==◌, ◌<◌, ◌^◌, List, Option, Some, None, if◌then◌else◌}
+use Rattle.hm_types.specs.Offset.{byte_of}
+use Rattle.hm_fields.specs.Pages.{PageMap, HasPut}
+use Rattle.hm_node.specs.Inner.{IsNodeOffset}
+
+-- a map had no page at the offset, and now has this one there; it is as before elsewhere
+pub record HasNew (at : ℕ) (bytes : List ℕ) (old new : PageMap) : Type 0 where
+  pub free : old at ≡ None
+  pub put : HasPut at bytes old new
+
+-- a map has no page at the offset, and is as before elsewhere
+abbrev pub HasLost : ℕ → PageMap → PageMap → Type 0
+HasLost at old new = (other : ℕ) → new other ≡ (if other == at then None else old other)
+
+-- an offset at which a space of nodes may have a page: a multiple of 4,096 below 2^43, in zone 8
+pub record IsSpot (at : ℕ) : Type 0 where
+  pub node : IsNodeOffset at
+  pub below : byte_of at < 2 ^ 43

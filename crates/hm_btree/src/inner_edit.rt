@@ -1,0 +1,115 @@
+// Edits of inner nodes.
+ghost use Rattle.std.specs.Prelude.{◌≡◌, ◌+◌, ◌/◌, ◌≤◌, ◌<◌, ◌++◌, max, length, take, drop, insert, remove, slice_set, slice_index_or, if◌then◌else◌, nat_lt};
+ghost use Rattle.arrayvec.specs.ArrayVec.{array_vec_len};
+ghost use Rattle.hm_btree.specs.Edits.{inner_of, left_of, with_mirror, with_left, InnerGrown, ChildChange};
+
+use crate::places::{append, insert_and_split, share_out};
+use hm_key::Base;
+use hm_node::{Child, Inner};
+
+/// Gives the child at a place another `mirror`, to which the node's own is raised.
+pub fn set_mirror(inner: &mut Inner, at: usize, mirror: u64)
+    requires { at < array_vec_len inner.old.places }
+    ensures level { inner.new.level ≡ inner.old.level }
+    ensures mirror { inner.new.mirror ≡ max inner.old.mirror mirror }
+    ensures items { ChildChange (with_mirror mirror)
+        inner.old.places.items at inner.new.places.items }
+    ensures right { inner.new.right ≡ inner.old.right }
+{
+    inner.mirror = inner.mirror.max(mirror);
+    if let Some(child) = inner.places.get_mut(at) {
+        child.mirror = mirror;
+    }
+}
+
+/// Gives the child at a place another left boundary.
+pub fn set_left(inner: &mut Inner, at: usize, left: Base)
+    requires { at < array_vec_len inner.old.places }
+    ensures level { inner.new.level ≡ inner.old.level }
+    ensures mirror { inner.new.mirror ≡ inner.old.mirror }
+    ensures items { ChildChange (with_left left)
+        inner.old.places.items at inner.new.places.items }
+    ensures right { inner.new.right ≡ inner.old.right }
+{
+    if let Some(child) = inner.places.get_mut(at) {
+        child.left = left;
+    }
+}
+
+/// Puts a child in before the place `at`, and raises the node's `mirror` to the child's. A node
+/// that is full keeps half of them, and gives a new one with the others.
+pub fn insert_child(inner: &mut Inner, at: usize, child: Child) -> Option<Inner>
+    requires { at ≤ array_vec_len inner.old.places }
+    ensures { InnerGrown inner.old.level (max inner.old.mirror child.mirror)
+        (insert inner.old.places.items at child) inner.old.right inner.new result }
+{
+    inner.mirror = inner.mirror.max(child.mirror);
+    if inner.places.is_full() {
+        let places = insert_and_split(&mut inner.places, at, child);
+        let right = inner.right;
+        inner.right = first_left(places.as_slice(), right);
+        Some(Inner {
+            level: inner.level,
+            mirror: inner.mirror,
+            places,
+            right,
+        })
+    } else {
+        inner.places.insert(at, child);
+        None
+    }
+}
+
+/// Takes the child at a place out.
+pub fn remove_child(inner: &mut Inner, at: usize)
+    requires { at < array_vec_len inner.old.places }
+    ensures { inner.new ≡ inner_of inner.old.level inner.old.mirror
+        (remove inner.old.places.items at) inner.old.right }
+{
+    inner.places.remove(at);
+}
+
+/// Puts the children of the right one of two neighbours into the left one, which takes its range
+/// over.
+pub fn merge_inners(left: &mut Inner, right: &Inner)
+    requires { array_vec_len left.old.places + array_vec_len right.now.places ≤ 62 }
+    ensures { left.new ≡ inner_of left.old.level (max left.old.mirror right.now.mirror)
+        (left.old.places.items ++ right.now.places.items) right.now.right }
+{
+    left.mirror = left.mirror.max(right.mirror);
+    left.right = right.right;
+    append(&mut left.places, right.places.as_slice());
+}
+
+/// Shares the children of two neighbours out evenly. The one that gets some of the other takes its
+/// range over, and so its `mirror` where that is greater.
+pub fn share_inners(left: &mut Inner, right: &mut Inner)
+    ensures { let count = (array_vec_len left.old.places + array_vec_len right.old.places) / 2 in
+        let gains = nat_lt (array_vec_len left.old.places) count in
+        let most = max left.old.mirror right.old.mirror in
+        let all = left.old.places.items ++ right.old.places.items in
+        (left.new ≡ inner_of left.old.level (if gains then most else left.old.mirror)
+        (take count all) (left_of (drop count all) left.old.right))
+        × (right.new ≡ inner_of right.old.level (if gains then right.old.mirror else most)
+        (drop count all) right.old.right) }
+{
+    let count = (left.places.len() + right.places.len()) / 2;
+    let most = left.mirror.max(right.mirror);
+    if left.places.len() < count {
+        left.mirror = most;
+    } else {
+        right.mirror = most;
+    }
+    share_out(&mut left.places, &mut right.places, count);
+    left.right = first_left(right.places.as_slice(), left.right);
+}
+
+/// The left boundary of some children, or what comes after them where there are none.
+fn first_left(children: &[Child], after: Base) -> Base
+    ensures { result ≡ left_of children.now after }
+{
+    match children {
+        [first, ..] => first.left,
+        [] => after,
+    }
+}

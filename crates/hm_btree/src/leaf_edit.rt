@@ -1,0 +1,93 @@
+// Edits of leaves.
+ghost use Rattle.std.specs.Prelude.{◌≡◌, ◌⊎◌, ◌+◌, ◌/◌, ◌≤◌, ◌<◌, ◌++◌, max, length, take, drop, insert, remove, slice_set, slice_index_or, if◌then◌else◌, nat_lt};
+ghost use Rattle.arrayvec.specs.ArrayVec.{array_vec_len};
+ghost use Rattle.hm_key.specs.Elements.{last_id, closed_at, moved_to};
+ghost use Rattle.hm_btree.specs.Edits.{leaf_of, LeafGrown, ElementChange};
+
+use crate::places::{append, insert_and_split, share_out};
+use hm_key::Element;
+use hm_node::Leaf;
+use hm_types::HOff;
+
+/// Puts an element in before the place `at`, and raises the leaf's `mirror` to its ids. A leaf that
+/// is full keeps half of them, and gives a new one with the others.
+pub fn insert_element(leaf: &mut Leaf, at: usize, element: &Element) -> Option<Leaf>
+    requires { at ≤ array_vec_len leaf.old.places }
+    ensures { LeafGrown (max leaf.old.mirror (last_id element.now))
+        (insert leaf.old.places.items at element.now) leaf.new result }
+{
+    leaf.mirror = leaf
+        .mirror
+        .max(element.base.create.max(element.base.delete));
+    if leaf.places.is_full() {
+        Some(Leaf {
+            mirror: leaf.mirror,
+            places: insert_and_split(&mut leaf.places, at, *element),
+        })
+    } else {
+        leaf.places.insert(at, *element);
+        None
+    }
+}
+
+/// Gives the element at a place another delete id, and raises the leaf's `mirror` to it.
+pub fn close_element(leaf: &mut Leaf, at: usize, delete: u64)
+    requires { at < array_vec_len leaf.old.places }
+    ensures mirror { leaf.new.mirror ≡ max leaf.old.mirror delete }
+    ensures items { ElementChange (closed_at delete) leaf.old.places.items at leaf.new.places.items }
+{
+    leaf.mirror = leaf.mirror.max(delete);
+    if let Some(element) = leaf.places.get_mut(at) {
+        element.base.delete = delete;
+    }
+}
+
+/// Lets the payload of the element at a place stand elsewhere.
+pub fn move_payload(leaf: &mut Leaf, at: usize, to: HOff)
+    requires { at < array_vec_len leaf.old.places }
+    ensures mirror { leaf.new.mirror ≡ leaf.old.mirror }
+    ensures items { ElementChange (moved_to to) leaf.old.places.items at leaf.new.places.items }
+{
+    if let Some(element) = leaf.places.get_mut(at) {
+        element.payload = to;
+    }
+}
+
+/// Takes the element at a place out.
+pub fn remove_element(leaf: &mut Leaf, at: usize)
+    requires { at < array_vec_len leaf.old.places }
+    ensures { leaf.new ≡ leaf_of leaf.old.mirror (remove leaf.old.places.items at) }
+{
+    leaf.places.remove(at);
+}
+
+/// Puts the elements of the right one of two neighbours into the left one, which takes its range
+/// over.
+pub fn merge_leaves(left: &mut Leaf, right: &Leaf)
+    requires { array_vec_len left.old.places + array_vec_len right.now.places ≤ 63 }
+    ensures { left.new ≡ leaf_of (max left.old.mirror right.now.mirror)
+        (left.old.places.items ++ right.now.places.items) }
+{
+    left.mirror = left.mirror.max(right.mirror);
+    append(&mut left.places, right.places.as_slice());
+}
+
+/// Shares the elements of two neighbours out evenly. The one that gets some of the other takes its
+/// range over, and so its `mirror` where that is greater.
+pub fn share_leaves(left: &mut Leaf, right: &mut Leaf)
+    ensures { let count = (array_vec_len left.old.places + array_vec_len right.old.places) / 2 in
+        let gains = nat_lt (array_vec_len left.old.places) count in
+        let most = max left.old.mirror right.old.mirror in
+        let all = left.old.places.items ++ right.old.places.items in
+        (left.new ≡ leaf_of (if gains then most else left.old.mirror) (take count all))
+        × (right.new ≡ leaf_of (if gains then right.old.mirror else most) (drop count all)) }
+{
+    let count = (left.places.len() + right.places.len()) / 2;
+    let most = left.mirror.max(right.mirror);
+    if left.places.len() < count {
+        left.mirror = most;
+    } else {
+        right.mirror = most;
+    }
+    share_out(&mut left.places, &mut right.places, count);
+}

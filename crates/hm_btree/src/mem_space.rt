@@ -1,0 +1,154 @@
+// A space of nodes in memory.
+ghost use Rattle.hm_btree.specs.MemSpace.{kept, room_of};
+
+use crate::space::{NODE_BYTES, NodeSpace};
+use hm_fields::{Page, Pages};
+use hm_key::{HasRoom, TREE_ZONE};
+use hm_types::{Counted, Fault, HOff};
+use std::alloc::Global;
+use std::collections::BTreeMap;
+
+// How many offsets there are below 2^43 at which a node may stand.
+const MOST_NODES: u64 = 2_147_483_648;
+
+/// Nodes in memory, which are told. It is there for tests, and for tools that have no disk. It
+/// counts how many pages are read and written.
+#[derive(Drop)]
+pub struct MemSpace {
+    alloc: Global,
+    pages: BTreeMap<HOff, Box<Page>>,
+    // How many nodes were made, which is where the next one stands, in pages.
+    made: u64,
+    room: u64,
+    reads: u64,
+    writes: u64,
+    refused: u64,
+}
+
+impl MemSpace {
+    ghost use Rattle.std.specs.Prelude.{◌≡◌, Some, None, OnOk, ℕ};
+    ghost use Rattle.hm_fields.specs.Pages.{HasPut, HasPageCause};
+
+    /// No page, and so many bytes of room in zone 8. It takes no memory.
+    pub fn new(alloc: Global, room: u64) -> MemSpace
+        ensures pages { (at : ℕ) → kept result at ≡ None }
+        ensures room { ⟦<MemSpace as HasRoom>⟧.room result ≡ room_of room }
+    {
+        MemSpace {
+            alloc,
+            pages: BTreeMap::new(alloc),
+            made: 0,
+            room,
+            reads: 0,
+            writes: 0,
+            refused: u64::MAX,
+        }
+    }
+
+    /// How many pages were read.
+    pub fn reads(&self) -> u64 {
+        self.reads
+    }
+
+    /// How many pages were written, made ones among them.
+    pub fn writes(&self) -> u64 {
+        self.writes
+    }
+
+    /// How many pages there are.
+    pub fn len(&self) -> usize {
+        self.pages.len()
+    }
+
+    /// From this write on, counted from 0, each is refused for want of memory.
+    pub fn refuse_from(&mut self, write: u64)
+        ensures pages { kept self.new ≡ kept self.old }
+        ensures room { ⟦<MemSpace as HasRoom>⟧.room self.new
+            ≡ ⟦<MemSpace as HasRoom>⟧.room self.old }
+    {
+        self.refused = write;
+    }
+
+    // Counts a write, and puts a page.
+    fn put(&mut self, at: HOff, with: &Page) -> Result<(), Fault>
+        ensures ok { OnOk result (HasPut at with.now (kept self.old) (kept self.new)) }
+        ensures room { self.new.room ≡ self.old.room }
+        ensures made { self.new.made ≡ self.old.made }
+        ensures cause { HasPageCause (Some (kept self.old)) 0 0 result }
+    {
+        if self.writes >= self.refused {
+            return Err(Fault::NoMemory);
+        }
+        let page = Box::new(self.alloc, *with)?;
+        self.pages.insert(at, page)?;
+        self.writes = self.writes.saturating_add(1);
+        Ok(())
+    }
+}
+
+impl Counted for MemSpace {
+    ghost faults = { λ _. 0 };
+
+    ghost name = { λ _. 0 };
+}
+
+impl HasRoom for MemSpace {
+    ghost use Rattle.std.specs.Prelude.{Some, []};
+
+    ghost room = { λ m. room_of m.room };
+
+    ghost free = { λ _. 0 };
+
+    ghost extents = { λ _. Some [] };
+}
+
+impl Pages for MemSpace {
+    type Rest = u64;
+
+    ghost use Rattle.std.specs.Prelude.{Some};
+
+    ghost pages = { λ m. Some (kept m) };
+
+    ghost rest = { λ m. m.room };
+
+    fn page(&mut self, at: HOff, into: &mut Page) -> Result<(), Fault> {
+        self.reads = self.reads.saturating_add(1);
+        match self.pages.get(&at) {
+            Some(page) => *into = **page,
+            None => *into = Page::zero(),
+        }
+        Ok(())
+    }
+
+    fn change(&mut self, at: HOff, with: &Page) -> Result<(), Fault> {
+        self.put(at, with)
+    }
+}
+
+impl NodeSpace for MemSpace {
+    ghost use Rattle.std.specs.Prelude.{refl};
+    ghost use Rattle.std.proofs.Common.{ap};
+
+    ghost rests = { λ s t same. (ap room_of same, refl, refl) };
+
+    fn new_node(&mut self, with: &Page) -> Result<HOff, Fault> {
+        if self.made >= MOST_NODES {
+            return Err(Fault::NoMemory);
+        }
+        let Some(at) = HOff::make(TREE_ZONE, self.made * 4_096) else {
+            return Err(Fault::NoMemory);
+        };
+        if self.pages.contains_key(&at) {
+            return Err(Fault::NoMemory);
+        }
+        self.put(at, with)?;
+        self.made += 1;
+        self.room -= u64::from(NODE_BYTES);
+        Ok(at)
+    }
+
+    fn drop_node(&mut self, at: HOff) -> Result<(), Fault> {
+        self.pages.remove(&at);
+        Ok(())
+    }
+}

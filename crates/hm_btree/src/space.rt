@@ -1,0 +1,60 @@
+// The pages of a tree, with room for more.
+ghost use Rattle.std.specs.Prelude.{◌≡◌, ℕ, ◌+◌, ◌≤◌, Option, IfSome, IsSome, IfOk, OnOk};
+ghost use Rattle.hm_fields.specs.Pages.{BothTell, HasPageCause};
+ghost use Rattle.hm_key.specs.Space.{Spends, nothing, in_zone};
+ghost use Rattle.hm_btree.specs.Space.{HasNew, HasLost, IsSpot};
+
+use hm_fields::{Page, Pages};
+use hm_key::{HasRoom, TREE_ZONE};
+use hm_types::{Fault, HOff};
+
+/// The room that a node takes, in bytes of zone 8.
+pub const NODE_BYTES: u32 = 4_096;
+
+/// Pages that hold the nodes of a tree alone, with room for more of them in zone 8.
+///
+/// After an error of a call that writes, nothing is known of the pages.
+pub trait NodeSpace: Pages + HasRoom {
+    /// Puts a page at an offset that no page has, and answers the offset: a multiple of 4,096 below
+    /// 2^43 in zone 8, which must have room for it.
+    fn new_node(&mut self, with: &Page) -> Result<HOff, Fault>
+        requires { NODE_BYTES ≤ Self.room self.old TREE_ZONE }
+        ensures ok { IfOk result (λ at.
+            BothTell (Self.pages self.old) (Self.pages self.new) (HasNew at with.now)) }
+        ensures offset { IfOk result IsSpot }
+        ensures extents { OnOk result (Self.extents self.new ≡ Self.extents self.old) }
+        ensures room { OnOk result ((zone : ℕ) → Self.room self.new zone
+            + in_zone TREE_ZONE NODE_BYTES zone ≡ Self.room self.old zone) }
+        ensures space { Spends Self.room Self.free (in_zone TREE_ZONE NODE_BYTES)
+            self.old self.new }
+        ensures name { Self.name self.new ≡ Self.name self.old }
+        ensures cause { HasPageCause (Self.pages self.old)
+            (Self.faults self.old) (Self.faults self.new) result };
+
+    /// Takes the page at `at` out. There must be one, where the pages are told.
+    fn drop_node(&mut self, at: HOff) -> Result<(), Fault>
+        requires { IfSome (Self.pages self.old) (λ map. IsSome (map at)) }
+        ensures ok { OnOk result
+            (BothTell (Self.pages self.old) (Self.pages self.new) (HasLost at)) }
+        ensures extents { OnOk result (Self.extents self.new ≡ Self.extents self.old) }
+        ensures space { Spends Self.room Self.free nothing self.old self.new }
+        ensures name { Self.name self.new ≡ Self.name self.old }
+        ensures cause { HasPageCause (Self.pages self.old)
+            (Self.faults self.old) (Self.faults self.new) result };
+
+    /// The room, the free big-blocks and the extents are among what no call of `Pages` changes.
+    ghost rests: { (s t : Self) → Self.rest t ≡ Self.rest s → (Self.room t ≡ Self.room s)
+        × (Self.free t ≡ Self.free s) × (Self.extents t ≡ Self.extents s) };
+}
+
+impl<S: NodeSpace> NodeSpace for &mut S {
+    ghost rests = { λ s t same. S.NodeSpace.rests s.now t.now same };
+
+    fn new_node(&mut self, with: &Page) -> Result<HOff, Fault> {
+        (**self).new_node(with)
+    }
+
+    fn drop_node(&mut self, at: HOff) -> Result<(), Fault> {
+        (**self).drop_node(at)
+    }
+}
