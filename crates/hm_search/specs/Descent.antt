@@ -47,6 +47,7 @@ pub record HasSearchCause {T : Type 0} (told : Option PageMap) (from : Subtree) 
   pub undamaged : IfSome told (λ map. (height : ℕ) → IsStoredTree map height from → IfErr result IsUndamaged)
 
 -- a search changes nothing
-pub record Reads {P : Type 0} (name_of : P → ℕ) (pages_of : P → Option PageMap) (old new : P) : Type 0 where
+pub record Reads {P R : Type 0} (name_of : P → ℕ) (rest_of : P → R) (pages_of : P → Option PageMap) (old new : P) : Type 0 where
   pub name : name_of new ≡ name_of old
+  pub rest : rest_of new ≡ rest_of old
   pub pages : pages_of new ≡ pages_of old

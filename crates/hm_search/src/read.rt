@@ -27,7 +27,7 @@ pub fn read_node<P: Pages>(pages: &mut P, subtree: &Subtree) -> Result<Node, Fau
     // Damage is told of a page that breaks a rule there, and of no other.
     ensures damage { IfSome (P.pages pages.old) (λ map.
         IfErr result (TellsDamage subtree.now (page_in (map subtree.now.at)))) }
-    ensures same { Reads P.name P.pages pages.old pages.new }
+    ensures same { Reads P.name P.rest P.pages pages.old pages.new }
     ensures cause { HasFaultCause (P.faults pages.old) (P.faults pages.new) result }
 {
     let mut page = Page::zero();

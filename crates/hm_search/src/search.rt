@@ -29,7 +29,7 @@ pub struct Found {
 pub fn find<P: Pages>(pages: &mut P, root: HOff, at: &Base) -> Result<Found, Fault>
     ensures ok { IfSome (P.pages pages.old) (λ map. IsSoundTree map root →
         IfOk result (IsPlaceOf map (height_of (node_at map root)) (root_place root) (key_of at.now))) }
-    ensures same { Reads P.name P.pages pages.old pages.new }
+    ensures same { Reads P.name P.rest P.pages pages.old pages.new }
     ensures cause { HasSearchCause (P.pages pages.old) (root_place root)
         (P.faults pages.old) (P.faults pages.new) result }
 {
@@ -47,7 +47,7 @@ pub fn first_at_or_after<P: Pages>(
     ensures ok { IfSome (P.pages pages.old) (λ map. IsSoundTree map root →
         IfOk result (λ found. found ≡ first_from (key_of at.now) (elements_of map root))) }
     ensures found { IfOk result (λ found. IfSome found (IsFound (key_of at.now))) }
-    ensures same { Reads P.name P.pages pages.old pages.new }
+    ensures same { Reads P.name P.rest P.pages pages.old pages.new }
     ensures cause { HasSearchCause (P.pages pages.old) (root_place root)
         (P.faults pages.old) (P.faults pages.new) result }
 {
@@ -67,7 +67,7 @@ pub fn unchanged_until<P: Pages>(
     ensures ok { IfSome (P.pages pages.old) (λ map. IsSoundTree map root →
         IfOk result (IsQuiet (mark_of map root) (key_of at.now) since.0)) }
     ensures found { IfOk result (λ end. IfSome end (IsEnd (key_of at.now))) }
-    ensures same { Reads P.name P.pages pages.old pages.new }
+    ensures same { Reads P.name P.rest P.pages pages.old pages.new }
     ensures cause { HasSearchCause (P.pages pages.old) (root_place root)
         (P.faults pages.old) (P.faults pages.new) result }
 {
@@ -79,7 +79,7 @@ fn find_below<P: Pages>(pages: &mut P, subtree: &Subtree, at: &Base) -> Result<F
     ensures ok { IfSome (P.pages pages.old) (λ map. (height : ℕ) →
         IsStoredTree map height subtree.now →
         IfOk result (IsPlaceOf map height subtree.now (key_of at.now))) }
-    ensures same { Reads P.name P.pages pages.old pages.new }
+    ensures same { Reads P.name P.rest P.pages pages.old pages.new }
     ensures cause { HasSearchCause (P.pages pages.old) subtree.now
         (P.faults pages.old) (P.faults pages.new) result }
 {
@@ -105,7 +105,7 @@ fn first_below<P: Pages>(
         IsStoredTree map height subtree.now → IfOk result (λ found.
         found ≡ first_from (key_of at.now) (elements_in map height (node_at map subtree.now.at)))) }
     ensures found { IfOk result (λ found. IfSome found (IsFound (key_of at.now))) }
-    ensures same { Reads P.name P.pages pages.old pages.new }
+    ensures same { Reads P.name P.rest P.pages pages.old pages.new }
     ensures cause { HasSearchCause (P.pages pages.old) subtree.now
         (P.faults pages.old) (P.faults pages.new) result }
 {
@@ -133,7 +133,7 @@ fn first_of<P: Pages>(pages: &mut P, subtree: &Subtree) -> Result<Element, Fault
         IsStoredTree map height subtree.now → IfOk result (λ found.
         slice_get (elements_in map height (node_at map subtree.now.at)) 0 ≡ Some found)) }
     ensures found { IfOk result (IsFound (key_of subtree.now.left)) }
-    ensures same { Reads P.name P.pages pages.old pages.new }
+    ensures same { Reads P.name P.rest P.pages pages.old pages.new }
     ensures cause { HasSearchCause (P.pages pages.old) subtree.now
         (P.faults pages.old) (P.faults pages.new) result }
 {
@@ -156,7 +156,7 @@ fn quiet_below<P: Pages>(
         IsStoredTree map height subtree.now → IfOk result
         (IsQuiet (mark_in map height (node_at map subtree.now.at)) (key_of at.now) since.0)) }
     ensures found { IfOk result (λ end. IfSome end (IsEndBy (key_of at.now) subtree.now.right)) }
-    ensures same { Reads P.name P.pages pages.old pages.new }
+    ensures same { Reads P.name P.rest P.pages pages.old pages.new }
     ensures cause { HasSearchCause (P.pages pages.old) subtree.now
         (P.faults pages.old) (P.faults pages.new) result }
 {
