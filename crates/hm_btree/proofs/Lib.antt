@@ -8,6 +8,7 @@ pub mod NodeLemmas
 pub mod OrderLemmas
 pub mod PutLemmas
 pub mod RootLemmas
+pub mod ReadingLemmas
 pub mod StoreLemmas
 pub mod ToldLemmas
 pub mod UnderLemmas

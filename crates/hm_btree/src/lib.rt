@@ -7,6 +7,7 @@ mod leaf_edit;
 mod mem_space;
 mod node_edit;
 mod places;
+mod reading;
 mod space;
 mod tree;
 
