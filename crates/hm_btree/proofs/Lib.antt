@@ -1,1 +1,14 @@
+pub mod ChangeLemmas
+pub mod EditLemmas
+pub mod FindLemmas
+pub mod LeafLemmas
 pub mod ListLemmas
+pub mod LocalLemmas
+pub mod NodeLemmas
+pub mod OrderLemmas
+pub mod PutLemmas
+pub mod RootLemmas
+pub mod ReadingLemmas
+pub mod StoreLemmas
+pub mod ToldLemmas
+pub mod UnderLemmas

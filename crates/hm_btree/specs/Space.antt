@@ -3,6 +3,8 @@ use Rattle.std.specs.Prelude.{◌≡◌, ℕ, ◌==◌, ◌<◌, ◌^◌, List, 
 use Rattle.hm_types.specs.Offset.{byte_of}
 use Rattle.hm_fields.specs.Pages.{PageMap, HasPut}
 use Rattle.hm_node.specs.Inner.{IsNodeOffset}
+use Rattle.hm_node.specs.Node.{Spells}
+use Rattle.hm_node.specs.declared.node.Node.{Node}
 
 -- a map had no page at the offset, and now has this one there; it is as before elsewhere
 pub record HasNew (at : ℕ) (bytes : List ℕ) (old new : PageMap) : Type 0 where
@@ -12,6 +14,14 @@ pub record HasNew (at : ℕ) (bytes : List ℕ) (old new : PageMap) : Type 0 whe
 -- a map has no page at the offset, and is as before elsewhere
 abbrev pub HasLost : ℕ → PageMap → PageMap → Type 0
 HasLost at old new = (other : ℕ) → new other ≡ (if other == at then None else old other)
+
+-- a node was written to the page at the offset
+abbrev pub HasWritten : ℕ → Node → PageMap → PageMap → Type 0
+HasWritten at node old new = (page : List ℕ) × Spells page node × HasPut at page old new
+
+-- a node was written to a page at an offset that had none
+abbrev pub HasAdded : ℕ → Node → PageMap → PageMap → Type 0
+HasAdded at node old new = (page : List ℕ) × Spells page node × HasNew at page old new
 
 -- an offset at which a space of nodes may have a page: a multiple of 4,096 below 2^43, in zone 8
 pub record IsSpot (at : ℕ) : Type 0 where

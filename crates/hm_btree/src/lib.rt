@@ -1,11 +1,16 @@
 //! The B-tree of the elements, over any space of pages that hold its nodes.
 #![tactic(auto)]
 
+mod change;
 mod inner_edit;
 mod leaf_edit;
 mod mem_space;
+mod node_edit;
 mod places;
+mod reading;
 mod space;
+mod tree;
 
 pub use mem_space::MemSpace;
 pub use space::{NODE_BYTES, NodeSpace};
+pub use tree::BTree;

@@ -15,9 +15,9 @@ use hm_types::{Counted, Fault};
 // Above the number of each rule.
 const ALL_RULES: u8 = 10;
 
-/// Reads a node and checks it where it stands: by the rules that it keeps by itself, and by those of
-/// its place. It is damaged where it breaks any of them: the fault tells the offset and the lowest
-/// number of a broken rule. One page is read, and nothing changes.
+/// Reads a node and checks it where it stands: by the rules that it keeps by itself, and by those
+/// of its place. It is damaged where it breaks any of them: the fault tells the offset and the
+/// lowest number of a broken rule. One page is read, and nothing changes.
 pub fn read_node<P: Pages>(pages: &mut P, subtree: &Subtree) -> Result<Node, Fault>
     // What is read is sound there, and spelled so where the pages are told.
     ensures sound { IfOk result IsNode }
@@ -27,7 +27,7 @@ pub fn read_node<P: Pages>(pages: &mut P, subtree: &Subtree) -> Result<Node, Fau
     // Damage is told of a page that breaks a rule there, and of no other.
     ensures damage { IfSome (P.pages pages.old) (λ map.
         IfErr result (TellsDamage subtree.now (page_in (map subtree.now.at)))) }
-    ensures same { Reads P.name P.pages pages.old pages.new }
+    ensures same { Reads P.name P.rest P.pages pages.old pages.new }
     ensures cause { HasFaultCause (P.faults pages.old) (P.faults pages.new) result }
 {
     let mut page = Page::zero();

@@ -24,12 +24,13 @@ pub struct Found {
     pub place: u8,
 }
 
-/// The leaf whose boundaries hold the key of `at`, and how many of its elements stand before the key.
-/// One node a level is read, and nothing changes.
+/// The leaf whose boundaries hold the key of `at`, and how many of its elements stand before the
+/// key. One node a level is read, and nothing changes.
 pub fn find<P: Pages>(pages: &mut P, root: HOff, at: &Base) -> Result<Found, Fault>
     ensures ok { IfSome (P.pages pages.old) (λ map. IsSoundTree map root →
-        IfOk result (IsPlaceOf map (height_of (node_at map root)) (root_place root) (key_of at.now))) }
-    ensures same { Reads P.name P.pages pages.old pages.new }
+        IfOk result (IsPlaceOf map (height_of (node_at map root)) (root_place root)
+        (key_of at.now))) }
+    ensures same { Reads P.name P.rest P.pages pages.old pages.new }
     ensures cause { HasSearchCause (P.pages pages.old) (root_place root)
         (P.faults pages.old) (P.faults pages.new) result }
 {
@@ -37,8 +38,8 @@ pub fn find<P: Pages>(pages: &mut P, root: HOff, at: &Base) -> Result<Found, Fau
 }
 
 /// The first element at the key of `at` or after it, and None where no element is there. A node a
-/// level is read, and where the leaf of the key has nothing from there on, the leftmost nodes of the
-/// next subtree to the right. No node is read twice, and nothing changes.
+/// level is read, and where the leaf of the key has nothing from there on, the leftmost nodes of
+/// the next subtree to the right. No node is read twice, and nothing changes.
 pub fn first_at_or_after<P: Pages>(
     pages: &mut P,
     root: HOff,
@@ -47,16 +48,16 @@ pub fn first_at_or_after<P: Pages>(
     ensures ok { IfSome (P.pages pages.old) (λ map. IsSoundTree map root →
         IfOk result (λ found. found ≡ first_from (key_of at.now) (elements_of map root))) }
     ensures found { IfOk result (λ found. IfSome found (IsFound (key_of at.now))) }
-    ensures same { Reads P.name P.pages pages.old pages.new }
+    ensures same { Reads P.name P.rest P.pages pages.old pages.new }
     ensures cause { HasSearchCause (P.pages pages.old) (root_place root)
         (P.faults pages.old) (P.faults pages.new) result }
 {
     first_below(pages, &Subtree::root(root), at)
 }
 
-/// How far from the key of `at` on the marks are at most `since`: a boundary after that key, before
-/// which they all are, or None exactly where the key's own mark is above `since`. The search ends at
-/// the first node whose `mirror` is at most `since`, and nothing changes.
+/// How far from the key of `at` on the marks are at most `since`: a boundary after that key,
+/// before which they all are, or None exactly where the key's own mark is above `since`. The search
+/// ends at the first node whose `mirror` is at most `since`, and nothing changes.
 pub fn unchanged_until<P: Pages>(
     pages: &mut P,
     root: HOff,
@@ -67,7 +68,7 @@ pub fn unchanged_until<P: Pages>(
     ensures ok { IfSome (P.pages pages.old) (λ map. IsSoundTree map root →
         IfOk result (IsQuiet (mark_of map root) (key_of at.now) since.0)) }
     ensures found { IfOk result (λ end. IfSome end (IsEnd (key_of at.now))) }
-    ensures same { Reads P.name P.pages pages.old pages.new }
+    ensures same { Reads P.name P.rest P.pages pages.old pages.new }
     ensures cause { HasSearchCause (P.pages pages.old) (root_place root)
         (P.faults pages.old) (P.faults pages.new) result }
 {
@@ -79,7 +80,7 @@ fn find_below<P: Pages>(pages: &mut P, subtree: &Subtree, at: &Base) -> Result<F
     ensures ok { IfSome (P.pages pages.old) (λ map. (height : ℕ) →
         IsStoredTree map height subtree.now →
         IfOk result (IsPlaceOf map height subtree.now (key_of at.now))) }
-    ensures same { Reads P.name P.pages pages.old pages.new }
+    ensures same { Reads P.name P.rest P.pages pages.old pages.new }
     ensures cause { HasSearchCause (P.pages pages.old) subtree.now
         (P.faults pages.old) (P.faults pages.new) result }
 {
@@ -105,7 +106,7 @@ fn first_below<P: Pages>(
         IsStoredTree map height subtree.now → IfOk result (λ found.
         found ≡ first_from (key_of at.now) (elements_in map height (node_at map subtree.now.at)))) }
     ensures found { IfOk result (λ found. IfSome found (IsFound (key_of at.now))) }
-    ensures same { Reads P.name P.pages pages.old pages.new }
+    ensures same { Reads P.name P.rest P.pages pages.old pages.new }
     ensures cause { HasSearchCause (P.pages pages.old) subtree.now
         (P.faults pages.old) (P.faults pages.new) result }
 {
@@ -133,7 +134,7 @@ fn first_of<P: Pages>(pages: &mut P, subtree: &Subtree) -> Result<Element, Fault
         IsStoredTree map height subtree.now → IfOk result (λ found.
         slice_get (elements_in map height (node_at map subtree.now.at)) 0 ≡ Some found)) }
     ensures found { IfOk result (IsFound (key_of subtree.now.left)) }
-    ensures same { Reads P.name P.pages pages.old pages.new }
+    ensures same { Reads P.name P.rest P.pages pages.old pages.new }
     ensures cause { HasSearchCause (P.pages pages.old) subtree.now
         (P.faults pages.old) (P.faults pages.new) result }
 {
@@ -156,7 +157,7 @@ fn quiet_below<P: Pages>(
         IsStoredTree map height subtree.now → IfOk result
         (IsQuiet (mark_in map height (node_at map subtree.now.at)) (key_of at.now) since.0)) }
     ensures found { IfOk result (λ end. IfSome end (IsEndBy (key_of at.now) subtree.now.right)) }
-    ensures same { Reads P.name P.pages pages.old pages.new }
+    ensures same { Reads P.name P.rest P.pages pages.old pages.new }
     ensures cause { HasSearchCause (P.pages pages.old) subtree.now
         (P.faults pages.old) (P.faults pages.new) result }
 {

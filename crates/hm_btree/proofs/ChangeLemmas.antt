@@ -1,0 +1,176 @@
+-- Children of which some change, while those before and after them stay.
+use Rattle.std.proofs.Common.{◌≡◌, ◌≢◌, Bool, true, false, true≢false, ◌||◌, ℕ, zero, suc, ◌+◌, ◌<◌, ◌≤◌, List, [], ◌∷◌, ◌++◌, refl, sym, ap, subst, ◌∙◌, arith, nat_eq, append_assoc, append-nil}
+use Rattle.std.specs.Prelude.{IsSome, if◌then◌else◌}
+use Rattle.std.specs.List.{AllByRecursion, flat_map, list_any}
+use Rattle.std.specs.Ordering.{is_lt}
+use Rattle.std.proofs.lemmas.Grind.{flat_map-append}
+use Rattle.hm_types.specs.Elements.{Key, key_cmp}
+use Rattle.hm_fields.specs.Pages.{PageMap, page_in}
+use Rattle.hm_key.specs.Key.{key_of, IsBefore, IsFrom}
+use Rattle.hm_key.specs.Elements.{element_key}
+use Rattle.hm_key.specs.Stores.{Marks}
+use Rattle.hm_key.specs.declared.base.Base.{Base}
+use Rattle.hm_key.specs.declared.element.Element.{Element}
+use Rattle.hm_key.proofs.KeyLemmas.{key_before_from, key_from_before}
+use Rattle.hm_node.specs.Inner.{IsChild}
+use Rattle.hm_node.specs.declared.inner.Child.{Child}
+use Rattle.hm_node.specs.declared.node.Node.{Node}
+use Rattle.hm_search.specs.Place.{IsInside}
+use Rattle.hm_search.specs.Tree.{node_at, elements_in, mark_in, reaches, holder, at_holder, starts_after, next_left, child_place, places_of, IsTree, IsStoredTree}
+use Rattle.hm_search.specs.declared.subtree.Subtree.{Subtree}
+use Rattle.hm_search.proofs.ListLemmas.{each_so, each_append}
+use Rattle.hm_search.proofs.OrderLemmas.{before_is, from_is, from_not, from_then_before, from_trans}
+use Rattle.hm_search.proofs.ChildLemmas.{holder_later}
+use Rattle.hm_search.proofs.ContentLemmas.{AreInside, all_of, from_next_on, elements_inside}
+use Rattle.hm_search.proofs.FrameLemmas.{IsSameUnder}
+use Rattle.hm_search.proofs.ReachLemmas.{is_under, or_left, or_right}
+use Rattle.hm_btree.specs.Below.{Replaces, elements_under, mark_under, has_under, AreStored, AreRising, IsLocal, ChangedUnder}
+use Rattle.hm_btree.proofs.OrderLemmas.{before_before, rising_first, rising_rest, rising_cons, rising_next, before_all, next_append, rising_append, rising_back}
+use Rattle.hm_btree.proofs.UnderLemmas.{under_there, first_apart, later_apart, under_append, stored_append, stored_front, stored_back, under_elements, under_mark, under_has, under_stored, replaces_same, replaces_front, replaces_back, or_false}
+
+-- the elements under children, each inside its child's boundaries
+pub inside_each : (map : PageMap) (height level : ℕ) (right : Base) (cs : List Child) → AreStored map height level right cs → AllByRecursion (λ s. AreInside s.left s.right (elements_in map height (node_at map s.at))) (places_of level right cs)
+inside_each map height level right cs stored =
+    each_so (IsStoredTree map height) (λ s. AreInside s.left s.right (elements_in map height (node_at map s.at))) (places_of level right cs)
+    (λ s is. elements_inside map height s (node_at map s.at) is.tree) stored
+
+pub inside_under : (map : PageMap) (height level : ℕ) (right : Base) (cs : List Child) → AreRising right cs → AreStored map height level right cs → AreInside (next_left right cs) right (elements_under map height cs)
+inside_under map height level right cs rising stored =
+    from_next_on (λ at. elements_in map height (node_at map at)) level right cs rising (inside_each map height level right cs stored)
+
+-- of children and others after them, the one that holds a key
+module _ (key : Key) where
+  pub holder_front : (b d : Child) (bs ds : List Child) → starts_after key d ≡ true → holder key b (bs ++ d ∷ ds) ≡ holder key b bs
+  holder_front b d [] ds after = rw after refl
+  holder_front b d (q ∷ qs) ds after = by_test (starts_after key q) (holder_front q d qs ds after) where
+    by_test : (t : Bool) → holder key q (qs ++ d ∷ ds) ≡ holder key q qs → (if t then b else holder key q (qs ++ d ∷ ds)) ≡ (if t then b else holder key q qs)
+    by_test true more = refl
+    by_test false more = more
+
+  pub holder_back : (right : Base) (b d : Child) (bs ds : List Child) → AreRising right (b ∷ (bs ++ d ∷ ds)) → starts_after key d ≡ false → holder key b (bs ++ d ∷ ds) ≡ holder key d ds
+  holder_back right b d [] ds rising begun = rw begun refl
+  holder_back right b d (q ∷ qs) ds rising begun =
+      let later = rising_rest right b ((q ∷ qs) ++ d ∷ ds) rising in
+      let before : IsBefore (key_of q.left) (key_of d.left) = between qs later in
+      let here : starts_after key q ≡ false = from_not key (key_of q.left) (from_trans (key_of q.left) (key_of d.left) key (key_from_before (key_of q.left) (key_of d.left) before) (from_is key (key_of d.left) begun)) in
+      rw here (holder_back right q d qs ds later begun) where
+        between : (qs : List Child) → AreRising right (q ∷ (qs ++ d ∷ ds)) → IsBefore (key_of q.left) (key_of d.left)
+        between [] rising = rising_next right q (d ∷ ds) rising
+        between (p ∷ ps) rising = before_before (key_of q.left) (key_of p.left) (key_of d.left) (rising_next right q ((p ∷ ps) ++ d ∷ ds) rising) (further p ps (rising_rest right q ((p ∷ ps) ++ d ∷ ds) rising)) where
+          further : (p : Child) (ps : List Child) → AreRising right (p ∷ (ps ++ d ∷ ds)) → IsBefore (key_of p.left) (key_of d.left)
+          further p [] rising = rising_next right p (d ∷ ds) rising
+          further p (r ∷ rs) rising = before_before (key_of p.left) (key_of r.left) (key_of d.left) (rising_next right p ((r ∷ rs) ++ d ∷ ds) rising) (further r rs (rising_rest right p ((r ∷ rs) ++ d ∷ ds) rising))
+
+-- the mark among a child and those after it
+mark_cons : (map : PageMap) (height : ℕ) (k : Key) (c d : Child) (ds : List Child) → mark_under map height (c ∷ d ∷ ds) k ≡ (if starts_after k d then mark_under map height (c ∷ []) k else mark_under map height (d ∷ ds) k)
+mark_cons map height k c d ds = by_test (starts_after k d) where
+  by_test : (b : Bool) → mark_in map height (node_at map (if b then c else holder k d ds).child) k ≡ (if b then mark_in map height (node_at map c.child) k else mark_in map height (node_at map (holder k d ds).child) k)
+  by_test true = refl
+  by_test false = refl
+
+chosen : (b : Bool) (a a' m m' : ℕ) → a ≤ a' → m ≤ m' → (if b then a else m) ≤ (if b then a' else m')
+chosen true a a' m m' first second = first
+chosen false a a' m m' first second = second
+
+-- what an `or` with `false` says
+pub alone : (b c : Bool) → (b || false) ≡ (c || false) → b ≡ c
+alone true true is = refl
+alone true false is = is
+alone false true is = is
+alone false false is = refl
+
+pub alone_true : (b : Bool) → (b || false) ≡ true → b ≡ true
+alone_true true is = refl
+alone_true false is = is
+
+-- the marks of children that change, and of those after them that stay
+mark_before : (right : Base) (height : ℕ) (old new : PageMap) (key : Key) (id : ℕ) (b c : Child) (bs cs ds : List Child) → IsSameUnder old new height ds
+    → AreRising right ((b ∷ bs) ++ ds) → AreRising right ((c ∷ cs) ++ ds) → IsBefore key (key_of (next_left right ds))
+    → Marks key id (mark_under old height (b ∷ bs)) (mark_under new height (c ∷ cs)) → Marks key id (mark_under old height ((b ∷ bs) ++ ds)) (mark_under new height ((c ∷ cs) ++ ds))
+mark_before right height old new key id b c bs cs [] same rising up before marks =
+    let first = append-nil bs in
+    let second = append-nil cs in
+    record {
+      never_fall = λ k. rw (first, second) (marks.never_fall k);
+      reach = rw second marks.reach;
+    }
+mark_before right height old new key id b c bs cs (d ∷ ds) same rising up before marks =
+    record {
+      never_fall = λ k. by_test k (starts_after k d) refl;
+      reach = subst (λ (n : ℕ). id ≤ n) (sym (ap (λ (x : Child). mark_in new height (node_at new x.child) key) (holder_front key c d cs ds (ap is_lt before)))) marks.reach;
+    } where
+      by_test : (k : Key) (t : Bool) → starts_after k d ≡ t → mark_under old height ((b ∷ bs) ++ d ∷ ds) k ≤ mark_under new height ((c ∷ cs) ++ d ∷ ds) k
+      by_test k true is =
+          let first = ap (λ (x : Child). mark_in old height (node_at old x.child) k) (holder_front k b d bs ds is) in
+          let second = ap (λ (x : Child). mark_in new height (node_at new x.child) k) (holder_front k c d cs ds is) in
+          omega (arith, first, second, marks.never_fall k)
+      by_test k false is =
+          let first = ap (λ (x : Child). mark_in old height (node_at old x.child) k) (holder_back k right b d bs ds rising is) in
+          let second = ap (λ (x : Child). mark_in new height (node_at new x.child) k) (holder_back k right c d cs ds up is) in
+          omega (arith, first, second, under_mark old new height right (d ∷ ds) same k)
+
+module _ (f : List Element → List Element) (key : Key) (id level : ℕ) (right : Base) (height : ℕ) (old new : PageMap) (local : IsLocal f key) where
+  -- a child before those that change
+  pub changed_later : (c d e : Child) (ds es : List Child) → IsChild c → AreRising right (c ∷ d ∷ ds) → AreStored old height level right (c ∷ d ∷ ds) → IsFrom (key_of d.left) key
+      → ChangedUnder f key id level right height old new (d ∷ ds) (e ∷ es) → ChangedUnder f key id level right height old new (c ∷ d ∷ ds) (c ∷ e ∷ es)
+  changed_later c d e ds es child rising stored from change =
+      let same : IsSameUnder old new height (c ∷ []) = record { same = λ x is. change.pages.kept x
+          (first_apart old height x level right c (d ∷ ds) rising stored (alone_true (is_under old height x c) is)) (under_there old height x level d.left (c ∷ []) (stored.0, tt) is) } in
+      let one : AreStored new height level d.left (c ∷ []) = under_stored old new height d.left (c ∷ []) same level (stored.0, tt) in
+      let was : List Element = elements_in old height (node_at old c.child) in
+      let begins : AllByRecursion (λ x. IsBefore (element_key x) key) was =
+          each_so (λ x. IsInside c.left d.left (element_key x)) (λ x. IsBefore (element_key x) key) was
+          (λ x inside. key_before_from (element_key x) (key_of d.left) key inside.before from)
+          (elements_inside old height (child_place level d.left c) (node_at old c.child) stored.0.tree) in
+      let first : elements_in new height (node_at new c.child) ≡ was =
+          sym (append-nil (elements_in new height (node_at new c.child))) ∙ under_elements old new height d.left (c ∷ []) same ∙ append-nil was in
+      let later : (k : Key) → starts_after k e ≡ starts_after k d = λ k. ap (λ (b : Base). is_lt (key_cmp k (key_of b))) change.left in
+      record {
+        stored = (subst (λ (b : Base). IsStoredTree new height (child_place level b c)) (sym change.left) one.0, change.stored);
+        elements = ap (λ (l : List Element). l ++ elements_under new height (e ∷ es)) first ∙ ap (λ (l : List Element). was ++ l) change.elements
+            ∙ sym (local.front was (elements_under old height (d ∷ ds)) begins);
+        mark = record {
+          never_fall = λ k. rw (mark_cons old height k c d ds, mark_cons new height k c e es, later k)
+              (chosen (starts_after k d) (mark_under old height (c ∷ []) k) (mark_under new height (c ∷ []) k) (mark_under old height (d ∷ ds) k) (mark_under new height (e ∷ es) k)
+              (omega (arith, under_mark old new height d.left (c ∷ []) same k)) (change.mark.never_fall k));
+          reach = let at : holder key c (e ∷ es) ≡ holder key e es = holder_later key c e es (subst (λ (b : Base). IsFrom (key_of b) key) (sym change.left) from) in
+              subst (λ (n : ℕ). id ≤ n) (sym (ap (λ (x : Child). mark_in new height (node_at new x.child) key) at)) change.mark.reach;
+        };
+        pages = replaces_same old new (λ x. is_under old height x c || has_under old height (d ∷ ds) x) (λ x. is_under old height x c || has_under new height (e ∷ es) x)
+            (has_under old height (c ∷ d ∷ ds)) (has_under new height (c ∷ e ∷ es)) (λ x. refl)
+            (λ x. ap (λ (b : Bool). b || has_under new height (e ∷ es) x) (alone (is_under new height x c) (is_under old height x c) (under_has old new height d.left (c ∷ []) same x)))
+            (replaces_front old new (λ x. is_under old height x c) (has_under old height (d ∷ ds)) (has_under new height (e ∷ es)) change.pages);
+        left = refl;
+        rising = rising_cons right c (e ∷ es) (before_all c.left right (e ∷ es) change.rising (subst (λ (b : Base). IsBefore (key_of c.left) (key_of b)) (sym change.left) (rising_next right c (d ∷ ds) rising))) change.rising;
+        fields = (child, change.fields);
+      }
+
+  -- children after those that change
+  pub changed_before : (b c : Child) (bs cs ds : List Child) → AllByRecursion IsChild ds → AreRising right ((b ∷ bs) ++ ds) → AreStored old height level right ((b ∷ bs) ++ ds) → IsBefore key (key_of (next_left right ds))
+      → ChangedUnder f key id level (next_left right ds) height old new (b ∷ bs) (c ∷ cs) → ChangedUnder f key id level right height old new ((b ∷ bs) ++ ds) ((c ∷ cs) ++ ds)
+  changed_before b c bs cs ds children rising stored before change =
+      let after : AreStored old height level right ds = stored_back old height level right (b ∷ bs) ds stored in
+      let sorted : AreRising right ds = rising_back right (b ∷ bs) ds rising in
+      let same : IsSameUnder old new height ds = record { same = λ x is. change.pages.kept x
+          (later_apart old height x level right (b ∷ bs) ds rising stored is) (under_there old height x level right ds after is) } in
+      let was : List Element = elements_under old height ds in
+      let ends : AllByRecursion (λ x. IsBefore key (element_key x)) was =
+          each_so (λ x. IsInside (next_left right ds) right (element_key x)) (λ x. IsBefore key (element_key x)) was
+          (λ x inside. key_before_from key (key_of (next_left right ds)) (element_key x) before inside.from)
+          (inside_under old height level right ds sorted after) in
+      let up : AreRising right ((c ∷ cs) ++ ds) = rising_append right (c ∷ cs) ds change.rising sorted in
+      let one : Child → List Element = λ (x : Child). elements_in old height (node_at old x.child) in
+      let other : Child → List Element = λ (x : Child). elements_in new height (node_at new x.child) in
+      record {
+        stored = stored_append new height level right (c ∷ cs) ds change.stored (under_stored old new height right ds same level after);
+        elements = flat_map-append other (c ∷ cs) ds ∙ ap (λ (l : List Element). elements_under new height (c ∷ cs) ++ l) (under_elements old new height right ds same)
+            ∙ ap (λ (l : List Element). l ++ was) change.elements ∙ sym (local.back (elements_under old height (b ∷ bs)) was ends) ∙ ap f (sym (flat_map-append one (b ∷ bs) ds));
+        mark = mark_before right height old new key id b c bs cs ds same rising up before change.mark;
+        pages = replaces_same old new (λ x. has_under old height (b ∷ bs) x || has_under old height ds x) (λ x. has_under new height (c ∷ cs) x || has_under old height ds x)
+            (has_under old height ((b ∷ bs) ++ ds)) (has_under new height ((c ∷ cs) ++ ds)) (λ x. under_append old height x (b ∷ bs) ds)
+            (λ x. under_append new height x (c ∷ cs) ds ∙ ap (λ (t : Bool). has_under new height (c ∷ cs) x || t) (under_has old new height right ds same x))
+            (replaces_back old new (has_under old height ds) (has_under old height (b ∷ bs)) (has_under new height (c ∷ cs)) change.pages);
+        left = change.left;
+        rising = up;
+        fields = each_append IsChild (c ∷ cs) ds change.fields children;
+      }

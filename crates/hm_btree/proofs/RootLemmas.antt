@@ -1,0 +1,126 @@
+-- The root of a tree that changed.
+use Rattle.std.proofs.Common.{◌≡◌, ◌≢◌, Bool, true, false, true≢false, ◌||◌, ℕ, zero, suc, ◌+◌, ◌-◌, ◌<◌, ◌≤◌, ◌⊎◌, inl, inr, List, refl, sym, ap, subst, ◌∙◌, arith, nat_eq, eqb-true, eq-eqb, Some, None, Result, Err}
+use Rattle.std.specs.Prelude.{Option, IsSome, is_some, IsTrue, IfSome, IfErr, if◌then◌else◌}
+use Rattle.hm_types.specs.Elements.{Key}
+use Rattle.hm_types.specs.Faults.{HasFaultCause}
+use Rattle.hm_types.specs.declared.fault.Fault.{Fault}
+use Rattle.hm_fields.specs.Pages.{PageMap, page_in, HasPut, BothTell}
+use Rattle.hm_key.specs.Elements.{element_key, element_at}
+use Rattle.hm_key.specs.Stores.{IsUndamaged}
+use Rattle.hm_key.specs.declared.element.Element.{Element}
+use Rattle.hm_node.specs.Node.{node_in, level_of, IsNode, Spells}
+use Rattle.hm_node.specs.declared.node.Node.{Node}
+use Rattle.hm_search.specs.Place.{IsInside, SpellsHere, TellsDamage}
+use Rattle.hm_search.specs.Tree.{node_at, elements_in, mark_in, reaches, height_of, root_place, IsTree, IsStoredTree, IsSoundTree, IsWhole, elements_of, mark_of}
+use Rattle.hm_search.specs.declared.subtree.Subtree.{Subtree}
+use Rattle.hm_search.proofs.ContentLemmas.{elements_inside}
+use Rattle.hm_search.proofs.DamageLemmas.{tells_undamaged, stored_here, caused_since}
+use Rattle.hm_search.proofs.FrameLemmas.{IsSameBelow, frame_elements, frame_mark, frame_reaches, frame_tree}
+use Rattle.hm_search.proofs.ReachLemmas.{fails, not_below_itself}
+use Rattle.hm_btree.specs.Below.{Replaces, Changed, HasEditCause}
+use Rattle.hm_btree.specs.Space.{HasWritten, IsSpot}
+use Rattle.hm_btree.specs.Tree.{IsTreeSpace, TreeChanged, ChangesTree, HasTreeCause}
+use Rattle.hm_btree.proofs.LocalLemmas.{element_each}
+use Rattle.hm_btree.proofs.NodeLemmas.{not_reached}
+use Rattle.hm_btree.proofs.PutLemmas.{put_at, put_other, replaces_put, same_test, other_test}
+use Rattle.hm_btree.proofs.ToldLemmas.{Works}
+
+-- pages that are all that a call leaves
+pub whole_after : (olds news : ℕ → Bool) (old new : PageMap) → Replaces olds news old new → ((x : ℕ) → IsSome (old x) → olds x ≡ true) → (x : ℕ) → IsSome (new x) → news x ≡ true
+whole_after olds news old new replaces all x there = by_test (news x) refl where
+  by_test : (b : Bool) → news x ≡ b → b ≡ true
+  by_test true is = refl
+  by_test false is = let more = replaces.rest x there is in absurd (true≢false (sym (all x more.1) ∙ more.0))
+
+pub spots_after : (olds news : ℕ → Bool) (old new : PageMap) → Replaces olds news old new → ((x : ℕ) → IsSome (old x) → IsSpot x) → (x : ℕ) → IsSome (new x) → IsSpot x
+spots_after olds news old new replaces all x there = elim (replaces.spots x there) [ | inl was ↦ all x was | inr spot ↦ spot ]
+
+pub turned : (a b : ℕ) → nat_eq a b ≡ nat_eq b a
+turned a b = by_test (nat_eq a b) refl where
+  by_test : (t : Bool) → nat_eq a b ≡ t → t ≡ nat_eq b a
+  by_test true is = sym (eq-eqb b a (sym (eqb-true a b is)))
+  by_test false is = sym (other_test b a (λ same. true≢false (sym (eq-eqb a b (sym same)) ∙ is)))
+
+-- the root's node changed and is written
+module _ (f : List Element → List Element) (key : Key) (id root : ℕ) (old mid new : PageMap) (after : Node) where
+  pub root_written : IsTreeSpace old root → Changed f key id (root_place root) (height_of (node_at old root)) old mid (node_at old root) after → HasWritten root after mid new → TreeChanged f key id old new root root
+  root_written tree change (page, spells, put) =
+      let was : Node = node_at old root in
+      let h : ℕ = height_of was in
+      let itself : reaches old h was root ≡ false = not_below_itself old h (root_place root) was root tree.sound.tree refl in
+      let apart : reaches mid h after root ≡ false = not_reached old mid h was after change.pages root tree.sound.there itself in
+      let same : IsSameBelow mid new h after = record { same = λ x is. put_other root page mid new put x (λ one. true≢false (sym is ∙ ap (reaches mid h after) one ∙ apart)) } in
+      let there : new root ≡ Some page = put_at root page mid new put in
+      let here : node_at new root ≡ after = ap (λ (o : Option (List ℕ)). node_in (page_in o)) there ∙ spells.value in
+      let high : height_of (node_at new root) ≡ h = ap height_of here ∙ omega (arith, change.tree.level) in
+      let elements : elements_of new root ≡ elements_in mid h after =
+          ap (λ (n : ℕ). elements_in new n (node_at new root)) high ∙ ap (elements_in new h) here ∙ frame_elements mid new h after same in
+      let marks : (k : Key) → mark_of new root k ≡ mark_in mid h after k = λ k.
+          ap (λ (n : ℕ). mark_in new n (node_at new root) k) high ∙ ap (λ (n : Node). mark_in new h n k) here ∙ frame_mark mid new k h after same in
+      let reached : (x : ℕ) → reaches new (height_of (node_at new root)) (node_at new root) x ≡ reaches mid h after x = λ x.
+          ap (λ (n : ℕ). reaches new n (node_at new root) x) high ∙ ap (λ (n : Node). reaches new h n x) here ∙ frame_reaches mid new x h after same in
+      let replaces = replaces_put root page (reaches old h was) (reaches mid h after) old mid new put tree.sound.there change.pages in
+      record {
+        tree = record {
+          sound = subst (λ (n : ℕ). IsStoredTree new n (root_place root)) (sym high) (record {
+            there = rw there refl;
+            spelled = subst (λ (o : Option (List ℕ)). Spells (page_in o) (node_in (page_in o))) (sym there) (subst (λ (n : Node). Spells page n) (sym spells.value) spells);
+            tree = subst (λ (n : Node). IsTree new h (root_place root) n) (sym here) (frame_tree mid new h (root_place root) after same change.tree);
+          });
+          whole = λ x some. ap (λ (b : Bool). b || reaches new (height_of (node_at new root)) (node_at new root) x) (turned x root) ∙ ap (λ (b : Bool). nat_eq root x || b) (reached x)
+              ∙ whole_after (λ y. nat_eq root y || reaches old h was y) (λ y. nat_eq root y || reaches mid h after y) old new replaces
+              (λ y was_there. ap (λ (b : Bool). b || reaches old h was y) (turned root y) ∙ tree.whole y was_there) x some;
+          spots = spots_after (λ y. nat_eq root y || reaches old h was y) (λ y. nat_eq root y || reaches mid h after y) old new replaces tree.spots;
+        };
+        elements = elements ∙ change.elements;
+        mark = record {
+          never_fall = λ k. omega (arith, change.mark.never_fall k, marks k);
+          reach = omega (arith, change.mark.reach, marks key);
+        };
+      }
+
+-- the same where the pages are told
+pub root_works : (f : List Element → List Element) (key : Key) (id root : ℕ) (Needs : Option Element → Type 0) (More : Type 0) (p0 p1 p2 p3 : Option PageMap) (node after : Node)
+    → ((old : PageMap) → IsTreeSpace old root → Needs (element_at key (elements_of old root)) → More → IsInside (root_place root).left (root_place root).right key)
+    → p1 ≡ p0 → IfSome p0 (λ map. SpellsHere (root_place root) (page_in (map root)) node) → Works f key id Needs More p1 p2 node after → BothTell p2 p3 (HasWritten root after)
+    → ChangesTree f key id (λ es. Needs (element_at key es)) More p0 p3 root root
+root_works f key id root Needs More None p1 p2 p3 node after inside same here works written = tt
+root_works f key id root Needs More (Some old) p1 p2 p3 node after inside same here works written = λ tree needs more.
+    by_pages p2 p3 (subst (λ (p : Option PageMap). Works f key id Needs More p p2 node after) same works) written tree needs more where
+      by_pages : (p2 p3 : Option PageMap) → Works f key id Needs More (Some old) p2 node after → BothTell p2 p3 (HasWritten root after) → IsTreeSpace old root → Needs (element_at key (elements_of old root)) → More
+          → IfSome p3 (λ new. TreeChanged f key id old new root root)
+      by_pages None None works written tree needs more = tt
+      by_pages None (Some new) works written tree needs more = absurd written
+      by_pages (Some mid) None works written tree needs more = tt
+      by_pages (Some mid) (Some new) works written tree needs more =
+          let read : node_at old root ≡ node = here.spelled.value in
+          let h : ℕ = height_of (node_at old root) in
+          let change : Changed f key id (root_place root) h old mid node after =
+              works (root_place root) h (subst (λ (n : Node). IsTree old h (root_place root) n) read tree.sound.tree) (inside old tree needs more)
+              (subst (λ (n : Node). Needs (element_at key (elements_in old h n))) read needs) more in
+          root_written f key id root old mid new after tree (subst (λ (n : Node). Changed f key id (root_place root) h old mid n after) (sym read) change) written
+
+-- an element that is there stands inside the boundaries of the whole tree
+pub there_inside : (root : ℕ) (key : Key) (old : PageMap) → IsTreeSpace old root → IsSome (element_at key (elements_of old root)) → IsInside (root_place root).left (root_place root).right key
+there_inside root key old tree there =
+    let some = element_each (λ e. IsInside (root_place root).left (root_place root).right (element_key e)) key (elements_of old root)
+        (elements_inside old (height_of (node_at old root)) (root_place root) (node_at old root) tree.sound.tree) there in
+    subst (λ (k : Key). IsInside (root_place root).left (root_place root).right k) some.1 some.2
+
+-- the cause of a fault of the first read, and of one further down
+pub root_cause_read : (told : Option PageMap) (root old new : ℕ) (fault : Fault) → HasFaultCause {T = Node} old new (Err fault) → IfSome told (λ map. TellsDamage (root_place root) (page_in (map root)) fault) → HasTreeCause {T = Unit {0}} told root old new (Err fault)
+root_cause_read told root old new fault counted damage = record { counted = record { never_falls = counted.never_falls; caused = counted.caused }; undamaged = if_told told damage } where
+  if_told : (o : Option PageMap) → IfSome o (λ map. TellsDamage (root_place root) (page_in (map root)) fault) → IfSome o (λ map. IsSoundTree map root → IsUndamaged fault)
+  if_told None damage = tt
+  if_told (Some map) damage = λ sound. tells_undamaged (root_place root) (page_in (map root)) (node_at map root) fault (stored_here map (height_of (node_at map root)) (root_place root) sound) damage
+
+pub root_cause_below : {T U : Type 0} (told now : Option PageMap) (root old mid new : ℕ) (node : Node) (fault : Fault) → now ≡ told → old ≤ mid → IfSome told (λ map. SpellsHere (root_place root) (page_in (map root)) node)
+    → HasEditCause {T = T} now node mid new (Err fault) → HasTreeCause {T = U} told root old new (Err fault)
+root_cause_below told now root old mid new node fault same low here cause = record {
+  counted = record { never_falls = omega (arith, cause.counted.never_falls); caused = caused_since old mid new fault low cause.counted.caused };
+  undamaged = if_told told here (subst (λ (o : Option PageMap). IfSome o (λ map. (place : Subtree) (height : ℕ) → IsTree map height place node → IsUndamaged fault)) same cause.undamaged);
+} where
+  if_told : (o : Option PageMap) → IfSome o (λ map. SpellsHere (root_place root) (page_in (map root)) node) → IfSome o (λ map. (place : Subtree) (height : ℕ) → IsTree map height place node → IsUndamaged fault)
+      → IfSome o (λ map. IsSoundTree map root → IsUndamaged fault)
+  if_told None here more = tt
+  if_told (Some map) here more = λ sound. more (root_place root) (height_of (node_at map root)) (subst (λ (n : Node). IsTree map (height_of (node_at map root)) (root_place root) n) here.spelled.value sound.tree)

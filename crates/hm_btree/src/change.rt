@@ -1,0 +1,123 @@
+// Changes of an element that stays where it is.
+ghost use Rattle.std.specs.Prelude.{◌≡◌, ◌<◌, ℕ, max, OnOk, IfSome, IsSome, IsTrue, is_some};
+ghost use Rattle.arrayvec.specs.ArrayVec.{array_vec_len};
+ghost use Rattle.hm_key.specs.Elements.{element_at};
+ghost use Rattle.hm_key.specs.Key.{key_of};
+ghost use Rattle.hm_key.specs.Places.{leading};
+ghost use Rattle.hm_node.specs.Leaf.{HasLeafOrder};
+ghost use Rattle.hm_node.specs.Node.{IsNode};
+ghost use Rattle.hm_search.specs.Place.{IsInside};
+ghost use Rattle.hm_search.specs.Tree.{elements_in, IsTree};
+ghost use Rattle.hm_search.specs.declared.subtree.Subtree.{Subtree as Place};
+ghost use Rattle.hm_btree.specs.Below.{Changed, HasEditCause};
+ghost use Rattle.hm_btree.specs.Change.{change_of, id_of, with_change, MayChange};
+ghost use Rattle.hm_btree.specs.Edits.{ElementChange};
+ghost use Rattle.hm_btree.specs.Tree.{ChangesTree, HasTreeCause};
+
+use crate::inner_edit::set_mirror;
+use crate::leaf_edit::{close_element, move_payload};
+use crate::node_edit::{mirror, write_node};
+use crate::space::NodeSpace;
+use hm_key::Base;
+use hm_node::{Leaf, Node};
+use hm_search::{Subtree, child_place, leaf_place, read_node};
+use hm_types::{Fault, HOff};
+use std::cmp::Ordering;
+
+/// What becomes of an element.
+#[derive(Clone, Copy, Debug)]
+pub enum Change {
+    /// It is closed at this id, or opened where that is 0.
+    Close(u64),
+    /// Its payload stands here.
+    Move(HOff),
+}
+
+/// Changes the element at the key of `at` in the tree from a root on.
+pub fn change_element<S: NodeSpace>(
+    space: &mut S,
+    root: HOff,
+    at: &Base,
+    change: Change,
+) -> Result<(), Fault>
+    ensures ok { OnOk result (ChangesTree (with_change (key_of at.now) change) (key_of at.now)
+        (id_of change) (λ es. IsSome (element_at (key_of at.now) es))
+        (MayChange (key_of at.now) change)
+        (S.pages space.old) (S.pages space.new) root root) }
+    ensures told { OnOk result (is_some (S.pages space.new) ≡ is_some (S.pages space.old)) }
+    ensures rest { S.rest space.new ≡ S.rest space.old }
+    ensures name { S.name space.new ≡ S.name space.old }
+    ensures cause { HasTreeCause (S.pages space.old) root
+        (S.faults space.old) (S.faults space.new) result }
+{
+    let place = Subtree::root(root);
+    let mut node = read_node(space, &place)?;
+    change_in(space, &mut node, at, change)?;
+    write_node(space, root, &node)
+}
+
+// Changes the element at the key of `at` below a node, which is not written.
+fn change_in<S: NodeSpace>(
+    space: &mut S,
+    node: &mut Node,
+    at: &Base,
+    change: Change,
+) -> Result<(), Fault>
+    requires { IsNode node.old }
+    ensures ok { IfSome (S.pages space.old) (λ old. (place : Place) (height : ℕ) →
+        IsTree old height place node.old → IsInside place.left place.right (key_of at.now) →
+        IsSome (element_at (key_of at.now) (elements_in old height node.old)) →
+        MayChange (key_of at.now) change → OnOk result (IfSome (S.pages space.new) (λ new.
+        Changed (with_change (key_of at.now) change) (key_of at.now) (id_of change)
+        place height old new node.old node.new))) }
+    ensures told { OnOk result (is_some (S.pages space.new) ≡ is_some (S.pages space.old)) }
+    ensures rest { S.rest space.new ≡ S.rest space.old }
+    ensures name { S.name space.new ≡ S.name space.old }
+    ensures cause { HasEditCause (S.pages space.old) node.old
+        (S.faults space.old) (S.faults space.new) result }
+{
+    match node {
+        Node::Leaf(leaf) => {
+            let place = leaf_place(leaf, at);
+            if has_element(leaf, place, at) {
+                change_at(leaf, place, change);
+            }
+            Ok(())
+        }
+        Node::Inner(inner) => {
+            let i = child_place(inner, at);
+            let place = Subtree::child(inner, i);
+            let mut child = read_node(space, &place)?;
+            change_in(space, &mut child, at, change)?;
+            write_node(space, place.at, &child)?;
+            set_mirror(inner, i, mirror(&child));
+            Ok(())
+        }
+    }
+}
+
+// Changes the element at a place of a leaf.
+fn change_at(leaf: &mut Leaf, place: usize, change: Change)
+    requires { place < array_vec_len leaf.old.places }
+    ensures mirror { leaf.new.mirror ≡ max leaf.old.mirror (id_of change) }
+    ensures items { ElementChange (change_of change)
+        leaf.old.places.items place leaf.new.places.items }
+{
+    match change {
+        Change::Close(delete) => close_element(leaf, place, delete),
+        Change::Move(to) => move_payload(leaf, place, to),
+    }
+}
+
+/// Whether an element stands at the key of `at` in a leaf. Before that key stand so many.
+pub fn has_element(leaf: &Leaf, place: usize, at: &Base) -> bool
+    requires order { HasLeafOrder leaf.now }
+    requires place { place ≡ leading (key_of at.now) leaf.now.places.items }
+    ensures value { result ≡ is_some (element_at (key_of at.now) leaf.now.places.items) }
+    ensures within { IsTrue result → place < array_vec_len leaf.now.places }
+{
+    match leaf.places.get(place) {
+        Some(element) => element.base.order(at) == Ordering::Equal,
+        None => false,
+    }
+}
