@@ -127,5 +127,4 @@ impl<S: NodeSpace> BTree<S> {
 #[inline]
 fn known_offset(at: HOff)
     ensures { IsOffset at }
-{
-}
+{}

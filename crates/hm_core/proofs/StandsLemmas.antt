@@ -48,9 +48,9 @@ HoldsAt-one bytes place last ds es small kept other held also =
     let a = begins_there bytes place ds held in
     let b = begins_there bytes place es also in
     let fronts : (little_bytes 8 (length ds) ≡ little_bytes 8 (length es)) × (entry_bytes ds ++ a.0 ≡ entry_bytes es ++ b.0) =
-        same_fronts (little_bytes 8 (length ds)) (little_bytes 8 (length es)) (entry_bytes ds ++ a.0) (entry_bytes es ++ b.0) (omega (arith, length-bytes_low_first 0 8 (length ds), length-bytes_low_first 0 8 (length es))) (sym a.1 ∙ b.1) in
+    same_fronts (little_bytes 8 (length ds)) (little_bytes 8 (length es)) (entry_bytes ds ++ a.0) (entry_bytes es ++ b.0) (omega (arith, length-bytes_low_first 0 8 (length ds), length-bytes_low_first 0 8 (length es))) (sym a.1 ∙ b.1) in
     let long : length ds ≡ length es =
-        sym (little_number-reads_back 8 (length ds) [] (omega (arith, kept.few))) ∙ (ap (λ xs. little_from 0 8 (xs ++ [])) fronts.0 ∙ little_number-reads_back 8 (length es) [] (omega (arith, other.few))) in
+    sym (little_number-reads_back 8 (length ds) [] (omega (arith, kept.few))) ∙ (ap (λ xs. little_from 0 8 (xs ++ [])) fronts.0 ∙ little_number-reads_back 8 (length es) [] (omega (arith, other.few))) in
     let longer = begins_longer ds es a.0 b.0 (may_stand last ds small (recursion_from_All (IsDirectory last) ds kept.each)) (may_stand last es small (recursion_from_All (IsDirectory last) es other.each)) fronts.1 (omega (arith, long)) in
     sym (longer.1 ∙ nothing_more ds longer.0 (sym (long ∙ ap length longer.1)))
 
@@ -60,7 +60,7 @@ StandsFor-one bytes v w a b =
     let header_is : b.header ≡ a.header = (chosen_is_one (first_slot bytes) (second_slot bytes) (length bytes) b.header a.header b.number a.number b.stands.header_is a.stands.header_is).0 in
     let also : HasList bytes a.header b.directories = subst (λ h. HasList bytes h b.directories) header_is b.stands.list in
     let list_is : a.directories ≡ b.directories =
-        HoldsAt-one bytes (list_place a.header.bigblocks a.header.generation) a.header.last.0 a.directories b.directories (omega (arith, a.stands.header_is.in_range.last.1)) a.stands.list.kept also.kept a.stands.list.held also.held in
+    HoldsAt-one bytes (list_place a.header.bigblocks a.header.generation) a.header.last.0 a.directories b.directories (omega (arith, a.stands.header_is.in_range.last.1)) a.stands.list.kept also.kept a.stands.list.held also.held in
     a.volume_is ∙ (ap (λ ds. volume_of a.header.bigblocks a.header.last.0 ds) list_is ∙ (ap (λ (h : Header). volume_of h.bigblocks h.last.0 b.directories) (sym header_is) ∙ sym b.volume_is))
 
 -- no header is to be had from bytes

@@ -136,9 +136,9 @@ in_order-entered : (opening : Volume) (lines : List Line) (history : List Entry)
 in_order-entered opening lines history e so_far legal follows below a b has_a has_b before =
     elim (Contains-append_cases history (e ∷ []) a has_a) [
       | inl old_a ↦ elim (Contains-append_cases history (e ∷ []) b has_b) [
-            | inl old_b ↦ so_far.in_order a b old_a old_b before
-            | inr new_b ↦ rw (← only_one e b new_b) (omega (arith, follows.id, id_up_to_last opening history legal a old_a))
-          ]
+        | inl old_b ↦ so_far.in_order a b old_a old_b before
+        | inr new_b ↦ rw (← only_one e b new_b) (omega (arith, follows.id, id_up_to_last opening history legal a old_a))
+      ]
       | inr new_a ↦ let is_a : e ≡ a = only_one e a new_a in
           elim (Contains-append_cases history (e ∷ []) b has_b) [
             | inl old_b ↦ absurd (omega (arith, entries_below opening lines history e.line so_far below b old_b, ap (λ f. f.line) is_a, before))
@@ -167,10 +167,10 @@ Answers-entered opening lines history e so_far legal follows below =
       owned = λ f has. elim (Contains-append_cases history (e ∷ []) f has) [
         | inl old ↦ let owner = so_far.owned f old in (owner.0, Contains-append_left lines (line_of e ∷ []) owner.0 owner.1, owner.2)
         | inr new ↦ let is : e ≡ f = only_one e f new in (
-              line_of e,
-              Contains-append_right lines (line_of e ∷ []) (line_of e) (0, lit< tt, refl),
-              rw (← is) (record { lane = refl; number = refl; command = refl }),
-            )
+          line_of e,
+          Contains-append_right lines (line_of e ∷ []) (line_of e) (0, lit< tt, refl),
+          rw (← is) (record { lane = refl; number = refl; command = refl }),
+        )
       ];
       in_order = in_order-entered opening lines history e so_far legal follows below;
     }
