@@ -103,7 +103,8 @@ IsWriteCause before after (BadLine number) = ⊥
 IsWriteCause before after TooLong = ⊥
 
 -- A run stopped on an open volume: at a line, and nothing was written; or as the volume was written back.
-abbrev pub StoppedFrom : List ℕ → Volume → Seen Told → Seen Told → Seen (List ℕ) → Seen (List ℕ) → Stop → Type 0
+abbrev pub StoppedFrom : List ℕ → Volume → Seen Told → Seen Told → Seen (List ℕ) → Seen (List ℕ) → Stop
+    → Type 0
 StoppedFrom script opening opened new_disk old_out new_out stop =
     ((text : List ℕ) × AnswersInPart script text opening × Gains old_out.told text new_out.told
     × (new_disk.told ≡ opened.told) × IsOutCause old_out.faults new_out.faults stop)
@@ -120,7 +121,8 @@ pub record StoppedUsing (newfs : Option ℕ) (script : List ℕ) (old_disk new_d
   pub stops : StoppedFrom script opening opened new_disk old_out new_out stop
 
 -- a run stopped before a volume was open, and nothing was printed, or with an open volume
-abbrev pub StoppedRunning : Option ℕ → List ℕ → Seen Told → Seen Told → Seen (List ℕ) → Seen (List ℕ) → Stop → Type 0
+abbrev pub StoppedRunning : Option ℕ → List ℕ → Seen Told → Seen Told → Seen (List ℕ) → Seen (List ℕ)
+    → Stop → Type 0
 StoppedRunning newfs script old_disk new_disk old_out new_out stop =
     (StoppedOpening newfs old_disk new_disk stop × (new_out ≡ old_out))
     ⊎ StoppedUsing newfs script old_disk new_disk old_out new_out stop

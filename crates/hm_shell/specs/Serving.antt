@@ -37,7 +37,8 @@ IsOutCause before after TooLong = ⊥
 module _ {D I O : Type 0} where
   -- The texts are some lines, which the core's whole history answers, and the sink gained what they
   -- print.
-  pub record Served (texts : List (List ℕ)) (core : CoreState D I O) (old new : Option (List ℕ)) : Type 0 where
+  pub record Served (texts : List (List ℕ)) (core : CoreState D I O) (old new : Option (List ℕ))
+      : Type 0 where
     pub lines : List Line
     pub reads : ReadsFrom 1 texts lines
     pub legal : IsLegal core.opening core.history
@@ -88,7 +89,8 @@ module _ {D I O : Type 0} where
     pub same : new ≡ old
 
   -- one line was run and printed: it is a remark, or it was answered, or it found no id left
-  abbrev pub ServesLine : CoreState D I O → CoreState D I O → ℕ → List ℕ → Option (List ℕ) → Option (List ℕ) → Type 0
+  abbrev pub ServesLine : CoreState D I O → CoreState D I O → ℕ → List ℕ → Option (List ℕ)
+      → Option (List ℕ) → Type 0
   ServesLine old new number text held holds =
       (IsTrue (is_remark text) × (new ≡ old) × (holds ≡ held))
       ⊎ (((e : Entry) × Calls old new number text e × Gains held (entry_text e) holds)
@@ -96,7 +98,8 @@ module _ {D I O : Type 0} where
 
   -- why a line was not served to its end: memory ran out before its call, or it was called and not
   -- printed
-  abbrev pub StoppedServing : CoreState D I O → CoreState D I O → ℕ → List ℕ → Seen (List ℕ) → Seen (List ℕ) → Stop → Type 0
+  abbrev pub StoppedServing : CoreState D I O → CoreState D I O → ℕ → List ℕ → Seen (List ℕ)
+      → Seen (List ℕ) → Stop → Type 0
   StoppedServing old new number text old_out new_out stop =
       ((new ≡ old) × (new_out.told ≡ old_out.told) × (stop ≡ NoMemory))
       ⊎ (((e : Entry) × Calls old new number text e × StoppedPrinting (entry_text e) old_out new_out stop)

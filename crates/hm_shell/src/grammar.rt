@@ -20,7 +20,8 @@ const LS: &[u8] = b"ls ";
 /// A line outside the grammar, by its number, counted from 1.
 pub(crate) struct BadLine(pub(crate) u32);
 
-/// Cuts the first line off: its text, without the line feed that ends it, and what comes after that.
+/// Cuts the first line off: its text, without the line feed that ends it, and what comes after
+/// that.
 pub(crate) fn split_line(script: &[u8]) -> (&[u8], &[u8])
     requires { 0 < length script.now }
     ensures texts { texts_of script.now ≡ result.0.now ∷ texts_of result.1.now }

@@ -63,8 +63,8 @@ fn entry_line(alloc: Global, entry: &Entry) -> Result<Vec<u8>, NoMemory>
     Ok(line)
 }
 
-/// Prints the last line of a run that stops, if it has one. It takes no memory, and a fault of the sink
-/// cuts the line short.
+/// Prints the last line of a run that stops, if it has one. It takes no memory, and a fault of the
+/// sink cuts the line short.
 pub(crate) fn print_last<K: Sink>(stop: Stop, out: &mut K)
     ensures line { Prints [] (last_line stop)
         (seen K.held K.faults out.old) (seen K.held K.faults out.new) }

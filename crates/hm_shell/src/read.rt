@@ -12,8 +12,8 @@ use std::alloc::{AllocError, Global};
 // How many bytes are asked for at a time.
 const PIECE_BYTES: usize = 65_536;
 
-/// Reads the script to its end. It stops at a fault of the source, at the first piece that makes the
-/// script too long, and where memory runs out.
+/// Reads the script to its end. It stops at a fault of the source, at the first piece that makes
+/// the script too long, and where memory runs out.
 pub(crate) fn read_script<S: Source>(alloc: Global, source: &mut S) -> Result<Vec<u8>, Stop>
     ensures ok { IfOk result (λ script.
         WasRead (seen S.left S.faults source.old) (seen S.left S.faults source.new) script.items) }

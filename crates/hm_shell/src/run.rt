@@ -19,18 +19,18 @@ use std::alloc::Global;
 use std::sync::Wait;
 use std::thread::Threads;
 
-/// Reads the words and the script, makes a volume on the disk where the words ask for one, opens the
-/// disk's volume, runs the script's lines one after another, prints each reply before the next line is
-/// run, and writes the volume back.
+/// Reads the words and the script, makes a volume on the disk where the words ask for one, opens
+/// the disk's volume, runs the script's lines one after another, prints each reply before the next
+/// line is run, and writes the volume back.
 ///
-/// It ends with status 0 once each line was answered and the volume is on the disk. Else it ends at the
-/// first of these that it meets: words that break the rule (2), a fault of the script's source (5), a
-/// script that is too long (9), a line that is none of the grammar (8), a disk that fails (4), that has
-/// no volume or one whose header is out of range (3), or whose directories are damaged (10), a fault of
-/// the sink (6), and want of memory outside a call's own reply (7). It then prints a last line, but for
-/// a fault of the sink, which ends it in silence. A fault of the sink in the last line leaves the status
-/// as it is. Nothing is written to the disk before words and script were found good, and after a fault of
-/// the sink.
+/// It ends with status 0 once each line was answered and the volume is on the disk. Else it ends
+/// at the first of these that it meets: words that break the rule (2), a fault of the script's
+/// source (5), a script that is too long (9), a line that is none of the grammar (8), a disk that
+/// fails (4), that has no volume or one whose header is out of range (3), or whose directories are
+/// damaged (10), a fault of the sink (6), and want of memory outside a call's own reply (7). It
+/// then prints a last line, but for a fault of the sink, which ends it in silence. A fault of the
+/// sink in the last line leaves the status as it is. Nothing is written to the disk before words
+/// and script were found good, and after a fault of the sink.
 ///
 /// The streams are handed back as they are, and the gate is not called.
 pub fn run<
@@ -63,7 +63,8 @@ pub fn run<
     // The streams are those that were given, and no count of faults falls.
     ensures stream_in { result.devices.stream_in ≡ devices.stream_in }
     ensures stream_out { result.devices.stream_out ≡ devices.stream_out }
-    ensures counts { Between D.told D.faults S.left S.faults K.held K.faults devices result.devices NeverFall }
+    ensures counts { Between D.told D.faults S.left S.faults K.held K.faults devices result.devices
+        NeverFall }
 {
     let (mut devices, outcome) = perform(rt.alloc(), words, devices);
     let status = end(outcome, &mut devices.out);
@@ -84,7 +85,8 @@ fn perform<D: Disk, S: Source, K: Sink, I, O>(
         (λ old new. Stops (texts words.now) old new stop)) }
     ensures stream_in { result.0.stream_in ≡ devices.stream_in }
     ensures stream_out { result.0.stream_out ≡ devices.stream_out }
-    ensures counts { Between D.told D.faults S.left S.faults K.held K.faults devices result.0 NeverFall }
+    ensures counts { Between D.told D.faults S.left S.faults K.held K.faults devices result.0
+        NeverFall }
 {
     let Devices {
         disk,

@@ -24,8 +24,8 @@ pub(crate) struct Closed<D, I, O> {
     pub(crate) outcome: Result<(), Stop>,
 }
 
-/// Makes a volume where that is asked for, opens the volume of the disk, runs the script's lines, and
-/// writes the volume back.
+/// Makes a volume where that is asked for, opens the volume of the disk, runs the script's lines,
+/// and writes the volume back.
 pub(crate) fn run_job<D: Disk, I, O, K: Sink>(
     alloc: Global,
     job: &Job,

@@ -15,8 +15,8 @@ struct Words<'a> {
 
 /// The plan that the words of the command line give, without the program's own name.
 ///
-/// They are VOLUME alone, or with `--newfs BIGBLOCKS` before or after it. `PlanFault::Usage` says that
-/// they are not; `PlanFault::NoMemory` that an allocation was refused.
+/// They are VOLUME alone, or with `--newfs BIGBLOCKS` before or after it. `PlanFault::Usage` says
+/// that they are not; `PlanFault::NoMemory` that an allocation was refused.
 pub fn plan(alloc: Global, words: &[String]) -> Result<Plan, PlanFault>
     ensures ok { IfOk result (IsPlanned (texts words.now)) }
     ensures err { IfErr result (IsPlanFault (texts words.now)) }
@@ -33,8 +33,8 @@ pub fn plan(alloc: Global, words: &[String]) -> Result<Plan, PlanFault>
     })
 }
 
-/// The size of a new volume in big-blocks, if the words ask for one. None where they break the rule. It
-/// takes no memory.
+/// The size of a new volume in big-blocks, if the words ask for one. None where they break the
+/// rule. It takes no memory.
 pub(crate) fn planned_size(words: &[String]) -> Option<Option<u32>>
     ensures { MatchOption result (IsUsageFault (texts words.now))
         (λ newfs. (volume : List ℕ) × IsPlan (texts words.now) volume newfs) }
