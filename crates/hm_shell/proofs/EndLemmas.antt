@@ -1,15 +1,14 @@
 -- How a run ended, and what its status says.
-use Rattle.std.proofs.Common.{◌≡◌, ◌≢◌, ◌↔◌, ℕ, ◌≤◌, List, [], ◌∷◌, refl, sym, ◌∙◌, ap, subst, inl, inr, arith, lit<}
-use Rattle.std.specs.Prelude.{◌⊎◌, Contains, Err, IfErr, IfSome, Ok, OnOk, Option, Some, None, Result}
-use Rattle.hm_types.specs.declared.limits.TheConstants.{LEAST_BIGBLOCKS, MOST_BIGBLOCKS}
+use Rattle.std.proofs.Common.{◌≡◌, ◌≢◌, ◌↔◌, ℕ, List, [], refl, sym, ◌∙◌, ap, subst, inl, inr, arith, lit<}
+use Rattle.std.specs.Prelude.{◌⊎◌, Err, IfErr, IfSome, Ok, OnOk, Option, Some, None, Result}
 use Rattle.hm_shell.specs.declared.job.Job.{Job}
 use Rattle.hm_shell.specs.declared.stop.Stop.{Stop}
 use Rattle.hm_shell.specs.declared.stop.Stop.TheVariants.{Usage, NotVolume, BadField, DiskFault, Damaged, ScriptFault, OutFault, NoMemory, BadLine, TooLong}
 use Rattle.hm_shell.specs.Devices.{Sight}
 use Rattle.hm_shell.specs.Exact.{IsStatus}
-use Rattle.hm_shell.specs.Preparing.{StoppedPreparing, WasPrepared}
+use Rattle.hm_shell.specs.Preparing.{WasPrepared}
 use Rattle.hm_shell.specs.Printing.{Prints}
-use Rattle.hm_shell.specs.Run.{Completes, Ends, Stops, StopsLater, StopsWith}
+use Rattle.hm_shell.specs.Run.{Completes, Stops, StopsLater, StopsWith}
 use Rattle.hm_shell.specs.Running.{IsDue, IsNewSize}
 use Rattle.hm_shell.specs.Seen.{Seen}
 use Rattle.hm_shell.specs.Stop.{last_line, status_of}

@@ -1,18 +1,16 @@
 -- Which status the words, the script and the disk bring.
-use Rattle.std.proofs.Common.{◌≡◌, ℕ, ◌+◌, ◌<◌, ◌≤◌, List, [], ◌∷◌, ◌++◌, Option, Some, None, length, refl, sym, ◌∙◌, ap, subst, inl, inr, arith, lit<, length-append}
-use Rattle.std.specs.Prelude.{All, Contains, IfSome, ◌⊎◌}
+use Rattle.std.proofs.Common.{◌≡◌, ℕ, ◌+◌, ◌<◌, List, [], ◌∷◌, ◌++◌, Option, Some, None, length, refl, sym, ◌∙◌, ap, subst, inl, inr, arith, lit<, length-append}
+use Rattle.std.specs.Prelude.{All, Contains, IfSome}
 use Rattle.std.specs.List.{AllByRecursion}
 use Rattle.std.proofs.lemmas.Bool.{true≢false}
 use Rattle.std.proofs.lemmas.List.Elements.{recursion_from_All}
-use Rattle.hm_types.specs.declared.limits.TheConstants.{MOST_SCRIPT_BYTES, MOST_SCRIPT_LINES}
 use Rattle.hm_pipe.specs.Pipe.{Gives, IsAtEnd}
 use Rattle.hm_disk.specs.Crash.{Told}
 use Rattle.hm_model.specs.Lines.{texts_of}
 use Rattle.hm_model.specs.Script.{IsTooLong}
 use Rattle.hm_model.specs.Volume.{Volume}
 use Rattle.hm_model.specs.Served.Lines.{IsFirstBad, IsLine}
-use Rattle.hm_core.specs.Open.{HasBrokenList, IsOpenFault, IsTooSmall}
-use Rattle.hm_core.specs.Stands.{StandsFor}
+use Rattle.hm_core.specs.Open.{HasBrokenList, IsTooSmall}
 use Rattle.hm_core.proofs.StandsLemmas.{HasBrokenList-header, HasNoHeader, StandsFor-header, StandsFor-unbroken, no_header_at_all, no_header_in_range}
 use Rattle.hm_shell.specs.declared.stop.Stop.{Stop}
 use Rattle.hm_shell.specs.declared.stop.Stop.TheVariants.{Usage, NotVolume, BadField, DiskFault, Damaged, ScriptFault, OutFault, NoMemory, BadLine, TooLong}
@@ -21,11 +19,10 @@ use Rattle.hm_shell.specs.Exact.{Brings, DiskBrings, ScriptBrings}
 use Rattle.hm_shell.specs.Opening.{GivesNone, OpensOn, StoppedOpening}
 use Rattle.hm_shell.specs.Preparing.{IsPrepared, StoppedPreparing}
 use Rattle.hm_shell.specs.Reading.{WasRead}
-use Rattle.hm_shell.specs.Run.{Stops, StopsLater}
+use Rattle.hm_shell.specs.Run.{Stops}
 use Rattle.hm_shell.specs.Running.{StoppedFrom, StoppedRunning}
 use Rattle.hm_shell.specs.Seen.{Seen}
 use Rattle.hm_shell.specs.Stop.{status_of}
-use Rattle.hm_shell.specs.Words.{HasPlan, IsPlan, IsUsageFault}
 use Rattle.hm_shell.proofs.EndLemmas.{HasEnded}
 use Rattle.hm_shell.proofs.LinesLemmas.{second_good}
 use Rattle.hm_shell.proofs.ReadLemmas.{lines_of_front}

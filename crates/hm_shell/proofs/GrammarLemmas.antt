@@ -1,6 +1,6 @@
 -- Lines, from what the searches of the code found.
 use Rattle.std.proofs.Common.{◌≡◌, ◌≢◌, ℕ, ◌+◌, ◌-◌, ◌<◌, ◌↔◌, Bool, true, false, IsTrue, List, [], ◌∷◌, ◌++◌, length, get_or, take, drop, refl, sym, ◌∙◌, ap, subst, inl, inr, arith, add-one, codes, eqb, is_some}
-use Rattle.std.specs.Prelude.{MatchBool, MatchOption, Option, Some, None, ◌⊎◌}
+use Rattle.std.specs.Prelude.{MatchBool, MatchOption, Option, Some, None}
 use Rattle.std.proofs.Math.Seq.{take-length}
 use Rattle.std.proofs.lemmas.List.{append_cancel_left, length-drop}
 use Rattle.std.proofs.lemmas.Bool.{false≢true}

@@ -1,13 +1,12 @@
 -- From the lines that were served to the run of a script on an open volume.
-use Rattle.std.proofs.Common.{◌≡◌, ℕ, ◌+◌, ◌≤◌, List, [], ◌∷◌, ◌++◌, length, take, refl, sym, ◌∙◌, ap, append_assoc, subst, inl, inr, arith}
-use Rattle.std.specs.Prelude.{All, Option, Result, Ok, Err, OnOk, OnErr, IfErr}
+use Rattle.std.proofs.Common.{ℕ, ◌+◌, List, ◌++◌, length, take, refl, sym, ◌∙◌, ap, append_assoc, subst, inl, inr}
+use Rattle.std.specs.Prelude.{All, Option, Result, Ok, Err, OnOk, IfErr}
 use Rattle.std.specs.List.{AllByRecursion}
 use Rattle.std.proofs.lemmas.List.Elements.{recursion_from_All}
 use Rattle.hm_types.specs.Faults.{IsCaused}
 use Rattle.hm_types.specs.declared.fault.Fault.{Fault}
 use Rattle.hm_types.specs.declared.fault.Fault.TheVariants.{Media as media, Damaged as damage, NoMemory as no_memory}
 use Rattle.hm_disk.specs.Crash.{Told}
-use Rattle.hm_model.specs.Volume.{Volume}
 use Rattle.hm_model.specs.Lines.{texts_of}
 use Rattle.hm_model.specs.Served.Lines.{IsLine, ReadsFrom}
 use Rattle.hm_model.specs.Served.Out.{out_text}

@@ -1,6 +1,6 @@
 -- Lines that are served from the front.
 use Rattle.std.proofs.Common.{◌≡◌, ℕ, suc, ◌+◌, ◌*◌, ◌<◌, ◌≤◌, List, [], ◌∷◌, ◌++◌, length, take, refl, subst, sym, ◌∙◌, ap, inl, inr, arith, append_assoc, length-append}
-use Rattle.std.specs.Prelude.{All, IfErr, IsTrue, OnOk, Option, Some, Result, Ok, Err, ◌⊎◌}
+use Rattle.std.specs.Prelude.{All, IfErr, IsTrue, OnOk, Option, Some, Result, Ok, Err}
 use Rattle.hm_types.specs.declared.limits.TheConstants.{GREATEST_ID}
 use Rattle.hm_pipe.specs.Pipe.{Gains}
 use Rattle.hm_pipe.proofs.PipeLemmas.{Gains-none, Gains-append}
@@ -10,7 +10,7 @@ use Rattle.hm_model.specs.Lines.{texts_of}
 use Rattle.hm_model.specs.Script.{is_remark}
 use Rattle.hm_model.specs.Volume.{Volume}
 use Rattle.hm_model.specs.Served.After.{after}
-use Rattle.hm_model.specs.Served.Legal.{IsLegal, MayFollow}
+use Rattle.hm_model.specs.Served.Legal.{IsLegal}
 use Rattle.hm_model.specs.Served.Lines.{IsLine, Line, Reads, ReadsFrom}
 use Rattle.hm_model.specs.Served.Out.{Answers, entry_text, line_of, out_text}
 use Rattle.hm_model.proofs.HistoryLemmas.{IsLegal-none}
@@ -22,7 +22,7 @@ use Rattle.hm_shell.specs.declared.stop.Stop.TheVariants.{Usage, NotVolume, BadF
 use Rattle.hm_shell.specs.Checking.{GivesCommand}
 use Rattle.hm_shell.specs.Printing.{StoppedPrinting}
 use Rattle.hm_shell.specs.Seen.{Seen}
-use Rattle.hm_shell.specs.Serving.{Calls, FindsNone, Served, ServedInPart, ServesLine, Serving, StoppedServing, IsOutCause, spent_line}
+use Rattle.hm_shell.specs.Serving.{Calls, Served, ServedInPart, ServesLine, Serving, StoppedServing, IsOutCause, spent_line}
 
 append-none : {X : Type 0} (xs : List X) → xs ++ [] ≡ xs
 append-none [] = refl

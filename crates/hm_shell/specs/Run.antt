@@ -1,6 +1,5 @@
 -- The whole run, from the words to the disk.
 use Rattle.std.specs.Prelude.{◌≡◌, ◌⊎◌, ℕ, List, [], Option}
-use Rattle.hm_pipe.specs.Pipe.{Gains}
 use Rattle.hm_shell.specs.declared.stop.Stop.{Stop}
 use Rattle.hm_shell.specs.Devices.{Sight}
 use Rattle.hm_shell.specs.Preparing.{IsPrepared, StoppedPreparing}

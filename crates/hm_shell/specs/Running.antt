@@ -1,5 +1,5 @@
 -- The run of a script on the volume of a disk.
-use Rattle.std.specs.Prelude.{◌≡◌, ◌≢◌, ◌⊎◌, ℕ, ◌≤◌, List, [], ◌++◌, Option, Some, All, IfSome, length, take}
+use Rattle.std.specs.Prelude.{◌≡◌, ◌≢◌, ◌⊎◌, ℕ, ◌≤◌, List, [], ◌++◌, Option, All, IfSome, length, take}
 use Rattle.hm_types.specs.declared.limits.TheConstants.{LEAST_BIGBLOCKS, MOST_BIGBLOCKS, MOST_SCRIPT_BYTES, MOST_SCRIPT_LINES}
 use Rattle.hm_types.specs.Faults.{IsMedia}
 use Rattle.hm_pipe.specs.Pipe.{Gains}
@@ -20,7 +20,6 @@ use Rattle.hm_shell.specs.declared.stop.Stop.TheVariants.{Usage, NotVolume, BadF
 use Rattle.hm_shell.specs.Opening.{OpensOn, StoppedOpening}
 use Rattle.hm_shell.specs.Seen.{Seen}
 use Rattle.hm_shell.specs.Serving.{IsOutCause}
-use Rattle.hm_shell.specs.Words.{IsPlan}
 
 -- a number of big-blocks that a new volume may have
 abbrev pub IsNewSize : ℕ → Type 0

@@ -1,4 +1,4 @@
-use Rattle.std.proofs.Common.{◌≡◌, ◌-◌, [], drop, length, ◌∙◌, subst, arith}
+use Rattle.std.proofs.Common.{◌≡◌, ◌-◌, [], drop, ◌∙◌, subst, arith}
 use Rattle.std.proofs.lemmas.List.{length-set}
 use Rattle.hm_shell.proofs.HexLemmas.{fixed_is_hex16, fixed_onto, next_digit}
 use Rattle.hm_shell.proofs.hex.hex_digits.Goals as goal
