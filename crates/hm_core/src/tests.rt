@@ -6,7 +6,7 @@ use super::*;
 use hm_disk::{Disk, MemDisk, write_synced};
 use hm_model::{Command, Reply};
 use hm_path::read_id;
-use hm_types::{Fault, Id, NoMemory, Text, is_name};
+use hm_types::{Fault, HOff, Id, NoMemory, Text, is_name};
 use std::alloc::Global;
 use std::process::Abort;
 use std::test::Fail;
@@ -63,9 +63,9 @@ fn mounted(rt: &impl Abort, alloc: Global, disk: MemDisk) -> Volume {
 
 // Why no volume is mounted.
 fn refusal(alloc: Global, disk: MemDisk) -> Option<OpenFault> {
-    match Core::mount(alloc, disk, (), ()) {
+    match &Core::mount(alloc, disk, (), ()) {
         Ok(_) => None,
-        Err((_, _, _, fault)) => Some(fault),
+        Err((_, _, _, fault)) => Some(*fault),
     }
 }
 
@@ -151,6 +151,10 @@ fn patched(rt: &impl Abort, disk: MemDisk, place: u64, bytes: &[u8]) -> MemDisk 
     let mut disk = disk;
     assert!(rt; place <= 150_000_000);
     assert!(rt; bytes.len() <= 4_096);
+    match disk.size() {
+        Ok(size) => assert!(rt; place + bytes.len() as u64 <= size),
+        Err(_) => panic!(rt; "no size"),
+    }
     assert!(rt; write_synced(&mut disk, place, bytes).is_ok());
     disk
 }
@@ -251,19 +255,25 @@ fn directories_stand_in_order_under_names_of_their_own(rt: HostRuntime) {
     }
 }
 
+// Damage of the list at this place.
+fn damage(rt: &impl Abort, root: u64) -> OpenFault {
+    let at = HOff::from_raw(root).expect(rt, "an offset");
+    OpenFault::Fault(Fault::Damaged { at, kind: 5 })
+}
+
 #[test]
 fn damage_is_told_by_the_root(rt: HostRuntime) {
     let alloc = rt.alloc();
-    match refusal(alloc, listed(&rt, alloc, &[1])) {
-        Some(OpenFault::Fault(Fault::Damaged { at, kind })) => {
-            assert_eq!(rt; at.raw(), 0x8000_0000_0580_0000);
-            assert_eq!(rt; kind, 5);
-        }
-        _ => panic!(rt; "no damage"),
-    }
-    // The root of an even generation.
+    let want = damage(&rt, 0x8000_0000_0580_0000);
+    assert_eq!(rt; refusal(alloc, listed(&rt, alloc, &[1])), Some(want));
+}
+
+#[test]
+fn a_root_stands_where_its_generation_says(rt: HostRuntime) {
+    let alloc = rt.alloc();
     let disk = patched(&rt, made(&rt, alloc), 16, &[2]);
-    assert!(rt; matches!(refusal(alloc, disk), Some(OpenFault::Fault(_))));
+    let want = damage(&rt, 0x8000_0000_0580_0000);
+    assert_eq!(rt; refusal(alloc, disk), Some(want));
 }
 
 #[test]

@@ -1,5 +1,5 @@
 -- From the lines that were served to the run of a script on an open volume.
-use Rattle.std.proofs.Common.{ℕ, ◌+◌, List, ◌++◌, length, take, refl, sym, ◌∙◌, ap, append_assoc, subst, inl, inr}
+use Rattle.std.proofs.Common.{ℕ, ◌+◌, ◌≤◌, List, ◌++◌, length, take, refl, sym, ◌∙◌, ap, append_assoc, subst, inl, inr}
 use Rattle.std.specs.Prelude.{All, Option, Result, Ok, Err, OnOk, IfErr}
 use Rattle.std.specs.List.{AllByRecursion}
 use Rattle.std.proofs.lemmas.List.Elements.{recursion_from_All}
@@ -10,11 +10,13 @@ use Rattle.hm_disk.specs.Crash.{Told}
 use Rattle.hm_model.specs.Lines.{texts_of}
 use Rattle.hm_model.specs.Served.Lines.{IsLine, ReadsFrom}
 use Rattle.hm_model.specs.Served.Out.{out_text}
+use Rattle.hm_model.specs.Volume.{Volume}
 use Rattle.hm_core.specs.Core.{HandsBack, IsFinished, KeepsRest}
 use Rattle.hm_core.specs.Finish.{IsNoDamage}
 use Rattle.hm_core.specs.State.{CoreState}
 use Rattle.hm_shell.specs.declared.stop.Stop.{Stop}
-use Rattle.hm_shell.specs.Running.{AnswersAll, AnswersInPart, IsWriteCause, RunsFrom, StoppedFrom, StoppedWriting}
+use Rattle.hm_shell.specs.Opening.{OpensOn}
+use Rattle.hm_shell.specs.Running.{AnswersAll, AnswersInPart, IsWriteCause, RunsAll, RunsFrom, StoppedFrom, StoppedRunning, StoppedWriting}
 use Rattle.hm_shell.specs.Seen.{Seen, seen}
 use Rattle.hm_shell.specs.Serving.{IsOutCause, Served, ServedInPart}
 use Rattle.hm_shell.specs.Stop.{of_fault}
@@ -97,3 +99,24 @@ module _ {D I O : Type 0} where
         ap told (back.disk_is ∙ rest.disk),
         cause,
       )
+
+-- a volume was opened, and all lines were run on it
+pub RunsAll-opened : (newfs : Option ℕ) (script : List ℕ) (old opened new : Option Told) (opening : Volume) (old_out new_out : Option (List ℕ)) → OpensOn newfs opening old opened → (outcome : Result (Unit {0}) Stop) → OnOk outcome (RunsFrom script opening opened new old_out new_out) → OnOk outcome (RunsAll newfs script old new old_out new_out)
+RunsAll-opened newfs script old opened new opening old_out new_out opens (Ok done) runs = record {
+  opening = opening;
+  opened = opened;
+  opens = opens;
+  runs = runs;
+}
+RunsAll-opened newfs script old opened new opening old_out new_out opens (Err stop) runs = tt
+
+-- a volume was opened, and the run stopped on it
+pub StoppedRunning-opened : (newfs : Option ℕ) (script : List ℕ) (old opened new : Seen Told) (opening : Volume) (old_out new_out : Seen (List ℕ)) → OpensOn newfs opening old.told opened.told → old.faults ≤ opened.faults → (outcome : Result (Unit {0}) Stop) → IfErr outcome (StoppedFrom script opening opened new old_out new_out) → IfErr outcome (StoppedRunning newfs script old new old_out new_out)
+StoppedRunning-opened newfs script old opened new opening old_out new_out opens later (Ok done) stops = tt
+StoppedRunning-opened newfs script old opened new opening old_out new_out opens later (Err stop) stops = inr (record {
+  opening = opening;
+  opened = opened;
+  opens = opens;
+  later = later;
+  stops = stops;
+})
