@@ -62,7 +62,7 @@ module _ (key : Key) where
           further p (r ∷ rs) rising = before_before (key_of p.left) (key_of r.left) (key_of d.left) (rising_next right p ((r ∷ rs) ++ d ∷ ds) rising) (further r rs (rising_rest right p ((r ∷ rs) ++ d ∷ ds) rising))
 
 -- the mark among a child and those after it
-mark_cons : (map : PageMap) (height : ℕ) (k : Key) (c d : Child) (ds : List Child) → mark_under map height (c ∷ d ∷ ds) k ≡ (if starts_after k d then mark_under map height (c ∷ []) k else mark_under map height (d ∷ ds) k)
+pub mark_cons : (map : PageMap) (height : ℕ) (k : Key) (c d : Child) (ds : List Child) → mark_under map height (c ∷ d ∷ ds) k ≡ (if starts_after k d then mark_under map height (c ∷ []) k else mark_under map height (d ∷ ds) k)
 mark_cons map height k c d ds = by_test (starts_after k d) where
   by_test : (b : Bool) → mark_in map height (node_at map (if b then c else holder k d ds).child) k ≡ (if b then mark_in map height (node_at map c.child) k else mark_in map height (node_at map (holder k d ds).child) k)
   by_test true = refl
@@ -114,16 +114,18 @@ module _ (f : List Element → List Element) (key : Key) (id level : ℕ) (right
   pub changed_later : (c d e : Child) (ds es : List Child) → IsChild c → AreRising right (c ∷ d ∷ ds) → AreStored old height level right (c ∷ d ∷ ds) → IsFrom (key_of d.left) key
       → ChangedUnder f key id level right height old new (d ∷ ds) (e ∷ es) → ChangedUnder f key id level right height old new (c ∷ d ∷ ds) (c ∷ e ∷ es)
   changed_later c d e ds es child rising stored from change =
-      let same : IsSameUnder old new height (c ∷ []) = record { same = λ x is. change.pages.kept x
-          (first_apart old height x level right c (d ∷ ds) rising stored (alone_true (is_under old height x c) is)) (under_there old height x level d.left (c ∷ []) (stored.0, tt) is) } in
+      let same : IsSameUnder old new height (c ∷ []) = record {
+        same = λ x is. change.pages.kept x
+            (first_apart old height x level right c (d ∷ ds) rising stored (alone_true (is_under old height x c) is)) (under_there old height x level d.left (c ∷ []) (stored.0, tt) is);
+      } in
       let one : AreStored new height level d.left (c ∷ []) = under_stored old new height d.left (c ∷ []) same level (stored.0, tt) in
       let was : List Element = elements_in old height (node_at old c.child) in
       let begins : AllByRecursion (λ x. IsBefore (element_key x) key) was =
-          each_so (λ x. IsInside c.left d.left (element_key x)) (λ x. IsBefore (element_key x) key) was
-          (λ x inside. key_before_from (element_key x) (key_of d.left) key inside.before from)
-          (elements_inside old height (child_place level d.left c) (node_at old c.child) stored.0.tree) in
+      each_so (λ x. IsInside c.left d.left (element_key x)) (λ x. IsBefore (element_key x) key) was
+      (λ x inside. key_before_from (element_key x) (key_of d.left) key inside.before from)
+      (elements_inside old height (child_place level d.left c) (node_at old c.child) stored.0.tree) in
       let first : elements_in new height (node_at new c.child) ≡ was =
-          sym (append-nil (elements_in new height (node_at new c.child))) ∙ under_elements old new height d.left (c ∷ []) same ∙ append-nil was in
+      sym (append-nil (elements_in new height (node_at new c.child))) ∙ under_elements old new height d.left (c ∷ []) same ∙ append-nil was in
       let later : (k : Key) → starts_after k e ≡ starts_after k d = λ k. ap (λ (b : Base). is_lt (key_cmp k (key_of b))) change.left in
       record {
         stored = (subst (λ (b : Base). IsStoredTree new height (child_place level b c)) (sym change.left) one.0, change.stored);
@@ -151,13 +153,15 @@ module _ (f : List Element → List Element) (key : Key) (id level : ℕ) (right
   changed_before b c bs cs ds children rising stored before change =
       let after : AreStored old height level right ds = stored_back old height level right (b ∷ bs) ds stored in
       let sorted : AreRising right ds = rising_back right (b ∷ bs) ds rising in
-      let same : IsSameUnder old new height ds = record { same = λ x is. change.pages.kept x
-          (later_apart old height x level right (b ∷ bs) ds rising stored is) (under_there old height x level right ds after is) } in
+      let same : IsSameUnder old new height ds = record {
+        same = λ x is. change.pages.kept x
+            (later_apart old height x level right (b ∷ bs) ds rising stored is) (under_there old height x level right ds after is);
+      } in
       let was : List Element = elements_under old height ds in
       let ends : AllByRecursion (λ x. IsBefore key (element_key x)) was =
-          each_so (λ x. IsInside (next_left right ds) right (element_key x)) (λ x. IsBefore key (element_key x)) was
-          (λ x inside. key_before_from key (key_of (next_left right ds)) (element_key x) before inside.from)
-          (inside_under old height level right ds sorted after) in
+      each_so (λ x. IsInside (next_left right ds) right (element_key x)) (λ x. IsBefore key (element_key x)) was
+      (λ x inside. key_before_from key (key_of (next_left right ds)) (element_key x) before inside.from)
+      (inside_under old height level right ds sorted after) in
       let up : AreRising right ((c ∷ cs) ++ ds) = rising_append right (c ∷ cs) ds change.rising sorted in
       let one : Child → List Element = λ (x : Child). elements_in old height (node_at old x.child) in
       let other : Child → List Element = λ (x : Child). elements_in new height (node_at new x.child) in

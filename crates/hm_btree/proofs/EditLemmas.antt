@@ -143,15 +143,15 @@ module _ (key : Key) (place : Subtree) (height level mirror : ℕ) (right : Base
     child_element =
         let els : Child → List Element = λ (x : Child). elements_in old height (node_at old x.child) in
         let before : AllByRecursion (λ e. IsBefore (element_key e) key) (elements_under old height pre) =
-            each_so (λ e. IsInside (next_left c.left pre) c.left (element_key e)) (λ e. IsBefore (element_key e) key) (elements_under old height pre)
-            (λ e is. key_before_from (element_key e) (key_of c.left) key is.before child_inside.from)
-            (inside_under old height level c.left pre (rising_front right pre (c ∷ post) tree.sound.order) (stored_front old height level right pre (c ∷ post) tree.below)) in
+        each_so (λ e. IsInside (next_left c.left pre) c.left (element_key e)) (λ e. IsBefore (element_key e) key) (elements_under old height pre)
+        (λ e is. key_before_from (element_key e) (key_of c.left) key is.before child_inside.from)
+        (inside_under old height level c.left pre (rising_front right pre (c ∷ post) tree.sound.order) (stored_front old height level right pre (c ∷ post) tree.below)) in
         let after : AllByRecursion (λ e. IsBefore key (element_key e)) (elements_under old height post) =
-            each_so (λ e. IsInside (next_left right post) right (element_key e)) (λ e. IsBefore key (element_key e)) (elements_under old height post)
-            (λ e is. key_before_from key (key_of (next_left right post)) (element_key e) child_inside.before is.from)
-            (inside_under old height level right post (rising_back right (c ∷ []) post (rising_back right pre (c ∷ post) tree.sound.order)) (stored_back old height level right (c ∷ []) post (stored_back old height level right pre (c ∷ post) tree.below))) in
+        each_so (λ e. IsInside (next_left right post) right (element_key e)) (λ e. IsBefore key (element_key e)) (elements_under old height post)
+        (λ e is. key_before_from key (key_of (next_left right post)) (element_key e) child_inside.before is.from)
+        (inside_under old height level right post (rising_back right (c ∷ []) post (rising_back right pre (c ∷ post) tree.sound.order)) (stored_back old height level right (c ∷ []) post (stored_back old height level right pre (c ∷ post) tree.below))) in
         ap (element_at key) (flat_map-append els pre (c ∷ post)) ∙ at_front key (elements_under old height pre) (elements_under old height (c ∷ post)) before
-            ∙ at_back key (elements_in old height (node_at old c.child)) (elements_under old height post) after
+        ∙ at_back key (elements_in old height (node_at old c.child)) (elements_under old height post) after
 
     -- that child changed and was written
     pub changed_parent : (f : List Element → List Element) (id : ℕ) (mid new : PageMap) (after : Node) → IsLocal f key → Changed f key id (child_place level (next_left right post) c) height old mid (node_at old c.child) after

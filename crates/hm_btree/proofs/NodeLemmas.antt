@@ -57,11 +57,14 @@ module _ (f : List Element → List Element) (key : Key) (id level : ℕ) (next 
       let marks : (k : Key) → mark_in new height (node_at new c.child) k ≡ mark_in mid height after k = λ k. ap (λ (n : Node). mark_in new height n k) here ∙ frame_mark mid new k height after same in
       let reached : (x : ℕ) → reaches new height (node_at new c.child) x ≡ reaches mid height after x = λ x. ap (λ (n : Node). reaches new height n x) here ∙ frame_reaches mid new x height after same in
       record {
-        stored = (record {
-          there = rw there refl;
-          spelled = subst (λ (o : Option (List ℕ)). Spells (page_in o) (node_in (page_in o))) (sym there) (subst (λ (n : Node). Spells page n) (sym spells.value) spells);
-          tree = subst (λ (n : Node). IsTree new height (child_place level next (with_mirror (mirror_of after) c)) n) (sym here) (frame_tree mid new height (child_place level next (with_mirror (mirror_of after) c)) after same change.tree);
-        }, tt);
+        stored = (
+          record {
+            there = rw there refl;
+            spelled = subst (λ (o : Option (List ℕ)). Spells (page_in o) (node_in (page_in o))) (sym there) (subst (λ (n : Node). Spells page n) (sym spells.value) spells);
+            tree = subst (λ (n : Node). IsTree new height (child_place level next (with_mirror (mirror_of after) c)) n) (sym here) (frame_tree mid new height (child_place level next (with_mirror (mirror_of after) c)) after same change.tree);
+          },
+          tt,
+        );
         elements = append-nil (elements_in new height (node_at new c.child)) ∙ elements ∙ change.elements ∙ ap f (sym (append-nil (elements_in old height was)));
         mark = record {
           never_fall = λ k. omega (arith, change.mark.never_fall k, marks k);

@@ -33,7 +33,7 @@ whole_after olds news old new replaces all x there = by_test (news x) refl where
   by_test false is = let more = replaces.rest x there is in absurd (true≢false (sym (all x more.1) ∙ more.0))
 
 pub spots_after : (olds news : ℕ → Bool) (old new : PageMap) → Replaces olds news old new → ((x : ℕ) → IsSome (old x) → IsSpot x) → (x : ℕ) → IsSome (new x) → IsSpot x
-spots_after olds news old new replaces all x there = elim (replaces.spots x there) [ | inl was ↦ all x was | inr spot ↦ spot ]
+spots_after olds news old new replaces all x there = elim (replaces.spots x there) [ inl was ↦ all x was | inr spot ↦ spot ]
 
 pub turned : (a b : ℕ) → nat_eq a b ≡ nat_eq b a
 turned a b = by_test (nat_eq a b) refl where
@@ -54,11 +54,11 @@ module _ (f : List Element → List Element) (key : Key) (id root : ℕ) (old mi
       let here : node_at new root ≡ after = ap (λ (o : Option (List ℕ)). node_in (page_in o)) there ∙ spells.value in
       let high : height_of (node_at new root) ≡ h = ap height_of here ∙ omega (arith, change.tree.level) in
       let elements : elements_of new root ≡ elements_in mid h after =
-          ap (λ (n : ℕ). elements_in new n (node_at new root)) high ∙ ap (elements_in new h) here ∙ frame_elements mid new h after same in
+      ap (λ (n : ℕ). elements_in new n (node_at new root)) high ∙ ap (elements_in new h) here ∙ frame_elements mid new h after same in
       let marks : (k : Key) → mark_of new root k ≡ mark_in mid h after k = λ k.
-          ap (λ (n : ℕ). mark_in new n (node_at new root) k) high ∙ ap (λ (n : Node). mark_in new h n k) here ∙ frame_mark mid new k h after same in
+      ap (λ (n : ℕ). mark_in new n (node_at new root) k) high ∙ ap (λ (n : Node). mark_in new h n k) here ∙ frame_mark mid new k h after same in
       let reached : (x : ℕ) → reaches new (height_of (node_at new root)) (node_at new root) x ≡ reaches mid h after x = λ x.
-          ap (λ (n : ℕ). reaches new n (node_at new root) x) high ∙ ap (λ (n : Node). reaches new h n x) here ∙ frame_reaches mid new x h after same in
+      ap (λ (n : ℕ). reaches new n (node_at new root) x) high ∙ ap (λ (n : Node). reaches new h n x) here ∙ frame_reaches mid new x h after same in
       let replaces = replaces_put root page (reaches old h was) (reaches mid h after) old mid new put tree.sound.there change.pages in
       record {
         tree = record {
@@ -96,15 +96,15 @@ root_works f key id root Needs More (Some old) p1 p2 p3 node after inside same h
           let read : node_at old root ≡ node = here.spelled.value in
           let h : ℕ = height_of (node_at old root) in
           let change : Changed f key id (root_place root) h old mid node after =
-              works (root_place root) h (subst (λ (n : Node). IsTree old h (root_place root) n) read tree.sound.tree) (inside old tree needs more)
-              (subst (λ (n : Node). Needs (element_at key (elements_in old h n))) read needs) more in
+          works (root_place root) h (subst (λ (n : Node). IsTree old h (root_place root) n) read tree.sound.tree) (inside old tree needs more)
+          (subst (λ (n : Node). Needs (element_at key (elements_in old h n))) read needs) more in
           root_written f key id root old mid new after tree (subst (λ (n : Node). Changed f key id (root_place root) h old mid n after) (sym read) change) written
 
 -- an element that is there stands inside the boundaries of the whole tree
 pub there_inside : (root : ℕ) (key : Key) (old : PageMap) → IsTreeSpace old root → IsSome (element_at key (elements_of old root)) → IsInside (root_place root).left (root_place root).right key
 there_inside root key old tree there =
     let some = element_each (λ e. IsInside (root_place root).left (root_place root).right (element_key e)) key (elements_of old root)
-        (elements_inside old (height_of (node_at old root)) (root_place root) (node_at old root) tree.sound.tree) there in
+    (elements_inside old (height_of (node_at old root)) (root_place root) (node_at old root) tree.sound.tree) there in
     subst (λ (k : Key). IsInside (root_place root).left (root_place root).right k) some.1 some.2
 
 -- the cause of a fault of the first read, and of one further down

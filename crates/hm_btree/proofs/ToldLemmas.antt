@@ -37,7 +37,7 @@ inner_is x level mirror cs right a b c d i = record { level = a i; mirror = b i;
 abbrev pub Works : (List Element → List Element) → Key → ℕ → (Option Element → Type 0) → Type 0 → Option PageMap → Option PageMap → Node → Node → Type 0
 Works f key id Needs More old new before after =
     IfSome old (λ was. (place : Subtree) (height : ℕ) → IsTree was height place before → IsInside place.left place.right key → Needs (element_at key (elements_in was height before)) → More
-        → IfSome new (λ is. Changed f key id place height was is before after))
+    → IfSome new (λ is. Changed f key id place height was is before after))
 
 module _ (f : List Element → List Element) (key : Key) (id : ℕ) (Needs : Option Element → Type 0) (More : Type 0) (local : IsLocal f key) (inner inner' : Inner) (i : ℕ) (s : Subtree) (child after : Node) (m : ℕ) where
   -- the child that holds the key changed, and was written
@@ -54,24 +54,24 @@ module _ (f : List Element → List Element) (key : Key) (id : ℕ) (Needs : Opt
       let post : List Child = drop (suc i) cs in
       let split = split_at cs i c there.is in
       let tree' : IsTree old (suc lower) place (inner_node (inner_of inner.level inner.mirror (pre ++ c ∷ post) inner.right)) =
-          subst (λ (l : List Child). IsTree old (suc lower) place (inner_node (inner_of inner.level inner.mirror l inner.right))) split.0 tree in
+      subst (λ (l : List Child). IsTree old (suc lower) place (inner_node (inner_of inner.level inner.mirror l inner.right))) split.0 tree in
       let needs' : Needs (element_at key (elements_in old (suc lower) (inner_node (inner_of inner.level inner.mirror (pre ++ c ∷ post) inner.right)))) =
-          subst (λ (l : List Child). Needs (element_at key (elements_in old (suc lower) (inner_node (inner_of inner.level inner.mirror l inner.right))))) split.0 needs in
+      subst (λ (l : List Child). Needs (element_at key (elements_in old (suc lower) (inner_node (inner_of inner.level inner.mirror l inner.right))))) split.0 needs in
       let held : length pre ≡ holder_place key (pre ++ c ∷ post) = split.1 ∙ at ∙ ap (holder_place key) split.0 in
       let where_is : s.at ≡ c.child = ap (λ (t : Subtree). t.at) there.place in
       let read : node_at old c.child ≡ child = ap (node_at old) (sym where_is) ∙ here.spelled.value in
       let stored : IsStoredTree old lower (child_place inner.level (next_left inner.right post) c) = child_tree key place lower inner.level inner.mirror inner.right old pre c post tree' held inside in
       let below : Changed f key id (child_place inner.level (next_left inner.right post) c) lower old mid child after =
-          rec (child_place inner.level (next_left inner.right post) c) lower (subst (λ (n : Node). IsTree old lower (child_place inner.level (next_left inner.right post) c) n) read stored.tree)
-          (child_inside key place lower inner.level inner.mirror inner.right old pre c post tree' held inside)
-          (subst (λ (n : Node). Needs (element_at key (elements_in old lower n))) read
-          (subst Needs (child_element key place lower inner.level inner.mirror inner.right old pre c post tree' held inside) needs')) in
+      rec (child_place inner.level (next_left inner.right post) c) lower (subst (λ (n : Node). IsTree old lower (child_place inner.level (next_left inner.right post) c) n) read stored.tree)
+      (child_inside key place lower inner.level inner.mirror inner.right old pre c post tree' held inside)
+      (subst (λ (n : Node). Needs (element_at key (elements_in old lower n))) read
+      (subst Needs (child_element key place lower inner.level inner.mirror inner.right old pre c post tree' held inside) needs')) in
       let whole = changed_parent key place lower inner.level inner.mirror inner.right old pre c post tree' held inside f id mid new after local
-          (subst (λ (n : Node). Changed f key id (child_place inner.level (next_left inner.right post) c) lower old mid n after) (sym read) below) (subst (λ (a : ℕ). HasWritten a after mid new) where_is written) in
+      (subst (λ (n : Node). Changed f key id (child_place inner.level (next_left inner.right post) c) lower old mid n after) (sym read) below) (subst (λ (a : ℕ). HasWritten a after mid new) where_is written) in
       let items' : inner'.places.items ≡ pre ++ with_mirror (mirror_of after) c ∷ post =
-          items c ∙ set_at_place (with_mirror m) cs i c there.is ∙ ap (λ (n : ℕ). pre ++ with_mirror n c ∷ post) is in
+      items c ∙ set_at_place (with_mirror m) cs i c there.is ∙ ap (λ (n : ℕ). pre ++ with_mirror n c ∷ post) is in
       let end : inner' ≡ inner_of inner.level (max inner.mirror (mirror_of after)) (pre ++ with_mirror (mirror_of after) c ∷ post) inner.right =
-          inner_is inner' inner.level (max inner.mirror (mirror_of after)) (pre ++ with_mirror (mirror_of after) c ∷ post) inner.right level (mirror ∙ ap (max inner.mirror) is) items' right in
+      inner_is inner' inner.level (max inner.mirror (mirror_of after)) (pre ++ with_mirror (mirror_of after) c ∷ post) inner.right level (mirror ∙ ap (max inner.mirror) is) items' right in
       subst (λ (x : Inner). Changed f key id place (suc lower) old new (inner_node inner) (inner_node x)) (sym end)
       (subst (λ (l : List Child). Changed f key id place (suc lower) old new (inner_node (inner_of inner.level inner.mirror l inner.right)) (inner_node (inner_of inner.level (max inner.mirror (mirror_of after)) (pre ++ with_mirror (mirror_of after) c ∷ post) inner.right)))
       (sym split.0) whole)

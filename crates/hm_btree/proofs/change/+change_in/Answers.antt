@@ -25,13 +25,13 @@ returns-in_err-child-in-Inner-clause-cause g t c =
     let new = g.S.Counted.faults c.read_node.new.pages in
     let p = err_from_is_err_and c.from_residual.result c.from_residual.ensures.1 in
     let whole = cause_read told c.args.node.now c.in-Inner.inner c.child_place-i.result c.child-place.result old new fault c.in-Inner.is c.child-place.ensures
-        (subst (λ (r : Result Node Fault). HasFaultCause old new r) c.in_err-child-in-Inner.was c.read_node.ensures.cause) c.in_err-child-in-Inner.ensures.damage in
+    (subst (λ (r : Result Node Fault). HasFaultCause old new r) c.in_err-child-in-Inner.was c.read_node.ensures.cause) c.in_err-child-in-Inner.ensures.damage in
     rw (p.1, p.2) whole
 
 pub change_in-requires : goal.change_in-requires
 change_in-requires g t c κs within =
     let smaller : level_of c.in_ok-child-in-Inner.child < level_of c.args.node.now =
-        child_lower c.args.node.now c.in_ok-child-in-Inner.child c.in-Inner.inner c.child_place-i.result c.child-place.result c.in-Inner.is c.child-place.ensures c.in_ok-child-in-Inner.ensures.fits in
+    child_lower c.args.node.now c.in_ok-child-in-Inner.child c.in-Inner.inner c.child_place-i.result c.child-place.result c.in-Inner.is c.child-place.ensures c.in_ok-child-in-Inner.ensures.fits in
     search rules
 
 pub returns-in_err-change_in-in-Inner-clause-cause :
@@ -45,8 +45,8 @@ returns-in_err-change_in-in-Inner-clause-cause g t c =
     let new = g.S.Counted.faults c.change_in.new.space in
     let p = err_from_is_err_and c.from_residual-in_err-change_in-in-Inner.result c.from_residual-in_err-change_in-in-Inner.ensures.1 in
     let whole = cause_below told now c.args.node.now c.in_ok-child-in-Inner.child c.in-Inner.inner c.child_place-i.result c.child-place.result old mid new fault c.in-Inner.is c.child-place.ensures
-        c.read_node.ensures.same.pages c.read_node.ensures.cause.never_falls c.in_ok-child-in-Inner.ensures.ok
-        (subst (λ (r : Result (Unit {0}) Fault). HasEditCause now c.in_ok-child-in-Inner.child mid new r) c.in_err-change_in-in-Inner.was c.change_in.ensures.cause) in
+    c.read_node.ensures.same.pages c.read_node.ensures.cause.never_falls c.in_ok-child-in-Inner.ensures.ok
+    (subst (λ (r : Result (Unit {0}) Fault). HasEditCause now c.in_ok-child-in-Inner.child mid new r) c.in_err-change_in-in-Inner.was c.change_in.ensures.cause) in
     rw (p.1, p.2) whole
 
 pub set_mirror-requires : goal.set_mirror-requires

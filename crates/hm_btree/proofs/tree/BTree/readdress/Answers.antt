@@ -27,21 +27,20 @@ returns-in_err-change_element-clause-cause g c =
     let whole = store_cause c.args.self.now.intact told c.args.self.now.root old new (Err fault) c.args.self.now.sound cause in
     rw (p.1, p.2) whole
 
-
 pub invariant_of-self-2 : goal.invariant_of-self-2
 invariant_of-self-2 g c =
     let key = key_of c.args.at.now in
     let changed = store_changed (with_change key (Move c.args.to)) key (id_of (Move c.args.to)) (λ es. IsSome (element_at key es)) (MayChange key (Move c.args.to)) c.args.self.now.intact
-        (g.S.Pages.pages c.args.self.now.space) (g.S.Pages.pages c.change_element.new.space) c.args.self.now.root c.args.self.now.root c.args.self.now.sound
-        c.in_ok-change_element.ensures.told c.requires.there c.known_offset.ensures c.in_ok-change_element.ensures.ok in
+    (g.S.Pages.pages c.args.self.now.space) (g.S.Pages.pages c.change_element.new.space) c.args.self.now.root c.args.self.now.root c.args.self.now.sound
+    c.in_ok-change_element.ensures.told c.requires.there c.known_offset.ensures c.in_ok-change_element.ensures.ok in
     record { sound = changed.sound }
 
 pub returns-clause-ok : goal.returns-clause-ok
 returns-clause-ok g c =
     let key = key_of c.args.at.now in
     let changed = store_changed (with_change key (Move c.args.to)) key (id_of (Move c.args.to)) (λ es. IsSome (element_at key es)) (MayChange key (Move c.args.to)) c.args.self.now.intact
-        (g.S.Pages.pages c.args.self.now.space) (g.S.Pages.pages c.change_element.new.space) c.args.self.now.root c.args.self.now.root c.args.self.now.sound
-        c.in_ok-change_element.ensures.told c.requires.there c.known_offset.ensures c.in_ok-change_element.ensures.ok in
+    (g.S.Pages.pages c.args.self.now.space) (g.S.Pages.pages c.change_element.new.space) c.args.self.now.root c.args.self.now.root c.args.self.now.sound
+    c.in_ok-change_element.ensures.told c.requires.there c.known_offset.ensures c.in_ok-change_element.ensures.ok in
     let same = g.met.S.NodeSpace.rests c.args.self.now.space c.change_element.new.space c.change_element.ensures.rest in
     record { elements = changed.elements; mark = changed.mark; extents = same.2 }
 
@@ -49,8 +48,8 @@ pub returns-clause-keeps : goal.returns-clause-keeps
 returns-clause-keeps g c =
     let key = key_of c.args.at.now in
     let changed = store_changed (with_change key (Move c.args.to)) key (id_of (Move c.args.to)) (λ es. IsSome (element_at key es)) (MayChange key (Move c.args.to)) c.args.self.now.intact
-        (g.S.Pages.pages c.args.self.now.space) (g.S.Pages.pages c.change_element.new.space) c.args.self.now.root c.args.self.now.root c.args.self.now.sound
-        c.in_ok-change_element.ensures.told c.requires.there c.known_offset.ensures c.in_ok-change_element.ensures.ok in
+    (g.S.Pages.pages c.args.self.now.space) (g.S.Pages.pages c.change_element.new.space) c.args.self.now.root c.args.self.now.root c.args.self.now.sound
+    c.in_ok-change_element.ensures.told c.requires.there c.known_offset.ensures c.in_ok-change_element.ensures.ok in
     let same = g.met.S.NodeSpace.rests c.args.self.now.space c.change_element.new.space c.change_element.ensures.rest in
     record {
       name = c.change_element.ensures.name;
