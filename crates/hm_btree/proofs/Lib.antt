@@ -13,6 +13,7 @@ pub mod OrderLemmas
 pub mod PairLemmas
 pub mod PutLemmas
 pub mod RootLemmas
+pub mod ReadingLemmas
 pub mod SplitLemmas
 pub mod StoreLemmas
 pub mod ToldLemmas

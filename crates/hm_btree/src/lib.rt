@@ -8,6 +8,7 @@ mod leaf_edit;
 mod mem_space;
 mod node_edit;
 mod places;
+mod reading;
 mod root;
 mod space;
 mod tree;

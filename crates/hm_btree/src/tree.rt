@@ -11,10 +11,10 @@ use hm_types::{Counted, Fault, HOff};
 /// The B-tree of the elements, over a space of nodes.
 #[derive(Drop)]
 pub struct BTree<S: NodeSpace> {
-    space: S,
-    root: HOff,
+    pub(crate) space: S,
+    pub(crate) root: HOff,
     // Whether no call has failed in the middle of a change.
-    intact: bool,
+    pub(crate) intact: bool,
     ghost sound: { ∥ IsIntact intact (S.pages space) root ∥₁ },
 }
 

@@ -1,24 +1,24 @@
 -- The children of an inner node, and the places that it has for them.
-use Rattle.std.proofs.Common.{◌≡◌, Bool, true, false, not, true≢false, ℕ, zero, suc, ◌+◌, ◌-◌, ◌<◌, ◌≤◌, inl, inr, List, [], ◌∷◌, ◌++◌, length, map, drop, get_or, refl, sym, ap, subst, ◌∙◌, arith, if◌then◌else◌}
-use Rattle.std.specs.Prelude.{slice_index_or, slice_get, Option, Some, None}
+use Rattle.std.proofs.Common.{◌≡◌, Bool, true, false, not, true≢false, ℕ, zero, suc, ◌+◌, ◌-◌, ◌<◌, ◌≤◌, inl, inr, List, [], ◌∷◌, ◌++◌, length, map, drop, refl, sym, ap, ◌∙◌, arith, if◌then◌else◌}
+use Rattle.std.specs.Prelude.{slice_index_or, slice_get, Some, None}
 use Rattle.std.specs.List.{AllByRecursion}
 use Rattle.std.specs.List.Sorted.{IsStrictlySortedBy, IsPartitionedBy}
 use Rattle.std.specs.Ordering.{is_lt}
 use Rattle.std.specs.declared.cmp.Ordering.TheVariants.{Less}
 use Rattle.std.proofs.lemmas.Bool.{cases_lt}
 use Rattle.std.proofs.lemmas.Option.{slice_get_read, slice_get_past}
-use Rattle.hm_types.specs.Elements.{Key, key_cmp}
+use Rattle.hm_types.specs.Elements.{Key}
 use Rattle.hm_key.specs.Key.{key_of, IsBefore, IsFrom}
 use Rattle.hm_key.specs.declared.base.Base.{Base}
-use Rattle.hm_key.proofs.KeyLemmas.{key_total, key_before_from, key_from_before, key_not_before}
+use Rattle.hm_key.proofs.KeyLemmas.{key_total, key_from_before, key_not_before}
 use Rattle.hm_node.specs.Base.{base_cmp}
 use Rattle.hm_node.specs.declared.inner.Child.{Child}
 use Rattle.hm_node.specs.declared.inner.Inner.{Inner}
 use Rattle.hm_search.specs.Tree.{starts_after, next_left, child_place, places_of, children_of, holder, at_holder}
 use Rattle.hm_search.specs.Search.{begun, holder_place}
 use Rattle.hm_search.specs.declared.subtree.Subtree.{Subtree}
-use Rattle.hm_search.proofs.ListLemmas.{each_so, each_at, begins_by}
-use Rattle.hm_search.proofs.OrderLemmas.{before_is, from_is, from_not}
+use Rattle.hm_search.proofs.ListLemmas.{each_so, begins_by}
+use Rattle.hm_search.proofs.OrderLemmas.{before_is, from_not}
 
 -- the boundaries of some children, up to the right one
 abbrev pub bounds : Base → List Child → List Base

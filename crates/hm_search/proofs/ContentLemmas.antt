@@ -1,31 +1,29 @@
 -- The elements of a sound tree: inside its boundaries, in order, and each one that may stand in a leaf.
-use Rattle.std.proofs.Common.{◌≡◌, ◌≢◌, ℕ, zero, suc, ◌+◌, ◌<◌, ◌≤◌, List, [], ◌∷◌, ◌++◌, length, refl, sym, ap, subst, ◌∙◌, arith, Some, None, length-append}
-use Rattle.std.specs.Prelude.{All, Option}
+use Rattle.std.proofs.Common.{◌≡◌, ◌≢◌, ℕ, zero, suc, ◌≤◌, List, [], ◌∷◌, length, refl, subst, arith, Some, None, length-append}
+use Rattle.std.specs.Prelude.{Option}
 use Rattle.std.specs.List.{AllByRecursion, flat_map}
 use Rattle.std.specs.List.Sorted.{IsStrictlySortedBy}
 use Rattle.std.proofs.lemmas.List.Elements.{All-from_recursion, recursion_from_All}
-use Rattle.hm_types.specs.Elements.{Key, key_cmp}
-use Rattle.hm_fields.specs.Pages.{PageMap, page_in}
+use Rattle.hm_types.specs.Elements.{Key}
+use Rattle.hm_fields.specs.Pages.{PageMap}
 use Rattle.hm_key.specs.Key.{key_of, IsBefore, IsFrom}
 use Rattle.hm_key.specs.Element.{IsElement}
 use Rattle.hm_key.specs.Elements.{element_key, element_cmp, IsContent}
 use Rattle.hm_key.specs.declared.base.Base.{Base}
 use Rattle.hm_key.specs.declared.element.Element.{Element}
-use Rattle.hm_key.proofs.KeyLemmas.{key_not_before}
 use Rattle.hm_node.specs.Base.{base_cmp}
 use Rattle.hm_node.specs.Leaf.{IsPlaced}
 use Rattle.hm_node.specs.Inner.{HasInnerLevel}
 use Rattle.hm_node.specs.declared.inner.Child.{Child}
-use Rattle.hm_node.specs.declared.inner.Inner.{Inner}
 use Rattle.hm_node.specs.declared.node.Node.{Node}
 use Rattle.hm_node.specs.declared.node.Node.TheVariants.{Leaf, Inner as inner_node}
 use Rattle.hm_search.specs.Place.{IsInside, BeginsAt, FitsCount}
-use Rattle.hm_search.specs.Tree.{node_at, elements_in, next_left, child_place, places_of, children_of, HasChildren, IsTree, IsStoredTree}
+use Rattle.hm_search.specs.Tree.{node_at, elements_in, next_left, child_place, places_of, children_of, IsTree, IsStoredTree}
 use Rattle.hm_search.specs.declared.subtree.Parent.{Parent}
 use Rattle.hm_search.specs.declared.subtree.Subtree.{Subtree}
-use Rattle.hm_search.proofs.ChildLemmas.{bounds, next_by_right, from_next, later_sorted, begins_before}
+use Rattle.hm_search.proofs.ChildLemmas.{bounds, next_by_right, from_next, later_sorted}
 use Rattle.hm_search.proofs.ListLemmas.{each_so, each_append, sorted_append, around}
-use Rattle.hm_search.proofs.OrderLemmas.{from_trans, from_then_before}
+use Rattle.hm_search.proofs.OrderLemmas.{from_trans}
 use Rattle.hm_key.proofs.KeyLemmas.{key_before_from}
 
 -- the elements lie inside two boundaries

@@ -1,7 +1,7 @@
 -- Pages that are sound where they stand, and what may be told of the others.
-use Rattle.std.proofs.Common.{◌≡◌, ℕ, ◌+◌, ◌<◌, ◌≤◌, List, inl, inr, refl, sym, ap, subst, ◌∙◌, arith}
-use Rattle.std.specs.Prelude.{Result, Ok, Err, IfErr, IfOk, ⊤}
-use Rattle.hm_types.specs.Faults.{IsCaused, HasFaultCause, IsMedia}
+use Rattle.std.proofs.Common.{◌≡◌, ℕ, ◌<◌, ◌≤◌, List, inl, inr, refl, sym, subst, arith}
+use Rattle.std.specs.Prelude.{Result, Ok, Err}
+use Rattle.hm_types.specs.Faults.{IsCaused, HasFaultCause}
 use Rattle.hm_types.specs.declared.fault.Fault.{Fault}
 use Rattle.hm_types.specs.declared.fault.Fault.TheVariants.{Media, Damaged, NoMemory}
 use Rattle.hm_fields.specs.Pages.{PageMap, page_in}
@@ -11,8 +11,8 @@ use Rattle.hm_node.specs.Node.{node_in, IsNode, Spells}
 use Rattle.hm_node.specs.declared.node.Node.{Node}
 use Rattle.hm_node.specs.declared.rule.Rule.{Rule}
 use Rattle.hm_node.proofs.NodeLemmas.{spells_kept}
-use Rattle.hm_search.specs.Place.{Fits, FitsBy, place_number, SpellsHere, Breaks, KeepsBelow, IsLowestBroken, TellsDamage}
-use Rattle.hm_search.specs.Tree.{node_at, IsTree, IsStoredTree}
+use Rattle.hm_search.specs.Place.{Fits, FitsBy, place_number, SpellsHere, Breaks, IsLowestBroken, TellsDamage}
+use Rattle.hm_search.specs.Tree.{node_at, IsStoredTree}
 use Rattle.hm_search.specs.declared.place_rule.PlaceRule.{PlaceRule}
 use Rattle.hm_search.specs.declared.place_rule.PlaceRule.TheVariants.{Level, Count, Bounds, Mirror}
 use Rattle.hm_search.specs.declared.subtree.Subtree.{Subtree}

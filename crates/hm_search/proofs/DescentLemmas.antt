@@ -1,24 +1,19 @@
 -- Descents: each step goes one level down, and damage is told only where one comes to.
-use Rattle.std.proofs.Common.{◌≡◌, ◌≢◌, ℕ, zero, suc, ◌+◌, ◌<◌, ◌≤◌, List, [], ◌∷◌, length, drop, refl, sym, ap, subst, ◌∙◌, arith}
-use Rattle.std.specs.Prelude.{Option, Some, None, Result, Ok, Err, IfSome, IfOk, IfErr, slice_get}
-use Rattle.std.specs.List.{AllByRecursion}
+use Rattle.std.proofs.Common.{◌≡◌, ℕ, zero, suc, ◌<◌, ◌≤◌, refl, ap, subst, arith}
+use Rattle.std.specs.Prelude.{Option, Some, None, Result, Ok, Err, IfSome, IfErr, slice_get}
 use Rattle.std.proofs.lemmas.Result.{IfErr-weaker}
-use Rattle.hm_types.specs.Faults.{HasFaultCause, IsCaused}
+use Rattle.hm_types.specs.Faults.{HasFaultCause}
 use Rattle.hm_types.specs.declared.fault.Fault.{Fault}
 use Rattle.hm_types.specs.declared.fault.Fault.TheVariants.{Media, Damaged, NoMemory}
-use Rattle.hm_types.specs.declared.limits.TheConstants.{MOST_LEVELS}
 use Rattle.hm_fields.specs.Pages.{PageMap, page_in}
 use Rattle.hm_key.specs.Stores.{IsUndamaged}
-use Rattle.hm_key.specs.declared.base.Base.{Base}
-use Rattle.hm_node.specs.Inner.{HasInnerLevel}
-use Rattle.hm_node.specs.Node.{IsNode, HasLevel, level_of}
-use Rattle.hm_node.specs.declared.inner.Child.{Child}
+use Rattle.hm_node.specs.Node.{IsNode}
 use Rattle.hm_node.specs.declared.inner.Inner.{Inner}
 use Rattle.hm_node.specs.declared.node.Node.{Node}
-use Rattle.hm_node.specs.declared.node.Node.TheVariants.{Leaf, Inner as inner_node}
+use Rattle.hm_node.specs.declared.node.Node.TheVariants.{Inner as inner_node}
 use Rattle.hm_search.specs.Descent.{levels_under, levels_below, LeadsTo, Descends, IsFaultBelow, HasSearchCause}
 use Rattle.hm_search.specs.Place.{Fits, FitsLevel, SpellsHere, TellsDamage}
-use Rattle.hm_search.specs.Tree.{node_at, child_place, places_of, children_of, HasChildren, IsTree, IsStoredTree}
+use Rattle.hm_search.specs.Tree.{node_at, children_of, IsTree, IsStoredTree}
 use Rattle.hm_search.specs.declared.subtree.Parent.{Parent}
 use Rattle.hm_search.specs.declared.subtree.Subtree.{Subtree}
 use Rattle.hm_search.proofs.ChildLemmas.{place_is}

@@ -1,25 +1,24 @@
 -- The first element from a key on, among those of several children.
-use Rattle.std.proofs.Common.{◌≡◌, Bool, true, false, true≢false, ℕ, zero, suc, ◌+◌, ◌<◌, ◌≤◌, List, [], ◌∷◌, ◌++◌, length, drop, refl, sym, ap, subst, ◌∙◌, arith, if◌then◌else◌}
-use Rattle.std.specs.Prelude.{Option, Some, None, slice_get}
-use Rattle.std.specs.List.{AllByRecursion, flat_map}
+use Rattle.std.proofs.Common.{◌≡◌, Bool, true, false, ℕ, zero, suc, ◌≤◌, List, [], ◌∷◌, ◌++◌, length, drop, refl, ap, subst, ◌∙◌, arith, if◌then◌else◌}
+use Rattle.std.specs.Prelude.{Some, None, slice_get}
+use Rattle.std.specs.List.{AllByRecursion}
 use Rattle.std.specs.List.Sorted.{IsStrictlySortedBy}
 use Rattle.std.specs.Ordering.{is_lt}
-use Rattle.hm_types.specs.Elements.{Key, key_cmp}
+use Rattle.hm_types.specs.Elements.{Key}
 use Rattle.hm_key.specs.Key.{key_of, IsBefore, IsFrom}
 use Rattle.hm_key.specs.Elements.{element_key, stands_before, first_from}
 use Rattle.hm_key.specs.declared.base.Base.{Base}
 use Rattle.hm_key.specs.declared.element.Element.{Element}
-use Rattle.hm_key.proofs.KeyLemmas.{key_before_from, key_from_before}
+use Rattle.hm_key.proofs.KeyLemmas.{key_before_from}
 use Rattle.hm_node.specs.Base.{base_cmp}
 use Rattle.hm_node.specs.declared.inner.Child.{Child}
 use Rattle.hm_search.specs.Place.{IsInside}
 use Rattle.hm_search.specs.Search.{begun, holder_place}
-use Rattle.hm_search.specs.Tree.{starts_after, next_left, child_place, places_of}
-use Rattle.hm_search.specs.declared.subtree.Subtree.{Subtree}
+use Rattle.hm_search.specs.Tree.{starts_after, places_of}
 use Rattle.hm_search.proofs.ChildLemmas.{bounds, later_sorted}
 use Rattle.hm_search.proofs.ContentLemmas.{AreInside, all_of}
 use Rattle.hm_search.proofs.ListLemmas.{each_so}
-use Rattle.hm_search.proofs.OrderLemmas.{before_is, from_is, from_not, from_trans}
+use Rattle.hm_search.proofs.OrderLemmas.{before_is, from_is, from_not}
 
 -- a search passes what stands before the key
 pub first_before : (key : Key) (xs ys : List Element) → AllByRecursion (λ e. stands_before key e ≡ true) xs → first_from key (xs ++ ys) ≡ first_from key ys

@@ -1,16 +1,15 @@
 -- Two maps that agree on all that a node reaches have the same tree below it.
-use Rattle.std.proofs.Common.{◌≡◌, ◌≢◌, Bool, true, false, true≢false, ◌||◌, ℕ, zero, suc, ◌+◌, ◌<◌, ◌≤◌, List, [], ◌∷◌, ◌++◌, length, refl, sym, ap, subst, ◌∙◌, arith, nat_eq, eq-eqb, IsTrue, if◌then◌else◌}
-use Rattle.std.specs.Prelude.{Option, Some, None, IsSome}
+use Rattle.std.proofs.Common.{◌≡◌, Bool, true, false, ℕ, zero, suc, List, [], ◌∷◌, refl, sym, ap, subst, ◌∙◌, nat_eq, eq-eqb, if◌then◌else◌}
+use Rattle.std.specs.Prelude.{Option}
 use Rattle.std.specs.List.{AllByRecursion, flat_map, list_any}
 use Rattle.hm_types.specs.Elements.{Key}
 use Rattle.hm_fields.specs.Pages.{PageMap, page_in}
 use Rattle.hm_key.specs.declared.base.Base.{Base}
-use Rattle.hm_key.specs.declared.element.Element.{Element}
-use Rattle.hm_node.specs.Node.{node_in, Spells}
+use Rattle.hm_node.specs.Node.{node_in}
 use Rattle.hm_node.specs.declared.inner.Child.{Child}
 use Rattle.hm_node.specs.declared.node.Node.{Node}
 use Rattle.hm_node.specs.declared.node.Node.TheVariants.{Leaf, Inner as inner_node}
-use Rattle.hm_search.specs.Tree.{node_at, elements_in, mark_in, leaf_in, reaches, Reaches, holder, at_holder, starts_after, next_left, child_place, places_of, children_of, HasChildren, IsTreeWith, IsStoredWith, IsTree, IsStoredTree}
+use Rattle.hm_search.specs.Tree.{node_at, elements_in, mark_in, reaches, holder, at_holder, starts_after, next_left, child_place, places_of, HasChildren, IsTree, IsStoredTree}
 use Rattle.hm_search.specs.declared.subtree.Subtree.{Subtree}
 pub use Rattle.hm_search.specs.Reach.{IsSameBelow, IsSameUnder}
 use Rattle.hm_search.specs.Reach.{is_under}
@@ -101,9 +100,10 @@ module _ (old new : PageMap) (height : ℕ) (sound : (node : Node) → IsSameBel
 
   pub frame_each : (level : ℕ) (right : Base) (cs : List Child) → IsSameUnder old new height cs → AllByRecursion (IsStoredTree old height) (places_of level right cs) → AllByRecursion (IsStoredTree new height) (places_of level right cs)
   frame_each level right [] under each = tt
-  frame_each level right (c ∷ cs) under each =
-      (frame_stored_with (child_place level (next_left right cs) c) (same_first old new height c cs under) (same_below_first old new height c cs under) each.0,
-      frame_each level right cs (same_later old new height c cs under) each.1)
+  frame_each level right (c ∷ cs) under each = (
+    frame_stored_with (child_place level (next_left right cs) c) (same_first old new height c cs under) (same_below_first old new height c cs under) each.0,
+    frame_each level right cs (same_later old new height c cs under) each.1,
+  )
 
 -- whether it is sound
 pub frame_children : (old new : PageMap) (height : ℕ) (node : Node) → IsSameBelow old new height node → HasChildren old height node → HasChildren new height node

@@ -1,12 +1,10 @@
 -- The laws of sound trees, in the words of the functions that state them.
-use Rattle.std.proofs.Common.{◌≡◌, ◌≢◌, ℕ, ◌+◌, ◌<◌, ◌≤◌, suc, refl, sym, ap, subst, ◌∙◌, arith, true, true≢false}
+use Rattle.std.proofs.Common.{◌≡◌, ℕ, ◌≤◌, suc, arith}
 use Rattle.std.specs.Prelude.{All}
 use Rattle.std.proofs.lemmas.List.Elements.{All-from_recursion}
-use Rattle.hm_types.specs.declared.limits.TheConstants.{MOST_LEVELS}
 use Rattle.hm_fields.specs.Pages.{PageMap}
 use Rattle.hm_key.specs.Elements.{element_key}
 use Rattle.hm_key.specs.Stores.{IsMarked}
-use Rattle.hm_node.specs.Inner.{HasInnerLevel}
 use Rattle.hm_node.specs.Node.{level_of, IsNode}
 use Rattle.hm_node.specs.declared.node.Node.{Node}
 use Rattle.hm_node.specs.declared.node.Node.TheVariants.{Leaf, Inner as inner_node}

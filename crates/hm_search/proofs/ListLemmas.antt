@@ -1,24 +1,22 @@
 -- Lists whose elements keep a fact, or stand in order.
-use Rattle.std.proofs.Common.{◌≡◌, Bool, true, false, not, true≢false, ℕ, zero, suc, ◌+◌, ◌-◌, ◌<◌, ◌≤◌, inl, inr, List, [], ◌∷◌, ◌++◌, length, map, refl, sym, ap, subst, ◌∙◌, arith}
-use Rattle.std.specs.Prelude.{slice_index_or, slice_get, Option, Some, None}
+use Rattle.std.proofs.Common.{◌≡◌, Bool, true, false, not, true≢false, ℕ, zero, suc, ◌<◌, ◌≤◌, inl, inr, List, [], ◌∷◌, ◌++◌, length, refl, sym, ap, subst, arith}
+use Rattle.std.specs.Prelude.{slice_index_or, slice_get, Some}
 use Rattle.std.specs.List.{AllByRecursion, AllWithin}
 use Rattle.std.specs.List.Sorted.{IsStrictlySortedBy, IsPartitionedBy}
 use Rattle.std.specs.Ordering.{is_lt}
 use Rattle.std.specs.declared.cmp.Ordering.{Ordering}
 use Rattle.std.specs.declared.cmp.Ordering.TheVariants.{Less}
 use Rattle.std.proofs.lemmas.Bool.{cases_lt}
-use Rattle.hm_types.specs.Elements.{Key, key_cmp}
-use Rattle.hm_key.specs.Key.{key_of, IsBefore, IsFrom}
+use Rattle.hm_types.specs.Elements.{Key}
+use Rattle.hm_key.specs.Key.{IsBefore, IsFrom}
 use Rattle.hm_key.specs.Elements.{element_key, element_cmp, stands_before}
 use Rattle.hm_key.specs.Places.{leading}
-use Rattle.hm_key.specs.declared.base.Base.{Base}
 use Rattle.hm_key.specs.declared.element.Element.{Element}
-use Rattle.hm_key.proofs.KeyLemmas.{key_total, key_before_from, key_from_before}
-use Rattle.hm_node.specs.Base.{base_cmp}
+use Rattle.hm_key.proofs.KeyLemmas.{key_total, key_before_from}
 use Rattle.hm_node.specs.declared.inner.Child.{Child}
-use Rattle.hm_search.specs.Tree.{starts_after, next_left}
-use Rattle.hm_search.specs.Search.{begun, holder_place}
-use Rattle.hm_search.proofs.OrderLemmas.{before_is, from_is, from_not}
+use Rattle.hm_search.specs.Tree.{starts_after}
+use Rattle.hm_search.specs.Search.{begun}
+use Rattle.hm_search.proofs.OrderLemmas.{before_is}
 
 module _ {A : Type 0} where
   pub each_so : (P Q : A → Type 0) (xs : List A) → ((x : A) → P x → Q x) → AllByRecursion P xs → AllByRecursion Q xs

@@ -1,12 +1,10 @@
 -- The marks of a sound tree: at most the node's `mirror`, and at least each id at their key.
-use Rattle.std.proofs.Common.{◌≡◌, ℕ, zero, suc, ◌+◌, ◌<◌, ◌≤◌, List, [], ◌∷◌, ◌++◌, length, refl, sym, ap, subst, ◌∙◌, arith}
-use Rattle.std.specs.Prelude.{All}
-use Rattle.std.specs.List.{AllByRecursion, flat_map}
+use Rattle.std.proofs.Common.{◌≡◌, ℕ, zero, suc, ◌≤◌, List, [], ◌∷◌, sym, ap, subst, arith}
+use Rattle.std.specs.List.{AllByRecursion}
 use Rattle.std.specs.List.Sorted.{IsStrictlySortedBy}
-use Rattle.std.proofs.lemmas.List.Elements.{All-from_recursion, recursion_from_All}
-use Rattle.hm_types.specs.Elements.{Key, key_cmp}
-use Rattle.hm_fields.specs.Pages.{PageMap, page_in}
-use Rattle.hm_key.specs.Key.{key_of, IsBefore, IsFrom}
+use Rattle.std.proofs.lemmas.List.Elements.{recursion_from_All}
+use Rattle.hm_types.specs.Elements.{Key}
+use Rattle.hm_fields.specs.Pages.{PageMap}
 use Rattle.hm_key.specs.Elements.{element_key}
 use Rattle.hm_key.specs.Stores.{IsMarked}
 use Rattle.hm_key.specs.declared.base.Base.{Base}
@@ -17,7 +15,7 @@ use Rattle.hm_node.specs.declared.inner.Child.{Child}
 use Rattle.hm_node.specs.declared.node.Node.{Node}
 use Rattle.hm_node.specs.declared.node.Node.TheVariants.{Leaf, Inner as inner_node}
 use Rattle.hm_search.specs.Place.{IsInside, mirror_of}
-use Rattle.hm_search.specs.Tree.{node_at, elements_in, mark_in, holder, at_holder, next_left, child_place, places_of, children_of, HasChildren, IsTree, IsStoredTree}
+use Rattle.hm_search.specs.Tree.{node_at, elements_in, mark_in, at_holder, next_left, child_place, places_of, children_of, IsTree, IsStoredTree}
 use Rattle.hm_search.specs.declared.subtree.Subtree.{Subtree}
 use Rattle.hm_search.proofs.ChildLemmas.{bounds, later_sorted, at_holder_each, holder_first, holder_later}
 use Rattle.hm_search.proofs.ContentLemmas.{AreInside, all_of, from_next_on, elements_inside}

@@ -1,23 +1,22 @@
 -- What the head of a page and the bases in its places say of the node in it.
-use Rattle.std.proofs.Common.{◌≡◌, ◌≢◌, Bool, true, false, true≢false, ℕ, zero, suc, ◌+◌, ◌<◌, ◌≤◌, List, [], ◌∷◌, ◌++◌, length, refl, sym, ap, subst, ◌∙◌, ◌↔◌, arith, IsTrue, ne_eqb}
-use Rattle.std.specs.Prelude.{All, Option, Some, None, nat_eq}
+use Rattle.std.proofs.Common.{◌≡◌, ◌≢◌, false, ℕ, zero, suc, ◌<◌, ◌≤◌, List, [], ◌∷◌, ◌++◌, length, refl, sym, ap, subst, ◌∙◌, ◌↔◌, arith, ne_eqb}
+use Rattle.std.specs.Prelude.{All, Some, nat_eq}
 use Rattle.hm_key.specs.Key.{key_of}
 use Rattle.hm_key.specs.Elements.{element_key}
 use Rattle.hm_key.specs.declared.base.Base.{Base}
-use Rattle.hm_key.specs.declared.element.Element.{Element}
 use Rattle.hm_node.specs.Base.{base_in}
 use Rattle.hm_node.specs.Head.{head_in}
 use Rattle.hm_node.specs.Places.{place, first}
 use Rattle.hm_node.specs.Leaf.{elements_in, element_in, leaf_in}
 use Rattle.hm_node.specs.Inner.{children_in, child_in, inner_in}
-use Rattle.hm_node.specs.Node.{node_in, count_of, HasCount}
+use Rattle.hm_node.specs.Node.{node_in, HasCount}
 use Rattle.hm_node.specs.declared.head.Head.{Head}
 use Rattle.hm_node.specs.declared.head.TheConstants.{LEAF}
 use Rattle.hm_node.specs.declared.inner.Child.{Child}
 use Rattle.hm_node.specs.declared.node.Node.{Node}
 use Rattle.hm_node.specs.declared.node.Node.TheVariants.{Leaf as leaf_node, Inner as inner_node}
 use Rattle.hm_node.proofs.PlaceLemmas.{first_length, first_all, all_first}
-use Rattle.hm_search.specs.Place.{FitsCount, FitsBounds, BeginsAt, IsInside, least_count}
+use Rattle.hm_search.specs.Place.{FitsCount, FitsBounds, BeginsAt, IsInside}
 use Rattle.hm_search.specs.declared.subtree.Parent.{Parent}
 
 -- the node in a page, by the kind in its head
@@ -44,16 +43,18 @@ inner_count page = first_length (λ i. child_in page (place i)) (head_in page).c
 pub leaf_fits_count : (page : List ℕ) (head : Head) (parent : Parent) → head ≡ head_in page → head.kind ≡ LEAF → (1 ≤ head.count) ↔ FitsCount (Some parent) (node_in page)
 leaf_fits_count page head parent is kind =
     let here = leaf_here page head is kind in
-    let counts : head.count ≡ length (elements_in page (head_in page).count) = count_here page head is ∙ sym (leaf_count page) in
-    (λ some. subst (λ (n : Node). FitsCount (Some parent) n) (sym here) (subst (λ (n : ℕ). 1 ≤ n) counts some),
-    λ fits. subst (λ (n : ℕ). 1 ≤ n) (sym counts) (subst (λ (n : Node). FitsCount (Some parent) n) here fits))
+    let counts : head.count ≡ length (elements_in page (head_in page).count) = count_here page head is ∙ sym (leaf_count page) in (
+      λ some. subst (λ (n : Node). FitsCount (Some parent) n) (sym here) (subst (λ (n : ℕ). 1 ≤ n) counts some),
+      λ fits. subst (λ (n : ℕ). 1 ≤ n) (sym counts) (subst (λ (n : Node). FitsCount (Some parent) n) here fits),
+    )
 
 pub inner_fits_count : (page : List ℕ) (head : Head) (parent : Parent) → head ≡ head_in page → head.kind ≢ LEAF → (16 ≤ head.count) ↔ FitsCount (Some parent) (node_in page)
 inner_fits_count page head parent is kind =
     let here = inner_here page head is kind in
-    let counts : head.count ≡ length (children_in page (head_in page).count) = count_here page head is ∙ sym (inner_count page) in
-    (λ some. subst (λ (n : Node). FitsCount (Some parent) n) (sym here) (subst (λ (n : ℕ). 16 ≤ n) counts some),
-    λ fits. subst (λ (n : ℕ). 16 ≤ n) (sym counts) (subst (λ (n : Node). FitsCount (Some parent) n) here fits))
+    let counts : head.count ≡ length (children_in page (head_in page).count) = count_here page head is ∙ sym (inner_count page) in (
+      λ some. subst (λ (n : Node). FitsCount (Some parent) n) (sym here) (subst (λ (n : ℕ). 16 ≤ n) counts some),
+      λ fits. subst (λ (n : ℕ). 16 ≤ n) (sym counts) (subst (λ (n : Node). FitsCount (Some parent) n) here fits),
+    )
 
 -- the elements in the places of a page, by their bases
 pub inside_places : (left right : Base) (page : List ℕ) (n : ℕ) → ((k : ℕ) → k < n → IsInside left right (key_of (base_in page (place k)))) → All (λ e. IsInside left right (element_key e)) (elements_in page n)
@@ -89,9 +90,10 @@ pub leaf_fits_bounds : (left right : Base) (page : List ℕ) (head : Head) (coun
     → All (λ e. IsInside left right (element_key e)) (elements_in page count) ↔ FitsBounds left right (node_in page)
 leaf_fits_bounds left right page head count is same kind =
     let here = leaf_here page head is kind in
-    let counts : count ≡ (head_in page).count = same ∙ count_here page head is in
-    (λ all. subst (FitsBounds left right) (sym here) (subst (λ (n : ℕ). All (λ e. IsInside left right (element_key e)) (elements_in page n)) counts all),
-    λ fits. subst (λ (n : ℕ). All (λ e. IsInside left right (element_key e)) (elements_in page n)) (sym counts) (subst (FitsBounds left right) here fits))
+    let counts : count ≡ (head_in page).count = same ∙ count_here page head is in (
+      λ all. subst (FitsBounds left right) (sym here) (subst (λ (n : ℕ). All (λ e. IsInside left right (element_key e)) (elements_in page n)) counts all),
+      λ fits. subst (λ (n : ℕ). All (λ e. IsInside left right (element_key e)) (elements_in page n)) (sym counts) (subst (FitsBounds left right) here fits),
+    )
 
 pub inner_fits_bounds : (left right : Base) (page : List ℕ) (head : Head) (count : ℕ) → head ≡ head_in page → count ≡ head.count → head.kind ≢ LEAF → HasCount (node_in page)
     → ((key_of (base_in page (place 0)) ≡ key_of left) × (key_of (base_in page (place count)) ≡ key_of right)) ↔ FitsBounds left right (node_in page)
@@ -99,11 +101,12 @@ inner_fits_bounds left right page head count is same kind counted =
     let here = inner_here page head is kind in
     let counts : count ≡ (head_in page).count = same ∙ count_here page head is in
     let some : 1 ≤ count = some_children (subst HasCount here counted) counts in
-    let begins = begins_first left page count some in
-    (λ both. subst (FitsBounds left right) (sym here)
-    (subst (λ (n : ℕ). BeginsAt left (children_in page n)) counts (begins.0 both.0), subst (λ (n : ℕ). key_of (base_in page (place n)) ≡ key_of right) counts both.1),
-    λ fits. let both = subst (FitsBounds left right) here fits in
-    (begins.1 (subst (λ (n : ℕ). BeginsAt left (children_in page n)) (sym counts) both.0), subst (λ (n : ℕ). key_of (base_in page (place n)) ≡ key_of right) (sym counts) both.1)) where
+    let begins = begins_first left page count some in (
+      λ both. subst (FitsBounds left right) (sym here)
+          (subst (λ (n : ℕ). BeginsAt left (children_in page n)) counts (begins.0 both.0), subst (λ (n : ℕ). key_of (base_in page (place n)) ≡ key_of right) counts both.1),
+      λ fits. let both = subst (FitsBounds left right) here fits in
+          (begins.1 (subst (λ (n : ℕ). BeginsAt left (children_in page n)) (sym counts) both.0), subst (λ (n : ℕ). key_of (base_in page (place n)) ≡ key_of right) (sym counts) both.1),
+    ) where
       some_children : HasCount (inner_node (inner_in page)) → count ≡ (head_in page).count → 1 ≤ count
       some_children counted counts = omega (arith, inner_count page, counted.0)
 

@@ -1,31 +1,28 @@
 -- Which pages a sound tree reaches: each at a lower level, and those below different children are different.
-use Rattle.std.proofs.Common.{◌≡◌, ◌≢◌, Bool, true, false, true≢false, ◌||◌, ℕ, zero, suc, ◌+◌, ◌<◌, ◌≤◌, ◌⊎◌, inl, inr, List, [], ◌∷◌, length, refl, sym, ap, subst, ◌∙◌, arith, nat_eq, eqb-true, eq-eqb, IsTrue}
+use Rattle.std.proofs.Common.{◌≡◌, ◌≢◌, Bool, true, false, true≢false, ◌||◌, ℕ, zero, suc, ◌≤◌, ◌⊎◌, inl, inr, List, [], ◌∷◌, length, refl, sym, ap, subst, arith, nat_eq, eqb-true}
 use Rattle.std.specs.Prelude.{Option, Some, None}
 use Rattle.std.specs.List.{AllByRecursion, list_any}
 use Rattle.std.specs.List.Sorted.{IsStrictlySortedBy}
-use Rattle.hm_types.specs.Elements.{Key, key_cmp}
-use Rattle.hm_fields.specs.Pages.{PageMap, page_in}
+use Rattle.hm_types.specs.Elements.{Key}
+use Rattle.hm_fields.specs.Pages.{PageMap}
 use Rattle.hm_key.specs.Key.{key_of, least_key, IsBefore, IsFrom}
 use Rattle.hm_key.specs.Elements.{element_key}
 use Rattle.hm_key.specs.declared.base.Base.{Base}
 use Rattle.hm_key.specs.declared.element.Element.{Element}
 use Rattle.hm_key.proofs.KeyLemmas.{key_not_before, key_before_from}
 use Rattle.hm_node.specs.Base.{base_cmp}
-use Rattle.hm_node.specs.Inner.{HasInnerLevel}
 use Rattle.hm_node.specs.Node.{level_of}
 use Rattle.hm_node.specs.declared.inner.Child.{Child}
-use Rattle.hm_node.specs.declared.inner.Inner.{Inner}
 use Rattle.hm_node.specs.declared.node.Node.{Node}
 use Rattle.hm_node.specs.declared.node.Node.TheVariants.{Leaf, Inner as inner_node}
-use Rattle.hm_search.specs.Place.{IsInside, BeginsAt, FitsCount, FitsBounds}
-use Rattle.hm_search.specs.Tree.{node_at, reaches, Reaches, next_left, child_place, places_of, children_of, HasChildren, IsTree, IsStoredTree}
+use Rattle.hm_search.specs.Place.{IsInside, BeginsAt, FitsCount}
+use Rattle.hm_search.specs.Tree.{node_at, reaches, Reaches, next_left, child_place, places_of, IsTree, IsStoredTree}
 pub use Rattle.hm_search.specs.Reach.{is_under}
 use Rattle.hm_search.specs.declared.subtree.Parent.{Parent}
 use Rattle.hm_search.specs.declared.subtree.Subtree.{Subtree}
 use Rattle.hm_search.proofs.ChildLemmas.{bounds, next_by_right, from_next, later_sorted, begins_before}
-use Rattle.hm_search.proofs.ContentLemmas.{wider, from_left, elements_inside, inside_same}
-use Rattle.hm_search.proofs.ListLemmas.{each_so, each_both}
-use Rattle.hm_search.proofs.OrderLemmas.{from_trans, from_then_before}
+use Rattle.hm_search.proofs.ContentLemmas.{wider, from_left, elements_inside}
+use Rattle.hm_search.proofs.ListLemmas.{each_both}
 
 -- an `or` that holds
 pub either : (a b : Bool) → (a || b) ≡ true → (a ≡ true) ⊎ (b ≡ true)
@@ -123,9 +120,10 @@ pub record IsWithin (left right : Base) (s : Subtree) : Type 0 where
 pub places_within : (level : ℕ) (left right : Base) (cs : List Child) → IsStrictlySortedBy base_cmp (bounds right cs) → AllByRecursion (λ b. IsFrom (key_of left) (key_of b)) (bounds right cs)
     → AllByRecursion (IsWithin left right) (places_of level right cs)
 places_within level left right [] sorted low = tt
-places_within level left right (c ∷ cs) sorted low =
-    (record { from = low.0; to = next_by_right right cs (later_sorted right c cs sorted); below = λ none. absurd cc },
-    places_within level left right cs (later_sorted right c cs sorted) low.1)
+places_within level left right (c ∷ cs) sorted low = (
+  record { from = low.0; to = next_by_right right cs (later_sorted right c cs sorted); below = λ none. absurd cc },
+  places_within level left right cs (later_sorted right c cs sorted) low.1,
+)
 
 -- the first key of a node under one of some children lies inside the boundaries of these
 module _ (map : PageMap) (height : ℕ) (inside : (s : Subtree) (x : ℕ) → IsStoredTree map height s → Reaches map height (node_at map s.at) x → IsInside s.left s.right (first_key (node_at map x))) where

@@ -1,6 +1,6 @@
 -- What a search finds below a node, from what it finds below the child that holds the key.
 use Rattle.std.proofs.Common.{◌≡◌, ◌≢◌, Bool, true, false, ℕ, zero, suc, ◌+◌, ◌<◌, ◌≤◌, List, [], ◌∷◌, ◌++◌, length, drop, refl, sym, ap, subst, ◌∙◌, arith, if◌then◌else◌, Fits as InRange, w8, w64, Bor}
-use Rattle.std.specs.Prelude.{All, Option, Some, None, Result, Ok, Err, IfSome, IfOk, IfErr, slice_get}
+use Rattle.std.specs.Prelude.{Option, Some, None, Result, Ok, Err, IfSome, IfOk, slice_get}
 use Rattle.std.specs.List.{AllByRecursion, flat_map}
 use Rattle.std.specs.List.Sorted.{IsStrictlySortedBy}
 use Rattle.std.specs.Ordering.{is_lt}
@@ -8,14 +8,14 @@ use Rattle.std.specs.Option.{option_copied}
 use Rattle.std.specs.Slice.{IsItemAt}
 use Rattle.std.proofs.lemmas.List.Elements.{All-from_recursion, recursion_from_All}
 use Rattle.std.proofs.lemmas.Result.{IfOk-weaker}
-use Rattle.hm_types.specs.Elements.{Key, key_cmp}
+use Rattle.hm_types.specs.Elements.{Key}
 use Rattle.hm_types.specs.declared.fault.Fault.{Fault}
 use Rattle.hm_fields.specs.Pages.{PageMap, page_in}
 use Rattle.hm_key.specs.Key.{key_of, IsBefore, IsFrom}
 use Rattle.hm_key.specs.Element.{IsElement}
 use Rattle.hm_key.specs.Elements.{element_key, first_from}
 use Rattle.hm_key.specs.Places.{leading}
-use Rattle.hm_key.specs.Stores.{IsFound, IsEnd, IsQuiet}
+use Rattle.hm_key.specs.Stores.{IsFound, IsQuiet}
 use Rattle.hm_key.specs.declared.base.Base.{Base}
 use Rattle.hm_key.specs.declared.element.Element.{Element}
 use Rattle.hm_key.proofs.KeyLemmas.{key_before_from, key_from_before, key_not_before}
@@ -33,16 +33,16 @@ use Rattle.hm_node.specs.declared.node.Node.TheVariants.{Leaf as leaf_node, Inne
 use Rattle.hm_search.specs.Descent.{levels_below}
 use Rattle.hm_search.specs.Place.{Fits, FitsBounds, SpellsHere, mirror_of}
 use Rattle.hm_search.specs.Search.{begun, holder_place, IsPlaceOf, IsEndBy}
-use Rattle.hm_search.specs.Tree.{node_at, elements_in, mark_in, leaf_in, starts_after, holder, at_holder, next_left, child_place, places_of, children_of, IsTree, IsStoredTree}
+use Rattle.hm_search.specs.Tree.{node_at, elements_in, mark_in, leaf_in, starts_after, holder, at_holder, next_left, children_of, IsTree, IsStoredTree}
 use Rattle.hm_search.specs.declared.search.Found.{Found}
 use Rattle.hm_search.specs.declared.subtree.Subtree.{Subtree}
-use Rattle.hm_search.proofs.ChildLemmas.{bounds, later_sorted, last_of_each, next_by_right, place_is, at_holder_is, holder_place_within, holder_later, next_there}
-use Rattle.hm_search.proofs.ContentLemmas.{AreInside, all_of, elements_inside}
+use Rattle.hm_search.proofs.ChildLemmas.{bounds, later_sorted, next_by_right, place_is, at_holder_is, holder_place_within, holder_later}
+use Rattle.hm_search.proofs.ContentLemmas.{AreInside, elements_inside}
 use Rattle.hm_search.proofs.DescentLemmas.{child_lower, child_stored, IsStoredBelow}
 use Rattle.hm_search.proofs.FirstLemmas.{first_found, first_none, first_at_front, drop_get, drop_past, holder_next, first_from_holder}
 use Rattle.hm_search.proofs.ListLemmas.{each_so}
 use Rattle.hm_search.proofs.MarkLemmas.{mark_most}
-use Rattle.hm_search.proofs.OrderLemmas.{before_is, from_is, from_not, from_trans}
+use Rattle.hm_search.proofs.OrderLemmas.{before_is, from_is, from_trans}
 
 -- the place of the child that holds a key is one of the node's
 pub place_within : (node : Node) (inner : Inner) (key : Key) (place : ℕ) → IsNode node → node ≡ inner_node inner → place ≡ holder_place key inner.places.items → place < length inner.places.items
@@ -143,11 +143,11 @@ leaf_found key node leaf found sound is read =
 pub first_up : (map : PageMap) (height lower : ℕ) (s child : Subtree) (inner : Inner) (key : Key) (place : ℕ) → height ≡ suc lower → node_at map s.at ≡ inner_node inner → IsTree map (suc lower) s (inner_node inner)
     → place ≡ holder_place key inner.places.items → slice_get (children_of inner) place ≡ Some child
     → first_from key (elements_in map height (node_at map s.at))
-      ≡ first_from key (elements_in map lower (node_at map child.at) ++ flat_map (λ (c : Child). elements_in map lower (node_at map c.child)) (drop (suc place) inner.places.items))
+    ≡ first_from key (elements_in map lower (node_at map child.at) ++ flat_map (λ (c : Child). elements_in map lower (node_at map c.child)) (drop (suc place) inner.places.items))
 first_up map height lower s child inner key place up is tree at get =
     let here = place_is inner.level inner.right inner.places.items place child get in
     let inside = each_so (IsStoredTree map lower) (λ c. AreInside c.left c.right (elements_in map lower (node_at map c.at))) (children_of inner)
-        (λ c stored. elements_inside map lower c (node_at map c.at) stored.tree) tree.below in
+    (λ c stored. elements_inside map lower c (node_at map c.at) stored.tree) tree.below in
     let held = subst (λ (n : ℕ). slice_get inner.places.items n ≡ Some here.child) at here.is in
     ap (first_from key) (elements_up map height lower s inner up is)
     ∙ first_from_holder (λ a. elements_in map lower (node_at map a)) inner.level inner.right key inner.places.items here.child tree.sound.order inside held
@@ -166,7 +166,7 @@ first_some_told (Some map) now s child key node inner place found e same is here
     let below = child_stored map height s inner place child stored read get in
     sym (first_up map height below.lower s child inner key place below.is read below.tree at get
     ∙ first_found key e (elements_in map below.lower (node_at map child.at)) (flat_map (λ (c : Child). elements_in map below.lower (node_at map c.child)) (drop (suc place) inner.places.items))
-      (sym (told below.lower below.stored) ∙ some))
+    (sym (told below.lower below.stored) ∙ some))
 
 -- Where it has none and is the last, there is none.
 pub first_last_told : (told now : Option PageMap) (s child : Subtree) (key : Key) (node : Node) (inner : Inner) (place : ℕ) (found : Option Element) → now ≡ told → node ≡ inner_node inner
@@ -182,7 +182,7 @@ first_last_told (Some map) now s child key node inner place found same is here a
     let rest : drop (suc place) inner.places.items ≡ [] = drop_past inner.places.items (suc place) (omega arith) in
     sym (first_up map height below.lower s child inner key place below.is read below.tree at get
     ∙ first_none key (elements_in map below.lower (node_at map child.at)) (flat_map (λ (c : Child). elements_in map below.lower (node_at map c.child)) (drop (suc place) inner.places.items))
-      (sym (told below.lower below.stored) ∙ none)
+    (sym (told below.lower below.stored) ∙ none)
     ∙ ap (λ (cs : List Child). first_from key (flat_map (λ (c : Child). elements_in map below.lower (node_at map c.child)) cs)) rest)
 
 -- the child after the one that holds a key begins after the key
@@ -211,15 +211,15 @@ first_next_told (Some map) now later s child next key node inner place found e s
     let there = place_is inner.level inner.right inner.places.items (place + 1) next get' in
     let after : place + 1 ≡ suc place = omega arith in
     let rest : drop (suc place) inner.places.items ≡ there.child ∷ drop (suc (suc place)) inner.places.items =
-        drop_get inner.places.items (suc place) there.child (subst (λ (n : ℕ). slice_get inner.places.items n ≡ Some there.child) after there.is) in
+    drop_get inner.places.items (suc place) there.child (subst (λ (n : ℕ). slice_get inner.places.items n ≡ Some there.child) after there.is) in
     let els = λ (h : ℕ). elements_in map h (node_at map next.at) in
     let front : slice_get (elements_in map below.lower (node_at map there.child.child)) 0 ≡ Some e =
-        subst (λ (t : Subtree). slice_get (elements_in map below.lower (node_at map t.at)) 0 ≡ Some e) there.place
-        (subst (λ (h : ℕ). slice_get (elements_in map h (node_at map next.at)) 0 ≡ Some e) level (told' beside.lower beside.stored)) in
+    subst (λ (t : Subtree). slice_get (elements_in map below.lower (node_at map t.at)) 0 ≡ Some e) there.place
+    (subst (λ (h : ℕ). slice_get (elements_in map h (node_at map next.at)) 0 ≡ Some e) level (told' beside.lower beside.stored)) in
     let from : IsFrom key (element_key e) = from_trans key (key_of next.left) (element_key e) (key_from_before key (key_of next.left) (next_after inner key place next at get')) first.place in
     sym (first_up map height below.lower s child inner key place below.is read below.tree at get
     ∙ first_none key (elements_in map below.lower (node_at map child.at)) (flat_map (λ (c : Child). elements_in map below.lower (node_at map c.child)) (drop (suc place) inner.places.items))
-      (sym (told below.lower below.stored) ∙ none)
+    (sym (told below.lower below.stored) ∙ none)
     ∙ ap (λ (cs : List Child). first_from key (flat_map (λ (c : Child). elements_in map below.lower (node_at map c.child)) cs)) rest
     ∙ first_at_front key e (elements_in map below.lower (node_at map there.child.child)) (flat_map (λ (c : Child). elements_in map below.lower (node_at map c.child)) (drop (suc (suc place)) inner.places.items)) front from)
 
@@ -289,10 +289,10 @@ quiet_up map height lower s child inner at since place (Some end) up is held get
     let here = place_is inner.level inner.right inner.places.items place child get in
     let bound : child.right ≡ next_left inner.right (drop (suc place) inner.places.items) = ap (λ (t : Subtree). t.right) here.place in
     let by : IsBefore key (key_of (next_left inner.right (drop (suc (holder_place at inner.places.items)) inner.places.items))) =
-        subst (λ (n : ℕ). IsBefore key (key_of (next_left inner.right (drop (suc n) inner.places.items)))) held
-        (subst (λ (b : Base). IsBefore key (key_of b)) bound (key_before_from key (key_of end) (key_of child.right) before ends.within)) in
+    subst (λ (n : ℕ). IsBefore key (key_of (next_left inner.right (drop (suc n) inner.places.items)))) held
+    (subst (λ (b : Base). IsBefore key (key_of b)) bound (key_before_from key (key_of end) (key_of child.right) before ends.within)) in
     let same = mark_up map height lower s inner key up is ∙ span_same (λ (c : Child). mark_in map lower (node_at map c.child) key) key at inner.right inner.places.items from by
-        ∙ at_child (λ a. mark_in map lower (node_at map a) key) at inner place child held get in
+    ∙ at_child (λ a. mark_in map lower (node_at map a) key) at inner place child held get in
     subst (λ (n : ℕ). n ≤ since) (sym same) (quiet key from before)
 
 pub quiet_below_told : (told now : Option PageMap) (s child : Subtree) (at : Key) (since : ℕ) (node : Node) (inner : Inner) (place : ℕ) (r : Result (Option Base) Fault) → now ≡ told → node ≡ inner_node inner
@@ -357,8 +357,8 @@ end_below s child node inner at place r sound fits is get ends =
     let here = place_is inner.level inner.right inner.places.items place child get in
     let order = (subst IsNode is sound).order in
     let low : IsFrom (key_of child.right) (key_of s.right) =
-        subst (λ (t : Subtree). IsFrom (key_of t.right) (key_of s.right)) (sym here.place)
-        (subst (λ (k : Key). IsFrom (key_of (next_left inner.right (drop (suc place) inner.places.items))) k) bounds_of.1 (drop_by_right inner.right inner.places.items (suc place) order)) in
+    subst (λ (t : Subtree). IsFrom (key_of t.right) (key_of s.right)) (sym here.place)
+    (subst (λ (k : Key). IsFrom (key_of (next_left inner.right (drop (suc place) inner.places.items))) k) bounds_of.1 (drop_by_right inner.right inner.places.items (suc place) order)) in
     IfOk-weaker r (λ end. IfSome end (IsEndBy at child.right)) (λ end. IfSome end (IsEndBy at s.right)) (wider low) ends where
       wider : IsFrom (key_of child.right) (key_of s.right) → (end : Option Base) → IfSome end (IsEndBy at child.right) → IfSome end (IsEndBy at s.right)
       wider low None by = tt

@@ -25,7 +25,9 @@ levels_below subtree = levels_under subtree.parent
 -- the page at the first place spells an inner node that is sound where it stands, and the second is the place
 -- of one of its children
 abbrev pub LeadsTo : PageMap → Subtree → Subtree → Type 0
-LeadsTo map from to = (inner : Inner) × SpellsHere from (page_in (map from.at)) (inner_node inner) × (i : ℕ) × (slice_get (children_of inner) i ≡ Some to)
+LeadsTo map from to =
+    (inner : Inner) × SpellsHere from (page_in (map from.at)) (inner_node inner)
+    × (i : ℕ) × (slice_get (children_of inner) i ≡ Some to)
 
 -- so many steps down lead from the first place to the second
 abbrev pub Descends : PageMap → ℕ → Subtree → Subtree → Type 0
@@ -36,18 +38,22 @@ Descends map (suc steps) from to = (next : Subtree) × LeadsTo map from next × 
 -- with the lowest number of such a rule
 abbrev pub IsFaultBelow : PageMap → Subtree → Fault → Type 0
 IsFaultBelow map from (Media before after) = ⊤
-IsFaultBelow map from (Damaged at kind) = (steps : ℕ) × (to : Subtree) × Descends map steps from to × TellsDamage to (page_in (map to.at)) (Damaged at kind)
+IsFaultBelow map from (Damaged at kind) =
+    (steps : ℕ) × (to : Subtree) × Descends map steps from to
+    × TellsDamage to (page_in (map to.at)) (Damaged at kind)
 IsFaultBelow map from NoMemory = ⊤
 
 -- Each fault of a search that begins at a place has its cause: the count of faults rose, or a page on the way
 -- is broken; so none tells of damage where a sound tree begins there.
-pub record HasSearchCause {T : Type 0} (told : Option PageMap) (from : Subtree) (old new : ℕ) (result : Result T Fault) : Type 0 where
+pub record HasSearchCause {T : Type 0} (told : Option PageMap) (from : Subtree) (old new : ℕ)
+    (result : Result T Fault) : Type 0 where
   pub counted : HasFaultCause old new result
   pub damage : IfSome told (λ map. IfErr result (IsFaultBelow map from))
   pub undamaged : IfSome told (λ map. (height : ℕ) → IsStoredTree map height from → IfErr result IsUndamaged)
 
 -- a search changes nothing
-pub record Reads {P R : Type 0} (name_of : P → ℕ) (rest_of : P → R) (pages_of : P → Option PageMap) (old new : P) : Type 0 where
+pub record Reads {P R : Type 0} (name_of : P → ℕ) (rest_of : P → R) (pages_of : P → Option PageMap)
+    (old new : P) : Type 0 where
   pub name : name_of new ≡ name_of old
   pub rest : rest_of new ≡ rest_of old
   pub pages : pages_of new ≡ pages_of old

@@ -7,11 +7,9 @@ use Rattle.hm_types.specs.Elements.{Key}
 use Rattle.hm_key.specs.Key.{key_of, IsBefore, IsFrom}
 use Rattle.hm_key.specs.Elements.{element_key}
 use Rattle.hm_key.specs.declared.base.Base.{Base}
-use Rattle.hm_key.specs.declared.element.Element.{Element}
 use Rattle.hm_node.specs.Damage.{Keeps, number_of}
 use Rattle.hm_node.specs.Node.{node_in, level_of, count_of, IsNode, Spells}
 use Rattle.hm_node.specs.declared.inner.Child.{Child}
-use Rattle.hm_node.specs.declared.inner.Inner.{Inner}
 use Rattle.hm_node.specs.declared.node.Node.{Node}
 use Rattle.hm_node.specs.declared.node.Node.TheVariants.{Leaf as leaf_node, Inner as inner_node}
 use Rattle.hm_node.specs.declared.rule.Rule.{Rule}
@@ -54,7 +52,8 @@ BeginsAt left (c ∷ cs) = key_of c.left ≡ key_of left
 -- right boundary is the right one; its others lie between them, since they rise.
 abbrev pub FitsBounds : Base → Base → Node → Type 0
 FitsBounds left right (leaf_node leaf) = All (λ e. IsInside left right (element_key e)) leaf.places.items
-FitsBounds left right (inner_node inner) = BeginsAt left inner.places.items × (key_of inner.right ≡ key_of right)
+FitsBounds left right (inner_node inner) =
+    BeginsAt left inner.places.items × (key_of inner.right ≡ key_of right)
 
 -- the `mirror` of a node below the root is the one that its parent has for it
 abbrev pub FitsMirror : Option Parent → Node → Type 0

@@ -1,11 +1,11 @@
 -- Facts of ghost fields have one proof at most.
-use Rattle.std.specs.Prelude.{◌≡◌, ◌⊎◌, ℕ, zero, suc, ◌<◌, List, [], ◌∷◌, Option, None, Some, IsSome}
-use Rattle.std.specs.List.{AllByRecursion, AllByRecursion-prop}
+use Rattle.std.specs.Prelude.{◌⊎◌, ℕ, zero, suc, List, [], ◌∷◌, Option, None, Some}
+use Rattle.std.specs.List.{AllByRecursion-prop}
 use Rattle.std.specs.List.Sorted.{IsStrictlySortedBy-prop}
 use Rattle.std.proofs.Common.{inl, inr, ap, arith}
 use Rattle.std.proofs.Props.{props}
 use Rattle.hm_types.specs.Offset.{IsZone}
-use Rattle.hm_fields.specs.Pages.{PageMap, page_in}
+use Rattle.hm_fields.specs.Pages.{PageMap}
 use Rattle.hm_key.specs.Props.{IsElement-prop}
 use Rattle.hm_key.specs.declared.base.Base.{Base}
 use Rattle.hm_key.specs.declared.element.Element.{Element}
@@ -15,7 +15,7 @@ use Rattle.hm_node.specs.declared.inner.Child.{Child}
 use Rattle.hm_node.specs.declared.node.Node.{Node}
 use Rattle.hm_node.specs.declared.node.Node.TheVariants.{Leaf, Inner as inner_node}
 use Rattle.hm_search.specs.Place.{FitsLevel, FitsCount, FitsBounds, FitsMirror, BeginsAt, Fits}
-use Rattle.hm_search.specs.Tree.{node_at, places_of, children_of, HasChildren, IsTreeWith, IsStoredWith, IsStoredTree, IsSoundTree, IsWhole, root_place, height_of}
+use Rattle.hm_search.specs.Tree.{node_at, children_of, HasChildren, IsStoredWith, IsStoredTree, IsSoundTree, IsWhole, root_place, height_of}
 use Rattle.hm_search.specs.declared.subtree.Parent.{Parent}
 use Rattle.hm_search.specs.declared.subtree.Subtree.{Subtree}
 
@@ -27,7 +27,9 @@ disjoint_prop a b apart (inr x) (inl y) = absurd (apart y x)
 disjoint_prop a b apart (inr x) (inr y) = ap inr (b x y)
 
 IsZone-prop : (zone : ℕ) → IsProp (IsZone zone)
-IsZone-prop zone = disjoint_prop (hlevel props) (disjoint_prop (hlevel props) (hlevel props) (λ is other. omega arith)) (λ is other. omega arith)
+IsZone-prop zone =
+    disjoint_prop (hlevel props)
+    (disjoint_prop (hlevel props) (hlevel props) (λ is other. omega arith)) (λ is other. omega arith)
 
 IsPlaced-prop : (e : Element) → IsProp (IsPlaced e)
 IsPlaced-prop e = hlevel (IsElement-prop, IsZone-prop, props)
@@ -65,17 +67,22 @@ FitsMirror-prop (Some parent) node = hlevel props
 pub Fits-prop : (s : Subtree) (node : Node) → IsProp (Fits s node)
 Fits-prop s node = hlevel (FitsLevel-prop, FitsCount-prop, FitsBounds-prop, FitsMirror-prop, props)
 
-IsStoredWith-prop : (Below : Node → Type 0) (map : PageMap) (height : ℕ) (s : Subtree) → ((node : Node) → IsProp (Below node)) → IsProp (IsStoredWith Below map height s)
+IsStoredWith-prop : (Below : Node → Type 0) (map : PageMap) (height : ℕ) (s : Subtree)
+    → ((node : Node) → IsProp (Below node)) → IsProp (IsStoredWith Below map height s)
 IsStoredWith-prop Below map height s below = hlevel (below, IsNode-prop, Spells-prop, Fits-prop, props)
 
 pub HasChildren-prop : (map : PageMap) (height : ℕ) (node : Node) → IsProp (HasChildren map height node)
 HasChildren-prop map zero node = hlevel props
 HasChildren-prop map (suc height) (Leaf leaf) = hlevel props
 HasChildren-prop map (suc height) (inner_node inner) =
-    AllByRecursion-prop (IsStoredTree map height) (λ s. IsStoredWith-prop (HasChildren map height) map height s (HasChildren-prop map height)) (children_of inner)
+    AllByRecursion-prop (IsStoredTree map height)
+    (λ s. IsStoredWith-prop (HasChildren map height) map height s (HasChildren-prop map height))
+    (children_of inner)
 
 pub IsSoundTree-prop : (map : PageMap) (root : ℕ) → IsProp (IsSoundTree map root)
-IsSoundTree-prop map root = IsStoredWith-prop (HasChildren map (height_of (node_at map root))) map (height_of (node_at map root)) (root_place root) (HasChildren-prop map (height_of (node_at map root)))
+IsSoundTree-prop map root =
+    let height = height_of (node_at map root) in
+    IsStoredWith-prop (HasChildren map height) map height (root_place root) (HasChildren-prop map height)
 
 pub IsWhole-prop : (map : PageMap) (root : ℕ) → IsProp (IsWhole map root)
 IsWhole-prop map root = hlevel props

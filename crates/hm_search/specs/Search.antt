@@ -1,5 +1,5 @@
 -- What a search finds in a tree.
-use Rattle.std.specs.Prelude.{◌≡◌, ℕ, ◌≤◌, List, Option, None, Some, suc, [], ◌∷◌, if◌then◌else◌}
+use Rattle.std.specs.Prelude.{◌≡◌, ℕ, List, suc, [], ◌∷◌, if◌then◌else◌}
 use Rattle.hm_types.specs.Elements.{Key}
 use Rattle.hm_fields.specs.Pages.{PageMap}
 use Rattle.hm_key.specs.Key.{key_of, IsFrom}
@@ -21,9 +21,10 @@ abbrev pub holder_place : Key → List Child → ℕ
 holder_place key [] = 0
 holder_place key (c ∷ cs) = begun key cs
 
--- the place of a key in the tree below a place: the leaf whose boundaries hold it, and how many of that leaf's
--- elements stand before it
-pub record IsPlaceOf (map : PageMap) (height : ℕ) (subtree : Subtree) (key : Key) (found : Found) : Type 0 where
+-- the place of a key in the tree below a place: the leaf whose boundaries hold it, and how many of that
+-- leaf's elements stand before it
+pub record IsPlaceOf (map : PageMap) (height : ℕ) (subtree : Subtree) (key : Key) (found : Found)
+    : Type 0 where
   pub leaf : found.leaf ≡ leaf_in map height subtree.at (node_at map subtree.at) key
   pub place : found.place ≡ leading key (elements_in map 0 (node_at map found.leaf))
 

@@ -5,7 +5,7 @@ use Rattle.std.specs.List.{flat_map, list_any, AllByRecursion}
 use Rattle.std.specs.Ordering.{is_lt}
 use Rattle.hm_types.specs.Elements.{Key, key_cmp}
 use Rattle.hm_fields.specs.Pages.{PageMap, page_in}
-use Rattle.hm_key.specs.Key.{key_of, least_key, greatest_key, IsBoundary}
+use Rattle.hm_key.specs.Key.{key_of, least_key, greatest_key}
 use Rattle.hm_key.specs.declared.base.Base.{Base}
 use Rattle.hm_key.specs.declared.base.TheConstants.{BOUNDARY}
 use Rattle.hm_key.specs.declared.element.Element.{Element}
@@ -25,7 +25,8 @@ node_at map at = node_in (page_in (map at))
 abbrev pub elements_in : PageMap → ℕ → Node → List Element
 elements_in map height (Leaf leaf) = leaf.places.items
 elements_in map zero (inner_node inner) = []
-elements_in map (suc height) (inner_node inner) = flat_map (λ (c : Child). elements_in map height (node_at map c.child)) inner.places.items
+elements_in map (suc height) (inner_node inner) =
+    flat_map (λ (c : Child). elements_in map height (node_at map c.child)) inner.places.items
 
 -- whether a child begins after the key
 abbrev pub starts_after : Key → Child → Bool
@@ -45,19 +46,23 @@ at_holder f key (c ∷ cs) = f (holder key c cs)
 abbrev pub mark_in : PageMap → ℕ → Node → Key → ℕ
 mark_in map height (Leaf leaf) key = leaf.mirror
 mark_in map zero (inner_node inner) key = 0
-mark_in map (suc height) (inner_node inner) key = at_holder (λ c. mark_in map height (node_at map c.child) key) key inner.places.items
+mark_in map (suc height) (inner_node inner) key =
+    at_holder (λ c. mark_in map height (node_at map c.child) key) key inner.places.items
 
 -- the offset of the leaf whose boundaries hold the key, below a node at this offset
 abbrev pub leaf_in : PageMap → ℕ → ℕ → Node → Key → ℕ
 leaf_in map height at (Leaf leaf) key = at
 leaf_in map zero at (inner_node inner) key = at
-leaf_in map (suc height) at (inner_node inner) key = at_holder (λ c. leaf_in map height c.child (node_at map c.child) key) key inner.places.items
+leaf_in map (suc height) at (inner_node inner) key =
+    at_holder (λ c. leaf_in map height c.child (node_at map c.child) key) key inner.places.items
 
 -- whether an offset is that of a node below this one
 abbrev pub reaches : PageMap → ℕ → Node → ℕ → Bool
 reaches map height (Leaf leaf) x = false
 reaches map zero (inner_node inner) x = false
-reaches map (suc height) (inner_node inner) x = list_any (λ (c : Child). nat_eq c.child x || reaches map height (node_at map c.child) x) inner.places.items
+reaches map (suc height) (inner_node inner) x =
+    list_any (λ (c : Child). nat_eq c.child x || reaches map height (node_at map c.child) x)
+    inner.places.items
 
 abbrev pub Reaches : PageMap → ℕ → Node → ℕ → Type 0
 Reaches map height node x = IsTrue (reaches map height node x)
@@ -69,7 +74,12 @@ next_left right (c ∷ cs) = c.left
 
 -- what an inner node of this level says of a child, with the right boundary that it has for it
 abbrev pub child_place : ℕ → Base → Child → Subtree
-child_place level right c = record { at = c.child; left = c.left; right = right; parent = Some (record { level = level; mirror = c.mirror }) }
+child_place level right c = record {
+  at = c.child;
+  left = c.left;
+  right = right;
+  parent = Some (record { level = level; mirror = c.mirror });
+}
 
 -- the places of some children of an inner node of this level, up to its right boundary
 abbrev pub places_of : ℕ → Base → List Child → List Subtree
@@ -88,7 +98,8 @@ pub record IsTreeWith (Below : Node → Type 0) (height : ℕ) (subtree : Subtre
   pub below : Below node
 
 -- the same of the node in the page that stands there, which has to spell it
-pub record IsStoredWith (Below : Node → Type 0) (map : PageMap) (height : ℕ) (subtree : Subtree) : Type 0 where
+pub record IsStoredWith (Below : Node → Type 0) (map : PageMap) (height : ℕ) (subtree : Subtree)
+    : Type 0 where
   pub there : IsSome (map subtree.at)
   pub spelled : Spells (page_in (map subtree.at)) (node_at map subtree.at)
   pub tree : IsTreeWith Below height subtree (node_at map subtree.at)
@@ -97,7 +108,8 @@ pub record IsStoredWith (Below : Node → Type 0) (map : PageMap) (height : ℕ)
 abbrev pub HasChildren : PageMap → ℕ → Node → Type 0
 HasChildren map zero node = Unit {0}
 HasChildren map (suc height) (Leaf leaf) = ⊥
-HasChildren map (suc height) (inner_node inner) = AllByRecursion (IsStoredWith (HasChildren map height) map height) (children_of inner)
+HasChildren map (suc height) (inner_node inner) =
+    AllByRecursion (IsStoredWith (HasChildren map height) map height) (children_of inner)
 
 -- a node at this height with all below it, sound where it stands; its own page may be another
 abbrev pub IsTree : PageMap → ℕ → Subtree → Node → Type 0
@@ -122,7 +134,12 @@ boundary_at key = record {
 
 -- the place of a root at this offset: between the least and the greatest boundary, without a parent
 abbrev pub root_place : ℕ → Subtree
-root_place root = record { at = root; left = boundary_at least_key; right = boundary_at greatest_key; parent = None }
+root_place root = record {
+  at = root;
+  left = boundary_at least_key;
+  right = boundary_at greatest_key;
+  parent = None;
+}
 
 -- the height of a node, by its level: 8 at most in a sound tree
 abbrev pub height_of : Node → ℕ
@@ -134,7 +151,9 @@ IsSoundTree map root = IsStoredTree map (height_of (node_at map root)) (root_pla
 
 -- no page stands beside the tree
 abbrev pub IsWhole : PageMap → ℕ → Type 0
-IsWhole map root = (at : ℕ) → IsSome (map at) → IsTrue (nat_eq at root || reaches map (height_of (node_at map root)) (node_at map root) at)
+IsWhole map root =
+    (at : ℕ) → IsSome (map at)
+    → IsTrue (nat_eq at root || reaches map (height_of (node_at map root)) (node_at map root) at)
 
 -- the elements, the marks and the leaves of the tree from a root on
 abbrev pub elements_of : PageMap → ℕ → List Element

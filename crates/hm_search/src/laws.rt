@@ -48,7 +48,8 @@ pub fn nodes_below_are_lower()
 /// marks, the same offsets, and it is sound in both or in neither.
 pub fn what_is_not_reached_does_not_matter()
     ensures elements { (old new : PageMap) (height : ℕ) (node : Node) →
-        IsSameBelow old new height node → elements_in new height node ≡ elements_in old height node }
+        IsSameBelow old new height node →
+        elements_in new height node ≡ elements_in old height node }
     ensures mark { (old new : PageMap) (key : Key) (height : ℕ) (node : Node) →
         IsSameBelow old new height node →
         mark_in new height node key ≡ mark_in old height node key }

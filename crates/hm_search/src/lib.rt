@@ -1,5 +1,5 @@
-//! The descent from the root of the B-tree: reads each node and checks it where it stands, and finds
-//! the place of a key.
+//! The descent from the root of the B-tree: reads each node and checks it where it stands, and
+//! finds the place of a key.
 #![tactic(auto)]
 
 mod laws;

@@ -15,9 +15,9 @@ use hm_types::{Counted, Fault};
 // Above the number of each rule.
 const ALL_RULES: u8 = 10;
 
-/// Reads a node and checks it where it stands: by the rules that it keeps by itself, and by those of
-/// its place. It is damaged where it breaks any of them: the fault tells the offset and the lowest
-/// number of a broken rule. One page is read, and nothing changes.
+/// Reads a node and checks it where it stands: by the rules that it keeps by itself, and by those
+/// of its place. It is damaged where it breaks any of them: the fault tells the offset and the
+/// lowest number of a broken rule. One page is read, and nothing changes.
 pub fn read_node<P: Pages>(pages: &mut P, subtree: &Subtree) -> Result<Node, Fault>
     // What is read is sound there, and spelled so where the pages are told.
     ensures sound { IfOk result IsNode }

@@ -24,11 +24,12 @@ pub struct Found {
     pub place: u8,
 }
 
-/// The leaf whose boundaries hold the key of `at`, and how many of its elements stand before the key.
-/// One node a level is read, and nothing changes.
+/// The leaf whose boundaries hold the key of `at`, and how many of its elements stand before the
+/// key. One node a level is read, and nothing changes.
 pub fn find<P: Pages>(pages: &mut P, root: HOff, at: &Base) -> Result<Found, Fault>
     ensures ok { IfSome (P.pages pages.old) (λ map. IsSoundTree map root →
-        IfOk result (IsPlaceOf map (height_of (node_at map root)) (root_place root) (key_of at.now))) }
+        IfOk result (IsPlaceOf map (height_of (node_at map root)) (root_place root)
+        (key_of at.now))) }
     ensures same { Reads P.name P.rest P.pages pages.old pages.new }
     ensures cause { HasSearchCause (P.pages pages.old) (root_place root)
         (P.faults pages.old) (P.faults pages.new) result }
@@ -37,8 +38,8 @@ pub fn find<P: Pages>(pages: &mut P, root: HOff, at: &Base) -> Result<Found, Fau
 }
 
 /// The first element at the key of `at` or after it, and None where no element is there. A node a
-/// level is read, and where the leaf of the key has nothing from there on, the leftmost nodes of the
-/// next subtree to the right. No node is read twice, and nothing changes.
+/// level is read, and where the leaf of the key has nothing from there on, the leftmost nodes of
+/// the next subtree to the right. No node is read twice, and nothing changes.
 pub fn first_at_or_after<P: Pages>(
     pages: &mut P,
     root: HOff,
@@ -54,9 +55,9 @@ pub fn first_at_or_after<P: Pages>(
     first_below(pages, &Subtree::root(root), at)
 }
 
-/// How far from the key of `at` on the marks are at most `since`: a boundary after that key, before
-/// which they all are, or None exactly where the key's own mark is above `since`. The search ends at
-/// the first node whose `mirror` is at most `since`, and nothing changes.
+/// How far from the key of `at` on the marks are at most `since`: a boundary after that key,
+/// before which they all are, or None exactly where the key's own mark is above `since`. The search
+/// ends at the first node whose `mirror` is at most `since`, and nothing changes.
 pub fn unchanged_until<P: Pages>(
     pages: &mut P,
     root: HOff,

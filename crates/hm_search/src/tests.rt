@@ -1,5 +1,5 @@
-// Searches in a tree of three levels that is written by hand, and what each damage below its root is
-// told as.
+// Searches in a tree of three levels that is written by hand, and what each damage below its root
+// is told as.
 ghost use Rattle.std.specs.Prelude.{◌<◌};
 ghost use Rattle.hm_key.specs.Key.{key_of, greatest_key, IsBefore};
 
@@ -209,7 +209,9 @@ fn put_damaged(
 }
 
 #[test]
-fn a_damaged_leaf_below_the_root_tells_the_first_rule_that_it_breaks(rt: HostRuntime) -> Result<(), Fail> {
+fn a_damaged_leaf_below_the_root_tells_the_first_rule_that_it_breaks(
+    rt: HostRuntime,
+) -> Result<(), Fail> {
     // Leaf 1, at page 11, has the boundaries 10 and 20 and the mirror 11.
     let rows: [(&str, &[u16], u8, &[(u16, u8)], u8); 14] = [
         ("an inner node", &[13, 16], 11, &[(0, 2), (1, 2)], 1),
@@ -220,12 +222,42 @@ fn a_damaged_leaf_below_the_root_tells_the_first_rule_that_it_breaks(rt: HostRun
         ("an element after the right boundary", &[13, 21], 11, &[], 4),
         ("another mirror", &[13, 16], 12, &[], 9),
         ("a lower mirror", &[13, 16], 10, &[], 9),
-        ("an element outside, and another mirror", &[13, 21], 12, &[], 4),
-        ("an element outside, and a broken field", &[13, 21], 11, &[(99, 2)], 4),
+        (
+            "an element outside, and another mirror",
+            &[13, 21],
+            12,
+            &[],
+            4,
+        ),
+        (
+            "an element outside, and a broken field",
+            &[13, 21],
+            11,
+            &[(99, 2)],
+            4,
+        ),
         ("elements swapped, and one outside", &[21, 13], 11, &[], 3),
-        ("a broken field, and another mirror", &[13, 16], 12, &[(99, 2)], 5),
-        ("a byte that is not 0, and another mirror", &[13], 12, &[(4_095, 1)], 5),
-        ("an element outside, and a mirror below its id", &[13, 21], 2, &[], 4),
+        (
+            "a broken field, and another mirror",
+            &[13, 16],
+            12,
+            &[(99, 2)],
+            5,
+        ),
+        (
+            "a byte that is not 0, and another mirror",
+            &[13],
+            12,
+            &[(4_095, 1)],
+            5,
+        ),
+        (
+            "an element outside, and a mirror below its id",
+            &[13, 21],
+            2,
+            &[],
+            4,
+        ),
     ];
     for (damage, objects, mirror, bytes, kind) in rows {
         let mut pages = tree(rt.alloc())?;
@@ -238,7 +270,9 @@ fn a_damaged_leaf_below_the_root_tells_the_first_rule_that_it_breaks(rt: HostRun
 }
 
 #[test]
-fn a_damaged_inner_node_below_the_root_tells_the_first_rule_that_it_breaks(rt: HostRuntime) -> Result<(), Fail> {
+fn a_damaged_inner_node_below_the_root_tells_the_first_rule_that_it_breaks(
+    rt: HostRuntime,
+) -> Result<(), Fail> {
     // The node at page 2 has the level 2, the mirror 25, and the leaves 0 to 15.
     let rows: [(&str, Node, &[(u16, u8)], u8); 9] = [
         ("a leaf", leaf(1)?, &[], 1),
@@ -249,7 +283,12 @@ fn a_damaged_inner_node_below_the_root_tells_the_first_rule_that_it_breaks(rt: H
         ("another right boundary", inner(2, 25, 0, 17)?, &[], 4),
         ("another mirror", inner(2, 26, 0, 16)?, &[], 9),
         ("another boundary and mirror", inner(2, 33, 0, 17)?, &[], 4),
-        ("another mirror, and a byte that is not 0", inner(2, 26, 0, 16)?, &[(4, 1)], 5),
+        (
+            "another mirror, and a byte that is not 0",
+            inner(2, 26, 0, 16)?,
+            &[(4, 1)],
+            5,
+        ),
     ];
     for (damage, node, bytes, kind) in rows {
         let mut pages = tree(rt.alloc())?;
@@ -272,8 +311,14 @@ fn a_child_that_is_its_own_parent_is_damage(rt: HostRuntime) -> Result<(), Fail>
     let damage = Fault::Damaged { at, kind: 1 };
     let base = entry(15).base;
     assert_eq!(rt; find(&mut pages, at, &base).err(), Some(damage));
-    assert_eq!(rt; first_at_or_after(&mut pages, at, &base).err(), Some(damage));
-    assert_eq!(rt; unchanged_until(&mut pages, at, &base, Id(9)).err(), Some(damage));
+    assert_eq!(rt;
+        first_at_or_after(&mut pages, at, &base).err(),
+        Some(damage)
+    );
+    assert_eq!(rt;
+        unchanged_until(&mut pages, at, &base, Id(9)).err(),
+        Some(damage)
+    );
     Ok(())
 }
 
@@ -286,6 +331,9 @@ fn a_root_may_be_a_leaf_without_elements(rt: HostRuntime) -> Result<(), Fail> {
     assert_eq!(rt; find(&mut pages, at, &base)?, Found { leaf: at, place: 0 });
     assert_eq!(rt; first_at_or_after(&mut pages, at, &base)?, None);
     assert_eq!(rt; unchanged_until(&mut pages, at, &base, Id(4))?, None);
-    assert_eq!(rt; unchanged_until(&mut pages, at, &base, Id(5))?, Some(Base::greatest()));
+    assert_eq!(rt;
+        unchanged_until(&mut pages, at, &base, Id(5))?,
+        Some(Base::greatest())
+    );
     Ok(())
 }

@@ -1,4 +1,4 @@
-use Rattle.std.proofs.Common.{◌≡◌, ◌∙◌, subst, sym, ap, arith, rules, List}
+use Rattle.std.proofs.Common.{◌∙◌, subst, sym, ap, rules, List}
 use Rattle.std.proofs.lemmas.List.Sorted.{IsPartitionPoint-from_clause}
 use Rattle.hm_key.specs.Key.{key_of}
 use Rattle.std.specs.List.Sorted.{IsStrictlySortedBy}

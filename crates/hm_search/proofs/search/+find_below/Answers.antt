@@ -1,7 +1,5 @@
-use Rattle.std.proofs.Common.{◌≡◌, ℕ, ◌+◌, ◌<◌, ◌≤◌, List, length, refl, sym, ap, subst, ◌∙◌, arith, rules}
-use Rattle.std.specs.Prelude.{Option, Some, None, slice_get}
+use Rattle.std.proofs.Common.{◌<◌, rules}
 use Rattle.hm_key.specs.Key.{key_of}
-use Rattle.hm_node.specs.Node.{IsNode, HasCount}
 use Rattle.hm_search.specs.Descent.{levels_below}
 use Rattle.hm_search.proofs.DescentLemmas.{cause_below, leads_told}
 use Rattle.hm_search.proofs.SearchLemmas.{place_within, lower_at, find_told, leaf_place_small}
@@ -16,7 +14,7 @@ child-child-requires g t c = place_within c.in_ok-leaf.field-0 c.in-Inner.inner 
 pub find_below-requires : goal.find_below-requires
 find_below-requires g t c κs within =
     let smaller : levels_below c.child-child.result < levels_below c.args.subtree.now =
-        lower_at c.args.subtree.now c.in_ok-leaf.field-0 c.in-Inner.inner c.child_place.result c.child-child.result c.in_ok-leaf.ensures.sound c.in_ok-leaf.ensures.fits c.in-Inner.is c.child-child.ensures in
+    lower_at c.args.subtree.now c.in_ok-leaf.field-0 c.in-Inner.inner c.child_place.result c.child-child.result c.in_ok-leaf.ensures.sound c.in_ok-leaf.ensures.fits c.in-Inner.is c.child-child.ensures in
     search rules
 
 pub returns-in-Inner-clause-ok : goal.returns-in-Inner-clause-ok

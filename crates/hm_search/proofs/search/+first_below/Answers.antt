@@ -1,4 +1,4 @@
-use Rattle.std.proofs.Common.{◌≡◌, ℕ, ◌+◌, ◌<◌, ◌≤◌, Option, Some, None, Result, Ok, Err, refl, sym, ap, subst, ◌∙◌, arith, rules}
+use Rattle.std.proofs.Common.{◌+◌, ◌<◌, Option, Result, subst, ◌∙◌, arith, rules}
 use Rattle.std.proofs.lemmas.Result.{err_from_is_err_and}
 use Rattle.hm_types.specs.declared.fault.Fault.{Fault}
 use Rattle.hm_key.specs.Key.{key_of}
@@ -24,7 +24,7 @@ child-child-requires g t c = place_within c.in_ok-leaf.field-0 c.in-Inner.inner 
 pub first_below-requires : goal.first_below-requires
 first_below-requires g t c κs within =
     let smaller : levels_below c.child-child.result < levels_below c.args.subtree.now =
-        lower_at c.args.subtree.now c.in_ok-leaf.field-0 c.in-Inner.inner c.child_place-place.result c.child-child.result c.in_ok-leaf.ensures.sound c.in_ok-leaf.ensures.fits c.in-Inner.is c.child-child.ensures in
+    lower_at c.args.subtree.now c.in_ok-leaf.field-0 c.in-Inner.inner c.child_place-place.result c.child-child.result c.in_ok-leaf.ensures.sound c.in_ok-leaf.ensures.fits c.in-Inner.is c.child-child.ensures in
     search rules
 
 pub overflow_add-place : goal.overflow_add-place
@@ -41,8 +41,8 @@ returns-in_err-found-in-Inner-clause-cause g t c =
     let old = g.P.Counted.faults c.args.pages.now in
     let new = g.P.Counted.faults c.first_below.new.pages in
     let whole = cause_below told (g.P.Pages.pages c.read_node.new.pages) c.args.subtree.now c.child-child.result old (g.P.Counted.faults c.read_node.new.pages) new c.first_below.result
-        c.read_node.ensures.same.pages c.read_node.ensures.cause.never_falls
-        (leads_told told c.args.subtree.now c.in_ok-leaf.field-0 c.in-Inner.inner c.child_place-place.result c.child-child.result c.in_ok-leaf.ensures.ok c.in-Inner.is c.child-child.ensures) c.first_below.ensures.cause in
+    c.read_node.ensures.same.pages c.read_node.ensures.cause.never_falls
+    (leads_told told c.args.subtree.now c.in_ok-leaf.field-0 c.in-Inner.inner c.child_place-place.result c.child-child.result c.in_ok-leaf.ensures.ok c.in-Inner.is c.child-child.ensures) c.first_below.ensures.cause in
     let failed = subst (λ (r : Result (Option Element) Fault). HasSearchCause told c.args.subtree.now old new r) c.in_err-found-in-Inner.was whole in
     let p = err_from_is_err_and c.from_residual-in_err-found-in-Inner.result c.from_residual-in_err-found-in-Inner.ensures.1 in
     rw (p.1, p.2) failed
@@ -56,8 +56,8 @@ returns-in_err-first_of-in-None-clause-cause g t c =
     let old = g.P.Counted.faults c.args.pages.now in
     let new = g.P.Counted.faults c.first_of.new.pages in
     let whole = cause_below told (g.P.Pages.pages c.first_below.new.pages) c.args.subtree.now c.child-next.result old (g.P.Counted.faults c.first_below.new.pages) new c.first_of.result
-        (c.first_below.ensures.same.pages ∙ c.read_node.ensures.same.pages) (omega (arith, c.read_node.ensures.cause.never_falls, c.first_below.ensures.cause.counted.never_falls))
-        (leads_told told c.args.subtree.now c.in_ok-leaf.field-0 c.in-Inner.inner (c.child_place-place.result + 1) c.child-next.result c.in_ok-leaf.ensures.ok c.in-Inner.is c.child-next.ensures) c.first_of.ensures.cause in
+    (c.first_below.ensures.same.pages ∙ c.read_node.ensures.same.pages) (omega (arith, c.read_node.ensures.cause.never_falls, c.first_below.ensures.cause.counted.never_falls))
+    (leads_told told c.args.subtree.now c.in_ok-leaf.field-0 c.in-Inner.inner (c.child_place-place.result + 1) c.child-next.result c.in_ok-leaf.ensures.ok c.in-Inner.is c.child-next.ensures) c.first_of.ensures.cause in
     let failed = subst (λ (r : Result Element Fault). HasSearchCause told c.args.subtree.now old new r) c.in_err-first_of-in-None.was whole in
     let p = err_from_is_err_and c.from_residual-in_err-first_of-in-None.result c.from_residual-in_err-first_of-in-None.ensures.1 in
     rw (p.1, p.2) (cause_other told c.args.subtree.now old new c.in_err-first_of-in-None.field-0.0 failed)

@@ -1,4 +1,3 @@
-use Rattle.std.proofs.Common.{◌≡◌, ℕ, ◌+◌, ◌<◌, ◌≤◌, refl, sym, ap, subst, ◌∙◌}
 use Rattle.hm_search.proofs.DescentLemmas.{cause_below, leads_told}
 use Rattle.hm_search.proofs.SearchLemmas.{front_told}
 use Rattle.hm_search.proofs.search.+first_of.Goals as goal

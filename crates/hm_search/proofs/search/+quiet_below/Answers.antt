@@ -1,8 +1,7 @@
-use Rattle.std.proofs.Common.{◌≡◌, ℕ, ◌+◌, ◌<◌, ◌≤◌, refl, sym, ap, subst, ◌∙◌, arith, rules}
+use Rattle.std.proofs.Common.{ℕ, ◌<◌, ◌≤◌, subst, rules}
 use Rattle.hm_key.specs.Key.{key_of, IsBefore}
 use Rattle.hm_node.specs.Inner.{IsBound}
 use Rattle.hm_search.specs.Descent.{levels_below}
-use Rattle.hm_search.specs.Place.{mirror_of}
 use Rattle.hm_search.proofs.DescentLemmas.{cause_below, leads_told}
 use Rattle.hm_search.proofs.SearchLemmas.{place_within, lower_at, quiet_told, quiet_below_told, child_before, child_bound, end_below}
 use Rattle.hm_search.proofs.search.+quiet_below.Goals as goal
@@ -18,9 +17,9 @@ child-child-requires g t c = place_within c.in_ok-node.node c.in-Inner.inner (ke
 pub quiet_below-requires : goal.quiet_below-requires
 quiet_below-requires g t c κs within =
     let smaller : levels_below c.child-child.result < levels_below c.args.subtree.now =
-        lower_at c.args.subtree.now c.in_ok-node.node c.in-Inner.inner c.child_place.result c.child-child.result c.in_ok-node.ensures.sound c.in_ok-node.ensures.fits c.in-Inner.is c.child-child.ensures in
+    lower_at c.args.subtree.now c.in_ok-node.node c.in-Inner.inner c.child_place.result c.child-child.result c.in_ok-node.ensures.sound c.in_ok-node.ensures.fits c.in-Inner.is c.child-child.ensures in
     let before : IsBefore (key_of c.args.at.now) (key_of c.child-child.result.right) =
-        child_before c.args.subtree.now c.child-child.result c.in_ok-node.node c.in-Inner.inner (key_of c.args.at.now) c.child_place.result c.in_ok-node.ensures.fits c.in-Inner.is c.child_place.ensures c.child-child.ensures c.requires.before in
+    child_before c.args.subtree.now c.child-child.result c.in_ok-node.node c.in-Inner.inner (key_of c.args.at.now) c.child_place.result c.in_ok-node.ensures.fits c.in-Inner.is c.child_place.ensures c.child-child.ensures c.requires.before in
     let bound : IsBound c.child-child.result.right = child_bound c.child-child.result c.in_ok-node.node c.in-Inner.inner c.child_place.result c.in_ok-node.ensures.sound c.in-Inner.is c.child-child.ensures in
     search rules
 

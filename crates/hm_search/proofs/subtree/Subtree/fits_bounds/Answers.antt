@@ -1,4 +1,4 @@
-use Rattle.std.proofs.Common.{◌≡◌, ℕ, ◌≤◌, ap, subst, sym, ◌∙◌, arith}
+use Rattle.std.proofs.Common.{arith}
 use Rattle.hm_search.proofs.PageLemmas.{leaf_fits_bounds, inner_fits_bounds, leaf_few, inner_few}
 use Rattle.hm_search.proofs.subtree.Subtree.fits_bounds.Goals as goal
 

@@ -1,8 +1,4 @@
-use Rattle.std.proofs.Common.{◌≡◌, ℕ, ◌≤◌, ap, subst, sym, ◌∙◌, arith, le-leb, leb-true, true≢false}
-use Rattle.hm_search.specs.Place.{FitsCount}
-use Rattle.hm_search.specs.declared.subtree.Parent.{Parent}
-use Rattle.std.specs.Prelude.{Option, Some}
-use Rattle.hm_node.specs.Node.{node_in}
+use Rattle.std.proofs.Common.{ℕ, ◌≤◌, subst, sym, le-leb, leb-true}
 use Rattle.hm_search.proofs.PageLemmas.{leaf_fits_count, inner_fits_count}
 use Rattle.hm_search.proofs.subtree.Subtree.fits_count.Goals as goal
 

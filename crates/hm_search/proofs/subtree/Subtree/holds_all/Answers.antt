@@ -1,4 +1,4 @@
-use Rattle.std.proofs.Common.{◌≡◌, ℕ, List, refl, sym, ap, subst, ◌∙◌, true≢false, below_more, arith}
+use Rattle.std.proofs.Common.{ℕ, refl, sym, ap, subst, ◌∙◌, true≢false, below_more, arith}
 use Rattle.hm_key.specs.Key.{key_of}
 use Rattle.hm_key.specs.declared.base.Base.{Base}
 use Rattle.hm_node.specs.Base.{base_in}
@@ -9,10 +9,12 @@ use Rattle.hm_search.proofs.subtree.Subtree.holds_all.Goals as goal
 
 pub returns-then-not-holds : goal.returns-then-not-holds
 returns-then-not-holds c =
-    let base = c.read_base.ensures ∙ ap (base_in c.args.page.now) c.place.ensures in
-    (λ is. absurd cc, λ all.
-    let inside = places_inside c.args.self.now.left c.args.self.now.right c.args.page.now c.args.count all c.loop-i.i (omega arith) in
-    absurd (true≢false (sym (c.holds.ensures.1 (subst (λ (b : Base). IsInside c.args.self.now.left c.args.self.now.right (key_of b)) (sym base) inside)) ∙ c.if-not-holds.true)))
+    let base = c.read_base.ensures ∙ ap (base_in c.args.page.now) c.place.ensures in (
+      λ is. absurd cc,
+      λ all.
+          let inside = places_inside c.args.self.now.left c.args.self.now.right c.args.page.now c.args.count all c.loop-i.i (omega arith) in
+          absurd (true≢false (sym (c.holds.ensures.1 (subst (λ (b : Base). IsInside c.args.self.now.left c.args.self.now.right (key_of b)) (sym base) inside)) ∙ c.if-not-holds.true)),
+    )
 
 pub loop-i-preserved : goal.loop-i-preserved
 loop-i-preserved c =
