@@ -62,7 +62,7 @@ module _ (key : Key) where
           further p (r ∷ rs) rising = before_before (key_of p.left) (key_of r.left) (key_of d.left) (rising_next right p ((r ∷ rs) ++ d ∷ ds) rising) (further r rs (rising_rest right p ((r ∷ rs) ++ d ∷ ds) rising))
 
 -- the mark among a child and those after it
-mark_cons : (map : PageMap) (height : ℕ) (k : Key) (c d : Child) (ds : List Child) → mark_under map height (c ∷ d ∷ ds) k ≡ (if starts_after k d then mark_under map height (c ∷ []) k else mark_under map height (d ∷ ds) k)
+pub mark_cons : (map : PageMap) (height : ℕ) (k : Key) (c d : Child) (ds : List Child) → mark_under map height (c ∷ d ∷ ds) k ≡ (if starts_after k d then mark_under map height (c ∷ []) k else mark_under map height (d ∷ ds) k)
 mark_cons map height k c d ds = by_test (starts_after k d) where
   by_test : (b : Bool) → mark_in map height (node_at map (if b then c else holder k d ds).child) k ≡ (if b then mark_in map height (node_at map c.child) k else mark_in map height (node_at map (holder k d ds).child) k)
   by_test true = refl

@@ -10,6 +10,7 @@ use Rattle.hm_fields.specs.Pages.{PageMap}
 use Rattle.hm_key.specs.Element.{IsElement}
 use Rattle.hm_key.specs.Elements.{element_key, element_cmp, stands_at, element_at, changed, closed_at, moved_to, IsContent}
 use Rattle.hm_key.specs.Places.{leading, IsPlace}
+use Rattle.hm_key.specs.declared.base.Base.{Base}
 use Rattle.hm_key.specs.declared.element.Element.{Element}
 use Rattle.hm_key.proofs.ElementLemmas.{each_changed, content_closed, content_moved}
 use Rattle.hm_key.proofs.PlaceLemmas.{changed-place, IsPlace-within}
@@ -24,7 +25,7 @@ use Rattle.hm_search.specs.declared.subtree.Parent.{Parent}
 use Rattle.hm_search.specs.declared.subtree.Subtree.{Subtree}
 use Rattle.hm_search.proofs.ListLemmas.{each_so, each_both}
 use Rattle.hm_btree.specs.Edits.{leaf_of, ElementChange}
-use Rattle.hm_btree.specs.Below.{Changed}
+use Rattle.hm_btree.specs.Below.{Changed, placed}
 use Rattle.hm_btree.specs.Change.{change_of, id_of, MayChange, with_change}
 use Rattle.hm_btree.specs.declared.change.Change.{Change}
 use Rattle.hm_btree.specs.declared.change.Change.TheVariants.{Close, Move}
@@ -37,31 +38,38 @@ pub below_leaf : (map : PageMap) (height : ℕ) (before after : Leaf) → HasChi
 below_leaf map zero before after below = tt
 below_leaf map (suc height) before after below = below
 
+-- a leaf with other elements, in the place of one that is sound or in a part of it
+module _ (place : Subtree) (height : ℕ) (map : PageMap) (before after : Leaf) (left right : Base) where
+  pub leaf_sound : IsTree map height place (leaf_node before) → IsContent after.places.items → AllByRecursion (λ e. IsOffset e.payload) after.places.items
+      → AllByRecursion (λ e. IsInside left right (element_key e)) after.places.items → AllByRecursion (IsUpTo after.mirror) after.places.items
+      → length after.places.items ≤ 63 → FitsCount place.parent (leaf_node after) → IsTree map height (placed (leaf_node after) (record place { left = left; right = right })) (leaf_node after)
+  leaf_sound tree content offsets inside upto few count = record {
+    sound = record {
+      level = tt;
+      count = few;
+      order = content.rising;
+      fields = All-from_recursion IsPlaced after.places.items
+          (each_so (λ e. IsElement e × IsOffset e.payload) IsPlaced after.places.items (λ e both. record { element = both.0; payload = both.1 })
+          (each_both IsElement (λ e. IsOffset e.payload) after.places.items (recursion_from_All IsElement after.places.items content.each) offsets));
+      mirror = All-from_recursion (IsUpTo after.mirror) after.places.items upto;
+    };
+    level = tree.level;
+    fits = record {
+      level = placed_level (leaf_node after) place.parent (leaf_node before) refl tree.fits.level;
+      count = placed_count (leaf_node after) place.parent count;
+      bounds = All-from_recursion (λ e. IsInside left right (element_key e)) after.places.items inside;
+      mirror = placed_mirror (leaf_node after) place.parent;
+    };
+    below = below_leaf map height before after tree.below;
+  }
+
 -- a leaf whose elements changed, where they may stand there
 module _ (f : List Element → List Element) (key : Key) (id : ℕ) (place : Subtree) (height : ℕ) (map : PageMap) (before after : Leaf) where
   pub changed_leaf : IsTree map height place (leaf_node before) → after.places.items ≡ f before.places.items → IsContent after.places.items → AllByRecursion (λ e. IsOffset e.payload) after.places.items
       → AllByRecursion (λ e. IsInside place.left place.right (element_key e)) after.places.items → AllByRecursion (IsUpTo after.mirror) after.places.items
       → length after.places.items ≤ 63 → FitsCount place.parent (leaf_node after) → before.mirror ≤ after.mirror → id ≤ after.mirror → Changed f key id place height map map (leaf_node before) (leaf_node after)
   changed_leaf tree items content offsets inside upto few count rise reach = record {
-    tree = record {
-      sound = record {
-        level = tt;
-        count = few;
-        order = content.rising;
-        fields = All-from_recursion IsPlaced after.places.items
-            (each_so (λ e. IsElement e × IsOffset e.payload) IsPlaced after.places.items (λ e both. record { element = both.0; payload = both.1 })
-            (each_both IsElement (λ e. IsOffset e.payload) after.places.items (recursion_from_All IsElement after.places.items content.each) offsets));
-        mirror = All-from_recursion (IsUpTo after.mirror) after.places.items upto;
-      };
-      level = tree.level;
-      fits = record {
-        level = placed_level (leaf_node after) place.parent (leaf_node before) refl tree.fits.level;
-        count = placed_count (leaf_node after) place.parent count;
-        bounds = All-from_recursion (λ e. IsInside place.left place.right (element_key e)) after.places.items inside;
-        mirror = placed_mirror (leaf_node after) place.parent;
-      };
-      below = below_leaf map height before after tree.below;
-    };
+    tree = leaf_sound place height map before after place.left place.right tree content offsets inside upto few count;
     elements = items;
     mark = record { never_fall = λ k. rise; reach = reach };
     pages = replaces_none (reaches map height (leaf_node before)) map (λ x is. absurd (true≢false (sym is)));

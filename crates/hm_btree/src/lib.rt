@@ -3,13 +3,16 @@
 
 mod change;
 mod inner_edit;
+mod insert;
 mod leaf_edit;
 mod mem_space;
 mod node_edit;
 mod places;
 mod reading;
+mod root;
 mod space;
 mod tree;
+mod upper;
 
 pub use mem_space::MemSpace;
 pub use space::{NODE_BYTES, NodeSpace};

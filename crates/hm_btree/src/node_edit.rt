@@ -1,12 +1,15 @@
 // What leaves and inner nodes have in common.
-ghost use Rattle.std.specs.Prelude.{◌≡◌, OnOk};
+ghost use Rattle.std.specs.Prelude.{◌≡◌, ◌≤◌, IfOk, OnOk};
 ghost use Rattle.hm_fields.specs.Pages.{BothTell, HasPageCause};
+ghost use Rattle.hm_node.specs.Node.{level_of};
 ghost use Rattle.hm_search.specs.Place.{mirror_of};
-ghost use Rattle.hm_btree.specs.Space.{HasWritten};
+ghost use Rattle.hm_key.specs.Space.{Spends, in_zone};
+ghost use Rattle.hm_btree.specs.Space.{HasAdded, HasWritten, IsSpot};
 
-use crate::space::NodeSpace;
+use crate::space::{NODE_BYTES, NodeSpace};
 use hm_fields::Page;
-use hm_node::{Node, encode};
+use hm_key::TREE_ZONE;
+use hm_node::{LEAF_LEVEL, Node, encode};
 use hm_types::{Fault, HOff};
 
 /// The `mirror` of a node.
@@ -31,4 +34,31 @@ pub fn write_node<S: NodeSpace>(space: &mut S, at: HOff, node: &Node) -> Result<
     let mut page = Page::zero();
     encode(node, &mut page);
     space.change(at, &page)
+}
+
+/// Writes a node to a page of its own.
+pub fn add_node<S: NodeSpace>(space: &mut S, node: &Node) -> Result<HOff, Fault>
+    requires { NODE_BYTES ≤ S.room space.old TREE_ZONE }
+    ensures ok { IfOk result (λ at.
+        BothTell (S.pages space.old) (S.pages space.new) (HasAdded at node.now)) }
+    ensures offset { IfOk result IsSpot }
+    ensures extents { OnOk result (S.extents space.new ≡ S.extents space.old) }
+    ensures space { Spends S.room S.free (in_zone TREE_ZONE NODE_BYTES) space.old space.new }
+    ensures name { S.name space.new ≡ S.name space.old }
+    ensures cause { HasPageCause (S.pages space.old)
+        (S.faults space.old) (S.faults space.new) result }
+{
+    let mut page = Page::zero();
+    encode(node, &mut page);
+    space.new_node(&page)
+}
+
+/// The level of a node.
+pub fn level(node: &Node) -> u8
+    ensures { result ≡ level_of node.now }
+{
+    match node {
+        Node::Leaf(_) => LEAF_LEVEL,
+        Node::Inner(inner) => inner.level,
+    }
 }

@@ -3,8 +3,9 @@ ghost use Rattle.hm_types.specs.Offset.{IsOffset};
 ghost use Rattle.hm_btree.specs.Tree.{IsIntact};
 
 use crate::change::{Change, change_element};
+use crate::root::insert_from;
 use crate::space::NodeSpace;
-use hm_key::{Base, HasElements, HasRoom};
+use hm_key::{Base, Element, HasElements, HasRoom, INSERT_ROOM, TREE_ZONE};
 use hm_types::{Counted, Fault, HOff};
 
 /// The B-tree of the elements, over a space of nodes.
@@ -40,10 +41,11 @@ impl<S: NodeSpace> HasElements for BTree<S> {
 }
 
 impl<S: NodeSpace> BTree<S> {
-    ghost use Rattle.std.specs.Prelude.{◌≡◌, ◌⊎◌, ◌<◌, IfSome, IsSome, IsTrue, OnOk};
-    ghost use Rattle.hm_key.specs.Elements.{element_at, with_delete, with_payload};
+    ghost use Rattle.std.specs.Prelude.{◌≡◌, ◌⊎◌, ◌<◌, ◌≤◌, IfSome, IsNone, IsSome, IsTrue, OnOk};
+    ghost use Rattle.hm_key.specs.Element.{IsElement};
+    ghost use Rattle.hm_key.specs.Elements.{element_at, inserted, last_id, with_delete, with_payload};
     ghost use Rattle.hm_key.specs.Key.{key_of};
-    ghost use Rattle.hm_key.specs.Space.{Spends, nothing};
+    ghost use Rattle.hm_key.specs.Space.{Spends, nothing, in_zone};
     ghost use Rattle.hm_key.specs.Stores.{Keeps, ElementsChange, HasStoreCause};
     ghost use Rattle.hm_btree.specs.Tree.{HoldsTree, told_elements, told_mark};
 
@@ -74,6 +76,33 @@ impl<S: NodeSpace> BTree<S> {
             intact: _,
         } = self;
         (space, root)
+    }
+
+    /// Adds an element, at whose key there is none. Takes at most 40,960 bytes of zone 8, which
+    /// must have so much room.
+    pub fn insert(&mut self, e: &Element) -> Result<(), Fault>
+        requires new { IfSome (⟦<BTree<S> as HasElements>⟧.elements self.old) (λ es.
+            IsNone (element_at (key_of e.now.base) es)) }
+        requires element { IsElement e.now }
+        requires room { INSERT_ROOM ≤ ⟦<BTree<S> as HasRoom>⟧.room self.old TREE_ZONE }
+        ensures ok { OnOk result (ElementsChange ⟦<BTree<S> as HasElements>⟧.elements
+            ⟦<BTree<S> as HasElements>⟧.mark ⟦<BTree<S> as HasRoom>⟧.extents
+            (inserted e.now) (key_of e.now.base) (last_id e.now) self.old self.new) }
+        ensures keeps { Keeps ⟦<BTree<S> as Counted>⟧.name ⟦<BTree<S> as HasElements>⟧.elements
+            ⟦<BTree<S> as HasRoom>⟧.extents self.old self.new result }
+        ensures space { Spends ⟦<BTree<S> as HasRoom>⟧.room ⟦<BTree<S> as HasRoom>⟧.free
+            (in_zone TREE_ZONE INSERT_ROOM) self.old self.new }
+        ensures cause { HasStoreCause (⟦<BTree<S> as HasElements>⟧.elements self.old)
+            (⟦<BTree<S> as Counted>⟧.faults self.old)
+            (⟦<BTree<S> as Counted>⟧.faults self.new) result }
+    {
+        known_offset(e.payload);
+        let intact = self.intact;
+        self.intact = false;
+        let root = insert_from(&mut self.space, self.root, e)?;
+        self.root = root;
+        self.intact = intact;
+        Ok(())
     }
 
     /// Closes the element at the key of `at` at the id `delete`, or opens it where that is 0.

@@ -1,0 +1,91 @@
+-- What an insertion finds and spends.
+use Rattle.std.proofs.Common.{◌≡◌, Bool, true, false, ℕ, zero, suc, ◌+◌, ◌-◌, ◌*◌, ◌<◌, ◌≤◌, List, [], ◌∷◌, length, take, drop, insert, get_or, refl, sym, ap, subst, ◌∙◌, arith, max, nat_eq, Some, None, length-drop, length-set}
+use Rattle.std.specs.Prelude.{Option, if◌then◌else◌, slice_set, slice_index_or}
+use Rattle.hm_key.specs.Key.{key_of, IsBoundary}
+use Rattle.hm_key.specs.Elements.{element_key, inserted, last_id}
+use Rattle.hm_key.specs.Places.{leading}
+use Rattle.hm_key.specs.Space.{Spends, in_zone}
+use Rattle.hm_key.specs.declared.base.Base.{Base}
+use Rattle.hm_key.specs.declared.element.Element.{Element}
+use Rattle.hm_key.specs.declared.room.TheConstants.{TREE_ZONE, INSERT_ROOM}
+use Rattle.hm_key.proofs.PlaceLemmas.{inserted_here}
+use Rattle.hm_node.specs.Node.{level_of, IsNode}
+use Rattle.hm_node.specs.declared.inner.Child.{Child}
+use Rattle.hm_node.specs.declared.inner.Inner.{Inner}
+use Rattle.hm_node.specs.declared.leaf.Leaf.{Leaf}
+use Rattle.hm_node.specs.declared.node.Node.{Node}
+use Rattle.hm_node.specs.declared.node.Node.TheVariants.{Leaf as leaf_node, Inner as inner_node}
+use Rattle.hm_btree.specs.Edits.{leaf_of, LeafGrown, ChildChange}
+use Rattle.hm_btree.specs.Grow.{FirstAt, LeafBecomes}
+use Rattle.hm_btree.specs.declared.space.TheConstants.{NODE_BYTES}
+use Rattle.hm_btree.specs.declared.upper.Upper.{Upper}
+
+-- the first of some elements
+pub first_at : (l : List Element) (x : Element) (b : Base) → 0 < length l → x ≡ get_or l 0 x → IsBoundary b (key_of x.base) → FirstAt l b
+first_at [] x b some is bound = absurd (omega arith)
+first_at (e ∷ es) x b some is bound = subst (λ (y : Element). IsBoundary b (element_key y)) is bound
+
+module _ (e : Element) (leaf after : Leaf) (i : ℕ) (at : i ≡ leading (element_key e) leaf.places.items) where
+  list_is : insert leaf.places.items i e ≡ inserted e leaf.places.items
+  list_is = inserted_here e leaf.places.items i at
+
+  pub becomes_one : LeafGrown (max leaf.mirror (last_id e)) (insert leaf.places.items i e) after None → LeafBecomes (max leaf.mirror (last_id e)) (inserted e leaf.places.items) after None
+  becomes_one grown = subst (λ (l : List Element). LeafGrown (max leaf.mirror (last_id e)) l after None) list_is grown
+
+  pub becomes_two : (upper : Leaf) (x : Element) (b : Base) (xs : List Element) → LeafGrown (max leaf.mirror (last_id e)) (insert leaf.places.items i e) after (Some upper) → xs ≡ upper.places.items → x ≡ get_or xs 0 x → IsBoundary b (key_of x.base)
+      → LeafBecomes (max leaf.mirror (last_id e)) (inserted e leaf.places.items) after (Some (record { left = b; node = leaf_node upper }))
+  becomes_two upper x b xs grown same is bound =
+      let told = subst (λ (l : List Element). LeafGrown (max leaf.mirror (last_id e)) l after (Some upper)) list_is grown in
+      let places : upper.places.items ≡ drop 32 (inserted e leaf.places.items) = ap (λ (l : Leaf). l.places.items) told.1 in
+      let long : length (drop 32 (inserted e leaf.places.items)) ≡ 32 = length-drop 32 (inserted e leaf.places.items) ∙ omega (arith, told.2) in
+      let whole : xs ≡ drop 32 (inserted e leaf.places.items) = same ∙ places in
+      (told.0, ap leaf_node told.1, first_at (drop 32 (inserted e leaf.places.items)) x b (omega (arith, long)) (subst (λ (l : List Element). x ≡ get_or l 0 x) whole is) bound, told.2)
+
+  pub some_upper : (upper : Leaf) (xs : List Element) → LeafGrown (max leaf.mirror (last_id e)) (insert leaf.places.items i e) after (Some upper) → xs ≡ upper.places.items → 0 < length xs
+  some_upper upper xs grown same =
+      let places : upper.places.items ≡ drop 32 (insert leaf.places.items i e) = ap (λ (l : Leaf). l.places.items) grown.1 in
+      let long : length xs ≡ 32 = ap length (same ∙ places) ∙ length-drop 32 (insert leaf.places.items i e) ∙ omega (arith, grown.2) in
+      omega (arith, long)
+
+-- a place after a child whose `mirror` was set
+pub next_within : (change : Child → Child) (d : Child) (old new : List Child) (i : ℕ) → ChildChange change old i new → i < length old → i + 1 ≤ length new
+next_within change d old new i items low = omega (arith, ap length (items d), length-set old i (change (slice_index_or old i d)))
+
+-- an inner node has two levels at least
+pub two_levels : (node : Node) (inner : Inner) → IsNode node → node ≡ inner_node inner → 2 ≤ level_of node
+two_levels node inner sound is = let low = (subst (λ (n : Node). IsNode n) is sound).level.0 in omega (arith, low, ap level_of is)
+
+-- what one level more takes
+pub one_more : (child level : ℕ) → child < level → 2 ≤ level → NODE_BYTES * (child - 1) + NODE_BYTES ≤ NODE_BYTES * (level - 1)
+one_more child level less two = omega arith
+
+-- bytes in one zone
+zones_add : (zone n k m : ℕ) → n + k ≤ m → in_zone TREE_ZONE n zone + in_zone TREE_ZONE k zone ≤ in_zone TREE_ZONE m zone
+zones_add zone n k m le = by_test (nat_eq zone TREE_ZONE) where
+  by_test : (b : Bool) → (if b then n else 0) + (if b then k else 0) ≤ (if b then m else 0)
+  by_test true = le
+  by_test false = omega arith
+
+module _ {S : Type 0} (room_of : S → ℕ → ℕ) (free_of : S → ℕ) where
+  -- a call after another
+  pub spends_add : (a b c : S) (n k m : ℕ) → n + k ≤ m → Spends room_of free_of (in_zone TREE_ZONE n) a b → Spends room_of free_of (in_zone TREE_ZONE k) b c → Spends room_of free_of (in_zone TREE_ZONE m) a c
+  spends_add a b c n k m le first second = record {
+    room = λ zone. omega (arith, first.room zone, second.room zone, zones_add zone n k m le);
+    free = omega (arith, first.free, second.free);
+  }
+
+  -- a call that spends nothing
+  pub spends_none : (a b : S) (n : ℕ) → room_of b ≡ room_of a → free_of b ≡ free_of a → Spends room_of free_of (in_zone TREE_ZONE n) a b
+  spends_none a b n rooms frees = record {
+    room = λ zone. omega (arith, ap (λ (f : ℕ → ℕ). f zone) rooms);
+    free = omega (arith, frees);
+  }
+
+  -- the room that is left
+  pub room_left : (a b : S) (n k m : ℕ) → Spends room_of free_of (in_zone TREE_ZONE n) a b → n + k ≤ m → m ≤ room_of a TREE_ZONE → k ≤ room_of b TREE_ZONE
+  room_left a b n k m spent le room = let zone : room_of a TREE_ZONE ≤ room_of b TREE_ZONE + n = spent.room TREE_ZONE in omega arith
+
+-- what all levels below a root take
+pub level_room : (node : Node) → IsNode node → NODE_BYTES * (level_of node - 1) + NODE_BYTES * 2 ≤ INSERT_ROOM
+level_room (leaf_node leaf) sound = omega arith
+level_room (inner_node inner) sound = let most = sound.level.1 in omega arith

@@ -1,0 +1,192 @@
+use Rattle.std.proofs.Common.{◌≡◌, ◌∙◌, ◌<◌, ◌≤◌, ◌*◌, ◌-◌, ◌+◌, ℕ, refl, sym, subst, rules, Result, Err, Some, None, arith}
+use Rattle.std.specs.Prelude.{Option, IsNone}
+use Rattle.std.proofs.lemmas.Result.{err_from_is_err_and}
+use Rattle.hm_types.specs.Offset.{IsOffset}
+use Rattle.hm_types.specs.declared.fault.Fault.{Fault}
+use Rattle.hm_types.specs.Faults.{HasFaultCause}
+use Rattle.hm_key.specs.Element.{IsElement}
+use Rattle.hm_key.specs.Elements.{inserted, last_id}
+use Rattle.hm_key.specs.Key.{key_of}
+use Rattle.hm_key.specs.Space.{Spends, in_zone}
+use Rattle.hm_key.specs.declared.room.TheConstants.{TREE_ZONE}
+use Rattle.hm_node.specs.Node.{level_of, IsNode}
+use Rattle.hm_node.specs.declared.inner.Child.{Child}
+use Rattle.hm_node.specs.declared.node.Node.{Node}
+use Rattle.hm_node.specs.declared.node.Node.TheVariants.{Leaf as leaf_node}
+use Rattle.hm_btree.specs.Below.{HasEditCause}
+use Rattle.hm_btree.specs.Edits.{with_mirror}
+use Rattle.hm_btree.specs.Grow.{Grows}
+use Rattle.hm_btree.specs.declared.space.TheConstants.{NODE_BYTES}
+use Rattle.hm_btree.specs.declared.upper.Upper.{Upper}
+use Rattle.hm_btree.proofs.EditLemmas.{place_within, child_lower, cause_read, cause_below}
+use Rattle.hm_btree.proofs.GrowsLemmas.{leaf_grows, inner_grows}
+use Rattle.hm_btree.proofs.InsertLemmas.{next_within, two_levels, one_more, spends_add, spends_none, room_left}
+use Rattle.hm_btree.proofs.LocalLemmas.{inserted_local}
+use Rattle.hm_btree.proofs.ToldLemmas.{inner_works}
+use Rattle.hm_btree.proofs.insert.+insert_into.Goals as goal
+
+pub child-place-requires : goal.child-place-requires
+child-place-requires g t c = place_within c.args.node.now c.in-Inner.inner (key_of c.args.element.now.base) c.child_place-i.result c.requires.node c.in-Inner.is c.child_place-i.ensures
+
+pub returns-in_err-child-in-Inner-clause-space : goal.returns-in_err-child-in-Inner-clause-space
+returns-in_err-child-in-Inner-clause-space g t c =
+    let same = g.met.S.NodeSpace.rests c.args.space.now c.read_node.new.pages c.read_node.ensures.same.rest in
+    spends_none g.S.HasRoom.room g.S.HasRoom.free c.args.space.now c.read_node.new.pages (NODE_BYTES * (level_of c.args.node.now - 1)) same.0 same.1
+
+pub returns-in_err-child-in-Inner-clause-cause : goal.returns-in_err-child-in-Inner-clause-cause
+returns-in_err-child-in-Inner-clause-cause g t c =
+    let fault = c.in_err-child-in-Inner.field-0.0 in
+    let told = g.S.Pages.pages c.args.space.now in
+    let old = g.S.Counted.faults c.args.space.now in
+    let new = g.S.Counted.faults c.read_node.new.pages in
+    let p = err_from_is_err_and c.from_residual.result c.from_residual.ensures.1 in
+    let whole = cause_read told c.args.node.now c.in-Inner.inner c.child_place-i.result c.child-place.result old new fault c.in-Inner.is c.child-place.ensures
+    (subst (λ (r : Result Node Fault). HasFaultCause old new r) c.in_err-child-in-Inner.was c.read_node.ensures.cause) c.in_err-child-in-Inner.ensures.damage in
+    let other : HasEditCause {T = Option Upper} told c.args.node.now old new (Err fault) = record { counted = record { never_falls = whole.counted.never_falls; caused = whole.counted.caused }; undamaged = whole.undamaged } in
+    rw (p.1, p.2) other
+
+pub insert_into-requires : goal.insert_into-requires
+insert_into-requires g t c κs within =
+    let same = g.met.S.NodeSpace.rests c.args.space.now c.read_node.new.pages c.read_node.ensures.same.rest in
+    let smaller : level_of c.in_ok-child-in-Inner.child < level_of c.args.node.now =
+    child_lower c.args.node.now c.in_ok-child-in-Inner.child c.in-Inner.inner c.child_place-i.result c.child-place.result c.in-Inner.is c.child-place.ensures c.in_ok-child-in-Inner.ensures.fits in
+    let less : NODE_BYTES * (level_of c.in_ok-child-in-Inner.child - 1) ≤ g.S.HasRoom.room c.read_node.new.pages TREE_ZONE =
+    room_left g.S.HasRoom.room g.S.HasRoom.free c.args.space.now c.read_node.new.pages 0 (NODE_BYTES * (level_of c.in_ok-child-in-Inner.child - 1)) (NODE_BYTES * (level_of c.args.node.now - 1))
+    (spends_none g.S.HasRoom.room g.S.HasRoom.free c.args.space.now c.read_node.new.pages 0 same.0 same.1) (omega (arith, smaller)) c.requires.room in
+    search rules
+
+pub returns-in_err-upper-in-Inner-clause-space : goal.returns-in_err-upper-in-Inner-clause-space
+returns-in_err-upper-in-Inner-clause-space g t c =
+    let same = g.met.S.NodeSpace.rests c.args.space.now c.read_node.new.pages c.read_node.ensures.same.rest in
+    let smaller = child_lower c.args.node.now c.in_ok-child-in-Inner.child c.in-Inner.inner c.child_place-i.result c.child-place.result c.in-Inner.is c.child-place.ensures c.in_ok-child-in-Inner.ensures.fits in
+    spends_add g.S.HasRoom.room g.S.HasRoom.free c.args.space.now c.read_node.new.pages c.insert_into.new.space 0 (NODE_BYTES * (level_of c.in_ok-child-in-Inner.child - 1)) (NODE_BYTES * (level_of c.args.node.now - 1))
+    (omega (arith, smaller)) (spends_none g.S.HasRoom.room g.S.HasRoom.free c.args.space.now c.read_node.new.pages 0 same.0 same.1) c.insert_into.ensures.space
+
+pub returns-in_err-upper-in-Inner-clause-cause : goal.returns-in_err-upper-in-Inner-clause-cause
+returns-in_err-upper-in-Inner-clause-cause g t c =
+    let fault = c.in_err-upper-in-Inner.field-0.0 in
+    let told = g.S.Pages.pages c.args.space.now in
+    let now = g.S.Pages.pages c.read_node.new.pages in
+    let old = g.S.Counted.faults c.args.space.now in
+    let mid = g.S.Counted.faults c.read_node.new.pages in
+    let new = g.S.Counted.faults c.insert_into.new.space in
+    let p = err_from_is_err_and c.from_residual-in_err-upper-in-Inner.result c.from_residual-in_err-upper-in-Inner.ensures.1 in
+    let whole = cause_below told now c.args.node.now c.in_ok-child-in-Inner.child c.in-Inner.inner c.child_place-i.result c.child-place.result old mid new fault c.in-Inner.is c.child-place.ensures
+    c.read_node.ensures.same.pages c.read_node.ensures.cause.never_falls c.in_ok-child-in-Inner.ensures.ok
+    (subst (λ (r : Result (Option Upper) Fault). HasEditCause now c.in_ok-child-in-Inner.child mid new r) c.in_err-upper-in-Inner.was c.insert_into.ensures.cause) in
+    rw (p.1, p.2) whole
+
+pub returns-in_err-write_node-in-Inner-clause-space : goal.returns-in_err-write_node-in-Inner-clause-space
+returns-in_err-write_node-in-Inner-clause-space g t c =
+    let same = g.met.S.NodeSpace.rests c.args.space.now c.read_node.new.pages c.read_node.ensures.same.rest in
+    let kept = g.met.S.NodeSpace.rests c.insert_into.new.space c.write_node.new.space c.write_node.ensures.rest in
+    let smaller = child_lower c.args.node.now c.in_ok-child-in-Inner.child c.in-Inner.inner c.child_place-i.result c.child-place.result c.in-Inner.is c.child-place.ensures c.in_ok-child-in-Inner.ensures.fits in
+    let below : ℕ = NODE_BYTES * (level_of c.in_ok-child-in-Inner.child - 1) in
+    let first = spends_add g.S.HasRoom.room g.S.HasRoom.free c.args.space.now c.read_node.new.pages c.insert_into.new.space 0 below below (omega arith)
+    (spends_none g.S.HasRoom.room g.S.HasRoom.free c.args.space.now c.read_node.new.pages 0 same.0 same.1) c.insert_into.ensures.space in
+    spends_add g.S.HasRoom.room g.S.HasRoom.free c.args.space.now c.insert_into.new.space c.write_node.new.space below 0 (NODE_BYTES * (level_of c.args.node.now - 1)) (omega (arith, smaller)) first
+    (spends_none g.S.HasRoom.room g.S.HasRoom.free c.insert_into.new.space c.write_node.new.space 0 kept.0 kept.1)
+
+pub set_mirror-requires : goal.set_mirror-requires
+set_mirror-requires g t c = place_within c.args.node.now c.in-Inner.inner (key_of c.args.element.now.base) c.child_place-i.result c.requires.node c.in-Inner.is c.child_place-i.ensures
+
+pub add_node-requires : goal.add_node-requires
+add_node-requires g t c =
+    let same = g.met.S.NodeSpace.rests c.args.space.now c.read_node.new.pages c.read_node.ensures.same.rest in
+    let kept = g.met.S.NodeSpace.rests c.insert_into.new.space c.write_node.new.space c.write_node.ensures.rest in
+    let smaller = child_lower c.args.node.now c.in_ok-child-in-Inner.child c.in-Inner.inner c.child_place-i.result c.child-place.result c.in-Inner.is c.child-place.ensures c.in_ok-child-in-Inner.ensures.fits in
+    let below : ℕ = NODE_BYTES * (level_of c.in_ok-child-in-Inner.child - 1) in
+    let first = spends_add g.S.HasRoom.room g.S.HasRoom.free c.args.space.now c.read_node.new.pages c.insert_into.new.space 0 below below (omega arith)
+    (spends_none g.S.HasRoom.room g.S.HasRoom.free c.args.space.now c.read_node.new.pages 0 same.0 same.1) c.insert_into.ensures.space in
+    let second = spends_add g.S.HasRoom.room g.S.HasRoom.free c.args.space.now c.insert_into.new.space c.write_node.new.space below 0 below (omega arith) first
+    (spends_none g.S.HasRoom.room g.S.HasRoom.free c.insert_into.new.space c.write_node.new.space 0 kept.0 kept.1) in
+    room_left g.S.HasRoom.room g.S.HasRoom.free c.args.space.now c.write_node.new.space below NODE_BYTES (NODE_BYTES * (level_of c.args.node.now - 1)) second
+    (one_more (level_of c.in_ok-child-in-Inner.child) (level_of c.args.node.now) smaller (two_levels c.args.node.now c.in-Inner.inner c.requires.node c.in-Inner.is)) c.requires.room
+
+pub returns-in_err-at-in-Some-clause-space : goal.returns-in_err-at-in-Some-clause-space
+returns-in_err-at-in-Some-clause-space g t c =
+    let same = g.met.S.NodeSpace.rests c.args.space.now c.read_node.new.pages c.read_node.ensures.same.rest in
+    let kept = g.met.S.NodeSpace.rests c.insert_into.new.space c.write_node.new.space c.write_node.ensures.rest in
+    let smaller = child_lower c.args.node.now c.in_ok-child-in-Inner.child c.in-Inner.inner c.child_place-i.result c.child-place.result c.in-Inner.is c.child-place.ensures c.in_ok-child-in-Inner.ensures.fits in
+    let below : ℕ = NODE_BYTES * (level_of c.in_ok-child-in-Inner.child - 1) in
+    let first = spends_add g.S.HasRoom.room g.S.HasRoom.free c.args.space.now c.read_node.new.pages c.insert_into.new.space 0 below below (omega arith)
+    (spends_none g.S.HasRoom.room g.S.HasRoom.free c.args.space.now c.read_node.new.pages 0 same.0 same.1) c.insert_into.ensures.space in
+    let second = spends_add g.S.HasRoom.room g.S.HasRoom.free c.args.space.now c.insert_into.new.space c.write_node.new.space below 0 below (omega arith) first
+    (spends_none g.S.HasRoom.room g.S.HasRoom.free c.insert_into.new.space c.write_node.new.space 0 kept.0 kept.1) in
+    spends_add g.S.HasRoom.room g.S.HasRoom.free c.args.space.now c.write_node.new.space c.add_node.new.space below NODE_BYTES (NODE_BYTES * (level_of c.args.node.now - 1))
+    (one_more (level_of c.in_ok-child-in-Inner.child) (level_of c.args.node.now) smaller (two_levels c.args.node.now c.in-Inner.inner c.requires.node c.in-Inner.is)) second c.add_node.ensures.space
+
+pub overflow_add-i : goal.overflow_add-i
+overflow_add-i g t c =
+    let low = place_within c.args.node.now c.in-Inner.inner (key_of c.args.element.now.base) c.child_place-i.result c.requires.node c.in-Inner.is c.child_place-i.ensures in
+    let few = (subst (λ (n : Node). IsNode n) c.in-Inner.is c.requires.node).count.1 in
+    omega (arith, low, few)
+
+pub insert_beside-requires : goal.insert_beside-requires
+insert_beside-requires g t c =
+    let low = place_within c.args.node.now c.in-Inner.inner (key_of c.args.element.now.base) c.child_place-i.result c.requires.node c.in-Inner.is c.child_place-i.ensures in
+    next_within (with_mirror c.mirror.result) (record { left = c.child-place.result.left; child = 0; mirror = 0 }) c.in-Inner.inner.places.items c.set_mirror.new.inner.places.items c.child_place-i.result c.set_mirror.ensures.items low
+
+pub returns-in-Leaf-clause-ok : goal.returns-in-Leaf-clause-ok
+returns-in-Leaf-clause-ok g t c =
+    leaf_grows c.args.element.now c.args.node.now (leaf_node c.insert_in_leaf.new.leaf) c.in-Leaf.leaf c.insert_in_leaf.new.leaf (g.S.Pages.pages c.args.space.now) c.insert_in_leaf.result c.in-Leaf.is refl c.insert_in_leaf.ensures
+
+pub returns-in-None-clause-ok : goal.returns-in-None-clause-ok
+returns-in-None-clause-ok g t c =
+    let e = c.args.element.now in
+    let key = key_of e.base in
+    let grows = subst (λ (o : Option Upper). Grows (inserted e) key (last_id e) (λ x. IsNone x) (IsElement e × IsOffset e.payload) (g.S.Pages.pages c.read_node.new.pages) (g.S.Pages.pages c.insert_into.new.space) c.in_ok-child-in-Inner.child c.insert_into.new.node o)
+    c.in-None.is c.in_ok-upper-in-Inner.ensures.ok in
+    inner_works (inserted e) key (last_id e) (λ x. IsNone x) (IsElement e × IsOffset e.payload) (inserted_local e) c.in-Inner.inner c.set_mirror.new.inner
+    c.child_place-i.result c.child-place.result c.in_ok-child-in-Inner.child c.insert_into.new.node c.mirror.result c.args.node.now
+    (g.S.Pages.pages c.args.space.now) (g.S.Pages.pages c.read_node.new.pages) (g.S.Pages.pages c.insert_into.new.space) (g.S.Pages.pages c.write_node.new.space)
+    c.in-Inner.is c.child_place-i.ensures c.child-place.ensures c.read_node.ensures.same.pages c.in_ok-child-in-Inner.ensures.ok grows c.in_ok-write_node-in-Inner.ensures.ok
+    c.set_mirror.ensures.level c.set_mirror.ensures.mirror c.mirror.ensures c.set_mirror.ensures.items c.set_mirror.ensures.right
+
+pub returns-in-None-clause-extents : goal.returns-in-None-clause-extents
+returns-in-None-clause-extents g t c =
+    let same = g.met.S.NodeSpace.rests c.args.space.now c.read_node.new.pages c.read_node.ensures.same.rest in
+    let kept = g.met.S.NodeSpace.rests c.insert_into.new.space c.write_node.new.space c.write_node.ensures.rest in
+    kept.2 ∙ c.in_ok-upper-in-Inner.ensures.extents ∙ same.2
+
+pub returns-in-None-clause-space : goal.returns-in-None-clause-space
+returns-in-None-clause-space g t c =
+    let same = g.met.S.NodeSpace.rests c.args.space.now c.read_node.new.pages c.read_node.ensures.same.rest in
+    let kept = g.met.S.NodeSpace.rests c.insert_into.new.space c.write_node.new.space c.write_node.ensures.rest in
+    let smaller = child_lower c.args.node.now c.in_ok-child-in-Inner.child c.in-Inner.inner c.child_place-i.result c.child-place.result c.in-Inner.is c.child-place.ensures c.in_ok-child-in-Inner.ensures.fits in
+    let below : ℕ = NODE_BYTES * (level_of c.in_ok-child-in-Inner.child - 1) in
+    let first = spends_add g.S.HasRoom.room g.S.HasRoom.free c.args.space.now c.read_node.new.pages c.insert_into.new.space 0 below below (omega arith)
+    (spends_none g.S.HasRoom.room g.S.HasRoom.free c.args.space.now c.read_node.new.pages 0 same.0 same.1) c.insert_into.ensures.space in
+    spends_add g.S.HasRoom.room g.S.HasRoom.free c.args.space.now c.insert_into.new.space c.write_node.new.space below 0 (NODE_BYTES * (level_of c.args.node.now - 1)) (omega (arith, smaller)) first
+    (spends_none g.S.HasRoom.room g.S.HasRoom.free c.insert_into.new.space c.write_node.new.space 0 kept.0 kept.1)
+
+pub returns-in_ok-at-in-Some-clause-ok : goal.returns-in_ok-at-in-Some-clause-ok
+returns-in_ok-at-in-Some-clause-ok g t c =
+    let e = c.args.element.now in
+    let key = key_of e.base in
+    let grows = subst (λ (o : Option Upper). Grows (inserted e) key (last_id e) (λ x. IsNone x) (IsElement e × IsOffset e.payload) (g.S.Pages.pages c.read_node.new.pages) (g.S.Pages.pages c.insert_into.new.space) c.in_ok-child-in-Inner.child c.insert_into.new.node o)
+    c.in-Some.is c.in_ok-upper-in-Inner.ensures.ok in
+    inner_grows (inserted e) key (last_id e) (λ x. IsNone x) (IsElement e × IsOffset e.payload) (inserted_local e) c.in-Inner.inner c.set_mirror.new.inner c.insert_beside.new.inner
+    c.child_place-i.result c.child-place.result c.in_ok-child-in-Inner.child c.insert_into.new.node c.mirror.result c.in-Some.upper c.in_ok-at-in-Some.at c.mirror-in-Some.result c.insert_beside.result c.args.node.now
+    (g.S.Pages.pages c.args.space.now) (g.S.Pages.pages c.read_node.new.pages) (g.S.Pages.pages c.insert_into.new.space) (g.S.Pages.pages c.write_node.new.space) (g.S.Pages.pages c.add_node.new.space)
+    c.in-Inner.is c.child_place-i.ensures c.child-place.ensures c.read_node.ensures.same.pages c.in_ok-child-in-Inner.ensures.ok grows c.in_ok-write_node-in-Inner.ensures.ok c.in_ok-at-in-Some.ensures.ok c.in_ok-at-in-Some.ensures.offset
+    c.set_mirror.ensures.level c.set_mirror.ensures.mirror c.mirror.ensures c.mirror-in-Some.ensures c.set_mirror.ensures.items c.set_mirror.ensures.right c.insert_beside.ensures
+
+pub returns-in_ok-at-in-Some-clause-extents : goal.returns-in_ok-at-in-Some-clause-extents
+returns-in_ok-at-in-Some-clause-extents g t c =
+    let same = g.met.S.NodeSpace.rests c.args.space.now c.read_node.new.pages c.read_node.ensures.same.rest in
+    let kept = g.met.S.NodeSpace.rests c.insert_into.new.space c.write_node.new.space c.write_node.ensures.rest in
+    c.in_ok-at-in-Some.ensures.extents ∙ kept.2 ∙ c.in_ok-upper-in-Inner.ensures.extents ∙ same.2
+
+pub returns-in_ok-at-in-Some-clause-space : goal.returns-in_ok-at-in-Some-clause-space
+returns-in_ok-at-in-Some-clause-space g t c =
+    let same = g.met.S.NodeSpace.rests c.args.space.now c.read_node.new.pages c.read_node.ensures.same.rest in
+    let kept = g.met.S.NodeSpace.rests c.insert_into.new.space c.write_node.new.space c.write_node.ensures.rest in
+    let smaller = child_lower c.args.node.now c.in_ok-child-in-Inner.child c.in-Inner.inner c.child_place-i.result c.child-place.result c.in-Inner.is c.child-place.ensures c.in_ok-child-in-Inner.ensures.fits in
+    let below : ℕ = NODE_BYTES * (level_of c.in_ok-child-in-Inner.child - 1) in
+    let first = spends_add g.S.HasRoom.room g.S.HasRoom.free c.args.space.now c.read_node.new.pages c.insert_into.new.space 0 below below (omega arith)
+    (spends_none g.S.HasRoom.room g.S.HasRoom.free c.args.space.now c.read_node.new.pages 0 same.0 same.1) c.insert_into.ensures.space in
+    let second = spends_add g.S.HasRoom.room g.S.HasRoom.free c.args.space.now c.insert_into.new.space c.write_node.new.space below 0 below (omega arith) first
+    (spends_none g.S.HasRoom.room g.S.HasRoom.free c.insert_into.new.space c.write_node.new.space 0 kept.0 kept.1) in
+    spends_add g.S.HasRoom.room g.S.HasRoom.free c.args.space.now c.write_node.new.space c.add_node.new.space below NODE_BYTES (NODE_BYTES * (level_of c.args.node.now - 1))
+    (one_more (level_of c.in_ok-child-in-Inner.child) (level_of c.args.node.now) smaller (two_levels c.args.node.now c.in-Inner.inner c.requires.node c.in-Inner.is)) second c.add_node.ensures.space

@@ -1,0 +1,90 @@
+use Rattle.std.proofs.Common.{◌≡◌, ◌∙◌, ◌<◌, ◌≤◌, ◌*◌, ◌-◌, ◌+◌, ℕ, refl, sym, subst, Result, Err, Some, None, arith}
+use Rattle.std.specs.Prelude.{Option, IsNone, IfSome, IfOk, OnOk}
+use Rattle.std.proofs.lemmas.Result.{on_ok_weaker}
+use Rattle.hm_types.specs.Offset.{IsOffset}
+use Rattle.hm_types.specs.declared.fault.Fault.{Fault}
+use Rattle.hm_fields.specs.Pages.{page_in}
+use Rattle.hm_key.specs.Element.{IsElement}
+use Rattle.hm_key.specs.Elements.{inserted, last_id}
+use Rattle.hm_key.specs.Extents.{Extent}
+use Rattle.hm_key.specs.Key.{key_of}
+use Rattle.hm_key.specs.declared.room.TheConstants.{TREE_ZONE, INSERT_ROOM}
+use Rattle.hm_node.specs.Node.{level_of}
+use Rattle.hm_search.specs.Place.{SpellsHere}
+use Rattle.hm_search.specs.declared.subtree.Subtree.{Subtree}
+use Rattle.hm_btree.specs.Grow.{Grows}
+use Rattle.hm_btree.specs.declared.space.TheConstants.{NODE_BYTES}
+use Rattle.hm_btree.specs.declared.upper.Upper.{Upper}
+use Rattle.hm_btree.proofs.EndLemmas.{element_inside}
+use Rattle.hm_btree.proofs.InsertLemmas.{spends_add, spends_none, level_room}
+use Rattle.hm_btree.proofs.RootLemmas.{root_works}
+use Rattle.hm_btree.proofs.TopLemmas.{top_result}
+use Rattle.hm_btree.proofs.root.insert_from.Goals as goal
+
+pub returns-in_err-node-clause-space : goal.returns-in_err-node-clause-space
+returns-in_err-node-clause-space g c =
+    let same = g.met.S.NodeSpace.rests c.args.space.now c.read_node.new.pages c.read_node.ensures.same.rest in
+    spends_none g.S.HasRoom.room g.S.HasRoom.free c.args.space.now c.read_node.new.pages INSERT_ROOM same.0 same.1
+
+pub returns-in_err-write_node-clause-space : goal.returns-in_err-write_node-clause-space
+returns-in_err-write_node-clause-space g c =
+    let same = g.met.S.NodeSpace.rests c.args.space.now c.read_node.new.pages c.read_node.ensures.same.rest in
+    let kept = g.met.S.NodeSpace.rests c.insert_into.new.space c.write_node.new.space c.write_node.ensures.rest in
+    let below : ℕ = NODE_BYTES * (level_of c.in_ok-node.node - 1) in
+    let low = level_room c.in_ok-node.node c.in_ok-node.ensures.sound in
+    let first = spends_add g.S.HasRoom.room g.S.HasRoom.free c.args.space.now c.read_node.new.pages c.insert_into.new.space 0 below INSERT_ROOM (omega (arith, low)) (spends_none g.S.HasRoom.room g.S.HasRoom.free c.args.space.now c.read_node.new.pages 0 same.0 same.1) c.insert_into.ensures.space in
+    spends_add g.S.HasRoom.room g.S.HasRoom.free c.args.space.now c.insert_into.new.space c.write_node.new.space INSERT_ROOM 0 INSERT_ROOM (omega arith) first (spends_none g.S.HasRoom.room g.S.HasRoom.free c.insert_into.new.space c.write_node.new.space 0 kept.0 kept.1)
+
+pub returns-in-None-clause-ok : goal.returns-in-None-clause-ok
+returns-in-None-clause-ok g c =
+    let e = c.args.element.now in
+    let key = key_of e.base in
+    let grows = subst (λ (o : Option Upper). Grows (inserted e) key (last_id e) (λ x. IsNone x) (IsElement e × IsOffset e.payload) (g.S.Pages.pages c.read_node.new.pages) (g.S.Pages.pages c.insert_into.new.space) c.in_ok-node.node c.insert_into.new.node o)
+    c.in-None.is c.in_ok-upper.ensures.ok in
+    root_works (inserted e) key (last_id e) c.args.root (λ o. IsNone o) (IsElement e × IsOffset e.payload)
+    (g.S.Pages.pages c.args.space.now) (g.S.Pages.pages c.read_node.new.pages) (g.S.Pages.pages c.insert_into.new.space) (g.S.Pages.pages c.write_node.new.space) c.in_ok-node.node c.insert_into.new.node
+    (λ old tree needs more. element_inside c.args.root e more.0 c.known_range.ensures) c.read_node.ensures.same.pages
+    (subst (λ (s : Subtree). IfSome (g.S.Pages.pages c.args.space.now) (λ map. SpellsHere s (page_in (map s.at)) c.in_ok-node.node)) c.root-place.ensures c.in_ok-node.ensures.ok) grows c.in_ok-write_node.ensures.ok
+
+pub returns-in-None-clause-extents : goal.returns-in-None-clause-extents
+returns-in-None-clause-extents g c =
+    let same = g.met.S.NodeSpace.rests c.args.space.now c.read_node.new.pages c.read_node.ensures.same.rest in
+    let kept = g.met.S.NodeSpace.rests c.insert_into.new.space c.write_node.new.space c.write_node.ensures.rest in
+    kept.2 ∙ c.in_ok-upper.ensures.extents ∙ same.2
+
+pub returns-in-None-clause-space : goal.returns-in-None-clause-space
+returns-in-None-clause-space g c =
+    let same = g.met.S.NodeSpace.rests c.args.space.now c.read_node.new.pages c.read_node.ensures.same.rest in
+    let kept = g.met.S.NodeSpace.rests c.insert_into.new.space c.write_node.new.space c.write_node.ensures.rest in
+    let below : ℕ = NODE_BYTES * (level_of c.in_ok-node.node - 1) in
+    let low = level_room c.in_ok-node.node c.in_ok-node.ensures.sound in
+    let first = spends_add g.S.HasRoom.room g.S.HasRoom.free c.args.space.now c.read_node.new.pages c.insert_into.new.space 0 below INSERT_ROOM (omega (arith, low)) (spends_none g.S.HasRoom.room g.S.HasRoom.free c.args.space.now c.read_node.new.pages 0 same.0 same.1) c.insert_into.ensures.space in
+    spends_add g.S.HasRoom.room g.S.HasRoom.free c.args.space.now c.insert_into.new.space c.write_node.new.space INSERT_ROOM 0 INSERT_ROOM (omega arith) first (spends_none g.S.HasRoom.room g.S.HasRoom.free c.insert_into.new.space c.write_node.new.space 0 kept.0 kept.1)
+
+pub returns-in-Some-clause-ok : goal.returns-in-Some-clause-ok
+returns-in-Some-clause-ok g c =
+    let e = c.args.element.now in
+    let key = key_of e.base in
+    let grows = subst (λ (o : Option Upper). Grows (inserted e) key (last_id e) (λ x. IsNone x) (IsElement e × IsOffset e.payload) (g.S.Pages.pages c.read_node.new.pages) (g.S.Pages.pages c.insert_into.new.space) c.in_ok-node.node c.insert_into.new.node o)
+    c.in-Some.is c.in_ok-upper.ensures.ok in
+    top_result (inserted e) key (last_id e) c.args.root (λ o. IsNone o) (IsElement e × IsOffset e.payload)
+    (g.S.Pages.pages c.args.space.now) (g.S.Pages.pages c.read_node.new.pages) (g.S.Pages.pages c.insert_into.new.space) (g.S.Pages.pages c.write_node.new.space) (g.S.Pages.pages c.add_root.new.space) c.in_ok-node.node c.insert_into.new.node c.in-Some.upper
+    (λ old tree needs more. element_inside c.args.root e more.0 c.known_range.ensures) c.read_node.ensures.same.pages
+    (subst (λ (s : Subtree). IfSome (g.S.Pages.pages c.args.space.now) (λ map. SpellsHere s (page_in (map s.at)) c.in_ok-node.node)) c.root-place.ensures c.in_ok-node.ensures.ok) grows c.in_ok-write_node.ensures.ok
+    c.root-place.result c.add_root.result c.root-place.ensures c.add_root.ensures.ok c.add_root.ensures.offset c.add_root.ensures.shallow
+
+pub returns-in-Some-clause-extents : goal.returns-in-Some-clause-extents
+returns-in-Some-clause-extents g c =
+    let same = g.met.S.NodeSpace.rests c.args.space.now c.read_node.new.pages c.read_node.ensures.same.rest in
+    let kept = g.met.S.NodeSpace.rests c.insert_into.new.space c.write_node.new.space c.write_node.ensures.rest in
+    on_ok_weaker c.add_root.result (λ added. added ∙ kept.2 ∙ c.in_ok-upper.ensures.extents ∙ same.2) c.add_root.ensures.extents
+
+pub returns-in-Some-clause-space : goal.returns-in-Some-clause-space
+returns-in-Some-clause-space g c =
+    let same = g.met.S.NodeSpace.rests c.args.space.now c.read_node.new.pages c.read_node.ensures.same.rest in
+    let kept = g.met.S.NodeSpace.rests c.insert_into.new.space c.write_node.new.space c.write_node.ensures.rest in
+    let below : ℕ = NODE_BYTES * (level_of c.in_ok-node.node - 1) in
+    let low = level_room c.in_ok-node.node c.in_ok-node.ensures.sound in
+    let first = spends_add g.S.HasRoom.room g.S.HasRoom.free c.args.space.now c.read_node.new.pages c.insert_into.new.space 0 below below (omega arith) (spends_none g.S.HasRoom.room g.S.HasRoom.free c.args.space.now c.read_node.new.pages 0 same.0 same.1) c.insert_into.ensures.space in
+    let second = spends_add g.S.HasRoom.room g.S.HasRoom.free c.args.space.now c.insert_into.new.space c.write_node.new.space below 0 below (omega arith) first (spends_none g.S.HasRoom.room g.S.HasRoom.free c.insert_into.new.space c.write_node.new.space 0 kept.0 kept.1) in
+    spends_add g.S.HasRoom.room g.S.HasRoom.free c.args.space.now c.write_node.new.space c.add_root.new.space below (NODE_BYTES * 2) INSERT_ROOM (omega (arith, low)) second c.add_root.ensures.space

@@ -1,0 +1,112 @@
+// Insertion of an element into a tree.
+ghost use Rattle.std.specs.Prelude.{◌≡◌, ◌*◌, ◌^◌, ◌<◌, ◌≤◌, IsNone, IfOk, OnOk, is_some};
+ghost use Rattle.hm_types.specs.Offset.{IsOffset};
+ghost use Rattle.hm_fields.specs.Pages.{BothTell, HasPageCause};
+ghost use Rattle.hm_key.specs.Element.{IsElement};
+ghost use Rattle.hm_key.specs.Elements.{element_at, inserted, last_id};
+ghost use Rattle.hm_key.specs.Key.{key_of};
+ghost use Rattle.hm_key.specs.Space.{Spends, in_zone};
+ghost use Rattle.hm_node.specs.Node.{level_of};
+ghost use Rattle.hm_btree.specs.Grow.{HasTop, top_of};
+ghost use Rattle.hm_btree.specs.Space.{IsSpot};
+ghost use Rattle.hm_btree.specs.Tree.{ChangesTree, HasTreeCause};
+
+use crate::insert::insert_into;
+use crate::node_edit::{add_node, level, mirror, write_node};
+use crate::space::{NODE_BYTES, NodeSpace};
+use crate::upper::Upper;
+use arrayvec::ArrayVec;
+use hm_key::{Element, INSERT_ROOM, TREE_ZONE};
+use hm_node::{Child, Inner, Node};
+use hm_search::{Subtree, read_node};
+use hm_types::{Counted, Fault, HOff, MOST_LEVELS};
+
+/// Inserts an element into the tree from a root on, and answers the root that it then has. Takes ten
+/// nodes of room at most.
+pub fn insert_from<S: NodeSpace>(
+    space: &mut S,
+    root: HOff,
+    element: &Element,
+) -> Result<HOff, Fault>
+    requires { INSERT_ROOM ≤ S.room space.old TREE_ZONE }
+    ensures ok { IfOk result (ChangesTree (inserted element.now) (key_of element.now.base)
+        (last_id element.now) (λ es. IsNone (element_at (key_of element.now.base) es))
+        (IsElement element.now × IsOffset element.now.payload)
+        (S.pages space.old) (S.pages space.new) root) }
+    ensures told { OnOk result (is_some (S.pages space.new) ≡ is_some (S.pages space.old)) }
+    ensures extents { OnOk result (S.extents space.new ≡ S.extents space.old) }
+    ensures space { Spends S.room S.free (in_zone TREE_ZONE INSERT_ROOM) space.old space.new }
+    ensures name { S.name space.new ≡ S.name space.old }
+    ensures cause { HasTreeCause (S.pages space.old) root
+        (S.faults space.old) (S.faults space.new) result }
+{
+    known_range(element);
+    let place = Subtree::root(root);
+    let mut node = read_node(space, &place)?;
+    let upper = insert_into(space, &mut node, element)?;
+    write_node(space, root, &node)?;
+    match upper {
+        None => Ok(root),
+        Some(upper) => add_root(space, &place, &node, &upper),
+    }
+}
+
+// Adds a root above a node that stands where the root stood, and one that is not written yet. The
+// tree cannot have more than nine levels, for which no volume has enough nodes.
+fn add_root<S: NodeSpace>(
+    space: &mut S,
+    place: &Subtree,
+    lower: &Node,
+    upper: &Upper,
+) -> Result<HOff, Fault>
+    requires { NODE_BYTES * 2 ≤ S.room space.old TREE_ZONE }
+    ensures ok { IfOk result (λ at. BothTell (S.pages space.old) (S.pages space.new)
+        (HasTop place.now lower.now upper.now at)) }
+    ensures offset { IfOk result IsSpot }
+    ensures shallow { OnOk result (level_of lower.now ≤ 8) }
+    ensures extents { OnOk result (S.extents space.new ≡ S.extents space.old) }
+    ensures space { Spends S.room S.free (in_zone TREE_ZONE (NODE_BYTES * 2))
+        space.old space.new }
+    ensures name { S.name space.new ≡ S.name space.old }
+    ensures cause { HasPageCause (S.pages space.old)
+        (S.faults space.old) (S.faults space.new) result }
+{
+    if level(lower) >= MOST_LEVELS {
+        return Err(Fault::NoMemory);
+    }
+    let at = add_node(space, &upper.node)?;
+    let top = top_over(place, lower, upper, at);
+    add_node(space, &top)
+}
+
+// The root above two nodes.
+fn top_over(place: &Subtree, lower: &Node, upper: &Upper, at: HOff) -> Node
+    requires { level_of lower.now ≤ 8 }
+    ensures { result ≡ top_of place.now lower.now upper.now at }
+{
+    let mut places = ArrayVec::new();
+    places.push(Child {
+        left: place.left,
+        child: place.at,
+        mirror: mirror(lower),
+    });
+    places.push(Child {
+        left: upper.left,
+        child: at,
+        mirror: mirror(&upper.node),
+    });
+    Node::Inner(Inner {
+        level: level(lower) + 1,
+        mirror: mirror(lower).max(mirror(&upper.node)),
+        places,
+        right: place.right,
+    })
+}
+
+// Does nothing, and says how wide an element's localization is.
+#[inline]
+fn known_range(element: &Element)
+    ensures { element.now.base.localization < 2 ^ 32 }
+{
+    let _localization = element.base.localization;
+}
