@@ -12,7 +12,6 @@ pub mod NodeLemmas
 pub mod OrderLemmas
 pub mod PairLemmas
 pub mod PutLemmas
-pub mod RemoveLemmas
 pub mod RootLemmas
 pub mod ReadingLemmas
 pub mod SplitLemmas

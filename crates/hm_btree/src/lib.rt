@@ -9,8 +9,11 @@ mod mem_space;
 mod node_edit;
 mod places;
 mod reading;
+mod remove;
 mod root;
 mod space;
+#[cfg(test)]
+mod tests;
 mod tree;
 mod upper;
 

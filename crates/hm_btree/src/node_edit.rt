@@ -6,11 +6,13 @@ ghost use Rattle.hm_search.specs.Place.{mirror_of};
 ghost use Rattle.hm_key.specs.Space.{Spends, in_zone};
 ghost use Rattle.hm_btree.specs.Space.{HasAdded, HasWritten, IsSpot};
 
+use crate::inner_edit::{merge_inners, share_inners};
+use crate::leaf_edit::{merge_leaves, share_leaves};
 use crate::space::{NODE_BYTES, NodeSpace};
 use hm_fields::Page;
-use hm_key::TREE_ZONE;
+use hm_key::{Base, TREE_ZONE};
 use hm_node::{LEAF_LEVEL, Node, encode};
-use hm_types::{Fault, HOff};
+use hm_types::{Fault, HOff, LEAST_PLACES, MOST_INNER_CHILDREN, MOST_LEAF_ELEMENTS};
 
 /// The `mirror` of a node.
 pub fn mirror(node: &Node) -> u64
@@ -60,5 +62,45 @@ pub fn level(node: &Node) -> u8
     match node {
         Node::Leaf(_) => LEAF_LEVEL,
         Node::Inner(inner) => inner.level,
+    }
+}
+
+/// Whether a node has fewer elements or children than one below the root should have.
+pub fn is_small(node: &Node) -> bool {
+    match node {
+        Node::Leaf(leaf) => leaf.places.len() < LEAST_PLACES,
+        Node::Inner(inner) => inner.places.len() < LEAST_PLACES,
+    }
+}
+
+/// The boundary at which a node that has an element or a child begins.
+pub fn left_boundary(node: &Node) -> Base {
+    match node {
+        Node::Leaf(leaf) => leaf.places[0].base.boundary(),
+        Node::Inner(inner) => inner.places[0].left,
+    }
+}
+
+/// Puts two neighbours into one node where they fit, and shares their places out evenly else. Then
+/// the right one is given.
+pub fn join(left: &mut Node, right: Node) -> Option<Node> {
+    match (left, right) {
+        (Node::Leaf(left), Node::Leaf(mut right)) => {
+            if left.places.len() + right.places.len() <= MOST_LEAF_ELEMENTS {
+                merge_leaves(left, &right);
+                return None;
+            }
+            share_leaves(left, &mut right);
+            Some(Node::Leaf(right))
+        }
+        (Node::Inner(left), Node::Inner(mut right)) => {
+            if left.places.len() + right.places.len() <= MOST_INNER_CHILDREN {
+                merge_inners(left, &right);
+                return None;
+            }
+            share_inners(left, &mut right);
+            Some(Node::Inner(right))
+        }
+        _ => unreachable!(),
     }
 }

@@ -3,6 +3,7 @@ ghost use Rattle.hm_types.specs.Offset.{IsOffset};
 ghost use Rattle.hm_btree.specs.Tree.{IsIntact};
 
 use crate::change::{Change, change_element};
+use crate::remove::remove;
 use crate::root::insert_from;
 use crate::space::NodeSpace;
 use hm_key::{Base, Element, HasElements, HasRoom, INSERT_ROOM, TREE_ZONE};
@@ -124,6 +125,16 @@ impl<S: NodeSpace> BTree<S> {
         let intact = self.intact;
         self.intact = false;
         change_element(&mut self.space, self.root, at, Change::Close(delete))?;
+        self.intact = intact;
+        Ok(())
+    }
+
+    /// Takes the element at the key of `at` out. Its payload's extent stays.
+    pub fn remove(&mut self, at: &Base) -> Result<(), Fault> {
+        let intact = self.intact;
+        self.intact = false;
+        let root = remove(&mut self.space, self.root, at)?;
+        self.root = root;
         self.intact = intact;
         Ok(())
     }
