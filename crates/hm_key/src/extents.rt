@@ -1,5 +1,6 @@
 // The live extents of a store, and its space.
-ghost use Rattle.std.specs.Prelude.{◌≡◌, ◌+◌, ℕ, ◌<◌, ◌≤◌, List, Option, IfSome, IsSomeAnd, IfOk, OnOk, IfErr, is_some, length, take};
+ghost use Rattle.std.specs.Prelude.{◌≡◌, ◌+◌, ℕ, ◌<◌, ◌≤◌, List, Option, is_some, length, take};
+ghost use Rattle.std.specs.Prelude.{IfSome, IsSomeAnd, IfOk, OnOk, IfErr};
 ghost use Rattle.hm_types.specs.Offset.{zone_of};
 ghost use Rattle.hm_key.specs.Extents.{Extent, rounded, IsPayloadZone, AreExtents, extent_at, shared_at, given_back_at, PlacesAt};
 ghost use Rattle.hm_key.specs.Space.{Spends, Admits, LacksSpace, IfNoSpace, nothing, in_zone};

@@ -194,7 +194,8 @@ pub(crate) fn standing<'a>(tree: &'a Tree, place: &Place) -> Option<&'a Object>
     tree.object(tree.named(place.directory, &place.name)?)
 }
 
-// Whether an object gives way to the one that is moved over it: it is that object, or it is a file or softlink and the moved one is no directory.
+// Whether an object gives way to the one that is moved over it: it is that object, or it is a file or
+// softlink and the moved one is no directory.
 fn gives_way(moved: &Object, there: &Object) -> bool
     ensures { (tree : _) → result ≡ gives_way (finds tree) moved.now there.now }
 {

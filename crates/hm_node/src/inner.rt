@@ -1,11 +1,13 @@
 // Inner nodes, and their children in a page.
-ghost use Rattle.std.specs.Prelude.{◌≡◌, ◌≤◌, ◌+◌, ◌↔◌, [], ℕ, List, length, IsTrue, IsSome, IfSome, IfOk, IfErr, All};
+ghost use Rattle.std.specs.Prelude.{◌≡◌, ◌≤◌, ◌+◌, ◌↔◌, [], ℕ, List, length, All};
+ghost use Rattle.std.specs.Prelude.{IsTrue, IsSome, IfSome, IfOk, IfErr};
 ghost use Rattle.hm_types.specs.declared.limits.TheConstants.{PAGE_BYTES, MOST_INNER_CHILDREN, MOST_LEVELS};
 ghost use Rattle.hm_fields.specs.Fields.{Apart, get};
 ghost use Rattle.hm_key.specs.declared.base.Base.{Base};
 ghost use Rattle.hm_node.specs.Head.{head_in};
 ghost use Rattle.hm_node.specs.Places.{place, IsZero, IsWritten};
-ghost use Rattle.hm_node.specs.Inner.{child_in, children_in, inner_in, IsBound, IsNodeOffset, IsChild, IsChildPlace, AreChildPlaces};
+ghost use Rattle.hm_node.specs.Inner.{child_in, children_in, inner_in};
+ghost use Rattle.hm_node.specs.Inner.{IsBound, IsNodeOffset, IsChild, IsChildPlace, AreChildPlaces};
 ghost use Rattle.hm_node.specs.Node.{Spells, SaysLevel, HasLevel, node_in};
 ghost use Rattle.hm_node.specs.Damage.{Keeps, IsFirstBroken};
 ghost use Rattle.hm_node.specs.declared.head.TheConstants.{INNER};

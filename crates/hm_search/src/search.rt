@@ -7,7 +7,8 @@ ghost use Rattle.hm_node.specs.Inner.{IsBound};
 ghost use Rattle.hm_search.specs.Descent.{HasSearchCause, Reads};
 ghost use Rattle.hm_search.specs.Place.{mirror_of};
 ghost use Rattle.hm_search.specs.Search.{IsPlaceOf, IsEndBy};
-ghost use Rattle.hm_search.specs.Tree.{node_at, elements_in, elements_of, mark_in, mark_of, height_of, root_place, IsStoredTree, IsSoundTree};
+ghost use Rattle.hm_search.specs.Tree.{node_at, elements_in, elements_of, mark_in, mark_of};
+ghost use Rattle.hm_search.specs.Tree.{height_of, root_place, IsStoredTree, IsSoundTree};
 
 use crate::places::{child_place, leaf_place};
 use crate::read::read_node;
