@@ -39,7 +39,7 @@ StoppedMaking-fault size old new no_volume is caused = absurd is
 StoppedMaking-fault size old new (bad_field place) is caused = (is.2, is.0, is.1)
 StoppedMaking-fault size old new (of_disk (media before after)) is caused = caused
 StoppedMaking-fault size old new (of_disk (damage at kind)) is caused = absurd is.0
-StoppedMaking-fault size old new (of_disk no_memory) is caused = tt
+StoppedMaking-fault size old new (of_disk no_memory) is caused = absurd is.0
 
 small_gives : (size place : ℕ) (told : Option Told) → place ≡ 12 → IfSome told (IsTooSmall size) → IfSome told (λ t. GivesNone (Some size) t (BadField place))
 small_gives size place None is small = tt
@@ -51,7 +51,7 @@ StoppedOpening-making None old new stop stopped = absurd stopped
 StoppedOpening-making (Some size) old new (BadField place) stopped =
     (stopped.0, small_gives size place old.told stopped.1 stopped.2)
 StoppedOpening-making (Some size) old new (DiskFault before after) stopped = (λ none. absurd (cc), stopped)
-StoppedOpening-making (Some size) old new NoMemory stopped = λ none. absurd (cc)
+StoppedOpening-making (Some size) old new NoMemory stopped = absurd stopped
 StoppedOpening-making (Some size) old new Usage stopped = absurd stopped
 StoppedOpening-making (Some size) old new NotVolume stopped = absurd stopped
 StoppedOpening-making (Some size) old new (Damaged at kind) stopped = absurd stopped

@@ -39,7 +39,7 @@ StoppedMaking None old new stop = ⊥
 StoppedMaking (Some size) old new (BadField place) =
     (new.told ≡ old.told) × (place ≡ 12) × IfSome old.told (IsTooSmall size)
 StoppedMaking (Some size) old new (DiskFault before after) = IsMedia old.faults new.faults before after
-StoppedMaking (Some size) old new NoMemory = Unit {0}
+StoppedMaking (Some size) old new NoMemory = ⊥
 StoppedMaking (Some size) old new Usage = ⊥
 StoppedMaking (Some size) old new NotVolume = ⊥
 StoppedMaking (Some size) old new (Damaged at kind) = ⊥

@@ -1,4 +1,4 @@
-// The top call over devices in memory.
+// The top call over devices in memory and over files.
 
 use super::*;
 use hm_disk::MemDisk;
@@ -6,35 +6,64 @@ use hm_pipe::{MemSink, MemSource, NoGate};
 use std::alloc::AllocError;
 use std::test::Fail;
 
-const FIRST_RUN: &str = "mkdir /a\nmkdir /b\n# a remark\n\nls /\nls /@@0x0000000000000002\n\
-ls /@@0x0000000000000000\nls /@@0x0000000000000009\n";
-
-const FIRST_PRINTED: &str = "0x0000000000000002 ok\n0x0000000000000003 ok\n\
-0x0000000000000004 ok 2 d:a d:b\n0x0000000000000005 ok 1 d:a\n\
-0x0000000000000006 not retained\n0x0000000000000007 future 0x0000000000000006\n";
+mod disks;
+mod failing;
+mod files;
+mod lines;
+mod words;
 
 type Memory = Ended<MemDisk, MemSource, MemSink, MemSource, MemSink>;
 
-// Runs a script over a disk.
-fn run_over<R: AllocGlobal + Threads + Wait + Sync>(
-    rt: &R,
-    words: &[&str],
-    disk: MemDisk,
-    script: &str,
-) -> Result<Memory, AllocError> {
-    let alloc = rt.alloc();
+// The words that make a volume.
+const MAKES: [&str; 3] = ["v", "--newfs", "24"];
+
+const USAGE: &str =
+    "usage: hammer VOLUME [--newfs BIGBLOCKS] [--stream-in FILE] [--stream-out FILE] [--generate N]\n";
+
+fn blank<R: AllocGlobal>(rt: &R) -> MemDisk {
+    MemDisk::new(rt.alloc(), 24, Vec::new(rt.alloc()))
+}
+
+fn owned(alloc: Global, words: &[&str]) -> Result<Vec<String>, AllocError> {
     let mut owned = Vec::new(alloc);
     for word in words {
         owned.push(String::from_str(alloc, word)?)?;
     }
+    Ok(owned)
+}
+
+// Runs a script over a disk, and over a source and a sink whose calls of these numbers fail.
+fn run_over<R: AllocGlobal + Threads + Wait + Sync>(
+    rt: &R,
+    words: &[&str],
+    disk: MemDisk,
+    script: Vec<u8>,
+    takes: &[u64],
+    puts: &[u64],
+) -> Result<Memory, AllocError> {
+    let alloc = rt.alloc();
+    let owned = owned(alloc, words)?;
     let devices = Devices {
         disk,
-        script: MemSource::new(script.as_bytes().to_vec(alloc)?, Vec::new(alloc)),
-        out: MemSink::new(alloc, Vec::new(alloc)),
+        script: MemSource::new(script, takes.to_vec(alloc)?),
+        out: MemSink::new(alloc, puts.to_vec(alloc)?),
         stream_in: MemSource::new(Vec::new(alloc), Vec::new(alloc)),
         stream_out: MemSink::new(alloc, Vec::new(alloc)),
     };
     Ok(run(rt, &owned, devices, &NoGate))
+}
+
+// The status of a run that ended, what was printed, and the disk that it left.
+fn parts(ended: Memory) -> (u8, MemSink, MemDisk) {
+    let Ended { status, devices } = ended;
+    let Devices {
+        disk,
+        script: _,
+        out,
+        stream_in: _,
+        stream_out: _,
+    } = devices;
+    (status, out, disk)
 }
 
 // Whether a run ends with a status and prints a text, and the disk that it leaves.
@@ -46,59 +75,22 @@ fn ends<R: AllocGlobal + Threads + Wait + Sync>(
     status: u8,
     printed: &str,
 ) -> Result<(bool, MemDisk), AllocError> {
-    let Ended {
-        status: told,
-        devices,
-    } = run_over(rt, words, disk, script)?;
-    let Devices {
-        disk,
-        script: _,
-        out,
-        stream_in: _,
-        stream_out: _,
-    } = devices;
+    let script = script.as_bytes().to_vec(rt.alloc())?;
+    let (told, out, disk) = parts(run_over(rt, words, disk, script, &[], &[])?);
     let is_so = told == status && out.bytes() == printed.as_bytes();
     Ok((is_so, disk))
 }
 
-#[test]
-fn finds_on_the_disk_what_an_earlier_run_made(rt: HostRuntime) -> Result<(), Fail> {
-    let disk = MemDisk::new(rt.alloc(), 24, Vec::new(rt.alloc()));
-    let words = ["v", "--newfs", "24"];
-    let (is_so, disk) = ends(&rt, &words, disk, FIRST_RUN, 0, FIRST_PRINTED)?;
-    assert!(rt; is_so);
-    let printed = "0x0000000000000008 ok 2 d:a d:b\n";
-    let (is_so, _) = ends(&rt, &["v"], disk, "ls /\n", 0, printed)?;
-    assert!(rt; is_so);
-    Ok(())
-}
-
-#[test]
-fn tells_what_is_wrong(rt: HostRuntime) -> Result<(), Fail> {
-    for (size, script, status, printed) in [
-        ("24", "", 0, ""),
-        (
-            "24",
-            "mkdir /a\nmkdir /a\n",
-            0,
-            "0x0000000000000002 ok\n0x0000000000000003 exists\n",
-        ),
-        ("25", "mkdir /a\n", 3, "bad header field 12\n"),
-        ("24", "mkdir /a\nfrob /b\n", 8, "bad line 2\n"),
-        ("24", "ls /a\n", 8, "bad line 1\n"),
-        ("24", "ls /@@0x000000000000002\n", 8, "bad line 1\n"),
-    ] {
-        let disk = MemDisk::new(rt.alloc(), 24, Vec::new(rt.alloc()));
-        let (is_so, _) = ends(&rt, &["v", "--newfs", size], disk, script, status, printed)?;
-        assert!(rt; is_so, "{script}");
+// The first of these scripts that on a new volume does not end with its status and its text.
+fn first_wrong<R: AllocGlobal + Threads + Wait + Sync>(
+    rt: &R,
+    cases: &[(&str, u8, &str)],
+) -> Result<Option<usize>, AllocError> {
+    for (number, (script, status, printed)) in cases.iter().enumerate() {
+        let (is_so, _) = ends(rt, &MAKES, blank(rt), script, *status, printed)?;
+        if !is_so {
+            return Ok(Some(number));
+        }
     }
-    Ok(())
-}
-
-#[test]
-fn tells_a_disk_without_a_volume(rt: HostRuntime) -> Result<(), Fail> {
-    let disk = MemDisk::new(rt.alloc(), 24, Vec::new(rt.alloc()));
-    let (is_so, _) = ends(&rt, &["v"], disk, "ls /\n", 3, "not a volume\n")?;
-    assert!(rt; is_so);
-    Ok(())
+    Ok(None)
 }
