@@ -1,4 +1,4 @@
-use Rattle.hm_shell.proofs.OpenLemmas.{IsMade-ok, StoppedMaking-fault}
+use Rattle.hm_shell.proofs.OpenLemmas.{StoppedMaking-fault}
 use Rattle.hm_shell.proofs.volume.make_volume.Goals as goal
 
 pub returns-in-Err-clause-err : goal.returns-in-Err-clause-err
