@@ -1,5 +1,5 @@
 -- Paths of the root, and as of when they show it.
-use Rattle.std.proofs.Common.{◌≡◌, ◌⊎◌, inl, inr, ℕ, ◌-◌, List, [], ◌∷◌, ◌++◌, Option, Some, None, MatchOption, IfNone, length, take, drop, refl, sym, ◌∙◌, ap, subst, arith}
+use Rattle.std.proofs.Common.{◌≡◌, inl, inr, ℕ, ◌-◌, List, Option, Some, None, MatchOption, IfNone, length, take, drop, refl, sym, ◌∙◌, ap, subst, arith}
 use Rattle.std.proofs.Math.Seq.{take-length}
 use Rattle.hm_types.specs.declared.id.Id.{Id}
 use Rattle.hm_path.specs.Component.{IsIdText, IsNoIdText}

@@ -1,15 +1,14 @@
 -- The bytes of directories: where one ends, and that bytes are those of one list alone.
-use Rattle.std.proofs.Common.{◌≡◌, ℕ, zero, suc, ◌+◌, ◌-◌, ◌*◌, ◌^◌, ◌<◌, ◌≤◌, Bool, true, false, IsTrue, List, [], ◌∷◌, ◌++◌, length, take, drop, slice_index, rules, refl, sym, ◌∙◌, ap, subst, arith, append_assoc, length-append, length-drop}
+use Rattle.std.proofs.Common.{◌≡◌, ℕ, zero, suc, ◌+◌, ◌^◌, ◌<◌, ◌≤◌, Bool, true, false, IsTrue, List, [], ◌∷◌, ◌++◌, length, take, drop, slice_index, rules, refl, sym, ◌∙◌, ap, subst, arith, append_assoc, length-append, length-drop}
 use Rattle.std.specs.List.{flat_map, AllByRecursion}
 use Rattle.std.proofs.lemmas.List.{take_at, drop_at, drop-drop, take-append-drop, length-take-le}
 use Rattle.byteorder.specs.Endian.{little_bytes, little_number, little_from}
 use Rattle.byteorder.specs.Numbers.{little_from-lt, little_from-take, little_number-reads_back, length-bytes_low_first}
 use Rattle.hm_fields.specs.Fields.{get}
 use Rattle.hm_header.proofs.NumberLemmas.{bytes_back}
-use Rattle.hm_types.specs.declared.id.Id.{Id}
 use Rattle.hm_types.specs.Name.{IsName}
 use Rattle.hm_core.specs.declared.directory.Directory.{Directory}
-use Rattle.hm_core.specs.Listed.{directory_bytes, list_bytes}
+use Rattle.hm_core.specs.Listed.{directory_bytes}
 use Rattle.hm_core.specs.Read.{BeginsWith, BeginsWithNone, IsNamed}
 
 -- two lists with fronts of one length

@@ -1,7 +1,6 @@
 -- A volume as it was written, and as a write left it.
-use Rattle.std.proofs.Common.{◌≡◌, ◌⊎◌, inl, inr, ℕ, ◌+◌, ◌-◌, ◌*◌, ◌%◌, ◌^◌, ◌<◌, ◌≤◌, List, [], ◌∷◌, ◌++◌, length, take, drop, refl, sym, ◌∙◌, ap, subst, arith, length-append}
+use Rattle.std.proofs.Common.{◌≡◌, inl, inr, ℕ, ◌+◌, ◌-◌, ◌^◌, ◌<◌, ◌≤◌, List, length, take, drop, refl, sym, ◌∙◌, ap, subst, arith, length-append}
 use Rattle.std.specs.Prelude.{slice_range, Option, Some, None, IfSome, Result, Ok, Err, OnOk, OnErr}
-use Rattle.std.specs.List.{flat_map, AllByRecursion}
 use Rattle.std.proofs.lemmas.List.{take-take}
 use Rattle.std.proofs.lemmas.List.Elements.{recursion_from_All}
 use Rattle.byteorder.specs.Endian.{little_bytes}
@@ -13,13 +12,13 @@ use Rattle.hm_disk.specs.Disk.{BothTell}
 use Rattle.hm_header.specs.declared.header.Header.{Header}
 use Rattle.hm_header.specs.Range.{IsHeader, IsRoot, IsSize}
 use Rattle.hm_core.specs.declared.directory.Directory.{Directory}
-use Rattle.hm_core.specs.Commit.{Commits, CountsStill, HasHeaderAndList, MayCommit, list_block_of, list_of}
+use Rattle.hm_core.specs.Commit.{Commits, HasHeaderAndList, MayCommit, list_of}
 use Rattle.hm_core.specs.Directories.{AreDirectories, IsDirectory, volume_of}
 use Rattle.hm_core.specs.Finish.{IsBefore, IsEither, IsWritten}
-use Rattle.hm_core.specs.Inside.{made_until, opening_of}
-use Rattle.hm_core.specs.Listed.{HoldsAt, directory_bytes, list_bytes, list_place, list_root}
+use Rattle.hm_core.specs.Inside.{made_until}
+use Rattle.hm_core.specs.Listed.{HoldsAt, list_bytes, list_root}
 use Rattle.hm_core.specs.Slots.{with_counts}
-use Rattle.hm_core.specs.Stands.{HasList, Stands, StandsFor}
+use Rattle.hm_core.specs.Stands.{StandsFor}
 use Rattle.hm_core.proofs.BytesLemmas.{entry_bytes}
 use Rattle.hm_core.proofs.MountLemmas.{short_each}
 

@@ -1,9 +1,7 @@
 -- The index of directories: which names it has, and what one more directory does to it.
-use Rattle.std.proofs.Common.{◌≡◌, ℕ, ◌+◌, ◌<◌, ◌≤◌, Bool, true, false, List, [], ◌∷◌, ◌++◌, Option, Some, None, Ordering, length, refl, sym, ◌∙◌, ap, is_some, cond, arith}
-use Rattle.std.specs.Prelude.{◌||◌, filter, map}
-use Rattle.std.specs.Bool.{nat_le}
-use Rattle.std.specs.List.{list_any, AllByRecursion, IsDistinct}
-use Rattle.std.specs.List.Sorted.{IsStrictlySortedBy}
+use Rattle.std.proofs.Common.{◌≡◌, ℕ, ◌+◌, Bool, true, false, List, [], ◌∷◌, ◌++◌, Option, Some, None, Ordering, length, refl, sym, ◌∙◌, is_some, cond, arith}
+use Rattle.std.specs.Prelude.{◌||◌, map}
+use Rattle.std.specs.List.{AllByRecursion, IsDistinct}
 use Rattle.std.specs.declared.cmp.Ordering.TheVariants.{Less, Equal, Greater}
 use Rattle.std.specs.Ordering.{nat_cmp, is_eq}
 use Rattle.std.specs.Cmp.Lexicographic.{slice_cmp, texts_ties, nat_list_eq_equiv}
@@ -15,7 +13,7 @@ use Rattle.std.proofs.lemmas.Map.Lookups.{exact_bytes}
 use Rattle.hm_types.specs.declared.id.Id.{Id}
 use Rattle.hm_core.specs.declared.directory.Directory.{Directory}
 use Rattle.hm_core.specs.Directories.{name_of}
-use Rattle.hm_core.specs.Index.{Entries, indexed, index_of, has_that_name, is_taken}
+use Rattle.hm_core.specs.Index.{Entries, indexed, index_of, is_taken}
 
 -- whether entries have a name
 abbrev pub is_found : List ℕ → Entries → Bool

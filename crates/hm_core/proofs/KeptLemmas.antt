@@ -1,7 +1,7 @@
 -- The directories that a volume may have, as one more is made.
-use Rattle.std.proofs.Common.{◌≡◌, ℕ, ◌+◌, ◌-◌, ◌<◌, ◌≤◌, Bool, true, false, IsTrue, List, [], ◌∷◌, ◌++◌, All, length, get_or, refl, sym, ◌∙◌, ap, subst, arith, length-append}
+use Rattle.std.proofs.Common.{◌≡◌, ℕ, ◌-◌, ◌<◌, ◌≤◌, Bool, true, false, IsTrue, List, [], ◌∷◌, ◌++◌, All, length, get_or, refl, sym, ◌∙◌, ap, subst, arith, length-append}
 use Rattle.std.specs.Prelude.{◌||◌, map}
-use Rattle.std.specs.List.{list_any, AllByRecursion, IsDistinct}
+use Rattle.std.specs.List.{AllByRecursion, IsDistinct}
 use Rattle.std.specs.List.Sorted.{IsStrictlySortedBy}
 use Rattle.std.specs.declared.cmp.Ordering.TheVariants.{Less}
 use Rattle.std.specs.Ordering.{nat_cmp, is_lt}
@@ -11,9 +11,9 @@ use Rattle.std.proofs.lemmas.List.Elements.{All-from_recursion, All-push, All-we
 use Rattle.hm_model.specs.declared.served.TheConstants.{MOST_DIRECTORIES}
 use Rattle.hm_core.specs.declared.directory.Directory.{Directory}
 use Rattle.hm_core.specs.Directories.{AreDirectories, IsDirectory, id_of, name_of}
-use Rattle.hm_core.specs.Index.{is_taken, has_that_name}
+use Rattle.hm_core.specs.Index.{is_taken}
 use Rattle.hm_core.proofs.IndexLemmas.{AreNew, AreNew-distinct}
-use Rattle.hm_core.proofs.VersionLemmas.{AreAbove, AreUntil, Rise, Rise-sorted}
+use Rattle.hm_core.proofs.VersionLemmas.{AreUntil, Rise, Rise-sorted}
 
 -- what the proofs read of such directories: their ids rise up to the last one, and their names are new, one
 -- after another

@@ -1,7 +1,7 @@
 -- Reading a list of directories, one after another.
-use Rattle.std.proofs.Common.{◌≡◌, ℕ, ◌+◌, ◌-◌, ◌*◌, ◌^◌, ◌<◌, ◌≤◌, Bool, true, false, IsTrue, List, [], ◌∷◌, ◌++◌, All, length, refl, sym, ◌∙◌, ap, subst, arith, append_assoc, append-nil, length-append}
+use Rattle.std.proofs.Common.{◌≡◌, ℕ, ◌+◌, ◌^◌, ◌<◌, Bool, false, IsTrue, List, [], ◌∷◌, ◌++◌, length, refl, sym, ◌∙◌, ap, subst, arith, append_assoc, append-nil, length-append}
 use Rattle.std.specs.Prelude.{◌||◌, map}
-use Rattle.std.specs.List.{flat_map, AllByRecursion, IsDistinct, list_any}
+use Rattle.std.specs.List.{AllByRecursion, IsDistinct}
 use Rattle.std.specs.List.Sorted.{IsStrictlySortedBy}
 use Rattle.std.specs.declared.cmp.Ordering.TheVariants.{Less}
 use Rattle.std.specs.Ordering.{nat_cmp}
@@ -10,13 +10,12 @@ use Rattle.std.proofs.lemmas.Bool.{false≢true}
 use Rattle.std.proofs.lemmas.Bool.Decides.{nat_tests}
 use Rattle.std.proofs.lemmas.List.Concat.{flat_map-append}
 use Rattle.std.proofs.lemmas.List.Elements.{All-from_recursion, recursion_from_All}
-use Rattle.hm_types.specs.declared.limits.TheConstants.{GREATEST_ID}
 use Rattle.hm_model.specs.declared.served.TheConstants.{MOST_DIRECTORIES}
 use Rattle.hm_core.specs.declared.directory.Directory.{Directory}
 use Rattle.hm_core.specs.Directories.{AreDirectories, IsDirectory, id_of, name_of}
 use Rattle.hm_core.specs.Index.{is_taken}
 use Rattle.hm_core.specs.Listed.{directory_bytes}
-use Rattle.hm_core.specs.Read.{BeginsWith, BeginsWithNone, IsReadFrom, IsNoneReadFrom, MayAdd}
+use Rattle.hm_core.specs.Read.{BeginsWith, IsReadFrom, IsNoneReadFrom, MayAdd}
 use Rattle.hm_core.proofs.BytesLemmas.{MayStand, entry_bytes, begins_longer, one_directory}
 use Rattle.hm_core.proofs.KeptLemmas.{kept_push}
 

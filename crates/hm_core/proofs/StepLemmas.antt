@@ -1,9 +1,8 @@
 -- One call against the volume: the reply is due, and the directories are those of the volume after it.
-use Rattle.std.proofs.Common.{◌≡◌, ℕ, ◌+◌, ◌-◌, ◌<◌, ◌≤◌, ◌^◌, Bool, true, false, List, [], ◌∷◌, ◌++◌, length, drop, refl, sym, ◌∙◌, ap, subst, inl, inr, arith}
-use Rattle.std.specs.Prelude.{filter, Option, IfSome}
+use Rattle.std.proofs.Common.{◌≡◌, ℕ, ◌+◌, ◌-◌, ◌<◌, ◌≤◌, ◌^◌, true, false, List, [], ◌∷◌, ◌++◌, length, drop, refl, sym, ◌∙◌, ap, subst, inl, inr, arith}
+use Rattle.std.specs.Prelude.{Option, IfSome}
 use Rattle.std.specs.Bool.{nat_le, nat_lt}
 use Rattle.std.proofs.lemmas.Bool.Decides.{nat_tests}
-use Rattle.hm_types.specs.declared.id.Id.{Id}
 use Rattle.hm_types.specs.declared.limits.TheConstants.{GREATEST_ID}
 use Rattle.hm_types.specs.Name.{IsName}
 use Rattle.hm_model.specs.declared.command.Command.{Command}
@@ -12,8 +11,8 @@ use Rattle.hm_model.specs.declared.entry.Entry.{Entry}
 use Rattle.hm_model.specs.declared.reply.Reply.{Reply}
 use Rattle.hm_model.specs.declared.reply.Reply.TheVariants.{Done, Listing, Exists, Future, NotRetained, NoSpace, NoMemory}
 use Rattle.hm_model.specs.declared.served.TheConstants.{MOST_DIRECTORIES}
-use Rattle.hm_model.specs.Tree.{FileTree, has_name, entries_in, root_number, root_tree}
-use Rattle.hm_model.specs.View.{When, Now, AsOf, own_tree}
+use Rattle.hm_model.specs.Tree.{has_name, entries_in, root_number, root_tree}
+use Rattle.hm_model.specs.View.{When, Now, AsOf}
 use Rattle.hm_model.specs.Volume.{Volume, at, shown}
 use Rattle.hm_model.specs.Answer.{listing}
 use Rattle.hm_model.specs.Served.Walk.{IsRootPath, when_of}
@@ -24,7 +23,7 @@ use Rattle.hm_model.proofs.HistoryLemmas.{IsLegal-push, after-push}
 use Rattle.hm_disk.specs.Crash.{Told}
 use Rattle.hm_header.specs.declared.header.Header.{Header}
 use Rattle.hm_core.specs.declared.directory.Directory.{Directory}
-use Rattle.hm_core.specs.Answer.{Serves, Makes, Lists, IsPast, IsFuture, made_by, names_as_of}
+use Rattle.hm_core.specs.Answer.{Serves, Makes, Lists, made_by}
 use Rattle.hm_core.specs.Directories.{AreDirectories, IsDirectory, volume_of}
 use Rattle.hm_core.specs.Index.{index_of, is_taken, names_until, shown_names}
 use Rattle.hm_core.specs.Inside.{IsSound, made_until, opening_of}

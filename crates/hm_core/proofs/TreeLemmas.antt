@@ -1,26 +1,23 @@
 -- The trees that directories make, against their index.
-use Rattle.std.proofs.Common.{◌≡◌, ℕ, ◌+◌, ◌<◌, ◌≤◌, Bool, true, false, List, [], ◌∷◌, ◌++◌, Option, Some, None, Ordering, length, refl, sym, ◌∙◌, ap, is_some, cond, arith}
-use Rattle.std.specs.Prelude.{◌||◌, ◌==◌, ◌&&◌, filter, map, find, if◌then◌else◌, nat_eq}
-use Rattle.std.specs.Bool.{nat_le}
-use Rattle.std.specs.List.{list_any, AllByRecursion, IsDistinct}
+use Rattle.std.proofs.Common.{◌≡◌, ℕ, Bool, true, false, List, [], ◌∷◌, Some, None, Ordering, length, refl, sym, ◌∙◌, ap, is_some, cond, arith}
+use Rattle.std.specs.Prelude.{◌||◌, ◌==◌, filter, map, find, if◌then◌else◌}
+use Rattle.std.specs.List.{list_any, AllByRecursion}
 use Rattle.std.specs.Option.{option_map_or}
 use Rattle.std.specs.declared.cmp.Ordering.TheVariants.{Less, Equal, Greater}
 use Rattle.std.specs.Ordering.{nat_cmp, is_eq}
 use Rattle.std.specs.Cmp.Lexicographic.{slice_cmp}
 use Rattle.std.specs.Map.{lookup}
-use Rattle.std.specs.BTreeMap.{is_at, insert_entry}
+use Rattle.std.specs.BTreeMap.{is_at}
 use Rattle.hm_types.specs.declared.id.Id.{Id}
-use Rattle.hm_types.specs.declared.id.Obj.{Obj}
 use Rattle.hm_model.specs.declared.object.Object.{Object}
 use Rattle.hm_model.specs.declared.object.Triple.{Triple}
-use Rattle.hm_model.specs.declared.object.Kind.{Kind}
 use Rattle.hm_model.specs.declared.object.Kind.TheVariants.{Directory as IsDir}
-use Rattle.hm_model.specs.Tree.{FileTree, root_number, root_tree, directory_of, is_named, insert_by, is_object_before, is_triple_before, has_name, entries_in, object_in, with_object}
+use Rattle.hm_model.specs.Tree.{FileTree, root_number, root_tree, directory_of, is_named, insert_by, is_object_before, is_triple_before, has_name, entries_in}
 use Rattle.hm_model.specs.Answer.{entry_kind, kind_number, listing}
 use Rattle.hm_core.specs.declared.directory.Directory.{Directory}
-use Rattle.hm_core.specs.Directories.{with_one, name_of}
+use Rattle.hm_core.specs.Directories.{with_one}
 use Rattle.hm_core.specs.Index.{Entries, indexed, index_of, is_taken, shown_names}
-use Rattle.hm_core.proofs.IndexLemmas.{AreNew, AreNew-distinct, is_found, is_found-index, length-indexed, ties, with_entry}
+use Rattle.hm_core.proofs.IndexLemmas.{AreNew, is_found, is_found-index, length-indexed, ties, with_entry}
 
 -- the tree after these directories were made on it
 abbrev pub tree_from : FileTree → List Directory → FileTree

@@ -1,5 +1,5 @@
 -- The versions that directories make of a volume's tree, and what is shown as of an id.
-use Rattle.std.proofs.Common.{◌≡◌, ℕ, ◌+◌, ◌<◌, ◌≤◌, Bool, true, false, List, [], ◌∷◌, ◌++◌, length, refl, sym, ◌∙◌, ap, arith}
+use Rattle.std.proofs.Common.{◌≡◌, ℕ, ◌<◌, ◌≤◌, Bool, true, false, List, [], ◌∷◌, ◌++◌, refl, sym, ◌∙◌, ap, arith}
 use Rattle.std.specs.Prelude.{filter, map, if◌then◌else◌}
 use Rattle.std.specs.Bool.{nat_le}
 use Rattle.std.specs.List.{AllByRecursion}
@@ -10,14 +10,13 @@ use Rattle.std.specs.Cmp.Lexicographic.{slice_cmp}
 use Rattle.std.specs.Map.{lookup}
 use Rattle.std.specs.BTreeMap.{is_at}
 use Rattle.std.proofs.lemmas.Bool.Decides.{nat_tests}
-use Rattle.std.proofs.lemmas.Bool.{false≢true}
 use Rattle.std.specs.declared.cmp.Ordering.TheVariants.{Equal, Greater}
 use Rattle.std.proofs.Common.{None, Some, Ordering}
 use Rattle.hm_types.specs.declared.id.Id.{Id}
 use Rattle.hm_model.specs.Tree.{FileTree, no_tree, root_tree}
-use Rattle.hm_model.specs.Volume.{Volume, as_of, at, shown}
+use Rattle.hm_model.specs.Volume.{as_of, at, shown}
 use Rattle.hm_core.specs.declared.directory.Directory.{Directory}
-use Rattle.hm_core.specs.Directories.{versions_from, volume_of, with_one, id_of, name_of}
+use Rattle.hm_core.specs.Directories.{versions_from, volume_of, with_one, id_of}
 use Rattle.hm_core.specs.Index.{Entries, indexed, index_of, was_made}
 use Rattle.hm_core.specs.Inside.{made_until}
 use Rattle.hm_core.proofs.IndexLemmas.{AreNew, with_entry}

@@ -1,5 +1,5 @@
 -- What the calls of a core do.
-use Rattle.std.specs.Prelude.{◌≡◌, ◌≢◌, ◌⊎◌, ℕ, ◌+◌, ◌≤◌, [], ◌∷◌, ◌++◌, List, Option, IfSome, IfErr, Result, IsOk, OnOk, OnErr, length}
+use Rattle.std.specs.Prelude.{◌≡◌, ◌≢◌, ◌⊎◌, ℕ, ◌+◌, ◌≤◌, [], ◌∷◌, ◌++◌, Option, IfSome, IfErr, Result, IsOk, OnOk, OnErr, length}
 use Rattle.hm_types.specs.declared.fault.Fault.{Fault}
 use Rattle.hm_types.specs.declared.limits.TheConstants.{GREATEST_ID}
 use Rattle.hm_types.specs.Faults.{HasFaultCause}

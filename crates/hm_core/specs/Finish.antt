@@ -1,5 +1,5 @@
 -- What writing a volume makes of its disk.
-use Rattle.std.specs.Prelude.{◌≡◌, ◌⊎◌, ℕ, List, []}
+use Rattle.std.specs.Prelude.{◌⊎◌, ℕ, List}
 use Rattle.hm_types.specs.declared.fault.Fault.{Fault}
 use Rattle.hm_types.specs.declared.fault.Fault.TheVariants.{Media, Damaged, NoMemory}
 use Rattle.hm_disk.specs.Crash.{Told}

@@ -4,7 +4,7 @@ ghost use Rattle.hm_model.specs.Served.Due.{IsServed};
 
 use super::*;
 use hm_disk::{Disk, MemDisk, write_synced};
-use hm_model::{Command, Reply};
+use hm_model::{Command, Reply, Tree, apply, look};
 use hm_path::read_id;
 use hm_types::{Fault, HOff, Id, NoMemory, Text, is_name};
 use std::alloc::Global;
@@ -146,6 +146,57 @@ fn a_volume_that_was_written_is_mounted_again(rt: HostRuntime) -> Result<(), Fai
     Ok(())
 }
 
+// Makes a directory in a volume and in a plain tree, compares the replies, and gives the tree.
+fn make_in_both(
+    rt: &impl Abort,
+    alloc: Global,
+    core: &mut Volume,
+    tree: &Tree,
+    name: &[u8],
+) -> Result<Tree, NoMemory> {
+    core.reserve(2)?;
+    let since = core.last();
+    assert!(rt; since < Id(100));
+    let (want, after) = apply(alloc, tree, &mkdir(rt, alloc, name)?, Id(since.0 + 1))?;
+    match core.call(0, 1, since, mkdir(rt, alloc, name)?) {
+        Step::Answered(place) => assert_eq!(rt; core.entry(place).reply, want),
+        Step::Spent => panic!(rt; "no id is left"),
+    }
+    Ok(after)
+}
+
+// Lists a volume and a plain tree, and compares the replies.
+fn list_both(
+    rt: &impl Abort,
+    alloc: Global,
+    core: &mut Volume,
+    tree: &Tree,
+) -> Result<(), NoMemory> {
+    core.reserve(2)?;
+    let since = core.last();
+    let want = look(alloc, tree, &ls(alloc)?)?;
+    match core.call(0, 1, since, ls(alloc)?) {
+        Step::Answered(place) => assert_eq!(rt; core.entry(place).reply, want),
+        Step::Spent => panic!(rt; "no id is left"),
+    }
+    Ok(())
+}
+
+#[test]
+fn a_volume_answers_as_the_plain_tree(rt: HostRuntime) -> Result<(), Fail> {
+    let alloc = rt.alloc();
+    let mut core = mounted(&rt, alloc, made(&rt, alloc));
+    let mut tree = Tree::root(alloc)?;
+    list_both(&rt, alloc, &mut core, &tree)?;
+    for name in [b"b".as_slice(), b"a", b"b", b"B", b"ab", b"a", b".a"] {
+        tree = make_in_both(&rt, alloc, &mut core, &tree, name)?;
+        list_both(&rt, alloc, &mut core, &tree)?;
+    }
+    let mut core = mounted(&rt, alloc, finished(&rt, core));
+    list_both(&rt, alloc, &mut core, &tree)?;
+    Ok(())
+}
+
 // A disk on which some bytes were overwritten.
 fn patched(rt: &impl Abort, disk: MemDisk, place: u64, bytes: &[u8]) -> MemDisk {
     let mut disk = disk;
@@ -274,6 +325,20 @@ fn a_root_stands_where_its_generation_says(rt: HostRuntime) {
     let disk = patched(&rt, made(&rt, alloc), 16, &[2]);
     let want = damage(&rt, 0x8000_0000_0580_0000);
     assert_eq!(rt; refusal(alloc, disk), Some(want));
+}
+
+#[test]
+fn a_slot_half_written_leaves_the_other_one(rt: HostRuntime) -> Result<(), Fail> {
+    let alloc = rt.alloc();
+    let mut core = mounted(&rt, alloc, made(&rt, alloc));
+    run(&mut core, mkdir(&rt, alloc, b"a")?)?;
+    // The second slot: its gate is closed, and its body has changed as far as the last id.
+    let disk = patched(&rt, finished(&rt, core), 32_767, &[0]);
+    let disk = patched(&rt, disk, 16_384 + 24, &[9]);
+    let mut core = mounted(&rt, alloc, disk);
+    assert_eq!(rt; core.boundary(), Id(1));
+    assert_eq!(rt; count(&mut core, ls(alloc)?)?, Some(0));
+    Ok(())
 }
 
 #[test]

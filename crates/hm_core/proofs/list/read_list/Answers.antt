@@ -1,4 +1,4 @@
-use Rattle.std.proofs.Common.{◌≡◌, ℕ, ◌<◌, ◌^◌, List, false, refl, sym, ◌∙◌, subst, arith}
+use Rattle.std.proofs.Common.{◌≡◌, ℕ, List, sym, ◌∙◌, subst, arith}
 use Rattle.hm_core.specs.Read.{BeginsWith}
 use Rattle.hm_core.proofs.ParseLemmas.{IsNoneReadFrom-next, ReadSoFar-more, ReadSoFar-none, refused}
 use Rattle.hm_core.proofs.list.read_list.Goals as goal
