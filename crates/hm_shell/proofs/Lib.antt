@@ -5,6 +5,7 @@ pub mod GrammarLemmas
 pub mod HexLemmas
 pub mod LinesLemmas
 pub mod OpenLemmas
+pub mod PlanLemmas
 pub mod PrintLemmas
 pub mod ReadLemmas
 pub mod RunLemmas

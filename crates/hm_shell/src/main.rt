@@ -5,6 +5,7 @@ mod devices;
 mod grammar;
 mod hex;
 mod job;
+mod laws;
 mod plan;
 mod print;
 mod read;
