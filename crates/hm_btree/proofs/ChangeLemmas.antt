@@ -1,11 +1,11 @@
 -- Children of which some change, while those before and after them stay.
-use Rattle.std.proofs.Common.{◌≡◌, ◌≢◌, Bool, true, false, true≢false, ◌||◌, ℕ, zero, suc, ◌+◌, ◌<◌, ◌≤◌, List, [], ◌∷◌, ◌++◌, refl, sym, ap, subst, ◌∙◌, arith, nat_eq, append_assoc, append-nil}
-use Rattle.std.specs.Prelude.{IsSome, if◌then◌else◌}
-use Rattle.std.specs.List.{AllByRecursion, flat_map, list_any}
+use Rattle.std.proofs.Common.{◌≡◌, Bool, true, false, ◌||◌, ℕ, ◌≤◌, List, [], ◌∷◌, ◌++◌, refl, sym, ap, subst, ◌∙◌, arith, append-nil}
+use Rattle.std.specs.Prelude.{if◌then◌else◌}
+use Rattle.std.specs.List.{AllByRecursion}
 use Rattle.std.specs.Ordering.{is_lt}
 use Rattle.std.proofs.lemmas.Grind.{flat_map-append}
 use Rattle.hm_types.specs.Elements.{Key, key_cmp}
-use Rattle.hm_fields.specs.Pages.{PageMap, page_in}
+use Rattle.hm_fields.specs.Pages.{PageMap}
 use Rattle.hm_key.specs.Key.{key_of, IsBefore, IsFrom}
 use Rattle.hm_key.specs.Elements.{element_key}
 use Rattle.hm_key.specs.Stores.{Marks}
@@ -14,19 +14,17 @@ use Rattle.hm_key.specs.declared.element.Element.{Element}
 use Rattle.hm_key.proofs.KeyLemmas.{key_before_from, key_from_before}
 use Rattle.hm_node.specs.Inner.{IsChild}
 use Rattle.hm_node.specs.declared.inner.Child.{Child}
-use Rattle.hm_node.specs.declared.node.Node.{Node}
 use Rattle.hm_search.specs.Place.{IsInside}
-use Rattle.hm_search.specs.Tree.{node_at, elements_in, mark_in, reaches, holder, at_holder, starts_after, next_left, child_place, places_of, IsTree, IsStoredTree}
-use Rattle.hm_search.specs.declared.subtree.Subtree.{Subtree}
+use Rattle.hm_search.specs.Tree.{node_at, elements_in, mark_in, holder, starts_after, next_left, child_place, places_of, IsStoredTree}
 use Rattle.hm_search.proofs.ListLemmas.{each_so, each_append}
-use Rattle.hm_search.proofs.OrderLemmas.{before_is, from_is, from_not, from_then_before, from_trans}
+use Rattle.hm_search.proofs.OrderLemmas.{from_is, from_not, from_trans}
 use Rattle.hm_search.proofs.ChildLemmas.{holder_later}
-use Rattle.hm_search.proofs.ContentLemmas.{AreInside, all_of, from_next_on, elements_inside}
+use Rattle.hm_search.proofs.ContentLemmas.{AreInside, from_next_on, elements_inside}
 use Rattle.hm_search.proofs.FrameLemmas.{IsSameUnder}
-use Rattle.hm_search.proofs.ReachLemmas.{is_under, or_left, or_right}
-use Rattle.hm_btree.specs.Below.{Replaces, elements_under, mark_under, has_under, AreStored, AreRising, IsLocal, ChangedUnder}
-use Rattle.hm_btree.proofs.OrderLemmas.{before_before, rising_first, rising_rest, rising_cons, rising_next, before_all, next_append, rising_append, rising_back}
-use Rattle.hm_btree.proofs.UnderLemmas.{under_there, first_apart, later_apart, under_append, stored_append, stored_front, stored_back, under_elements, under_mark, under_has, under_stored, replaces_same, replaces_front, replaces_back, or_false}
+use Rattle.hm_search.proofs.ReachLemmas.{is_under}
+use Rattle.hm_btree.specs.Below.{elements_under, mark_under, has_under, AreStored, AreRising, IsLocal, ChangedUnder}
+use Rattle.hm_btree.proofs.OrderLemmas.{before_before, rising_rest, rising_cons, rising_next, before_all, rising_append, rising_back}
+use Rattle.hm_btree.proofs.UnderLemmas.{under_there, first_apart, later_apart, under_append, stored_append, stored_back, under_elements, under_mark, under_has, under_stored, replaces_same, replaces_front, replaces_back}
 
 -- the elements under children, each inside its child's boundaries
 pub inside_each : (map : PageMap) (height level : ℕ) (right : Base) (cs : List Child) → AreStored map height level right cs → AllByRecursion (λ s. AreInside s.left s.right (elements_in map height (node_at map s.at))) (places_of level right cs)
@@ -68,7 +66,8 @@ mark_cons map height k c d ds = by_test (starts_after k d) where
   by_test true = refl
   by_test false = refl
 
-chosen : (b : Bool) (a a' m m' : ℕ) → a ≤ a' → m ≤ m' → (if b then a else m) ≤ (if b then a' else m')
+-- one of two numbers that are both no less
+pub chosen : (b : Bool) (a a' m m' : ℕ) → a ≤ a' → m ≤ m' → (if b then a else m) ≤ (if b then a' else m')
 chosen true a a' m m' first second = first
 chosen false a a' m m' first second = second
 

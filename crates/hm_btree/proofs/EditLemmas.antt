@@ -1,42 +1,40 @@
 -- A step of a call down to a child, and back.
-use Rattle.std.proofs.Common.{◌≡◌, ◌≢◌, Bool, true, false, true≢false, ℕ, zero, suc, ◌+◌, ◌<◌, ◌≤◌, ◌⊎◌, inl, inr, List, [], ◌∷◌, ◌++◌, length, take, drop, refl, sym, ap, subst, ◌∙◌, arith, max, Some, None, Result, Ok, Err, length-append}
-use Rattle.std.specs.Prelude.{Option, IsSome, is_some, IfSome, IfErr, IfOk, All, slice_get, slice_set, slice_index_or}
-use Rattle.std.specs.List.{AllByRecursion, flat_map}
+use Rattle.std.proofs.Common.{◌≡◌, ℕ, zero, suc, ◌+◌, ◌<◌, ◌≤◌, List, [], ◌∷◌, ◌++◌, length, take, drop, refl, sym, ap, subst, ◌∙◌, arith, max, Some, None, Err, length-append}
+use Rattle.std.specs.Prelude.{Option, IfSome, All, slice_get, slice_set, slice_index_or}
+use Rattle.std.specs.List.{AllByRecursion}
 use Rattle.std.proofs.lemmas.Grind.{flat_map-append}
 use Rattle.std.proofs.lemmas.List.Elements.{All-from_recursion, recursion_from_All}
-use Rattle.hm_types.specs.Elements.{Key, key_cmp}
-use Rattle.hm_types.specs.Faults.{HasFaultCause, IsCaused}
+use Rattle.hm_types.specs.Elements.{Key}
+use Rattle.hm_types.specs.Faults.{HasFaultCause}
 use Rattle.hm_types.specs.declared.fault.Fault.{Fault}
-use Rattle.hm_fields.specs.Pages.{PageMap, page_in, HasPut, BothTell}
+use Rattle.hm_fields.specs.Pages.{PageMap, page_in}
 use Rattle.hm_key.specs.Key.{key_of, IsBefore, IsFrom}
-use Rattle.hm_key.specs.Elements.{element_key, element_at, stands_at}
+use Rattle.hm_key.specs.Elements.{element_key, element_at}
 use Rattle.hm_key.specs.Stores.{IsUndamaged}
 use Rattle.hm_key.specs.declared.base.Base.{Base}
 use Rattle.hm_key.specs.declared.element.Element.{Element}
-use Rattle.hm_key.proofs.KeyLemmas.{key_before_from, key_from_before}
+use Rattle.hm_key.proofs.KeyLemmas.{key_before_from}
 use Rattle.hm_node.specs.Inner.{IsChild}
-use Rattle.hm_node.specs.Node.{node_in, level_of, IsNode, Spells}
+use Rattle.hm_node.specs.Node.{level_of, IsNode}
 use Rattle.hm_node.specs.declared.inner.Child.{Child}
 use Rattle.hm_node.specs.declared.inner.Inner.{Inner}
 use Rattle.hm_node.specs.declared.node.Node.{Node}
-use Rattle.hm_node.specs.declared.node.Node.TheVariants.{Leaf, Inner as inner_node}
-use Rattle.hm_search.specs.Place.{IsInside, BeginsAt, Fits, FitsLevel, FitsCount, SpellsHere, TellsDamage, mirror_of}
-use Rattle.hm_search.specs.Search.{begun, holder_place}
-use Rattle.hm_search.specs.Tree.{node_at, elements_in, next_left, child_place, places_of, children_of, IsTree, IsStoredTree}
+use Rattle.hm_node.specs.declared.node.Node.TheVariants.{Inner as inner_node}
+use Rattle.hm_search.specs.Place.{IsInside, BeginsAt, Fits, FitsCount, SpellsHere, TellsDamage, mirror_of}
+use Rattle.hm_search.specs.Search.{holder_place}
+use Rattle.hm_search.specs.Tree.{node_at, elements_in, next_left, child_place, children_of, IsTree, IsStoredTree}
 use Rattle.hm_search.specs.declared.subtree.Parent.{Parent}
 use Rattle.hm_search.specs.declared.subtree.Subtree.{Subtree}
-use Rattle.hm_search.proofs.ChildLemmas.{holder_place_within, IsChildAt, place_is}
-use Rattle.hm_search.proofs.ContentLemmas.{AreInside, elements_inside}
+use Rattle.hm_search.proofs.ChildLemmas.{holder_place_within, place_is}
 use Rattle.hm_search.proofs.DamageLemmas.{tells_undamaged, stored_here, caused_since}
 use Rattle.hm_search.proofs.ListLemmas.{each_so, each_append, each_get}
-use Rattle.hm_search.proofs.OrderLemmas.{from_trans}
-use Rattle.hm_btree.specs.Edits.{inner_of, with_mirror, ChildChange}
+use Rattle.hm_btree.specs.Edits.{inner_of, with_mirror}
 use Rattle.hm_btree.specs.Space.{HasWritten}
-use Rattle.hm_btree.specs.Below.{elements_under, AreStored, AreRising, IsLocal, Changed, ChangedUnder, HasEditCause}
+use Rattle.hm_btree.specs.Below.{elements_under, IsLocal, Changed, HasEditCause}
 use Rattle.hm_btree.proofs.ChangeLemmas.{inside_under}
 use Rattle.hm_btree.proofs.LocalLemmas.{before_not_at, after_not_at}
 use Rattle.hm_btree.proofs.NodeLemmas.{holder_inside, changed_written, changed_within, changed_above}
-use Rattle.hm_btree.proofs.OrderLemmas.{each_front, each_back, rising_back, rising_front, rising_next, next_append}
+use Rattle.hm_btree.proofs.OrderLemmas.{each_front, each_back, rising_back, rising_front, rising_next}
 use Rattle.hm_btree.proofs.UnderLemmas.{stored_front, stored_back}
 
 -- the child that holds a key is one of the node's

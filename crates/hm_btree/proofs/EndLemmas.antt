@@ -1,14 +1,13 @@
 -- Elements stand between the boundaries of the whole tree.
-use Rattle.std.proofs.Common.{◌≡◌, ◌≢◌, Bool, true, false, true≢false, ℕ, ◌+◌, ◌-◌, ◌%◌, ◌^◌, ◌<◌, ◌≤◌, ◌⊎◌, inl, inr, refl, sym, ap, subst, ◌∙◌, arith, nat_eq}
-use Rattle.std.specs.Ordering.{nat_cmp, ordering_then, is_lt}
+use Rattle.std.proofs.Common.{◌≡◌, ℕ, ◌-◌, ◌^◌, ◌<◌, ◌≤◌, inl, inr, refl, arith}
+use Rattle.std.specs.Ordering.{nat_cmp, ordering_then}
 use Rattle.std.specs.declared.cmp.Ordering.{Ordering}
 use Rattle.std.specs.declared.cmp.Ordering.TheVariants.{Less, Equal, Greater}
 use Rattle.std.proofs.lemmas.Cmp.{ranked}
 use Rattle.std.proofs.lemmas.Bool.{cases_eq}
-use Rattle.hm_types.specs.Elements.{Key, key_cmp}
 use Rattle.hm_key.specs.Element.{IsElement, part_of}
 use Rattle.hm_key.specs.Elements.{element_key}
-use Rattle.hm_key.specs.Key.{key_of, least_key, greatest_key, IsBefore, IsFrom}
+use Rattle.hm_key.specs.Key.{least_key}
 use Rattle.hm_key.specs.declared.element.Element.{Element}
 use Rattle.hm_key.specs.declared.rec_type.TheConstants.{INODE}
 use Rattle.hm_key.proofs.KeyLemmas.{key_from_fields}

@@ -1,5 +1,5 @@
 -- The element at a key of a leaf.
-use Rattle.std.proofs.Common.{◌≡◌, Bool, true, false, ℕ, List, refl, sym, ap, subst, ◌∙◌, Some, None, Bor}
+use Rattle.std.proofs.Common.{◌≡◌, Bool, false, ℕ, List, sym, ap, ◌∙◌, Some, None, Bor}
 use Rattle.std.specs.Prelude.{Option, is_some, ◌==◌, slice_get}
 use Rattle.std.specs.Option.{option_copied}
 use Rattle.std.specs.Slice.{IsItemAt}

@@ -1,13 +1,11 @@
 -- Nodes that grow, and may become two.
-use Rattle.std.proofs.Common.{◌≡◌, ◌≢◌, Bool, true, false, true≢false, ℕ, zero, suc, ◌+◌, ◌-◌, ◌<◌, ◌≤◌, List, [], ◌∷◌, ◌++◌, length, take, drop, insert, refl, sym, ap, subst, ◌∙◌, arith, max, Some, None, length-append, length-take-le, length-drop, take-append-drop}
-use Rattle.std.specs.Prelude.{Option, IsSome, IsNone, is_some, IfSome, All, if◌then◌else◌, slice_get, slice_set, slice_index_or}
+use Rattle.std.proofs.Common.{◌≡◌, Bool, true, false, ℕ, suc, ◌+◌, ◌≤◌, List, [], ◌∷◌, ◌++◌, length, take, drop, refl, sym, ap, subst, ◌∙◌, arith, max, Some, None, length-append, length-take-le, length-drop, take-append-drop}
+use Rattle.std.specs.Prelude.{Option, IsNone, if◌then◌else◌}
 use Rattle.std.specs.List.{AllByRecursion}
 use Rattle.std.proofs.lemmas.List.Elements.{All-from_recursion, recursion_from_All}
-use Rattle.std.proofs.lemmas.List.Edits.{insert-append_right}
-use Rattle.hm_types.specs.Elements.{Key, key_cmp}
+use Rattle.hm_types.specs.Elements.{Key}
 use Rattle.hm_types.specs.Offset.{IsOffset}
-use Rattle.hm_fields.specs.Pages.{PageMap, page_in, BothTell}
-use Rattle.hm_key.specs.Key.{key_of, IsBefore, IsBoundary}
+use Rattle.hm_fields.specs.Pages.{PageMap}
 use Rattle.hm_key.specs.Element.{IsElement}
 use Rattle.hm_key.specs.Elements.{element_key, element_at, inserted, last_id, stands_before, IsContent}
 use Rattle.hm_key.specs.declared.base.Base.{Base}
@@ -15,30 +13,28 @@ use Rattle.hm_key.specs.declared.element.Element.{Element}
 use Rattle.hm_key.proofs.ElementLemmas.{each_inserted, content_inserted}
 use Rattle.hm_node.specs.Inner.{IsChild}
 use Rattle.hm_node.specs.Leaf.{IsUpTo}
-use Rattle.hm_node.specs.Node.{node_in, Spells}
 use Rattle.hm_node.specs.declared.inner.Child.{Child}
 use Rattle.hm_node.specs.declared.inner.Inner.{Inner}
 use Rattle.hm_node.specs.declared.leaf.Leaf.{Leaf}
 use Rattle.hm_node.specs.declared.node.Node.{Node}
 use Rattle.hm_node.specs.declared.node.Node.TheVariants.{Leaf as leaf_node, Inner as inner_node}
-use Rattle.hm_search.specs.Place.{IsInside, FitsCount, SpellsHere, mirror_of}
+use Rattle.hm_search.specs.Place.{IsInside, FitsCount, mirror_of}
 use Rattle.hm_search.specs.Search.{holder_place}
-use Rattle.hm_search.specs.Tree.{node_at, elements_in, reaches, next_left, child_place, children_of, IsTree, IsStoredTree}
+use Rattle.hm_search.specs.Tree.{node_at, next_left, child_place, IsTree}
 use Rattle.hm_search.specs.declared.subtree.Parent.{Parent}
 use Rattle.hm_search.specs.declared.subtree.Subtree.{Subtree}
-use Rattle.hm_search.proofs.ChildLemmas.{IsChildAt, place_is}
 use Rattle.hm_search.proofs.ListLemmas.{each_so, each_append}
 use Rattle.hm_search.proofs.ReachLemmas.{not_below_itself}
-use Rattle.hm_btree.specs.Edits.{leaf_of, inner_of, left_of, with_mirror, ChildChange}
+use Rattle.hm_btree.specs.Edits.{leaf_of, inner_of, left_of, with_mirror}
 use Rattle.hm_btree.specs.Space.{HasWritten, HasAdded, IsSpot}
 use Rattle.hm_btree.specs.Below.{IsLocal, Changed, ChangedUnder}
-use Rattle.hm_btree.specs.Grow.{Split, GrownTo, Grows, FirstAt, LeafBecomes, InnerBecomes}
+use Rattle.hm_btree.specs.Grow.{Split, GrownTo, FirstAt, LeafBecomes, InnerBecomes}
 use Rattle.hm_btree.specs.declared.upper.Upper.{Upper}
-use Rattle.hm_btree.proofs.EditLemmas.{whole, split_at, set_at_place, child_inside, child_tree, child_element}
+use Rattle.hm_btree.proofs.EditLemmas.{whole, child_inside, child_tree}
 use Rattle.hm_btree.proofs.LeafLemmas.{changed_leaf, leaf_content, leaf_offsets}
 use Rattle.hm_btree.proofs.NodeLemmas.{changed_within, changed_above}
-use Rattle.hm_btree.proofs.OrderLemmas.{each_front, each_back, rising_back, rising_next}
-use Rattle.hm_btree.proofs.PairLemmas.{lower_child, upper_child, split_written}
+use Rattle.hm_btree.proofs.OrderLemmas.{each_front, each_back}
+use Rattle.hm_btree.proofs.PairLemmas.{split_written}
 use Rattle.hm_btree.proofs.SplitLemmas.{split_leaf, split_above}
 
 -- a leaf with one more element

@@ -1,8 +1,8 @@
 -- Calls that may make a node two, where the pages are told.
-use Rattle.std.proofs.Common.{◌≡◌, ◌≢◌, Bool, true, false, true≢false, ℕ, zero, suc, ◌+◌, ◌-◌, ◌<◌, ◌≤◌, List, [], ◌∷◌, ◌++◌, length, take, drop, insert, refl, sym, ap, subst, ◌∙◌, arith, max, Some, None}
-use Rattle.std.specs.Prelude.{Option, IsSome, IsNone, is_some, IfSome, slice_get, slice_set, slice_index_or}
+use Rattle.std.proofs.Common.{◌≡◌, ℕ, zero, suc, ◌+◌, ◌-◌, List, ◌∷◌, ◌++◌, length, take, drop, insert, sym, ap, subst, ◌∙◌, arith, max, Some, None}
+use Rattle.std.specs.Prelude.{Option, IsNone, IfSome, slice_get}
 use Rattle.std.proofs.lemmas.List.Edits.{insert-append_right}
-use Rattle.hm_types.specs.Elements.{Key, key_cmp}
+use Rattle.hm_types.specs.Elements.{Key}
 use Rattle.hm_types.specs.Offset.{IsOffset}
 use Rattle.hm_fields.specs.Pages.{PageMap, page_in, BothTell}
 use Rattle.hm_key.specs.Element.{IsElement}

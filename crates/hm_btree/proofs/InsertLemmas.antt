@@ -1,6 +1,6 @@
 -- What an insertion finds and spends.
-use Rattle.std.proofs.Common.{◌≡◌, Bool, true, false, ℕ, zero, suc, ◌+◌, ◌-◌, ◌*◌, ◌<◌, ◌≤◌, List, [], ◌∷◌, length, take, drop, insert, get_or, refl, sym, ap, subst, ◌∙◌, arith, max, nat_eq, Some, None, length-drop, length-set}
-use Rattle.std.specs.Prelude.{Option, if◌then◌else◌, slice_set, slice_index_or}
+use Rattle.std.proofs.Common.{◌≡◌, Bool, true, false, ℕ, ◌+◌, ◌-◌, ◌*◌, ◌<◌, ◌≤◌, List, [], ◌∷◌, length, drop, insert, get_or, ap, subst, ◌∙◌, arith, max, nat_eq, Some, None, length-drop, length-set}
+use Rattle.std.specs.Prelude.{if◌then◌else◌, slice_index_or}
 use Rattle.hm_key.specs.Key.{key_of, IsBoundary}
 use Rattle.hm_key.specs.Elements.{element_key, inserted, last_id}
 use Rattle.hm_key.specs.Places.{leading}
@@ -15,10 +15,9 @@ use Rattle.hm_node.specs.declared.inner.Inner.{Inner}
 use Rattle.hm_node.specs.declared.leaf.Leaf.{Leaf}
 use Rattle.hm_node.specs.declared.node.Node.{Node}
 use Rattle.hm_node.specs.declared.node.Node.TheVariants.{Leaf as leaf_node, Inner as inner_node}
-use Rattle.hm_btree.specs.Edits.{leaf_of, LeafGrown, ChildChange}
+use Rattle.hm_btree.specs.Edits.{LeafGrown, ChildChange}
 use Rattle.hm_btree.specs.Grow.{FirstAt, LeafBecomes}
 use Rattle.hm_btree.specs.declared.space.TheConstants.{NODE_BYTES}
-use Rattle.hm_btree.specs.declared.upper.Upper.{Upper}
 
 -- the first of some elements
 pub first_at : (l : List Element) (x : Element) (b : Base) → 0 < length l → x ≡ get_or l 0 x → IsBoundary b (key_of x.base) → FirstAt l b

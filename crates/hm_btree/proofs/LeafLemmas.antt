@@ -1,30 +1,27 @@
 -- Leaves whose elements changed.
-use Rattle.std.proofs.Common.{◌≡◌, ◌≢◌, Bool, true, false, true≢false, ℕ, zero, suc, ◌+◌, ◌<◌, ◌≤◌, ◌⊎◌, inl, inr, List, [], ◌∷◌, ◌++◌, length, refl, sym, ap, subst, ◌∙◌, arith, max, length-set, get_or, set, Some, None}
-use Rattle.std.specs.Prelude.{All, Option, IsSome, slice_set, slice_index_or}
+use Rattle.std.proofs.Common.{◌≡◌, true≢false, ℕ, zero, suc, ◌≤◌, List, length, refl, sym, ap, subst, ◌∙◌, arith, max, length-set, Some, None}
+use Rattle.std.specs.Prelude.{Option, IsSome, slice_set, slice_index_or}
 use Rattle.std.specs.List.{AllByRecursion}
-use Rattle.std.specs.List.Sorted.{IsStrictlySortedBy}
 use Rattle.std.proofs.lemmas.List.Elements.{All-from_recursion, recursion_from_All, All-weaker}
-use Rattle.hm_types.specs.Elements.{Key, key_cmp}
+use Rattle.hm_types.specs.Elements.{Key}
 use Rattle.hm_types.specs.Offset.{IsOffset}
 use Rattle.hm_fields.specs.Pages.{PageMap}
 use Rattle.hm_key.specs.Element.{IsElement}
-use Rattle.hm_key.specs.Elements.{element_key, element_cmp, stands_at, element_at, changed, closed_at, moved_to, IsContent}
+use Rattle.hm_key.specs.Elements.{element_key, element_at, IsContent}
 use Rattle.hm_key.specs.Places.{leading, IsPlace}
 use Rattle.hm_key.specs.declared.base.Base.{Base}
 use Rattle.hm_key.specs.declared.element.Element.{Element}
 use Rattle.hm_key.proofs.ElementLemmas.{each_changed, content_closed, content_moved}
-use Rattle.hm_key.proofs.PlaceLemmas.{changed-place, IsPlace-within}
+use Rattle.hm_key.proofs.PlaceLemmas.{changed-place}
 use Rattle.hm_node.specs.Leaf.{IsPlaced, IsUpTo}
-use Rattle.hm_node.specs.Node.{IsNode}
 use Rattle.hm_node.specs.declared.leaf.Leaf.{Leaf}
-use Rattle.hm_node.specs.declared.node.Node.{Node}
 use Rattle.hm_node.specs.declared.node.Node.TheVariants.{Leaf as leaf_node}
 use Rattle.hm_search.specs.Place.{IsInside, FitsCount}
-use Rattle.hm_search.specs.Tree.{elements_in, mark_in, reaches, HasChildren, IsTree}
+use Rattle.hm_search.specs.Tree.{reaches, HasChildren, IsTree}
 use Rattle.hm_search.specs.declared.subtree.Parent.{Parent}
 use Rattle.hm_search.specs.declared.subtree.Subtree.{Subtree}
 use Rattle.hm_search.proofs.ListLemmas.{each_so, each_both}
-use Rattle.hm_btree.specs.Edits.{leaf_of, ElementChange}
+use Rattle.hm_btree.specs.Edits.{ElementChange}
 use Rattle.hm_btree.specs.Below.{Changed, placed}
 use Rattle.hm_btree.specs.Change.{change_of, id_of, MayChange, with_change}
 use Rattle.hm_btree.specs.declared.change.Change.{Change}

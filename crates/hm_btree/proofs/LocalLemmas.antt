@@ -1,6 +1,6 @@
 -- Changes of a list in order that have to do with one key alone.
-use Rattle.std.proofs.Common.{◌≡◌, ◌≢◌, Bool, true, false, true≢false, ℕ, zero, suc, List, [], ◌∷◌, ◌++◌, refl, sym, ap, subst, ◌∙◌, Some, None}
-use Rattle.std.specs.Prelude.{IsSome, IsNone, is_some, if◌then◌else◌}
+use Rattle.std.proofs.Common.{◌≡◌, Bool, true, false, true≢false, suc, List, [], ◌∷◌, ◌++◌, refl, sym, ap, subst, ◌∙◌, Some}
+use Rattle.std.specs.Prelude.{IsSome, is_some, if◌then◌else◌}
 use Rattle.std.specs.List.{AllByRecursion}
 use Rattle.std.specs.List.Sorted.{IsStrictlySortedBy}
 use Rattle.std.specs.Cmp.{Equal-is}
@@ -8,11 +8,11 @@ use Rattle.std.specs.Ordering.{is_lt, is_eq}
 use Rattle.std.specs.declared.cmp.Ordering.{Ordering}
 use Rattle.std.specs.declared.cmp.Ordering.TheVariants.{Less, Equal, Greater}
 use Rattle.hm_types.specs.Elements.{Key, key_cmp}
-use Rattle.hm_key.specs.Key.{IsBefore, IsFrom}
+use Rattle.hm_key.specs.Key.{IsBefore}
 use Rattle.hm_key.specs.Elements.{element_key, element_cmp, stands_at, stands_before, element_at, first_from, inserted, removed, changed}
 use Rattle.hm_key.specs.Places.{leading, IsPlace}
 use Rattle.hm_key.specs.declared.element.Element.{Element}
-use Rattle.hm_key.proofs.KeyLemmas.{key_total, key_same, key_itself, key_not_before, key_from_before}
+use Rattle.hm_key.proofs.KeyLemmas.{key_same, key_not_before, key_from_before}
 use Rattle.hm_key.proofs.SearchLemmas.{if_at, element_at-first}
 use Rattle.hm_btree.specs.Below.{IsLocal}
 

@@ -1,36 +1,32 @@
 -- A changed node: what is known of it once it is written, and of the node above it.
-use Rattle.std.proofs.Common.{◌≡◌, ◌≢◌, Bool, true, false, true≢false, ◌||◌, ℕ, zero, suc, ◌+◌, ◌-◌, ◌<◌, ◌≤◌, ◌⊎◌, inl, inr, List, [], ◌∷◌, ◌++◌, length, refl, sym, ap, subst, ◌∙◌, arith, nat_eq, eqb-true, Some, None, append-nil, max}
+use Rattle.std.proofs.Common.{◌≡◌, Bool, true, false, true≢false, ◌||◌, ℕ, suc, ◌≤◌, List, [], ◌∷◌, ◌++◌, length, refl, sym, ap, subst, ◌∙◌, arith, nat_eq, Some, None, append-nil}
 use Rattle.std.specs.Prelude.{Option, option_map, IsSome, is_some, All, if◌then◌else◌}
-use Rattle.std.specs.List.{AllByRecursion, flat_map, list_any}
-use Rattle.std.specs.Ordering.{is_lt}
+use Rattle.std.specs.List.{AllByRecursion}
 use Rattle.std.specs.List.Sorted.{IsStrictlySortedBy}
-use Rattle.std.proofs.lemmas.List.Elements.{All-from_recursion, recursion_from_All}
-use Rattle.hm_types.specs.Elements.{Key, key_cmp}
+use Rattle.std.proofs.lemmas.List.Elements.{All-from_recursion}
+use Rattle.hm_types.specs.Elements.{Key}
 use Rattle.hm_fields.specs.Pages.{PageMap, page_in, HasPut}
 use Rattle.hm_key.specs.Key.{key_of, IsBefore, IsFrom}
-use Rattle.hm_key.specs.Stores.{Marks}
 use Rattle.hm_key.specs.declared.base.Base.{Base}
 use Rattle.hm_key.specs.declared.element.Element.{Element}
-use Rattle.hm_key.proofs.KeyLemmas.{key_from_before, key_before_from, key_not_before}
-use Rattle.hm_node.specs.Base.{base_cmp}
-use Rattle.hm_node.specs.Inner.{IsChild, IsBound}
-use Rattle.hm_node.specs.Node.{node_in, level_of, IsNode, Spells}
+use Rattle.hm_key.proofs.KeyLemmas.{key_from_before}
+use Rattle.hm_node.specs.Inner.{IsChild}
+use Rattle.hm_node.specs.Node.{node_in, level_of, Spells}
 use Rattle.hm_node.specs.declared.inner.Child.{Child}
-use Rattle.hm_node.specs.declared.inner.Inner.{Inner}
 use Rattle.hm_node.specs.declared.node.Node.{Node}
-use Rattle.hm_node.specs.declared.node.Node.TheVariants.{Leaf, Inner as inner_node}
+use Rattle.hm_node.specs.declared.node.Node.TheVariants.{Inner as inner_node}
 use Rattle.hm_search.specs.Place.{IsInside, BeginsAt, FitsLevel, FitsCount, FitsMirror, mirror_of}
 use Rattle.hm_search.specs.Search.{begun, holder_place}
-use Rattle.hm_search.specs.Tree.{node_at, elements_in, mark_in, reaches, holder, at_holder, starts_after, next_left, child_place, places_of, IsTree, IsStoredTree}
+use Rattle.hm_search.specs.Tree.{node_at, elements_in, mark_in, reaches, starts_after, next_left, child_place, IsTree, IsStoredTree}
 use Rattle.hm_search.specs.declared.subtree.Parent.{Parent}
 use Rattle.hm_search.specs.declared.subtree.Subtree.{Subtree}
 use Rattle.hm_search.proofs.FrameLemmas.{IsSameBelow, frame_elements, frame_mark, frame_reaches, frame_tree}
 use Rattle.hm_search.proofs.ReachLemmas.{fails, not_below_itself}
 use Rattle.hm_search.proofs.OrderLemmas.{before_is, from_is, from_trans}
 use Rattle.hm_btree.specs.Edits.{inner_of, with_mirror}
-use Rattle.hm_btree.specs.Below.{Replaces, elements_under, mark_under, has_under, AreStored, AreRising, IsLocal, Changed, ChangedUnder}
-use Rattle.hm_btree.proofs.OrderLemmas.{rising_first, rising_rest, rising_cons, rising_next, next_append, each_front, each_back}
-use Rattle.hm_btree.proofs.ChangeLemmas.{changed_later, changed_before, alone}
+use Rattle.hm_btree.specs.Below.{Replaces, has_under, AreStored, AreRising, IsLocal, Changed, ChangedUnder}
+use Rattle.hm_btree.proofs.OrderLemmas.{rising_rest, rising_next, each_back}
+use Rattle.hm_btree.proofs.ChangeLemmas.{changed_later, changed_before}
 use Rattle.hm_btree.proofs.PutLemmas.{put_at, put_other, replaces_put}
 use Rattle.hm_btree.proofs.UnderLemmas.{replaces_same}
 

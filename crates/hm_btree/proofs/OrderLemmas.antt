@@ -1,12 +1,12 @@
 -- The boundaries of children that stand in order.
-use Rattle.std.proofs.Common.{◌≡◌, ◌≢◌, List, [], ◌∷◌, ◌++◌, map, refl, sym, ap, subst, ◌∙◌}
+use Rattle.std.proofs.Common.{◌≡◌, List, [], ◌∷◌, ◌++◌, refl, sym, subst}
 use Rattle.std.specs.List.{AllByRecursion}
 use Rattle.std.specs.List.Sorted.{IsStrictlySortedBy}
 use Rattle.std.specs.declared.cmp.Ordering.TheVariants.{Less}
-use Rattle.hm_types.specs.Elements.{Key, key_cmp}
-use Rattle.hm_key.specs.Key.{key_of, IsBefore, IsFrom}
+use Rattle.hm_types.specs.Elements.{Key}
+use Rattle.hm_key.specs.Key.{key_of, IsBefore}
 use Rattle.hm_key.specs.declared.base.Base.{Base}
-use Rattle.hm_key.proofs.KeyLemmas.{key_total, key_not_before, key_from_before}
+use Rattle.hm_key.proofs.KeyLemmas.{key_total}
 use Rattle.hm_node.specs.Base.{base_cmp}
 use Rattle.hm_node.specs.declared.inner.Child.{Child}
 use Rattle.hm_search.specs.Tree.{next_left}

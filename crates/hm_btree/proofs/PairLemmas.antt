@@ -1,28 +1,24 @@
 -- A child that became two is written.
-use Rattle.std.proofs.Common.{◌≡◌, ◌≢◌, Bool, true, false, true≢false, ◌||◌, ℕ, zero, suc, ◌+◌, ◌<◌, ◌≤◌, ◌⊎◌, inl, inr, List, [], ◌∷◌, ◌++◌, length, refl, sym, ap, subst, ◌∙◌, arith, nat_eq, Some, None, append-nil}
+use Rattle.std.proofs.Common.{◌≡◌, ◌≢◌, Bool, true, false, true≢false, ◌||◌, ℕ, suc, ◌≤◌, List, [], ◌∷◌, ◌++◌, refl, sym, ap, subst, ◌∙◌, arith, nat_eq, Some, append-nil}
 use Rattle.std.specs.Prelude.{Option, IsSome, is_some, if◌then◌else◌}
-use Rattle.std.specs.List.{AllByRecursion}
 use Rattle.std.specs.List.Sorted.{IsStrictlySortedBy}
 use Rattle.std.specs.Ordering.{is_lt}
 use Rattle.hm_types.specs.Elements.{Key, key_cmp}
-use Rattle.hm_fields.specs.Pages.{PageMap, page_in, HasPut}
+use Rattle.hm_fields.specs.Pages.{PageMap, page_in}
 use Rattle.hm_key.specs.Key.{key_of, IsBefore}
-use Rattle.hm_key.specs.Stores.{Marks}
 use Rattle.hm_key.specs.declared.base.Base.{Base}
 use Rattle.hm_key.specs.declared.element.Element.{Element}
-use Rattle.hm_node.specs.Base.{base_cmp}
-use Rattle.hm_node.specs.Inner.{IsChild, IsBound}
-use Rattle.hm_node.specs.Node.{node_in, level_of, count_of, Spells}
+use Rattle.hm_node.specs.Inner.{IsChild}
+use Rattle.hm_node.specs.Node.{node_in, count_of, Spells}
 use Rattle.hm_node.specs.declared.inner.Child.{Child}
 use Rattle.hm_node.specs.declared.node.Node.{Node}
 use Rattle.hm_search.specs.Place.{mirror_of, least_count}
-use Rattle.hm_search.specs.Tree.{node_at, elements_in, mark_in, reaches, starts_after, child_place, IsTree, IsStoredTree}
-use Rattle.hm_search.specs.declared.subtree.Parent.{Parent}
+use Rattle.hm_search.specs.Tree.{node_at, elements_in, mark_in, reaches, child_place, IsTree, IsStoredTree}
 use Rattle.hm_search.specs.declared.subtree.Subtree.{Subtree}
 use Rattle.hm_search.proofs.FrameLemmas.{IsSameBelow, frame_elements, frame_mark, frame_reaches, frame_tree}
 use Rattle.hm_search.proofs.ReachLemmas.{fails}
 use Rattle.hm_btree.specs.Edits.{with_mirror}
-use Rattle.hm_btree.specs.Space.{HasWritten, HasAdded, HasNew, IsSpot}
+use Rattle.hm_btree.specs.Space.{HasWritten, HasAdded, IsSpot}
 use Rattle.hm_btree.specs.Below.{Replaces, mark_under, has_under, ChangedUnder, placed}
 use Rattle.hm_btree.specs.Grow.{Split}
 use Rattle.hm_btree.proofs.ChangeLemmas.{mark_cons}
@@ -44,7 +40,8 @@ as_child map height level at place node tree many is = record {
 pub not_come : (olds news : ℕ → Bool) (old mid : PageMap) (at : ℕ) → Replaces olds news old mid → IsSome (old at) → olds at ≡ false → news at ≡ false
 not_come olds news old mid at replaces there not = fails (news at) (λ reached. true≢false (sym there ∙ ap (λ (o : Option (List ℕ)). is_some o) (replaces.made at reached not)))
 
-shuffle : (a c l u : Bool) → ((c || l) || ((a || u) || false)) ≡ (a || (c || (l || u)))
+-- an `or` in another order
+pub shuffle : (a c l u : Bool) → ((c || l) || ((a || u) || false)) ≡ (a || (c || (l || u)))
 shuffle true true l u = refl
 shuffle true false true u = refl
 shuffle true false false u = refl
@@ -53,7 +50,7 @@ shuffle false false true u = refl
 shuffle false false false true = refl
 shuffle false false false false = refl
 
-or_nil : (b : Bool) → (b || false) ≡ b
+pub or_nil : (b : Bool) → (b || false) ≡ b
 or_nil true = refl
 or_nil false = refl
 

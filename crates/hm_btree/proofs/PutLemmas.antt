@@ -1,6 +1,6 @@
 -- Maps in which one page is put, comes new or goes.
-use Rattle.std.proofs.Common.{◌≡◌, ◌≢◌, Bool, true, false, true≢false, ◌||◌, ℕ, ◌⊎◌, inl, inr, List, refl, sym, ap, subst, ◌∙◌, arith, nat_eq, eqb-true, eq-eqb, Some, None}
-use Rattle.std.specs.Prelude.{Option, IsSome, is_some, ◌==◌, if◌then◌else◌}
+use Rattle.std.proofs.Common.{◌≡◌, ◌≢◌, Bool, true, false, true≢false, ◌||◌, ℕ, ◌⊎◌, inl, inr, List, refl, sym, ap, subst, ◌∙◌, nat_eq, eqb-true, eq-eqb, Some, None}
+use Rattle.std.specs.Prelude.{Option, IsSome, is_some}
 use Rattle.hm_fields.specs.Pages.{PageMap, HasPut}
 use Rattle.hm_search.proofs.ReachLemmas.{fails}
 use Rattle.hm_btree.specs.Space.{HasNew, HasLost, IsSpot}

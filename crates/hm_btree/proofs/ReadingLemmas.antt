@@ -1,5 +1,5 @@
 -- What a search in the tree finds, as a store of elements tells it.
-use Rattle.std.proofs.Common.{◌≡◌, Bool, true, false, ℕ, ◌<◌, ◌≤◌, List, refl, sym, ap, subst, ◌∙◌, Some, None, Result, Ok, Err}
+use Rattle.std.proofs.Common.{◌≡◌, Bool, true, false, ℕ, Some, None, Result, Ok, Err}
 use Rattle.std.specs.Prelude.{Option, IfSome, IfOk, IfErr}
 use Rattle.std.proofs.Math.Logic.{∥∥₁_elim}
 use Rattle.std.proofs.Props.{props}
@@ -7,8 +7,7 @@ use Rattle.hm_types.specs.Elements.{Key}
 use Rattle.hm_types.specs.declared.fault.Fault.{Fault}
 use Rattle.hm_fields.specs.Pages.{PageMap}
 use Rattle.hm_key.specs.Elements.{first_from}
-use Rattle.hm_key.specs.Extents.{Extent}
-use Rattle.hm_key.specs.Stores.{IsQuiet, IsUndamaged, HasStoreCause, Same}
+use Rattle.hm_key.specs.Stores.{IsQuiet, IsUndamaged, HasStoreCause}
 use Rattle.hm_key.specs.declared.base.Base.{Base}
 use Rattle.hm_key.specs.declared.element.Element.{Element}
 use Rattle.hm_search.specs.Descent.{HasSearchCause}

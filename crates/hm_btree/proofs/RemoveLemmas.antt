@@ -1,8 +1,7 @@
 -- A leaf that loses an element. Its place is looked at without its parent, since it may have too few elements
 -- for a leaf below the root until it is joined with a neighbour.
-use Rattle.std.proofs.Common.{◌≡◌, Bool, true, false, true≢false, ℕ, ◌+◌, ◌<◌, ◌≤◌, List, length, refl, sym, ap, subst, ◌∙◌, arith, remove, None}
+use Rattle.std.proofs.Common.{◌≡◌, ℕ, ◌+◌, List, length, refl, sym, ap, subst, ◌∙◌, arith, remove}
 use Rattle.std.specs.Prelude.{IsSome}
-use Rattle.std.specs.List.{AllByRecursion}
 use Rattle.std.proofs.lemmas.List.Edits.{length-remove}
 use Rattle.std.proofs.lemmas.List.Elements.{recursion_from_All}
 use Rattle.hm_types.specs.Elements.{Key}
@@ -22,12 +21,9 @@ use Rattle.hm_search.specs.Tree.{IsTree}
 use Rattle.hm_search.specs.declared.subtree.Subtree.{Subtree}
 use Rattle.hm_btree.specs.Below.{Changed}
 use Rattle.hm_btree.specs.Edits.{leaf_of}
+use Rattle.hm_btree.specs.Shrink.{loose}
 use Rattle.hm_btree.proofs.LeafLemmas.{changed_leaf, leaf_content, leaf_offsets}
 use Rattle.hm_btree.proofs.LocalLemmas.{leading_place}
-
--- a place without its parent asks for no count, no level and no `mirror`
-abbrev pub loose : Subtree → Subtree
-loose place = record place { parent = None }
 
 pub loose_tree : (map : PageMap) (height : ℕ) (place : Subtree) (node : Node) → IsTree map height place node → IsTree map height (loose place) node
 loose_tree map height place node tree = record {

@@ -1,28 +1,28 @@
 -- The root of a tree that changed.
-use Rattle.std.proofs.Common.{◌≡◌, ◌≢◌, Bool, true, false, true≢false, ◌||◌, ℕ, zero, suc, ◌+◌, ◌-◌, ◌<◌, ◌≤◌, ◌⊎◌, inl, inr, List, refl, sym, ap, subst, ◌∙◌, arith, nat_eq, eqb-true, eq-eqb, Some, None, Result, Err}
-use Rattle.std.specs.Prelude.{Option, IsSome, is_some, IsTrue, IfSome, IfErr, if◌then◌else◌}
+use Rattle.std.proofs.Common.{◌≡◌, Bool, true, false, true≢false, ◌||◌, ℕ, ◌≤◌, inl, inr, List, refl, sym, ap, subst, ◌∙◌, arith, nat_eq, eqb-true, eq-eqb, Some, None, Err}
+use Rattle.std.specs.Prelude.{Option, IsSome, IfSome}
 use Rattle.hm_types.specs.Elements.{Key}
 use Rattle.hm_types.specs.Faults.{HasFaultCause}
 use Rattle.hm_types.specs.declared.fault.Fault.{Fault}
-use Rattle.hm_fields.specs.Pages.{PageMap, page_in, HasPut, BothTell}
+use Rattle.hm_fields.specs.Pages.{PageMap, page_in, BothTell}
 use Rattle.hm_key.specs.Elements.{element_key, element_at}
 use Rattle.hm_key.specs.Stores.{IsUndamaged}
 use Rattle.hm_key.specs.declared.element.Element.{Element}
-use Rattle.hm_node.specs.Node.{node_in, level_of, IsNode, Spells}
+use Rattle.hm_node.specs.Node.{node_in, Spells}
 use Rattle.hm_node.specs.declared.node.Node.{Node}
 use Rattle.hm_search.specs.Place.{IsInside, SpellsHere, TellsDamage}
-use Rattle.hm_search.specs.Tree.{node_at, elements_in, mark_in, reaches, height_of, root_place, IsTree, IsStoredTree, IsSoundTree, IsWhole, elements_of, mark_of}
+use Rattle.hm_search.specs.Tree.{node_at, elements_in, mark_in, reaches, height_of, root_place, IsTree, IsStoredTree, IsSoundTree, elements_of, mark_of}
 use Rattle.hm_search.specs.declared.subtree.Subtree.{Subtree}
 use Rattle.hm_search.proofs.ContentLemmas.{elements_inside}
 use Rattle.hm_search.proofs.DamageLemmas.{tells_undamaged, stored_here, caused_since}
 use Rattle.hm_search.proofs.FrameLemmas.{IsSameBelow, frame_elements, frame_mark, frame_reaches, frame_tree}
-use Rattle.hm_search.proofs.ReachLemmas.{fails, not_below_itself}
+use Rattle.hm_search.proofs.ReachLemmas.{not_below_itself}
 use Rattle.hm_btree.specs.Below.{Replaces, Changed, HasEditCause}
 use Rattle.hm_btree.specs.Space.{HasWritten, IsSpot}
 use Rattle.hm_btree.specs.Tree.{IsTreeSpace, TreeChanged, ChangesTree, HasTreeCause}
 use Rattle.hm_btree.proofs.LocalLemmas.{element_each}
 use Rattle.hm_btree.proofs.NodeLemmas.{not_reached}
-use Rattle.hm_btree.proofs.PutLemmas.{put_at, put_other, replaces_put, same_test, other_test}
+use Rattle.hm_btree.proofs.PutLemmas.{put_at, put_other, replaces_put, other_test}
 use Rattle.hm_btree.proofs.ToldLemmas.{Works}
 
 -- pages that are all that a call leaves

@@ -1,52 +1,41 @@
 -- Nodes that become two.
-use Rattle.std.proofs.Common.{◌≡◌, ◌≢◌, Bool, true, false, true≢false, ◌||◌, ℕ, zero, suc, ◌+◌, ◌-◌, ◌<◌, ◌≤◌, ◌⊎◌, inl, inr, List, [], ◌∷◌, ◌++◌, length, take, drop, map, insert, refl, sym, ap, subst, ◌∙◌, arith, max, nat_eq, Some, None, append-nil, length-append, length-take, length-drop, take-append-drop}
-use Rattle.std.specs.Prelude.{Option, IsSome, IsNone, is_some, All, if◌then◌else◌}
-use Rattle.std.specs.List.{AllByRecursion, flat_map}
+use Rattle.std.proofs.Common.{◌≡◌, Bool, true, false, true≢false, ◌||◌, ℕ, suc, ◌≤◌, List, [], ◌∷◌, ◌++◌, length, map, refl, sym, ap, subst, ◌∙◌, arith, Some, None}
+use Rattle.std.specs.Prelude.{Option, if◌then◌else◌}
+use Rattle.std.specs.List.{AllByRecursion}
 use Rattle.std.specs.List.Sorted.{IsStrictlySortedBy}
 use Rattle.std.specs.Ordering.{is_lt}
 use Rattle.std.specs.declared.cmp.Ordering.TheVariants.{Less}
 use Rattle.std.proofs.lemmas.Grind.{flat_map-append}
 use Rattle.std.proofs.lemmas.List.Elements.{All-from_recursion, recursion_from_All}
-use Rattle.std.proofs.lemmas.List.Edits.{length-insert}
 use Rattle.hm_types.specs.Elements.{Key, key_cmp}
 use Rattle.hm_types.specs.Offset.{IsOffset}
-use Rattle.hm_fields.specs.Pages.{PageMap, page_in, HasPut}
+use Rattle.hm_fields.specs.Pages.{PageMap}
 use Rattle.hm_key.specs.Key.{key_of, IsBefore, IsFrom, IsBoundary}
 use Rattle.hm_key.specs.Element.{IsElement}
-use Rattle.hm_key.specs.Elements.{element_key, element_cmp, element_at, inserted, last_id, IsContent}
-use Rattle.hm_key.specs.Places.{leading}
-use Rattle.hm_key.specs.Stores.{Marks}
+use Rattle.hm_key.specs.Elements.{element_key, element_cmp, IsContent}
 use Rattle.hm_key.specs.declared.base.Base.{Base}
 use Rattle.hm_key.specs.declared.element.Element.{Element}
-use Rattle.hm_key.proofs.ElementLemmas.{each_inserted, content_inserted}
-use Rattle.hm_key.proofs.KeyLemmas.{key_from_before, key_before_from, key_not_before}
-use Rattle.hm_key.proofs.PlaceLemmas.{inserted_here, leading_most}
+use Rattle.hm_key.proofs.KeyLemmas.{key_from_before, key_not_before}
 use Rattle.hm_node.specs.Base.{base_cmp}
-use Rattle.hm_node.specs.Inner.{IsChild, IsBound, IsNodeOffset}
-use Rattle.hm_node.specs.Leaf.{IsPlaced, IsUpTo}
-use Rattle.hm_node.specs.Node.{node_in, level_of, count_of, IsNode, Spells}
+use Rattle.hm_node.specs.Inner.{IsChild}
+use Rattle.hm_node.specs.Leaf.{IsUpTo}
 use Rattle.hm_node.specs.declared.inner.Child.{Child}
-use Rattle.hm_node.specs.declared.inner.Inner.{Inner}
 use Rattle.hm_node.specs.declared.leaf.Leaf.{Leaf}
 use Rattle.hm_node.specs.declared.node.Node.{Node}
 use Rattle.hm_node.specs.declared.node.Node.TheVariants.{Leaf as leaf_node, Inner as inner_node}
-use Rattle.hm_search.specs.Place.{IsInside, BeginsAt, FitsLevel, FitsCount, FitsMirror, least_count, mirror_of}
-use Rattle.hm_search.specs.Tree.{node_at, elements_in, mark_in, reaches, holder, at_holder, starts_after, next_left, child_place, places_of, IsTree, IsStoredTree}
+use Rattle.hm_search.specs.Place.{IsInside, BeginsAt, FitsCount}
+use Rattle.hm_search.specs.Tree.{node_at, elements_in, mark_in, starts_after, next_left, IsTree}
 use Rattle.hm_search.specs.declared.subtree.Parent.{Parent}
 use Rattle.hm_search.specs.declared.subtree.Subtree.{Subtree}
-use Rattle.hm_search.proofs.FrameLemmas.{IsSameBelow, frame_elements, frame_mark, frame_reaches, frame_tree}
-use Rattle.hm_search.proofs.ListLemmas.{each_so, each_append}
+use Rattle.hm_search.proofs.ListLemmas.{each_so}
 use Rattle.hm_search.proofs.OrderLemmas.{from_then_before}
-use Rattle.hm_search.proofs.ReachLemmas.{fails}
-use Rattle.hm_btree.specs.Edits.{leaf_of, inner_of, left_of, with_mirror, LeafGrown, InnerGrown}
-use Rattle.hm_btree.specs.Space.{HasWritten, HasAdded, HasNew, IsSpot}
-use Rattle.hm_btree.specs.Below.{Replaces, elements_under, mark_under, has_under, AreStored, AreRising, bounds_of, Changed, ChangedUnder, placed}
-use Rattle.hm_btree.specs.Grow.{Split, GrownTo}
-use Rattle.hm_btree.specs.declared.upper.Upper.{Upper}
+use Rattle.hm_btree.specs.Edits.{leaf_of, inner_of}
+use Rattle.hm_btree.specs.Below.{mark_under, has_under, AreRising, ChangedUnder}
+use Rattle.hm_btree.specs.Grow.{Split}
 use Rattle.hm_btree.proofs.ChangeLemmas.{holder_front, holder_back}
-use Rattle.hm_btree.proofs.LeafLemmas.{leaf_sound, changed_leaf, leaf_content, leaf_offsets}
-use Rattle.hm_btree.proofs.NodeLemmas.{placed_level, placed_count, placed_mirror, changed_above}
-use Rattle.hm_btree.proofs.OrderLemmas.{each_front, each_back, rising_first, rising_rest, rising_back, rising_front, rising_next, next_append, before_before}
+use Rattle.hm_btree.proofs.LeafLemmas.{leaf_sound}
+use Rattle.hm_btree.proofs.NodeLemmas.{placed_level, placed_count, placed_mirror}
+use Rattle.hm_btree.proofs.OrderLemmas.{each_front, each_back, rising_first, rising_rest, rising_back, rising_front, rising_next, before_before}
 use Rattle.hm_btree.proofs.PutLemmas.{replaces_none}
 use Rattle.hm_btree.proofs.UnderLemmas.{replaces_same, stored_front, stored_back, under_append}
 
@@ -124,6 +113,15 @@ module _ (f : List Element → List Element) (key : Key) (id : ℕ) (place : Sub
         starts [] some each before = absurd (omega arith)
         starts (x ∷ xs) some each before = from_then_before (key_of place.left) (element_key x) (element_key e) each.0.from before.0
 
+-- the mark of a key among children that are cut in two
+pub mark_cut : (map : PageMap) (height : ℕ) (right : Base) (k : Key) (cs : List Child) (c : Child) (hi : List Child) → 1 ≤ length cs → AreRising right (cs ++ c ∷ hi)
+    → mark_under map height (cs ++ c ∷ hi) k ≡ (if is_lt (key_cmp k (key_of c.left)) then mark_under map height cs k else mark_under map height (c ∷ hi) k)
+mark_cut map height right k [] c hi some rising = absurd (omega arith)
+mark_cut map height right k (b ∷ bs) c hi some rising = by_test (starts_after k c) refl where
+  by_test : (t : Bool) → starts_after k c ≡ t → mark_under map height ((b ∷ bs) ++ c ∷ hi) k ≡ (if t then mark_under map height (b ∷ bs) k else mark_under map height (c ∷ hi) k)
+  by_test true is = ap (λ (x : Child). mark_in map height (node_at map x.child) k) (holder_front k b c bs hi is)
+  by_test false is = ap (λ (x : Child). mark_in map height (node_at map x.child) k) (holder_back k right b c bs hi rising is)
+
 -- an inner node whose children changed and are too many
 module _ (f : List Element → List Element) (key : Key) (id : ℕ) (place : Subtree) (height : ℕ) (old new : PageMap) (level mirror more : ℕ) (right : Base) (before lo : List Child) (c : Child) (hi : List Child) where
   pub split_above : IsTree old (suc height) place (inner_node (inner_of level mirror before right)) → ChangedUnder f key id level right height old new before (lo ++ c ∷ hi) → AllByRecursion (λ d. d.mirror ≤ more) (lo ++ c ∷ hi)
@@ -173,8 +171,8 @@ module _ (f : List Element → List Element) (key : Key) (id : ℕ) (place : Sub
         upper_many = many;
         elements = sym (flat_map-append els lo (c ∷ hi)) ∙ change.elements;
         mark = record {
-          never_fall = λ k. subst (λ (n : ℕ). mark_under old height before k ≤ n) (mark_cut k lo (omega arith) change.rising) (change.mark.never_fall k);
-          reach = subst (λ (n : ℕ). id ≤ n) (mark_cut key lo (omega arith) change.rising) change.mark.reach;
+          never_fall = λ k. subst (λ (n : ℕ). mark_under old height before k ≤ n) (mark_cut new height right k lo c hi (omega arith) change.rising) (change.mark.never_fall k);
+          reach = subst (λ (n : ℕ). id ≤ n) (mark_cut new height right key lo c hi (omega arith) change.rising) change.mark.reach;
         };
         pages = replaces_same old new (has_under old height before) (has_under new height (lo ++ c ∷ hi)) (has_under old height before) (λ x. has_under new height lo x || has_under new height (c ∷ hi) x)
             (λ x. refl) (λ x. sym (under_append new height x lo (c ∷ hi))) change.pages;
@@ -183,13 +181,6 @@ module _ (f : List Element → List Element) (key : Key) (id : ℕ) (place : Sub
         to = subst (λ (k : Key). IsBefore (key_of c.left) k) tree.fits.bounds.1
             (each_back (λ y. base_cmp c.left y ≡ Less) (map (λ (d : Child). d.left) hi) (right ∷ []) (rising_first right c hi (rising_back right lo (c ∷ hi) change.rising))).0;
       } where
-        mark_cut : (k : Key) (cs : List Child) → 1 ≤ length cs → AreRising right (cs ++ c ∷ hi) → mark_under new height (cs ++ c ∷ hi) k ≡ (if is_lt (key_cmp k (key_of c.left)) then mark_under new height cs k else mark_under new height (c ∷ hi) k)
-        mark_cut k [] some rising = absurd (omega arith)
-        mark_cut k (b ∷ bs) some rising = by_test (starts_after k c) refl where
-          by_test : (t : Bool) → starts_after k c ≡ t → mark_under new height ((b ∷ bs) ++ c ∷ hi) k ≡ (if t then mark_under new height (b ∷ bs) k else mark_under new height (c ∷ hi) k)
-          by_test true is = ap (λ (x : Child). mark_in new height (node_at new x.child) k) (holder_front k b c bs hi is)
-          by_test false is = ap (λ (x : Child). mark_in new height (node_at new x.child) k) (holder_back k right b c bs hi rising is)
-
         further : (b : Child) (bs : List Child) → AreRising right (b ∷ (bs ++ c ∷ hi)) → IsBefore (key_of b.left) (key_of c.left)
         further b [] rising = rising_next right b (c ∷ hi) rising
         further b (d ∷ ds) rising = before_before (key_of b.left) (key_of d.left) (key_of c.left) (rising_next right b ((d ∷ ds) ++ c ∷ hi) rising) (further d ds (rising_rest right b ((d ∷ ds) ++ c ∷ hi) rising))

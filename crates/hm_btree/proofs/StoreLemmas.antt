@@ -1,23 +1,22 @@
 -- What a tree tells as a store of elements.
-use Rattle.std.proofs.Common.{◌≡◌, Bool, true, false, true≢false, ℕ, ◌+◌, ◌≤◌, List, refl, sym, ap, subst, ◌∙◌, arith, Some, None, Result, Ok, Err}
-use Rattle.std.specs.Prelude.{Option, option_map, IsSome, is_some, IfSome, IfErr, OnOk}
+use Rattle.std.proofs.Common.{◌≡◌, Bool, true, false, true≢false, ℕ, ◌+◌, ◌≤◌, List, refl, sym, ap, ◌∙◌, arith, Some, None, Result, Ok, Err}
+use Rattle.std.specs.Prelude.{Option, option_map, IsTrue, is_some, IfSome, IfErr}
 use Rattle.std.proofs.Math.Logic.{∥∥₁_elim}
 use Rattle.std.proofs.Props.{props}
 use Rattle.hm_types.specs.Elements.{Key}
-use Rattle.hm_types.specs.Faults.{HasFaultCause}
 use Rattle.hm_types.specs.declared.fault.Fault.{Fault}
 use Rattle.hm_types.specs.declared.fault.Fault.TheVariants.{Media, Damaged, NoMemory}
 use Rattle.hm_fields.specs.Pages.{PageMap}
 use Rattle.hm_key.specs.Stores.{Marks, IsUndamaged, HasStoreCause}
 use Rattle.hm_key.specs.declared.element.Element.{Element}
 use Rattle.hm_search.specs.Tree.{IsSoundTree, elements_of, mark_of}
-use Rattle.hm_btree.specs.Tree.{IsTreeSpace, TreeChanged, ChangesTree, HasTreeCause, IsIntact, told_elements, told_mark}
+use Rattle.hm_btree.specs.Tree.{ChangesTree, HasTreeCause, IsIntact, told_elements, told_mark}
 
 -- what a call that changes the tree leaves
 pub record StoreChanged (f : List Element → List Element) (key : Key) (id : ℕ) (intact : Bool) (old new : Option PageMap) (root root' : ℕ) : Type 0 where
-  pub elements : told_elements intact new root' ≡ option_map f (told_elements intact old root)
+  pub elements : told_elements true new root' ≡ option_map f (told_elements intact old root)
   pub mark : IfSome (told_elements intact old root) (λ _. Marks key id (told_mark old root) (told_mark new root'))
-  pub sound : ∥ IsIntact intact new root' ∥₁
+  pub sound : ∥ IsIntact true new root' ∥₁
 
 elements_set : (a b : Option (List Element)) → IsProp (a ≡ b)
 elements_set a b = hlevel props
@@ -26,12 +25,12 @@ marks_prop : (key : Key) (id : ℕ) (old new : Key → ℕ) → IsProp (Marks ke
 marks_prop key id old new = hlevel props
 
 pub store_changed : (f : List Element → List Element) (key : Key) (id : ℕ) (Needs : List Element → Type 0) (More : Type 0) (intact : Bool) (old new : Option PageMap) (root root' : ℕ)
-    → ∥ IsIntact intact old root ∥₁ → is_some new ≡ is_some old → IfSome (told_elements intact old root) Needs → More → ChangesTree f key id Needs More old new root root' → StoreChanged f key id intact old new root root'
-store_changed f key id Needs More false old new root root' sound told needs more changes = record { elements = refl; mark = tt; sound = ∣ tt ∣₁ }
-store_changed f key id Needs More true None None root root' sound told needs more changes = record { elements = refl; mark = tt; sound = ∣ tt ∣₁ }
-store_changed f key id Needs More true None (Some new) root root' sound told needs more changes = absurd (true≢false told)
-store_changed f key id Needs More true (Some old) None root root' sound told needs more changes = absurd (true≢false (sym told))
-store_changed f key id Needs More true (Some old) (Some new) root root' sound told needs more changes = record {
+    → IsTrue intact → ∥ IsIntact intact old root ∥₁ → is_some new ≡ is_some old → IfSome (told_elements intact old root) Needs → More → ChangesTree f key id Needs More old new root root' → StoreChanged f key id intact old new root root'
+store_changed f key id Needs More false old new root root' is sound told needs more changes = absurd (true≢false (sym is))
+store_changed f key id Needs More true None None root root' is sound told needs more changes = record { elements = refl; mark = tt; sound = ∣ tt ∣₁ }
+store_changed f key id Needs More true None (Some new) root root' is sound told needs more changes = absurd (true≢false told)
+store_changed f key id Needs More true (Some old) None root root' is sound told needs more changes = absurd (true≢false (sym told))
+store_changed f key id Needs More true (Some old) (Some new) root root' is sound told needs more changes = record {
   elements = ∥∥₁_elim sound (elements_set (Some (elements_of new root')) (Some (f (elements_of old root)))) (λ tree. ap Some (changes tree needs more).elements);
   mark = ∥∥₁_elim sound (marks_prop key id (mark_of old root) (mark_of new root')) (λ tree. (changes tree needs more).mark);
   sound = ∥∥₁_elim sound (hlevel props) (λ tree. ∣ (changes tree needs more).tree ∣₁);
@@ -55,7 +54,7 @@ store_cause intact told root old new result sound cause = record { counted = cau
   by_told true (Some pages) sound more r = ∥∥₁_elim sound (by_result result) (λ tree. more tree.sound)
 
 -- the number of told lists stays
-pub told_kept : (f : List Element → List Element) (intact : Bool) (old new : Option PageMap) (root root' : ℕ) → told_elements intact new root' ≡ option_map f (told_elements intact old root) → is_some (told_elements intact new root') ≡ is_some (told_elements intact old root)
+pub told_kept : (f : List Element → List Element) (intact : Bool) (old new : Option PageMap) (root root' : ℕ) → told_elements true new root' ≡ option_map f (told_elements intact old root) → is_some (told_elements true new root') ≡ is_some (told_elements intact old root)
 told_kept f intact old new root root' is = ap is_some is ∙ by_option (told_elements intact old root) where
   by_option : (o : Option (List Element)) → is_some (option_map f o) ≡ is_some o
   by_option None = refl

@@ -1,13 +1,12 @@
 -- Calls below a node, where the pages are told.
-use Rattle.std.proofs.Common.{◌≡◌, ◌≢◌, Bool, true, false, true≢false, ℕ, zero, suc, ◌+◌, ◌<◌, ◌≤◌, ◌⊎◌, inl, inr, List, [], ◌∷◌, ◌++◌, length, take, drop, refl, sym, ap, subst, ◌∙◌, arith, max, Some, None}
-use Rattle.std.specs.Prelude.{Option, IsSome, is_some, IfSome, All, slice_get, slice_set, slice_index_or}
-use Rattle.hm_types.specs.Elements.{Key, key_cmp}
-use Rattle.hm_fields.specs.Pages.{PageMap, page_in, HasPut, BothTell}
+use Rattle.std.proofs.Common.{◌≡◌, false, true≢false, ℕ, zero, suc, List, ◌∷◌, ◌++◌, length, take, drop, refl, sym, ap, subst, ◌∙◌, arith, max, Some, None}
+use Rattle.std.specs.Prelude.{Option, IsSome, is_some, IfSome, slice_get}
+use Rattle.hm_types.specs.Elements.{Key}
+use Rattle.hm_fields.specs.Pages.{PageMap, page_in, BothTell}
 use Rattle.hm_key.specs.Elements.{element_at, element_key}
 use Rattle.hm_key.specs.Places.{leading}
 use Rattle.hm_key.specs.declared.base.Base.{Base}
 use Rattle.hm_key.specs.declared.element.Element.{Element}
-use Rattle.hm_node.specs.Node.{node_in, IsNode, Spells}
 use Rattle.hm_node.specs.declared.inner.Child.{Child}
 use Rattle.hm_node.specs.declared.inner.Inner.{Inner}
 use Rattle.hm_node.specs.declared.leaf.Leaf.{Leaf}
@@ -15,7 +14,7 @@ use Rattle.hm_node.specs.declared.node.Node.{Node}
 use Rattle.hm_node.specs.declared.node.Node.TheVariants.{Leaf as leaf_node, Inner as inner_node}
 use Rattle.hm_search.specs.Place.{IsInside, SpellsHere, mirror_of}
 use Rattle.hm_search.specs.Search.{holder_place}
-use Rattle.hm_search.specs.Tree.{node_at, elements_in, next_left, child_place, places_of, children_of, IsTree, IsStoredTree}
+use Rattle.hm_search.specs.Tree.{node_at, elements_in, next_left, child_place, children_of, IsTree, IsStoredTree}
 use Rattle.hm_search.specs.declared.subtree.Subtree.{Subtree}
 use Rattle.hm_search.proofs.ChildLemmas.{IsChildAt, place_is}
 use Rattle.hm_btree.specs.Edits.{inner_of, with_mirror, ChildChange, ElementChange}

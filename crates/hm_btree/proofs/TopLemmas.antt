@@ -1,28 +1,24 @@
 -- A root above two nodes.
-use Rattle.std.proofs.Common.{◌≡◌, ◌≢◌, Bool, true, false, true≢false, ◌||◌, ℕ, zero, suc, ◌+◌, ◌-◌, ◌<◌, ◌≤◌, List, [], ◌∷◌, ◌++◌, length, refl, sym, ap, subst, ◌∙◌, arith, max, nat_eq, Some, None, Result, Ok, Err, append-nil}
-use Rattle.std.specs.Prelude.{Option, IsSome, IsNone, is_some, IfSome, IfOk, OnOk, All, nat_lt}
-use Rattle.std.specs.List.{AllByRecursion}
+use Rattle.std.proofs.Common.{◌≡◌, Bool, true, false, true≢false, ◌||◌, ℕ, suc, ◌+◌, ◌≤◌, List, [], ◌∷◌, refl, sym, ap, subst, ◌∙◌, arith, max, nat_eq, Some, None, Result, Ok, Err, append-nil}
+use Rattle.std.specs.Prelude.{Option, is_some, IfSome, IfOk, OnOk}
 use Rattle.std.proofs.lemmas.List.Elements.{All-from_recursion}
-use Rattle.hm_types.specs.Elements.{Key, key_cmp}
+use Rattle.hm_types.specs.Elements.{Key}
 use Rattle.hm_types.specs.declared.fault.Fault.{Fault}
 use Rattle.hm_fields.specs.Pages.{PageMap, page_in, BothTell}
 use Rattle.hm_key.specs.Elements.{element_at}
-use Rattle.hm_key.specs.declared.base.Base.{Base}
 use Rattle.hm_key.specs.declared.element.Element.{Element}
-use Rattle.hm_node.specs.Node.{node_in, level_of, Spells}
+use Rattle.hm_node.specs.Node.{node_in, level_of}
 use Rattle.hm_node.specs.Inner.{IsChild, IsBound}
 use Rattle.hm_node.specs.declared.inner.Child.{Child}
 use Rattle.hm_node.specs.declared.node.Node.{Node}
-use Rattle.hm_node.specs.declared.node.Node.TheVariants.{Inner as inner_node}
 use Rattle.hm_search.specs.Place.{IsInside, SpellsHere, mirror_of}
 use Rattle.hm_search.specs.Tree.{node_at, elements_in, mark_in, reaches, height_of, root_place, IsTree, IsStoredTree, elements_of, mark_of}
 use Rattle.hm_search.specs.declared.subtree.Subtree.{Subtree}
 use Rattle.hm_search.proofs.FrameLemmas.{IsSameUnder}
 use Rattle.hm_search.proofs.ReachLemmas.{not_below_itself}
-use Rattle.hm_btree.specs.Edits.{inner_of, with_mirror}
-use Rattle.hm_btree.specs.Space.{HasWritten, HasAdded, IsSpot}
-use Rattle.hm_btree.specs.Below.{Replaces, elements_under, mark_under, has_under, ChangedUnder}
-use Rattle.hm_btree.specs.Grow.{Split, GrownTo, Grows, HasTop, top_of}
+use Rattle.hm_btree.specs.Space.{HasWritten, IsSpot}
+use Rattle.hm_btree.specs.Below.{mark_under, has_under, ChangedUnder}
+use Rattle.hm_btree.specs.Grow.{Split, Grows, HasTop, top_of}
 use Rattle.hm_btree.specs.Tree.{IsTreeSpace, TreeChanged, ChangesTree}
 use Rattle.hm_btree.specs.declared.upper.Upper.{Upper}
 use Rattle.hm_btree.proofs.PairLemmas.{split_written, stored_there}

@@ -1,19 +1,16 @@
 -- The pages under some children: which they are, and what stays where a map changes elsewhere.
-use Rattle.std.proofs.Common.{◌≡◌, ◌≢◌, Bool, true, false, true≢false, ◌||◌, ℕ, zero, suc, ◌+◌, ◌<◌, ◌≤◌, ◌⊎◌, inl, inr, List, [], ◌∷◌, ◌++◌, refl, sym, ap, subst, ◌∙◌, arith, nat_eq, IsTrue}
-use Rattle.std.specs.Prelude.{Option, Some, None, IsSome, if◌then◌else◌}
-use Rattle.std.specs.List.{AllByRecursion, flat_map, list_any}
+use Rattle.std.proofs.Common.{◌≡◌, Bool, true, false, true≢false, ◌||◌, ℕ, zero, suc, inl, inr, List, [], ◌∷◌, ◌++◌, refl, sym, ap, subst, ◌∙◌}
+use Rattle.std.specs.Prelude.{IsSome}
 use Rattle.hm_types.specs.Elements.{Key}
-use Rattle.hm_fields.specs.Pages.{PageMap, page_in}
+use Rattle.hm_fields.specs.Pages.{PageMap}
 use Rattle.hm_key.specs.declared.base.Base.{Base}
-use Rattle.hm_key.specs.declared.element.Element.{Element}
 use Rattle.hm_node.specs.declared.inner.Child.{Child}
-use Rattle.hm_node.specs.declared.inner.Inner.{Inner}
 use Rattle.hm_node.specs.declared.node.Node.{Node}
 use Rattle.hm_node.specs.declared.node.Node.TheVariants.{Leaf, Inner as inner_node}
-use Rattle.hm_search.specs.Tree.{node_at, elements_in, mark_in, reaches, Reaches, at_holder, next_left, child_place, places_of, IsTree, IsStoredTree}
+use Rattle.hm_search.specs.Tree.{node_at, Reaches, next_left, child_place, IsTree, IsStoredTree}
 use Rattle.hm_search.specs.declared.subtree.Subtree.{Subtree}
-use Rattle.hm_search.proofs.FrameLemmas.{IsSameBelow, IsSameUnder, under_all, frame_elements, frame_mark, frame_reaches, frame_each, frame_children}
-use Rattle.hm_search.proofs.ReachLemmas.{is_under, either, or_left, or_right, fails, one_under, apart_children}
+use Rattle.hm_search.proofs.FrameLemmas.{IsSameBelow, IsSameUnder, frame_elements, frame_mark, frame_reaches, frame_each, frame_children}
+use Rattle.hm_search.proofs.ReachLemmas.{is_under, or_right, fails, one_under, apart_children}
 use Rattle.hm_btree.specs.Edits.{inner_of}
 use Rattle.hm_btree.specs.Below.{Replaces, elements_under, mark_under, has_under, AreStored, AreRising}
 use Rattle.hm_btree.proofs.OrderLemmas.{next_append, rising_rest}

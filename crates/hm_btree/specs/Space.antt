@@ -1,5 +1,5 @@
 -- What the calls of a space of nodes do to its pages.
-use Rattle.std.specs.Prelude.{◌≡◌, ℕ, ◌==◌, ◌<◌, ◌^◌, List, Option, Some, None, if◌then◌else◌}
+use Rattle.std.specs.Prelude.{◌≡◌, ℕ, ◌==◌, ◌<◌, ◌^◌, List, None, if◌then◌else◌}
 use Rattle.hm_types.specs.Offset.{byte_of}
 use Rattle.hm_fields.specs.Pages.{PageMap, HasPut}
 use Rattle.hm_node.specs.Inner.{IsNodeOffset}

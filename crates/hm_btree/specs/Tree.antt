@@ -9,6 +9,10 @@ use Rattle.hm_key.specs.declared.element.Element.{Element}
 use Rattle.hm_search.specs.Tree.{IsSoundTree, IsWhole, elements_of, mark_of}
 use Rattle.hm_btree.specs.Space.{IsSpot}
 
+-- a space has no page
+abbrev pub HasNoPage : PageMap → Type 0
+HasNoPage pages = (at : ℕ) → pages at ≡ None
+
 -- the pages from the root on are a sound tree, no page stands beside it, and each stands where a node may
 pub record IsTreeSpace (pages : PageMap) (root : ℕ) : Type 0 where
   pub sound : IsSoundTree pages root

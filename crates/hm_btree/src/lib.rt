@@ -2,18 +2,26 @@
 #![tactic(auto)]
 
 mod change;
+mod empty;
 mod inner_edit;
 mod insert;
+mod join;
 mod leaf_edit;
 mod mem_space;
 mod node_edit;
+mod node_table;
 mod places;
-mod reading;
+mod remove;
 mod root;
 mod space;
+mod store;
+#[cfg(test)]
+mod tests;
+mod top;
 mod tree;
 mod upper;
 
 pub use mem_space::MemSpace;
+pub use node_table::NodeTable;
 pub use space::{NODE_BYTES, NodeSpace};
 pub use tree::BTree;

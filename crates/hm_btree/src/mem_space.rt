@@ -1,18 +1,14 @@
 // A space of nodes in memory.
 ghost use Rattle.hm_btree.specs.MemSpace.{kept, room_of};
 
-use crate::space::{NODE_BYTES, NodeSpace};
+use crate::space::{MOST_NODES, NODE_BYTES, NodeSpace};
 use hm_fields::{Page, Pages};
 use hm_key::{HasRoom, TREE_ZONE};
 use hm_types::{Counted, Fault, HOff};
 use std::alloc::Global;
 use std::collections::BTreeMap;
 
-// How many offsets there are below 2^43 at which a node may stand.
-const MOST_NODES: u64 = 2_147_483_648;
-
-/// Nodes in memory, which are told. It is there for tests, and for tools that have no disk. It
-/// counts how many pages are read and written.
+/// Nodes in memory, which are told. It is there for tests, and for tools that have no disk.
 #[derive(Drop)]
 pub struct MemSpace {
     alloc: Global,
@@ -20,9 +16,6 @@ pub struct MemSpace {
     // How many nodes were made, which is where the next one stands, in pages.
     made: u64,
     room: u64,
-    reads: u64,
-    writes: u64,
-    refused: u64,
 }
 
 impl MemSpace {
@@ -39,20 +32,7 @@ impl MemSpace {
             pages: BTreeMap::new(alloc),
             made: 0,
             room,
-            reads: 0,
-            writes: 0,
-            refused: u64::MAX,
         }
-    }
-
-    /// How many pages were read.
-    pub fn reads(&self) -> u64 {
-        self.reads
-    }
-
-    /// How many pages were written, made ones among them.
-    pub fn writes(&self) -> u64 {
-        self.writes
     }
 
     /// How many pages there are.
@@ -60,28 +40,15 @@ impl MemSpace {
         self.pages.len()
     }
 
-    /// From this write on, counted from 0, each is refused for want of memory.
-    pub fn refuse_from(&mut self, write: u64)
-        ensures pages { kept self.new ≡ kept self.old }
-        ensures room { ⟦<MemSpace as HasRoom>⟧.room self.new
-            ≡ ⟦<MemSpace as HasRoom>⟧.room self.old }
-    {
-        self.refused = write;
-    }
-
-    // Counts a write, and puts a page.
+    // Puts a page.
     fn put(&mut self, at: HOff, with: &Page) -> Result<(), Fault>
         ensures ok { OnOk result (HasPut at with.now (kept self.old) (kept self.new)) }
         ensures room { self.new.room ≡ self.old.room }
         ensures made { self.new.made ≡ self.old.made }
         ensures cause { HasPageCause (Some (kept self.old)) 0 0 result }
     {
-        if self.writes >= self.refused {
-            return Err(Fault::NoMemory);
-        }
         let page = Box::new(self.alloc, *with)?;
         self.pages.insert(at, page)?;
-        self.writes = self.writes.saturating_add(1);
         Ok(())
     }
 }
@@ -112,7 +79,6 @@ impl Pages for MemSpace {
     ghost rest = { λ m. m.room };
 
     fn page(&mut self, at: HOff, into: &mut Page) -> Result<(), Fault> {
-        self.reads = self.reads.saturating_add(1);
         match self.pages.get(&at) {
             Some(page) => *into = **page,
             None => *into = Page::zero(),

@@ -11,6 +11,9 @@ use hm_types::{Fault, HOff};
 /// The room that a node takes, in bytes of zone 8.
 pub const NODE_BYTES: u32 = 4_096;
 
+/// How many offsets there are below 2^43 at which a node may stand.
+pub const MOST_NODES: u64 = 2_147_483_648;
+
 /// Pages that hold the nodes of a tree alone, with room for more of them in zone 8.
 ///
 /// After an error of a call that writes, nothing is known of the pages.

@@ -2,13 +2,12 @@
 ghost use Rattle.hm_types.specs.Offset.{IsOffset};
 ghost use Rattle.hm_btree.specs.Tree.{IsIntact};
 
-use crate::change::{Change, change_element};
-use crate::root::insert_from;
 use crate::space::NodeSpace;
-use hm_key::{Base, Element, HasElements, HasRoom, INSERT_ROOM, TREE_ZONE};
+use hm_key::{HasElements, HasRoom};
 use hm_types::{Counted, Fault, HOff};
 
-/// The B-tree of the elements, over a space of nodes.
+/// The B-tree of the elements, over a space of nodes. Once a call has failed in the middle of a
+/// change, each call that changes answers `NoMemory`, since the space may hold half of that change.
 #[derive(Drop)]
 pub struct BTree<S: NodeSpace> {
     pub(crate) space: S,
@@ -41,13 +40,9 @@ impl<S: NodeSpace> HasElements for BTree<S> {
 }
 
 impl<S: NodeSpace> BTree<S> {
-    ghost use Rattle.std.specs.Prelude.{◌≡◌, ◌⊎◌, ◌<◌, ◌≤◌, IfSome, IsNone, IsSome, IsTrue, OnOk};
-    ghost use Rattle.hm_key.specs.Element.{IsElement};
-    ghost use Rattle.hm_key.specs.Elements.{element_at, inserted, last_id, with_delete, with_payload};
-    ghost use Rattle.hm_key.specs.Key.{key_of};
-    ghost use Rattle.hm_key.specs.Space.{Spends, nothing, in_zone};
-    ghost use Rattle.hm_key.specs.Stores.{Keeps, ElementsChange, HasStoreCause};
-    ghost use Rattle.hm_btree.specs.Tree.{HoldsTree, told_elements, told_mark};
+    ghost use Rattle.std.specs.Prelude.{◌≡◌, IsTrue, OnOk, IfErr};
+    ghost use Rattle.hm_types.specs.declared.fault.Fault.TheVariants.{NoMemory};
+    ghost use Rattle.hm_btree.specs.Tree.{HoldsTree};
 
     /// The tree from a root on. Where the space tells its pages, they must be that tree.
     pub fn over(space: S, root: HOff) -> BTree<S>
@@ -61,6 +56,20 @@ impl<S: NodeSpace> BTree<S> {
             root,
             intact: true,
         }
+    }
+
+    /// The space.
+    pub fn space(&self) -> &S
+        ensures { result.now ≡ self.now.space }
+    {
+        &self.space
+    }
+
+    /// Where the root stands.
+    pub fn root(&self) -> HOff
+        ensures { result ≡ self.now.root }
+    {
+        self.root
     }
 
     /// The space and the root. Where no call has failed, and the space tells its pages, they are
@@ -78,82 +87,21 @@ impl<S: NodeSpace> BTree<S> {
         (space, root)
     }
 
-    /// Adds an element, at whose key there is none. Takes at most 40,960 bytes of zone 8, which
-    /// must have so much room.
-    pub fn insert(&mut self, e: &Element) -> Result<(), Fault>
-        requires new { IfSome (⟦<BTree<S> as HasElements>⟧.elements self.old) (λ es.
-            IsNone (element_at (key_of e.now.base) es)) }
-        requires element { IsElement e.now }
-        requires room { INSERT_ROOM ≤ ⟦<BTree<S> as HasRoom>⟧.room self.old TREE_ZONE }
-        ensures ok { OnOk result (ElementsChange ⟦<BTree<S> as HasElements>⟧.elements
-            ⟦<BTree<S> as HasElements>⟧.mark ⟦<BTree<S> as HasRoom>⟧.extents
-            (inserted e.now) (key_of e.now.base) (last_id e.now) self.old self.new) }
-        ensures keeps { Keeps ⟦<BTree<S> as Counted>⟧.name ⟦<BTree<S> as HasElements>⟧.elements
-            ⟦<BTree<S> as HasRoom>⟧.extents self.old self.new result }
-        ensures space { Spends ⟦<BTree<S> as HasRoom>⟧.room ⟦<BTree<S> as HasRoom>⟧.free
-            (in_zone TREE_ZONE INSERT_ROOM) self.old self.new }
-        ensures cause { HasStoreCause (⟦<BTree<S> as HasElements>⟧.elements self.old)
-            (⟦<BTree<S> as Counted>⟧.faults self.old)
-            (⟦<BTree<S> as Counted>⟧.faults self.new) result }
+    /// Answers `NoMemory` where a call has failed in the middle of a change.
+    pub(crate) fn require_intact(&self) -> Result<(), Fault>
+        ensures ok { OnOk result (IsTrue self.now.intact) }
+        ensures err { IfErr result (λ fault. fault ≡ NoMemory) }
     {
-        known_offset(e.payload);
-        let intact = self.intact;
-        self.intact = false;
-        let root = insert_from(&mut self.space, self.root, e)?;
-        self.root = root;
-        self.intact = intact;
-        Ok(())
-    }
-
-    /// Closes the element at the key of `at` at the id `delete`, or opens it where that is 0.
-    pub fn set_delete(&mut self, at: &Base, delete: u64) -> Result<(), Fault>
-        requires there { IfSome (⟦<BTree<S> as HasElements>⟧.elements self.old) (λ es.
-            IsSome (element_at (key_of at.now) es)) }
-        requires later { (delete ≡ 0) ⊎ (at.now.create < delete) }
-        ensures ok { OnOk result (ElementsChange ⟦<BTree<S> as HasElements>⟧.elements
-            ⟦<BTree<S> as HasElements>⟧.mark ⟦<BTree<S> as HasRoom>⟧.extents
-            (with_delete (key_of at.now) delete) (key_of at.now) delete self.old self.new) }
-        ensures keeps { Keeps ⟦<BTree<S> as Counted>⟧.name ⟦<BTree<S> as HasElements>⟧.elements
-            ⟦<BTree<S> as HasRoom>⟧.extents self.old self.new result }
-        ensures space { Spends ⟦<BTree<S> as HasRoom>⟧.room ⟦<BTree<S> as HasRoom>⟧.free nothing
-            self.old self.new }
-        ensures cause { HasStoreCause (⟦<BTree<S> as HasElements>⟧.elements self.old)
-            (⟦<BTree<S> as Counted>⟧.faults self.old)
-            (⟦<BTree<S> as Counted>⟧.faults self.new) result }
-    {
-        let intact = self.intact;
-        self.intact = false;
-        change_element(&mut self.space, self.root, at, Change::Close(delete))?;
-        self.intact = intact;
-        Ok(())
-    }
-
-    /// Lets the payload of the element at the key of `at` stand at `to`. No extent changes.
-    pub fn readdress(&mut self, at: &Base, to: HOff) -> Result<(), Fault>
-        requires there { IfSome (⟦<BTree<S> as HasElements>⟧.elements self.old) (λ es.
-            IsSome (element_at (key_of at.now) es)) }
-        ensures ok { OnOk result (ElementsChange ⟦<BTree<S> as HasElements>⟧.elements
-            ⟦<BTree<S> as HasElements>⟧.mark ⟦<BTree<S> as HasRoom>⟧.extents
-            (with_payload (key_of at.now) to) (key_of at.now) 0 self.old self.new) }
-        ensures keeps { Keeps ⟦<BTree<S> as Counted>⟧.name ⟦<BTree<S> as HasElements>⟧.elements
-            ⟦<BTree<S> as HasRoom>⟧.extents self.old self.new result }
-        ensures space { Spends ⟦<BTree<S> as HasRoom>⟧.room ⟦<BTree<S> as HasRoom>⟧.free nothing
-            self.old self.new }
-        ensures cause { HasStoreCause (⟦<BTree<S> as HasElements>⟧.elements self.old)
-            (⟦<BTree<S> as Counted>⟧.faults self.old)
-            (⟦<BTree<S> as Counted>⟧.faults self.new) result }
-    {
-        known_offset(to);
-        let intact = self.intact;
-        self.intact = false;
-        change_element(&mut self.space, self.root, at, Change::Move(to))?;
-        self.intact = intact;
-        Ok(())
+        if self.intact {
+            Ok(())
+        } else {
+            Err(Fault::NoMemory)
+        }
     }
 }
 
-// Does nothing, and says what the type of an offset tells of it.
+/// Does nothing, and says what the type of an offset tells of it.
 #[inline]
-fn known_offset(at: HOff)
+pub(crate) fn known_offset(at: HOff)
     ensures { IsOffset at }
 {}

@@ -1,4 +1,4 @@
-use Rattle.std.proofs.Common.{◌≡◌, ◌∙◌, ◌<◌, ℕ, refl, sym, subst, rules, Result, Err}
+use Rattle.std.proofs.Common.{◌∙◌, ◌<◌, sym, subst, rules, Result}
 use Rattle.std.specs.Prelude.{IsSome}
 use Rattle.std.proofs.lemmas.Result.{err_from_is_err_and}
 use Rattle.hm_types.specs.declared.fault.Fault.{Fault}

@@ -1,4 +1,4 @@
-use Rattle.std.proofs.Common.{◌≡◌, ◌∙◌, ◌<◌, ◌≤◌, ◌*◌, ◌-◌, ◌+◌, ℕ, refl, sym, subst, rules, Result, Err, Some, None, arith}
+use Rattle.std.proofs.Common.{◌∙◌, ◌<◌, ◌≤◌, ◌*◌, ◌-◌, ℕ, refl, subst, rules, Result, Err, arith}
 use Rattle.std.specs.Prelude.{Option, IsNone}
 use Rattle.std.proofs.lemmas.Result.{err_from_is_err_and}
 use Rattle.hm_types.specs.Offset.{IsOffset}
@@ -7,10 +7,8 @@ use Rattle.hm_types.specs.Faults.{HasFaultCause}
 use Rattle.hm_key.specs.Element.{IsElement}
 use Rattle.hm_key.specs.Elements.{inserted, last_id}
 use Rattle.hm_key.specs.Key.{key_of}
-use Rattle.hm_key.specs.Space.{Spends, in_zone}
 use Rattle.hm_key.specs.declared.room.TheConstants.{TREE_ZONE}
 use Rattle.hm_node.specs.Node.{level_of, IsNode}
-use Rattle.hm_node.specs.declared.inner.Child.{Child}
 use Rattle.hm_node.specs.declared.node.Node.{Node}
 use Rattle.hm_node.specs.declared.node.Node.TheVariants.{Leaf as leaf_node}
 use Rattle.hm_btree.specs.Below.{HasEditCause}

@@ -1,14 +1,12 @@
-use Rattle.std.proofs.Common.{◌≡◌, ◌∙◌, ◌<◌, ◌≤◌, ◌*◌, ◌-◌, ◌+◌, ℕ, refl, sym, subst, Result, Err, Some, None, arith}
-use Rattle.std.specs.Prelude.{Option, IsNone, IfSome, IfOk, OnOk}
+use Rattle.std.proofs.Common.{◌∙◌, ◌*◌, ◌-◌, ℕ, subst, arith}
+use Rattle.std.specs.Prelude.{Option, IsNone, IfSome}
 use Rattle.std.proofs.lemmas.Result.{on_ok_weaker}
 use Rattle.hm_types.specs.Offset.{IsOffset}
-use Rattle.hm_types.specs.declared.fault.Fault.{Fault}
 use Rattle.hm_fields.specs.Pages.{page_in}
 use Rattle.hm_key.specs.Element.{IsElement}
 use Rattle.hm_key.specs.Elements.{inserted, last_id}
-use Rattle.hm_key.specs.Extents.{Extent}
 use Rattle.hm_key.specs.Key.{key_of}
-use Rattle.hm_key.specs.declared.room.TheConstants.{TREE_ZONE, INSERT_ROOM}
+use Rattle.hm_key.specs.declared.room.TheConstants.{INSERT_ROOM}
 use Rattle.hm_node.specs.Node.{level_of}
 use Rattle.hm_search.specs.Place.{SpellsHere}
 use Rattle.hm_search.specs.declared.subtree.Subtree.{Subtree}

@@ -1,0 +1,169 @@
+-- The neighbour of a child that lost places is as it was, and is read.
+use Rattle.std.proofs.Common.{◌≡◌, ℕ, suc, ◌+◌, ◌-◌, ◌<◌, ◌≤◌, inl, inr, List, ◌∷◌, ◌++◌, length, take, drop, sym, ap, subst, ◌∙◌, arith, Some, None, Err}
+use Rattle.std.specs.Prelude.{Option, IsSome, IfSome, slice_get}
+use Rattle.hm_types.specs.Faults.{HasFaultCause}
+use Rattle.hm_types.specs.declared.fault.Fault.{Fault}
+use Rattle.hm_types.specs.declared.fault.Fault.TheVariants.{Media, Damaged, NoMemory}
+use Rattle.hm_fields.specs.Pages.{PageMap, page_in, HasPageCause, IsUndamaged as IsPageUndamaged}
+use Rattle.hm_key.specs.Stores.{IsUndamaged}
+use Rattle.hm_key.specs.declared.base.Base.{Base}
+use Rattle.hm_node.specs.Node.{IsNode, level_of}
+use Rattle.hm_node.specs.declared.inner.Child.{Child}
+use Rattle.hm_node.specs.declared.inner.Inner.{Inner}
+use Rattle.hm_node.specs.declared.node.Node.{Node}
+use Rattle.hm_node.specs.declared.node.Node.TheVariants.{Inner as inner_node}
+use Rattle.hm_search.specs.Place.{Fits, SpellsHere, TellsDamage}
+use Rattle.hm_search.specs.Tree.{node_at, next_left, child_place, children_of, IsTree, IsStoredTree}
+use Rattle.hm_search.specs.declared.subtree.Subtree.{Subtree}
+use Rattle.hm_search.proofs.ChildLemmas.{place_is}
+use Rattle.hm_search.proofs.DamageLemmas.{tells_undamaged, stored_here}
+use Rattle.hm_btree.specs.Below.{Changed}
+use Rattle.hm_btree.specs.Edits.{inner_of}
+use Rattle.hm_btree.specs.Shrink.{loose, IsLevelBelow, IsChildNode, IsPairJoined, IsJoinedAt, IsShrunk}
+use Rattle.hm_btree.proofs.BesideLemmas.{upper_stays, lower_stays, upper_there}
+use Rattle.hm_btree.proofs.JoinAtLemmas.{split_pair, rest_pair}
+use Rattle.hm_btree.proofs.ShrinkLemmas.{upper_child, pair_rising, pair_stored}
+
+module _ (inner : Inner) (i : ℕ) (node : Node) (mid : PageMap) (shrunk : IsShrunk inner i node mid) where
+  abbrev cs : List Child
+  cs = inner.places.items
+
+  -- the tree with two of its children set apart
+  pair_tree : (j : ℕ) (a b : Child) → slice_get cs j ≡ Some a → slice_get cs (j + 1) ≡ Some b
+      → IsTree shrunk.old (suc shrunk.height) shrunk.place (inner_node (inner_of inner.level inner.mirror (take j cs ++ a ∷ b ∷ drop (j + 2) cs) inner.right))
+  pair_tree j a b first second =
+      subst (λ (l : List Child). IsTree shrunk.old (suc shrunk.height) shrunk.place (inner_node (inner_of inner.level inner.mirror l inner.right))) (split_pair cs j a b first second).0 shrunk.tree
+
+  -- the child after it
+  after_stored : (b : Child) → slice_get cs (i + 1) ≡ Some b → IsStoredTree mid shrunk.height (child_place inner.level (next_left inner.right (drop (i + 2) cs)) b)
+  after_stored b is =
+      let c = shrunk.child in
+      let pre = take i cs in
+      let post = drop (i + 2) cs in
+      let whole = pair_tree i c b shrunk.at is in
+      let change : Changed shrunk.f shrunk.key shrunk.id (loose (child_place inner.level b.left c)) shrunk.height shrunk.old mid (node_at shrunk.old c.child) node =
+      subst (λ (l : List Child). Changed shrunk.f shrunk.key shrunk.id (loose (child_place inner.level (next_left inner.right l) c)) shrunk.height shrunk.old mid (node_at shrunk.old c.child) node) (rest_pair cs i c b shrunk.at is) shrunk.change in
+      (upper_stays shrunk.old shrunk.height inner.level (next_left inner.right post) c b (pair_rising shrunk.place shrunk.height inner.level inner.mirror inner.right shrunk.old pre c b post whole)
+      (pair_stored shrunk.place shrunk.height inner.level inner.mirror inner.right shrunk.old pre c b post whole) shrunk.f shrunk.key shrunk.id mid shrunk.local
+      (upper_child shrunk.place shrunk.height inner.level inner.mirror inner.right shrunk.old pre c b post whole) node change).stored
+
+  pub right_stored : (s : Subtree) → slice_get (children_of inner) (i + 1) ≡ Some s → IsStoredTree mid shrunk.height s
+  right_stored s at =
+      let there = place_is inner.level inner.right cs (i + 1) s at in
+      let next : i + 2 ≡ suc (i + 1) = omega arith in
+      let place : child_place inner.level (next_left inner.right (drop (i + 2) cs)) there.child ≡ s = ap (λ (n : ℕ). child_place inner.level (next_left inner.right (drop n cs)) there.child) next ∙ sym there.place in
+      subst (λ (t : Subtree). IsStoredTree mid shrunk.height t) place (after_stored there.child there.is)
+
+  pub right_there : (c : Child) → slice_get cs (i + 1) ≡ Some c → IsSome (mid c.child)
+  right_there c is = (after_stored c is).there
+
+  -- the child before it
+  module _ (j : ℕ) (next : j + 1 ≡ i) where
+    here : slice_get cs (j + 1) ≡ Some shrunk.child
+    here = subst (λ (n : ℕ). slice_get cs n ≡ Some shrunk.child) (sym next) shrunk.at
+
+    before_stored : (a : Child) → slice_get cs j ≡ Some a → IsStoredTree mid shrunk.height (child_place inner.level shrunk.child.left a) × IsSome (mid shrunk.child.child)
+    before_stored a is =
+        let c = shrunk.child in
+        let pre = take j cs in
+        let post = drop (j + 2) cs in
+        let whole = pair_tree j a c is here in
+        let two : suc i ≡ j + 2 = omega (arith, next) in
+        let change : Changed shrunk.f shrunk.key shrunk.id (loose (child_place inner.level (next_left inner.right post) c)) shrunk.height shrunk.old mid (node_at shrunk.old c.child) node =
+        subst (λ (n : ℕ). Changed shrunk.f shrunk.key shrunk.id (loose (child_place inner.level (next_left inner.right (drop n cs)) c)) shrunk.height shrunk.old mid (node_at shrunk.old c.child) node) two shrunk.change in
+        let rising = pair_rising shrunk.place shrunk.height inner.level inner.mirror inner.right shrunk.old pre a c post whole in
+        let stored = pair_stored shrunk.place shrunk.height inner.level inner.mirror inner.right shrunk.old pre a c post whole in
+        let child = upper_child shrunk.place shrunk.height inner.level inner.mirror inner.right shrunk.old pre a c post whole in (
+          (lower_stays shrunk.old shrunk.height inner.level (next_left inner.right post) a c rising stored shrunk.f shrunk.key shrunk.id mid shrunk.local child node change).stored,
+          upper_there shrunk.old shrunk.height inner.level (next_left inner.right post) a c rising stored shrunk.f shrunk.key shrunk.id mid shrunk.local child node change,
+        )
+
+    pub left_stored : (s : Subtree) → slice_get (children_of inner) j ≡ Some s → IsStoredTree mid shrunk.height s
+    left_stored s at =
+        let there = place_is inner.level inner.right cs j s at in
+        let place : child_place inner.level shrunk.child.left there.child ≡ s = ap (λ (l : List Child). child_place inner.level (next_left inner.right l) there.child) (sym (rest_pair cs j there.child shrunk.child there.is here)) ∙ sym there.place in
+        subst (λ (t : Subtree). IsStoredTree mid shrunk.height t) place (before_stored there.child there.is).0
+
+    pub own_page : (a c : Child) → slice_get cs j ≡ Some a → slice_get cs (j + 1) ≡ Some c → IsSome (mid c.child)
+    own_page a c first is =
+        let same : shrunk.child ≡ c = by_option (sym here ∙ is) in
+        subst (λ (x : Child). IsSome (mid x.child)) same (before_stored a first).1 where
+          by_option : {x y : Child} → Some x ≡ Some y → x ≡ y
+          by_option is = cc
+
+-- the last child has one before it
+pub before_last : (i count n : ℕ) → count ≤ i + 1 → count ≡ n → 2 ≤ n → i - 1 + 1 ≡ i
+before_last i count n last is many = omega arith
+
+-- a node that was read below an inner node
+pub level_below : (inner : Inner) (i : ℕ) (s : Subtree) (child : Node) → slice_get (children_of inner) i ≡ Some s → IsNode child → Fits s child → IsLevelBelow inner.level child
+level_below inner i s child at sound fits =
+    let there = place_is inner.level inner.right inner.places.items i s at in
+    (sound.level, by_place s there.place fits) where
+      by_place : (s : Subtree) {b : Base} {c : Child} → s ≡ child_place inner.level b c → Fits s child → level_of child + 1 ≡ inner.level
+      by_place s {b = b} {c = c} same fits = (subst (λ (t : Subtree). Fits t child) same fits).level
+
+-- no damage is told of it
+page_undamaged : (fault : Fault) → IsUndamaged fault → IsPageUndamaged fault
+page_undamaged (Media before after) is = tt
+page_undamaged (Damaged at kind) is = is
+page_undamaged NoMemory is = tt
+
+pub stored_cause : {T : Type 0} (told : Option PageMap) (s : Subtree) (old new : ℕ) (fault : Fault) → IfSome told (λ map. (height : ℕ) × IsStoredTree map height s) → HasFaultCause {T = Node} old new (Err fault) → IfSome told (λ map. TellsDamage s (page_in (map s.at)) fault)
+    → HasPageCause {T = T} told old new (Err fault)
+stored_cause None s old new fault stored counted damage = record { counted = record { never_falls = counted.never_falls; caused = counted.caused }; undamaged = tt }
+stored_cause (Some map) s old new fault (height, stored) counted damage = record {
+  counted = record { never_falls = counted.never_falls; caused = counted.caused };
+  undamaged = page_undamaged fault (tells_undamaged s (page_in (map s.at)) (node_at map s.at) fault (stored_here map height s stored) damage);
+}
+
+-- the node that was read is the child's
+pub read_child : (map : PageMap) (inner : Inner) (i : ℕ) (s : Subtree) (node : Node) → slice_get (children_of inner) i ≡ Some s → SpellsHere s (page_in (map s.at)) node → IsChildNode inner i map node
+read_child map inner i s node at here c is =
+    let there = place_is inner.level inner.right inner.places.items i s at in
+    let same : c ≡ there.child = by_option (sym is ∙ there.is) in
+    ap (λ (x : Child). node_at map x.child) same ∙ ap (λ (t : Subtree). node_at map t.at) (sym there.place) ∙ here.spelled.value where
+      by_option : {x y : Child} → Some x ≡ Some y → x ≡ y
+      by_option is = cc
+
+module _ (inner after : Inner) (i : ℕ) (child other : Node) (s : Subtree) (p0 p1 p2 : Option PageMap) (same : p1 ≡ p0) where
+  -- where the pages are told
+  pub right_read : IfSome p0 (IsShrunk inner i child) → slice_get (children_of inner) (i + 1) ≡ Some s → IfSome p0 (λ map. (height : ℕ) × IsStoredTree map height s)
+  right_read shrunk at = by_told p0 shrunk where
+    by_told : (p : Option PageMap) → IfSome p (IsShrunk inner i child) → IfSome p (λ map. (height : ℕ) × IsStoredTree map height s)
+    by_told None shrunk = tt
+    by_told (Some map) shrunk = (shrunk.height, right_stored inner i child map shrunk s at)
+
+  pub left_read : (j : ℕ) → j + 1 ≡ i → IfSome p0 (IsShrunk inner i child) → slice_get (children_of inner) j ≡ Some s → IfSome p0 (λ map. (height : ℕ) × IsStoredTree map height s)
+  left_read j next shrunk at = by_told p0 shrunk where
+    by_told : (p : Option PageMap) → IfSome p (IsShrunk inner i child) → IfSome p (λ map. (height : ℕ) × IsStoredTree map height s)
+    by_told None shrunk = tt
+    by_told (Some map) shrunk = (shrunk.height, left_stored inner i child map shrunk j next s at)
+
+  pub right_page : IfSome p0 (IsShrunk inner i child) → IfSome p1 (λ map. (c : Child) → slice_get inner.places.items (i + 1) ≡ Some c → IsSome (map c.child))
+  right_page shrunk = subst (λ (p : Option PageMap). IfSome p (λ map. (c : Child) → slice_get inner.places.items (i + 1) ≡ Some c → IsSome (map c.child))) (sym same) (by_told p0 shrunk) where
+    by_told : (p : Option PageMap) → IfSome p (IsShrunk inner i child) → IfSome p (λ map. (c : Child) → slice_get inner.places.items (i + 1) ≡ Some c → IsSome (map c.child))
+    by_told None shrunk = tt
+    by_told (Some map) shrunk = right_there inner i child map shrunk
+
+  pub left_page : (j : ℕ) → j + 1 ≡ i → slice_get (children_of inner) j ≡ Some s → IfSome p0 (IsShrunk inner i child) → IfSome p1 (λ map. (c : Child) → slice_get inner.places.items (j + 1) ≡ Some c → IsSome (map c.child))
+  left_page j next at shrunk = subst (λ (p : Option PageMap). IfSome p (λ map. (c : Child) → slice_get inner.places.items (j + 1) ≡ Some c → IsSome (map c.child))) (sym same) (by_told p0 shrunk) where
+    by_told : (p : Option PageMap) → IfSome p (IsShrunk inner i child) → IfSome p (λ map. (c : Child) → slice_get inner.places.items (j + 1) ≡ Some c → IsSome (map c.child))
+    by_told None shrunk = tt
+    by_told (Some map) shrunk = λ c is. let there = place_is inner.level inner.right inner.places.items j s at in own_page inner i child map shrunk j next there.child c there.is is
+
+  pub right_joined : i + 1 < length inner.places.items → slice_get (children_of inner) (i + 1) ≡ Some s → IfSome p0 (λ map. SpellsHere s (page_in (map s.at)) other) → IfSome p1 (λ old. IfSome p2 (λ new. IsPairJoined inner i child other old new after))
+      → IfSome p0 (λ old. IfSome p2 (λ new. IsJoinedAt inner i child old new after))
+  right_joined low at here joined = by_told p0 p2 here (subst (λ (p : Option PageMap). IfSome p (λ old. IfSome p2 (λ new. IsPairJoined inner i child other old new after))) same joined) where
+    by_told : (p q : Option PageMap) → IfSome p (λ map. SpellsHere s (page_in (map s.at)) other) → IfSome p (λ old. IfSome q (λ new. IsPairJoined inner i child other old new after)) → IfSome p (λ old. IfSome q (λ new. IsJoinedAt inner i child old new after))
+    by_told None q here joined = tt
+    by_told (Some old) None here joined = tt
+    by_told (Some old) (Some new) here joined = inl (low, other, read_child old inner (i + 1) s other at here, joined)
+
+  pub left_joined : (j : ℕ) → j + 1 ≡ i → slice_get (children_of inner) j ≡ Some s → IfSome p0 (λ map. SpellsHere s (page_in (map s.at)) other) → IfSome p1 (λ old. IfSome p2 (λ new. IsPairJoined inner j other child old new after))
+      → IfSome p0 (λ old. IfSome p2 (λ new. IsJoinedAt inner i child old new after))
+  left_joined j next at here joined = by_told p0 p2 here (subst (λ (p : Option PageMap). IfSome p (λ old. IfSome p2 (λ new. IsPairJoined inner j other child old new after))) same joined) where
+    by_told : (p q : Option PageMap) → IfSome p (λ map. SpellsHere s (page_in (map s.at)) other) → IfSome p (λ old. IfSome q (λ new. IsPairJoined inner j other child old new after)) → IfSome p (λ old. IfSome q (λ new. IsJoinedAt inner i child old new after))
+    by_told None q here joined = tt
+    by_told (Some old) None here joined = tt
+    by_told (Some old) (Some new) here joined = inr (j, next, other, read_child old inner j s other at here, joined)

@@ -1,0 +1,70 @@
+use Rattle.std.proofs.Common.{◌∙◌, ◌+◌}
+use Rattle.std.specs.Prelude.{slice_index_or}
+use Rattle.hm_btree.proofs.JoinAtLemmas.{second_page, there_written, joined_one, joined_two}
+use Rattle.hm_btree.proofs.SpendLemmas.{spends_nothing, spends_both}
+use Rattle.hm_btree.proofs.remove.join_at.Goals as goal
+use Rattle.hm_btree.proofs.remove.join_at.Goals.{in-None+in_ok-drop_node-in-None, in-Some+in_ok-write_node-in-Some}
+
+pub returns-in_err-write_node-clause-space : goal.returns-in_err-write_node-clause-space
+returns-in_err-write_node-clause-space g c =
+    let kept = g.met.S.NodeSpace.rests c.args.space.now c.write_node.new.space c.write_node.ensures.rest in
+    spends_nothing g.S.HasRoom.room g.S.HasRoom.free c.args.space.now c.write_node.new.space kept.0 kept.1
+
+pub drop_node-requires : goal.drop_node-requires
+drop_node-requires g c =
+    there_written (g.S.Pages.pages c.args.space.now) (g.S.Pages.pages c.write_node.new.space) (slice_index_or c.deref.result.now c.args.i c.index-deref-i.result).child (slice_index_or c.deref-2.result.now (c.args.i + 1) c.index-deref-i-2.result).child c.join-upper.new.left
+    (second_page c.args.inner.now c.set_mirror.new.inner c.args.i c.mirror.result c.args.left c.args.right c.join-upper.new.left c.index-deref-i.result c.index-deref-i-2.result c.deref.result.now c.deref-2.result.now c.deref.ensures.0
+    c.set_mirror.ensures.level c.set_mirror.ensures.mirror c.set_mirror.ensures.items c.set_mirror.ensures.right c.mirror.ensures c.deref-2.ensures.0 (g.S.Pages.pages c.args.space.now) c.requires.within c.requires.told)
+    c.in_ok-write_node.ensures.ok
+
+pub returns-in_err-drop_node-in-None-clause-space :
+    goal.returns-in_err-drop_node-in-None-clause-space
+returns-in_err-drop_node-in-None-clause-space g c =
+    let kept = g.met.S.NodeSpace.rests c.args.space.now c.write_node.new.space c.write_node.ensures.rest in
+    spends_both g.S.HasRoom.room g.S.HasRoom.free c.args.space.now c.write_node.new.space c.drop_node.new.self (spends_nothing g.S.HasRoom.room g.S.HasRoom.free c.args.space.now c.write_node.new.space kept.0 kept.1) c.drop_node.ensures.space
+
+pub returns-in_err-write_node-in-Some-clause-space : goal.returns-in_err-write_node-in-Some-clause-space
+returns-in_err-write_node-in-Some-clause-space g c =
+    let kept = g.met.S.NodeSpace.rests c.args.space.now c.write_node.new.space c.write_node.ensures.rest in
+    let more = g.met.S.NodeSpace.rests c.write_node.new.space c.write_node-in-Some.new.space c.write_node-in-Some.ensures.rest in
+    spends_nothing g.S.HasRoom.room g.S.HasRoom.free c.args.space.now c.write_node-in-Some.new.space (more.0 ∙ kept.0) (more.1 ∙ kept.1)
+
+pub returns-clause-ok : goal.returns-clause-ok
+returns-clause-ok g c =
+    elim c.match-upper.branch [
+      | in-None+in_ok-drop_node-in-None w ↦
+          rw w.space-is (rw w.inner-is
+          (joined_one c.args.inner.now c.set_mirror.new.inner c.args.i c.mirror.result c.args.left c.args.right c.join-upper.new.left c.index-deref-i.result c.index-deref-i-2.result c.deref.result.now c.deref-2.result.now c.deref.ensures.0
+          c.set_mirror.ensures.level c.set_mirror.ensures.mirror c.set_mirror.ensures.items c.set_mirror.ensures.right c.mirror.ensures c.deref-2.ensures.0
+          w.remove_child.new.inner (g.S.Pages.pages c.args.space.now) (g.S.Pages.pages c.write_node.new.space) (g.S.Pages.pages w.drop_node.new.self) w.in-None.ensures c.in_ok-write_node.ensures.ok w.in_ok-drop_node-in-None.ensures.ok w.remove_child.ensures))
+      | in-Some+in_ok-write_node-in-Some w ↦
+          rw w.space-is (rw w.inner-is
+          (joined_two c.args.inner.now c.set_mirror.new.inner c.args.i c.mirror.result c.args.left c.args.right c.join-upper.new.left c.index-deref-i.result c.index-deref-i-2.result c.deref.result.now c.deref-2.result.now c.deref.ensures.0
+          c.set_mirror.ensures.level c.set_mirror.ensures.mirror c.set_mirror.ensures.items c.set_mirror.ensures.right c.mirror.ensures c.deref-2.ensures.0
+          w.set_mirror-in-Some.new.inner w.set_left.new.inner w.mirror-in-Some.result w.in-Some.upper (g.S.Pages.pages c.args.space.now) (g.S.Pages.pages c.write_node.new.space) (g.S.Pages.pages w.write_node-in-Some.new.space)
+          w.in-Some.ensures c.in_ok-write_node.ensures.ok w.in_ok-write_node-in-Some.ensures.ok w.mirror-in-Some.ensures
+          w.set_mirror-in-Some.ensures.level w.set_mirror-in-Some.ensures.mirror w.set_mirror-in-Some.ensures.items w.set_mirror-in-Some.ensures.right
+          w.set_left.ensures.level w.set_left.ensures.mirror w.set_left.ensures.items w.set_left.ensures.right))
+    ]
+
+pub returns-clause-extents : goal.returns-clause-extents
+returns-clause-extents g c =
+    let kept = g.met.S.NodeSpace.rests c.args.space.now c.write_node.new.space c.write_node.ensures.rest in
+    elim c.match-upper.branch [
+      | in-None+in_ok-drop_node-in-None w ↦ rw w.space-is (w.in_ok-drop_node-in-None.ensures.extents ∙ kept.2)
+      | in-Some+in_ok-write_node-in-Some w ↦
+          let more = g.met.S.NodeSpace.rests c.write_node.new.space w.write_node-in-Some.new.space w.write_node-in-Some.ensures.rest in
+          rw w.space-is (more.2 ∙ kept.2)
+    ]
+
+pub returns-clause-space : goal.returns-clause-space
+returns-clause-space g c =
+    let kept = g.met.S.NodeSpace.rests c.args.space.now c.write_node.new.space c.write_node.ensures.rest in
+    elim c.match-upper.branch [
+      | in-None+in_ok-drop_node-in-None w ↦
+          rw w.space-is
+          (spends_both g.S.HasRoom.room g.S.HasRoom.free c.args.space.now c.write_node.new.space w.drop_node.new.self (spends_nothing g.S.HasRoom.room g.S.HasRoom.free c.args.space.now c.write_node.new.space kept.0 kept.1) w.drop_node.ensures.space)
+      | in-Some+in_ok-write_node-in-Some w ↦
+          let more = g.met.S.NodeSpace.rests c.write_node.new.space w.write_node-in-Some.new.space w.write_node-in-Some.ensures.rest in
+          rw w.space-is (spends_nothing g.S.HasRoom.room g.S.HasRoom.free c.args.space.now w.write_node-in-Some.new.space (more.0 ∙ kept.0) (more.1 ∙ kept.1))
+    ]

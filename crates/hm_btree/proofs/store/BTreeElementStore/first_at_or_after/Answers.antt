@@ -1,0 +1,28 @@
+use Rattle.std.proofs.Common.{ap}
+use Rattle.std.specs.Prelude.{Option}
+use Rattle.hm_fields.specs.Pages.{PageMap}
+use Rattle.hm_key.specs.Key.{key_of}
+use Rattle.hm_btree.specs.Tree.{told_elements, told_mark}
+use Rattle.hm_btree.proofs.ReadingLemmas.{first_in_store, cause_in_store}
+use Rattle.hm_btree.proofs.store.BTreeElementStore.first_at_or_after.Goals as goal
+
+pub returns-clause-ok : goal.returns-clause-ok
+returns-clause-ok g c = first_in_store c.args.self.now.intact (g.S.Pages.pages c.args.self.now.space) c.args.self.now.root (key_of c.args.at.now) c.first_at_or_after.result c.args.self.now.sound c.first_at_or_after.ensures.ok
+
+pub returns-clause-keeps : goal.returns-clause-keeps
+returns-clause-keeps g c =
+    let pages = c.first_at_or_after.ensures.same.pages in
+    let same = g.met.S.NodeSpace.rests c.args.self.now.space c.first_at_or_after.new.pages c.first_at_or_after.ensures.same.rest in
+    record {
+      name = c.first_at_or_after.ensures.same.name;
+      elements = ap (λ (o : Option PageMap). told_elements c.args.self.now.intact o c.args.self.now.root) pages;
+      mark = ap (λ (o : Option PageMap). told_mark o c.args.self.now.root) pages;
+      extents = same.2;
+      room = same.0;
+      free = same.1;
+    }
+
+pub returns-clause-cause : goal.returns-clause-cause
+returns-clause-cause g c =
+    cause_in_store c.args.self.now.intact (g.S.Pages.pages c.args.self.now.space) c.args.self.now.root (g.S.Counted.faults c.args.self.now.space) (g.S.Counted.faults c.first_at_or_after.new.pages) c.first_at_or_after.result
+    c.args.self.now.sound c.first_at_or_after.ensures.cause

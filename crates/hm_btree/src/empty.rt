@@ -1,0 +1,38 @@
+// A tree without elements.
+ghost use Rattle.std.specs.Prelude.{◌≡◌, ◌≤◌, ℕ, None, Some, [], Err, IfSome, IfOk, IfErr};
+ghost use Rattle.hm_fields.specs.Pages.{HasPageCause};
+ghost use Rattle.hm_key.specs.Space.{Spends, in_zone};
+ghost use Rattle.hm_btree.specs.Tree.{HasNoPage, told_elements};
+
+use crate::node_edit::add_node;
+use crate::space::{NODE_BYTES, NodeSpace};
+use crate::tree::BTree;
+use arrayvec::ArrayVec;
+use hm_key::TREE_ZONE;
+use hm_node::{Leaf, Node};
+use hm_types::{Counted, Fault};
+
+impl<S: NodeSpace> BTree<S> {
+    /// The tree without elements, on a space that has no page where it tells its pages, and room for
+    /// a node. It takes one node, the root. An error hands back the space.
+    pub fn empty(space: S) -> Result<BTree<S>, (S, Fault)>
+        requires pages { IfSome (S.pages space) HasNoPage }
+        requires room { NODE_BYTES ≤ S.room space TREE_ZONE }
+        ensures elements { IfOk result (λ tree. IfSome (S.pages space) (λ _.
+            told_elements tree.intact (S.pages tree.space) tree.root ≡ Some [])) }
+        ensures space { IfOk result (λ tree.
+            Spends S.room S.free (in_zone TREE_ZONE NODE_BYTES) space tree.space) }
+        ensures cause { IfErr result (λ e.
+            HasPageCause {T = ℕ} (S.pages space) (S.faults space) (S.faults e.0) (Err e.1)) }
+    {
+        let mut space = space;
+        let node = Node::Leaf(Leaf {
+            mirror: 0,
+            places: ArrayVec::new(),
+        });
+        match add_node(&mut space, &node) {
+            Ok(root) => Ok(BTree::over(space, root)),
+            Err(fault) => Err((space, fault)),
+        }
+    }
+}

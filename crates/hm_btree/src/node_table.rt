@@ -1,0 +1,168 @@
+// A space of nodes in a table.
+ghost use Rattle.hm_btree.specs.MemSpace.{room_of};
+
+use crate::space::{MOST_NODES, NODE_BYTES, NodeSpace};
+use hm_fields::{Page, Pages};
+use hm_key::{HasRoom, TREE_ZONE};
+use hm_types::{Counted, Fault, HOff};
+use std::alloc::Global;
+
+// How many bytes of room a table begins with: more than memory has.
+const ROOM: u64 = 1 << 42;
+
+/// Nodes in a table in memory, each at its place, which tells nothing of them, as the space of a
+/// volume on a device. It is there for tests, and for tools that measure. It counts how many nodes
+/// are read and written.
+#[derive(Drop)]
+pub struct NodeTable {
+    alloc: Global,
+    pages: Vec<Option<Box<Page>>>,
+    room: u64,
+    reads: u64,
+    writes: u64,
+    refused: u64,
+}
+
+impl NodeTable {
+    ghost use Rattle.std.specs.Prelude.{◌≡◌, ℕ, None};
+    ghost use Rattle.hm_fields.specs.Pages.{HasPageCause};
+
+    /// No node. It takes no memory.
+    pub fn new(alloc: Global) -> NodeTable
+        ensures { result.room ≡ ROOM }
+    {
+        NodeTable {
+            alloc,
+            pages: Vec::new(alloc),
+            room: ROOM,
+            reads: 0,
+            writes: 0,
+            refused: u64::MAX,
+        }
+    }
+
+    /// How many nodes were read.
+    pub fn reads(&self) -> u64 {
+        self.reads
+    }
+
+    /// How many nodes were written, new ones among them.
+    pub fn writes(&self) -> u64 {
+        self.writes
+    }
+
+    /// How many bytes of room are left in zone 8.
+    pub fn room(&self) -> u64
+        ensures { result ≡ self.now.room }
+    {
+        self.room
+    }
+
+    /// From this write on, counted from 0, each is refused for want of memory.
+    pub fn refuse_from(&mut self, write: u64)
+        ensures { self.new.room ≡ self.old.room }
+    {
+        self.refused = write;
+    }
+
+    // Counts a write, unless it is refused.
+    fn write(&mut self) -> Result<(), Fault>
+        ensures cause { HasPageCause {A = ℕ} None 0 0 result }
+        ensures room { self.new.room ≡ self.old.room }
+    {
+        if self.writes >= self.refused {
+            return Err(Fault::NoMemory);
+        }
+        self.writes = self.writes.saturating_add(1);
+        Ok(())
+    }
+
+    // The page at a place, if there is one.
+    fn at(&self, at: HOff) -> Option<&Page> {
+        let place = at.byte() / u64::from(NODE_BYTES);
+        match self.pages.get(place as usize) {
+            Some(Some(page)) => Some(&**page),
+            _ => None,
+        }
+    }
+}
+
+impl Counted for NodeTable {
+    ghost faults = { λ _. 0 };
+
+    ghost name = { λ _. 0 };
+}
+
+impl HasRoom for NodeTable {
+    ghost use Rattle.std.specs.Prelude.{None};
+
+    ghost room = { λ t. room_of t.room };
+
+    ghost free = { λ _. 0 };
+
+    ghost extents = { λ _. None };
+}
+
+impl Pages for NodeTable {
+    type Rest = u64;
+
+    ghost use Rattle.std.specs.Prelude.{None};
+
+    ghost pages = { λ _. None };
+
+    ghost rest = { λ t. t.room };
+
+    fn page(&mut self, at: HOff, into: &mut Page) -> Result<(), Fault> {
+        self.reads = self.reads.saturating_add(1);
+        match self.at(at) {
+            Some(page) => *into = *page,
+            None => *into = Page::zero(),
+        }
+        Ok(())
+    }
+
+    fn change(&mut self, at: HOff, with: &Page) -> Result<(), Fault> {
+        self.write()?;
+        let place = at.byte() / u64::from(NODE_BYTES);
+        match self.pages.get_mut(place as usize) {
+            Some(Some(page)) => {
+                **page = *with;
+                Ok(())
+            }
+            _ => Err(Fault::NoMemory),
+        }
+    }
+}
+
+impl NodeSpace for NodeTable {
+    ghost use Rattle.std.specs.Prelude.{refl};
+    ghost use Rattle.std.proofs.Common.{ap};
+
+    ghost rests = { λ s t same. (ap room_of same, refl, refl) };
+
+    fn new_node(&mut self, with: &Page) -> Result<HOff, Fault> {
+        let made = self.pages.len() as u64;
+        if made >= MOST_NODES {
+            return Err(Fault::NoMemory);
+        }
+        let Some(at) = HOff::make(TREE_ZONE, made * u64::from(NODE_BYTES)) else {
+            return Err(Fault::NoMemory);
+        };
+        self.write()?;
+        let page = Box::new(self.alloc, *with)?;
+        self.pages.push(Some(page))?;
+        self.room -= u64::from(NODE_BYTES);
+        Ok(at)
+    }
+
+    fn drop_node(&mut self, at: HOff) -> Result<(), Fault> {
+        let place = at.byte() / u64::from(NODE_BYTES);
+        match self.pages.get_mut(place as usize) {
+            Some(page) => {
+                *page = None;
+                Ok(())
+            }
+            None => Err(Fault::NoMemory),
+        }
+    }
+}

@@ -1,0 +1,133 @@
+// Removal of an element below a node.
+ghost use Rattle.std.specs.Prelude.{◌≡◌, ◌+◌, ◌<◌, ◌≤◌, IfSome, IsSome, OnOk, Some, is_some, slice_get};
+ghost use Rattle.arrayvec.specs.ArrayVec.{array_vec_len};
+ghost use Rattle.hm_fields.specs.Pages.{HasPageCause};
+ghost use Rattle.hm_key.specs.Elements.{removed};
+ghost use Rattle.hm_key.specs.Key.{key_of};
+ghost use Rattle.hm_key.specs.Space.{Spends, nothing};
+ghost use Rattle.hm_node.specs.Node.{HasLevel, IsNode, level_of};
+ghost use Rattle.hm_node.specs.declared.inner.Child.{Child as ChildOf};
+ghost use Rattle.hm_btree.specs.Shrink.{Shrinks, HoldsElement, HasNeighbours, IsLevelBelow, IsPairJoined, IsJoinedAt, IsShrunk};
+
+use crate::change::has_element;
+use crate::inner_edit::{remove_child, set_left, set_mirror};
+use crate::join::{is_small, join};
+use crate::leaf_edit::remove_element;
+use crate::node_edit::{mirror, write_node};
+use crate::space::NodeSpace;
+use hm_key::Base;
+use hm_node::{Inner, Node};
+use hm_search::{Subtree, child_place, leaf_place, read_node};
+use hm_types::{Counted, Fault};
+
+/// Removes the element at the key of `at` below a node, which is not written and may be left with
+/// too few places. Where the pages are told, they must be sound and have the element. An inner node
+/// must have two children.
+pub fn remove_below<S: NodeSpace>(space: &mut S, node: &mut Node, at: &Base) -> Result<(), Fault>
+    requires node { IsNode node.old }
+    requires many { HasNeighbours node.old }
+    requires told { IfSome (S.pages space.old) (HoldsElement (key_of at.now) node.old) }
+    ensures ok { OnOk result (Shrinks (removed (key_of at.now)) (key_of at.now) 0 (λ o. IsSome o)
+        (S.pages space.old) (S.pages space.new) node.old node.new) }
+    ensures level { OnOk result (HasLevel node.new × (level_of node.new ≡ level_of node.old)) }
+    ensures told { OnOk result (is_some (S.pages space.new) ≡ is_some (S.pages space.old)) }
+    ensures extents { OnOk result (S.extents space.new ≡ S.extents space.old) }
+    ensures space { Spends S.room S.free nothing space.old space.new }
+    ensures name { S.name space.new ≡ S.name space.old }
+    ensures cause { HasPageCause (S.pages space.old)
+        (S.faults space.old) (S.faults space.new) result }
+{
+    match node {
+        Node::Leaf(leaf) => {
+            let place = leaf_place(leaf, at);
+            if has_element(leaf, place, at) {
+                remove_element(leaf, place);
+            }
+            Ok(())
+        }
+        Node::Inner(inner) => {
+            let i = child_place(inner, at);
+            let place = Subtree::child(inner, i);
+            let mut child = read_node(space, &place)?;
+            remove_below(space, &mut child, at)?;
+            if is_small(&child) {
+                return rejoin(space, inner, i, child);
+            }
+            write_node(space, place.at, &child)?;
+            set_mirror(inner, i, mirror(&child));
+            Ok(())
+        }
+    }
+}
+
+// Joins the child at a place, which has too few places and is not written, with a neighbour.
+fn rejoin<S: NodeSpace>(
+    space: &mut S,
+    inner: &mut Inner,
+    i: usize,
+    child: Node,
+) -> Result<(), Fault>
+    requires within { i < array_vec_len inner.old.places }
+    requires many { 2 ≤ array_vec_len inner.old.places }
+    requires child { IsLevelBelow inner.old.level child }
+    requires told { IfSome (S.pages space.old) (IsShrunk inner.old i child) }
+    ensures ok { OnOk result (IfSome (S.pages space.old) (λ old. IfSome (S.pages space.new) (λ new.
+        IsJoinedAt inner.old i child old new inner.new))) }
+    ensures level { inner.new.level ≡ inner.old.level }
+    ensures told { OnOk result (is_some (S.pages space.new) ≡ is_some (S.pages space.old)) }
+    ensures extents { OnOk result (S.extents space.new ≡ S.extents space.old) }
+    ensures space { Spends S.room S.free nothing space.old space.new }
+    ensures name { S.name space.new ≡ S.name space.old }
+    ensures cause { HasPageCause (S.pages space.old)
+        (S.faults space.old) (S.faults space.new) result }
+{
+    let count = inner.places.len();
+    if i + 1 < count {
+        let right = read_node(space, &Subtree::child(inner, i + 1))?;
+        join_at(space, inner, i, child, right)
+    } else {
+        let left = read_node(space, &Subtree::child(inner, i - 1))?;
+        join_at(space, inner, i - 1, left, child)
+    }
+}
+
+// Joins the child at a place with the one after it, of both of which the node is handed in.
+fn join_at<S: NodeSpace>(
+    space: &mut S,
+    inner: &mut Inner,
+    i: usize,
+    mut left: Node,
+    right: Node,
+) -> Result<(), Fault>
+    requires within { i + 1 < array_vec_len inner.old.places }
+    requires left { IsLevelBelow inner.old.level left }
+    requires right { IsLevelBelow inner.old.level right }
+    requires told { IfSome (S.pages space.old) (λ map. (c : ChildOf) →
+        slice_get inner.old.places.items (i + 1) ≡ Some c → IsSome (map c.child)) }
+    ensures ok { OnOk result (IfSome (S.pages space.old) (λ old. IfSome (S.pages space.new) (λ new.
+        IsPairJoined inner.old i left right old new inner.new))) }
+    ensures level { inner.new.level ≡ inner.old.level }
+    ensures told { OnOk result (is_some (S.pages space.new) ≡ is_some (S.pages space.old)) }
+    ensures extents { OnOk result (S.extents space.new ≡ S.extents space.old) }
+    ensures space { Spends S.room S.free nothing space.old space.new }
+    ensures name { S.name space.new ≡ S.name space.old }
+    ensures cause { HasPageCause (S.pages space.old)
+        (S.faults space.old) (S.faults space.new) result }
+{
+    let upper = join(&mut left, right);
+    write_node(space, inner.places[i].child, &left)?;
+    set_mirror(inner, i, mirror(&left));
+    let next = inner.places[i + 1].child;
+    match upper {
+        None => {
+            space.drop_node(next)?;
+            remove_child(inner, i + 1);
+        }
+        Some(upper) => {
+            write_node(space, next, &upper.node)?;
+            set_mirror(inner, i + 1, mirror(&upper.node));
+            set_left(inner, i + 1, upper.left);
+        }
+    }
+    Ok(())
+}
