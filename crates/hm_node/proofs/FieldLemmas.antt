@@ -1,5 +1,5 @@
 -- What stands in a place depends on its bytes alone.
-use Rattle.std.proofs.Common.{◌≡◌, ℕ, ◌+◌, ◌<◌, ◌≤◌, inl, inr, List, refl, sym, ap, ◌∙◌, arith}
+use Rattle.std.proofs.Common.{◌≡◌, ℕ, ◌+◌, ◌≤◌, inl, inr, List, refl, ◌∙◌, arith}
 use Rattle.hm_fields.specs.Fields.{Apart, get, put}
 use Rattle.hm_fields.proofs.FieldLemmas.{get_put_apart, get_put_apart_two}
 use Rattle.hm_key.specs.declared.base.Base.{Base}
@@ -122,3 +122,8 @@ child_left page at = refl
 pub element_base : (page : List ℕ) (at : ℕ) → (element_in page at).base ≡ base_in page at
 unfolding element_in
 element_base page at = refl
+
+-- the `mirror` of a child
+pub child_mirror : (page : List ℕ) (at : ℕ) → get page (at + 48) 8 ≡ (child_in page at).mirror
+unfolding child_in
+child_mirror page at = refl

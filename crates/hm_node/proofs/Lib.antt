@@ -6,6 +6,7 @@ pub mod LeafLemmas
 pub mod NodeLemmas
 pub mod PlaceLemmas
 pub mod ReadLemmas
+pub mod ReadyLemmas
 pub mod SameLemmas
 pub mod SpellLemmas
 pub mod WriteLemmas

@@ -1,12 +1,13 @@
-// A base in a page: 40 bytes.
-ghost use Rattle.std.specs.Prelude.{◌≡◌, ◌≤◌, ◌+◌, ℕ, length};
+// A base in a page, 40 bytes, and an offset, 8.
+ghost use Rattle.std.specs.Prelude.{◌≡◌, ◌≤◌, ◌+◌, ◌↔◌, ℕ, IsTrue, length};
+ghost use Rattle.hm_types.specs.Offset.{IsOffset};
 ghost use Rattle.hm_types.specs.declared.limits.TheConstants.{PAGE_BYTES};
 ghost use Rattle.hm_fields.specs.Fields.{Apart, get};
 ghost use Rattle.hm_node.specs.Base.{base_in};
 
 use hm_fields::{Page, get_u8, get_u16, get_u32, get_u64, put_u8, put_u16, put_u32, put_u64};
 use hm_key::Base;
-use hm_types::Obj;
+use hm_types::{HOff, Obj};
 
 /// The base in the 40 bytes from `at` on, whether or not it may stand there.
 #[tactic(auto, unfolding(crate::specs::Base::base_in))]
@@ -24,6 +25,23 @@ pub fn read_base(page: &Page, at: usize) -> Base
         btype: get_u8(page, at + 35),
         localization: get_u32(page, at + 36),
     }
+}
+
+// Whether the 8 bytes from `at` on are an offset.
+pub(crate) fn is_offset(page: &Page, at: usize) -> bool
+    requires { at + 8 ≤ PAGE_BYTES }
+    ensures { IsTrue result ↔ IsOffset (get page.now at 8) }
+{
+    HOff::from_raw(get_u64(page, at)).is_some()
+}
+
+// The offset in the 8 bytes from `at` on.
+pub(crate) fn read_offset(page: &Page, at: usize) -> HOff
+    requires within { at + 8 ≤ PAGE_BYTES }
+    requires offset { IsOffset (get page.now at 8) }
+    ensures { result ≡ get page.now at 8 }
+{
+    HOff::from_raw(get_u64(page, at)).unwrap()
 }
 
 // Writes a base into the 40 bytes from `at` on.

@@ -1,6 +1,7 @@
 // Inner nodes, and their children in a page.
 ghost use Rattle.std.specs.Prelude.{◌≡◌, ◌≤◌, ◌+◌, ◌↔◌, [], ℕ, List, length, All};
-ghost use Rattle.std.specs.Prelude.{IsTrue, IsSome, IfSome, IfOk, IfErr};
+ghost use Rattle.std.specs.Prelude.{IsTrue, IfSome, IfNone};
+ghost use Rattle.hm_types.specs.Offset.{IsOffset};
 ghost use Rattle.hm_types.specs.declared.limits.TheConstants.{PAGE_BYTES, MOST_INNER_CHILDREN, MOST_LEVELS};
 ghost use Rattle.hm_fields.specs.Fields.{Apart, get};
 ghost use Rattle.hm_key.specs.declared.base.Base.{Base};
@@ -13,7 +14,7 @@ ghost use Rattle.hm_node.specs.Damage.{Keeps, IsFirstBroken};
 ghost use Rattle.hm_node.specs.declared.head.TheConstants.{INNER};
 ghost use Rattle.hm_node.specs.declared.node.Node.TheVariants.{Inner as inner_node};
 
-use crate::base::{read_base, write_base};
+use crate::base::{is_offset, read_base, read_offset, write_base};
 use crate::head::{Head, INNER};
 use crate::places::{are_rising, are_zero, is_zero_outside, place};
 use crate::rule::Rule;
@@ -47,44 +48,54 @@ pub struct Inner {
 }
 
 impl Inner {
-    // The inner node in a page that says that it holds one, or the first rule that it breaks.
-    pub(crate) fn read(page: &Page, head: &Head) -> Result<Inner, Rule>
+    // The first rule that a page breaks that says that it holds an inner node.
+    pub(crate) fn broken_rule(page: &Page, head: &Head) -> Option<Rule>
         requires head { head.now ≡ head_in page.now }
         requires kind { head.now.kind ≡ INNER }
-        ensures ok { IfOk result (λ inner. inner ≡ inner_in page.now) }
-        ensures kept { IfOk result (λ _. (rule : Rule) → Keeps page.now rule) }
-        ensures err { IfErr result (λ rule. IsFirstBroken page.now rule) }
+        ensures none { IfNone result ((rule : Rule) → Keeps page.now rule) }
+        ensures some { IfSome result (λ rule. IsFirstBroken page.now rule) }
     {
         let count = usize::from(head.count);
         if !is_inner_level(head.level) {
-            return Err(Rule::Level);
+            return Some(Rule::Level);
         }
         if !is_inner_count(count) {
-            return Err(Rule::Count);
+            return Some(Rule::Count);
         }
         if !are_rising(page, count + 1) {
-            return Err(Rule::Order);
+            return Some(Rule::Order);
         }
-        let right = read_base(page, place(count));
-        let mut places = ArrayVec::new();
-        if !is_bound(&right) {
-            return Err(Rule::Fields);
+        if !is_bound(&read_base(page, place(count))) {
+            return Some(Rule::Fields);
         }
-        if !read_children(page, count, &mut places) {
-            return Err(Rule::Fields);
+        if !are_children(page, count) {
+            return Some(Rule::Fields);
         }
         if !is_zero_outside(page, place(count) + 40) {
-            return Err(Rule::Fields);
+            return Some(Rule::Fields);
         }
-        if !are_up_to(head.mirror, places.as_slice()) {
-            return Err(Rule::Mirror);
+        if !are_up_to(page, count, head.mirror) {
+            return Some(Rule::Mirror);
         }
-        Ok(Inner {
+        None
+    }
+
+    // The inner node in a page that holds one.
+    pub(crate) fn read(page: &Page, head: &Head) -> Inner
+        requires head { head.now ≡ head_in page.now }
+        requires few { head.now.count ≤ 62 }
+        requires places { AreChildPlaces page.now head.now.count }
+        ensures { result ≡ inner_in page.now }
+    {
+        let count = usize::from(head.count);
+        let mut places = ArrayVec::new();
+        read_children(page, count, &mut places);
+        Inner {
             level: head.level,
             mirror: head.mirror,
             places,
-            right,
-        })
+            right: read_base(page, place(count)),
+        }
     }
 
     // Writes the inner node as the whole page.
@@ -119,11 +130,17 @@ fn is_inner_count(count: usize) -> bool
     1 <= count && count <= MOST_INNER_CHILDREN
 }
 
-// Whether no child has a `mirror` above this one.
-fn are_up_to(mirror: u64, children: &[Child]) -> bool
-    ensures { IsTrue result ↔ All (λ c. c.mirror ≤ mirror) children.now }
+// Whether no child of so many places has a `mirror` above this one.
+fn are_up_to(page: &Page, count: usize, mirror: u64) -> bool
+    requires { count ≤ 62 }
+    ensures { IsTrue result ↔ All (λ c. c.mirror ≤ mirror) (children_in page.now count) }
 {
-    children.iter().all(|c| c.mirror <= mirror)
+    for i in 0..count {
+        if mirror < get_u64(page, place(i) + 48) {
+            return false;
+        }
+    }
+    true
 }
 
 // Whether a base may stand as a boundary.
@@ -140,37 +157,53 @@ fn is_node_offset(at: HOff) -> bool
     at.zone() == TREE_ZONE && at.byte() % 4_096 == 0
 }
 
-// Reads the children of so many places into an empty vector, up to the first that may not stand there.
-fn read_children(page: &Page, count: usize, into: &mut ArrayVec<Child, 62>) -> bool
-    requires count { count ≤ 62 }
-    requires empty { into.old.items ≡ [] }
-    ensures all { IsTrue result ↔ AreChildPlaces page.now count }
-    ensures read { IsTrue result → into.new.items ≡ children_in page.now count }
+// Whether so many places have children that may stand in an inner node, and 0 after each.
+fn are_children(page: &Page, count: usize) -> bool
+    requires { count ≤ 62 }
+    ensures { IsTrue result ↔ AreChildPlaces page.now count }
 {
     for i in 0..count {
-        let Some(child) = read_child(page, place(i)) else {
+        if !is_child_place(page, place(i)) {
             return false;
-        };
-        into.push(child);
+        }
     }
     true
 }
 
-// The child in a place, if each of its fields may stand there and the rest of the place is 0.
-fn read_child(page: &Page, at: usize) -> Option<Child>
+// Whether a place has a child that may stand in an inner node, and 0 after it.
+fn is_child_place(page: &Page, at: usize) -> bool
     requires { at + 64 ≤ PAGE_BYTES }
-    ensures some { IsSome result ↔ IsChildPlace page.now at }
-    ensures value { IfSome result (λ c. c ≡ child_in page.now at) }
+    ensures { IsTrue result ↔ IsChildPlace page.now at }
 {
-    let child = Child {
+    if !is_offset(page, at + 40) {
+        return false;
+    }
+    may_stand(&read_child(page, at), page, at)
+}
+
+// Reads the children of so many places into an empty vector.
+fn read_children(page: &Page, count: usize, into: &mut ArrayVec<Child, 62>)
+    requires count { count ≤ 62 }
+    requires places { AreChildPlaces page.now count }
+    requires empty { into.old.items ≡ [] }
+    ensures { into.new.items ≡ children_in page.now count }
+{
+    for i in 0..count {
+        into.push(read_child(page, place(i)));
+    }
+}
+
+/// The child in the place that begins at `at`, in bytes from the start of the page. It has to have
+/// an offset.
+pub fn read_child(page: &Page, at: usize) -> Child
+    requires within { at + 64 ≤ PAGE_BYTES }
+    requires offset { IsOffset (get page.now (at + 40) 8) }
+    ensures { result ≡ child_in page.now at }
+{
+    Child {
         left: read_base(page, at),
-        child: HOff::from_raw(get_u64(page, at + 40))?,
+        child: read_offset(page, at + 40),
         mirror: get_u64(page, at + 48),
-    };
-    if may_stand(&child, page, at) {
-        Some(child)
-    } else {
-        None
     }
 }
 

@@ -1,5 +1,6 @@
 // Leaves, and their elements in a page.
-ghost use Rattle.std.specs.Prelude.{◌≡◌, ◌≤◌, ◌+◌, ◌↔◌, [], ℕ, List, length, IsTrue, IsSome, IfSome, IfOk, IfErr, All};
+ghost use Rattle.std.specs.Prelude.{◌≡◌, ◌≤◌, ◌+◌, ◌↔◌, [], ℕ, List, length, IsTrue, IfSome, IfNone, All};
+ghost use Rattle.hm_types.specs.Offset.{IsOffset};
 ghost use Rattle.hm_types.specs.declared.limits.TheConstants.{PAGE_BYTES};
 ghost use Rattle.hm_fields.specs.Fields.{Apart, get};
 ghost use Rattle.hm_key.specs.Element.{IsElement};
@@ -11,14 +12,14 @@ ghost use Rattle.hm_node.specs.Damage.{Keeps, IsFirstBroken};
 ghost use Rattle.hm_node.specs.declared.head.TheConstants.{LEAF, LEAF_LEVEL};
 ghost use Rattle.hm_node.specs.declared.node.Node.TheVariants.{Leaf as leaf_node};
 
-use crate::base::{read_base, write_base};
+use crate::base::{is_offset, read_base, read_offset, write_base};
 use crate::head::{Head, LEAF, LEAF_LEVEL};
 use crate::places::{are_rising, are_zero, is_zero_outside, is_zero_u32, place};
 use crate::rule::Rule;
 use arrayvec::ArrayVec;
 use hm_fields::{Page, get_u32, get_u64, put_u32, put_u64};
 use hm_key::{Element, is_element};
-use hm_types::{HOff, MOST_LEAF_ELEMENTS};
+use hm_types::MOST_LEAF_ELEMENTS;
 
 /// A leaf of the tree.
 #[derive(Debug, Drop, PartialEq, Eq)]
@@ -30,36 +31,46 @@ pub struct Leaf {
 }
 
 impl Leaf {
-    // The leaf in a page that says that it holds one, or the first rule that it breaks.
-    pub(crate) fn read(page: &Page, head: &Head) -> Result<Leaf, Rule>
+    // The first rule that a page breaks that says that it holds a leaf.
+    pub(crate) fn broken_rule(page: &Page, head: &Head) -> Option<Rule>
         requires head { head.now ≡ head_in page.now }
         requires kind { head.now.kind ≡ LEAF }
         requires level { head.now.level ≡ LEAF_LEVEL }
-        ensures ok { IfOk result (λ leaf. leaf ≡ leaf_in page.now) }
-        ensures kept { IfOk result (λ _. (rule : Rule) → Keeps page.now rule) }
-        ensures err { IfErr result (λ rule. IsFirstBroken page.now rule) }
+        ensures none { IfNone result ((rule : Rule) → Keeps page.now rule) }
+        ensures some { IfSome result (λ rule. IsFirstBroken page.now rule) }
     {
         let count = usize::from(head.count);
         if MOST_LEAF_ELEMENTS < count {
-            return Err(Rule::Count);
+            return Some(Rule::Count);
         }
         if !are_rising(page, count) {
-            return Err(Rule::Order);
+            return Some(Rule::Order);
         }
-        let mut places = ArrayVec::new();
-        if !read_elements(page, count, &mut places) {
-            return Err(Rule::Fields);
+        if !are_elements(page, count) {
+            return Some(Rule::Fields);
         }
         if !is_zero_outside(page, place(count)) {
-            return Err(Rule::Fields);
+            return Some(Rule::Fields);
         }
-        if !are_up_to(head.mirror, places.as_slice()) {
-            return Err(Rule::Mirror);
+        if !are_up_to(page, count, head.mirror) {
+            return Some(Rule::Mirror);
         }
-        Ok(Leaf {
+        None
+    }
+
+    // The leaf in a page that holds one.
+    pub(crate) fn read(page: &Page, head: &Head) -> Leaf
+        requires head { head.now ≡ head_in page.now }
+        requires few { head.now.count ≤ 63 }
+        requires places { ArePlaces page.now head.now.count }
+        ensures { result ≡ leaf_in page.now }
+    {
+        let mut places = ArrayVec::new();
+        read_elements(page, usize::from(head.count), &mut places);
+        Leaf {
             mirror: head.mirror,
             places,
-        })
+        }
     }
 
     // Writes the leaf as the whole page.
@@ -78,47 +89,75 @@ impl Leaf {
     }
 }
 
-// Whether no element has an id above `mirror`.
-fn are_up_to(mirror: u64, elements: &[Element]) -> bool
-    ensures { IsTrue result ↔ All (IsUpTo mirror) elements.now }
-{
-    elements
-        .iter()
-        .all(|e| e.base.create <= mirror && e.base.delete <= mirror)
-}
-
-// Reads the elements of so many places into an empty vector, up to the first that may not stand there.
-fn read_elements(page: &Page, count: usize, into: &mut ArrayVec<Element, 63>) -> bool
-    requires count { count ≤ 63 }
-    requires empty { into.old.items ≡ [] }
-    ensures all { IsTrue result ↔ ArePlaces page.now count }
-    ensures read { IsTrue result → into.new.items ≡ elements_in page.now count }
+// Whether no element of so many places has an id above `mirror`.
+fn are_up_to(page: &Page, count: usize, mirror: u64) -> bool
+    requires { count ≤ 63 }
+    ensures { IsTrue result ↔ All (IsUpTo mirror) (elements_in page.now count) }
 {
     for i in 0..count {
-        let Some(element) = read_element(page, place(i)) else {
+        if !is_up_to(page, place(i), mirror) {
             return false;
-        };
-        into.push(element);
+        }
     }
     true
 }
 
-// The element in a place, if each of its fields may stand there and the rest of the place is 0.
-fn read_element(page: &Page, at: usize) -> Option<Element>
+// Whether the element in a place has no id above `mirror`.
+#[tactic(auto, unfolding(crate::specs::Leaf::element_in, crate::specs::Base::base_in))]
+fn is_up_to(page: &Page, at: usize, mirror: u64) -> bool
     requires { at + 64 ≤ PAGE_BYTES }
-    ensures some { IsSome result ↔ IsElementPlace page.now at }
-    ensures value { IfSome result (λ e. e ≡ element_in page.now at) }
+    ensures { IsTrue result ↔ IsUpTo mirror (element_in page.now at) }
 {
-    let payload = HOff::from_raw(get_u64(page, at + 40))?;
-    let element = Element {
+    get_u64(page, at + 16) <= mirror && get_u64(page, at + 24) <= mirror
+}
+
+// Whether so many places have elements that may stand in a leaf, and 0 after each.
+fn are_elements(page: &Page, count: usize) -> bool
+    requires { count ≤ 63 }
+    ensures { IsTrue result ↔ ArePlaces page.now count }
+{
+    for i in 0..count {
+        if !is_element_place(page, place(i)) {
+            return false;
+        }
+    }
+    true
+}
+
+// Whether a place has an element that may stand in a leaf, and 0 after it.
+fn is_element_place(page: &Page, at: usize) -> bool
+    requires { at + 64 ≤ PAGE_BYTES }
+    ensures { IsTrue result ↔ IsElementPlace page.now at }
+{
+    if !is_offset(page, at + 40) {
+        return false;
+    }
+    may_stand(&read_element(page, at), page, at)
+}
+
+// Reads the elements of so many places into an empty vector.
+fn read_elements(page: &Page, count: usize, into: &mut ArrayVec<Element, 63>)
+    requires count { count ≤ 63 }
+    requires places { ArePlaces page.now count }
+    requires empty { into.old.items ≡ [] }
+    ensures { into.new.items ≡ elements_in page.now count }
+{
+    for i in 0..count {
+        into.push(read_element(page, place(i)));
+    }
+}
+
+/// The element in the place that begins at `at`, in bytes from the start of the page. Its payload
+/// has to have an offset.
+pub fn read_element(page: &Page, at: usize) -> Element
+    requires within { at + 64 ≤ PAGE_BYTES }
+    requires offset { IsOffset (get page.now (at + 40) 8) }
+    ensures { result ≡ element_in page.now at }
+{
+    Element {
         base: read_base(page, at),
-        payload,
+        payload: read_offset(page, at + 40),
         len: get_u32(page, at + 48),
-    };
-    if may_stand(&element, page, at) {
-        Some(element)
-    } else {
-        None
     }
 }
 

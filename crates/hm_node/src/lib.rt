@@ -17,12 +17,12 @@ mod tests;
 
 pub use base::read_base;
 pub use head::{Head, INNER, LEAF, LEAF_LEVEL};
-pub use inner::{Child, Inner};
+pub use inner::{Child, Inner, read_child};
 pub use laws::{
     node_has_one_page, one_kind_is_the_lowest, page_spells_one_node, sound_page_spells_its_node,
     spelled_node_is_sound,
 };
-pub use leaf::Leaf;
-pub use node::{Node, decode, encode};
+pub use leaf::{Leaf, read_element};
+pub use node::{Node, broken_rule, decode, encode, node_of};
 pub use places::place;
 pub use rule::Rule;

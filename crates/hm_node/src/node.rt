@@ -1,6 +1,6 @@
 // Nodes as pages.
-ghost use Rattle.std.specs.Prelude.{◌≡◌, ℕ, List, Ok, IfOk, IfErr};
-ghost use Rattle.hm_node.specs.Node.{IsNode, Spells};
+ghost use Rattle.std.specs.Prelude.{◌≡◌, Ok, IfOk, IfErr, IfSome, IfNone};
+ghost use Rattle.hm_node.specs.Node.{node_in, IsNode, Spells};
 ghost use Rattle.hm_node.specs.Damage.{IsDamage, IsFirstBroken};
 ghost use Rattle.hm_node.specs.declared.node.Node.{Node};
 
@@ -28,12 +28,40 @@ pub fn decode(at: HOff, page: &Page) -> Result<Node, Fault>
     // Else the first broken rule is told.
     ensures err { IfErr result (λ fault. IsDamage at page.now fault) }
 {
-    match read(page) {
-        Ok(node) => Ok(node),
-        Err(rule) => Err(Fault::Damaged {
+    match broken_rule(page) {
+        None => Ok(node_of(page)),
+        Some(rule) => Err(Fault::Damaged {
             at,
             kind: rule.kind(),
         }),
+    }
+}
+
+/// The first rule that a page breaks by itself, and None where it spells the node in it. It builds no
+/// node.
+pub fn broken_rule(page: &Page) -> Option<Rule>
+    ensures none { IfNone result (IsNode (node_in page.now) × Spells page.now (node_in page.now)) }
+    ensures some { IfSome result (λ rule. IsFirstBroken page.now rule) }
+{
+    let head = Head::read(page);
+    match head.kind {
+        LEAF if head.level == LEAF_LEVEL => Leaf::broken_rule(page, &head),
+        INNER => Inner::broken_rule(page, &head),
+        _ => Some(Rule::Level),
+    }
+}
+
+/// The node in a page that breaks no rule. Nothing is checked.
+pub fn node_of(page: &Page) -> Node
+    requires sound { IsNode (node_in page.now) }
+    requires spelled { Spells page.now (node_in page.now) }
+    ensures { result ≡ node_in page.now }
+{
+    let head = Head::read(page);
+    if head.kind == LEAF {
+        Node::Leaf(Leaf::read(page, &head))
+    } else {
+        Node::Inner(Inner::read(page, &head))
     }
 }
 
@@ -44,18 +72,5 @@ pub fn encode(node: &Node, page: &mut Page)
     match node {
         Node::Leaf(leaf) => leaf.write(page),
         Node::Inner(inner) => inner.write(page),
-    }
-}
-
-// The node in a page, or the first rule that it breaks.
-fn read(page: &Page) -> Result<Node, Rule>
-    ensures ok { IfOk result (λ node. IsNode node × Spells page.now node) }
-    ensures err { IfErr result (λ rule. IsFirstBroken page.now rule) }
-{
-    let head = Head::read(page);
-    match head.kind {
-        LEAF if head.level == LEAF_LEVEL => Ok(Node::Leaf(Leaf::read(page, &head)?)),
-        INNER => Ok(Node::Inner(Inner::read(page, &head)?)),
-        _ => Err(Rule::Level),
     }
 }

@@ -42,12 +42,9 @@ first_none key (x ∷ xs) ys none = by_test (stands_before key x) none (first_no
   by_test false none more = absurd cc
 
 -- a front that is not before the key
-pub first_at_front : (key : Key) (e : Element) (xs ys : List Element) → slice_get xs 0 ≡ Some e → IsFrom key (element_key e) → first_from key (xs ++ ys) ≡ Some e
-first_at_front key e [] ys front from = absurd cc
-first_at_front key e (x ∷ xs) ys front from =
-    let same : x ≡ e = cc in
-    let here : stands_before key x ≡ false = ap (λ (y : Element). stands_before key y) same ∙ from_not (element_key e) key from in
-    rw here (ap Some same)
+pub first_of_some : (key : Key) (xs ys : List Element) → 1 ≤ length xs → AllByRecursion (λ e. IsFrom key (element_key e)) xs → first_from key (xs ++ ys) ≡ first_from key xs
+first_of_some key [] ys some from = absurd (omega arith)
+first_of_some key (x ∷ xs) ys some from = let here : stands_before key x ≡ false = from_not (element_key x) key from.0 in rw here refl
 
 -- what is left of a list from a place on
 pub drop_get : {A : Type 0} (xs : List A) (n : ℕ) (x : A) → slice_get xs n ≡ Some x → drop n xs ≡ x ∷ drop (suc n) xs

@@ -6,6 +6,7 @@ pub mod FirstLemmas
 pub mod FrameLemmas
 pub mod LawLemmas
 pub mod ListLemmas
+pub mod LookLemmas
 pub mod MarkLemmas
 pub mod OrderLemmas
 pub mod PageLemmas

@@ -1,23 +1,31 @@
 -- What the head of a page and the bases in its places say of the node in it.
-use Rattle.std.proofs.Common.{◌≡◌, ◌≢◌, false, ℕ, zero, suc, ◌<◌, ◌≤◌, List, [], ◌∷◌, ◌++◌, length, refl, sym, ap, subst, ◌∙◌, ◌↔◌, arith, ne_eqb}
-use Rattle.std.specs.Prelude.{All, Some, nat_eq}
-use Rattle.hm_key.specs.Key.{key_of}
-use Rattle.hm_key.specs.Elements.{element_key}
+use Rattle.std.proofs.Common.{◌≡◌, ◌≢◌, false, ℕ, zero, suc, ◌-◌, ◌<◌, ◌≤◌, inl, inr, List, [], ◌∷◌, ◌++◌, length, refl, sym, ap, subst, ◌∙◌, ◌↔◌, arith, ne_eqb}
+use Rattle.std.specs.Prelude.{All, Some, nat_eq, slice_index_or}
+use Rattle.std.specs.List.Sorted.{IsStrictlySortedBy}
+use Rattle.std.specs.declared.cmp.Ordering.TheVariants.{Less}
+use Rattle.std.proofs.lemmas.Bool.{cases_lt}
+use Rattle.hm_types.specs.Elements.{Key}
+use Rattle.hm_key.specs.Key.{key_of, IsBefore, IsFrom}
+use Rattle.hm_key.specs.Elements.{element_key, element_cmp}
 use Rattle.hm_key.specs.declared.base.Base.{Base}
+use Rattle.hm_key.specs.declared.element.Element.{Element}
+use Rattle.hm_key.proofs.KeyLemmas.{key_from_before, key_before_from}
 use Rattle.hm_node.specs.Base.{base_in}
 use Rattle.hm_node.specs.Head.{head_in}
 use Rattle.hm_node.specs.Places.{place, first}
 use Rattle.hm_node.specs.Leaf.{elements_in, element_in, leaf_in}
 use Rattle.hm_node.specs.Inner.{children_in, child_in, inner_in}
-use Rattle.hm_node.specs.Node.{node_in, HasCount}
+use Rattle.hm_node.specs.Node.{node_in, HasCount, HasOrder}
 use Rattle.hm_node.specs.declared.head.Head.{Head}
 use Rattle.hm_node.specs.declared.head.TheConstants.{LEAF}
 use Rattle.hm_node.specs.declared.inner.Child.{Child}
 use Rattle.hm_node.specs.declared.node.Node.{Node}
 use Rattle.hm_node.specs.declared.node.Node.TheVariants.{Leaf as leaf_node, Inner as inner_node}
-use Rattle.hm_node.proofs.PlaceLemmas.{first_length, first_all, all_first}
+use Rattle.hm_node.proofs.PlaceLemmas.{first_length, first_at, first_all, all_first}
 use Rattle.hm_search.specs.Place.{FitsCount, FitsBounds, BeginsAt, IsInside}
 use Rattle.hm_search.specs.declared.subtree.Parent.{Parent}
+use Rattle.hm_search.proofs.ListLemmas.{sorted_pair}
+use Rattle.hm_search.proofs.OrderLemmas.{from_trans}
 
 -- the node in a page, by the kind in its head
 pub leaf_here : (page : List ℕ) (head : Head) → head ≡ head_in page → head.kind ≡ LEAF → node_in page ≡ leaf_node (leaf_in page)
@@ -64,6 +72,42 @@ inside_places left right page n each = first_all (λ i. element_in page (place i
 pub places_inside : (left right : Base) (page : List ℕ) (n : ℕ) → All (λ e. IsInside left right (element_key e)) (elements_in page n) → (k : ℕ) → k < n → IsInside left right (key_of (base_in page (place k)))
 unfolding element_in
 places_inside left right page n all = all_first (λ i. element_in page (place i)) (λ e. IsInside left right (element_key e)) n all
+
+-- of elements in order, a later one stands after an earlier one
+in_order : (page : List ℕ) (n i j : ℕ) → IsStrictlySortedBy element_cmp (elements_in page n) → i < j → j < n → IsBefore (key_of (base_in page (place i))) (key_of (base_in page (place j)))
+unfolding element_in
+in_order page n i j sorted low high =
+    let f = λ (k : ℕ). element_in page (place k) in
+    let d = f 0 in
+    let pair = sorted_pair element_cmp (elements_in page n) i j d sorted low (omega (arith, first_length f n)) in
+    subst (λ (x : Element). element_cmp x (f j) ≡ Less) (first_at f n i d (omega arith))
+    (subst (λ (y : Element). element_cmp (slice_index_or (elements_in page n) i d) y ≡ Less) (first_at f n j d high) pair)
+
+-- they lie inside boundaries where the first and the last do
+pub ends_inside : (left right : Base) (page : List ℕ) (n : ℕ) → 1 ≤ n → IsStrictlySortedBy element_cmp (elements_in page n)
+    → IsInside left right (key_of (base_in page (place 0))) → IsInside left right (key_of (base_in page (place (n - 1)))) → All (λ e. IsInside left right (element_key e)) (elements_in page n)
+ends_inside left right page n some sorted front last = inside_places left right page n each where
+  key_at : ℕ → Key
+  key_at k = key_of (base_in page (place k))
+
+  from : (k : ℕ) → k < n → IsFrom (key_of left) (key_at k)
+  from zero low = front.from
+  from (suc k) low = from_trans (key_of left) (key_at 0) (key_at (suc k)) front.from (key_from_before (key_at 0) (key_at (suc k)) (in_order page n 0 (suc k) sorted (omega arith) low))
+
+  before : (k : ℕ) → k < n → IsBefore (key_at k) (key_of right)
+  before k low =
+      elim (cases_lt k (n - 1)) [
+        | inl earlier ↦ key_before_from (key_at k) (key_at (n - 1)) (key_of right) (in_order page n k (n - 1) sorted earlier (omega arith)) (key_from_before (key_at (n - 1)) (key_of right) last.before)
+        | inr end ↦ let is : k ≡ n - 1 = omega arith in subst (λ (i : ℕ). IsBefore (key_at i) (key_of right)) (sym is) last.before
+      ]
+
+  each : (k : ℕ) → k < n → IsInside left right (key_at k)
+  each k low = record { from = from k low; before = before k low }
+
+-- the order of the elements of a leaf
+pub leaf_order : (page : List ℕ) (head : Head) (n : ℕ) → head ≡ head_in page → head.kind ≡ LEAF → n ≡ head.count → HasOrder (node_in page) → IsStrictlySortedBy element_cmp (elements_in page n)
+leaf_order page head n is kind count order =
+    subst (λ (k : ℕ). IsStrictlySortedBy element_cmp (elements_in page k)) (sym (count ∙ count_here page head is)) (subst HasOrder (leaf_here page head is kind) order)
 
 -- the first of so many children begins where the first base in the page does
 begins_first : (left : Base) (page : List ℕ) (n : ℕ) → 1 ≤ n → (key_of (base_in page (place 0)) ≡ key_of left) ↔ BeginsAt left (children_in page n)

@@ -1,11 +1,9 @@
 -- What a search finds below a node, from what it finds below the child that holds the key.
-use Rattle.std.proofs.Common.{◌≡◌, ◌≢◌, Bool, true, false, ℕ, zero, suc, ◌+◌, ◌<◌, ◌≤◌, List, [], ◌∷◌, ◌++◌, length, drop, refl, sym, ap, subst, ◌∙◌, arith, if◌then◌else◌, Fits as InRange, w8, w64, Bor}
+use Rattle.std.proofs.Common.{◌≡◌, ◌≢◌, Bool, true, false, ℕ, zero, suc, ◌+◌, ◌<◌, ◌≤◌, List, [], ◌∷◌, ◌++◌, length, drop, refl, sym, ap, subst, ◌∙◌, arith, if◌then◌else◌}
 use Rattle.std.specs.Prelude.{Option, Some, None, Result, Ok, Err, IfSome, IfOk, slice_get}
 use Rattle.std.specs.List.{AllByRecursion, flat_map}
 use Rattle.std.specs.List.Sorted.{IsStrictlySortedBy}
 use Rattle.std.specs.Ordering.{is_lt}
-use Rattle.std.specs.Option.{option_copied}
-use Rattle.std.specs.Slice.{IsItemAt}
 use Rattle.std.proofs.lemmas.List.Elements.{All-from_recursion, recursion_from_All}
 use Rattle.std.proofs.lemmas.Result.{IfOk-weaker}
 use Rattle.hm_types.specs.Elements.{Key}
@@ -14,13 +12,11 @@ use Rattle.hm_fields.specs.Pages.{PageMap, page_in}
 use Rattle.hm_key.specs.Key.{key_of, IsBefore, IsFrom}
 use Rattle.hm_key.specs.Element.{IsElement}
 use Rattle.hm_key.specs.Elements.{element_key, first_from}
-use Rattle.hm_key.specs.Places.{leading}
 use Rattle.hm_key.specs.Stores.{IsFound, IsQuiet}
 use Rattle.hm_key.specs.declared.base.Base.{Base}
 use Rattle.hm_key.specs.declared.element.Element.{Element}
 use Rattle.hm_key.proofs.KeyLemmas.{key_before_from, key_from_before, key_not_before}
 use Rattle.hm_key.proofs.MemoryLemmas.{found_from}
-use Rattle.hm_key.proofs.PlaceLemmas.{leading_most, first_from-leading, got}
 use Rattle.hm_node.specs.Base.{base_cmp}
 use Rattle.hm_node.specs.Inner.{IsBound, IsChild, HasInnerFields}
 use Rattle.hm_node.specs.Leaf.{IsPlaced}
@@ -31,15 +27,15 @@ use Rattle.hm_node.specs.declared.leaf.Leaf.{Leaf}
 use Rattle.hm_node.specs.declared.node.Node.{Node}
 use Rattle.hm_node.specs.declared.node.Node.TheVariants.{Leaf as leaf_node, Inner as inner_node}
 use Rattle.hm_search.specs.Descent.{levels_below}
-use Rattle.hm_search.specs.Place.{Fits, FitsBounds, SpellsHere, mirror_of}
+use Rattle.hm_search.specs.Place.{Fits, FitsBounds, IsInside, SpellsHere, mirror_of}
 use Rattle.hm_search.specs.Search.{begun, holder_place, IsPlaceOf, IsEndBy}
 use Rattle.hm_search.specs.Tree.{node_at, elements_in, mark_in, leaf_in, starts_after, holder, at_holder, next_left, children_of, IsTree, IsStoredTree}
 use Rattle.hm_search.specs.declared.search.Found.{Found}
 use Rattle.hm_search.specs.declared.subtree.Subtree.{Subtree}
 use Rattle.hm_search.proofs.ChildLemmas.{bounds, later_sorted, next_by_right, place_is, at_holder_is, holder_place_within, holder_later}
-use Rattle.hm_search.proofs.ContentLemmas.{AreInside, elements_inside}
+use Rattle.hm_search.proofs.ContentLemmas.{AreInside, elements_inside, elements_some}
 use Rattle.hm_search.proofs.DescentLemmas.{child_lower, child_stored, IsStoredBelow}
-use Rattle.hm_search.proofs.FirstLemmas.{first_found, first_none, first_at_front, drop_get, drop_past, holder_next, first_from_holder}
+use Rattle.hm_search.proofs.FirstLemmas.{first_found, first_none, first_of_some, drop_get, drop_past, holder_next, first_from_holder}
 use Rattle.hm_search.proofs.ListLemmas.{each_so}
 use Rattle.hm_search.proofs.MarkLemmas.{mark_most}
 use Rattle.hm_search.proofs.OrderLemmas.{before_is, from_is, from_trans}
@@ -50,32 +46,12 @@ place_within node inner key place sound is at =
     let count = subst HasCount is sound.count in
     omega (arith, at, holder_place_within key inner.places.items count.0)
 
--- a place in a leaf is a small number
-pub leaf_place_small : (node : Node) (leaf : Leaf) (key : Key) (place : ℕ) → IsNode node → node ≡ leaf_node leaf → place ≡ leading key leaf.places.items → InRange w8 place
-leaf_place_small node leaf key place sound is at =
-    let few : length leaf.places.items ≤ 63 = subst HasCount is sound.count in
-    let most = leading_most key leaf.places.items in
-    omega (arith, at, few, most)
-
--- the place after that of the child that holds a key is one too
-pub next_place_small : (node : Node) (inner : Inner) (key : Key) (place : ℕ) → IsNode node → node ≡ inner_node inner → place ≡ holder_place key inner.places.items → InRange w64 (place + 1)
-next_place_small node inner key place sound is at =
-    let count = subst HasCount is sound.count in
-    let most : length inner.places.items ≤ 62 = count.1 in
-    let low = place_within node inner key place sound is at in
-    omega arith
-
 -- a child has a parent
 pub child_has_parent : (inner : Inner) (i : ℕ) (child : Subtree) → slice_get (children_of inner) i ≡ Some child → child.parent ≢ None
 child_has_parent inner i child get none =
     let here = place_is inner.level inner.right inner.places.items i child get in
     let parent : child.parent ≡ Some (record { level = inner.level; mirror = here.child.mirror }) = ap (λ (t : Subtree). t.parent) here.place in
     absurd cc
-
--- what a leaf has at the place of a key
-pub leaf_first : (lent : Option (Bor Element)) (xs : List Element) (i : ℕ) (leaf : Leaf) (key : Key) → IsItemAt xs i lent → xs ≡ leaf.places.items → i ≡ leading key leaf.places.items → option_copied lent ≡ first_from key leaf.places.items
-leaf_first lent xs i leaf key item same at =
-    got lent xs i item ∙ ap (λ (ys : List Element). slice_get ys i) same ∙ ap (slice_get leaf.places.items) at ∙ sym (first_from-leading key leaf.places.items)
 
 -- a child that was read has fewer levels below it
 pub lower_at : (s : Subtree) (node : Node) (inner : Inner) (i : ℕ) (child : Subtree) → IsNode node → Fits s node → node ≡ inner_node inner → slice_get (children_of inner) i ≡ Some child → levels_below child < levels_below s
@@ -193,68 +169,40 @@ next_after inner key place next at get =
     subst (λ (t : Subtree). IsBefore key (key_of t.left)) (sym here.place)
     (holder_next key inner.places.items here.child (subst (λ (n : ℕ). slice_get inner.places.items n ≡ Some here.child) after here.is))
 
--- Where it has none, the first element of the next child is the first.
-pub first_next_told : (told now later : Option PageMap) (s child next : Subtree) (key : Key) (node : Node) (inner : Inner) (place : ℕ) (found : Option Element) (e : Element) → now ≡ told → later ≡ told → node ≡ inner_node inner
+-- Where it has none, the first element from the key on below the next child is the first.
+pub first_next_told : (told now later : Option PageMap) (s child next : Subtree) (key : Key) (node : Node) (inner : Inner) (place : ℕ) (found : Option Element) (r : Result (Option Element) Fault) → now ≡ told → later ≡ told → node ≡ inner_node inner
     → IfSome told (λ map. SpellsHere s (page_in (map s.at)) node) → place ≡ holder_place key inner.places.items → slice_get (children_of inner) place ≡ Some child → found ≡ None
-    → slice_get (children_of inner) (place + 1) ≡ Some next → IsFound (key_of next.left) e
+    → slice_get (children_of inner) (place + 1) ≡ Some next
     → IfSome now (λ map. (height : ℕ) → IsStoredTree map height child → found ≡ first_from key (elements_in map height (node_at map child.at)))
-    → IfSome later (λ map. (height : ℕ) → IsStoredTree map height next → slice_get (elements_in map height (node_at map next.at)) 0 ≡ Some e)
-    → IfSome told (λ map. (height : ℕ) → IsStoredTree map height s → Some e ≡ first_from key (elements_in map height (node_at map s.at)))
-first_next_told None now later s child next key node inner place found e same same' is here at get none get' first clause clause' = tt
-first_next_told (Some map) now later s child next key node inner place found e same same' is here at get none get' first clause clause' = λ height stored.
+    → IfSome later (λ map. (height : ℕ) → IsStoredTree map height next → IfOk r (λ first. first ≡ first_from key (elements_in map height (node_at map next.at))))
+    → IfSome told (λ map. (height : ℕ) → IsStoredTree map height s → IfOk r (λ first. first ≡ first_from key (elements_in map height (node_at map s.at))))
+first_next_told None now later s child next key node inner place found r same same' is here at get none get' clause clause' = tt
+first_next_told (Some map) now later s child next key node inner place found r same same' is here at get none get' clause clause' = λ height stored.
     let told = subst (λ (o : Option PageMap). IfSome o (λ m. (h : ℕ) → IsStoredTree m h child → found ≡ first_from key (elements_in m h (node_at m child.at)))) same clause in
-    let told' = subst (λ (o : Option PageMap). IfSome o (λ m. (h : ℕ) → IsStoredTree m h next → slice_get (elements_in m h (node_at m next.at)) 0 ≡ Some e)) same' clause' in
+    let told' = subst (λ (o : Option PageMap). IfSome o (λ m. (h : ℕ) → IsStoredTree m h next → IfOk r (λ first. first ≡ first_from key (elements_in m h (node_at m next.at))))) same' clause' in
     let read = here.spelled.value ∙ is in
     let below = child_stored map height s inner place child stored read get in
     let beside = child_stored map height s inner (place + 1) next stored read get' in
     let level : beside.lower ≡ below.lower = omega (arith, below.is, beside.is) in
+    let tree = subst (λ (h : ℕ). IsStoredTree map h next) level beside.stored in
     let there = place_is inner.level inner.right inner.places.items (place + 1) next get' in
     let after : place + 1 ≡ suc place = omega arith in
     let rest : drop (suc place) inner.places.items ≡ there.child ∷ drop (suc (suc place)) inner.places.items =
     drop_get inner.places.items (suc place) there.child (subst (λ (n : ℕ). slice_get inner.places.items n ≡ Some there.child) after there.is) in
-    let els = λ (h : ℕ). elements_in map h (node_at map next.at) in
-    let front : slice_get (elements_in map below.lower (node_at map there.child.child)) 0 ≡ Some e =
-    subst (λ (t : Subtree). slice_get (elements_in map below.lower (node_at map t.at)) 0 ≡ Some e) there.place
-    (subst (λ (h : ℕ). slice_get (elements_in map h (node_at map next.at)) 0 ≡ Some e) level (told' beside.lower beside.stored)) in
-    let from : IsFrom key (element_key e) = from_trans key (key_of next.left) (element_key e) (key_from_before key (key_of next.left) (next_after inner key place next at get')) first.place in
-    sym (first_up map height below.lower s child inner key place below.is read below.tree at get
+    let els = elements_in map below.lower (node_at map next.at) in
+    let others = flat_map (λ (c : Child). elements_in map below.lower (node_at map c.child)) (drop (suc (suc place)) inner.places.items) in
+    let some : 1 ≤ length els = elements_some map below.lower next (node_at map next.at) (child_has_parent inner (place + 1) next get') tree.tree in
+    let from = each_so (λ e. IsInside next.left next.right (element_key e)) (λ e. IsFrom key (element_key e)) els
+    (λ e inside. from_trans key (key_of next.left) (element_key e) (key_from_before key (key_of next.left) (next_after inner key place next at get')) inside.from)
+    (elements_inside map below.lower next (node_at map next.at) tree.tree) in
+    let whole = first_up map height below.lower s child inner key place below.is read below.tree at get
     ∙ first_none key (elements_in map below.lower (node_at map child.at)) (flat_map (λ (c : Child). elements_in map below.lower (node_at map c.child)) (drop (suc place) inner.places.items))
     (sym (told below.lower below.stored) ∙ none)
     ∙ ap (λ (cs : List Child). first_from key (flat_map (λ (c : Child). elements_in map below.lower (node_at map c.child)) cs)) rest
-    ∙ first_at_front key e (elements_in map below.lower (node_at map there.child.child)) (flat_map (λ (c : Child). elements_in map below.lower (node_at map c.child)) (drop (suc (suc place)) inner.places.items)) front from)
-
-pub found_next : (inner : Inner) (key : Key) (place : ℕ) (next : Subtree) (e : Element) → place ≡ holder_place key inner.places.items → slice_get (children_of inner) (place + 1) ≡ Some next → IsFound (key_of next.left) e → IsFound key e
-found_next inner key place next e at get first = record {
-  element = first.element;
-  place = from_trans key (key_of next.left) (element_key e) (key_from_before key (key_of next.left) (next_after inner key place next at get)) first.place;
-}
-
--- the first element of a node's first child
-pub front_told : (told now : Option PageMap) (s child : Subtree) (node : Node) (inner : Inner) (r : Result Element Fault) → now ≡ told → node ≡ inner_node inner
-    → IfSome told (λ map. SpellsHere s (page_in (map s.at)) node) → slice_get (children_of inner) 0 ≡ Some child
-    → IfSome now (λ map. (height : ℕ) → IsStoredTree map height child → IfOk r (λ e. slice_get (elements_in map height (node_at map child.at)) 0 ≡ Some e))
-    → IfSome told (λ map. (height : ℕ) → IsStoredTree map height s → IfOk r (λ e. slice_get (elements_in map height (node_at map s.at)) 0 ≡ Some e))
-front_told None now s child node inner r same is here get clause = tt
-front_told (Some map) now s child node inner r same is here get clause = λ height stored.
-    let told = subst (λ (o : Option PageMap). IfSome o (λ m. (h : ℕ) → IsStoredTree m h child → IfOk r (λ e. slice_get (elements_in m h (node_at m child.at)) 0 ≡ Some e))) same clause in
-    let read = here.spelled.value ∙ is in
-    let below = child_stored map height s inner 0 child stored read get in
-    let first = place_is inner.level inner.right inner.places.items 0 child get in
-    IfOk-weaker r (λ e. slice_get (elements_in map below.lower (node_at map child.at)) 0 ≡ Some e) (λ e. slice_get (elements_in map height (node_at map s.at)) 0 ≡ Some e)
-    (λ e front. ap (λ (es : List Element). slice_get es 0) (elements_up map height below.lower s inner below.is read)
-    ∙ front_of below.lower inner.places.items first.child e first.is (subst (λ (t : Subtree). slice_get (elements_in map below.lower (node_at map t.at)) 0 ≡ Some e) first.place front))
-    (told below.lower below.stored) where
-      front_append : (xs ys : List Element) (e : Element) → slice_get xs 0 ≡ Some e → slice_get (xs ++ ys) 0 ≡ Some e
-      front_append [] ys e front = absurd cc
-      front_append (x ∷ xs) ys e front = front
-
-      front_of : (lower : ℕ) (cs : List Child) (c : Child) (e : Element) → slice_get cs 0 ≡ Some c → slice_get (elements_in map lower (node_at map c.child)) 0 ≡ Some e
-          → slice_get (flat_map (λ (d : Child). elements_in map lower (node_at map d.child)) cs) 0 ≡ Some e
-      front_of lower [] c e get front = absurd cc
-      front_of lower (d ∷ cs) c e get front =
-          let same : d ≡ c = cc in
-          front_append (elements_in map lower (node_at map d.child)) (flat_map (λ (x : Child). elements_in map lower (node_at map x.child)) cs) e
-          (subst (λ (x : Child). slice_get (elements_in map lower (node_at map x.child)) 0 ≡ Some e) (sym same) front)
+    ∙ ap (λ (t : Subtree). first_from key (elements_in map below.lower (node_at map t.at) ++ others)) (sym there.place)
+    ∙ first_of_some key els others some from in
+    IfOk-weaker r (λ first. first ≡ first_from key els) (λ first. first ≡ first_from key (elements_in map height (node_at map s.at)))
+    (λ first is_first. is_first ∙ sym whole) (told' below.lower tree)
 
 -- A node whose `mirror` is low enough is quiet as a whole.
 pub quiet_told : (told : Option PageMap) (s : Subtree) (at : Key) (since : ℕ) (node : Node) (right : Base) → mirror_of node ≤ since → IfSome told (λ map. SpellsHere s (page_in (map s.at)) node)

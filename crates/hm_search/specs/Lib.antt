@@ -1,4 +1,5 @@
 pub mod Descent
+pub mod Look
 pub mod Place
 pub mod Props
 pub mod Reach

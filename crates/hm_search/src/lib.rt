@@ -3,6 +3,7 @@
 #![tactic(auto)]
 
 mod laws;
+mod look;
 mod place_rule;
 mod places;
 mod read;

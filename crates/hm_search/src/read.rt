@@ -1,15 +1,15 @@
 // Reads nodes, and checks them where they stand.
-ghost use Rattle.std.specs.Prelude.{◌≡◌, ℕ, Option, IfSome, IfOk, IfErr};
+ghost use Rattle.std.specs.Prelude.{◌≡◌, IfSome, IfNone, IfOk, IfErr};
 ghost use Rattle.hm_types.specs.Faults.{HasFaultCause};
 ghost use Rattle.hm_types.specs.declared.fault.Fault.TheVariants.{Damaged};
 ghost use Rattle.hm_fields.specs.Pages.{page_in};
-ghost use Rattle.hm_node.specs.Node.{IsNode};
+ghost use Rattle.hm_node.specs.Node.{node_in, IsNode};
 ghost use Rattle.hm_search.specs.Descent.{Reads};
-ghost use Rattle.hm_search.specs.Place.{Fits, SpellsHere, TellsDamage};
+ghost use Rattle.hm_search.specs.Place.{Fits, SpellsHere, IsLowestBroken, TellsDamage};
 
 use crate::subtree::Subtree;
 use hm_fields::{Page, Pages};
-use hm_node::{Node, decode};
+use hm_node::{Node, broken_rule, node_of};
 use hm_types::{Counted, Fault};
 
 // Above the number of each rule.
@@ -31,26 +31,45 @@ pub fn read_node<P: Pages>(pages: &mut P, subtree: &Subtree) -> Result<Node, Fau
     ensures cause { HasFaultCause (P.faults pages.old) (P.faults pages.new) result }
 {
     let mut page = Page::zero();
-    pages.page(subtree.at, &mut page)?;
-    decode_at(subtree, &page)
+    read_page(pages, subtree, &mut page)?;
+    Ok(node_of(&page))
 }
 
-// The node in a page, if it is sound where it stands.
-fn decode_at(subtree: &Subtree, page: &Page) -> Result<Node, Fault>
-    ensures ok { IfOk result (SpellsHere subtree.now page.now) }
-    ensures err { IfErr result (TellsDamage subtree.now page.now) }
-    ensures cause { (count : ℕ) → HasFaultCause count count result }
+// Reads the page of a node and checks it where it stands. It builds no node.
+pub(crate) fn read_page<P: Pages>(
+    pages: &mut P,
+    subtree: &Subtree,
+    page: &mut Page,
+) -> Result<(), Fault>
+    ensures sound { IfOk result (λ _. SpellsHere subtree.now page.new (node_in page.new)) }
+    ensures there { IfSome (P.pages pages.old) (λ map.
+        IfOk result (λ _. page.new ≡ page_in (map subtree.now.at))) }
+    ensures damage { IfSome (P.pages pages.old) (λ map.
+        IfErr result (TellsDamage subtree.now (page_in (map subtree.now.at)))) }
+    ensures same { Reads P.name P.rest P.pages pages.old pages.new }
+    ensures cause { HasFaultCause (P.faults pages.old) (P.faults pages.new) result }
 {
-    match decode(subtree.at, page) {
-        Ok(node) => match subtree.first_broken(page, ALL_RULES) {
-            None => Ok(node),
-            Some(rule) => Err(damage(subtree, rule.kind())),
+    pages.page(subtree.at, page)?;
+    match lowest_broken(subtree, page) {
+        None => Ok(()),
+        Some(kind) => Err(damage(subtree, kind)),
+    }
+}
+
+// The lowest number of a rule that a page breaks where it stands.
+fn lowest_broken(subtree: &Subtree, page: &Page) -> Option<u8>
+    ensures none { IfNone result (SpellsHere subtree.now page.now (node_in page.now)) }
+    ensures some { IfSome result (IsLowestBroken subtree.now page.now) }
+{
+    match broken_rule(page) {
+        None => match subtree.first_broken(page, ALL_RULES) {
+            None => None,
+            Some(rule) => Some(rule.kind()),
         },
-        Err(Fault::Damaged { kind, .. }) => match subtree.first_broken(page, kind) {
-            None => Err(damage(subtree, kind)),
-            Some(rule) => Err(damage(subtree, rule.kind())),
+        Some(own) => match subtree.first_broken(page, own.kind()) {
+            None => Some(own.kind()),
+            Some(rule) => Some(rule.kind()),
         },
-        Err(fault) => Err(fault),
     }
 }
 

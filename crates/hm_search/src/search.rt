@@ -1,21 +1,19 @@
 // Searches from the root of the tree down.
-ghost use Rattle.std.specs.Prelude.{◌≡◌, ◌≢◌, ◌<◌, ℕ, None, Some, Option, IfSome, IfOk, IfErr, slice_get};
+ghost use Rattle.std.specs.Prelude.{◌≡◌, ℕ, IfSome, IfOk};
 ghost use Rattle.hm_key.specs.Elements.{first_from};
 ghost use Rattle.hm_key.specs.Key.{key_of, greatest_key, IsBefore};
 ghost use Rattle.hm_key.specs.Stores.{IsFound, IsEnd, IsQuiet};
 ghost use Rattle.hm_node.specs.Inner.{IsBound};
 ghost use Rattle.hm_search.specs.Descent.{HasSearchCause, Reads};
-ghost use Rattle.hm_search.specs.Place.{mirror_of};
+ghost use Rattle.hm_search.specs.Look.{seen_mirror};
 ghost use Rattle.hm_search.specs.Search.{IsPlaceOf, IsEndBy};
 ghost use Rattle.hm_search.specs.Tree.{node_at, elements_in, elements_of, mark_in, mark_of};
 ghost use Rattle.hm_search.specs.Tree.{height_of, root_place, IsStoredTree, IsSoundTree};
 
-use crate::places::{child_place, leaf_place};
-use crate::read::read_node;
+use crate::look::{Seen, look_for};
 use crate::subtree::Subtree;
 use hm_fields::Pages;
 use hm_key::{Base, Element};
-use hm_node::{Inner, Node};
 use hm_types::{Counted, Fault, HOff, Id};
 
 /// The place of a key: its leaf, and how many elements of the leaf stand before it.
@@ -85,15 +83,12 @@ fn find_below<P: Pages>(pages: &mut P, subtree: &Subtree, at: &Base) -> Result<F
     ensures cause { HasSearchCause (P.pages pages.old) subtree.now
         (P.faults pages.old) (P.faults pages.new) result }
 {
-    match read_node(pages, subtree)? {
-        Node::Leaf(leaf) => Ok(Found {
+    match look_for(pages, subtree, at)? {
+        Seen::Leaf(leaf) => Ok(Found {
             leaf: subtree.at,
-            place: leaf_place(&leaf, at) as u8,
+            place: leaf.place,
         }),
-        Node::Inner(inner) => {
-            let child = Subtree::child(&inner, child_place(&inner, at));
-            find_below(pages, &child, at)
-        }
+        Seen::Inner(inner) => find_below(pages, &inner.child, at),
     }
 }
 
@@ -111,37 +106,15 @@ fn first_below<P: Pages>(
     ensures cause { HasSearchCause (P.pages pages.old) subtree.now
         (P.faults pages.old) (P.faults pages.new) result }
 {
-    match read_node(pages, subtree)? {
-        Node::Leaf(leaf) => Ok(leaf.places.get(leaf_place(&leaf, at)).copied()),
-        Node::Inner(inner) => {
-            let place = child_place(&inner, at);
-            let child = Subtree::child(&inner, place);
-            match first_below(pages, &child, at)? {
-                Some(found) => Ok(Some(found)),
-                None if place + 1 < inner.places.len() => {
-                    let next = Subtree::child(&inner, place + 1);
-                    Ok(Some(first_of(pages, &next)?))
-                }
+    match look_for(pages, subtree, at)? {
+        Seen::Leaf(leaf) => Ok(leaf.first),
+        Seen::Inner(inner) => match first_below(pages, &inner.child, at)? {
+            Some(found) => Ok(Some(found)),
+            None => match inner.next {
+                Some(next) => first_below(pages, &next, at),
                 None => Ok(None),
-            }
-        }
-    }
-}
-
-// The first element below a place that is not the root's.
-fn first_of<P: Pages>(pages: &mut P, subtree: &Subtree) -> Result<Element, Fault>
-    requires below { subtree.now.parent ≢ None }
-    ensures ok { IfSome (P.pages pages.old) (λ map. (height : ℕ) →
-        IsStoredTree map height subtree.now → IfOk result (λ found.
-        slice_get (elements_in map height (node_at map subtree.now.at)) 0 ≡ Some found)) }
-    ensures found { IfOk result (IsFound (key_of subtree.now.left)) }
-    ensures same { Reads P.name P.rest P.pages pages.old pages.new }
-    ensures cause { HasSearchCause (P.pages pages.old) subtree.now
-        (P.faults pages.old) (P.faults pages.new) result }
-{
-    match read_node(pages, subtree)? {
-        Node::Leaf(leaf) => Ok(leaf.places[0]),
-        Node::Inner(inner) => first_of(pages, &Subtree::child(&inner, 0)),
+            },
+        },
     }
 }
 
@@ -162,25 +135,22 @@ fn quiet_below<P: Pages>(
     ensures cause { HasSearchCause (P.pages pages.old) subtree.now
         (P.faults pages.old) (P.faults pages.new) result }
 {
-    let node = read_node(pages, subtree)?;
-    if mirror(&node) <= since.0 {
+    let seen = look_for(pages, subtree, at)?;
+    if mirror(&seen) <= since.0 {
         return Ok(Some(subtree.right));
     }
-    match node {
-        Node::Leaf(_) => Ok(None),
-        Node::Inner(inner) => {
-            let child = Subtree::child(&inner, child_place(&inner, at));
-            quiet_below(pages, &child, at, since)
-        }
+    match seen {
+        Seen::Leaf(_) => Ok(None),
+        Seen::Inner(inner) => quiet_below(pages, &inner.child, at, since),
     }
 }
 
-// The `mirror` of a node.
-fn mirror(node: &Node) -> u64
-    ensures { result ≡ mirror_of node.now }
+// The `mirror` of the node that was looked at.
+fn mirror(seen: &Seen) -> u64
+    ensures { result ≡ seen_mirror seen.now }
 {
-    match node {
-        Node::Leaf(leaf) => leaf.mirror,
-        Node::Inner(inner) => inner.mirror,
+    match seen {
+        Seen::Leaf(leaf) => leaf.mirror,
+        Seen::Inner(inner) => inner.mirror,
     }
 }

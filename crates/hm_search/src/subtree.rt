@@ -1,13 +1,14 @@
 // Where a node stands in the tree, and what that asks of its page.
 ghost use Rattle.std.specs.Prelude.{◌≡◌, ◌≤◌, ◌<◌, ◌+◌, ◌↔◌, ℕ, All, IfSome, IfNone, IsTrue, slice_get, drop, Some};
+ghost use Rattle.std.specs.List.Sorted.{IsStrictlySortedBy};
 ghost use Rattle.arrayvec.specs.ArrayVec.{array_vec_len};
 ghost use Rattle.hm_key.specs.Key.{key_of};
-ghost use Rattle.hm_key.specs.Elements.{element_key};
+ghost use Rattle.hm_key.specs.Elements.{element_key, element_cmp};
 ghost use Rattle.hm_node.specs.Base.{base_in};
 ghost use Rattle.hm_node.specs.Damage.{Keeps, number_of};
 ghost use Rattle.hm_node.specs.Head.{head_in};
 ghost use Rattle.hm_node.specs.Leaf.{elements_in};
-ghost use Rattle.hm_node.specs.Node.{node_in, SaysLevel, HasCount};
+ghost use Rattle.hm_node.specs.Node.{node_in, SaysLevel, HasCount, HasOrder};
 ghost use Rattle.hm_node.specs.Places.{place as place_at};
 ghost use Rattle.hm_node.specs.declared.rule.Rule.{Rule as NodeRule};
 ghost use Rattle.hm_search.specs.Place.{FitsBy, FitsLevel, FitsCount, FitsBounds, FitsMirror, IsInside, place_number};
@@ -138,6 +139,7 @@ impl Subtree {
     fn fits_bounds(&self, page: &Page, head: &Head) -> bool
         requires head { head.now ≡ head_in page.now }
         requires count { HasCount (node_in page.now) }
+        requires order { HasOrder (node_in page.now) }
         ensures { IsTrue result ↔ FitsBounds self.now.left self.now.right (node_in page.now) }
     {
         let count = usize::from(head.count);
@@ -148,18 +150,21 @@ impl Subtree {
         }
     }
 
-    // Whether the bases of so many elements lie inside the boundaries.
+    // Whether the bases of so many elements in order lie inside the boundaries: the first and the
+    // last do.
     fn holds_all(&self, page: &Page, count: usize) -> bool
-        requires { count ≤ 63 }
+        requires few { count ≤ 63 }
+        requires order { IsStrictlySortedBy element_cmp (elements_in page.now count) }
         ensures { IsTrue result ↔ All (λ e. IsInside self.now.left self.now.right (element_key e))
             (elements_in page.now count) }
     {
-        for i in 0..count {
-            if !self.holds(&read_base(page, place(i))) {
-                return false;
-            }
+        if count == 0 {
+            return true;
         }
-        true
+        if !self.holds(&read_base(page, place(0))) {
+            return false;
+        }
+        self.holds(&read_base(page, place(count - 1)))
     }
 
     // Whether a base lies inside the boundaries.

@@ -1,9 +1,12 @@
 use Rattle.std.proofs.Common.{arith}
-use Rattle.hm_search.proofs.PageLemmas.{leaf_fits_bounds, inner_fits_bounds, leaf_few, inner_few}
+use Rattle.hm_search.proofs.PageLemmas.{leaf_order, leaf_fits_bounds, inner_fits_bounds, leaf_few, inner_few}
 use Rattle.hm_search.proofs.subtree.Subtree.fits_bounds.Goals as goal
 
-pub holds_all-requires : goal.holds_all-requires
-holds_all-requires c = omega (arith, c.from-count.ensures, leaf_few c.args.page.now c.args.head.now c.requires.head c.if-head-eq-LEAF.true c.requires.count)
+pub holds_all-requires-clause-order : goal.holds_all-requires-clause-order
+holds_all-requires-clause-order c = leaf_order c.args.page.now c.args.head.now c.from-count.result c.requires.head c.if-head-eq-LEAF.true c.from-count.ensures c.requires.order
+
+pub holds_all-requires-clause-few : goal.holds_all-requires-clause-few
+holds_all-requires-clause-few c = omega (arith, c.from-count.ensures, leaf_few c.args.page.now c.args.head.now c.requires.head c.if-head-eq-LEAF.true c.requires.count)
 
 pub bounds_all-requires : goal.bounds_all-requires
 bounds_all-requires c = omega (arith, c.from-count.ensures, inner_few c.args.page.now c.args.head.now c.requires.head c.if-head-eq-LEAF.false c.requires.count)

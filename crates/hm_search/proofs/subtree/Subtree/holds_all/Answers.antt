@@ -1,27 +1,30 @@
-use Rattle.std.proofs.Common.{ℕ, refl, sym, ap, subst, ◌∙◌, true≢false, below_more, arith}
+use Rattle.std.proofs.Common.{◌-◌, refl, sym, ap, subst, ◌∙◌, true≢false, arith}
 use Rattle.hm_key.specs.Key.{key_of}
 use Rattle.hm_key.specs.declared.base.Base.{Base}
 use Rattle.hm_node.specs.Base.{base_in}
-use Rattle.hm_node.specs.Places.{place}
 use Rattle.hm_search.specs.Place.{IsInside}
-use Rattle.hm_search.proofs.PageLemmas.{inside_places, places_inside}
+use Rattle.hm_search.proofs.PageLemmas.{inside_places, places_inside, ends_inside}
 use Rattle.hm_search.proofs.subtree.Subtree.holds_all.Goals as goal
+
+pub returns-then-count-eq0 : goal.returns-then-count-eq0
+returns-then-count-eq0 c = (λ is. inside_places c.args.self.now.left c.args.self.now.right c.args.page.now c.args.count (λ k low. absurd (omega (arith, c.if-count-eq0.true))), λ all. refl)
 
 pub returns-then-not-holds : goal.returns-then-not-holds
 returns-then-not-holds c =
     let base = c.read_base.ensures ∙ ap (base_in c.args.page.now) c.place.ensures in (
       λ is. absurd cc,
       λ all.
-          let inside = places_inside c.args.self.now.left c.args.self.now.right c.args.page.now c.args.count all c.loop-i.i (omega arith) in
+          let inside = places_inside c.args.self.now.left c.args.self.now.right c.args.page.now c.args.count all 0 (omega (arith, c.if-count-eq0.false)) in
           absurd (true≢false (sym (c.holds.ensures.1 (subst (λ (b : Base). IsInside c.args.self.now.left c.args.self.now.right (key_of b)) (sym base) inside)) ∙ c.if-not-holds.true)),
     )
 
-pub loop-i-preserved : goal.loop-i-preserved
-loop-i-preserved c =
-    let base = c.read_base.ensures ∙ ap (base_in c.args.page.now) c.place.ensures in
-    below_more (λ (k : ℕ). IsInside c.args.self.now.left c.args.self.now.right (key_of (base_in c.args.page.now (place k)))) c.loop-i.i c.loop-i.invariant
-    (subst (λ (b : Base). IsInside c.args.self.now.left c.args.self.now.right (key_of b)) base (c.holds.ensures.0 c.if-not-holds.false))
-
 pub returns : goal.returns
 returns c =
-    (λ is. inside_places c.args.self.now.left c.args.self.now.right c.args.page.now c.args.count (λ k low. c.loop-i.invariant k (omega arith)), λ all. refl)
+    let front = c.read_base.ensures ∙ ap (base_in c.args.page.now) c.place.ensures in
+    let last = c.read_base-2.ensures ∙ ap (base_in c.args.page.now) c.place-2.ensures in (
+      λ is. ends_inside c.args.self.now.left c.args.self.now.right c.args.page.now c.args.count (omega (arith, c.if-count-eq0.false)) c.requires.order
+          (subst (λ (b : Base). IsInside c.args.self.now.left c.args.self.now.right (key_of b)) front (c.holds.ensures.0 c.if-not-holds.false))
+          (subst (λ (b : Base). IsInside c.args.self.now.left c.args.self.now.right (key_of b)) last (c.holds-2.ensures.0 is)),
+      λ all. c.holds-2.ensures.1 (subst (λ (b : Base). IsInside c.args.self.now.left c.args.self.now.right (key_of b)) (sym last)
+          (places_inside c.args.self.now.left c.args.self.now.right c.args.page.now c.args.count all (c.args.count - 1) (omega (arith, c.if-count-eq0.false)))),
+    )

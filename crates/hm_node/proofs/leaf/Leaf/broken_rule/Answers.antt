@@ -1,31 +1,31 @@
-use Rattle.std.proofs.Common.{subst, sym, ◌∙◌, arith}
+use Rattle.std.proofs.Common.{refl, subst, sym, arith}
 use Rattle.hm_node.specs.Places.{IsZeroOutside}
 use Rattle.hm_node.proofs.BrokenLemmas.{refuted, broken_count, broken_order, broken_fields, broken_mirror, kept_all}
 use Rattle.hm_node.proofs.LeafLemmas.{leaf_head, leaf_level, leaf_count, leaf_order, leaf_fields, leaf_mirror}
-use Rattle.hm_node.proofs.leaf.Leaf.read.Goals as goal
+use Rattle.hm_node.proofs.leaf.Leaf.broken_rule.Goals as goal
 
-pub returns-then-count-gt-MOST_LEAF_ELEMENTS-clause-err : goal.returns-then-count-gt-MOST_LEAF_ELEMENTS-clause-err
-returns-then-count-gt-MOST_LEAF_ELEMENTS-clause-err c =
+pub returns-then-count-gt-MOST_LEAF_ELEMENTS-clause-some : goal.returns-then-count-gt-MOST_LEAF_ELEMENTS-clause-some
+returns-then-count-gt-MOST_LEAF_ELEMENTS-clause-some c =
     let h = leaf_head c.args.page.now c.args.head.now c.from-count.result c.requires.head c.requires.kind c.requires.level c.from-count.ensures in
     broken_count c.args.page.now (leaf_level h) (λ kept. let few = (leaf_count h).1 kept in omega arith)
 
-pub returns-then-not-are_rising-clause-err : goal.returns-then-not-are_rising-clause-err
-returns-then-not-are_rising-clause-err c =
+pub returns-then-not-are_rising-clause-some : goal.returns-then-not-are_rising-clause-some
+returns-then-not-are_rising-clause-some c =
     let h = leaf_head c.args.page.now c.args.head.now c.from-count.result c.requires.head c.requires.kind c.requires.level c.from-count.ensures in
     let few = (leaf_count h).0 (omega arith) in
     broken_order c.args.page.now (leaf_level h) few
     (refuted c.are_rising.result c.if-not-are_rising.true (λ kept. c.are_rising.ensures.1 ((leaf_order h).1 kept)))
 
-pub returns-then-not-read_elements-clause-err : goal.returns-then-not-read_elements-clause-err
-returns-then-not-read_elements-clause-err c =
+pub returns-then-not-are_elements-clause-some : goal.returns-then-not-are_elements-clause-some
+returns-then-not-are_elements-clause-some c =
     let h = leaf_head c.args.page.now c.args.head.now c.from-count.result c.requires.head c.requires.kind c.requires.level c.from-count.ensures in
     let few = (leaf_count h).0 (omega arith) in
     let rising = (leaf_order h).0 (c.are_rising.ensures.0 c.if-not-are_rising.false) in
     broken_fields c.args.page.now (leaf_level h) few rising
-    (refuted c.read_elements.result c.if-not-read_elements.true (λ kept. c.read_elements.ensures.all.1 ((leaf_fields h).1 kept).0))
+    (refuted c.are_elements.result c.if-not-are_elements.true (λ kept. c.are_elements.ensures.1 ((leaf_fields h).1 kept).0))
 
-pub returns-then-not-is_zero_outside-clause-err : goal.returns-then-not-is_zero_outside-clause-err
-returns-then-not-is_zero_outside-clause-err c =
+pub returns-then-not-is_zero_outside-clause-some : goal.returns-then-not-is_zero_outside-clause-some
+returns-then-not-is_zero_outside-clause-some c =
     let h = leaf_head c.args.page.now c.args.head.now c.from-count.result c.requires.head c.requires.kind c.requires.level c.from-count.ensures in
     let few = (leaf_count h).0 (omega arith) in
     let rising = (leaf_order h).0 (c.are_rising.ensures.0 c.if-not-are_rising.false) in
@@ -33,22 +33,20 @@ returns-then-not-is_zero_outside-clause-err c =
     (refuted c.is_zero_outside.result c.if-not-is_zero_outside.true
     (λ kept. c.is_zero_outside.ensures.1 (subst (IsZeroOutside c.args.page.now) (sym c.place.ensures) ((leaf_fields h).1 kept).1)))
 
-pub returns-then-not-are_up_to-clause-err : goal.returns-then-not-are_up_to-clause-err
-returns-then-not-are_up_to-clause-err c =
+pub returns-then-not-are_up_to-clause-some : goal.returns-then-not-are_up_to-clause-some
+returns-then-not-are_up_to-clause-some c =
     let h = leaf_head c.args.page.now c.args.head.now c.from-count.result c.requires.head c.requires.kind c.requires.level c.from-count.ensures in
     let few = (leaf_count h).0 (omega arith) in
     let rising = (leaf_order h).0 (c.are_rising.ensures.0 c.if-not-are_rising.false) in
-    let fields = (leaf_fields h).0 (c.read_elements.ensures.all.0 c.if-not-read_elements.false, subst (IsZeroOutside c.args.page.now) c.place.ensures (c.is_zero_outside.ensures.0 c.if-not-is_zero_outside.false)) in
-    let read = c.as_slice.ensures.value ∙ c.read_elements.ensures.read c.if-not-read_elements.false in
+    let fields = (leaf_fields h).0 (c.are_elements.ensures.0 c.if-not-are_elements.false, subst (IsZeroOutside c.args.page.now) c.place.ensures (c.is_zero_outside.ensures.0 c.if-not-is_zero_outside.false)) in
     broken_mirror c.args.page.now (leaf_level h) few rising fields
-    (refuted c.are_up_to.result c.if-not-are_up_to.true (λ kept. c.are_up_to.ensures.1 ((leaf_mirror h c.as_slice.result.now read).1 kept)))
+    (refuted c.are_up_to.result c.if-not-are_up_to.true (λ kept. c.are_up_to.ensures.1 ((leaf_mirror h _ refl).1 kept)))
 
-pub returns-clause-kept : goal.returns-clause-kept
-returns-clause-kept c =
+pub returns-clause-none : goal.returns-clause-none
+returns-clause-none c =
     let h = leaf_head c.args.page.now c.args.head.now c.from-count.result c.requires.head c.requires.kind c.requires.level c.from-count.ensures in
     let few = (leaf_count h).0 (omega arith) in
     let rising = (leaf_order h).0 (c.are_rising.ensures.0 c.if-not-are_rising.false) in
-    let fields = (leaf_fields h).0 (c.read_elements.ensures.all.0 c.if-not-read_elements.false, subst (IsZeroOutside c.args.page.now) c.place.ensures (c.is_zero_outside.ensures.0 c.if-not-is_zero_outside.false)) in
-    let read = c.as_slice.ensures.value ∙ c.read_elements.ensures.read c.if-not-read_elements.false in
+    let fields = (leaf_fields h).0 (c.are_elements.ensures.0 c.if-not-are_elements.false, subst (IsZeroOutside c.args.page.now) c.place.ensures (c.is_zero_outside.ensures.0 c.if-not-is_zero_outside.false)) in
     kept_all c.args.page.now (leaf_level h) few rising fields
-    ((leaf_mirror h c.as_slice.result.now read).0 (c.are_up_to.ensures.0 c.if-not-are_up_to.false))
+    ((leaf_mirror h _ refl).0 (c.are_up_to.ensures.0 c.if-not-are_up_to.false))

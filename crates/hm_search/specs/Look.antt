@@ -1,0 +1,68 @@
+-- What a search for a key sees in a node, and how many bases of a page stand before a key.
+use Rattle.std.specs.Prelude.{◌≡◌, ℕ, ◌+◌, ◌<◌, ◌≤◌, Bool, true, false, not, Option, Some, IfSome, slice_get}
+use Rattle.std.specs.Ordering.{is_lt}
+use Rattle.hm_types.specs.Elements.{Key, key_cmp}
+use Rattle.hm_fields.specs.Pages.{PageMap, page_in}
+use Rattle.hm_key.specs.Key.{key_of}
+use Rattle.hm_key.specs.Elements.{first_from}
+use Rattle.hm_key.specs.Places.{leading}
+use Rattle.hm_key.specs.declared.base.Base.{Base}
+use Rattle.hm_node.specs.Node.{IsNode}
+use Rattle.hm_node.specs.declared.inner.Inner.{Inner}
+use Rattle.hm_node.specs.declared.leaf.Leaf.{Leaf}
+use Rattle.hm_node.specs.declared.node.Node.{Node}
+use Rattle.hm_node.specs.declared.node.Node.TheVariants.{Leaf as leaf_node, Inner as inner_node}
+use Rattle.hm_search.specs.Place.{Fits, SpellsHere}
+use Rattle.hm_search.specs.Search.{holder_place}
+use Rattle.hm_search.specs.Tree.{children_of}
+use Rattle.hm_search.specs.declared.look.Seen.{Seen}
+use Rattle.hm_search.specs.declared.look.Seen.TheVariants.{Leaf as leaf_seen, Inner as inner_seen}
+use Rattle.hm_search.specs.declared.look.SeenInner.{SeenInner}
+use Rattle.hm_search.specs.declared.look.SeenLeaf.{SeenLeaf}
+use Rattle.hm_search.specs.declared.subtree.Subtree.{Subtree}
+
+-- of a leaf: its `mirror`, how many elements stand before the key, and the first one from it on
+pub record IsSeenLeaf (key : Key) (leaf : Leaf) (seen : SeenLeaf) : Type 0 where
+  pub mirror : seen.mirror ≡ leaf.mirror
+  pub place : seen.place ≡ leading key leaf.places.items
+  pub first : seen.first ≡ first_from key leaf.places.items
+
+-- of an inner node: its `mirror`, what is below the child that holds the key, and below the next child
+pub record IsSeenInner (key : Key) (inner : Inner) (seen : SeenInner) : Type 0 where
+  pub mirror : seen.mirror ≡ inner.mirror
+  pub child : slice_get (children_of inner) (holder_place key inner.places.items) ≡ Some seen.child
+  pub next : slice_get (children_of inner) (holder_place key inner.places.items + 1) ≡ seen.next
+
+abbrev pub IsSeen : Key → Node → Seen → Type 0
+IsSeen key (leaf_node leaf) (leaf_seen seen) = IsSeenLeaf key leaf seen
+IsSeen key (inner_node inner) (inner_seen seen) = IsSeenInner key inner seen
+IsSeen key (leaf_node leaf) (inner_seen seen) = ⊥
+IsSeen key (inner_node inner) (leaf_seen seen) = ⊥
+
+-- the `mirror` of the node
+abbrev pub seen_mirror : Seen → ℕ
+seen_mirror (leaf_seen seen) = seen.mirror
+seen_mirror (inner_seen seen) = seen.mirror
+
+-- it is seen in a node that is sound where it stands, and stands so in its page where the pages are told
+pub record Sees (s : Subtree) (told : Option PageMap) (key : Key) (seen : Seen) : Type 0 where
+  pub node : Node
+  pub sound : IsNode node
+  pub fits : Fits s node
+  pub there : IfSome told (λ map. SpellsHere s (page_in (map s.at)) node)
+  pub view : IsSeen key node seen
+
+-- whether a base stands before a key, or also whether it stands not after it
+abbrev pub is_by : Bool → Key → Base → Bool
+is_by false key base = is_lt (key_cmp (key_of base) key)
+is_by true key base = not (is_lt (key_cmp key (key_of base)))
+
+-- a test that no later one of so many passes where an earlier one fails it
+abbrev pub Falls : (ℕ → Bool) → ℕ → Type 0
+Falls passes count = (i j : ℕ) → i ≤ j → j < count → passes j ≡ true → passes i ≡ true
+
+-- so many of them pass it, and the others do not
+pub record IsRank (passes : ℕ → Bool) (count rank : ℕ) : Type 0 where
+  pub bound : rank ≤ count
+  pub before : (k : ℕ) → k < rank → passes k ≡ true
+  pub after : (k : ℕ) → rank ≤ k → k < count → passes k ≡ false

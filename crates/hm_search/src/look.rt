@@ -1,0 +1,191 @@
+// What a search for a key sees in the node of a place, read from its page: no node is built.
+ghost use Rattle.std.specs.Prelude.{◌≡◌, ◌≤◌, ◌<◌, ℕ, Some, IfSome, IfOk, IfErr, slice_get};
+ghost use Rattle.hm_types.specs.Faults.{HasFaultCause};
+ghost use Rattle.hm_fields.specs.Pages.{page_in};
+ghost use Rattle.hm_key.specs.Key.{key_of};
+ghost use Rattle.hm_node.specs.Base.{base_in};
+ghost use Rattle.hm_node.specs.Head.{head_in};
+ghost use Rattle.hm_node.specs.Inner.{inner_in, AreChildPlaces, HasInnerOrder};
+ghost use Rattle.hm_node.specs.Leaf.{leaf_in, elements_in, ArePlaces, HasLeafOrder};
+ghost use Rattle.hm_node.specs.Node.{node_in, IsNode, Spells};
+ghost use Rattle.hm_node.specs.Places.{place as place_at};
+ghost use Rattle.hm_search.specs.Descent.{Reads};
+ghost use Rattle.hm_search.specs.Look.{is_by, Falls, IsRank, IsSeen, IsSeenLeaf, IsSeenInner, Sees};
+ghost use Rattle.hm_search.specs.Place.{TellsDamage};
+ghost use Rattle.hm_search.specs.Tree.{children_of};
+
+use crate::read::read_page;
+use crate::subtree::{Parent, Subtree};
+use hm_fields::{Page, Pages};
+use hm_key::{Base, Element};
+use hm_node::{Head, LEAF, place, read_base, read_child, read_element};
+use hm_types::{Counted, Fault};
+
+/// What a search for a key sees in a leaf.
+#[derive(Clone, Copy)]
+pub(crate) struct SeenLeaf {
+    /// The leaf's `mirror`.
+    pub mirror: u64,
+    /// How many of its elements stand before the key.
+    pub place: u8,
+    /// Its first element at the key or after it.
+    pub first: Option<Element>,
+}
+
+/// What a search for a key sees in an inner node.
+#[derive(Clone, Copy)]
+pub(crate) struct SeenInner {
+    /// The node's `mirror`.
+    pub mirror: u64,
+    /// What is below the child whose boundaries hold the key.
+    pub child: Subtree,
+    /// What is below the next child to the right.
+    pub next: Option<Subtree>,
+}
+
+/// What a search for a key sees in a node.
+#[derive(Clone, Copy)]
+pub(crate) enum Seen {
+    Leaf(SeenLeaf),
+    Inner(SeenInner),
+}
+
+// What a search for the key of `at` sees in the node at a place. The page is let go before the search
+// goes on.
+pub(crate) fn look_for<P: Pages>(pages: &mut P, subtree: &Subtree, at: &Base) -> Result<Seen, Fault>
+    ensures sees { IfOk result (Sees subtree.now (P.pages pages.old) (key_of at.now)) }
+    ensures damage { IfSome (P.pages pages.old) (λ map.
+        IfErr result (TellsDamage subtree.now (page_in (map subtree.now.at)))) }
+    ensures same { Reads P.name P.rest P.pages pages.old pages.new }
+    ensures cause { HasFaultCause (P.faults pages.old) (P.faults pages.new) result }
+{
+    let mut page = Page::zero();
+    read_page(pages, subtree, &mut page)?;
+    Ok(see(&page, at))
+}
+
+// What is seen in the page of a sound node.
+fn see(page: &Page, at: &Base) -> Seen
+    requires sound { IsNode (node_in page.now) }
+    requires spelled { Spells page.now (node_in page.now) }
+    ensures { IsSeen (key_of at.now) (node_in page.now) result }
+{
+    let head = Head::read(page);
+    if head.kind == LEAF {
+        Seen::Leaf(see_leaf(page, &head, at))
+    } else {
+        Seen::Inner(see_inner(page, &head, at))
+    }
+}
+
+// What is seen in the page of a leaf.
+fn see_leaf(page: &Page, head: &Head, at: &Base) -> SeenLeaf
+    requires head { head.now ≡ head_in page.now }
+    requires few { head.now.count ≤ 63 }
+    requires places { ArePlaces page.now head.now.count }
+    requires order { HasLeafOrder (leaf_in page.now) }
+    ensures { IsSeenLeaf (key_of at.now) (leaf_in page.now) result }
+{
+    let count = usize::from(head.count);
+    let before = rank(page, count, at, false);
+    SeenLeaf {
+        mirror: head.mirror,
+        place: before as u8,
+        first: element_at(page, count, before),
+    }
+}
+
+// What is seen in the page of an inner node.
+fn see_inner(page: &Page, head: &Head, at: &Base) -> SeenInner
+    requires head { head.now ≡ head_in page.now }
+    requires some { 1 ≤ head.now.count }
+    requires few { head.now.count ≤ 62 }
+    requires places { AreChildPlaces page.now head.now.count }
+    requires order { HasInnerOrder (inner_in page.now) }
+    ensures { IsSeenInner (key_of at.now) (inner_in page.now) result }
+{
+    let count = usize::from(head.count);
+    let holder = rank(page, count, at, true).saturating_sub(1);
+    SeenInner {
+        mirror: head.mirror,
+        child: child_at(page, head, holder),
+        next: next_at(page, head, holder + 1),
+    }
+}
+
+// The element in a place of a leaf, if it has so many.
+fn element_at(page: &Page, count: usize, i: usize) -> Option<Element>
+    requires few { count ≤ 63 }
+    requires places { ArePlaces page.now count }
+    ensures { slice_get (elements_in page.now count) i ≡ result }
+{
+    if i < count {
+        Some(read_element(page, place(i)))
+    } else {
+        None
+    }
+}
+
+// What is below the child in a place of an inner node, if it has so many.
+fn next_at(page: &Page, head: &Head, i: usize) -> Option<Subtree>
+    requires head { head.now ≡ head_in page.now }
+    requires few { head.now.count ≤ 62 }
+    requires places { AreChildPlaces page.now head.now.count }
+    ensures { slice_get (children_of (inner_in page.now)) i ≡ result }
+{
+    if i < usize::from(head.count) {
+        Some(child_at(page, head, i))
+    } else {
+        None
+    }
+}
+
+// What is below the child in a place of an inner node.
+fn child_at(page: &Page, head: &Head, i: usize) -> Subtree
+    requires head { head.now ≡ head_in page.now }
+    requires low { i < head.now.count }
+    requires few { head.now.count ≤ 62 }
+    requires places { AreChildPlaces page.now head.now.count }
+    ensures { slice_get (children_of (inner_in page.now)) i ≡ Some result }
+{
+    let child = read_child(page, place(i));
+    Subtree {
+        at: child.child,
+        left: child.left,
+        right: read_base(page, place(i + 1)),
+        parent: Some(Parent {
+            level: head.level,
+            mirror: child.mirror,
+        }),
+    }
+}
+
+// How many of so many bases stand before the key of `at`, or also at it, by halving.
+fn rank(page: &Page, count: usize, at: &Base, also_at: bool) -> usize
+    requires few { count ≤ 63 }
+    requires order { Falls (λ i. is_by also_at (key_of at.now) (base_in page.now (place_at i))) count }
+    ensures { IsRank (λ i. is_by also_at (key_of at.now) (base_in page.now (place_at i))) count result }
+{
+    let mut low = 0;
+    let mut high = count;
+    while low < high {
+        let middle = low + (high - low) / 2;
+        if is_by(&read_base(page, place(middle)), at, also_at) {
+            low = middle + 1;
+        } else {
+            high = middle;
+        }
+    }
+    low
+}
+
+// Whether a base stands before the key of `at`, or also whether it stands at it.
+fn is_by(base: &Base, at: &Base, also_at: bool) -> bool
+    ensures { result ≡ is_by also_at (key_of at.now) base.now }
+{
+    if also_at {
+        !at.order(base).is_lt()
+    } else {
+        base.order(at).is_lt()
+    }
+}
