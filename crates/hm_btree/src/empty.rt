@@ -20,8 +20,11 @@ impl<S: NodeSpace> BTree<S> {
         requires room { NODE_BYTES ≤ S.room space TREE_ZONE }
         ensures elements { IfOk result (λ tree. IfSome (S.pages space) (λ _.
             told_elements tree.intact (S.pages tree.space) tree.root ≡ Some [])) }
+        ensures extents { IfOk result (λ tree. S.extents tree.space ≡ S.extents space) }
         ensures space { IfOk result (λ tree.
             Spends S.room S.free (in_zone TREE_ZONE NODE_BYTES) space tree.space) }
+        ensures name { IfOk result (λ tree. S.name tree.space ≡ S.name space) }
+        ensures back { IfErr result (λ e. S.name e.0 ≡ S.name space) }
         ensures cause { IfErr result (λ e.
             HasPageCause {T = ℕ} (S.pages space) (S.faults space) (S.faults e.0) (Err e.1)) }
     {
