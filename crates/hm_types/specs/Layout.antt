@@ -19,6 +19,10 @@ layer2_blocks bigblocks = (bigblocks + 524287) / blocks_per_layer2
 abbrev pub first_undo : ℕ → ℕ
 first_undo bigblocks = first_layer2 + layer2_blocks bigblocks
 
+-- a big-block of layer 2
+abbrev pub IsLayer2 : ℕ → ℕ → Type 0
+IsLayer2 bigblocks block = (first_layer2 ≤ block) × (block < first_undo bigblocks)
+
 -- the first big-block of the pool
 abbrev pub first_pool : ℕ → ℕ
 first_pool bigblocks = first_undo bigblocks + UNDO_BIGBLOCKS

@@ -6,4 +6,5 @@ pub mod Layout
 pub mod Listing
 pub mod Name
 pub mod Offset
+pub mod Space
 pub mod Zones

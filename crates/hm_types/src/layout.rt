@@ -1,7 +1,7 @@
 // Which big-blocks of a volume serve what.
 ghost use Rattle.std.specs.Prelude.{◌≡◌, ◌≤◌, ◌↔◌, IsTrue};
 ghost use Rattle.hm_types.specs.declared.limits.TheConstants.{MOST_BIGBLOCKS};
-ghost use Rattle.hm_types.specs.Layout.{IsPool, first_pool, first_undo, layer2_blocks};
+ghost use Rattle.hm_types.specs.Layout.{IsLayer2, IsPool, first_pool, first_undo, layer2_blocks};
 
 use crate::limits::UNDO_BIGBLOCKS;
 
@@ -27,6 +27,14 @@ pub fn first_undo(bigblocks: u32) -> u32
     ensures { result ≡ first_undo bigblocks }
 {
     FIRST_LAYER2 + layer2_blocks(bigblocks)
+}
+
+/// Whether a big-block is one of layer 2 of the freemap, on a volume of `bigblocks`.
+pub fn is_layer2(bigblocks: u32, block: u64) -> bool
+    requires { bigblocks ≤ MOST_BIGBLOCKS }
+    ensures { IsTrue result ↔ IsLayer2 bigblocks block }
+{
+    u64::from(FIRST_LAYER2) <= block && block < u64::from(first_undo(bigblocks))
 }
 
 /// The first big-block of the pool, which reaches to the volume's end.
@@ -61,6 +69,21 @@ mod tests {
             assert_eq!(rt; layer2_blocks(bigblocks), layer2, "{bigblocks}");
             assert_eq!(rt; first_undo(bigblocks), undo, "{bigblocks}");
             assert_eq!(rt; first_pool(bigblocks), pool, "{bigblocks}");
+        }
+    }
+
+    #[test]
+    fn tells_layer_2(rt: HostRuntime) {
+        for (bigblocks, block, want) in [
+            (24, 1, false),
+            (24, 2, true),
+            (24, 3, false),
+            (524_288, 3, false),
+            (524_289, 3, true),
+            (1_048_576, 3, true),
+            (1_048_576, 4, false),
+        ] {
+            assert_eq!(rt; is_layer2(bigblocks, block), want, "{bigblocks} {block}");
         }
     }
 

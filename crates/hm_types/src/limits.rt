@@ -42,11 +42,17 @@ pub const MOST_TARGET_BYTES: usize = 1_023;
 /// The most pages of one flush group: 66,060,288 bytes.
 pub const MOST_GROUP_PAGES: u32 = 16_128;
 
+/// How many pages make a flush group full: from so many on it is flushed before the next call.
+pub const FULL_GROUP_PAGES: u32 = 1_024;
+
 /// How many big-blocks of a volume hold its UNDO FIFO.
 pub const UNDO_BIGBLOCKS: u32 = 8;
 
 /// How many entries the UNDO FIFO holds, each with the old bytes of one page.
 pub const UNDO_ENTRIES: u32 = 16_256;
+
+/// The size of an entry of the UNDO FIFO, in bytes: a page and what is said of it.
+pub const UNDO_ENTRY_BYTES: usize = 4_128;
 
 /// The most levels of the B-tree, from the root to the leaves.
 pub const MOST_LEVELS: u8 = 9;
@@ -75,3 +81,56 @@ pub const MOST_PFS: u32 = 65_536;
 
 /// The most intervals of the retention of one PFS.
 pub const MOST_INTERVALS: usize = 4_096;
+
+#[cfg(test)]
+mod tests {
+    use super::*;
+    use crate::space::{INSERT_ROOM, MOST_REFERENCES, PAYLOAD_RESERVE, TREE_RESERVE};
+
+    #[test]
+    fn limits_of_space_are_the_profile_s(rt: HostRuntime) {
+        for (limit, want) in [
+            (BIGBLOCK_BYTES, 8_388_608),
+            (u64::from(LEAST_BIGBLOCKS), 24),
+            (u64::from(MOST_BIGBLOCKS), 1_048_576),
+            (u64::from(TREE_RESERVE), 1_048_576),
+            (u64::from(PAYLOAD_RESERVE), 131_072),
+            (u64::from(INSERT_ROOM), 40_960),
+            (u64::from(MOST_REFERENCES), 64),
+            (u64::from(MOST_GROUP_PAGES), 16_128),
+            (u64::from(FULL_GROUP_PAGES), 1_024),
+            (u64::from(UNDO_BIGBLOCKS), 8),
+            (u64::from(UNDO_ENTRIES), 16_256),
+            (UNDO_ENTRY_BYTES as u64, 4_128),
+            (PAGE_BYTES as u64, 4_096),
+        ] {
+            assert_eq!(rt; limit, want);
+        }
+    }
+
+    #[test]
+    fn limits_of_calls_are_the_profile_s(rt: HostRuntime) {
+        for (limit, want) in [
+            (GREATEST_ID, 9_223_372_036_854_775_807),
+            (BLOCK_BYTES as u64, 16_384),
+            (MOST_FILE_BYTES, 15_728_640),
+            (u64::from(MOST_WRITE_BYTES), 65_536),
+            (u64::from(MOST_CAT_BYTES), 16_384),
+            (MOST_NAME_BYTES as u64, 255),
+            (MOST_PATH_BYTES as u64, 1_023),
+            (MOST_PATH_PARTS as u64, 64),
+            (MOST_TARGET_BYTES as u64, 1_023),
+            (u64::from(MOST_LEVELS), 9),
+            (MOST_LEAF_ELEMENTS as u64, 63),
+            (MOST_INNER_CHILDREN as u64, 62),
+            (LEAST_PLACES as u64, 16),
+            (u64::from(MOST_LANES), 8),
+            (MOST_SCRIPT_BYTES as u64, 67_108_864),
+            (u64::from(MOST_SCRIPT_LINES), 65_536),
+            (u64::from(MOST_PFS), 65_536),
+            (MOST_INTERVALS as u64, 4_096),
+        ] {
+            assert_eq!(rt; limit, want);
+        }
+    }
+}
