@@ -7,7 +7,8 @@ use hm_types::{Counted, Fault, HOff};
 use std::alloc::Global;
 use std::collections::BTreeMap;
 
-/// Pages in memory, which are told. It is there for tests, and for tools that have no disk.
+/// Pages in memory, which are told. It is there for tests, and for tools that have no disk. A page
+/// that is not there reads as zeros.
 #[derive(Drop)]
 pub struct MemPages {
     alloc: Global,
@@ -32,11 +33,11 @@ impl Counted for MemPages {
     ghost faults = { λ _. 0 };
 
     ghost name = { λ _. 0 };
+
+    ghost frame = { λ _. tt };
 }
 
 impl Pages for MemPages {
-    type Rest = ();
-
     ghost use Rattle.std.specs.Prelude.{Some};
 
     ghost pages = { λ m. Some (kept m) };

@@ -1,5 +1,5 @@
 -- What a count of faults says of a call.
-use Rattle.std.specs.Prelude.{ℕ, ◌+◌, ◌-◌, ◌^◌, ◌≤◌, min, Result, OnErr, IfErr}
+use Rattle.std.specs.Prelude.{◌≡◌, ℕ, ◌+◌, ◌-◌, ◌^◌, ◌≤◌, min, Option, Result, IfSome, OnErr, IfErr}
 use Rattle.hm_types.specs.declared.fault.Fault.{Fault}
 use Rattle.hm_types.specs.declared.fault.Fault.TheVariants.{Media, Damaged, NoMemory}
 use Rattle.hm_types.specs.declared.fault.SpaceFault.{SpaceFault}
@@ -41,3 +41,30 @@ IsSpaceCaused old new (of_store fault) = IsCaused old new fault
 pub record HasSpaceCause {T : Type 0} (old new : ℕ) (result : Result T SpaceFault) : Type 0 where
   pub never_falls : old ≤ new
   pub caused : IfErr result (IsSpaceCaused old new)
+
+-- a fault that tells of no damage
+abbrev pub IsUndamaged : Fault → Type 0
+IsUndamaged (Media before after) = Unit {0}
+IsUndamaged (Damaged at kind) = ⊥
+IsUndamaged NoMemory = Unit {0}
+
+-- the same of a fault of a call that takes space
+abbrev pub IsSpaceUndamaged : SpaceFault → Type 0
+IsSpaceUndamaged (NoSpace free needed) = Unit {0}
+IsSpaceUndamaged (of_store fault) = IsUndamaged fault
+
+-- a fault that tells damage tells it of what stands at this offset
+abbrev pub IsDamageOnlyAt : ℕ → Fault → Type 0
+IsDamageOnlyAt here (Media before after) = Unit {0}
+IsDamageOnlyAt here (Damaged at kind) = at ≡ here
+IsDamageOnlyAt here NoMemory = Unit {0}
+
+-- each fault of a call has its cause in it, and tells of no damage where content is told
+pub record HasStoreCause {A T : Type 0} (told : Option A) (old new : ℕ) (result : Result T Fault) : Type 0 where
+  pub counted : HasFaultCause old new result
+  pub undamaged : IfSome told (λ _. IfErr result IsUndamaged)
+
+-- the same of a call that takes space
+pub record HasAdmitCause {A T : Type 0} (told : Option A) (old new : ℕ) (result : Result T SpaceFault) : Type 0 where
+  pub counted : HasSpaceCause old new result
+  pub undamaged : IfSome told (λ _. IfErr result IsSpaceUndamaged)

@@ -7,4 +7,5 @@ pub mod Listing
 pub mod Name
 pub mod Offset
 pub mod Space
+pub mod Told
 pub mod Zones
