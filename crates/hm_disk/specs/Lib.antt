@@ -1,4 +1,3 @@
-pub mod Calls
 pub mod Crash
 pub mod Disk
 pub mod FileDisk

@@ -1,8 +1,8 @@
 -- A disk in memory: what its record of changes says that it holds, and what a call does to it.
 use Rattle.std.specs.Prelude.{◌≡◌, ◌⊎◌, ℕ, ◌+◌, ◌/◌, ◌≤◌, List, [], ◌∷◌, ◌++◌, length, take, replicate, ◌↔◌, Result, Ok, Err, IsErr, OnOk, OnErr}
+use Rattle.hm_types.specs.Calls.{Counts, IsNextListed, called, faulted, no_calls}
 use Rattle.hm_disk.specs.Crash.{Told, MayLeave}
 use Rattle.hm_disk.specs.Disk.{overwritten}
-use Rattle.hm_disk.specs.Calls.{Counts, IsNextListed, called, faulted, no_calls}
 use Rattle.hm_disk.specs.declared.change.Change.{Change}
 use Rattle.hm_disk.specs.declared.change.Change.TheVariants.{Write, Sync}
 

@@ -1,7 +1,6 @@
 //! The disk under a volume, as a trait that says what a read gives and which images a crash may leave.
 #![tactic(auto)]
 
-mod calls;
 mod change;
 mod disk;
 mod file_disk;

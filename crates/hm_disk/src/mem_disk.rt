@@ -1,18 +1,17 @@
 // A disk in memory.
 ghost use Rattle.std.specs.Prelude.{◌≡◌, ◌≤◌, ◌+◌, ◌*◌, Some, IfOk, OnOk, OnErr, length, slice_range};
 ghost use Rattle.hm_types.specs.declared.limits.TheConstants.{BIGBLOCK_BYTES};
+ghost use Rattle.hm_types.specs.Calls.{no_calls};
 ghost use Rattle.hm_types.specs.Faults.{HasCause};
 ghost use Rattle.hm_disk.specs.Disk.{Written, MayBeTorn, Synced};
 ghost use Rattle.hm_disk.specs.Moments.{WriteElapses, SyncElapses, SameLeft};
-ghost use Rattle.hm_disk.specs.Calls.{no_calls};
 ghost use Rattle.hm_disk.specs.MemDisk.{told_of, left_of, blank, with_change, with_calls, OnlyCounts, Writes, Syncs};
 ghost use Rattle.hm_disk.specs.declared.change.Change.TheVariants.{Write, Sync};
 
-use crate::calls::Calls;
 use crate::change::Change;
 use crate::disk::Disk;
 use crate::pages::Pages;
-use hm_types::{BIGBLOCK_BYTES, Bytes, Failed, NoMemory};
+use hm_types::{BIGBLOCK_BYTES, Bytes, Calls, Failed, NoMemory};
 use std::alloc::Global;
 use std::marker::Model;
 

@@ -1,4 +1,3 @@
-pub mod Calls
 pub mod Counted
 pub mod MemSink
 pub mod MemSource

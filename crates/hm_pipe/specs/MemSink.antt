@@ -1,6 +1,6 @@
 -- A sink in memory.
 use Rattle.std.specs.Prelude.{◌≡◌, ℕ, ◌⊎◌, ◌/◌, ◌++◌, List, take, length, Result, IsErr, OnOk, OnErr}
-use Rattle.hm_pipe.specs.Calls.{Counts, IsNextListed, called, faulted}
+use Rattle.hm_types.specs.Calls.{Counts, IsNextListed, called, faulted}
 
 -- the bytes that it holds, and the calls of `put` so far
 pub record SinkState : Type 0 where

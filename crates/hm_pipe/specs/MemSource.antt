@@ -1,6 +1,6 @@
 -- A source in memory.
 use Rattle.std.specs.Prelude.{◌≡◌, ℕ, ◌↔◌, ◌++◌, min, List, take, drop, length, Result, IsErr, IfOk, OnErr}
-use Rattle.hm_pipe.specs.Calls.{Counts, IsNextListed, called, faulted}
+use Rattle.hm_types.specs.Calls.{Counts, IsNextListed, called, faulted}
 
 -- the bytes that are left, and the calls of `take` so far
 pub record SourceState : Type 0 where

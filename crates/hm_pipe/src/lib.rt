@@ -1,7 +1,6 @@
 //! Where bytes come from and where they go: sources and sinks, in memory and over std's readers and writers.
 #![tactic(auto)]
 
-mod calls;
 mod file_sink;
 mod file_source;
 mod gate;

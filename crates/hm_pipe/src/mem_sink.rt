@@ -1,12 +1,11 @@
 // A sink in memory.
 ghost use Rattle.std.specs.Prelude.{◌≡◌, [], Some};
+ghost use Rattle.hm_types.specs.Calls.{no_calls};
 ghost use Rattle.hm_types.specs.Faults.{HasCause};
-ghost use Rattle.hm_pipe.specs.Calls.{no_calls};
 ghost use Rattle.hm_pipe.specs.MemSink.{SinkState, Puts};
 
-use crate::calls::Calls;
 use crate::sink::Sink;
-use hm_types::Failed;
+use hm_types::{Calls, Failed};
 use std::alloc::Global;
 use std::marker::Model;
 

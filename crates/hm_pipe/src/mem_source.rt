@@ -1,12 +1,11 @@
 // A source in memory.
 ghost use Rattle.std.specs.Prelude.{◌≡◌, ◌≤◌, Some, IfOk, length, drop, vec_len};
+ghost use Rattle.hm_types.specs.Calls.{no_calls};
 ghost use Rattle.hm_types.specs.Faults.{HasCause};
-ghost use Rattle.hm_pipe.specs.Calls.{no_calls};
 ghost use Rattle.hm_pipe.specs.MemSource.{SourceState, Takes};
 
-use crate::calls::Calls;
 use crate::source::Source;
-use hm_types::Failed;
+use hm_types::{Calls, Failed};
 use std::marker::Model;
 
 /// Bytes in memory. It tells what is left of them, and takes no memory.

@@ -3,6 +3,7 @@
 #![tactic(auto)]
 
 mod bytes;
+mod calls;
 mod counted;
 mod damage;
 mod fault;
@@ -21,6 +22,7 @@ mod zone;
 mod zones;
 
 pub use bytes::Bytes;
+pub use calls::Calls;
 pub use counted::Counted;
 pub use damage::{
     BAD_BOUNDS, BAD_COUNT, BAD_EXTENT, BAD_FIELD, BAD_FREE_BYTES, BAD_FREEMAP, BAD_LEVEL,

@@ -1,14 +1,14 @@
-// The calls of a disk in memory: each has a number, and those on a list fail.
+// The calls of a device in memory: each has a number, and those on a list fail.
 ghost use Rattle.std.specs.Prelude.{◌≡◌, ◌≤◌, ◌↔◌, IsTrue, IsErr, OnOk, OnErr, Contains};
+ghost use Rattle.hm_types.specs.Calls.{Counts, IsNextListed, no_calls, called, faulted};
 ghost use Rattle.hm_types.specs.Faults.{HasCause};
-ghost use Rattle.hm_disk.specs.Calls.{Counts, IsNextListed, no_calls, called, faulted};
 
-use hm_types::Failed;
+use crate::fault::Failed;
 use std::marker::Model;
 
-/// The calls so far, and which are to fail.
+/// The calls of a device in memory so far, by their numbers from 1 on, and which of them fail.
 #[derive(Drop)]
-pub(crate) struct Calls {
+pub struct Calls {
     fails: Vec<u64>,
     made: u64,
     faults: u64,
@@ -22,7 +22,7 @@ impl Model for Calls {
 
 impl Calls {
     /// No calls yet. Of those to come the numbers on the list fail, from 1 on.
-    pub(crate) fn new(fails: Vec<u64>) -> Calls
+    pub fn new(fails: Vec<u64>) -> Calls
         ensures { result ≡ no_calls fails.items }
     {
         Calls {
@@ -33,7 +33,7 @@ impl Calls {
     }
 
     /// Counts one more call, which fails where its number is on the list.
-    pub(crate) fn begin(&mut self) -> Result<(), Failed>
+    pub fn begin(&mut self) -> Result<(), Failed>
         ensures fails { IsErr result ↔ IsNextListed self.old }
         ensures ok { OnOk result (self.new ≡ called self.old) }
         ensures err { OnErr result (self.new ≡ faulted (called self.old)) }
@@ -47,7 +47,7 @@ impl Calls {
     }
 
     /// Counts a fault of the call that was begun last.
-    pub(crate) fn fail(&mut self) -> Failed
+    pub fn fail(&mut self) -> Failed
         ensures counted { self.new ≡ faulted self.old }
         ensures never_falls { self.old.faults ≤ self.new.faults }
     {
@@ -55,7 +55,8 @@ impl Calls {
         Failed
     }
 
-    pub(crate) fn faults(&self) -> u64
+    /// How many faults there were.
+    pub fn faults(&self) -> u64
         ensures { result ≡ self.now.faults }
     {
         self.faults
