@@ -6,7 +6,8 @@ use Rattle.std.proofs.lemmas.Bool.{eq-eqb, ne_eqb, eqb-false, ltb-true}
 use Rattle.std.proofs.lemmas.List.Elements.{All-from_recursion, recursion_from_All}
 use Rattle.hm_types.specs.Offset.{byte_of}
 use Rattle.hm_key.specs.Elements.{element_key, stands_before, inserted}
-use Rattle.hm_key.specs.Extents.{Extent, AreApart, AreExtents, PlacesAt, rounded, extent_at, with_extent}
+use Rattle.hm_types.specs.Space.{rounded}
+use Rattle.hm_key.specs.Extents.{Extent, AreApart, AreExtents, PlacesAt, extent_at, with_extent}
 use Rattle.hm_key.specs.Balance.{IsHeld, references, IsBalanced, payload_of}
 use Rattle.hm_key.specs.declared.element.Element.{Element}
 use Rattle.hm_key.proofs.ElementLemmas.{each_inserted}

@@ -8,7 +8,8 @@ use Rattle.std.proofs.lemmas.List.Elements.{All-from_recursion, All-head, All-ta
 use Rattle.hm_types.specs.Offset.{byte_of}
 use Rattle.hm_types.specs.Elements.{Key, FullElement}
 use Rattle.hm_key.specs.Elements.{stands_at, element_at, removed}
-use Rattle.hm_key.specs.Extents.{Extent, IsExtent, AreApart, AreExtents, rounded, extent_at, given_back_at}
+use Rattle.hm_types.specs.Space.{rounded}
+use Rattle.hm_key.specs.Extents.{Extent, IsExtent, AreApart, AreExtents, extent_at, given_back_at}
 use Rattle.hm_key.specs.Balance.{IsHeld, references, IsBalanced, first_bytes, full_of, full_elements, MayGo, LosesDead, none, keep, lose}
 use Rattle.hm_key.specs.declared.element.Element.{Element}
 use Rattle.hm_key.proofs.ElementLemmas.{each_removed}

@@ -113,6 +113,7 @@ fits_changed e delete payload fits = record {
   target = fits.target;
   file_bytes = fits.file_bytes;
   pfs_object = fits.pfs_object;
+  snapshot_object = fits.snapshot_object;
   pfs_number = fits.pfs_number;
 }
 

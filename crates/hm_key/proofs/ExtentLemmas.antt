@@ -6,7 +6,8 @@ use Rattle.std.proofs.lemmas.Bool.{lt-ltb, eqb-false}
 use Rattle.std.proofs.lemmas.List.Elements.{All-from_recursion, recursion_from_All, All-nil}
 use Rattle.std.proofs.lemmas.Grind.{common_steps}
 use Rattle.hm_types.specs.Offset.{zone_of, volume_of, byte_of, raw_of}
-use Rattle.hm_key.specs.Extents.{Extent, IsExtent, AreApart, AreExtents, IsPayloadZone, PlacesAt, rounded, extent_at, with_extent, shared_at, given_back_at}
+use Rattle.hm_types.specs.Space.{IsPayloadZone, rounded}
+use Rattle.hm_key.specs.Extents.{Extent, IsExtent, AreApart, AreExtents, PlacesAt, extent_at, with_extent, shared_at, given_back_at}
 use Rattle.hm_key.specs.Memory.{EndBy}
 
 -- no extents are live ones

@@ -4,7 +4,8 @@ use Rattle.std.specs.Prelude.{if◌then◌else◌, IsSome, option_map}
 use Rattle.std.proofs.lemmas.Bool.{eq-eqb, eqb-true}
 use Rattle.std.proofs.lemmas.List.{get_or_default, get_or-map, length-map, map-append}
 use Rattle.hm_types.specs.Offset.{zone_of, byte_of, raw_of}
-use Rattle.hm_key.specs.Extents.{Extent, IsExtent, AreExtents, IsPayloadZone, rounded, extent_at, shared_at, given_back_at}
+use Rattle.hm_types.specs.Space.{IsPayloadZone, rounded}
+use Rattle.hm_key.specs.Extents.{Extent, IsExtent, AreExtents, extent_at, shared_at, given_back_at}
 use Rattle.hm_key.specs.Memory.{extent_of, extents_of, told_of, EndBy, NoneAt, IsAt}
 use Rattle.hm_key.specs.declared.held.Held.{Held}
 use Rattle.hm_key.proofs.ExtentLemmas.{IsFilled, new_extent, new_extents, new_end, EndBy-later}

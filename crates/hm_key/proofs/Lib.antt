@@ -7,5 +7,6 @@ pub mod KeyLemmas
 pub mod MarkLemmas
 pub mod MemoryLemmas
 pub mod PlaceLemmas
+pub mod RaiseLemmas
 pub mod SearchLemmas
 pub mod SweepLemmas

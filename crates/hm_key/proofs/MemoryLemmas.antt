@@ -10,9 +10,11 @@ use Rattle.hm_types.specs.Elements.{Key, key_cmp}
 use Rattle.hm_key.specs.Key.{IsBefore, IsFrom}
 use Rattle.hm_key.specs.Element.{IsElement}
 use Rattle.hm_key.specs.Elements.{element_key, stands_at, first_from, inserted, removed, with_delete, with_payload, closed_at, moved_to, last_id}
-use Rattle.hm_key.specs.Stores.{Marks, IsMarked, IsFound}
+use Rattle.hm_key.specs.Marks.{Marks, IsMarked}
+use Rattle.hm_key.specs.Stores.{IsFound}
 use Rattle.hm_key.specs.declared.element.Element.{Element}
 use Rattle.hm_key.proofs.KeyLemmas.{key_same, key_before}
+use Rattle.hm_key.proofs.RaiseLemmas.{marks_never_fall}
 use Rattle.hm_key.proofs.ElementLemmas.{stands_same, each_inserted, each_removed, each_changed}
 
 -- marks that rose are still at least the ids
@@ -25,12 +27,12 @@ still_marked old new es rise marked k d less =
 pub marked_inserted : (old new : Key → ℕ) (e : Element) (es : List Element) → Marks (element_key e) (last_id e) old new → All (IsMarked old) es → All (IsMarked new) (inserted e es)
 marked_inserted old new e es marks marked =
     let first : IsMarked new e = record { create = omega (arith, marks.reach); delete = omega (arith, marks.reach) } in
-    All-from_recursion (IsMarked new) (inserted e es) (each_inserted (IsMarked new) e es first (recursion_from_All (IsMarked new) es (still_marked old new es marks.never_fall marked)))
+    All-from_recursion (IsMarked new) (inserted e es) (each_inserted (IsMarked new) e es first (recursion_from_All (IsMarked new) es (still_marked old new es (marks_never_fall _ _ old new marks) marked)))
 
 -- a new element comes, or the list stays
 pub marked_if : {A E : Type 0} (result : Result A E) (old new : Key → ℕ) (e : Element) (es fs : List Element) → Marks (element_key e) (last_id e) old new → All (IsMarked old) es → OnOk result (fs ≡ inserted e es) → OnErr result (fs ≡ es) → All (IsMarked new) fs
 marked_if (Ok value) old new e es fs marks marked ok err = rw ok (marked_inserted old new e es marks marked)
-marked_if (Err error) old new e es fs marks marked ok err = rw err (still_marked old new es marks.never_fall marked)
+marked_if (Err error) old new e es fs marks marked ok err = rw err (still_marked old new es (marks_never_fall _ _ old new marks) marked)
 
 -- the others stay marked
 pub marked_removed : (mark : Key → ℕ) (at : Key) (es : List Element) → All (IsMarked mark) es → All (IsMarked mark) (removed at es)
@@ -39,7 +41,7 @@ marked_removed mark at es marked = All-from_recursion (IsMarked mark) (removed a
 -- another delete id is marked
 pub marked_closed : (old new : Key → ℕ) (at : Key) (delete : ℕ) (es : List Element) → Marks at delete old new → All (IsMarked old) es → All (IsMarked new) (with_delete at delete es)
 marked_closed old new at delete es marks marked =
-    All-from_recursion (IsMarked new) (with_delete at delete es) (each_changed (IsMarked new) at (closed_at delete) es still (recursion_from_All (IsMarked new) es (still_marked old new es marks.never_fall marked))) where
+    All-from_recursion (IsMarked new) (with_delete at delete es) (each_changed (IsMarked new) at (closed_at delete) es still (recursion_from_All (IsMarked new) es (still_marked old new es (marks_never_fall _ _ old new marks) marked))) where
       still : (e : Element) → stands_at at e ≡ true → IsMarked new e → IsMarked new (closed_at delete e)
       still e stands is = record { create = is.create; delete = subst (λ (k : Key). delete ≤ new k) (sym (stands_same at e stands)) marks.reach }
 

@@ -8,7 +8,8 @@ use Rattle.hm_types.specs.Intervals.{Keeps}
 use Rattle.hm_types.specs.Elements.{Key, Sees, IsDead}
 use Rattle.hm_key.specs.Element.{IsElement, pfs_of}
 use Rattle.hm_key.specs.Elements.{element_key, stands_at, element_at, first_from, removed, IsContent}
-use Rattle.hm_key.specs.Extents.{Extent, AreExtents, rounded, extent_at, given_back_at}
+use Rattle.hm_types.specs.Space.{rounded}
+use Rattle.hm_key.specs.Extents.{Extent, AreExtents, extent_at, given_back_at}
 use Rattle.hm_key.specs.Balance.{IsHeld, IsBalanced, Balanced, content_of, full_of, full_elements, MayGo, Works}
 use Rattle.hm_key.specs.Stores.{IsFound}
 use Rattle.hm_key.specs.Sweep.{keeps_one, IsOver}

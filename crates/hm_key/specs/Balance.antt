@@ -3,7 +3,8 @@ use Rattle.std.specs.Prelude.{◌≡◌, ℕ, nat_eq, List, [], ◌∷◌, map, 
 use Rattle.hm_types.specs.Elements.{FullElement, IsDead}
 use Rattle.hm_key.specs.Element.{pfs_of}
 use Rattle.hm_key.specs.Elements.{element_key}
-use Rattle.hm_key.specs.Extents.{Extent, rounded, extent_at}
+use Rattle.hm_types.specs.Space.{rounded}
+use Rattle.hm_key.specs.Extents.{Extent, extent_at}
 use Rattle.hm_key.specs.declared.element.Element.{Element}
 
 -- an element's payload begins a live extent of its rounded length

@@ -35,6 +35,7 @@ pub record FitsType (e : Element) : Type 0 where
   pub target : e.base.rec_type ≡ SOFTLINK_TARGET → e.base.key ≡ 0
   pub file_bytes : e.base.rec_type ≡ FILE_BYTES → IsInBlock e.base.key e.len
   pub pfs_object : e.base.rec_type ≡ PFS_RECORD → e.base.obj.0 ≡ 1
+  pub snapshot_object : e.base.rec_type ≡ SNAPSHOT → e.base.obj.0 ≡ 1
   pub pfs_number : e.base.rec_type ≡ PFS_RECORD → e.base.key ≡ pfs_of e.base.localization
 
 -- an element that may stand in a leaf, whatever its payload holds

@@ -1,6 +1,7 @@
 -- The live extents of a store, by their places, and what a call makes of them.
 use Rattle.std.specs.Prelude.{◌≡◌, ℕ, ◌+◌, ◌-◌, ◌*◌, ◌/◌, ◌≤◌, if◌then◌else◌, nat_eq, nat_lt, List, [], ◌∷◌, length, take, Option, None, Some, All, ⊤}
 use Rattle.hm_types.specs.Offset.{zone_of, volume_of, byte_of}
+use Rattle.hm_types.specs.Space.{IsPayloadZone, rounded}
 
 -- bytes of a file or of a record that are in use
 pub record Extent : Type 0 where
@@ -11,14 +12,6 @@ pub record Extent : Type 0 where
   pub bytes : List ℕ
   -- how many elements may refer to it
   pub refs : ℕ
-
--- how many bytes of space so many bytes take: extents are multiples of 16
-abbrev pub rounded : ℕ → ℕ
-rounded len = (len + 15) / 16 * 16
-
--- a zone that payloads stand in: 9, 10 or 11
-abbrev pub IsPayloadZone : ℕ → Type 0
-IsPayloadZone zone = (9 ≤ zone) × (zone ≤ 11)
 
 -- a live extent, with 1 to 64 references
 pub record IsExtent (x : Extent) : Type 0 where

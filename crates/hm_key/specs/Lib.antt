@@ -7,6 +7,7 @@ pub mod Key
 pub mod Memory
 pub mod Places
 pub mod Props
-pub mod Space
+pub mod Marks
+pub mod Calls
 pub mod Stores
 pub mod Sweep

@@ -8,7 +8,7 @@ use Rattle.hm_types.specs.declared.limits.TheConstants.{BIGBLOCK_BYTES}
 use Rattle.hm_key.specs.Extents.{Extent}
 use Rattle.hm_key.specs.declared.held.Held.{Held}
 use Rattle.hm_key.specs.declared.mark_list.Mark.{Mark}
-use Rattle.hm_key.specs.declared.room.TheConstants.{TREE_ZONE, META_ZONE, LARGE_ZONE, SMALL_ZONE}
+use Rattle.hm_types.specs.declared.zone.TheConstants.{TREE_ZONE, META_ZONE, LARGE_ZONE, SMALL_ZONE}
 use Rattle.hm_key.specs.declared.rooms.Rooms.{Rooms}
 
 -- the key that a mark is for

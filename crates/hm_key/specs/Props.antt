@@ -10,7 +10,7 @@ use Rattle.hm_key.specs.Extents.{Extent, AreApart, AreExtents}
 use Rattle.hm_key.specs.Memory.{EndBy}
 use Rattle.hm_key.specs.Element.{IsRecType, IsElement}
 use Rattle.hm_key.specs.Elements.{IsContent}
-use Rattle.hm_key.specs.Stores.{IsMarked}
+use Rattle.hm_key.specs.Marks.{IsMarked}
 use Rattle.hm_key.specs.declared.element.Element.{Element}
 
 -- one of two facts that exclude each other

@@ -6,9 +6,8 @@ ghost use Rattle.hm_key.specs.Elements.{element_at};
 
 use crate::element::Element;
 use crate::extents::Extents;
-use crate::room::{INSERT_ROOM, TREE_ZONE};
 use crate::store::ElementStore;
-use hm_types::Fault;
+use hm_types::{Counted, Fault, INSERT_ROOM, TREE_ZONE};
 
 /// Inserts an element, and finds it at its key.
 pub fn insert_and_find<T: ElementStore + Extents>(
@@ -21,6 +20,8 @@ pub fn insert_and_find<T: ElementStore + Extents>(
     requires room { INSERT_ROOM ≤ T.room store.old TREE_ZONE }
     ensures found { IfOk result (λ found. OnSome (T.elements store.old) (found ≡ Some e.now)) }
     ensures extents { IfOk result (λ _. T.extents store.new ≡ T.extents store.old) }
+    ensures name { T.name store.new ≡ T.name store.old }
+    ensures frame { T.frame store.new ≡ T.frame store.old }
 {
     store.insert(e)?;
     store.first_at_or_after(&e.base)

@@ -44,7 +44,8 @@ fn fits_type(element: &Element) -> bool
         SOFTLINK_TARGET => part == OTHER_PART && base.key == 0,
         FILE_BYTES => part == OTHER_PART && is_in_block(base.key, element.len),
         PFS_RECORD => part == OTHER_PART && is_pfs_record(base),
-        DIRECTORY_ENTRY | SNAPSHOT => part == OTHER_PART,
+        SNAPSHOT => part == OTHER_PART && base.obj.0 == 1,
+        DIRECTORY_ENTRY => part == OTHER_PART,
         _ => false,
     }
 }
@@ -109,7 +110,9 @@ mod tests {
             (0x0015, 0x0003_0002, 1, 3, 48, true),
             (0x0015, 0x0003_0002, 1, 2, 48, false),
             (0x0015, 0x0003_0002, 2, 3, 48, false),
-            (0x0016, 0x0000_0002, 1, 8, 8, true),
+            (0x0016, 0x0003_0002, 1, 8, 8, true),
+            (0x0016, 0x0003_0002, 2, 8, 8, false),
+            (0x0016, 0x0003_0001, 1, 8, 8, false),
             (0x0017, 0x0000_0002, 1, 8, 8, false),
             (0x0000, 0x0000_0002, 1, 8, 8, false),
         ] {

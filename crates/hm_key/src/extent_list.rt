@@ -22,7 +22,8 @@ pub struct ExtentList {
 impl ExtentList {
     ghost use Rattle.std.specs.Prelude.{◌≡◌, ◌<◌, ◌≤◌, ◌^◌, [], IfOk, OnErr, IsSome, IsSomeAnd, IfSome, option_map, length, take};
     ghost use Rattle.hm_types.specs.Offset.{zone_of};
-    ghost use Rattle.hm_key.specs.Extents.{rounded, IsPayloadZone, PlacesAt, extent_at, shared_at, given_back_at};
+    ghost use Rattle.hm_types.specs.Space.{IsPayloadZone, rounded};
+    ghost use Rattle.hm_key.specs.Extents.{PlacesAt, extent_at, shared_at, given_back_at};
     ghost use Rattle.hm_key.specs.Memory.{extents_of, told_of, IsAt};
 
     /// Takes no memory.

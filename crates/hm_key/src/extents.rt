@@ -1,14 +1,15 @@
 // The live extents of a store, and its space.
 ghost use Rattle.std.specs.Prelude.{◌≡◌, ◌+◌, ℕ, ◌<◌, ◌≤◌, List, Option, is_some, length, take};
 ghost use Rattle.std.specs.Prelude.{IfSome, IsSomeAnd, IfOk, OnOk, IfErr};
-ghost use Rattle.hm_types.specs.Offset.{zone_of};
-ghost use Rattle.hm_key.specs.Extents.{Extent, rounded, IsPayloadZone, AreExtents, extent_at, shared_at, given_back_at, PlacesAt};
-ghost use Rattle.hm_key.specs.Space.{Spends, Admits, LacksSpace, IfNoSpace, nothing, in_zone};
-ghost use Rattle.hm_key.specs.Stores.{Keeps, Same, SameContent, ExtentsChange, HasStoreCause, HasAdmitCause};
+ghost use Rattle.hm_types.specs.Faults.{HasStoreCause, HasAdmitCause};
+ghost use Rattle.hm_types.specs.Space.{IsPayloadZone, Spends, nothing, in_zone, rounded};
+ghost use Rattle.hm_key.specs.Calls.{Admission, Placement};
+ghost use Rattle.hm_key.specs.Extents.{AreExtents, extent_at, shared_at, given_back_at};
+ghost use Rattle.hm_key.specs.Stores.{Keeps, Same, ExtentsChange};
 
 use crate::room::HasRoom;
 use crate::store::HasElements;
-use hm_types::{Fault, HOff, SpaceFault, Zones};
+use hm_types::{Counted, Fault, HOff, SpaceFault, Zones};
 
 /// Room for payloads: extents of the zones 9, 10 and 11, each of which up to 64 elements may share.
 /// A condition that speaks of the content binds only where the store tells it.
@@ -17,20 +18,15 @@ use hm_types::{Fault, HOff, SpaceFault, Zones};
 /// call other than `fetch`, nothing is known of the content, also not whether it is told.
 pub trait Extents: HasElements {
     /// Lets each named zone have room of at least its reserve: 1,048,576 bytes in zone 8, and
-    /// 131,072 bytes in the zones 9, 10 and 11. A zone that has less room takes one free big-block.
-    /// `NoSpace` exactly where more zones need one than are free after `held` of them were held
+    /// 131,072 bytes in the zones 9, 10 and 11. A zone that has less room takes one free big-block; one
+    /// that is replaced while nothing in it is live becomes free at once. `NoSpace` exactly where more zones need one than are free after `held` of them were held
     /// back; the store is then as before.
     fn admit(&mut self, zones: Zones, held: u32) -> Result<(), SpaceFault>
-        ensures ok { OnOk result (Admits Self.room Self.free zones held self.old self.new) }
-        ensures content { OnOk result
-            (SameContent Self.elements Self.mark Self.extents self.old self.new) }
-        ensures no_space { IfErr result (IfNoSpace
-            (LacksSpace zones held (Self.room self.old) (Self.free self.old))) }
-        ensures unchanged { IfErr result (IfNoSpace (λ _ _.
-            Same Self.name Self.elements Self.mark Self.extents Self.room Self.free
-            self.old self.new)) }
-        ensures room { (zone : ℕ) → Self.room self.old zone ≤ Self.room self.new zone }
-        ensures keeps { Keeps Self.name Self.elements Self.extents self.old self.new result }
+        ensures answers { Admission Self.elements Self.mark Self.extents Self.room Self.free
+            zones held self.old self.new result }
+        ensures keeps { Keeps Self.elements Self.extents self.old self.new result }
+        ensures name { Self.name self.new ≡ Self.name self.old }
+        ensures frame { Self.frame self.new ≡ Self.frame self.old }
         ensures cause { HasAdmitCause (Self.extents self.old)
             (Self.faults self.old) (Self.faults self.new) result };
 
@@ -40,8 +36,10 @@ pub trait Extents: HasElements {
             IsSomeAnd (extent_at at xs) (λ x. length buf.old ≤ x.len)) }
         ensures ok { IfSome (Self.extents self.old) (λ xs.
             IfSome (extent_at at xs) (λ x. OnOk result (buf.new ≡ take (length buf.old) x.bytes))) }
-        ensures keeps { Same Self.name Self.elements Self.mark Self.extents Self.room Self.free
+        ensures keeps { Same Self.elements Self.mark Self.extents Self.room Self.free
             self.old self.new }
+        ensures name { Self.name self.new ≡ Self.name self.old }
+        ensures frame { Self.frame self.new ≡ Self.frame self.old }
         ensures cause { HasStoreCause (Self.extents self.old)
             (Self.faults self.old) (Self.faults self.new) result };
 
@@ -51,14 +49,13 @@ pub trait Extents: HasElements {
         requires zone { IsPayloadZone zone }
         requires some { 1 ≤ length bytes.now }
         requires room { rounded (length bytes.now) ≤ Self.room self.old zone }
-        ensures ok { IfOk result (λ at. ExtentsChange Self.elements Self.mark Self.extents
-            (PlacesAt at bytes.now) self.old self.new) }
-        ensures zone { IfOk result (λ at. zone_of at ≡ zone) }
-        ensures spent { OnOk result
-            (Self.room self.new zone + rounded (length bytes.now) ≡ Self.room self.old zone) }
+        ensures ok { IfOk result
+            (Placement Self.elements Self.mark Self.extents Self.room zone bytes.now self.old self.new) }
         ensures space { Spends Self.room Self.free (in_zone zone (rounded (length bytes.now)))
             self.old self.new }
-        ensures keeps { Keeps Self.name Self.elements Self.extents self.old self.new result }
+        ensures keeps { Keeps Self.elements Self.extents self.old self.new result }
+        ensures name { Self.name self.new ≡ Self.name self.old }
+        ensures frame { Self.frame self.new ≡ Self.frame self.old }
         ensures cause { HasStoreCause (Self.extents self.old)
             (Self.faults self.old) (Self.faults self.new) result };
 
@@ -69,8 +66,10 @@ pub trait Extents: HasElements {
             IsSomeAnd (extent_at at xs) (λ x. (x.len ≡ rounded len) × (x.refs < 64))) }
         ensures ok { OnOk result (ExtentsChange Self.elements Self.mark Self.extents
             (λ xs ys. ys ≡ shared_at at xs) self.old self.new) }
-        ensures keeps { Keeps Self.name Self.elements Self.extents self.old self.new result }
+        ensures keeps { Keeps Self.elements Self.extents self.old self.new result }
         ensures space { Spends Self.room Self.free nothing self.old self.new }
+        ensures name { Self.name self.new ≡ Self.name self.old }
+        ensures frame { Self.frame self.new ≡ Self.frame self.old }
         ensures cause { HasStoreCause (Self.extents self.old)
             (Self.faults self.old) (Self.faults self.new) result };
 
@@ -81,8 +80,10 @@ pub trait Extents: HasElements {
             IsSomeAnd (extent_at at xs) (λ x. x.len ≡ rounded len)) }
         ensures ok { OnOk result (ExtentsChange Self.elements Self.mark Self.extents
             (λ xs ys. ys ≡ given_back_at at xs) self.old self.new) }
-        ensures keeps { Keeps Self.name Self.elements Self.extents self.old self.new result }
+        ensures keeps { Keeps Self.elements Self.extents self.old self.new result }
         ensures space { Spends Self.room Self.free nothing self.old self.new }
+        ensures name { Self.name self.new ≡ Self.name self.old }
+        ensures frame { Self.frame self.new ≡ Self.frame self.old }
         ensures cause { HasStoreCause (Self.extents self.old)
             (Self.faults self.old) (Self.faults self.new) result };
 

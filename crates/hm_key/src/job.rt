@@ -1,13 +1,13 @@
 // Work on a store that is done in units.
-ghost use Rattle.std.specs.Prelude.{◌≡◌, ℕ, ◌≤◌, Bool, List, Option, IfSome, IsSomeAnd, IfOk, OnOk, OnErr, OnSome, IsFalse};
-ghost use Rattle.hm_types.specs.Elements.{Key};
-ghost use Rattle.hm_key.specs.Balance.{content_of, IsBalanced, Works};
-ghost use Rattle.hm_key.specs.Job.{IfMore, IfDone};
-ghost use Rattle.hm_key.specs.Stores.{Keeps, HasStoreCause};
+ghost use Rattle.std.specs.Prelude.{◌≡◌, ℕ, Bool, List, Option, IfOk};
+ghost use Rattle.hm_types.specs.Faults.{HasStoreCause};
+ghost use Rattle.hm_key.specs.Balance.{content_of};
+ghost use Rattle.hm_key.specs.Calls.{KeepsJob, UnitDone};
+ghost use Rattle.hm_key.specs.Job.{IfProgress};
 
 use crate::extents::Extents;
 use crate::store::ElementStore;
-use hm_types::Fault;
+use hm_types::{Counted, Fault};
 
 /// What a unit of a job answers: there is more to do, or the job has come to its end.
 #[derive(Clone, Copy, Debug, PartialEq, Eq)]
@@ -41,21 +41,13 @@ pub trait Job<T: ElementStore + Extents> {
     /// of that unit, and nothing is known of the store's content, also not whether it is told.
     fn unit(&mut self, store: &mut T) -> Result<Progress, Fault>
         requires fits { fits self.old store.old }
-        ensures goes { IfOk result (IfMore (goes self.new store.new)) }
-        ensures ends { IfOk result (IfDone (ends self.new store.new)) }
-        ensures err { OnErr result ((store : T) → fits self.old store → fits self.new store) }
-        ensures told { (kept self.new ≡ kept self.old) × (places self.new ≡ places self.old) }
-        ensures content { OnOk result (IfSome
-            (content_of (T.elements store.old) (T.extents store.old))
-            (λ old. IsBalanced old.0 old.1 →
-            IsSomeAnd (content_of (T.elements store.new) (T.extents store.new))
-            (Works (kept self.old) old))) }
-        ensures marks { OnOk result (OnSome (T.elements store.old)
-            ((key : Key) → T.mark store.old key ≤ T.mark store.new key)) }
-        ensures keeps { Keeps T.name T.elements T.extents store.old store.new result }
-        ensures free { T.free store.old ≤ T.free store.new }
-        ensures room { IsFalse (places self.old) →
-            (zone : ℕ) → T.room store.old zone ≤ T.room store.new zone }
+        ensures progress { IfOk result
+            (IfProgress (goes self.new store.new) (ends self.new store.new)) }
+        ensures job { KeepsJob fits kept places self.old self.new result }
+        ensures store { UnitDone T.elements T.mark T.extents T.room T.free (kept self.old)
+            (places self.old) store.old store.new result }
+        ensures name { T.name store.new ≡ T.name store.old }
+        ensures frame { T.frame store.new ≡ T.frame store.old }
         ensures cause { HasStoreCause (content_of (T.elements store.old) (T.extents store.old))
             (T.faults store.old) (T.faults store.new) result };
 }

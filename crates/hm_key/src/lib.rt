@@ -32,8 +32,5 @@ pub use rec_type::{
     DIRECTORY_ENTRY, FILE_BYTES, INODE, INODE_PART, OTHER_PART, PFS_RECORD, SNAPSHOT,
     SOFTLINK_TARGET,
 };
-pub use room::{
-    HasRoom, INSERT_ROOM, LARGE_ZONE, META_ZONE, PAYLOAD_RESERVE, SMALL_ZONE, TREE_RESERVE,
-    TREE_ZONE,
-};
+pub use room::HasRoom;
 pub use store::{ElementStore, HasElements};

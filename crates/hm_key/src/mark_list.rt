@@ -43,11 +43,12 @@ pub struct MarkList {
 }
 
 impl MarkList {
-    ghost use Rattle.std.specs.Prelude.{◌≡◌, ◌≤◌, [], OnOk};
+    ghost use Rattle.std.specs.Prelude.{◌≡◌, ◌≤◌, [], OnErr, OnOk};
     ghost use Rattle.hm_types.specs.Elements.{Key};
     ghost use Rattle.hm_key.specs.Key.{key_of, greatest_key, IsBefore};
     ghost use Rattle.hm_key.specs.Memory.{mark_of, mark_place};
-    ghost use Rattle.hm_key.specs.Stores.{Marks, IsEnd};
+    ghost use Rattle.hm_key.specs.Marks.{Marks};
+    ghost use Rattle.hm_key.specs.Stores.{IsEnd};
 
     /// Takes no memory.
     pub fn new(alloc: Global) -> MarkList
@@ -70,12 +71,12 @@ impl MarkList {
         }
     }
 
-    /// Raises the mark of the key of `at` to an id, where it is less. After an error no mark fell.
+    /// Raises the mark of the key of `at` to an id, where it is less. After an error all marks are as
+    /// they were.
     pub fn raise(&mut self, at: &Base, id: u64) -> Result<(), NoMemory>
         ensures ok { OnOk result
             (Marks (key_of at.now) id (mark_of self.old.list.items) (mark_of self.new.list.items)) }
-        ensures never_fall { (key : Key) →
-            mark_of self.old.list.items key ≤ mark_of self.new.list.items key }
+        ensures err { OnErr result (self.new.list.items ≡ self.old.list.items) }
     {
         let place = self.place_of(at);
         if place < self.list.len() {

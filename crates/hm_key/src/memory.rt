@@ -2,7 +2,7 @@
 ghost use Rattle.std.specs.Prelude.{All, refl};
 ghost use Rattle.hm_key.specs.Memory.{mark_of};
 ghost use Rattle.hm_key.specs.Props.{AllMarked-prop};
-ghost use Rattle.hm_key.specs.Stores.{IsMarked};
+ghost use Rattle.hm_key.specs.Marks.{IsMarked};
 
 use crate::base::Base;
 use crate::element::Element;
@@ -13,7 +13,7 @@ use crate::mark_list::MarkList;
 use crate::room::HasRoom;
 use crate::rooms::Rooms;
 use crate::store::{ElementStore, HasElements};
-use hm_types::{Counted, Fault, HOff, Id, SpaceFault, Zones};
+use hm_types::{Counted, Fault, HOff, Id, SpaceFault, Zones, rounded};
 use std::alloc::Global;
 use std::cmp::Ordering;
 
@@ -36,6 +36,8 @@ impl Counted for MemStore {
     ghost faults = { λ _. 0 };
 
     ghost name = { λ _. 0 };
+
+    ghost frame = { λ _. tt };
 }
 
 impl HasRoom for MemStore {
@@ -188,7 +190,7 @@ impl Extents for MemStore {
 
     fn place(&mut self, zone: u8, bytes: &[u8]) -> Result<HOff, Fault> {
         let at = self.extents.place(zone, bytes)?;
-        self.rooms.take(zone, (bytes.len() as u64 + 15) / 16 * 16);
+        self.rooms.take(zone, rounded(bytes.len() as u64));
         Ok(at)
     }
 

@@ -1,11 +1,13 @@
 // The room of a store in memory.
 ghost use Rattle.std.specs.Prelude.{◌≡◌, ◌≤◌, ◌&&◌, nat_lt, IsTrue};
 ghost use Rattle.hm_types.specs.Zones.{bits_of};
-ghost use Rattle.hm_key.specs.Space.{has_flag};
+ghost use Rattle.hm_types.specs.Space.{has_flag};
 
-use crate::room::{LARGE_ZONE, META_ZONE, PAYLOAD_RESERVE, SMALL_ZONE, TREE_RESERVE, TREE_ZONE};
 use bitflags::Flags;
-use hm_types::{BIGBLOCK_BYTES, Zones};
+use hm_types::{
+    BIGBLOCK_BYTES, LARGE_ZONE, META_ZONE, PAYLOAD_RESERVE, SMALL_ZONE, TREE_RESERVE, TREE_ZONE,
+    Zones,
+};
 
 /// How many bytes the append big-block of each zone has left.
 #[derive(Clone, Copy, Debug)]
@@ -18,9 +20,8 @@ pub struct Rooms {
 
 impl Rooms {
     ghost use Rattle.std.specs.Prelude.{◌≡◌, ◌+◌, ◌≤◌, ℕ, IsTrue};
-    ghost use Rattle.hm_key.specs.Extents.{IsPayloadZone};
+    ghost use Rattle.hm_types.specs.Space.{IsPayloadZone, needed, names_zone, reserve_of, in_zone};
     ghost use Rattle.hm_key.specs.Memory.{room_of, fresh_room};
-    ghost use Rattle.hm_key.specs.Space.{needed, names_zone, reserve_of, in_zone};
 
     /// Four big-blocks of which nothing was taken yet.
     pub fn fresh() -> Rooms

@@ -1,17 +1,19 @@
 // A sorted list of elements with a mark for each key.
 ghost use Rattle.std.specs.Prelude.{◌≡◌, ◌⊎◌, ℕ, ◌<◌, ◌≤◌, List, Option, IfSome, IsSome, IsNone, IfOk, OnOk, All};
 ghost use Rattle.hm_types.specs.Elements.{Key};
+ghost use Rattle.hm_types.specs.Faults.{HasStoreCause};
+ghost use Rattle.hm_types.specs.Space.{Spends, nothing, in_zone};
 ghost use Rattle.hm_key.specs.Key.{key_of, greatest_key, IsBefore};
 ghost use Rattle.hm_key.specs.Element.{IsElement};
 ghost use Rattle.hm_key.specs.Elements.{IsContent, element_at, first_from, inserted, removed, with_delete, with_payload, last_id};
-ghost use Rattle.hm_key.specs.Space.{Spends, nothing, in_zone};
-ghost use Rattle.hm_key.specs.Stores.{Keeps, Same, ElementsChange, HasStoreCause, IsFound, IsEnd, IsQuiet, IsMarked};
+ghost use Rattle.hm_key.specs.Marks.{Marks, MarksJoin, MarksStay, IsQuiet, IsMarked};
+ghost use Rattle.hm_key.specs.Stores.{Keeps, Same, ElementsChange, IsFound, IsEnd};
 ghost use Rattle.hm_key.specs.declared.element.Element.{Element};
 
 use crate::base::Base;
 use crate::element::Element;
-use crate::room::{HasRoom, INSERT_ROOM, TREE_ZONE};
-use hm_types::{Fault, HOff, Id};
+use crate::room::HasRoom;
+use hm_types::{Counted, Fault, HOff, INSERT_ROOM, Id, TREE_ZONE};
 
 /// What a store tells of its elements.
 pub trait HasElements: HasRoom {
@@ -28,7 +30,9 @@ impl<T: HasElements> HasElements for &mut T {
     ghost mark = { λ t. T.mark t.now };
 }
 
-/// A list of elements in the order of their keys, in which each key has a mark. A condition that
+/// A list of elements in the order of their keys, in which each key has a mark: an id that is at
+/// least each one ever written there. Keys side by side may share one. Nothing but what was written
+/// raises a mark, so that a reader may skip all that did not change after an id. A condition that
 /// speaks of the content binds only where the store tells it.
 ///
 /// Each call can answer `Media` where the count of faults rose in it, `NoMemory` where an
@@ -42,8 +46,10 @@ pub trait ElementStore: HasElements {
         ensures ok { IfSome (Self.elements self.old) (λ es.
             IfOk result (λ found. found ≡ first_from (key_of at.now) es)) }
         ensures found { IfOk result (λ found. IfSome found (IsFound (key_of at.now))) }
-        ensures keeps { Same Self.name Self.elements Self.mark Self.extents Self.room Self.free
+        ensures keeps { Same Self.elements Self.mark Self.extents Self.room Self.free
             self.old self.new }
+        ensures name { Self.name self.new ≡ Self.name self.old }
+        ensures frame { Self.frame self.new ≡ Self.frame self.old }
         ensures cause { HasStoreCause (Self.elements self.old)
             (Self.faults self.old) (Self.faults self.new) result };
 
@@ -55,10 +61,12 @@ pub trait ElementStore: HasElements {
         requires element { IsElement e.now }
         requires room { INSERT_ROOM ≤ Self.room self.old TREE_ZONE }
         ensures ok { OnOk result (ElementsChange Self.elements Self.mark Self.extents
-            (inserted e.now) (key_of e.now.base) (last_id e.now) self.old self.new) }
-        ensures keeps { Keeps Self.name Self.elements Self.extents self.old self.new result }
+            (inserted e.now) (Marks (key_of e.now.base) (last_id e.now)) self.old self.new) }
+        ensures keeps { Keeps Self.elements Self.extents self.old self.new result }
         ensures space { Spends Self.room Self.free (in_zone TREE_ZONE INSERT_ROOM)
             self.old self.new }
+        ensures name { Self.name self.new ≡ Self.name self.old }
+        ensures frame { Self.frame self.new ≡ Self.frame self.old }
         ensures cause { HasStoreCause (Self.elements self.old)
             (Self.faults self.old) (Self.faults self.new) result };
 
@@ -68,9 +76,11 @@ pub trait ElementStore: HasElements {
             IsSome (element_at (key_of at.now) es)) }
         requires later { (delete ≡ 0) ⊎ (at.now.create < delete) }
         ensures ok { OnOk result (ElementsChange Self.elements Self.mark Self.extents
-            (with_delete (key_of at.now) delete) (key_of at.now) delete self.old self.new) }
-        ensures keeps { Keeps Self.name Self.elements Self.extents self.old self.new result }
+            (with_delete (key_of at.now) delete) (Marks (key_of at.now) delete) self.old self.new) }
+        ensures keeps { Keeps Self.elements Self.extents self.old self.new result }
         ensures space { Spends Self.room Self.free nothing self.old self.new }
+        ensures name { Self.name self.new ≡ Self.name self.old }
+        ensures frame { Self.frame self.new ≡ Self.frame self.old }
         ensures cause { HasStoreCause (Self.elements self.old)
             (Self.faults self.old) (Self.faults self.new) result };
 
@@ -79,9 +89,11 @@ pub trait ElementStore: HasElements {
         requires there { IfSome (Self.elements self.old) (λ es.
             IsSome (element_at (key_of at.now) es)) }
         ensures ok { OnOk result (ElementsChange Self.elements Self.mark Self.extents
-            (removed (key_of at.now)) (key_of at.now) 0 self.old self.new) }
-        ensures keeps { Keeps Self.name Self.elements Self.extents self.old self.new result }
+            (removed (key_of at.now)) (MarksJoin (key_of at.now)) self.old self.new) }
+        ensures keeps { Keeps Self.elements Self.extents self.old self.new result }
         ensures space { Spends Self.room Self.free nothing self.old self.new }
+        ensures name { Self.name self.new ≡ Self.name self.old }
+        ensures frame { Self.frame self.new ≡ Self.frame self.old }
         ensures cause { HasStoreCause (Self.elements self.old)
             (Self.faults self.old) (Self.faults self.new) result };
 
@@ -90,9 +102,11 @@ pub trait ElementStore: HasElements {
         requires there { IfSome (Self.elements self.old) (λ es.
             IsSome (element_at (key_of at.now) es)) }
         ensures ok { OnOk result (ElementsChange Self.elements Self.mark Self.extents
-            (with_payload (key_of at.now) to) (key_of at.now) 0 self.old self.new) }
-        ensures keeps { Keeps Self.name Self.elements Self.extents self.old self.new result }
+            (with_payload (key_of at.now) to) MarksStay self.old self.new) }
+        ensures keeps { Keeps Self.elements Self.extents self.old self.new result }
         ensures space { Spends Self.room Self.free nothing self.old self.new }
+        ensures name { Self.name self.new ≡ Self.name self.old }
+        ensures frame { Self.frame self.new ≡ Self.frame self.old }
         ensures cause { HasStoreCause (Self.elements self.old)
             (Self.faults self.old) (Self.faults self.new) result };
 
@@ -104,8 +118,10 @@ pub trait ElementStore: HasElements {
         ensures ok { IfSome (Self.elements self.old) (λ _.
             IfOk result (IsQuiet (Self.mark self.old) (key_of at.now) since.0)) }
         ensures found { IfOk result (λ end. IfSome end (IsEnd (key_of at.now))) }
-        ensures keeps { Same Self.name Self.elements Self.mark Self.extents Self.room Self.free
+        ensures keeps { Same Self.elements Self.mark Self.extents Self.room Self.free
             self.old self.new }
+        ensures name { Self.name self.new ≡ Self.name self.old }
+        ensures frame { Self.frame self.new ≡ Self.frame self.old }
         ensures cause { HasStoreCause (Self.elements self.old)
             (Self.faults self.old) (Self.faults self.new) result };
 

@@ -1,10 +1,11 @@
 // A plain job, written from the traits alone: it shows that `Job` can be met.
 ghost use Rattle.std.specs.Prelude.{◌≡◌, ◌↔◌, IfSome, IfOk, OnOk, IsTrue, false, None, Some};
+ghost use Rattle.hm_types.specs.Faults.{HasStoreCause};
+ghost use Rattle.hm_types.specs.Space.{Spends, nothing};
 ghost use Rattle.hm_key.specs.Balance.{Balanced, content_of};
 ghost use Rattle.hm_key.specs.Elements.{element_at, first_from};
 ghost use Rattle.hm_key.specs.Key.{key_of};
-ghost use Rattle.hm_key.specs.Space.{Spends, nothing};
-ghost use Rattle.hm_key.specs.Stores.{Keeps, HasStoreCause};
+ghost use Rattle.hm_key.specs.Stores.{Keeps};
 ghost use Rattle.hm_key.specs.Sweep.{keeps_one, IsOver, Clears};
 
 use crate::base::{Base, ELEMENT};
@@ -13,9 +14,9 @@ use crate::extents::Extents;
 use crate::job::{Job, Progress};
 use crate::memory::MemStore;
 use crate::rec_type::{DIRECTORY_ENTRY, OTHER_PART};
-use crate::room::{HasRoom, INSERT_ROOM, META_ZONE, TREE_ZONE};
+use crate::room::HasRoom;
 use crate::store::{ElementStore, HasElements};
-use hm_types::{Fault, HOff, Obj};
+use hm_types::{Counted, Fault, HOff, INSERT_ROOM, META_ZONE, Obj, TREE_ZONE};
 use std::alloc::Global;
 use std::test::Fail;
 
@@ -73,7 +74,9 @@ fn clear<T: ElementStore + Extents>(
         element_at (key_of element.now.base) es ≡ Some element.now) }
     ensures ok { OnOk result (Clears T.elements T.mark T.extents is_over element.now
         store.old store.new) }
-    ensures keeps { Keeps T.name T.elements T.extents store.old store.new result }
+    ensures keeps { Keeps T.elements T.extents store.old store.new result }
+    ensures name { T.name store.new ≡ T.name store.old }
+    ensures frame { T.frame store.new ≡ T.frame store.old }
     ensures space { Spends T.room T.free nothing store.old store.new }
     ensures cause { HasStoreCause (content_of (T.elements store.old) (T.extents store.old))
         (T.faults store.old) (T.faults store.new) result }

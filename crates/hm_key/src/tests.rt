@@ -5,7 +5,6 @@ use crate::element::{Element, is_element};
 use crate::extents::Extents;
 use crate::memory::MemStore;
 use crate::rec_type::{DIRECTORY_ENTRY, OTHER_PART};
-use crate::room::{INSERT_ROOM, LARGE_ZONE, META_ZONE, SMALL_ZONE, TREE_ZONE};
 use crate::store::ElementStore;
 use bitflags::Flags;
 use hm_types::{HOff, Id, Obj, SpaceFault, Zones};
