@@ -1,19 +1,22 @@
 -- What a plain job needs and leaves, over what a store may tell.
-use Rattle.std.proofs.Common.{◌≡◌, ℕ, ◌<◌, ◌≤◌, List, [], ◌∷◌, true, false, true≢false, Bool, Option, Some, None, refl, sym, ◌∙◌, subst, arith, inl, inr}
-use Rattle.std.specs.Prelude.{if◌then◌else◌, ◌⊎◌, IfSome, IsSomeAnd, is_some, option_map}
+use Rattle.std.proofs.Common.{◌≡◌, ap, ℕ, ◌<◌, ◌≤◌, List, [], ◌∷◌, true, false, true≢false, Bool, Option, Some, None, refl, sym, ◌∙◌, subst, arith, inl, inr}
+use Rattle.std.specs.Prelude.{if◌then◌else◌, ◌⊎◌, IfSome, IsSomeAnd, OnSome, OnOk, Result, Ok, Err, is_some, option_map}
 use Rattle.std.specs.List.{AllByRecursion}
 use Rattle.std.proofs.lemmas.Bool.{eq-eqb}
 use Rattle.std.proofs.lemmas.List.Elements.{recursion_from_All}
 use Rattle.hm_types.specs.Intervals.{Keeps}
+use Rattle.hm_types.specs.Told.{BothTell}
 use Rattle.hm_types.specs.Elements.{Key, Sees, IsDead}
 use Rattle.hm_key.specs.Element.{IsElement, pfs_of}
 use Rattle.hm_key.specs.Elements.{element_key, stands_at, element_at, first_from, removed, IsContent}
 use Rattle.hm_types.specs.Space.{rounded}
 use Rattle.hm_key.specs.Extents.{Extent, AreExtents, extent_at, given_back_at}
 use Rattle.hm_key.specs.Balance.{IsHeld, IsBalanced, Balanced, content_of, full_of, full_elements, MayGo, Works}
-use Rattle.hm_key.specs.Stores.{IsFound}
-use Rattle.hm_key.specs.Sweep.{keeps_one, IsOver}
+use Rattle.hm_key.specs.Marks.{MarksJoin, NoneFall}
+use Rattle.hm_key.specs.Stores.{ElementsChange, ExtentsChange, IsFound}
+use Rattle.hm_key.specs.Sweep.{Clears, keeps_one, IsOver}
 use Rattle.hm_key.specs.declared.element.Element.{Element}
+use Rattle.hm_key.proofs.RaiseLemmas.{join_never_falls}
 use Rattle.hm_key.proofs.SearchLemmas.{first_from-at}
 use Rattle.hm_key.proofs.BalanceLemmas.{balanced_removed, full_removed, LosesDead-refl, LosesDead-removed}
 
@@ -79,3 +82,36 @@ works_balanced kept (Some es) (Some fs) (Some xs) (Some ys) told others works ba
 -- what a search found may stand in a leaf
 pub found_element : (at : Key) (e : Element) (found : Option Element) → IfSome found (IsFound at) → found ≡ Some e → IsElement e
 found_element at e found sound is = let fact : IfSome (Some e) (IsFound at) = subst (λ (o : Option Element). IfSome o (IsFound at)) is sound in fact.element
+
+-- marks of which none falls, over two calls of which the first leaves the elements and the marks
+pub marks_over : (es mid : Option (List Element)) (old new last : Key → ℕ) → mid ≡ es → new ≡ old → OnSome mid (NoneFall new last) → OnSome es (NoneFall old last)
+marks_over None mid old new last same marks fall = tt
+marks_over (Some es) mid old new last same marks fall = rw (same, marks) at fall
+
+-- marks that stay
+pub marks_stay : (es : Option (List Element)) (old new : Key → ℕ) → new ≡ old → OnSome es (NoneFall old new)
+marks_stay None old new same = tt
+marks_stay (Some es) old new same = λ key. omega (arith, ap (λ (mark : Key → ℕ). mark key) same)
+
+-- an extent list that changed as a reference went
+given_back : (at : ℕ) (old new : Option (List Extent)) → BothTell old new (λ xs ys. ys ≡ given_back_at at xs) → new ≡ option_map (given_back_at at) old
+given_back at None None changed = refl
+given_back at None (Some ys) changed = absurd changed
+given_back at (Some xs) None changed = absurd changed
+given_back at (Some xs) (Some ys) changed = ap Some changed
+
+-- marks of which none falls where keys come together
+joined_marks : (at : Key) (es : Option (List Element)) (old new : Key → ℕ) → IfSome es (λ _. MarksJoin at old new) → OnSome es (NoneFall old new)
+joined_marks at None old new marks = tt
+joined_marks at (Some es) old new marks = join_never_falls at old new marks
+
+-- an element was removed, and its reference given back
+pub cleared : {S A E : Type 0} (elements_of : S → Option (List Element)) (mark_of : S → Key → ℕ) (extents_of : S → Option (List Extent)) (over : Bool) (e : Element) (old mid new : S) (result : Result A E) → over ≡ true
+    → ElementsChange elements_of mark_of extents_of (removed (element_key e)) (MarksJoin (element_key e)) old mid
+    → OnOk result (ExtentsChange elements_of mark_of extents_of (λ xs ys. ys ≡ given_back_at e.payload xs) mid new) → OnOk result (Clears elements_of mark_of extents_of over e old new)
+cleared elements_of mark_of extents_of over e old mid new (Err error) is first second = tt
+cleared elements_of mark_of extents_of over e old mid new (Ok value) is first second = rw is (record {
+  elements = second.elements ∙ first.elements;
+  extents = given_back e.payload (extents_of mid) (extents_of new) second.extents ∙ ap (option_map (given_back_at e.payload)) first.extents;
+  marks = subst (λ (mark : Key → ℕ). OnSome (elements_of old) (NoneFall (mark_of old) mark)) (sym second.mark) (joined_marks (element_key e) (elements_of old) (mark_of old) (mark_of mid) first.mark);
+})

@@ -7,7 +7,9 @@ use crate::memory::MemStore;
 use crate::rec_type::{DIRECTORY_ENTRY, OTHER_PART};
 use crate::store::ElementStore;
 use bitflags::Flags;
-use hm_types::{HOff, Id, Obj, SpaceFault, Zones};
+use hm_types::{
+    HOff, INSERT_ROOM, Id, LARGE_ZONE, META_ZONE, Obj, SMALL_ZONE, SpaceFault, TREE_ZONE, Zones,
+};
 use std::alloc::Global;
 use std::cmp::Ordering;
 use std::test::Fail;

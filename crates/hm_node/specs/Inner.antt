@@ -7,7 +7,7 @@ use Rattle.hm_types.specs.declared.limits.TheConstants.{PAGE_BYTES, MOST_INNER_C
 use Rattle.hm_fields.specs.Fields.{get}
 use Rattle.hm_key.specs.Key.{key_of, IsBoundary}
 use Rattle.hm_key.specs.declared.base.Base.{Base}
-use Rattle.hm_key.specs.declared.room.TheConstants.{TREE_ZONE}
+use Rattle.hm_types.specs.declared.zone.TheConstants.{TREE_ZONE}
 use Rattle.hm_node.specs.Base.{base_in, base_cmp}
 use Rattle.hm_node.specs.Head.{head_in}
 use Rattle.hm_node.specs.Places.{place, first, IsZero}

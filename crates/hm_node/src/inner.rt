@@ -20,8 +20,8 @@ use crate::places::{are_rising, are_zero, is_zero_outside, place};
 use crate::rule::Rule;
 use arrayvec::ArrayVec;
 use hm_fields::{Page, get_u64, put_u64};
-use hm_key::{BOUNDARY, Base, TREE_ZONE};
-use hm_types::{HOff, MOST_INNER_CHILDREN, MOST_LEVELS};
+use hm_key::{BOUNDARY, Base};
+use hm_types::{HOff, MOST_INNER_CHILDREN, MOST_LEVELS, TREE_ZONE};
 
 /// A child of an inner node.
 #[derive(Clone, Copy, Debug, Default, PartialEq, Eq)]
