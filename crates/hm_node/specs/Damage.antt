@@ -1,5 +1,6 @@
 -- What is broken in a page that spells no node.
 use Rattle.std.specs.Prelude.{◌≡◌, ℕ, ◌<◌, List}
+use Rattle.hm_types.specs.declared.damage.TheConstants.{BAD_LEVEL, BAD_COUNT, BAD_ORDER, BAD_FIELD, BAD_MIRROR}
 use Rattle.hm_types.specs.declared.fault.Fault.{Fault}
 use Rattle.hm_types.specs.declared.fault.Fault.TheVariants.{Damaged}
 use Rattle.hm_node.specs.Node.{node_in, HasLevel, HasCount, HasOrder, HasFields, HasMirror, SaysLevel, HasZeros}
@@ -8,11 +9,11 @@ use Rattle.hm_node.specs.declared.rule.Rule.TheVariants.{Level, Count, Order, Fi
 
 -- the number under which a broken rule is told
 abbrev pub number_of : Rule → ℕ
-number_of Level = 1
-number_of Count = 2
-number_of Order = 3
-number_of Fields = 5
-number_of Mirror = 9
+number_of Level = BAD_LEVEL
+number_of Count = BAD_COUNT
+number_of Order = BAD_ORDER
+number_of Fields = BAD_FIELD
+number_of Mirror = BAD_MIRROR
 
 -- the page keeps the rule
 abbrev pub Keeps : List ℕ → Rule → Type 0

@@ -4,4 +4,6 @@ pub mod Head
 pub mod Inner
 pub mod Leaf
 pub mod Node
+pub mod Props
+pub mod Shape
 pub mod Places

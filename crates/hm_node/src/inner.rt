@@ -21,7 +21,7 @@ use crate::rule::Rule;
 use arrayvec::ArrayVec;
 use hm_fields::{Page, get_u64, put_u64};
 use hm_key::{BOUNDARY, Base};
-use hm_types::{HOff, MOST_INNER_CHILDREN, MOST_LEVELS, TREE_ZONE};
+use hm_types::{HOff, MOST_INNER_CHILDREN, MOST_LEVELS, PAGE_BYTES, TREE_ZONE};
 
 /// A child of an inner node.
 #[derive(Clone, Copy, Debug, Default, PartialEq, Eq)]
@@ -154,7 +154,7 @@ fn is_bound(base: &Base) -> bool
 fn is_node_offset(at: HOff) -> bool
     ensures { IsTrue result ↔ IsNodeOffset at }
 {
-    at.zone() == TREE_ZONE && at.byte() % 4_096 == 0
+    at.zone() == TREE_ZONE && at.byte() % PAGE_BYTES as u64 == 0
 }
 
 // Whether so many places have children that may stand in an inner node, and 0 after each.

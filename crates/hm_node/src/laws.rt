@@ -4,6 +4,7 @@ ghost use Rattle.hm_types.specs.declared.limits.TheConstants.{PAGE_BYTES};
 ghost use Rattle.hm_fields.specs.Fields.{AreBytes};
 ghost use Rattle.hm_node.specs.Node.{node_in, IsNode, Spells};
 ghost use Rattle.hm_node.specs.Damage.{Keeps, IsLowestKind};
+ghost use Rattle.hm_node.specs.Shape.{HoldsNode};
 ghost use Rattle.hm_node.specs.declared.node.Node.{Node};
 ghost use Rattle.hm_node.specs.declared.rule.Rule.{Rule};
 
@@ -31,6 +32,12 @@ pub fn sound_page_spells_its_node()
     ensures node { (page : List ℕ) → ((rule : Rule) → Keeps page rule) → IsNode (node_in page) }
     ensures page { (page : List ℕ) → length page ≡ PAGE_BYTES →
         ((rule : Rule) → Keeps page rule) → Spells page (node_in page) }
+{}
+
+/// A page that spells a node that keeps the rules has the shape of a node, which is what a search needs
+/// to be safe.
+pub fn sound_page_holds_its_node()
+    ensures { (page : List ℕ) (node : Node) → IsNode node → Spells page node → HoldsNode page }
 {}
 
 /// The number of the first broken rule is one at most.

@@ -10,6 +10,7 @@ mod inner;
 mod laws;
 mod leaf;
 mod node;
+mod node_pages;
 mod places;
 mod rule;
 #[cfg(test)]
@@ -19,10 +20,11 @@ pub use base::read_base;
 pub use head::{Head, INNER, LEAF, LEAF_LEVEL};
 pub use inner::{Child, Inner, read_child};
 pub use laws::{
-    node_has_one_page, one_kind_is_the_lowest, page_spells_one_node, sound_page_spells_its_node,
-    spelled_node_is_sound,
+    node_has_one_page, one_kind_is_the_lowest, page_spells_one_node, sound_page_holds_its_node,
+    sound_page_spells_its_node, spelled_node_is_sound,
 };
 pub use leaf::{Leaf, read_element};
 pub use node::{Node, broken_rule, decode, encode, node_of};
+pub use node_pages::NodePages;
 pub use places::place;
 pub use rule::Rule;

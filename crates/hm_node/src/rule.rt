@@ -2,6 +2,8 @@
 ghost use Rattle.std.specs.Prelude.{◌≡◌};
 ghost use Rattle.hm_node.specs.Damage.{number_of};
 
+use hm_types::{BAD_COUNT, BAD_FIELD, BAD_LEVEL, BAD_MIRROR, BAD_ORDER};
+
 /// A rule that a page breaks, if it spells no node.
 #[derive(Clone, Copy, Debug, PartialEq, Eq)]
 pub enum Rule {
@@ -18,17 +20,17 @@ pub enum Rule {
 }
 
 impl Rule {
-    /// The number under which damage is told. Number 4, for what lies outside the boundaries that
-    /// the node's parent has for it, is told by the crate that descends from the root.
+    /// The number under which damage is told. `BAD_BOUNDS`, for what lies outside the boundaries
+    /// that the node's parent has for it, is told by the crate that descends from the root.
     pub fn kind(self) -> u8
         ensures { result ≡ number_of self }
     {
         match self {
-            Rule::Level => 1,
-            Rule::Count => 2,
-            Rule::Order => 3,
-            Rule::Fields => 5,
-            Rule::Mirror => 9,
+            Rule::Level => BAD_LEVEL,
+            Rule::Count => BAD_COUNT,
+            Rule::Order => BAD_ORDER,
+            Rule::Fields => BAD_FIELD,
+            Rule::Mirror => BAD_MIRROR,
         }
     }
 }
