@@ -1,11 +1,11 @@
 -- Pages that are sound where they stand, and what may be told of the others.
-use Rattle.std.proofs.Common.{◌≡◌, ℕ, ◌<◌, ◌≤◌, List, inl, inr, refl, sym, subst, arith}
-use Rattle.std.specs.Prelude.{Result, Ok, Err}
+use Rattle.std.proofs.Common.{◌≡◌, ℕ, ◌<◌, ◌≤◌, List, inl, inr, refl, sym, subst, arith, true≢false}
+use Rattle.std.specs.Prelude.{Option, None, Some, IsSome, Result, Ok, Err}
 use Rattle.hm_types.specs.Faults.{IsCaused, HasFaultCause}
 use Rattle.hm_types.specs.declared.fault.Fault.{Fault}
 use Rattle.hm_types.specs.declared.fault.Fault.TheVariants.{Media, Damaged, NoMemory}
 use Rattle.hm_fields.specs.Pages.{PageMap, page_in}
-use Rattle.hm_key.specs.Stores.{IsUndamaged}
+use Rattle.hm_types.specs.Faults.{IsUndamaged}
 use Rattle.hm_node.specs.Damage.{Keeps, number_of, IsLowestKind, IsDamage}
 use Rattle.hm_node.specs.Node.{node_in, IsNode, Spells}
 use Rattle.hm_node.specs.declared.node.Node.{Node}
@@ -78,10 +78,11 @@ pub no_refusal : (at : ℕ) (page : List ℕ) → IsDamage at page NoMemory → 
 no_refusal at page (k, is, low) = cc
 
 -- what is told of a sound page is no damage
-pub tells_undamaged : (s : Subtree) (page : List ℕ) (node : Node) (fault : Fault) → SpellsHere s page node → TellsDamage s page fault → IsUndamaged fault
-tells_undamaged s page node (Media before after) here tells = tt
-tells_undamaged s page node (Damaged at kind) here tells = not_broken s page node kind here tells.1
-tells_undamaged s page node NoMemory here tells = tt
+pub tells_undamaged : (s : Subtree) (page : Option (List ℕ)) (node : Node) (fault : Fault) → IsSome page → SpellsHere s (page_in page) node → TellsDamage s page fault → IsUndamaged fault
+tells_undamaged s page node (Media before after) there here tells = tt
+tells_undamaged s (Some page) node (Damaged at kind) there here tells = not_broken s page node kind here tells.1
+tells_undamaged s None node (Damaged at kind) there here tells = absurd (true≢false (sym there))
+tells_undamaged s page node NoMemory there here tells = tt
 
 -- causes within a longer call
 pub caused_since : (old mid new : ℕ) (fault : Fault) → old ≤ mid → IsCaused mid new fault → IsCaused old new fault

@@ -6,12 +6,12 @@ use Rattle.hm_types.specs.Faults.{HasFaultCause}
 use Rattle.hm_types.specs.declared.fault.Fault.{Fault}
 use Rattle.hm_types.specs.declared.fault.Fault.TheVariants.{Media, Damaged, NoMemory}
 use Rattle.hm_fields.specs.Pages.{PageMap, page_in}
-use Rattle.hm_key.specs.Stores.{IsUndamaged}
+use Rattle.hm_types.specs.Faults.{IsUndamaged}
 use Rattle.hm_node.specs.Node.{IsNode}
 use Rattle.hm_node.specs.declared.inner.Inner.{Inner}
 use Rattle.hm_node.specs.declared.node.Node.{Node}
 use Rattle.hm_node.specs.declared.node.Node.TheVariants.{Inner as inner_node}
-use Rattle.hm_search.specs.Descent.{levels_under, levels_below, LeadsTo, Descends, IsFaultBelow, HasSearchCause}
+use Rattle.hm_search.specs.Descent.{StandsHere, levels_under, levels_below, LeadsTo, Descends, IsFaultBelow, HasSearchCause}
 use Rattle.hm_search.specs.Place.{Fits, FitsLevel, SpellsHere, TellsDamage}
 use Rattle.hm_search.specs.Tree.{node_at, children_of, IsTree, IsStoredTree}
 use Rattle.hm_search.specs.declared.subtree.Parent.{Parent}
@@ -48,11 +48,11 @@ child_stored map height s inner i child stored is at = by_height height (subst (
   by_height (suc h) tree = record { lower = h; is = refl; tree = tree; stored = each_get (IsStoredTree map h) (children_of inner) i child at tree.below }
 
 -- the places on the way
-pub leads : (map : PageMap) (s : Subtree) (inner : Inner) (i : ℕ) (child : Subtree) → SpellsHere s (page_in (map s.at)) (inner_node inner) → slice_get (children_of inner) i ≡ Some child → LeadsTo map s child
+pub leads : (map : PageMap) (s : Subtree) (inner : Inner) (i : ℕ) (child : Subtree) → StandsHere map s (inner_node inner) → slice_get (children_of inner) i ≡ Some child → LeadsTo map s child
 leads map s inner i child here at = (inner, here, i, at)
 
 -- a fault at the place itself, and one further down
-pub fault_here : (map : PageMap) (s : Subtree) (fault : Fault) → TellsDamage s (page_in (map s.at)) fault → IsFaultBelow map s fault
+pub fault_here : (map : PageMap) (s : Subtree) (fault : Fault) → TellsDamage s (map s.at) fault → IsFaultBelow map s fault
 fault_here map s (Media before after) tells = tt
 fault_here map s (Damaged at kind) tells = (0, s, refl, tells)
 fault_here map s NoMemory tells = tt
@@ -66,14 +66,14 @@ fault_below map s child NoMemory to below = tt
 pub descent_sound : (map : PageMap) (steps height : ℕ) (s end : Subtree) → IsStoredTree map height s → Descends map steps s end → (lower : ℕ) × IsStoredTree map lower end
 descent_sound map zero height s end stored is = (height, subst (IsStoredTree map height) is stored)
 descent_sound map (suc steps) height s end stored (next, (inner, here, i, at), descends) =
-    let below = child_stored map height s inner i next stored here.spelled.value at in
+    let below = child_stored map height s inner i next stored (here.spelled stored.there).value at in
     descent_sound map steps below.lower next end below.stored descends
 
 pub sound_undamaged : (map : PageMap) (height : ℕ) (s : Subtree) (fault : Fault) → IsStoredTree map height s → IsFaultBelow map s fault → IsUndamaged fault
 sound_undamaged map height s (Media before after) stored below = tt
 sound_undamaged map height s (Damaged at kind) stored (steps, end, descends, tells) =
     let sound = descent_sound map steps height s end stored descends in
-    tells_undamaged end (page_in (map end.at)) (node_at map end.at) (Damaged at kind) (stored_here map sound.0 end sound.1) tells
+    tells_undamaged end (map end.at) (node_at map end.at) (Damaged at kind) sound.1.there (stored_here map sound.0 end sound.1) tells
 sound_undamaged map height s NoMemory stored below = tt
 
 -- the cause of each fault of a search
@@ -93,9 +93,9 @@ cause_ok told s old new value low = search_cause told s old new (Ok value) (reco
   if_told (Some map) = tt
 
 -- a fault of the first node that is read
-pub cause_here : {T : Type 0} (told : Option PageMap) (s : Subtree) (old new : ℕ) (fault : Fault) → HasFaultCause {T = Node} old new (Err fault) → IfSome told (λ map. TellsDamage s (page_in (map s.at)) fault) → HasSearchCause {T = T} told s old new (Err fault)
+pub cause_here : {T : Type 0} (told : Option PageMap) (s : Subtree) (old new : ℕ) (fault : Fault) → HasFaultCause {T = Node} old new (Err fault) → IfSome told (λ map. TellsDamage s (map s.at) fault) → HasSearchCause {T = T} told s old new (Err fault)
 cause_here {T = T} told s old new fault counted damage = search_cause {T = T} told s old new (Err fault) (record { never_falls = counted.never_falls; caused = counted.caused }) (if_told told damage) where
-  if_told : (o : Option PageMap) → IfSome o (λ map. TellsDamage s (page_in (map s.at)) fault) → IfSome o (λ map. IsFaultBelow map s fault)
+  if_told : (o : Option PageMap) → IfSome o (λ map. TellsDamage s (map s.at) fault) → IfSome o (λ map. IsFaultBelow map s fault)
   if_told None damage = tt
   if_told (Some map) damage = fault_here map s fault damage
 
@@ -114,7 +114,7 @@ pub cause_other : {T U : Type 0} (told : Option PageMap) (s : Subtree) (old new 
 cause_other told s old new fault cause = record { counted = record { never_falls = cause.counted.never_falls; caused = cause.counted.caused }; damage = cause.damage; undamaged = cause.undamaged }
 
 -- the step to a child, where the pages are told
-pub leads_told : (told : Option PageMap) (s : Subtree) (node : Node) (inner : Inner) (i : ℕ) (child : Subtree) → IfSome told (λ map. SpellsHere s (page_in (map s.at)) node) → node ≡ inner_node inner
+pub leads_told : (told : Option PageMap) (s : Subtree) (node : Node) (inner : Inner) (i : ℕ) (child : Subtree) → IfSome told (λ map. StandsHere map s node) → node ≡ inner_node inner
     → slice_get (children_of inner) i ≡ Some child → IfSome told (λ map. LeadsTo map s child)
 leads_told None s node inner i child here is at = tt
-leads_told (Some map) s node inner i child here is at = leads map s inner i child (subst (λ (n : Node). SpellsHere s (page_in (map s.at)) n) is here) at
+leads_told (Some map) s node inner i child here is at = leads map s inner i child (subst (λ (n : Node). StandsHere map s n) is here) at

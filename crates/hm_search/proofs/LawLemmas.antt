@@ -4,7 +4,7 @@ use Rattle.std.specs.Prelude.{All}
 use Rattle.std.proofs.lemmas.List.Elements.{All-from_recursion}
 use Rattle.hm_fields.specs.Pages.{PageMap}
 use Rattle.hm_key.specs.Elements.{element_key}
-use Rattle.hm_key.specs.Stores.{IsMarked}
+use Rattle.hm_key.specs.Marks.{IsMarked}
 use Rattle.hm_node.specs.Node.{level_of, IsNode}
 use Rattle.hm_node.specs.declared.node.Node.{Node}
 use Rattle.hm_node.specs.declared.node.Node.TheVariants.{Leaf, Inner as inner_node}

@@ -26,6 +26,7 @@ use Rattle.hm_node.specs.declared.node.Node.{Node}
 use Rattle.hm_node.specs.declared.node.Node.TheVariants.{Leaf as leaf_node, Inner as inner_node}
 use Rattle.hm_node.proofs.PlaceLemmas.{first_length, first_at}
 use Rattle.hm_search.specs.Look.{is_by, Falls, IsRank, IsSeen, IsSeenLeaf, IsSeenInner, Sees, seen_mirror}
+use Rattle.hm_search.specs.Descent.{StandsHere}
 use Rattle.hm_search.specs.Place.{Fits, SpellsHere, mirror_of}
 use Rattle.hm_search.specs.Search.{begun, holder_place}
 use Rattle.hm_search.specs.Tree.{next_left, child_place, places_of, children_of}
@@ -183,25 +184,25 @@ last_place level right (c ∷ cs) (suc i) none = omega (arith, last_place level 
 pub record SeesLeaf (s : Subtree) (told : Option PageMap) (key : Key) (seen : SeenLeaf) : Type 0 where
   pub leaf : Leaf
   pub sound : IsNode (leaf_node leaf)
-  pub there : IfSome told (λ map. SpellsHere s (page_in (map s.at)) (leaf_node leaf))
+  pub there : IfSome told (λ map. StandsHere map s (leaf_node leaf))
   pub view : IsSeenLeaf key leaf seen
 
 pub record SeesInner (s : Subtree) (told : Option PageMap) (key : Key) (seen : SeenInner) : Type 0 where
   pub inner : Inner
   pub sound : IsNode (inner_node inner)
   pub fits : Fits s (inner_node inner)
-  pub there : IfSome told (λ map. SpellsHere s (page_in (map s.at)) (inner_node inner))
+  pub there : IfSome told (λ map. StandsHere map s (inner_node inner))
   pub view : IsSeenInner key inner seen
 
 pub sees_leaf : (s : Subtree) (told : Option PageMap) (key : Key) (seen : Seen) (leaf : SeenLeaf) → seen ≡ leaf_seen leaf → Sees s told key seen → SeesLeaf s told key leaf
 sees_leaf s told key seen leaf is sees = by_kind sees.node sees.sound sees.there (subst (IsSeen key sees.node) is sees.view) where
-  by_kind : (node : Node) → IsNode node → IfSome told (λ map. SpellsHere s (page_in (map s.at)) node) → IsSeen key node (leaf_seen leaf) → SeesLeaf s told key leaf
+  by_kind : (node : Node) → IsNode node → IfSome told (λ map. StandsHere map s node) → IsSeen key node (leaf_seen leaf) → SeesLeaf s told key leaf
   by_kind (leaf_node l) sound there view = record { leaf = l; sound = sound; there = there; view = view }
   by_kind (inner_node i) sound there view = absurd view
 
 pub sees_inner : (s : Subtree) (told : Option PageMap) (key : Key) (seen : Seen) (inner : SeenInner) → seen ≡ inner_seen inner → Sees s told key seen → SeesInner s told key inner
 sees_inner s told key seen inner is sees = by_kind sees.node sees.sound sees.fits sees.there (subst (IsSeen key sees.node) is sees.view) where
-  by_kind : (node : Node) → IsNode node → Fits s node → IfSome told (λ map. SpellsHere s (page_in (map s.at)) node) → IsSeen key node (inner_seen inner) → SeesInner s told key inner
+  by_kind : (node : Node) → IsNode node → Fits s node → IfSome told (λ map. StandsHere map s node) → IsSeen key node (inner_seen inner) → SeesInner s told key inner
   by_kind (leaf_node l) sound fits there view = absurd view
   by_kind (inner_node i) sound fits there view = record { inner = i; sound = sound; fits = fits; there = there; view = view }
 

@@ -12,7 +12,8 @@ use Rattle.hm_fields.specs.Pages.{PageMap, page_in}
 use Rattle.hm_key.specs.Key.{key_of, IsBefore, IsFrom}
 use Rattle.hm_key.specs.Element.{IsElement}
 use Rattle.hm_key.specs.Elements.{element_key, first_from}
-use Rattle.hm_key.specs.Stores.{IsFound, IsQuiet}
+use Rattle.hm_key.specs.Marks.{IsQuiet}
+use Rattle.hm_key.specs.Stores.{IsFound}
 use Rattle.hm_key.specs.declared.base.Base.{Base}
 use Rattle.hm_key.specs.declared.element.Element.{Element}
 use Rattle.hm_key.proofs.KeyLemmas.{key_before_from, key_from_before, key_not_before}
@@ -26,7 +27,7 @@ use Rattle.hm_node.specs.declared.inner.Inner.{Inner}
 use Rattle.hm_node.specs.declared.leaf.Leaf.{Leaf}
 use Rattle.hm_node.specs.declared.node.Node.{Node}
 use Rattle.hm_node.specs.declared.node.Node.TheVariants.{Leaf as leaf_node, Inner as inner_node}
-use Rattle.hm_search.specs.Descent.{levels_below}
+use Rattle.hm_search.specs.Descent.{StandsHere, levels_below}
 use Rattle.hm_search.specs.Place.{Fits, FitsBounds, IsInside, SpellsHere, mirror_of}
 use Rattle.hm_search.specs.Search.{begun, holder_place, IsPlaceOf, IsEndBy}
 use Rattle.hm_search.specs.Tree.{node_at, elements_in, mark_in, leaf_in, starts_after, holder, at_holder, next_left, children_of, IsTree, IsStoredTree}
@@ -87,13 +88,13 @@ place_up map height lower s child inner key place found up is at get below = rec
 }
 
 pub find_told : (told now : Option PageMap) (s child : Subtree) (key : Key) (node : Node) (inner : Inner) (place : ℕ) (r : Result Found Fault) → now ≡ told → node ≡ inner_node inner
-    → IfSome told (λ map. SpellsHere s (page_in (map s.at)) node) → place ≡ holder_place key inner.places.items → slice_get (children_of inner) place ≡ Some child
+    → IfSome told (λ map. StandsHere map s node) → place ≡ holder_place key inner.places.items → slice_get (children_of inner) place ≡ Some child
     → IfSome now (λ map. (height : ℕ) → IsStoredTree map height child → IfOk r (IsPlaceOf map height child key))
     → IfSome told (λ map. (height : ℕ) → IsStoredTree map height s → IfOk r (IsPlaceOf map height s key))
 find_told None now s child key node inner place r same is here at get clause = tt
 find_told (Some map) now s child key node inner place r same is here at get clause = λ height stored.
     let told = subst (λ (o : Option PageMap). IfSome o (λ m. (h : ℕ) → IsStoredTree m h child → IfOk r (IsPlaceOf m h child key))) same clause in
-    let read = here.spelled.value ∙ is in
+    let read = (here.spelled stored.there).value ∙ is in
     let below = child_stored map height s inner place child stored read get in
     IfOk-weaker r (IsPlaceOf map below.lower child key) (IsPlaceOf map height s key)
     (λ found is_place. place_up map height below.lower s child inner key place found below.is read at get is_place) (told below.lower below.stored)
@@ -103,11 +104,11 @@ pub leaf_elements : (map : PageMap) (height : ℕ) (leaf : Leaf) → elements_in
 leaf_elements map zero leaf = refl
 leaf_elements map (suc height) leaf = refl
 
-pub leaf_told : (told : Option PageMap) (s : Subtree) (key : Key) (node : Node) (leaf : Leaf) (found : Option Element) → node ≡ leaf_node leaf → IfSome told (λ map. SpellsHere s (page_in (map s.at)) node)
+pub leaf_told : (told : Option PageMap) (s : Subtree) (key : Key) (node : Node) (leaf : Leaf) (found : Option Element) → node ≡ leaf_node leaf → IfSome told (λ map. StandsHere map s node)
     → found ≡ first_from key leaf.places.items → IfSome told (λ map. (height : ℕ) → IsStoredTree map height s → found ≡ first_from key (elements_in map height (node_at map s.at)))
 leaf_told None s key node leaf found is here read = tt
 leaf_told (Some map) s key node leaf found is here read = λ height stored.
-    read ∙ ap (first_from key) (sym (ap (elements_in map height) (here.spelled.value ∙ is) ∙ leaf_elements map height leaf))
+    read ∙ ap (first_from key) (sym (ap (elements_in map height) ((here.spelled stored.there).value ∙ is) ∙ leaf_elements map height leaf))
 
 pub leaf_found : (key : Key) (node : Node) (leaf : Leaf) (found : Option Element) → IsNode node → node ≡ leaf_node leaf → found ≡ first_from key leaf.places.items → IfSome found (IsFound key)
 leaf_found key node leaf found sound is read =
@@ -132,13 +133,13 @@ first_up map height lower s child inner key place up is tree at get =
 
 -- Where the child that holds the key has an element from it on, that one is the first.
 pub first_some_told : (told now : Option PageMap) (s child : Subtree) (key : Key) (node : Node) (inner : Inner) (place : ℕ) (found : Option Element) (e : Element) → now ≡ told → node ≡ inner_node inner
-    → IfSome told (λ map. SpellsHere s (page_in (map s.at)) node) → place ≡ holder_place key inner.places.items → slice_get (children_of inner) place ≡ Some child → found ≡ Some e
+    → IfSome told (λ map. StandsHere map s node) → place ≡ holder_place key inner.places.items → slice_get (children_of inner) place ≡ Some child → found ≡ Some e
     → IfSome now (λ map. (height : ℕ) → IsStoredTree map height child → found ≡ first_from key (elements_in map height (node_at map child.at)))
     → IfSome told (λ map. (height : ℕ) → IsStoredTree map height s → Some e ≡ first_from key (elements_in map height (node_at map s.at)))
 first_some_told None now s child key node inner place found e same is here at get some clause = tt
 first_some_told (Some map) now s child key node inner place found e same is here at get some clause = λ height stored.
     let told = subst (λ (o : Option PageMap). IfSome o (λ m. (h : ℕ) → IsStoredTree m h child → found ≡ first_from key (elements_in m h (node_at m child.at)))) same clause in
-    let read = here.spelled.value ∙ is in
+    let read = (here.spelled stored.there).value ∙ is in
     let below = child_stored map height s inner place child stored read get in
     sym (first_up map height below.lower s child inner key place below.is read below.tree at get
     ∙ first_found key e (elements_in map below.lower (node_at map child.at)) (flat_map (λ (c : Child). elements_in map below.lower (node_at map c.child)) (drop (suc place) inner.places.items))
@@ -146,14 +147,14 @@ first_some_told (Some map) now s child key node inner place found e same is here
 
 -- Where it has none and is the last, there is none.
 pub first_last_told : (told now : Option PageMap) (s child : Subtree) (key : Key) (node : Node) (inner : Inner) (place : ℕ) (found : Option Element) → now ≡ told → node ≡ inner_node inner
-    → IfSome told (λ map. SpellsHere s (page_in (map s.at)) node) → place ≡ holder_place key inner.places.items → slice_get (children_of inner) place ≡ Some child → found ≡ None
+    → IfSome told (λ map. StandsHere map s node) → place ≡ holder_place key inner.places.items → slice_get (children_of inner) place ≡ Some child → found ≡ None
     → length inner.places.items ≤ place + 1
     → IfSome now (λ map. (height : ℕ) → IsStoredTree map height child → found ≡ first_from key (elements_in map height (node_at map child.at)))
     → IfSome told (λ map. (height : ℕ) → IsStoredTree map height s → None ≡ first_from key (elements_in map height (node_at map s.at)))
 first_last_told None now s child key node inner place found same is here at get none last clause = tt
 first_last_told (Some map) now s child key node inner place found same is here at get none last clause = λ height stored.
     let told = subst (λ (o : Option PageMap). IfSome o (λ m. (h : ℕ) → IsStoredTree m h child → found ≡ first_from key (elements_in m h (node_at m child.at)))) same clause in
-    let read = here.spelled.value ∙ is in
+    let read = (here.spelled stored.there).value ∙ is in
     let below = child_stored map height s inner place child stored read get in
     let rest : drop (suc place) inner.places.items ≡ [] = drop_past inner.places.items (suc place) (omega arith) in
     sym (first_up map height below.lower s child inner key place below.is read below.tree at get
@@ -171,7 +172,7 @@ next_after inner key place next at get =
 
 -- Where it has none, the first element from the key on below the next child is the first.
 pub first_next_told : (told now later : Option PageMap) (s child next : Subtree) (key : Key) (node : Node) (inner : Inner) (place : ℕ) (found : Option Element) (r : Result (Option Element) Fault) → now ≡ told → later ≡ told → node ≡ inner_node inner
-    → IfSome told (λ map. SpellsHere s (page_in (map s.at)) node) → place ≡ holder_place key inner.places.items → slice_get (children_of inner) place ≡ Some child → found ≡ None
+    → IfSome told (λ map. StandsHere map s node) → place ≡ holder_place key inner.places.items → slice_get (children_of inner) place ≡ Some child → found ≡ None
     → slice_get (children_of inner) (place + 1) ≡ Some next
     → IfSome now (λ map. (height : ℕ) → IsStoredTree map height child → found ≡ first_from key (elements_in map height (node_at map child.at)))
     → IfSome later (λ map. (height : ℕ) → IsStoredTree map height next → IfOk r (λ first. first ≡ first_from key (elements_in map height (node_at map next.at))))
@@ -180,7 +181,7 @@ first_next_told None now later s child next key node inner place found r same sa
 first_next_told (Some map) now later s child next key node inner place found r same same' is here at get none get' clause clause' = λ height stored.
     let told = subst (λ (o : Option PageMap). IfSome o (λ m. (h : ℕ) → IsStoredTree m h child → found ≡ first_from key (elements_in m h (node_at m child.at)))) same clause in
     let told' = subst (λ (o : Option PageMap). IfSome o (λ m. (h : ℕ) → IsStoredTree m h next → IfOk r (λ first. first ≡ first_from key (elements_in m h (node_at m next.at))))) same' clause' in
-    let read = here.spelled.value ∙ is in
+    let read = (here.spelled stored.there).value ∙ is in
     let below = child_stored map height s inner place child stored read get in
     let beside = child_stored map height s inner (place + 1) next stored read get' in
     let level : beside.lower ≡ below.lower = omega (arith, below.is, beside.is) in
@@ -205,12 +206,12 @@ first_next_told (Some map) now later s child next key node inner place found r s
     (λ first is_first. is_first ∙ sym whole) (told' below.lower tree)
 
 -- A node whose `mirror` is low enough is quiet as a whole.
-pub quiet_told : (told : Option PageMap) (s : Subtree) (at : Key) (since : ℕ) (node : Node) (right : Base) → mirror_of node ≤ since → IfSome told (λ map. SpellsHere s (page_in (map s.at)) node)
+pub quiet_told : (told : Option PageMap) (s : Subtree) (at : Key) (since : ℕ) (node : Node) (right : Base) → mirror_of node ≤ since → IfSome told (λ map. StandsHere map s node)
     → IfSome told (λ map. (height : ℕ) → IsStoredTree map height s → IsQuiet (mark_in map height (node_at map s.at)) at since (Some right))
 quiet_told None s at since node right low here = tt
 quiet_told (Some map) s at since node right low here = λ height stored key from before.
     let most = mark_most map key height s (node_at map s.at) stored.tree in
-    let same : mirror_of (node_at map s.at) ≡ mirror_of node = ap mirror_of here.spelled.value in
+    let same : mirror_of (node_at map s.at) ≡ mirror_of node = ap mirror_of (here.spelled stored.there).value in
     omega arith
 
 -- keys between two others that one child holds are held by it too
@@ -244,14 +245,14 @@ quiet_up map height lower s child inner at since place (Some end) up is held get
     subst (λ (n : ℕ). n ≤ since) (sym same) (quiet key from before)
 
 pub quiet_below_told : (told now : Option PageMap) (s child : Subtree) (at : Key) (since : ℕ) (node : Node) (inner : Inner) (place : ℕ) (r : Result (Option Base) Fault) → now ≡ told → node ≡ inner_node inner
-    → IfSome told (λ map. SpellsHere s (page_in (map s.at)) node) → place ≡ holder_place at inner.places.items → slice_get (children_of inner) place ≡ Some child
+    → IfSome told (λ map. StandsHere map s node) → place ≡ holder_place at inner.places.items → slice_get (children_of inner) place ≡ Some child
     → IfOk r (λ end. IfSome end (IsEndBy at child.right))
     → IfSome now (λ map. (height : ℕ) → IsStoredTree map height child → IfOk r (IsQuiet (mark_in map height (node_at map child.at)) at since))
     → IfSome told (λ map. (height : ℕ) → IsStoredTree map height s → IfOk r (IsQuiet (mark_in map height (node_at map s.at)) at since))
 quiet_below_told None now s child at since node inner place r same is here held get ends clause = tt
 quiet_below_told (Some map) now s child at since node inner place r same is here held get ends clause = λ height stored.
     let told = subst (λ (o : Option PageMap). IfSome o (λ m. (h : ℕ) → IsStoredTree m h child → IfOk r (IsQuiet (mark_in m h (node_at m child.at)) at since))) same clause in
-    let read = here.spelled.value ∙ is in
+    let read = (here.spelled stored.there).value ∙ is in
     let below = child_stored map height s inner place child stored read get in
     with_ends r height below read (told below.lower below.stored) ends where
       with_ends : (q : Result (Option Base) Fault) (height : ℕ) (below : IsStoredBelow map height s inner child) → node_at map s.at ≡ inner_node inner → IfOk q (IsQuiet (mark_in map below.lower (node_at map child.at)) at since) → IfOk q (λ end. IfSome end (IsEndBy at child.right))

@@ -1,14 +1,15 @@
 -- Descents over any pages, sound or not: to which places one comes, and what it may tell there.
-use Rattle.std.specs.Prelude.{◌≡◌, ℕ, zero, suc, ◌+◌, Option, Some, None, Result, IfSome, IfErr, slice_get, ⊤}
-use Rattle.hm_types.specs.Faults.{HasFaultCause}
+use Rattle.std.specs.Prelude.{◌≡◌, ℕ, zero, suc, ◌+◌, Option, Some, None, Result, IfSome, IsSome, IfErr, slice_get, ⊤}
+use Rattle.hm_types.specs.Faults.{HasFaultCause, IsUndamaged}
 use Rattle.hm_types.specs.declared.fault.Fault.{Fault}
 use Rattle.hm_types.specs.declared.fault.Fault.TheVariants.{Media, Damaged, NoMemory}
 use Rattle.hm_types.specs.declared.limits.TheConstants.{MOST_LEVELS}
 use Rattle.hm_fields.specs.Pages.{PageMap, page_in}
-use Rattle.hm_key.specs.Stores.{IsUndamaged}
+use Rattle.hm_node.specs.Node.{IsNode, Spells}
 use Rattle.hm_node.specs.declared.inner.Inner.{Inner}
+use Rattle.hm_node.specs.declared.node.Node.{Node}
 use Rattle.hm_node.specs.declared.node.Node.TheVariants.{Inner as inner_node}
-use Rattle.hm_search.specs.Place.{SpellsHere, TellsDamage}
+use Rattle.hm_search.specs.Place.{Fits, TellsDamage}
 use Rattle.hm_search.specs.Tree.{children_of, IsStoredTree}
 use Rattle.hm_search.specs.declared.subtree.Parent.{Parent}
 use Rattle.hm_search.specs.declared.subtree.Subtree.{Subtree}
@@ -22,11 +23,17 @@ levels_under (Some parent) = parent.level
 abbrev pub levels_below : Subtree → ℕ
 levels_below subtree = levels_under subtree.parent
 
--- the page at the first place spells an inner node that is sound where it stands, and the second is the place
--- of one of its children
+-- A node that a read may give at a place: it is sound where it stands, and where a page is there, that page spells
+-- it. Where none is there, it may be any.
+pub record StandsHere (map : PageMap) (subtree : Subtree) (node : Node) : Type 0 where
+  pub sound : IsNode node
+  pub fits : Fits subtree node
+  pub spelled : IsSome (map subtree.at) → Spells (page_in (map subtree.at)) node
+
+-- a read may give an inner node at the first place, and the second is the place of one of its children
 abbrev pub LeadsTo : PageMap → Subtree → Subtree → Type 0
 LeadsTo map from to =
-    (inner : Inner) × SpellsHere from (page_in (map from.at)) (inner_node inner)
+    (inner : Inner) × StandsHere map from (inner_node inner)
     × (i : ℕ) × (slice_get (children_of inner) i ≡ Some to)
 
 -- so many steps down lead from the first place to the second
@@ -34,13 +41,13 @@ abbrev pub Descends : PageMap → ℕ → Subtree → Subtree → Type 0
 Descends map zero from to = from ≡ to
 Descends map (suc steps) from to = (next : Subtree) × LeadsTo map from next × Descends map steps next to
 
--- damage is told of a place only to which a descent comes, and only where the page breaks a rule there: then
--- with the lowest number of such a rule
+-- damage is told of a place only to which a descent comes, and only where no page is there, or it breaks a rule
+-- there: then with the lowest number of such a rule
 abbrev pub IsFaultBelow : PageMap → Subtree → Fault → Type 0
 IsFaultBelow map from (Media before after) = ⊤
 IsFaultBelow map from (Damaged at kind) =
     (steps : ℕ) × (to : Subtree) × Descends map steps from to
-    × TellsDamage to (page_in (map to.at)) (Damaged at kind)
+    × TellsDamage to (map to.at) (Damaged at kind)
 IsFaultBelow map from NoMemory = ⊤
 
 -- Each fault of a search that begins at a place has its cause: the count of faults rose, or a page on the way
@@ -52,8 +59,9 @@ pub record HasSearchCause {T : Type 0} (told : Option PageMap) (from : Subtree) 
   pub undamaged : IfSome told (λ map. (height : ℕ) → IsStoredTree map height from → IfErr result IsUndamaged)
 
 -- a search changes nothing
-pub record Reads {P R : Type 0} (name_of : P → ℕ) (rest_of : P → R) (pages_of : P → Option PageMap)
-    (old new : P) : Type 0 where
+pub record Reads {P F R : Type 0} (name_of : P → ℕ) (frame_of : P → F) (rest_of : P → R)
+    (pages_of : P → Option PageMap) (old new : P) : Type 0 where
   pub name : name_of new ≡ name_of old
+  pub frame : frame_of new ≡ frame_of old
   pub rest : rest_of new ≡ rest_of old
   pub pages : pages_of new ≡ pages_of old

@@ -2,7 +2,7 @@
 use Rattle.std.specs.Prelude.{◌≡◌, ℕ, ◌+◌, ◌<◌, ◌≤◌, Bool, true, false, not, Option, Some, IfSome, slice_get}
 use Rattle.std.specs.Ordering.{is_lt}
 use Rattle.hm_types.specs.Elements.{Key, key_cmp}
-use Rattle.hm_fields.specs.Pages.{PageMap, page_in}
+use Rattle.hm_fields.specs.Pages.{PageMap}
 use Rattle.hm_key.specs.Key.{key_of}
 use Rattle.hm_key.specs.Elements.{first_from}
 use Rattle.hm_key.specs.Places.{leading}
@@ -12,7 +12,8 @@ use Rattle.hm_node.specs.declared.inner.Inner.{Inner}
 use Rattle.hm_node.specs.declared.leaf.Leaf.{Leaf}
 use Rattle.hm_node.specs.declared.node.Node.{Node}
 use Rattle.hm_node.specs.declared.node.Node.TheVariants.{Leaf as leaf_node, Inner as inner_node}
-use Rattle.hm_search.specs.Place.{Fits, SpellsHere}
+use Rattle.hm_search.specs.Descent.{StandsHere}
+use Rattle.hm_search.specs.Place.{Fits}
 use Rattle.hm_search.specs.Search.{holder_place}
 use Rattle.hm_search.specs.Tree.{children_of}
 use Rattle.hm_search.specs.declared.look.Seen.{Seen}
@@ -49,7 +50,7 @@ pub record Sees (s : Subtree) (told : Option PageMap) (key : Key) (seen : Seen) 
   pub node : Node
   pub sound : IsNode node
   pub fits : Fits s node
-  pub there : IfSome told (λ map. SpellsHere s (page_in (map s.at)) node)
+  pub there : IfSome told (λ map. StandsHere map s node)
   pub view : IsSeen key node seen
 
 -- whether a base stands before a key, or also whether it stands not after it

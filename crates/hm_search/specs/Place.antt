@@ -1,5 +1,6 @@
 -- What a node must be where it stands: the rules that its own page does not tell.
-use Rattle.std.specs.Prelude.{◌≡◌, ◌⊎◌, ℕ, ◌+◌, ◌<◌, ◌≤◌, List, [], ◌∷◌, Option, None, Some, All, ⊤}
+use Rattle.std.specs.Prelude.{◌≡◌, ◌⊎◌, ℕ, ◌+◌, ◌<◌, ◌≤◌, List, [], ◌∷◌, Option, None, Some, All, IfSome, ⊤}
+use Rattle.hm_types.specs.declared.damage.TheConstants.{BAD_LEVEL, BAD_COUNT, BAD_BOUNDS, BAD_MIRROR}
 use Rattle.hm_types.specs.declared.fault.Fault.{Fault}
 use Rattle.hm_types.specs.declared.fault.Fault.TheVariants.{Media, Damaged, NoMemory}
 use Rattle.hm_types.specs.declared.limits.TheConstants.{LEAST_PLACES}
@@ -76,10 +77,10 @@ FitsBy subtree node Mirror = FitsMirror subtree.parent node
 
 -- the number under which a rule of the place is told when it is broken
 abbrev pub place_number : PlaceRule → ℕ
-place_number Level = 1
-place_number Count = 2
-place_number Bounds = 4
-place_number Mirror = 9
+place_number Level = BAD_LEVEL
+place_number Count = BAD_COUNT
+place_number Bounds = BAD_BOUNDS
+place_number Mirror = BAD_MIRROR
 
 -- a page that spells a node which keeps its own rules and those of its place
 pub record SpellsHere (subtree : Subtree) (page : List ℕ) (node : Node) : Type 0 where
@@ -103,8 +104,9 @@ pub record IsLowestBroken (subtree : Subtree) (page : List ℕ) (kind : ℕ) : T
   pub broken : Breaks subtree page kind
   pub kept : KeepsBelow subtree page kind
 
--- a fault that tells damage tells it of this place, with the lowest number of a rule that the page breaks
-abbrev pub TellsDamage : Subtree → List ℕ → Fault → Type 0
+-- a fault that tells damage tells it of this place, and where a page is there, with the lowest number of a rule that
+-- it breaks
+abbrev pub TellsDamage : Subtree → Option (List ℕ) → Fault → Type 0
 TellsDamage subtree page (Media before after) = ⊤
-TellsDamage subtree page (Damaged at kind) = (at ≡ subtree.at) × IsLowestBroken subtree page kind
+TellsDamage subtree page (Damaged at kind) = (at ≡ subtree.at) × IfSome page (λ bytes. IsLowestBroken subtree bytes kind)
 TellsDamage subtree page NoMemory = ⊤

@@ -3,7 +3,7 @@ ghost use Rattle.std.specs.Prelude.{◌≡◌, ◌≢◌, ◌≤◌, ℕ, None, 
 ghost use Rattle.hm_types.specs.Elements.{Key};
 ghost use Rattle.hm_fields.specs.Pages.{PageMap};
 ghost use Rattle.hm_key.specs.Elements.{IsContent, element_key};
-ghost use Rattle.hm_key.specs.Stores.{IsMarked};
+ghost use Rattle.hm_key.specs.Marks.{IsMarked};
 ghost use Rattle.hm_node.specs.Node.{level_of};
 ghost use Rattle.hm_node.specs.declared.node.Node.{Node};
 ghost use Rattle.hm_search.specs.Place.{IsInside, mirror_of};

@@ -1,7 +1,6 @@
 // What a search for a key sees in the node of a place, read from its page: no node is built.
 ghost use Rattle.std.specs.Prelude.{◌≡◌, ◌≤◌, ◌<◌, ℕ, Some, IfSome, IfOk, IfErr, slice_get};
 ghost use Rattle.hm_types.specs.Faults.{HasFaultCause};
-ghost use Rattle.hm_fields.specs.Pages.{page_in};
 ghost use Rattle.hm_key.specs.Key.{key_of};
 ghost use Rattle.hm_node.specs.Base.{base_in};
 ghost use Rattle.hm_node.specs.Head.{head_in};
@@ -55,8 +54,8 @@ pub(crate) enum Seen {
 pub(crate) fn look_for<P: Pages>(pages: &mut P, subtree: &Subtree, at: &Base) -> Result<Seen, Fault>
     ensures sees { IfOk result (Sees subtree.now (P.pages pages.old) (key_of at.now)) }
     ensures damage { IfSome (P.pages pages.old) (λ map.
-        IfErr result (TellsDamage subtree.now (page_in (map subtree.now.at)))) }
-    ensures same { Reads P.name P.rest P.pages pages.old pages.new }
+        IfErr result (TellsDamage subtree.now (map subtree.now.at))) }
+    ensures same { Reads P.name P.frame P.rest P.pages pages.old pages.new }
     ensures cause { HasFaultCause (P.faults pages.old) (P.faults pages.new) result }
 {
     let mut page = Page::zero();

@@ -2,6 +2,8 @@
 ghost use Rattle.std.specs.Prelude.{◌≡◌};
 ghost use Rattle.hm_search.specs.Place.{place_number};
 
+use hm_types::{BAD_BOUNDS, BAD_COUNT, BAD_LEVEL, BAD_MIRROR};
+
 /// A rule that a node breaks where it stands, beside those that its page tells by itself.
 #[derive(Clone, Copy, Debug, PartialEq, Eq)]
 pub enum PlaceRule {
@@ -22,10 +24,10 @@ impl PlaceRule {
         ensures { result ≡ place_number self }
     {
         match self {
-            PlaceRule::Level => 1,
-            PlaceRule::Count => 2,
-            PlaceRule::Bounds => 4,
-            PlaceRule::Mirror => 9,
+            PlaceRule::Level => BAD_LEVEL,
+            PlaceRule::Count => BAD_COUNT,
+            PlaceRule::Bounds => BAD_BOUNDS,
+            PlaceRule::Mirror => BAD_MIRROR,
         }
     }
 }

@@ -1,33 +1,32 @@
 // Reads nodes, and checks them where they stand.
-ghost use Rattle.std.specs.Prelude.{◌≡◌, IfSome, IfNone, IfOk, IfErr};
+ghost use Rattle.std.specs.Prelude.{◌≡◌, IfSome, IfNone, IsSome, IfOk, IfErr};
 ghost use Rattle.hm_types.specs.Faults.{HasFaultCause};
 ghost use Rattle.hm_types.specs.declared.fault.Fault.TheVariants.{Damaged};
 ghost use Rattle.hm_fields.specs.Pages.{page_in};
 ghost use Rattle.hm_node.specs.Node.{node_in, IsNode};
-ghost use Rattle.hm_search.specs.Descent.{Reads};
+ghost use Rattle.hm_search.specs.Descent.{Reads, StandsHere};
 ghost use Rattle.hm_search.specs.Place.{Fits, SpellsHere, IsLowestBroken, TellsDamage};
 
 use crate::subtree::Subtree;
 use hm_fields::{Page, Pages};
 use hm_node::{Node, broken_rule, node_of};
-use hm_types::{Counted, Fault};
+use hm_types::{BAD_MIRROR, Counted, Fault};
 
-// Above the number of each rule.
-const ALL_RULES: u8 = 10;
+// Above the number of each rule of a node.
+const ALL_RULES: u8 = BAD_MIRROR + 1;
 
 /// Reads a node and checks it where it stands: by the rules that it keeps by itself, and by those
 /// of its place. It is damaged where it breaks any of them: the fault tells the offset and the
 /// lowest number of a broken rule. One page is read, and nothing changes.
 pub fn read_node<P: Pages>(pages: &mut P, subtree: &Subtree) -> Result<Node, Fault>
-    // What is read is sound there, and spelled so where the pages are told.
+    // What is read is sound there, and spelled so by the page that is told there.
     ensures sound { IfOk result IsNode }
     ensures fits { IfOk result (Fits subtree.now) }
-    ensures ok { IfSome (P.pages pages.old) (λ map.
-        IfOk result (SpellsHere subtree.now (page_in (map subtree.now.at)))) }
-    // Damage is told of a page that breaks a rule there, and of no other.
+    ensures ok { IfSome (P.pages pages.old) (λ map. IfOk result (StandsHere map subtree.now)) }
+    // Damage is told of a page that breaks a rule there, or is not there, and of no other.
     ensures damage { IfSome (P.pages pages.old) (λ map.
-        IfErr result (TellsDamage subtree.now (page_in (map subtree.now.at)))) }
-    ensures same { Reads P.name P.rest P.pages pages.old pages.new }
+        IfErr result (TellsDamage subtree.now (map subtree.now.at))) }
+    ensures same { Reads P.name P.frame P.rest P.pages pages.old pages.new }
     ensures cause { HasFaultCause (P.faults pages.old) (P.faults pages.new) result }
 {
     let mut page = Page::zero();
@@ -42,11 +41,11 @@ pub(crate) fn read_page<P: Pages>(
     page: &mut Page,
 ) -> Result<(), Fault>
     ensures sound { IfOk result (λ _. SpellsHere subtree.now page.new (node_in page.new)) }
-    ensures there { IfSome (P.pages pages.old) (λ map.
-        IfOk result (λ _. page.new ≡ page_in (map subtree.now.at))) }
+    ensures there { IfSome (P.pages pages.old) (λ map. IfOk result (λ _.
+        IsSome (map subtree.now.at) → page.new ≡ page_in (map subtree.now.at))) }
     ensures damage { IfSome (P.pages pages.old) (λ map.
-        IfErr result (TellsDamage subtree.now (page_in (map subtree.now.at)))) }
-    ensures same { Reads P.name P.rest P.pages pages.old pages.new }
+        IfErr result (TellsDamage subtree.now (map subtree.now.at))) }
+    ensures same { Reads P.name P.frame P.rest P.pages pages.old pages.new }
     ensures cause { HasFaultCause (P.faults pages.old) (P.faults pages.new) result }
 {
     pages.page(subtree.at, page)?;

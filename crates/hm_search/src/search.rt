@@ -2,7 +2,8 @@
 ghost use Rattle.std.specs.Prelude.{◌≡◌, ℕ, IfSome, IfOk};
 ghost use Rattle.hm_key.specs.Elements.{first_from};
 ghost use Rattle.hm_key.specs.Key.{key_of, greatest_key, IsBefore};
-ghost use Rattle.hm_key.specs.Stores.{IsFound, IsEnd, IsQuiet};
+ghost use Rattle.hm_key.specs.Marks.{IsQuiet};
+ghost use Rattle.hm_key.specs.Stores.{IsFound, IsEnd};
 ghost use Rattle.hm_node.specs.Inner.{IsBound};
 ghost use Rattle.hm_search.specs.Descent.{HasSearchCause, Reads};
 ghost use Rattle.hm_search.specs.Look.{seen_mirror};
@@ -29,7 +30,7 @@ pub fn find<P: Pages>(pages: &mut P, root: HOff, at: &Base) -> Result<Found, Fau
     ensures ok { IfSome (P.pages pages.old) (λ map. IsSoundTree map root →
         IfOk result (IsPlaceOf map (height_of (node_at map root)) (root_place root)
         (key_of at.now))) }
-    ensures same { Reads P.name P.rest P.pages pages.old pages.new }
+    ensures same { Reads P.name P.frame P.rest P.pages pages.old pages.new }
     ensures cause { HasSearchCause (P.pages pages.old) (root_place root)
         (P.faults pages.old) (P.faults pages.new) result }
 {
@@ -47,7 +48,7 @@ pub fn first_at_or_after<P: Pages>(
     ensures ok { IfSome (P.pages pages.old) (λ map. IsSoundTree map root →
         IfOk result (λ found. found ≡ first_from (key_of at.now) (elements_of map root))) }
     ensures found { IfOk result (λ found. IfSome found (IsFound (key_of at.now))) }
-    ensures same { Reads P.name P.rest P.pages pages.old pages.new }
+    ensures same { Reads P.name P.frame P.rest P.pages pages.old pages.new }
     ensures cause { HasSearchCause (P.pages pages.old) (root_place root)
         (P.faults pages.old) (P.faults pages.new) result }
 {
@@ -67,7 +68,7 @@ pub fn unchanged_until<P: Pages>(
     ensures ok { IfSome (P.pages pages.old) (λ map. IsSoundTree map root →
         IfOk result (IsQuiet (mark_of map root) (key_of at.now) since.0)) }
     ensures found { IfOk result (λ end. IfSome end (IsEnd (key_of at.now))) }
-    ensures same { Reads P.name P.rest P.pages pages.old pages.new }
+    ensures same { Reads P.name P.frame P.rest P.pages pages.old pages.new }
     ensures cause { HasSearchCause (P.pages pages.old) (root_place root)
         (P.faults pages.old) (P.faults pages.new) result }
 {
@@ -79,7 +80,7 @@ fn find_below<P: Pages>(pages: &mut P, subtree: &Subtree, at: &Base) -> Result<F
     ensures ok { IfSome (P.pages pages.old) (λ map. (height : ℕ) →
         IsStoredTree map height subtree.now →
         IfOk result (IsPlaceOf map height subtree.now (key_of at.now))) }
-    ensures same { Reads P.name P.rest P.pages pages.old pages.new }
+    ensures same { Reads P.name P.frame P.rest P.pages pages.old pages.new }
     ensures cause { HasSearchCause (P.pages pages.old) subtree.now
         (P.faults pages.old) (P.faults pages.new) result }
 {
@@ -102,7 +103,7 @@ fn first_below<P: Pages>(
         IsStoredTree map height subtree.now → IfOk result (λ found.
         found ≡ first_from (key_of at.now) (elements_in map height (node_at map subtree.now.at)))) }
     ensures found { IfOk result (λ found. IfSome found (IsFound (key_of at.now))) }
-    ensures same { Reads P.name P.rest P.pages pages.old pages.new }
+    ensures same { Reads P.name P.frame P.rest P.pages pages.old pages.new }
     ensures cause { HasSearchCause (P.pages pages.old) subtree.now
         (P.faults pages.old) (P.faults pages.new) result }
 {
@@ -131,7 +132,7 @@ fn quiet_below<P: Pages>(
         IsStoredTree map height subtree.now → IfOk result
         (IsQuiet (mark_in map height (node_at map subtree.now.at)) (key_of at.now) since.0)) }
     ensures found { IfOk result (λ end. IfSome end (IsEndBy (key_of at.now) subtree.now.right)) }
-    ensures same { Reads P.name P.rest P.pages pages.old pages.new }
+    ensures same { Reads P.name P.frame P.rest P.pages pages.old pages.new }
     ensures cause { HasSearchCause (P.pages pages.old) subtree.now
         (P.faults pages.old) (P.faults pages.new) result }
 {

@@ -8,13 +8,16 @@ use arrayvec::ArrayVec;
 use hm_fields::{MemPages, Page, Pages, put_u8, put_u64};
 use hm_key::{Base, DIRECTORY_ENTRY, ELEMENT, Element};
 use hm_node::{Child, Inner, Leaf, Node, encode};
-use hm_types::{Fault, HOff, Id, Obj};
+use hm_types::{
+    BAD_BOUNDS, BAD_COUNT, BAD_FIELD, BAD_LEVEL, BAD_MIRROR, BAD_ORDER, Fault, HOff, Id, Obj,
+    TREE_ZONE,
+};
 use std::alloc::Global;
 use std::test::Fail;
 
 // The page with this number.
 fn offset(number: u8) -> Result<HOff, Fail> {
-    Ok(HOff::make(8, u64::from(number) * 4_096).ok_or("no offset")?)
+    Ok(HOff::make(TREE_ZONE, u64::from(number) * 4_096).ok_or("no offset")?)
 }
 
 // An entry of a directory, open since id 3.
@@ -214,49 +217,73 @@ fn a_damaged_leaf_below_the_root_tells_the_first_rule_that_it_breaks(
 ) -> Result<(), Fail> {
     // Leaf 1, at page 11, has the boundaries 10 and 20 and the mirror 11.
     let rows: [(&str, &[u16], u8, &[(u16, u8)], u8); 14] = [
-        ("an inner node", &[13, 16], 11, &[(0, 2), (1, 2)], 1),
-        ("no element", &[], 11, &[], 2),
-        ("no element, and another mirror", &[], 12, &[], 2),
-        ("an element before the left boundary", &[9, 16], 11, &[], 4),
-        ("an element at the right boundary", &[13, 20], 11, &[], 4),
-        ("an element after the right boundary", &[13, 21], 11, &[], 4),
-        ("another mirror", &[13, 16], 12, &[], 9),
-        ("a lower mirror", &[13, 16], 10, &[], 9),
+        ("an inner node", &[13, 16], 11, &[(0, 2), (1, 2)], BAD_LEVEL),
+        ("no element", &[], 11, &[], BAD_COUNT),
+        ("no element, and another mirror", &[], 12, &[], BAD_COUNT),
+        (
+            "an element before the left boundary",
+            &[9, 16],
+            11,
+            &[],
+            BAD_BOUNDS,
+        ),
+        (
+            "an element at the right boundary",
+            &[13, 20],
+            11,
+            &[],
+            BAD_BOUNDS,
+        ),
+        (
+            "an element after the right boundary",
+            &[13, 21],
+            11,
+            &[],
+            BAD_BOUNDS,
+        ),
+        ("another mirror", &[13, 16], 12, &[], BAD_MIRROR),
+        ("a lower mirror", &[13, 16], 10, &[], BAD_MIRROR),
         (
             "an element outside, and another mirror",
             &[13, 21],
             12,
             &[],
-            4,
+            BAD_BOUNDS,
         ),
         (
             "an element outside, and a broken field",
             &[13, 21],
             11,
             &[(99, 2)],
-            4,
+            BAD_BOUNDS,
         ),
-        ("elements swapped, and one outside", &[21, 13], 11, &[], 3),
+        (
+            "elements swapped, and one outside",
+            &[21, 13],
+            11,
+            &[],
+            BAD_ORDER,
+        ),
         (
             "a broken field, and another mirror",
             &[13, 16],
             12,
             &[(99, 2)],
-            5,
+            BAD_FIELD,
         ),
         (
             "a byte that is not 0, and another mirror",
             &[13],
             12,
             &[(4_095, 1)],
-            5,
+            BAD_FIELD,
         ),
         (
             "an element outside, and a mirror below its id",
             &[13, 21],
             2,
             &[],
-            4,
+            BAD_BOUNDS,
         ),
     ];
     for (damage, objects, mirror, bytes, kind) in rows {
@@ -275,19 +302,34 @@ fn a_damaged_inner_node_below_the_root_tells_the_first_rule_that_it_breaks(
 ) -> Result<(), Fail> {
     // The node at page 2 has the level 2, the mirror 25, and the leaves 0 to 15.
     let rows: [(&str, Node, &[(u16, u8)], u8); 9] = [
-        ("a leaf", leaf(1)?, &[], 1),
-        ("level 3", inner(3, 25, 0, 16)?, &[], 1),
-        ("level 1", inner(2, 25, 0, 16)?, &[(1, 1)], 1),
-        ("15 children", inner(2, 25, 0, 15)?, &[], 2),
-        ("another first boundary", inner(2, 25, 1, 16)?, &[], 4),
-        ("another right boundary", inner(2, 25, 0, 17)?, &[], 4),
-        ("another mirror", inner(2, 26, 0, 16)?, &[], 9),
-        ("another boundary and mirror", inner(2, 33, 0, 17)?, &[], 4),
+        ("a leaf", leaf(1)?, &[], BAD_LEVEL),
+        ("level 3", inner(3, 25, 0, 16)?, &[], BAD_LEVEL),
+        ("level 1", inner(2, 25, 0, 16)?, &[(1, 1)], BAD_LEVEL),
+        ("15 children", inner(2, 25, 0, 15)?, &[], BAD_COUNT),
+        (
+            "another first boundary",
+            inner(2, 25, 1, 16)?,
+            &[],
+            BAD_BOUNDS,
+        ),
+        (
+            "another right boundary",
+            inner(2, 25, 0, 17)?,
+            &[],
+            BAD_BOUNDS,
+        ),
+        ("another mirror", inner(2, 26, 0, 16)?, &[], BAD_MIRROR),
+        (
+            "another boundary and mirror",
+            inner(2, 33, 0, 17)?,
+            &[],
+            BAD_BOUNDS,
+        ),
         (
             "another mirror, and a byte that is not 0",
             inner(2, 26, 0, 16)?,
             &[(4, 1)],
-            5,
+            BAD_FIELD,
         ),
     ];
     for (damage, node, bytes, kind) in rows {
@@ -308,7 +350,10 @@ fn a_child_that_is_its_own_parent_is_damage(rt: HostRuntime) -> Result<(), Fail>
     let at = offset(1)?;
     put_u64(&mut page, 104, at.raw());
     pages.change(at, &page)?;
-    let damage = Fault::Damaged { at, kind: 1 };
+    let damage = Fault::Damaged {
+        at,
+        kind: BAD_LEVEL,
+    };
     let base = entry(15).base;
     assert_eq!(rt; find(&mut pages, at, &base).err(), Some(damage));
     assert_eq!(rt;
