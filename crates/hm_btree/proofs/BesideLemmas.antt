@@ -1,6 +1,6 @@
 -- A child of two neighbours that changed and is not written, beside the other one, which is as it was.
-use Rattle.std.proofs.Common.{◌≡◌, ◌≢◌, Bool, true, false, true≢false, ◌||◌, ℕ, List, [], ◌∷◌, ◌++◌, refl, sym, ap, subst, ◌∙◌, arith, nat_eq, append-nil}
-use Rattle.std.specs.Prelude.{Option, IsSome}
+use Rattle.std.proofs.Common.{◌≡◌, ◌≢◌, Bool, true, false, true≢false, ◌||◌, ℕ, suc, List, [], ◌∷◌, ◌++◌, refl, sym, ap, subst, ◌∙◌, arith, nat_eq, append-nil}
+use Rattle.std.specs.Prelude.{Option, IsSome, if◌then◌else◌}
 use Rattle.std.specs.List.{AllByRecursion}
 use Rattle.std.specs.Ordering.{is_lt}
 use Rattle.hm_types.specs.Elements.{Key}
@@ -11,9 +11,11 @@ use Rattle.hm_key.specs.declared.base.Base.{Base}
 use Rattle.hm_key.specs.declared.element.Element.{Element}
 use Rattle.hm_key.proofs.KeyLemmas.{key_before_from}
 use Rattle.hm_node.specs.Inner.{IsChild}
-use Rattle.hm_node.specs.Node.{node_in}
+use Rattle.hm_node.specs.Node.{level_of, node_in}
 use Rattle.hm_node.specs.declared.inner.Child.{Child}
+use Rattle.hm_node.specs.declared.leaf.Leaf.{Leaf}
 use Rattle.hm_node.specs.declared.node.Node.{Node}
+use Rattle.hm_node.specs.declared.node.Node.TheVariants.{Leaf as leaf_node, Inner as inner_node}
 use Rattle.hm_search.specs.Place.{IsInside}
 use Rattle.hm_search.specs.Tree.{node_at, elements_in, mark_in, reaches, starts_after, child_place, IsTree, IsStoredTree}
 use Rattle.hm_search.specs.declared.subtree.Subtree.{Subtree}
@@ -22,9 +24,12 @@ use Rattle.hm_search.proofs.FrameLemmas.{IsSameBelow, frame_elements, frame_mark
 use Rattle.hm_search.proofs.ListLemmas.{each_so}
 use Rattle.hm_search.proofs.OrderLemmas.{from_not}
 use Rattle.hm_search.proofs.ReachLemmas.{is_under, or_left, or_right, fails, not_below_itself}
+use Rattle.hm_btree.specs.Marking.{Marking, TakesOut, MarksWithin}
+use Rattle.hm_btree.specs.Marks.{MarksJoin}
 use Rattle.hm_btree.specs.Below.{Replaces, elements_under, mark_under, AreStored, AreRising, IsLocal, Changed}
-use Rattle.hm_btree.specs.Shrink.{loose, between, below_both, Beside}
-use Rattle.hm_btree.proofs.ChangeLemmas.{mark_cons, chosen}
+use Rattle.hm_btree.specs.Shrink.{loose, between, below_both, Beside, LeavesHave}
+use Rattle.hm_btree.proofs.ChangeLemmas.{mark_cons}
+use Rattle.hm_btree.proofs.MarkLemmas.{as_marks, both_sides, marks_low, marks_high, takes_same}
 use Rattle.hm_btree.proofs.OrderLemmas.{rising_next, rising_rest}
 use Rattle.hm_btree.proofs.PutLemmas.{same_test, test_other}
 use Rattle.hm_btree.proofs.UnderLemmas.{or_false, or_false_left, or_false_right, reached_there, first_apart, replaces_same, replaces_front, replaces_back}
@@ -104,9 +109,9 @@ module _ (old : PageMap) (height level : ℕ) (next : Base) (a b : Child) (risin
   pub not_same : a.child ≢ b.child
   not_same same = test_other b.child a.child (or_false_left (nat_eq b.child a.child) (reaches old height upper_was a.child) (lower_apart a.child at_lower)) (sym same)
 
-  module _ (f : List Element → List Element) (key : Key) (id : ℕ) (mid : PageMap) (local : IsLocal f key) (child : IsChild b) where
+  module _ (f : List Element → List Element) (key : Key) (marking : Marking) (mid : PageMap) (local : IsLocal f key) (child : IsChild b) where
     -- the lower one changed
-    module _ (lower : Node) (change : Changed f key id (loose (child_place level b.left a)) height old mid (node_at old a.child) lower) where
+    module _ (lower : Node) (change : Changed f key marking (loose (child_place level b.left a)) height old mid (node_at old a.child) lower) where
       pub upper_stays : Stays old mid height (child_place level next b)
       upper_stays = stays old mid height lower_was lower change.pages (child_place level next b) stored.1.0
           (λ x is. or_false_right (nat_eq a.child x) (reaches old height lower_was x) (upper_apart x is))
@@ -115,7 +120,7 @@ module _ (old : PageMap) (height level : ℕ) (next : Base) (a b : Child) (risin
       lower_there = own_there old mid height lower_was lower change.pages (child_place level b.left a) stored.0 refl
 
       pub beside_lower : IsBefore key (key_of b.left)
-          → Beside key id height old mid (below_both old height a b) (f (elements_under old height (a ∷ b ∷ []))) (mark_under old height (a ∷ b ∷ [])) a.left next lower (node_at mid b.child) b.left
+          → Beside key marking height old mid (below_both old height a b) (f (elements_under old height (a ∷ b ∷ []))) (mark_under old height (a ∷ b ∷ [])) a.left next lower (node_at mid b.child) b.left
       beside_lower before =
           let firsts : List Element = elements_in old height lower_was in
           let others : List Element = elements_in old height upper_was in
@@ -128,12 +133,10 @@ module _ (old : PageMap) (height level : ℕ) (next : Base) (a b : Child) (risin
             upper_tree = loosened mid height (child_place level next b) (node_at mid b.child) upper_stays.stored.tree;
             elements = ap (λ (l : List Element). l ++ elements_in mid height (node_at mid b.child)) change.elements ∙ ap (λ (l : List Element). f firsts ++ l) upper_stays.elements
                 ∙ sym (local.back firsts others ends) ∙ ap (λ (l : List Element). f (firsts ++ l)) (sym (append-nil others));
-            mark = record {
-              never_fall = λ k. rw (mark_cons old height k a b [])
-                  (chosen (starts_after k b) (mark_in old height lower_was k) (mark_in mid height lower k) (mark_in old height upper_was k) (mark_in mid height (node_at mid b.child) k)
-                  (change.mark.never_fall k) (omega (arith, upper_stays.mark k)));
-              reach = rw (ap is_lt before) change.mark.reach;
-            };
+            mark = as_marks (MarksWithin marking key a.left next) (both_sides b.left (mark_in old height lower_was) (mark_in old height upper_was)) (mark_under old height (a ∷ b ∷ []))
+                (both_sides b.left (mark_in mid height lower) (mark_in old height upper_was)) (both_sides b.left (mark_in mid height lower) (mark_in mid height (node_at mid b.child)))
+                (λ k. mark_cons old height k a b []) (λ k. ap (λ (n : ℕ). if starts_after k b then mark_in mid height lower k else n) (upper_stays.mark k))
+                (marks_low b.left (mark_in old height lower_was) (mark_in mid height lower) (mark_in old height upper_was) key before marking a.left next (rising_next next b [] (rising_rest next a (b ∷ []) rising)) change.mark);
             pages = replaces_same old mid (below_both old height a b) (λ x. reaches mid height lower x || reaches old height upper_was x)
                 (below_both old height a b) (λ x. reaches mid height lower x || reaches mid height (node_at mid b.child) x)
                 (λ x. refl) (λ x. ap (λ (t : Bool). reaches mid height lower x || t) (upper_stays.pages x))
@@ -144,7 +147,7 @@ module _ (old : PageMap) (height level : ℕ) (next : Base) (a b : Child) (risin
           }
 
     -- the upper one changed
-    module _ (upper : Node) (change : Changed f key id (loose (child_place level next b)) height old mid (node_at old b.child) upper) where
+    module _ (upper : Node) (change : Changed f key marking (loose (child_place level next b)) height old mid (node_at old b.child) upper) where
       pub lower_stays : Stays old mid height (child_place level b.left a)
       lower_stays = stays old mid height upper_was upper change.pages (child_place level b.left a) stored.0
           (λ x is. or_false_right (nat_eq b.child x) (reaches old height upper_was x) (lower_apart x is))
@@ -153,7 +156,7 @@ module _ (old : PageMap) (height level : ℕ) (next : Base) (a b : Child) (risin
       upper_there = own_there old mid height upper_was upper change.pages (child_place level next b) stored.1.0 refl
 
       pub beside_upper : IsFrom (key_of b.left) key
-          → Beside key id height old mid (below_both old height a b) (f (elements_under old height (a ∷ b ∷ []))) (mark_under old height (a ∷ b ∷ [])) a.left next (node_at mid a.child) upper b.left
+          → Beside key marking height old mid (below_both old height a b) (f (elements_under old height (a ∷ b ∷ []))) (mark_under old height (a ∷ b ∷ [])) a.left next (node_at mid a.child) upper b.left
       beside_upper from =
           let firsts : List Element = elements_in old height lower_was in
           let others : List Element = elements_in old height upper_was in
@@ -166,12 +169,10 @@ module _ (old : PageMap) (height level : ℕ) (next : Base) (a b : Child) (risin
             upper_tree = loosened mid height (loose (child_place level next b)) upper change.tree;
             elements = ap (λ (l : List Element). l ++ elements_in mid height upper) lower_stays.elements ∙ ap (λ (l : List Element). firsts ++ l) change.elements
                 ∙ sym (local.front firsts others begins) ∙ ap (λ (l : List Element). f (firsts ++ l)) (sym (append-nil others));
-            mark = record {
-              never_fall = λ k. rw (mark_cons old height k a b [])
-                  (chosen (starts_after k b) (mark_in old height lower_was k) (mark_in mid height (node_at mid a.child) k) (mark_in old height upper_was k) (mark_in mid height upper k)
-                  (omega (arith, lower_stays.mark k)) (change.mark.never_fall k));
-              reach = rw (from_not key (key_of b.left) from) change.mark.reach;
-            };
+            mark = as_marks (MarksWithin marking key a.left next) (both_sides b.left (mark_in old height lower_was) (mark_in old height upper_was)) (mark_under old height (a ∷ b ∷ []))
+                (both_sides b.left (mark_in old height lower_was) (mark_in mid height upper)) (both_sides b.left (mark_in mid height (node_at mid a.child)) (mark_in mid height upper))
+                (λ k. mark_cons old height k a b []) (λ k. ap (λ (n : ℕ). if starts_after k b then n else mark_in mid height upper k) (lower_stays.mark k))
+                (marks_high b.left (mark_in old height lower_was) (mark_in old height upper_was) (mark_in mid height upper) key from marking a.left next (rising_next next a (b ∷ []) rising) change.mark);
             pages = replaces_same old mid (below_both old height a b) (λ x. reaches old height lower_was x || reaches mid height upper x)
                 (below_both old height a b) (λ x. reaches mid height (node_at mid a.child) x || reaches mid height upper x)
                 (λ x. refl) (λ x. ap (λ (t : Bool). t || reaches mid height upper x) (lower_stays.pages x))
@@ -180,3 +181,35 @@ module _ (old : PageMap) (height level : ℕ) (next : Base) (a b : Child) (risin
             from = rising_next next a (b ∷ []) rising;
             to = rising_next next b [] (rising_rest next a (b ∷ []) rising);
           }
+
+  -- where leaves lose an element, and their marks stay
+  module _ (f : List Element → List Element) (key : Key) (mid : PageMap) (local : IsLocal f key) (child : IsChild b) where
+    leaf_had : (s : Subtree) (was : Node) (is : Leaf) → IsTree old height s was → level_of (leaf_node is) ≡ suc height → MarksJoin key (mark_in old height was) (mark_in mid height (leaf_node is)) → (k : Key) → mark_in old height was k ≡ is.mirror
+    leaf_had s (leaf_node was) is tree level marks k = sym (takes_same key was.mirror is.mirror marks)
+    leaf_had s (inner_node was) is tree level marks k = absurd (omega (arith, tree.level, tree.sound.level.0, level))
+
+    module _ (lower : Node) (change : Changed f key TakesOut (loose (child_place level b.left a)) height old mid (node_at old a.child) lower) where
+      pub leaves_lower : LeavesHave (mark_under old height (a ∷ b ∷ [])) b.left lower (node_at mid b.child)
+      leaves_lower = by_nodes lower (node_at mid b.child) refl refl where
+        by_nodes : (x y : Node) → lower ≡ x → node_at mid b.child ≡ y → LeavesHave (mark_under old height (a ∷ b ∷ [])) b.left x y
+        by_nodes (leaf_node x) (leaf_node y) first second = λ k.
+            let change' : Changed f key TakesOut (loose (child_place level b.left a)) height old mid lower_was (leaf_node x) =
+            subst (λ (n : Node). Changed f key TakesOut (loose (child_place level b.left a)) height old mid lower_was n) first change in
+            mark_cons old height k a b []
+            ∙ ap (λ (n : ℕ). if starts_after k b then n else mark_in old height upper_was k) (leaf_had (child_place level b.left a) lower_was x stored.0.tree change'.tree.level change'.mark.joins k)
+            ∙ ap (λ (n : ℕ). if starts_after k b then x.mirror else n) (sym ((upper_stays f key TakesOut mid local child lower change).mark k) ∙ ap (λ (n : Node). mark_in mid height n k) second)
+        by_nodes (leaf_node x) (inner_node y) first second = tt
+        by_nodes (inner_node x) y first second = tt
+
+    module _ (upper : Node) (change : Changed f key TakesOut (loose (child_place level next b)) height old mid (node_at old b.child) upper) where
+      pub leaves_upper : LeavesHave (mark_under old height (a ∷ b ∷ [])) b.left (node_at mid a.child) upper
+      leaves_upper = by_nodes (node_at mid a.child) upper refl refl where
+        by_nodes : (x y : Node) → node_at mid a.child ≡ x → upper ≡ y → LeavesHave (mark_under old height (a ∷ b ∷ [])) b.left x y
+        by_nodes (leaf_node x) (leaf_node y) first second = λ k.
+            let change' : Changed f key TakesOut (loose (child_place level next b)) height old mid upper_was (leaf_node y) =
+            subst (λ (n : Node). Changed f key TakesOut (loose (child_place level next b)) height old mid upper_was n) second change in
+            mark_cons old height k a b []
+            ∙ ap (λ (n : ℕ). if starts_after k b then n else mark_in old height upper_was k) (sym ((lower_stays f key TakesOut mid local child upper change).mark k) ∙ ap (λ (n : Node). mark_in mid height n k) first)
+            ∙ ap (λ (n : ℕ). if starts_after k b then x.mirror else n) (leaf_had (child_place level next b) upper_was y stored.1.0.tree change'.tree.level change'.mark.joins k)
+        by_nodes (leaf_node x) (inner_node y) first second = tt
+        by_nodes (inner_node x) y first second = tt

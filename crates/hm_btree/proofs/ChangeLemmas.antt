@@ -1,5 +1,5 @@
 -- Children of which some change, while those before and after them stay.
-use Rattle.std.proofs.Common.{◌≡◌, Bool, true, false, ◌||◌, ℕ, ◌≤◌, List, [], ◌∷◌, ◌++◌, refl, sym, ap, subst, ◌∙◌, arith, append-nil}
+use Rattle.std.proofs.Common.{◌≡◌, Bool, true, false, ◌||◌, ℕ, ◌≤◌, List, [], ◌∷◌, ◌++◌, length, refl, sym, ap, subst, ◌∙◌, arith, append-nil}
 use Rattle.std.specs.Prelude.{if◌then◌else◌}
 use Rattle.std.specs.List.{AllByRecursion}
 use Rattle.std.specs.Ordering.{is_lt}
@@ -8,7 +8,6 @@ use Rattle.hm_types.specs.Elements.{Key, key_cmp}
 use Rattle.hm_fields.specs.Pages.{PageMap}
 use Rattle.hm_key.specs.Key.{key_of, IsBefore, IsFrom}
 use Rattle.hm_key.specs.Elements.{element_key}
-use Rattle.hm_key.specs.Stores.{Marks}
 use Rattle.hm_key.specs.declared.base.Base.{Base}
 use Rattle.hm_key.specs.declared.element.Element.{Element}
 use Rattle.hm_key.proofs.KeyLemmas.{key_before_from, key_from_before}
@@ -22,8 +21,10 @@ use Rattle.hm_search.proofs.ChildLemmas.{holder_later}
 use Rattle.hm_search.proofs.ContentLemmas.{AreInside, from_next_on, elements_inside}
 use Rattle.hm_search.proofs.FrameLemmas.{IsSameUnder}
 use Rattle.hm_search.proofs.ReachLemmas.{is_under}
+use Rattle.hm_btree.specs.Marking.{Marking, MarksWithin}
 use Rattle.hm_btree.specs.Below.{elements_under, mark_under, has_under, AreStored, AreRising, IsLocal, ChangedUnder}
-use Rattle.hm_btree.proofs.OrderLemmas.{before_before, rising_rest, rising_cons, rising_next, before_all, rising_append, rising_back}
+use Rattle.hm_btree.proofs.MarkLemmas.{as_marks, both_sides, marks_low, marks_high}
+use Rattle.hm_btree.proofs.OrderLemmas.{before_before, ends_after, rising_rest, rising_cons, rising_next, before_all, rising_append, rising_back}
 use Rattle.hm_btree.proofs.UnderLemmas.{under_there, first_apart, later_apart, under_append, stored_append, stored_back, under_elements, under_mark, under_has, under_stored, replaces_same, replaces_front, replaces_back}
 
 -- the elements under children, each inside its child's boundaries
@@ -66,10 +67,14 @@ mark_cons map height k c d ds = by_test (starts_after k d) where
   by_test true = refl
   by_test false = refl
 
--- one of two numbers that are both no less
-pub chosen : (b : Bool) (a a' m m' : ℕ) → a ≤ a' → m ≤ m' → (if b then a else m) ≤ (if b then a' else m')
-chosen true a a' m m' first second = first
-chosen false a a' m m' first second = second
+-- the mark of a key among children that are cut in two
+pub mark_cut : (map : PageMap) (height : ℕ) (right : Base) (k : Key) (cs : List Child) (c : Child) (hi : List Child) → 1 ≤ length cs → AreRising right (cs ++ c ∷ hi)
+    → mark_under map height (cs ++ c ∷ hi) k ≡ (if is_lt (key_cmp k (key_of c.left)) then mark_under map height cs k else mark_under map height (c ∷ hi) k)
+mark_cut map height right k [] c hi some rising = absurd (omega arith)
+mark_cut map height right k (b ∷ bs) c hi some rising = by_test (starts_after k c) refl where
+  by_test : (t : Bool) → starts_after k c ≡ t → mark_under map height ((b ∷ bs) ++ c ∷ hi) k ≡ (if t then mark_under map height (b ∷ bs) k else mark_under map height (c ∷ hi) k)
+  by_test true is = ap (λ (x : Child). mark_in map height (node_at map x.child) k) (holder_front k b c bs hi is)
+  by_test false is = ap (λ (x : Child). mark_in map height (node_at map x.child) k) (holder_back k right b c bs hi rising is)
 
 -- what an `or` with `false` says
 pub alone : (b c : Bool) → (b || false) ≡ (c || false) → b ≡ c
@@ -83,35 +88,23 @@ alone_true true is = refl
 alone_true false is = is
 
 -- the marks of children that change, and of those after them that stay
-mark_before : (right : Base) (height : ℕ) (old new : PageMap) (key : Key) (id : ℕ) (b c : Child) (bs cs ds : List Child) → IsSameUnder old new height ds
+mark_before : (right : Base) (height : ℕ) (old new : PageMap) (key : Key) (marking : Marking) (b c : Child) (bs cs ds : List Child) → IsSameUnder old new height ds
     → AreRising right ((b ∷ bs) ++ ds) → AreRising right ((c ∷ cs) ++ ds) → IsBefore key (key_of (next_left right ds))
-    → Marks key id (mark_under old height (b ∷ bs)) (mark_under new height (c ∷ cs)) → Marks key id (mark_under old height ((b ∷ bs) ++ ds)) (mark_under new height ((c ∷ cs) ++ ds))
-mark_before right height old new key id b c bs cs [] same rising up before marks =
-    let first = append-nil bs in
-    let second = append-nil cs in
-    record {
-      never_fall = λ k. rw (first, second) (marks.never_fall k);
-      reach = rw second marks.reach;
-    }
-mark_before right height old new key id b c bs cs (d ∷ ds) same rising up before marks =
-    record {
-      never_fall = λ k. by_test k (starts_after k d) refl;
-      reach = subst (λ (n : ℕ). id ≤ n) (sym (ap (λ (x : Child). mark_in new height (node_at new x.child) key) (holder_front key c d cs ds (ap is_lt before)))) marks.reach;
-    } where
-      by_test : (k : Key) (t : Bool) → starts_after k d ≡ t → mark_under old height ((b ∷ bs) ++ d ∷ ds) k ≤ mark_under new height ((c ∷ cs) ++ d ∷ ds) k
-      by_test k true is =
-          let first = ap (λ (x : Child). mark_in old height (node_at old x.child) k) (holder_front k b d bs ds is) in
-          let second = ap (λ (x : Child). mark_in new height (node_at new x.child) k) (holder_front k c d cs ds is) in
-          omega (arith, first, second, marks.never_fall k)
-      by_test k false is =
-          let first = ap (λ (x : Child). mark_in old height (node_at old x.child) k) (holder_back k right b d bs ds rising is) in
-          let second = ap (λ (x : Child). mark_in new height (node_at new x.child) k) (holder_back k right c d cs ds up is) in
-          omega (arith, first, second, under_mark old new height right (d ∷ ds) same k)
+    → MarksWithin marking key b.left (next_left right ds) (mark_under old height (b ∷ bs)) (mark_under new height (c ∷ cs)) → MarksWithin marking key b.left right (mark_under old height ((b ∷ bs) ++ ds)) (mark_under new height ((c ∷ cs) ++ ds))
+mark_before right height old new key marking b c bs cs [] same rising up before marks =
+    as_marks (MarksWithin marking key b.left right) (mark_under old height (b ∷ bs)) (mark_under old height ((b ∷ bs) ++ [])) (mark_under new height (c ∷ cs)) (mark_under new height ((c ∷ cs) ++ []))
+    (λ k. ap (λ (l : List Child). mark_under old height (b ∷ l) k) (append-nil bs)) (λ k. ap (λ (l : List Child). mark_under new height (c ∷ l) k) (append-nil cs)) marks
+mark_before right height old new key marking b c bs cs (d ∷ ds) same rising up before marks =
+    as_marks (MarksWithin marking key b.left right) (both_sides d.left (mark_under old height (b ∷ bs)) (mark_under old height (d ∷ ds))) (mark_under old height ((b ∷ bs) ++ d ∷ ds))
+    (both_sides d.left (mark_under new height (c ∷ cs)) (mark_under old height (d ∷ ds))) (mark_under new height ((c ∷ cs) ++ d ∷ ds))
+    (λ k. mark_cut old height right k (b ∷ bs) d ds (omega arith) rising)
+    (λ k. mark_cut new height right k (c ∷ cs) d ds (omega arith) up ∙ ap (λ (n : ℕ). if starts_after k d then mark_under new height (c ∷ cs) k else n) (under_mark old new height right (d ∷ ds) same k))
+    (marks_low d.left (mark_under old height (b ∷ bs)) (mark_under new height (c ∷ cs)) (mark_under old height (d ∷ ds)) key before marking b.left right (ends_after right d ds (rising_back right (b ∷ bs) (d ∷ ds) rising)) marks)
 
-module _ (f : List Element → List Element) (key : Key) (id level : ℕ) (right : Base) (height : ℕ) (old new : PageMap) (local : IsLocal f key) where
+module _ (f : List Element → List Element) (key : Key) (marking : Marking) (level : ℕ) (right : Base) (height : ℕ) (old new : PageMap) (local : IsLocal f key) where
   -- a child before those that change
   pub changed_later : (c d e : Child) (ds es : List Child) → IsChild c → AreRising right (c ∷ d ∷ ds) → AreStored old height level right (c ∷ d ∷ ds) → IsFrom (key_of d.left) key
-      → ChangedUnder f key id level right height old new (d ∷ ds) (e ∷ es) → ChangedUnder f key id level right height old new (c ∷ d ∷ ds) (c ∷ e ∷ es)
+      → ChangedUnder f key marking level right height old new (d ∷ ds) (e ∷ es) → ChangedUnder f key marking level right height old new (c ∷ d ∷ ds) (c ∷ e ∷ es)
   changed_later c d e ds es child rising stored from change =
       let same : IsSameUnder old new height (c ∷ []) = record {
         same = λ x is. change.pages.kept x
@@ -130,13 +123,12 @@ module _ (f : List Element → List Element) (key : Key) (id level : ℕ) (right
         stored = (subst (λ (b : Base). IsStoredTree new height (child_place level b c)) (sym change.left) one.0, change.stored);
         elements = ap (λ (l : List Element). l ++ elements_under new height (e ∷ es)) first ∙ ap (λ (l : List Element). was ++ l) change.elements
             ∙ sym (local.front was (elements_under old height (d ∷ ds)) begins);
-        mark = record {
-          never_fall = λ k. rw (mark_cons old height k c d ds, mark_cons new height k c e es, later k)
-              (chosen (starts_after k d) (mark_under old height (c ∷ []) k) (mark_under new height (c ∷ []) k) (mark_under old height (d ∷ ds) k) (mark_under new height (e ∷ es) k)
-              (omega (arith, under_mark old new height d.left (c ∷ []) same k)) (change.mark.never_fall k));
-          reach = let at : holder key c (e ∷ es) ≡ holder key e es = holder_later key c e es (subst (λ (b : Base). IsFrom (key_of b) key) (sym change.left) from) in
-              subst (λ (n : ℕ). id ≤ n) (sym (ap (λ (x : Child). mark_in new height (node_at new x.child) key) at)) change.mark.reach;
-        };
+        mark = as_marks (MarksWithin marking key c.left right) (both_sides d.left (mark_under old height (c ∷ [])) (mark_under old height (d ∷ ds))) (mark_under old height (c ∷ d ∷ ds))
+            (both_sides d.left (mark_under old height (c ∷ [])) (mark_under new height (e ∷ es))) (mark_under new height (c ∷ e ∷ es))
+            (λ k. mark_cons old height k c d ds)
+            (λ k. mark_cons new height k c e es ∙ ap (λ (t : Bool). if t then mark_under new height (c ∷ []) k else mark_under new height (e ∷ es) k) (later k)
+            ∙ ap (λ (n : ℕ). if starts_after k d then n else mark_under new height (e ∷ es) k) (under_mark old new height d.left (c ∷ []) same k))
+            (marks_high d.left (mark_under old height (c ∷ [])) (mark_under old height (d ∷ ds)) (mark_under new height (e ∷ es)) key from marking c.left right (rising_next right c (d ∷ ds) rising) change.mark);
         pages = replaces_same old new (λ x. is_under old height x c || has_under old height (d ∷ ds) x) (λ x. is_under old height x c || has_under new height (e ∷ es) x)
             (has_under old height (c ∷ d ∷ ds)) (has_under new height (c ∷ e ∷ es)) (λ x. refl)
             (λ x. ap (λ (b : Bool). b || has_under new height (e ∷ es) x) (alone (is_under new height x c) (is_under old height x c) (under_has old new height d.left (c ∷ []) same x)))
@@ -148,7 +140,7 @@ module _ (f : List Element → List Element) (key : Key) (id level : ℕ) (right
 
   -- children after those that change
   pub changed_before : (b c : Child) (bs cs ds : List Child) → AllByRecursion IsChild ds → AreRising right ((b ∷ bs) ++ ds) → AreStored old height level right ((b ∷ bs) ++ ds) → IsBefore key (key_of (next_left right ds))
-      → ChangedUnder f key id level (next_left right ds) height old new (b ∷ bs) (c ∷ cs) → ChangedUnder f key id level right height old new ((b ∷ bs) ++ ds) ((c ∷ cs) ++ ds)
+      → ChangedUnder f key marking level (next_left right ds) height old new (b ∷ bs) (c ∷ cs) → ChangedUnder f key marking level right height old new ((b ∷ bs) ++ ds) ((c ∷ cs) ++ ds)
   changed_before b c bs cs ds children rising stored before change =
       let after : AreStored old height level right ds = stored_back old height level right (b ∷ bs) ds stored in
       let sorted : AreRising right ds = rising_back right (b ∷ bs) ds rising in
@@ -168,7 +160,7 @@ module _ (f : List Element → List Element) (key : Key) (id level : ℕ) (right
         stored = stored_append new height level right (c ∷ cs) ds change.stored (under_stored old new height right ds same level after);
         elements = flat_map-append other (c ∷ cs) ds ∙ ap (λ (l : List Element). elements_under new height (c ∷ cs) ++ l) (under_elements old new height right ds same)
             ∙ ap (λ (l : List Element). l ++ was) change.elements ∙ sym (local.back (elements_under old height (b ∷ bs)) was ends) ∙ ap f (sym (flat_map-append one (b ∷ bs) ds));
-        mark = mark_before right height old new key id b c bs cs ds same rising up before change.mark;
+        mark = mark_before right height old new key marking b c bs cs ds same rising up before change.mark;
         pages = replaces_same old new (λ x. has_under old height (b ∷ bs) x || has_under old height ds x) (λ x. has_under new height (c ∷ cs) x || has_under old height ds x)
             (has_under old height ((b ∷ bs) ++ ds)) (has_under new height ((c ∷ cs) ++ ds)) (λ x. under_append old height x (b ∷ bs) ds)
             (λ x. under_append new height x (c ∷ cs) ds ∙ ap (λ (t : Bool). has_under new height (c ∷ cs) x || t) (under_has old new height right ds same x))

@@ -28,6 +28,7 @@ use Rattle.hm_search.specs.declared.subtree.Subtree.{Subtree}
 use Rattle.hm_search.proofs.ChildLemmas.{holder_place_within, place_is}
 use Rattle.hm_search.proofs.DamageLemmas.{tells_undamaged, stored_here, caused_since}
 use Rattle.hm_search.proofs.ListLemmas.{each_so, each_append, each_get}
+use Rattle.hm_btree.specs.Marking.{Marking}
 use Rattle.hm_btree.specs.Edits.{inner_of, with_mirror}
 use Rattle.hm_btree.specs.Space.{HasWritten}
 use Rattle.hm_btree.specs.Below.{elements_under, IsLocal, Changed, HasEditCause}
@@ -152,17 +153,17 @@ module _ (key : Key) (place : Subtree) (height level mirror : ℕ) (right : Base
         ∙ at_back key (elements_in old height (node_at old c.child)) (elements_under old height post) after
 
     -- that child changed and was written
-    pub changed_parent : (f : List Element → List Element) (id : ℕ) (mid new : PageMap) (after : Node) → IsLocal f key → Changed f key id (child_place level (next_left right post) c) height old mid (node_at old c.child) after
+    pub changed_parent : (f : List Element → List Element) (marking : Marking) (mid new : PageMap) (after : Node) → IsLocal f key → Changed f key marking (child_place level (next_left right post) c) height old mid (node_at old c.child) after
         → HasWritten c.child after mid new
-        → Changed f key id place (suc height) old new whole (inner_node (inner_of level (max mirror (mirror_of after)) (pre ++ with_mirror (mirror_of after) c ∷ post) right))
-    changed_parent f id mid new after local change (page, spells, put) =
+        → Changed f key marking place (suc height) old new whole (inner_node (inner_of level (max mirror (mirror_of after)) (pre ++ with_mirror (mirror_of after) c ∷ post) right))
+    changed_parent f marking mid new after local change (page, spells, put) =
         let children = recursion_from_All IsChild (pre ++ c ∷ post) tree.sound.fields.children in
         let one = (each_back IsChild pre (c ∷ post) children).0 in
         let next = rising_next right c post (rising_back right pre (c ∷ post) tree.sound.order) in
-        let segment = changed_written f key id level (next_left right post) height old mid new c after page one next child_tree change spells put in
-        let all = changed_within f key id level right height old new local c (with_mirror (mirror_of after) c) [] [] post pre children tree.sound.order tree.below child_inside.from child_inside.before segment in
+        let segment = changed_written f key marking level (next_left right post) height old mid new c after page one next child_tree change spells put in
+        let all = changed_within f key marking level right height old new local c (with_mirror (mirror_of after) c) [] [] post pre children tree.sound.order tree.below child_inside.from child_inside.before segment in
         let long : length (pre ++ with_mirror (mirror_of after) c ∷ post) ≡ length (pre ++ c ∷ post) = length-append pre (with_mirror (mirror_of after) c ∷ post) ∙ sym (length-append pre (c ∷ post)) in
-        changed_above f key id place height old new level mirror (max mirror (mirror_of after)) right (pre ++ c ∷ post) (pre ++ with_mirror (mirror_of after) c ∷ post) tree all
+        changed_above f key marking place height old new level mirror (max mirror (mirror_of after)) right (pre ++ c ∷ post) (pre ++ with_mirror (mirror_of after) c ∷ post) tree all
         (mirrors after) (omega (arith, long, tree.sound.count.0)) (omega (arith, long, tree.sound.count.1)) (counts place.parent after long tree.fits.count) where
           up : (m : ℕ) (cs : List Child) → AllByRecursion (λ d. d.mirror ≤ mirror) cs → AllByRecursion (λ d. d.mirror ≤ max mirror m) cs
           up m cs each = each_so (λ d. d.mirror ≤ mirror) (λ d. d.mirror ≤ max mirror m) cs (λ d le. omega (arith, le)) each

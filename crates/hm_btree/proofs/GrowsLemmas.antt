@@ -19,6 +19,7 @@ use Rattle.hm_search.specs.Search.{holder_place}
 use Rattle.hm_search.specs.Tree.{node_at, elements_in, next_left, child_place, children_of, IsTree, IsStoredTree}
 use Rattle.hm_search.specs.declared.subtree.Subtree.{Subtree}
 use Rattle.hm_search.proofs.ChildLemmas.{IsChildAt, place_is}
+use Rattle.hm_btree.specs.Marking.{Marking, Writes}
 use Rattle.hm_btree.specs.Edits.{inner_of, with_mirror, ChildChange}
 use Rattle.hm_btree.specs.Space.{HasWritten, HasAdded, IsSpot}
 use Rattle.hm_btree.specs.Below.{IsLocal}
@@ -29,11 +30,11 @@ use Rattle.hm_btree.proofs.GrowLemmas.{grown_leaf, grown_parent}
 
 -- a leaf got an element
 pub leaf_grows : (e : Element) (node after : Node) (leaf leaf' : Leaf) (p : Option PageMap) (o : Option Upper) → node ≡ leaf_node leaf → after ≡ leaf_node leaf' → LeafBecomes (max leaf.mirror (last_id e)) (inserted e leaf.places.items) leaf' o
-    → Grows (inserted e) (element_key e) (last_id e) (λ x. IsNone x) (IsElement e × IsOffset e.payload) p p node after o
+    → Grows (inserted e) (element_key e) (Writes (last_id e)) (λ x. IsNone x) (IsElement e × IsOffset e.payload) p p node after o
 leaf_grows e node after leaf leaf' None o is now becomes = tt
 leaf_grows e node after leaf leaf' (Some old) o is now becomes = λ place height tree inside lacks more.
-    subst (λ (n : Node). GrownTo (inserted e) (element_key e) (last_id e) place height old old n after o) (sym is)
-    (subst (λ (n : Node). GrownTo (inserted e) (element_key e) (last_id e) place height old old (leaf_node leaf) n o) (sym now)
+    subst (λ (n : Node). GrownTo (inserted e) (element_key e) (Writes (last_id e)) place height old old n after o) (sym is)
+    (subst (λ (n : Node). GrownTo (inserted e) (element_key e) (Writes (last_id e)) place height old old (leaf_node leaf) n o) (sym now)
     (grown_leaf e place height old leaf leaf' (subst (λ (n : Node). IsTree old height place n) is tree) inside
     (subst (λ (n : Node). IsNone (element_at (element_key e) (elements_in old height n))) is lacks) more o becomes))
 
@@ -48,14 +49,14 @@ becomes_same l l' m m' cs cs' r r' x o a b c d becomes =
     subst (λ (n : ℕ). InnerBecomes n m' cs' r' x o) a (subst (λ (n : ℕ). InnerBecomes l n cs' r' x o) b
     (subst (λ (n : List Child). InnerBecomes l m n r' x o) c (subst (λ (n : Base). InnerBecomes l m cs n x o) d becomes)))
 
-module _ (f : List Element → List Element) (key : Key) (id : ℕ) (Needs : Option Element → Type 0) (More : Type 0) (local : IsLocal f key) (inner inner1 inner2 : Inner) (i : ℕ) (s : Subtree) (child after : Node) (m : ℕ) (upper : Upper) (at : ℕ) (mu : ℕ) (o : Option Upper) where
+module _ (f : List Element → List Element) (key : Key) (marking : Marking) (Needs : Option Element → Type 0) (More : Type 0) (local : IsLocal f key) (inner inner1 inner2 : Inner) (i : ℕ) (s : Subtree) (child after : Node) (m : ℕ) (upper : Upper) (at : ℕ) (mu : ℕ) (o : Option Upper) where
   parent_grown : (old mid new1 new2 : PageMap) (lower : ℕ) (place : Subtree) → IsTree old (suc lower) place (inner_node inner) → IsInside place.left place.right key → i ≡ holder_place key inner.places.items
       → IsChildAt inner.level inner.right inner.places.items i s → SpellsHere s (page_in (old s.at)) child → HasWritten s.at after mid new1 → HasAdded at upper.node new1 new2 → IsSpot at
-      → ((place : Subtree) (height : ℕ) → IsTree old height place child → IsInside place.left place.right key → Needs (element_at key (elements_in old height child)) → Split f key id place height old mid child after upper.node upper.left)
+      → ((place : Subtree) (height : ℕ) → IsTree old height place child → IsInside place.left place.right key → Needs (element_at key (elements_in old height child)) → Split f key marking place height old mid child after upper.node upper.left)
       → Needs (element_at key (elements_in old (suc lower) (inner_node inner)))
       → inner1.level ≡ inner.level → inner1.mirror ≡ max inner.mirror m → m ≡ mirror_of after → mu ≡ mirror_of upper.node → ChildChange (with_mirror m) inner.places.items i inner1.places.items → inner1.right ≡ inner.right
       → InnerBecomes inner1.level (max inner1.mirror mu) (insert inner1.places.items (i + 1) (record { left = upper.left; child = at; mirror = mu })) inner1.right inner2 o
-      → GrownTo f key id place (suc lower) old new2 (inner_node inner) (inner_node inner2) o
+      → GrownTo f key marking place (suc lower) old new2 (inner_node inner) (inner_node inner2) o
   parent_grown old mid new1 new2 lower place tree inside at_holder there here written added spot rec needs level mirror is is_up items right becomes =
       let cs : List Child = inner.places.items in
       let c : Child = there.child in
@@ -71,7 +72,7 @@ module _ (f : List Element → List Element) (key : Key) (id : ℕ) (Needs : Opt
       let read : node_at old c.child ≡ child = ap (node_at old) (sym where_is) ∙ here.spelled.value in
       let spot_of : Subtree = child_place inner.level (next_left inner.right post) c in
       let stored : IsStoredTree old lower spot_of = child_tree key place lower inner.level inner.mirror inner.right old pre c post tree' held inside in
-      let below : Split f key id spot_of lower old mid child after upper.node upper.left =
+      let below : Split f key marking spot_of lower old mid child after upper.node upper.left =
       rec spot_of lower (subst (λ (n : Node). IsTree old lower spot_of n) read stored.tree)
       (child_inside key place lower inner.level inner.mirror inner.right old pre c post tree' held inside)
       (subst (λ (n : Node). Needs (element_at key (elements_in old lower n))) read
@@ -85,30 +86,30 @@ module _ (f : List Element → List Element) (key : Key) (id : ℕ) (Needs : Opt
       let end = becomes_same inner1.level inner.level (max inner1.mirror mu) (max (max inner.mirror (mirror_of after)) (mirror_of upper.node)) (insert inner1.places.items (i + 1) (record { left = upper.left; child = at; mirror = mu }))
       (pre ++ with_mirror (mirror_of after) c ∷ record { left = upper.left; child = at; mirror = mirror_of upper.node } ∷ post) inner1.right inner.right inner2 o level
       (ap (λ (n : ℕ). max n mu) (mirror ∙ ap (max inner.mirror) is) ∙ ap (max (max inner.mirror (mirror_of after))) is_up) list right becomes in
-      subst (λ (l : List Child). GrownTo f key id place (suc lower) old new2 (inner_node (inner_of inner.level inner.mirror l inner.right)) (inner_node inner2) o) (sym split.0)
-      (grown_parent key place lower inner.level inner.mirror inner.right old pre c post tree' held inside f id mid new1 new2 after upper.node upper.left at inner2 o local
-      (subst (λ (n : Node). Split f key id spot_of lower old mid n after upper.node upper.left) (sym read) below) (subst (λ (a : ℕ). HasWritten a after mid new1) where_is written) added spot end)
+      subst (λ (l : List Child). GrownTo f key marking place (suc lower) old new2 (inner_node (inner_of inner.level inner.mirror l inner.right)) (inner_node inner2) o) (sym split.0)
+      (grown_parent key place lower inner.level inner.mirror inner.right old pre c post tree' held inside f marking mid new1 new2 after upper.node upper.left at inner2 o local
+      (subst (λ (n : Node). Split f key marking spot_of lower old mid n after upper.node upper.left) (sym read) below) (subst (λ (a : ℕ). HasWritten a after mid new1) where_is written) added spot end)
 
   pub inner_grows : (node : Node) (p0 p1 p2 p3 p4 : Option PageMap) → node ≡ inner_node inner → i ≡ holder_place key inner.places.items → slice_get (children_of inner) i ≡ Some s → p1 ≡ p0 → IfSome p0 (λ map. SpellsHere s (page_in (map s.at)) child)
-      → Grows f key id Needs More p1 p2 child after (Some upper) → BothTell p2 p3 (HasWritten s.at after) → BothTell p3 p4 (HasAdded at upper.node) → IsSpot at
+      → Grows f key marking Needs More p1 p2 child after (Some upper) → BothTell p2 p3 (HasWritten s.at after) → BothTell p3 p4 (HasAdded at upper.node) → IsSpot at
       → inner1.level ≡ inner.level → inner1.mirror ≡ max inner.mirror m → m ≡ mirror_of after → mu ≡ mirror_of upper.node → ChildChange (with_mirror m) inner.places.items i inner1.places.items → inner1.right ≡ inner.right
       → InnerBecomes inner1.level (max inner1.mirror mu) (insert inner1.places.items (i + 1) (record { left = upper.left; child = at; mirror = mu })) inner1.right inner2 o
-      → Grows f key id Needs More p0 p4 node (inner_node inner2) o
+      → Grows f key marking Needs More p0 p4 node (inner_node inner2) o
   inner_grows node None p1 p2 p3 p4 is at_holder there same here rec written added spot level mirror m_is mu_is items right becomes = tt
   inner_grows node (Some old) p1 p2 p3 p4 is at_holder there same here rec written added spot level mirror m_is mu_is items right becomes =
-      let told : Grows f key id Needs More (Some old) p2 child after (Some upper) = subst (λ (p : Option PageMap). Grows f key id Needs More p p2 child after (Some upper)) same rec in
+      let told : Grows f key marking Needs More (Some old) p2 child after (Some upper) = subst (λ (p : Option PageMap). Grows f key marking Needs More p p2 child after (Some upper)) same rec in
       λ place height tree inside needs more.
-      subst (λ (n : Node). IfSome p4 (λ new. GrownTo f key id place height old new n (inner_node inner2) o)) (sym is)
+      subst (λ (n : Node). IfSome p4 (λ new. GrownTo f key marking place height old new n (inner_node inner2) o)) (sym is)
       (by_pages p2 p3 p4 told written added height place (subst (λ (n : Node). IsTree old height place n) is tree) inside (subst (λ (n : Node). Needs (element_at key (elements_in old height n))) is needs) more) where
-        by_height : (mid new1 new2 : PageMap) → Grows f key id Needs More (Some old) (Some mid) child after (Some upper) → HasWritten s.at after mid new1 → HasAdded at upper.node new1 new2 → (height : ℕ) (place : Subtree) → IsTree old height place (inner_node inner)
-            → IsInside place.left place.right key → Needs (element_at key (elements_in old height (inner_node inner))) → More → GrownTo f key id place height old new2 (inner_node inner) (inner_node inner2) o
+        by_height : (mid new1 new2 : PageMap) → Grows f key marking Needs More (Some old) (Some mid) child after (Some upper) → HasWritten s.at after mid new1 → HasAdded at upper.node new1 new2 → (height : ℕ) (place : Subtree) → IsTree old height place (inner_node inner)
+            → IsInside place.left place.right key → Needs (element_at key (elements_in old height (inner_node inner))) → More → GrownTo f key marking place height old new2 (inner_node inner) (inner_node inner2) o
         by_height mid new1 new2 told written added zero place tree inside needs more = absurd (omega (arith, tree.level, tree.sound.level.0))
         by_height mid new1 new2 told written added (suc lower) place tree inside needs more =
             parent_grown old mid new1 new2 lower place tree inside at_holder (place_is inner.level inner.right inner.places.items i s there) here written added spot
             (λ p h t within n. told p h t within n more) needs level mirror m_is mu_is items right becomes
 
-        by_pages : (p2 p3 p4 : Option PageMap) → Grows f key id Needs More (Some old) p2 child after (Some upper) → BothTell p2 p3 (HasWritten s.at after) → BothTell p3 p4 (HasAdded at upper.node) → (height : ℕ) (place : Subtree)
-            → IsTree old height place (inner_node inner) → IsInside place.left place.right key → Needs (element_at key (elements_in old height (inner_node inner))) → More → IfSome p4 (λ new. GrownTo f key id place height old new (inner_node inner) (inner_node inner2) o)
+        by_pages : (p2 p3 p4 : Option PageMap) → Grows f key marking Needs More (Some old) p2 child after (Some upper) → BothTell p2 p3 (HasWritten s.at after) → BothTell p3 p4 (HasAdded at upper.node) → (height : ℕ) (place : Subtree)
+            → IsTree old height place (inner_node inner) → IsInside place.left place.right key → Needs (element_at key (elements_in old height (inner_node inner))) → More → IfSome p4 (λ new. GrownTo f key marking place height old new (inner_node inner) (inner_node inner2) o)
         by_pages p2 p3 None told written added height place tree inside needs more = tt
         by_pages p2 None (Some new2) told written added height place tree inside needs more = absurd added
         by_pages None (Some new1) (Some new2) told written added height place tree inside needs more = absurd written

@@ -15,6 +15,7 @@ use Rattle.hm_search.specs.Search.{holder_place}
 use Rattle.hm_search.specs.Tree.{node_at, elements_in, next_left, child_place, children_of, IsTree, IsStoredTree}
 use Rattle.hm_search.specs.declared.subtree.Subtree.{Subtree}
 use Rattle.hm_search.proofs.ChildLemmas.{place_is}
+use Rattle.hm_btree.specs.Marking.{TakesOut}
 use Rattle.hm_btree.specs.Below.{IsLocal, Changed}
 use Rattle.hm_btree.specs.Edits.{inner_of}
 use Rattle.hm_btree.specs.Shrink.{loose, Shrinks, HoldsElement, HasNeighbours, IsShrunk}
@@ -79,10 +80,10 @@ module _ (key : Key) (inner : Inner) (i : ℕ) (s : Subtree) (child : Node) (hol
           }
 
     -- and the child lost places
-    pub shrunk_told : (f : List Element → List Element) (id : ℕ) (p2 : Option PageMap) (after : Node) → IsLocal f key → IfSome p0 (HoldsElement key node) → IfSome p0 (λ map. SpellsHere s (page_in (map s.at)) child)
-        → Shrinks f key id (λ o. IsSome o) p1 p2 child after → is_some p2 ≡ is_some p1 → IfSome p2 (IsShrunk inner i after)
-    shrunk_told f id p2 after local holds here shrinks told = by_told p0 p2 holds here (subst (λ (p : Option PageMap). Shrinks f key id (λ o. IsSome o) p p2 child after) same shrinks) (told ∙ ap is_some same) where
-      by_told : (p q : Option PageMap) → IfSome p (HoldsElement key node) → IfSome p (λ map. SpellsHere s (page_in (map s.at)) child) → Shrinks f key id (λ o. IsSome o) p q child after → is_some q ≡ is_some p → IfSome q (IsShrunk inner i after)
+    pub shrunk_told : (f : List Element → List Element) (p2 : Option PageMap) (after : Node) → IsLocal f key → IfSome p0 (HoldsElement key node) → IfSome p0 (λ map. SpellsHere s (page_in (map s.at)) child)
+        → Shrinks f key TakesOut (λ o. IsSome o) p1 p2 child after → is_some p2 ≡ is_some p1 → IfSome p2 (IsShrunk inner i after)
+    shrunk_told f p2 after local holds here shrinks told = by_told p0 p2 holds here (subst (λ (p : Option PageMap). Shrinks f key TakesOut (λ o. IsSome o) p p2 child after) same shrinks) (told ∙ ap is_some same) where
+      by_told : (p q : Option PageMap) → IfSome p (HoldsElement key node) → IfSome p (λ map. SpellsHere s (page_in (map s.at)) child) → Shrinks f key TakesOut (λ o. IsSome o) p q child after → is_some q ≡ is_some p → IfSome q (IsShrunk inner i after)
       by_told p None holds here shrinks told = tt
       by_told None (Some mid) holds here shrinks told = absurd (true≢false told)
       by_told (Some map) (Some mid) holds here shrinks told =
@@ -94,7 +95,6 @@ module _ (key : Key) (inner : Inner) (i : ℕ) (s : Subtree) (child : Node) (hol
           record {
             f = f;
             key = key;
-            id = id;
             local = local;
             old = map;
             place = holds.place;
@@ -104,7 +104,7 @@ module _ (key : Key) (inner : Inner) (i : ℕ) (s : Subtree) (child : Node) (hol
             holder = holder;
             child = below.one;
             at = below.at;
-            change = subst (λ (n : Node). Changed f key id (loose spot) below.lower map mid n after) (sym below.read) change;
+            change = subst (λ (n : Node). Changed f key TakesOut (loose spot) below.lower map mid n after) (sym below.read) change;
           }
 
 -- the child that is read is stored

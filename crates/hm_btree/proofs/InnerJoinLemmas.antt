@@ -23,12 +23,14 @@ use Rattle.hm_node.specs.declared.node.Node.TheVariants.{Leaf as leaf_node, Inne
 use Rattle.hm_search.specs.Place.{IsInside, BeginsAt, FitsBounds}
 use Rattle.hm_search.specs.Tree.{node_at, elements_in, next_left, child_place, IsTree, IsStoredTree}
 use Rattle.hm_search.proofs.ListLemmas.{each_so, each_append}
+use Rattle.hm_btree.specs.Marking.{Marking, MarksWithin}
 use Rattle.hm_btree.specs.Edits.{inner_of}
 use Rattle.hm_btree.specs.Below.{elements_under, mark_under, has_under, AreStored, AreRising}
 use Rattle.hm_btree.specs.Shrink.{Beside, Joined, Shared, between}
+use Rattle.hm_btree.proofs.ChangeLemmas.{mark_cut}
 use Rattle.hm_btree.proofs.CutLemmas.{each_take, each_drop, each_most, cut_low, cut_high, cut_of, gains_of, low_of, high_of, low_part, high_part}
-use Rattle.hm_btree.proofs.OrderLemmas.{each_back, rising_first, rising_rest, rising_cons, rising_next, rising_front, rising_back, rising_append, before_all}
-use Rattle.hm_btree.proofs.SplitLemmas.{mark_cut}
+use Rattle.hm_btree.proofs.MarkLemmas.{both_sides, same_marks}
+use Rattle.hm_btree.proofs.OrderLemmas.{ends_after, rising_rest, rising_cons, rising_next, rising_front, rising_back, rising_append, before_all}
 use Rattle.hm_btree.proofs.UnderLemmas.{replaces_same, stored_append, stored_front, stored_back, under_append}
 
 -- A right boundary matters by its key alone.
@@ -87,10 +89,6 @@ module _ (left : Base) where
   begins_take zero (c ∷ cs) some begins = absurd (omega arith)
   begins_take (suc n) (c ∷ cs) some begins = begins
 
--- children end after the first of them begins
-ends_after : (right : Base) (c : Child) (cs : List Child) → AreRising right (c ∷ cs) → IsBefore (key_of c.left) (key_of right)
-ends_after right c cs rising = (each_back (λ y. base_cmp c.left y ≡ Less) (map (λ (d : Child). d.left) cs) (right ∷ []) (rising_first right c cs rising)).0
-
 begins_before : (left right : Base) (cs : List Child) → BeginsAt left cs → AreRising right cs → IsBefore (key_of left) (key_of right)
 begins_before left right [] begins rising = absurd begins
 begins_before left right (c ∷ cs) begins rising = subst (λ (k : Key). IsBefore k (key_of right)) begins (ends_after right c cs rising)
@@ -98,7 +96,7 @@ begins_before left right (c ∷ cs) begins rising = subst (λ (k : Key). IsBefor
 mirror_rise : (m n : ℕ) (c : Child) → m ≤ n → c.mirror ≤ m → c.mirror ≤ n
 mirror_rise m n c le up = omega (arith, le, up)
 
-module _ (key : Key) (id height : ℕ) (old mid : PageMap) (olds : ℕ → Bool) (want : List Element) (were : Key → ℕ) (left right : Base) (a b : Inner) (at : Base) (beside : Beside key id (suc height) old mid olds want were left right (inner_node a) (inner_node b) at) where
+module _ (key : Key) (marking : Marking) (height : ℕ) (old mid : PageMap) (olds : ℕ → Bool) (want : List Element) (were : Key → ℕ) (left right : Base) (a b : Inner) (at : Base) (beside : Beside key marking (suc height) old mid olds want were left right (inner_node a) (inner_node b) at) where
   abbrev all : List Child
   all = a.places.items ++ b.places.items
 
@@ -148,7 +146,7 @@ module _ (key : Key) (id height : ℕ) (old mid : PageMap) (olds : ℕ → Bool)
 
   -- one node has the children of both
   pub joined_inners : length all ≤ 62 → (16 ≤ length a.places.items) ⊎ (16 ≤ length b.places.items)
-      → Joined key id (suc height) old mid olds want were left right (inner_node (inner_of a.level (max a.mirror b.mirror) all b.right))
+      → Joined key marking (suc height) old mid olds want were left right (inner_node (inner_of a.level (max a.mirror b.mirror) all b.right))
   joined_inners few some = record {
     tree = record {
       sound = record {
@@ -164,10 +162,7 @@ module _ (key : Key) (id height : ℕ) (old mid : PageMap) (olds : ℕ → Bool)
     };
     many = many;
     elements = all_elements;
-    mark = record {
-      never_fall = λ k. omega (arith, beside.mark.never_fall k, all_marks k);
-      reach = omega (arith, beside.mark.reach, all_marks key);
-    };
+    mark = same_marks (MarksWithin marking key left right were) (both_sides at (mark_under mid height a.places.items) (mark_under mid height b.places.items)) (mark_under mid height all) all_marks beside.mark;
     pages = replaces_same old mid olds (λ x. has_under mid height a.places.items x || has_under mid height b.places.items x) olds (has_under mid height all)
         (λ x. refl) (λ x. under_append mid height x a.places.items b.places.items) beside.pages;
   } where
@@ -263,16 +258,14 @@ module _ (key : Key) (id height : ℕ) (old mid : PageMap) (olds : ℕ → Bool)
     marks k = sym (all_marks k) ∙ ap (λ (l : List Child). mark_under mid height l k) (sym both) ∙ mark_cut mid height b.right k lo c hi (omega (arith, lower_count.0)) rising
 
     -- two nodes have about as many children each
-    pub shared_inners : Shared key id (suc height) old mid olds want were left right (inner_node (inner_of a.level low lo c.left)) (inner_node (inner_of b.level high (c ∷ hi) b.right)) c.left
+    pub shared_inners : Shared key marking (suc height) old mid olds want were left right (inner_node (inner_of a.level low lo c.left)) (inner_node (inner_of b.level high (c ∷ hi) b.right)) c.left
     shared_inners = record {
       beside = record {
         lower_tree = lower_sound;
         upper_tree = upper_sound;
         elements = sym (flat_map-append (λ (d : Child). elements_in mid height (node_at mid d.child)) lo (c ∷ hi)) ∙ ap (elements_under mid height) both ∙ all_elements;
-        mark = record {
-          never_fall = λ k. omega (arith, beside.mark.never_fall k, marks k);
-          reach = omega (arith, beside.mark.reach, marks key);
-        };
+        mark = same_marks (MarksWithin marking key left right were) (both_sides at (mark_under mid height a.places.items) (mark_under mid height b.places.items)) (both_sides c.left (mark_under mid height lo) (mark_under mid height (c ∷ hi)))
+            (λ k. sym (marks k)) beside.mark;
         pages = replaces_same old mid olds (λ x. has_under mid height a.places.items x || has_under mid height b.places.items x) olds (λ x. has_under mid height lo x || has_under mid height (c ∷ hi) x)
             (λ x. refl) (λ x. sym (under_append mid height x lo (c ∷ hi)) ∙ ap (λ (l : List Child). has_under mid height l x) both ∙ under_append mid height x a.places.items b.places.items) beside.pages;
         bound = upper_children.0.left;

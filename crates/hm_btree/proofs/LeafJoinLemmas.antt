@@ -22,12 +22,14 @@ use Rattle.hm_search.specs.Place.{IsInside}
 use Rattle.hm_search.specs.Tree.{IsTree}
 use Rattle.hm_search.proofs.ListLemmas.{each_so, each_append, sorted_append, around}
 use Rattle.hm_search.proofs.OrderLemmas.{before_is, from_is, from_not, from_trans}
+use Rattle.hm_btree.specs.Marking.{Writes, TakesOut, MarksWithin}
 use Rattle.hm_btree.specs.Edits.{leaf_of}
 use Rattle.hm_btree.specs.Grow.{Split}
 use Rattle.hm_btree.specs.Shrink.{Beside, Joined, Shared, between}
 use Rattle.hm_btree.proofs.CutLemmas.{each_drop, each_most, cut_low, cut_high, cut_of, gains_of, low_of, high_of, low_part, high_part}
 use Rattle.hm_btree.proofs.LeafLemmas.{below_leaf, leaf_sound, leaf_content, leaf_offsets}
 use Rattle.hm_btree.proofs.ListLemmas.{drop_past}
+use Rattle.hm_btree.proofs.MarkLemmas.{both_sides, same_marks, writes_leaf, marks_joined, marks_gain_low, marks_gain_high}
 use Rattle.hm_btree.proofs.OrderLemmas.{before_before}
 use Rattle.hm_btree.proofs.SplitLemmas.{split_leaf}
 
@@ -54,25 +56,8 @@ no_element map height place left right leaf tree = record {
   below = below_leaf map height leaf (leaf_of 0 []) tree.below;
 }
 
--- one of two numbers, and the greater one
-chosen_most : (t : Bool) (m n : ℕ) → (if t then m else n) ≤ max m n
-chosen_most true m n = omega arith
-chosen_most false m n = omega arith
-
--- The marks of two leaves before and after their boundary moved. The one that gains a part of the other's range
--- has the greater mark, and the boundary moves away from it.
-chosen_shared : (gains was is : Bool) (m n : ℕ) → (gains ≡ true → is ≡ false → was ≡ false) → (gains ≡ false → is ≡ true → was ≡ true)
-    → (if was then m else n) ≤ (if is then low_of gains m n else high_of gains m n)
-chosen_shared true true true m n up down = omega arith
-chosen_shared true true false m n up down = absurd (true≢false (up refl refl))
-chosen_shared true false true m n up down = omega arith
-chosen_shared true false false m n up down = omega arith
-chosen_shared false true true m n up down = omega arith
-chosen_shared false true false m n up down = omega arith
-chosen_shared false false true m n up down = absurd (true≢false (sym (down refl refl)))
-chosen_shared false false false m n up down = omega arith
-
-module _ (key : Key) (id height : ℕ) (old mid : PageMap) (olds : ℕ → Bool) (want : List Element) (were : Key → ℕ) (left right : Base) (a b : Leaf) (at : Base) (beside : Beside key id height old mid olds want were left right (leaf_node a) (leaf_node b) at) where
+module _ (key : Key) (height : ℕ) (old mid : PageMap) (olds : ℕ → Bool) (want : List Element) (were : Key → ℕ) (left right : Base) (a b : Leaf) (at : Base) (beside : Beside key TakesOut height old mid olds want were left right (leaf_node a) (leaf_node b) at)
+    (stay : (k : Key) → were k ≡ (if is_lt (key_cmp k (key_of at)) then a.mirror else b.mirror)) where
   abbrev all : List Element
   all = a.places.items ++ b.places.items
 
@@ -119,18 +104,16 @@ module _ (key : Key) (id height : ℕ) (old mid : PageMap) (olds : ℕ → Bool)
 
   -- one leaf has the elements of both
   pub joined_leaves : length all ≤ 63 → (1 ≤ length a.places.items) ⊎ (1 ≤ length b.places.items)
-      → Joined key id height old mid olds want were left right (leaf_node (leaf_of (max a.mirror b.mirror) all))
-  joined_leaves few some = record {
+      → IsBefore key (key_of at) ⊎ IsFrom (key_of at) key → Joined key TakesOut height old mid olds want were left right (leaf_node (leaf_of (max a.mirror b.mirror) all))
+  joined_leaves few some side = record {
     tree = leaf_sound (between left at) height mid a (leaf_of (max a.mirror b.mirror) all) left right beside.lower_tree all_content all_offsets all_inside all_upto few tt;
     many = elim some [
       | inl first ↦ omega (arith, length-append a.places.items b.places.items, first)
       | inr second ↦ omega (arith, length-append a.places.items b.places.items, second)
     ];
     elements = beside.elements;
-    mark = record {
-      never_fall = λ k. omega (arith, beside.mark.never_fall k, chosen_most (is_lt (key_cmp k (key_of at))) a.mirror b.mirror);
-      reach = omega (arith, beside.mark.reach, chosen_most (is_lt (key_cmp key (key_of at))) a.mirror b.mirror);
-    };
+    mark = same_marks (λ (o : Key → ℕ). MarksWithin TakesOut key left right o (λ _. max a.mirror b.mirror)) (both_sides at (λ _. a.mirror) (λ _. b.mirror)) were stay
+        (marks_joined at left right key a.mirror b.mirror beside.from beside.to side);
     pages = beside.pages;
   }
 
@@ -146,7 +129,7 @@ module _ (key : Key) (id height : ℕ) (old mid : PageMap) (olds : ℕ → Bool)
   abbrev high : ℕ
   high = high_of gains a.mirror b.mirror
 
-  module _ (e : Element) (hi : List Element) (now : Base) (cut : high_part a.places.items b.places.items ≡ e ∷ hi) (bound : IsBoundary now (element_key e)) (long : 64 ≤ length all) (small : (length a.places.items < 16) ⊎ (length b.places.items < 16)) where
+  module _ (e : Element) (hi : List Element) (now : Base) (cut : high_part a.places.items b.places.items ≡ e ∷ hi) (bound : IsBoundary now (element_key e)) (long : 64 ≤ length all) (small : (IsBefore key (key_of at) × (length a.places.items < 16)) ⊎ (IsFrom (key_of at) key × (length b.places.items < 16))) where
     abbrev lo : List Element
     lo = low_part a.places.items b.places.items
 
@@ -163,8 +146,8 @@ module _ (key : Key) (id height : ℕ) (old mid : PageMap) (olds : ℕ → Bool)
     moved_down is =
         let above = ltb-false (length a.places.items) count is in
         let fewer : count < length a.places.items = elim small [
-          | inl first ↦ omega (arith, length-append a.places.items b.places.items, above, first)
-          | inr second ↦ omega (arith, length-append a.places.items b.places.items, above, second)
+          | inl first ↦ omega (arith, length-append a.places.items b.places.items, above, first.1)
+          | inr second ↦ omega (arith, length-append a.places.items b.places.items, above, second.1)
         ] in
         subst (λ (k : Key). IsBefore k (key_of at)) (sym bound.key)
         (by_list (drop count a.places.items) (omega (arith, length-drop count a.places.items))
@@ -174,10 +157,26 @@ module _ (key : Key) (id height : ℕ) (old mid : PageMap) (olds : ℕ → Bool)
           by_list [] some each same = absurd (omega arith)
           by_list (x ∷ es) some each same = let first : x ≡ e = cc in subst (λ (y : Element). IsBefore (element_key y) (key_of at)) first each.0
 
-    marks : (k : Key) → (if is_lt (key_cmp k (key_of at)) then a.mirror else b.mirror) ≤ (if is_lt (key_cmp k (key_of now)) then low else high)
-    marks k = chosen_shared gains (is_lt (key_cmp k (key_of at))) (is_lt (key_cmp k (key_of now))) a.mirror b.mirror
-        (λ is from. from_not k (key_of at) (from_trans (key_of at) (key_of now) k (moved_up is) (from_is k (key_of now) from)))
-        (λ is before. ap is_lt (before_before k (key_of now) (key_of at) (before_is k (key_of now) before) (moved_down is)))
+    -- the leaf that holds the key is the one that gains
+    side_of : IsBefore key (key_of at) × (gains ≡ true) ⊎ IsFrom (key_of at) key × (gains ≡ false)
+    side_of = by_test gains refl where
+      by_test : (t : Bool) → gains ≡ t → IsBefore key (key_of at) × (gains ≡ true) ⊎ IsFrom (key_of at) key × (gains ≡ false)
+      by_test true is = elim small [
+        | inl first ↦ inl (first.0, is)
+        | inr second ↦ let below = ltb-true (length a.places.items) count is in absurd (omega (arith, below, second.1, long, length-append a.places.items b.places.items))
+      ]
+      by_test false is = elim small [
+        | inl first ↦ let above = ltb-false (length a.places.items) count is in absurd (omega (arith, above, first.1, long, length-append a.places.items b.places.items))
+        | inr second ↦ inr (second.0, is)
+      ]
+
+    marks : MarksWithin TakesOut key left right (both_sides at (λ _. a.mirror) (λ _. b.mirror)) (both_sides now (λ _. low) (λ _. high))
+    marks = elim side_of [
+      | inl up ↦ subst (λ (t : Bool). MarksWithin TakesOut key left right (both_sides at (λ _. a.mirror) (λ _. b.mirror)) (both_sides now (λ _. low_of t a.mirror b.mirror) (λ _. high_of t a.mirror b.mirror))) (sym up.1)
+        (marks_gain_low at left right key a.mirror b.mirror beside.from beside.to now up.0 (moved_up up.1))
+      | inr down ↦ subst (λ (t : Bool). MarksWithin TakesOut key left right (both_sides at (λ _. a.mirror) (λ _. b.mirror)) (both_sides now (λ _. low_of t a.mirror b.mirror) (λ _. high_of t a.mirror b.mirror))) (sym down.1)
+        (marks_gain_high at left right key a.mirror b.mirror beside.from beside.to now down.0 (moved_down down.1))
+    ]
 
     both : lo ++ e ∷ hi ≡ all
     both = ap (λ (l : List Element). lo ++ l) (sym cut) ∙ take-append-drop count all
@@ -188,8 +187,8 @@ module _ (key : Key) (id height : ℕ) (old mid : PageMap) (olds : ℕ → Bool)
     upper_length : length (e ∷ hi) ≡ length all - count
     upper_length = ap length (sym cut) ∙ length-drop count all
 
-    split : Split (λ _. all) key 0 (between left right) height mid mid (leaf_node (leaf_of 0 [])) (leaf_node (leaf_of (max a.mirror b.mirror) lo)) (leaf_node (leaf_of (max a.mirror b.mirror) (e ∷ hi))) now
-    split = split_leaf (λ _. all) key 0 (between left right) height mid (leaf_of 0 []) (max a.mirror b.mirror) lo e hi now (no_element mid height left at right a beside.lower_tree) both
+    split : Split (λ _. all) key (Writes (max a.mirror b.mirror)) (between left right) height mid mid (leaf_node (leaf_of 0 [])) (leaf_node (leaf_of (max a.mirror b.mirror) lo)) (leaf_node (leaf_of (max a.mirror b.mirror) (e ∷ hi))) now
+    split = split_leaf (λ _. all) key (Writes (max a.mirror b.mirror)) (between left right) height mid (leaf_of 0 []) (max a.mirror b.mirror) lo e hi now (no_element mid height left at right a beside.lower_tree) both
         (subst IsContent (sym both) all_content)
         (subst (λ (l : List Element). AllByRecursion (λ x. IsOffset x.payload) l) (sym both) all_offsets)
         (subst (λ (l : List Element). AllByRecursion (λ x. IsInside left right (element_key x)) l) (sym both) all_inside)
@@ -197,20 +196,17 @@ module _ (key : Key) (id height : ℕ) (old mid : PageMap) (olds : ℕ → Bool)
         (omega (arith, lower_length, long, length-append a.places.items b.places.items))
         (omega (arith, lower_length, length-append a.places.items b.places.items, beside.lower_tree.sound.count, beside.upper_tree.sound.count))
         (omega (arith, upper_length, length-append a.places.items b.places.items, beside.lower_tree.sound.count, beside.upper_tree.sound.count))
-        (omega arith) (omega arith) bound
+        (writes_leaf key (max a.mirror b.mirror) 0 (max a.mirror b.mirror) (omega arith)) bound
 
     -- two leaves have about as many elements each
-    pub shared_leaves : Shared key id height old mid olds want were left right (leaf_node (leaf_of low lo)) (leaf_node (leaf_of high (e ∷ hi))) now
+    pub shared_leaves : Shared key TakesOut height old mid olds want were left right (leaf_node (leaf_of low lo)) (leaf_node (leaf_of high (e ∷ hi))) now
     shared_leaves = record {
       beside = record {
         lower_tree = mirrored mid height left now lo (max a.mirror b.mirror) low split.lower_tree (cut_low IsUpTo upto_rise a.mirror b.mirror a.places.items b.places.items lower_upto upper_upto count);
         upper_tree = mirrored mid height now right (e ∷ hi) (max a.mirror b.mirror) high split.upper_tree
             (subst (λ (l : List Element). AllByRecursion (IsUpTo high) l) cut (cut_high IsUpTo upto_rise a.mirror b.mirror a.places.items b.places.items lower_upto upper_upto count));
         elements = both ∙ beside.elements;
-        mark = record {
-          never_fall = λ k. omega (arith, beside.mark.never_fall k, marks k);
-          reach = omega (arith, beside.mark.reach, marks key);
-        };
+        mark = same_marks (λ (o : Key → ℕ). MarksWithin TakesOut key left right o (both_sides now (λ _. low) (λ _. high))) (both_sides at (λ _. a.mirror) (λ _. b.mirror)) were stay marks;
         pages = beside.pages;
         bound = split.bound;
         from = split.from;

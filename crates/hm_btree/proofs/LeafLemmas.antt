@@ -21,12 +21,14 @@ use Rattle.hm_search.specs.Tree.{reaches, HasChildren, IsTree}
 use Rattle.hm_search.specs.declared.subtree.Parent.{Parent}
 use Rattle.hm_search.specs.declared.subtree.Subtree.{Subtree}
 use Rattle.hm_search.proofs.ListLemmas.{each_so, each_both}
+use Rattle.hm_btree.specs.Marking.{Marking, MarksWithin}
 use Rattle.hm_btree.specs.Edits.{ElementChange}
 use Rattle.hm_btree.specs.Below.{Changed, placed}
-use Rattle.hm_btree.specs.Change.{change_of, id_of, MayChange, with_change}
+use Rattle.hm_btree.specs.Change.{change_of, id_of, marking_of, MayChange, with_change}
 use Rattle.hm_btree.specs.declared.change.Change.{Change}
 use Rattle.hm_btree.specs.declared.change.Change.TheVariants.{Close, Move}
 use Rattle.hm_btree.proofs.LocalLemmas.{leading_place}
+use Rattle.hm_btree.proofs.MarkLemmas.{writes_leaf}
 use Rattle.hm_btree.proofs.NodeLemmas.{placed_level, placed_count, placed_mirror}
 use Rattle.hm_btree.proofs.PutLemmas.{replaces_none}
 
@@ -61,14 +63,14 @@ module _ (place : Subtree) (height : ℕ) (map : PageMap) (before after : Leaf) 
   }
 
 -- a leaf whose elements changed, where they may stand there
-module _ (f : List Element → List Element) (key : Key) (id : ℕ) (place : Subtree) (height : ℕ) (map : PageMap) (before after : Leaf) where
+module _ (f : List Element → List Element) (key : Key) (marking : Marking) (place : Subtree) (height : ℕ) (map : PageMap) (before after : Leaf) where
   pub changed_leaf : IsTree map height place (leaf_node before) → after.places.items ≡ f before.places.items → IsContent after.places.items → AllByRecursion (λ e. IsOffset e.payload) after.places.items
       → AllByRecursion (λ e. IsInside place.left place.right (element_key e)) after.places.items → AllByRecursion (IsUpTo after.mirror) after.places.items
-      → length after.places.items ≤ 63 → FitsCount place.parent (leaf_node after) → before.mirror ≤ after.mirror → id ≤ after.mirror → Changed f key id place height map map (leaf_node before) (leaf_node after)
-  changed_leaf tree items content offsets inside upto few count rise reach = record {
+      → length after.places.items ≤ 63 → FitsCount place.parent (leaf_node after) → MarksWithin marking key place.left place.right (λ _. before.mirror) (λ _. after.mirror) → Changed f key marking place height map map (leaf_node before) (leaf_node after)
+  changed_leaf tree items content offsets inside upto few count marks = record {
     tree = leaf_sound place height map before after place.left place.right tree content offsets inside upto few count;
     elements = items;
-    mark = record { never_fall = λ k. rise; reach = reach };
+    mark = marks;
     pages = replaces_none (reaches map height (leaf_node before)) map (λ x is. absurd (true≢false (sym is)));
   }
 
@@ -107,12 +109,12 @@ module _ (place : Subtree) (height : ℕ) (map : PageMap) (key : Key) (change : 
 
   pub element_changed : (d : Element) (i : ℕ) → IsTree map height place (leaf_node before) → MayChange key change → IsSome (element_at key before.places.items) → i ≡ leading key before.places.items
       → ElementChange (change_of change) before.places.items i after.places.items → after.mirror ≡ max before.mirror (id_of change)
-      → Changed (with_change key change) key (id_of change) place height map map (leaf_node before) (leaf_node after)
+      → Changed (with_change key change) key (marking_of change) place height map map (leaf_node before) (leaf_node after)
   element_changed d i tree may there at changes mirror =
       let is : IsPlace key before.places.items i = subst (λ (n : ℕ). IsPlace key before.places.items n) (sym at) (leading_place key before.places.items tree.sound.order there) in
       let items : after.places.items ≡ with_change key change before.places.items = changes d ∙ sym (changed-place key (change_of change) d before.places.items i is) in
       let long : length after.places.items ≡ length before.places.items = length_after d i before.places.items after.places.items (changes d) in
-      changed_leaf (with_change key change) key (id_of change) place height map before after tree items
+      changed_leaf (with_change key change) key (marking_of change) place height map before after tree items
       (subst (λ (es : List Element). IsContent es) (sym items) (content_after may (leaf_content map height place before tree)))
       (subst (λ (es : List Element). AllByRecursion (λ e. IsOffset e.payload) es) (sym items)
       (each_changed (λ e. IsOffset e.payload) key (change_of change) before.places.items (λ e stands is. offset_after change e may is) (leaf_offsets map height place before tree)))
@@ -121,7 +123,11 @@ module _ (place : Subtree) (height : ℕ) (map : PageMap) (key : Key) (change : 
       (recursion_from_All (λ e. IsInside place.left place.right (element_key e)) before.places.items tree.fits.bounds)))
       (subst (λ (es : List Element). AllByRecursion (IsUpTo after.mirror) es) (sym items)
       (subst (λ (m : ℕ). AllByRecursion (IsUpTo m) (with_change key change before.places.items)) (sym mirror) (ups before.places.items (recursion_from_All (IsUpTo before.mirror) before.places.items tree.sound.mirror))))
-      (omega (arith, long, tree.sound.count)) (counts place.parent long tree.fits.count) (omega (arith, mirror)) (omega (arith, mirror)) where
+      (omega (arith, long, tree.sound.count)) (counts place.parent long tree.fits.count) (marks change mirror) where
+        marks : (c : Change) → after.mirror ≡ max before.mirror (id_of c) → MarksWithin (marking_of c) key place.left place.right (λ _. before.mirror) (λ _. after.mirror)
+        marks (Close delete) is = writes_leaf key delete before.mirror after.mirror is
+        marks (Move to) is = λ k. omega (arith, is)
+
         ups : (es : List Element) → AllByRecursion (IsUpTo before.mirror) es → AllByRecursion (IsUpTo (max before.mirror (id_of change))) (with_change key change es)
         ups es up = each_changed (IsUpTo (max before.mirror (id_of change))) key (change_of change) es
             (λ e stands is. again e is) (each_so (IsUpTo before.mirror) (IsUpTo (max before.mirror (id_of change))) es (λ e is. record { create = omega (arith, is.create); delete = omega (arith, is.delete) }) up) where

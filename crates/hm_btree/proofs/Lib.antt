@@ -18,12 +18,14 @@ pub mod LeafLemmas
 pub mod ListLemmas
 pub mod LocalLemmas
 pub mod LowestLemmas
+pub mod MarkLemmas
 pub mod NeighbourLemmas
 pub mod NodeLemmas
 pub mod OrderLemmas
 pub mod PairJoinedLemmas
 pub mod PairLemmas
 pub mod PutLemmas
+pub mod RaiseLemmas
 pub mod ReadingLemmas
 pub mod RejoinLemmas
 pub mod RemoveLemmas

@@ -17,6 +17,7 @@ use Rattle.hm_search.specs.Tree.{node_at, next_left, child_place, children_of, I
 use Rattle.hm_search.specs.declared.subtree.Subtree.{Subtree}
 use Rattle.hm_search.proofs.ChildLemmas.{place_is}
 use Rattle.hm_search.proofs.DamageLemmas.{tells_undamaged, stored_here}
+use Rattle.hm_btree.specs.Marking.{TakesOut}
 use Rattle.hm_btree.specs.Below.{Changed}
 use Rattle.hm_btree.specs.Edits.{inner_of}
 use Rattle.hm_btree.specs.Shrink.{loose, IsLevelBelow, IsChildNode, IsPairJoined, IsJoinedAt, IsShrunk}
@@ -41,10 +42,10 @@ module _ (inner : Inner) (i : ℕ) (node : Node) (mid : PageMap) (shrunk : IsShr
       let pre = take i cs in
       let post = drop (i + 2) cs in
       let whole = pair_tree i c b shrunk.at is in
-      let change : Changed shrunk.f shrunk.key shrunk.id (loose (child_place inner.level b.left c)) shrunk.height shrunk.old mid (node_at shrunk.old c.child) node =
-      subst (λ (l : List Child). Changed shrunk.f shrunk.key shrunk.id (loose (child_place inner.level (next_left inner.right l) c)) shrunk.height shrunk.old mid (node_at shrunk.old c.child) node) (rest_pair cs i c b shrunk.at is) shrunk.change in
+      let change : Changed shrunk.f shrunk.key TakesOut (loose (child_place inner.level b.left c)) shrunk.height shrunk.old mid (node_at shrunk.old c.child) node =
+      subst (λ (l : List Child). Changed shrunk.f shrunk.key TakesOut (loose (child_place inner.level (next_left inner.right l) c)) shrunk.height shrunk.old mid (node_at shrunk.old c.child) node) (rest_pair cs i c b shrunk.at is) shrunk.change in
       (upper_stays shrunk.old shrunk.height inner.level (next_left inner.right post) c b (pair_rising shrunk.place shrunk.height inner.level inner.mirror inner.right shrunk.old pre c b post whole)
-      (pair_stored shrunk.place shrunk.height inner.level inner.mirror inner.right shrunk.old pre c b post whole) shrunk.f shrunk.key shrunk.id mid shrunk.local
+      (pair_stored shrunk.place shrunk.height inner.level inner.mirror inner.right shrunk.old pre c b post whole) shrunk.f shrunk.key TakesOut mid shrunk.local
       (upper_child shrunk.place shrunk.height inner.level inner.mirror inner.right shrunk.old pre c b post whole) node change).stored
 
   pub right_stored : (s : Subtree) → slice_get (children_of inner) (i + 1) ≡ Some s → IsStoredTree mid shrunk.height s
@@ -69,13 +70,13 @@ module _ (inner : Inner) (i : ℕ) (node : Node) (mid : PageMap) (shrunk : IsShr
         let post = drop (j + 2) cs in
         let whole = pair_tree j a c is here in
         let two : suc i ≡ j + 2 = omega (arith, next) in
-        let change : Changed shrunk.f shrunk.key shrunk.id (loose (child_place inner.level (next_left inner.right post) c)) shrunk.height shrunk.old mid (node_at shrunk.old c.child) node =
-        subst (λ (n : ℕ). Changed shrunk.f shrunk.key shrunk.id (loose (child_place inner.level (next_left inner.right (drop n cs)) c)) shrunk.height shrunk.old mid (node_at shrunk.old c.child) node) two shrunk.change in
+        let change : Changed shrunk.f shrunk.key TakesOut (loose (child_place inner.level (next_left inner.right post) c)) shrunk.height shrunk.old mid (node_at shrunk.old c.child) node =
+        subst (λ (n : ℕ). Changed shrunk.f shrunk.key TakesOut (loose (child_place inner.level (next_left inner.right (drop n cs)) c)) shrunk.height shrunk.old mid (node_at shrunk.old c.child) node) two shrunk.change in
         let rising = pair_rising shrunk.place shrunk.height inner.level inner.mirror inner.right shrunk.old pre a c post whole in
         let stored = pair_stored shrunk.place shrunk.height inner.level inner.mirror inner.right shrunk.old pre a c post whole in
         let child = upper_child shrunk.place shrunk.height inner.level inner.mirror inner.right shrunk.old pre a c post whole in (
-          (lower_stays shrunk.old shrunk.height inner.level (next_left inner.right post) a c rising stored shrunk.f shrunk.key shrunk.id mid shrunk.local child node change).stored,
-          upper_there shrunk.old shrunk.height inner.level (next_left inner.right post) a c rising stored shrunk.f shrunk.key shrunk.id mid shrunk.local child node change,
+          (lower_stays shrunk.old shrunk.height inner.level (next_left inner.right post) a c rising stored shrunk.f shrunk.key TakesOut mid shrunk.local child node change).stored,
+          upper_there shrunk.old shrunk.height inner.level (next_left inner.right post) a c rising stored shrunk.f shrunk.key TakesOut mid shrunk.local child node change,
         )
 
     pub left_stored : (s : Subtree) → slice_get (children_of inner) j ≡ Some s → IsStoredTree mid shrunk.height s

@@ -23,10 +23,12 @@ use Rattle.hm_search.specs.declared.subtree.Subtree.{Subtree}
 use Rattle.hm_search.proofs.FrameLemmas.{IsSameBelow, frame_elements, frame_mark, frame_reaches, frame_tree}
 use Rattle.hm_search.proofs.ReachLemmas.{fails, not_below_itself}
 use Rattle.hm_search.proofs.OrderLemmas.{before_is, from_is, from_trans}
+use Rattle.hm_btree.specs.Marking.{Marking, MarksWithin}
 use Rattle.hm_btree.specs.Edits.{inner_of, with_mirror}
-use Rattle.hm_btree.specs.Below.{Replaces, has_under, AreStored, AreRising, IsLocal, Changed, ChangedUnder}
-use Rattle.hm_btree.proofs.OrderLemmas.{rising_rest, rising_next, each_back}
+use Rattle.hm_btree.specs.Below.{Replaces, mark_under, has_under, AreStored, AreRising, IsLocal, Changed, ChangedUnder}
+use Rattle.hm_btree.proofs.OrderLemmas.{begins_left, rising_rest, rising_next, each_back}
 use Rattle.hm_btree.proofs.ChangeLemmas.{changed_later, changed_before}
+use Rattle.hm_btree.proofs.MarkLemmas.{same_marks, marks_bounds}
 use Rattle.hm_btree.proofs.PutLemmas.{put_at, put_other, replaces_put}
 use Rattle.hm_btree.proofs.UnderLemmas.{replaces_same}
 
@@ -37,10 +39,10 @@ module _ (old mid : PageMap) (height : ℕ) (was is : Node) (replaces : Replaces
       true≢false (sym there ∙ ap (λ (o : Option (List ℕ)). is_some o) (replaces.made at reached not)))
 
 -- a child whose node changed is written
-module _ (f : List Element → List Element) (key : Key) (id level : ℕ) (next : Base) (height : ℕ) (old mid new : PageMap) (c : Child) (after : Node) (page : List ℕ) where
+module _ (f : List Element → List Element) (key : Key) (marking : Marking) (level : ℕ) (next : Base) (height : ℕ) (old mid new : PageMap) (c : Child) (after : Node) (page : List ℕ) where
   pub changed_written : IsChild c → IsBefore (key_of c.left) (key_of next) → IsStoredTree old height (child_place level next c)
-      → Changed f key id (child_place level next c) height old mid (node_at old c.child) after → Spells page after → HasPut c.child page mid new
-      → ChangedUnder f key id level next height old new (c ∷ []) (with_mirror (mirror_of after) c ∷ [])
+      → Changed f key marking (child_place level next c) height old mid (node_at old c.child) after → Spells page after → HasPut c.child page mid new
+      → ChangedUnder f key marking level next height old new (c ∷ []) (with_mirror (mirror_of after) c ∷ [])
   unfolding IsStrictlySortedBy
   changed_written child before stored change spells put =
       let was : Node = node_at old c.child in
@@ -62,10 +64,7 @@ module _ (f : List Element → List Element) (key : Key) (id level : ℕ) (next 
           tt,
         );
         elements = append-nil (elements_in new height (node_at new c.child)) ∙ elements ∙ change.elements ∙ ap f (sym (append-nil (elements_in old height was)));
-        mark = record {
-          never_fall = λ k. omega (arith, change.mark.never_fall k, marks k);
-          reach = omega (arith, change.mark.reach, marks key);
-        };
+        mark = same_marks (MarksWithin marking key c.left next (mark_in old height was)) (mark_in mid height after) (mark_in new height (node_at new c.child)) marks change.mark;
         pages = replaces_same old new (λ x. nat_eq c.child x || reaches old height was x) (λ x. nat_eq c.child x || reaches mid height after x)
             (has_under old height (c ∷ [])) (has_under new height (with_mirror (mirror_of after) c ∷ []))
             (λ x. or_nil (nat_eq c.child x || reaches old height was x)) (λ x. or_nil (nat_eq c.child x || reaches new height (node_at new c.child) x) ∙ ap (λ (b : Bool). nat_eq c.child x || b) (reached x))
@@ -97,7 +96,7 @@ holder_inside key right (p ∷ q ∷ qs) c post here from before = by_test (star
   by_test false is here more = more (omega arith) (from_is key (key_of q.left) is)
 
 -- all the way from the first child on
-module _ (f : List Element → List Element) (key : Key) (id level : ℕ) (right : Base) (height : ℕ) (old new : PageMap) (local : IsLocal f key) (b c : Child) (bs cs ds : List Child) where
+module _ (f : List Element → List Element) (key : Key) (marking : Marking) (level : ℕ) (right : Base) (height : ℕ) (old new : PageMap) (local : IsLocal f key) (b c : Child) (bs cs ds : List Child) where
   -- the first child of some begins at or before the key
   first_by : (q : Child) (qs : List Child) → AreRising right (q ∷ (qs ++ ((b ∷ bs) ++ ds))) → IsFrom (key_of b.left) key → IsFrom (key_of q.left) key
   first_by q [] rising from = from_trans (key_of q.left) (key_of b.left) key (key_from_before (key_of q.left) (key_of b.left) (rising_next right q ((b ∷ bs) ++ ds) rising)) from
@@ -106,16 +105,16 @@ module _ (f : List Element → List Element) (key : Key) (id level : ℕ) (right
       (first_by p ps (rising_rest right q ((p ∷ ps) ++ ((b ∷ bs) ++ ds)) rising) from)
 
   pub changed_within : (pre : List Child) → AllByRecursion IsChild (pre ++ ((b ∷ bs) ++ ds)) → AreRising right (pre ++ ((b ∷ bs) ++ ds)) → AreStored old height level right (pre ++ ((b ∷ bs) ++ ds))
-      → IsFrom (key_of b.left) key → IsBefore key (key_of (next_left right ds)) → ChangedUnder f key id level (next_left right ds) height old new (b ∷ bs) (c ∷ cs)
-      → ChangedUnder f key id level right height old new (pre ++ ((b ∷ bs) ++ ds)) (pre ++ ((c ∷ cs) ++ ds))
+      → IsFrom (key_of b.left) key → IsBefore key (key_of (next_left right ds)) → ChangedUnder f key marking level (next_left right ds) height old new (b ∷ bs) (c ∷ cs)
+      → ChangedUnder f key marking level right height old new (pre ++ ((b ∷ bs) ++ ds)) (pre ++ ((c ∷ cs) ++ ds))
   changed_within [] children rising stored from before change =
-      changed_before f key id level right height old new local b c bs cs ds (each_back IsChild (b ∷ bs) ds children) rising stored before change
+      changed_before f key marking level right height old new local b c bs cs ds (each_back IsChild (b ∷ bs) ds children) rising stored before change
   changed_within (p ∷ []) children rising stored from before change =
-      changed_later f key id level right height old new local p b c (bs ++ ds) (cs ++ ds) children.0 rising stored from
+      changed_later f key marking level right height old new local p b c (bs ++ ds) (cs ++ ds) children.0 rising stored from
       (changed_within [] children.1 (rising_rest right p ((b ∷ bs) ++ ds) rising) stored.1 from before change)
   changed_within (p ∷ q ∷ qs) children rising stored from before change =
       let later = rising_rest right p ((q ∷ qs) ++ ((b ∷ bs) ++ ds)) rising in
-      changed_later f key id level right height old new local p q q (qs ++ ((b ∷ bs) ++ ds)) (qs ++ ((c ∷ cs) ++ ds)) children.0 rising stored (first_by q qs later from)
+      changed_later f key marking level right height old new local p q q (qs ++ ((b ∷ bs) ++ ds)) (qs ++ ((c ∷ cs) ++ ds)) children.0 rising stored (first_by q qs later from)
       (changed_within (q ∷ qs) children.1 later stored.1 from before change)
 
 -- what a parent says of a node whose `mirror` it has
@@ -136,7 +135,7 @@ module _ (node : Node) where
   placed_mirror (Some q) = refl
 
 -- The node above children that changed.
-module _ (f : List Element → List Element) (key : Key) (id : ℕ) (place : Subtree) (height : ℕ) (old new : PageMap) (level mirror more : ℕ) (right : Base) (before after : List Child) where
+module _ (f : List Element → List Element) (key : Key) (marking : Marking) (place : Subtree) (height : ℕ) (old new : PageMap) (level mirror more : ℕ) (right : Base) (before after : List Child) where
   abbrev pub was : Node
   was = inner_node (inner_of level mirror before right)
 
@@ -150,8 +149,8 @@ module _ (f : List Element → List Element) (key : Key) (id : ℕ) (place : Sub
     by_lists (b ∷ bs) [] same first second at = absurd (omega arith)
     by_lists (b ∷ bs) (c ∷ cs) same first second at = ap key_of same ∙ at
 
-  pub changed_above : IsTree old (suc height) place was → ChangedUnder f key id level right height old new before after → All (λ c. c.mirror ≤ more) after
-      → 1 ≤ length after → length after ≤ 62 → FitsCount place.parent is → Changed f key id place (suc height) old new was is
+  pub changed_above : IsTree old (suc height) place was → ChangedUnder f key marking level right height old new before after → All (λ c. c.mirror ≤ more) after
+      → 1 ≤ length after → length after ≤ 62 → FitsCount place.parent is → Changed f key marking place (suc height) old new was is
   changed_above tree change mirrors some few count = record {
     tree = record {
       sound = record { level = tree.sound.level; count = (some, few); order = change.rising; fields = record { children = All-from_recursion IsChild after change.fields; right = tree.sound.fields.right }; mirror = mirrors };
@@ -165,6 +164,6 @@ module _ (f : List Element → List Element) (key : Key) (id : ℕ) (place : Sub
       below = change.stored;
     };
     elements = change.elements;
-    mark = change.mark;
+    mark = marks_bounds marking key (next_left right before) place.left right place.right (mark_under old height before) (mark_under new height after) (begins_left place.left right before tree.fits.bounds.0) tree.fits.bounds.1 change.mark;
     pages = change.pages;
   }

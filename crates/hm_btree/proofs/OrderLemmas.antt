@@ -1,5 +1,5 @@
 -- The boundaries of children that stand in order.
-use Rattle.std.proofs.Common.{◌≡◌, List, [], ◌∷◌, ◌++◌, refl, sym, subst}
+use Rattle.std.proofs.Common.{◌≡◌, List, [], ◌∷◌, ◌++◌, map, refl, sym, subst}
 use Rattle.std.specs.List.{AllByRecursion}
 use Rattle.std.specs.List.Sorted.{IsStrictlySortedBy}
 use Rattle.std.specs.declared.cmp.Ordering.TheVariants.{Less}
@@ -9,6 +9,7 @@ use Rattle.hm_key.specs.declared.base.Base.{Base}
 use Rattle.hm_key.proofs.KeyLemmas.{key_total}
 use Rattle.hm_node.specs.Base.{base_cmp}
 use Rattle.hm_node.specs.declared.inner.Child.{Child}
+use Rattle.hm_search.specs.Place.{BeginsAt}
 use Rattle.hm_search.specs.Tree.{next_left}
 use Rattle.hm_btree.specs.Below.{bounds_of, AreRising}
 
@@ -71,3 +72,12 @@ rising_front right (c ∷ cs) ds rising =
     let more = rising_front right cs ds (rising_rest right c (cs ++ ds) rising) in
     rising_cons (next_left right ds) c cs (before_all c.left (next_left right ds) cs more
     (subst (λ (b : Base). IsBefore (key_of c.left) (key_of b)) (next_append right cs ds) (rising_next right c (cs ++ ds) rising))) more
+
+-- children end after the first of them begins
+pub ends_after : (right : Base) (c : Child) (cs : List Child) → AreRising right (c ∷ cs) → IsBefore (key_of c.left) (key_of right)
+ends_after right c cs rising = (each_back (λ y. base_cmp c.left y ≡ Less) (map (λ (d : Child). d.left) cs) (right ∷ []) (rising_first right c cs rising)).0
+
+-- children begin where the first of them does
+pub begins_left : (left right : Base) (cs : List Child) → BeginsAt left cs → key_of (next_left right cs) ≡ key_of left
+begins_left left right [] begins = absurd begins
+begins_left left right (c ∷ cs) begins = begins

@@ -17,11 +17,13 @@ use Rattle.hm_search.specs.Tree.{node_at, elements_in, mark_in, reaches, child_p
 use Rattle.hm_search.specs.declared.subtree.Subtree.{Subtree}
 use Rattle.hm_search.proofs.FrameLemmas.{IsSameBelow, frame_elements, frame_mark, frame_reaches, frame_tree}
 use Rattle.hm_search.proofs.ReachLemmas.{fails}
+use Rattle.hm_btree.specs.Marking.{Marking, MarksWithin}
 use Rattle.hm_btree.specs.Edits.{with_mirror}
 use Rattle.hm_btree.specs.Space.{HasWritten, HasAdded, IsSpot}
 use Rattle.hm_btree.specs.Below.{Replaces, mark_under, has_under, ChangedUnder, placed}
 use Rattle.hm_btree.specs.Grow.{Split}
 use Rattle.hm_btree.proofs.ChangeLemmas.{mark_cons}
+use Rattle.hm_btree.proofs.MarkLemmas.{both_sides, same_marks, marks_bounds}
 use Rattle.hm_btree.proofs.OrderLemmas.{before_before}
 use Rattle.hm_btree.proofs.PutLemmas.{put_at, put_other, replaces_put, replaces_new}
 use Rattle.hm_btree.proofs.UnderLemmas.{reached_there, replaces_same, or_false_left, or_false_right}
@@ -66,7 +68,7 @@ module _ (mid new : PageMap) (height : ℕ) (node : Node) (at : ℕ) (page : Lis
         tree = subst (λ (n : Node). IsTree new height s n) (sym here) (frame_tree mid new height s node same tree);
       }
 
-module _ (f : List Element → List Element) (key : Key) (id level : ℕ) (next : Base) (height : ℕ) (old mid new1 new2 : PageMap) (place : Subtree) (c : Child) (lower upper : Node) (b : Base) (a : ℕ) where
+module _ (f : List Element → List Element) (key : Key) (marking : Marking) (level : ℕ) (next : Base) (height : ℕ) (old mid new1 new2 : PageMap) (place : Subtree) (c : Child) (lower upper : Node) (b : Base) (a : ℕ) where
   abbrev pub lower_child : Child
   lower_child = with_mirror (mirror_of lower) c
 
@@ -74,8 +76,8 @@ module _ (f : List Element → List Element) (key : Key) (id level : ℕ) (next 
   upper_child = record { left = b; child = a; mirror = mirror_of upper }
 
   pub split_written : IsChild c → place.left ≡ c.left → place.right ≡ next → level ≡ suc (suc height) → IsSome (old c.child) → reaches old height (node_at old c.child) c.child ≡ false
-      → Split f key id place height old mid (node_at old c.child) lower upper b → HasWritten c.child lower mid new1 → HasAdded a upper new1 new2 → IsSpot a
-      → ChangedUnder f key id level next height old new2 (c ∷ []) (lower_child ∷ upper_child ∷ [])
+      → Split f key marking place height old mid (node_at old c.child) lower upper b → HasWritten c.child lower mid new1 → HasAdded a upper new1 new2 → IsSpot a
+      → ChangedUnder f key marking level next height old new2 (c ∷ []) (lower_child ∷ upper_child ∷ [])
   unfolding IsStrictlySortedBy
   split_written child left right high there itself split (page, spells, put) (page2, spells2, come) spot =
       let was : Node = node_at old c.child in
@@ -120,10 +122,8 @@ module _ (f : List Element → List Element) (key : Key) (id level : ℕ) (next 
         );
         elements = ap (λ (l : List Element). l ++ (elements_in new2 height (node_at new2 a) ++ [])) low_elements ∙ ap (λ (l : List Element). elements_in mid height lower ++ l) (append-nil (elements_in new2 height (node_at new2 a)) ∙ up_elements)
             ∙ split.elements ∙ ap f (sym (append-nil (elements_in old height was)));
-        mark = record {
-          never_fall = λ k. subst (λ (n : ℕ). mark_in old height was k ≤ n) (sym (marks k)) (split.mark.never_fall k);
-          reach = subst (λ (n : ℕ). id ≤ n) (sym (marks key)) split.mark.reach;
-        };
+        mark = same_marks (MarksWithin marking key c.left next (mark_in old height was)) (both_sides b (mark_in mid height lower) (mark_in mid height upper)) (mark_under new2 height (lower_child ∷ upper_child ∷ [])) marks
+            (marks_bounds marking key place.left c.left place.right next (mark_in old height was) (both_sides b (mark_in mid height lower) (mark_in mid height upper)) (ap key_of left) (ap key_of right) split.mark);
         pages = replaces_same old new2 (λ x. nat_eq c.child x || olds x) (λ x. nat_eq a x || (nat_eq c.child x || news x)) (has_under old height (c ∷ [])) (has_under new2 height (lower_child ∷ upper_child ∷ []))
             (λ x. or_nil (nat_eq c.child x || olds x))
             (λ x. ap (λ (t : Bool). (nat_eq c.child x || t) || ((nat_eq a x || reaches new2 height (node_at new2 a) x) || false)) (low_reach x)

@@ -16,12 +16,14 @@ use Rattle.hm_search.specs.Place.{mirror_of}
 use Rattle.hm_search.specs.Tree.{node_at, elements_in, mark_in, reaches, child_place, IsTree, IsStoredTree}
 use Rattle.hm_search.specs.declared.subtree.Subtree.{Subtree}
 use Rattle.hm_search.proofs.FrameLemmas.{IsSameBelow, frame_elements, frame_mark, frame_reaches}
+use Rattle.hm_btree.specs.Marking.{Marking, MarksWithin}
 use Rattle.hm_btree.specs.Edits.{with_mirror}
 use Rattle.hm_btree.specs.Space.{HasWritten, HasLost}
 use Rattle.hm_btree.specs.Below.{elements_under, mark_under, has_under, AreStored, AreRising, ChangedUnder}
 use Rattle.hm_btree.specs.Shrink.{between, below_both, Joined, Shared}
 use Rattle.hm_btree.proofs.BesideLemmas.{lower_itself, upper_itself, not_same}
 use Rattle.hm_btree.proofs.ChangeLemmas.{mark_cons}
+use Rattle.hm_btree.proofs.MarkLemmas.{both_sides, same_marks}
 use Rattle.hm_btree.proofs.OrderLemmas.{before_before, rising_next, rising_rest}
 use Rattle.hm_btree.proofs.PairLemmas.{as_child, not_come, shuffle, or_nil, stored_there}
 use Rattle.hm_btree.proofs.PutLemmas.{put_at, put_other, lost_other, replaces_put, replaces_lost}
@@ -51,7 +53,7 @@ chosen_same : (t : Bool) (x x' y y' : ℕ) → x ≡ x' → y ≡ y' → (if t t
 chosen_same true x x' y y' first second = first
 chosen_same false x x' y y' first second = second
 
-module _ (f : List Element → List Element) (key : Key) (id level : ℕ) (next : Base) (height : ℕ) (old mid new1 new2 : PageMap) (a b : Child) where
+module _ (f : List Element → List Element) (key : Key) (marking : Marking) (level : ℕ) (next : Base) (height : ℕ) (old mid new1 new2 : PageMap) (a b : Child) where
   abbrev pub pair_olds : ℕ → Bool
   pair_olds = below_both old height a b
 
@@ -67,8 +69,8 @@ module _ (f : List Element → List Element) (key : Key) (id level : ℕ) (next 
       abbrev joined_child : Child
       joined_child = with_mirror (mirror_of node) a
 
-      pub joined_written : Joined key id height old mid pair_olds pair_want pair_were a.left next node → HasWritten a.child node mid new1 → HasLost b.child new1 new2
-          → ChangedUnder f key id level next height old new2 (a ∷ b ∷ []) (joined_child ∷ [])
+      pub joined_written : Joined key marking height old mid pair_olds pair_want pair_were a.left next node → HasWritten a.child node mid new1 → HasLost b.child new1 new2
+          → ChangedUnder f key marking level next height old new2 (a ∷ b ∷ []) (joined_child ∷ [])
       unfolding IsStrictlySortedBy
       joined_written joined (page, spells, put) lost =
           let news : ℕ → Bool = λ x. reaches mid height node x in
@@ -81,10 +83,7 @@ module _ (f : List Element → List Element) (key : Key) (id level : ℕ) (next 
           record {
             stored = (is.stored (child_place level next joined_child) refl (as_child mid height level a.child (between a.left next) node joined.tree joined.many high), tt);
             elements = append-nil (elements_in new2 height (node_at new2 a.child)) ∙ is.elements ∙ joined.elements;
-            mark = record {
-              never_fall = λ k. subst (λ (n : ℕ). mark_under old height (a ∷ b ∷ []) k ≤ n) (sym (is.mark k)) (joined.mark.never_fall k);
-              reach = subst (λ (n : ℕ). id ≤ n) (sym (is.mark key)) joined.mark.reach;
-            };
+            mark = same_marks (MarksWithin marking key a.left next pair_were) (mark_in mid height node) (mark_under new2 height (joined_child ∷ [])) is.mark joined.mark;
             pages = replaces_same old new2 (λ x. nat_eq b.child x || (nat_eq a.child x || pair_olds x)) (λ x. nat_eq a.child x || news x) (has_under old height (a ∷ b ∷ [])) (has_under new2 height (joined_child ∷ []))
                 (λ x. shuffle (nat_eq b.child x) (nat_eq a.child x) (reaches old height (node_at old a.child) x) (reaches old height (node_at old b.child) x))
                 (λ x. or_nil (nat_eq a.child x || reaches new2 height (node_at new2 a.child) x) ∙ ap (λ (t : Bool). nat_eq a.child x || t) (is.pages x))
@@ -104,8 +103,8 @@ module _ (f : List Element → List Element) (key : Key) (id level : ℕ) (next 
       abbrev shared_upper : Child
       shared_upper = record { left = at; child = b.child; mirror = mirror_of upper }
 
-      pub shared_written : Shared key id height old mid pair_olds pair_want pair_were a.left next lower upper at → HasWritten a.child lower mid new1 → HasWritten b.child upper new1 new2
-          → ChangedUnder f key id level next height old new2 (a ∷ b ∷ []) (shared_lower ∷ shared_upper ∷ [])
+      pub shared_written : Shared key marking height old mid pair_olds pair_want pair_were a.left next lower upper at → HasWritten a.child lower mid new1 → HasWritten b.child upper new1 new2
+          → ChangedUnder f key marking level next height old new2 (a ∷ b ∷ []) (shared_lower ∷ shared_upper ∷ [])
       unfolding IsStrictlySortedBy
       shared_written shared (page, spells, put) (page2, spells2, put2) =
           let beside = shared.beside in
@@ -130,10 +129,7 @@ module _ (f : List Element → List Element) (key : Key) (id level : ℕ) (next 
             );
             elements = ap (λ (l : List Element). l ++ (elements_in new2 height (node_at new2 b.child) ++ [])) low.elements
                 ∙ ap (λ (l : List Element). elements_in mid height lower ++ l) (append-nil (elements_in new2 height (node_at new2 b.child)) ∙ up.elements) ∙ beside.elements;
-            mark = record {
-              never_fall = λ k. subst (λ (n : ℕ). mark_under old height (a ∷ b ∷ []) k ≤ n) (sym (marks k)) (beside.mark.never_fall k);
-              reach = subst (λ (n : ℕ). id ≤ n) (sym (marks key)) beside.mark.reach;
-            };
+            mark = same_marks (MarksWithin marking key a.left next pair_were) (both_sides at (mark_in mid height lower) (mark_in mid height upper)) (mark_under new2 height (shared_lower ∷ shared_upper ∷ [])) marks beside.mark;
             pages = replaces_same old new2 (λ x. nat_eq b.child x || (nat_eq a.child x || pair_olds x)) (λ x. nat_eq b.child x || (nat_eq a.child x || news x))
                 (has_under old height (a ∷ b ∷ [])) (has_under new2 height (shared_lower ∷ shared_upper ∷ []))
                 (λ x. shuffle (nat_eq b.child x) (nat_eq a.child x) (reaches old height (node_at old a.child) x) (reaches old height (node_at old b.child) x))

@@ -17,10 +17,12 @@ use Rattle.hm_search.proofs.ContentLemmas.{elements_inside}
 use Rattle.hm_search.proofs.DamageLemmas.{tells_undamaged, stored_here, caused_since}
 use Rattle.hm_search.proofs.FrameLemmas.{IsSameBelow, frame_elements, frame_mark, frame_reaches, frame_tree}
 use Rattle.hm_search.proofs.ReachLemmas.{not_below_itself}
+use Rattle.hm_btree.specs.Marking.{Marking, MarksBy}
 use Rattle.hm_btree.specs.Below.{Replaces, Changed, HasEditCause}
 use Rattle.hm_btree.specs.Space.{HasWritten, IsSpot}
 use Rattle.hm_btree.specs.Tree.{IsTreeSpace, TreeChanged, ChangesTree, HasTreeCause}
 use Rattle.hm_btree.proofs.LocalLemmas.{element_each}
+use Rattle.hm_btree.proofs.MarkLemmas.{same_marks, marks_whole}
 use Rattle.hm_btree.proofs.NodeLemmas.{not_reached}
 use Rattle.hm_btree.proofs.PutLemmas.{put_at, put_other, replaces_put, other_test}
 use Rattle.hm_btree.proofs.ToldLemmas.{Works}
@@ -42,8 +44,8 @@ turned a b = by_test (nat_eq a b) refl where
   by_test false is = sym (other_test b a (λ same. true≢false (sym (eq-eqb a b (sym same)) ∙ is)))
 
 -- the root's node changed and is written
-module _ (f : List Element → List Element) (key : Key) (id root : ℕ) (old mid new : PageMap) (after : Node) where
-  pub root_written : IsTreeSpace old root → Changed f key id (root_place root) (height_of (node_at old root)) old mid (node_at old root) after → HasWritten root after mid new → TreeChanged f key id old new root root
+module _ (f : List Element → List Element) (key : Key) (marking : Marking) (root : ℕ) (old mid new : PageMap) (after : Node) where
+  pub root_written : IsTreeSpace old root → Changed f key marking (root_place root) (height_of (node_at old root)) old mid (node_at old root) after → HasWritten root after mid new → TreeChanged f key marking old new root root
   root_written tree change (page, spells, put) =
       let was : Node = node_at old root in
       let h : ℕ = height_of was in
@@ -73,32 +75,30 @@ module _ (f : List Element → List Element) (key : Key) (id root : ℕ) (old mi
           spots = spots_after (λ y. nat_eq root y || reaches old h was y) (λ y. nat_eq root y || reaches mid h after y) old new replaces tree.spots;
         };
         elements = elements ∙ change.elements;
-        mark = record {
-          never_fall = λ k. omega (arith, change.mark.never_fall k, marks k);
-          reach = omega (arith, change.mark.reach, marks key);
-        };
+        mark = same_marks (MarksBy marking key (mark_of old root)) (mark_in mid h after) (mark_of new root) marks
+            (marks_whole marking key (root_place root).left (root_place root).right (mark_of old root) (mark_in mid h after) change.mark);
       }
 
 -- the same where the pages are told
-pub root_works : (f : List Element → List Element) (key : Key) (id root : ℕ) (Needs : Option Element → Type 0) (More : Type 0) (p0 p1 p2 p3 : Option PageMap) (node after : Node)
+pub root_works : (f : List Element → List Element) (key : Key) (marking : Marking) (root : ℕ) (Needs : Option Element → Type 0) (More : Type 0) (p0 p1 p2 p3 : Option PageMap) (node after : Node)
     → ((old : PageMap) → IsTreeSpace old root → Needs (element_at key (elements_of old root)) → More → IsInside (root_place root).left (root_place root).right key)
-    → p1 ≡ p0 → IfSome p0 (λ map. SpellsHere (root_place root) (page_in (map root)) node) → Works f key id Needs More p1 p2 node after → BothTell p2 p3 (HasWritten root after)
-    → ChangesTree f key id (λ es. Needs (element_at key es)) More p0 p3 root root
-root_works f key id root Needs More None p1 p2 p3 node after inside same here works written = tt
-root_works f key id root Needs More (Some old) p1 p2 p3 node after inside same here works written = λ tree needs more.
-    by_pages p2 p3 (subst (λ (p : Option PageMap). Works f key id Needs More p p2 node after) same works) written tree needs more where
-      by_pages : (p2 p3 : Option PageMap) → Works f key id Needs More (Some old) p2 node after → BothTell p2 p3 (HasWritten root after) → IsTreeSpace old root → Needs (element_at key (elements_of old root)) → More
-          → IfSome p3 (λ new. TreeChanged f key id old new root root)
+    → p1 ≡ p0 → IfSome p0 (λ map. SpellsHere (root_place root) (page_in (map root)) node) → Works f key marking Needs More p1 p2 node after → BothTell p2 p3 (HasWritten root after)
+    → ChangesTree f key marking (λ es. Needs (element_at key es)) More p0 p3 root root
+root_works f key marking root Needs More None p1 p2 p3 node after inside same here works written = tt
+root_works f key marking root Needs More (Some old) p1 p2 p3 node after inside same here works written = λ tree needs more.
+    by_pages p2 p3 (subst (λ (p : Option PageMap). Works f key marking Needs More p p2 node after) same works) written tree needs more where
+      by_pages : (p2 p3 : Option PageMap) → Works f key marking Needs More (Some old) p2 node after → BothTell p2 p3 (HasWritten root after) → IsTreeSpace old root → Needs (element_at key (elements_of old root)) → More
+          → IfSome p3 (λ new. TreeChanged f key marking old new root root)
       by_pages None None works written tree needs more = tt
       by_pages None (Some new) works written tree needs more = absurd written
       by_pages (Some mid) None works written tree needs more = tt
       by_pages (Some mid) (Some new) works written tree needs more =
           let read : node_at old root ≡ node = here.spelled.value in
           let h : ℕ = height_of (node_at old root) in
-          let change : Changed f key id (root_place root) h old mid node after =
+          let change : Changed f key marking (root_place root) h old mid node after =
           works (root_place root) h (subst (λ (n : Node). IsTree old h (root_place root) n) read tree.sound.tree) (inside old tree needs more)
           (subst (λ (n : Node). Needs (element_at key (elements_in old h n))) read needs) more in
-          root_written f key id root old mid new after tree (subst (λ (n : Node). Changed f key id (root_place root) h old mid n after) (sym read) change) written
+          root_written f key marking root old mid new after tree (subst (λ (n : Node). Changed f key marking (root_place root) h old mid n after) (sym read) change) written
 
 -- an element that is there stands inside the boundaries of the whole tree
 pub there_inside : (root : ℕ) (key : Key) (old : PageMap) → IsTreeSpace old root → IsSome (element_at key (elements_of old root)) → IsInside (root_place root).left (root_place root).right key

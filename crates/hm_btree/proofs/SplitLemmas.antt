@@ -29,13 +29,15 @@ use Rattle.hm_search.specs.declared.subtree.Parent.{Parent}
 use Rattle.hm_search.specs.declared.subtree.Subtree.{Subtree}
 use Rattle.hm_search.proofs.ListLemmas.{each_so}
 use Rattle.hm_search.proofs.OrderLemmas.{from_then_before}
+use Rattle.hm_btree.specs.Marking.{Marking, MarksWithin}
 use Rattle.hm_btree.specs.Edits.{leaf_of, inner_of}
 use Rattle.hm_btree.specs.Below.{mark_under, has_under, AreRising, ChangedUnder}
 use Rattle.hm_btree.specs.Grow.{Split}
-use Rattle.hm_btree.proofs.ChangeLemmas.{holder_front, holder_back}
+use Rattle.hm_btree.proofs.ChangeLemmas.{mark_cut}
 use Rattle.hm_btree.proofs.LeafLemmas.{leaf_sound}
+use Rattle.hm_btree.proofs.MarkLemmas.{both_sides, same_marks, marks_bounds}
 use Rattle.hm_btree.proofs.NodeLemmas.{placed_level, placed_count, placed_mirror}
-use Rattle.hm_btree.proofs.OrderLemmas.{each_front, each_back, rising_first, rising_rest, rising_back, rising_front, rising_next, before_before}
+use Rattle.hm_btree.proofs.OrderLemmas.{begins_left, each_front, each_back, rising_first, rising_rest, rising_back, rising_front, rising_next, before_before}
 use Rattle.hm_btree.proofs.PutLemmas.{replaces_none}
 use Rattle.hm_btree.proofs.UnderLemmas.{replaces_same, stored_front, stored_back, under_append}
 
@@ -66,12 +68,12 @@ same_choice true m = refl
 same_choice false m = refl
 
 -- a leaf that became two
-module _ (f : List Element → List Element) (key : Key) (id : ℕ) (place : Subtree) (height : ℕ) (map : PageMap) (before : Leaf) (mirror : ℕ) (lo : List Element) (e : Element) (hi : List Element) (at : Base) where
+module _ (f : List Element → List Element) (key : Key) (marking : Marking) (place : Subtree) (height : ℕ) (map : PageMap) (before : Leaf) (mirror : ℕ) (lo : List Element) (e : Element) (hi : List Element) (at : Base) where
   pub split_leaf : IsTree map height place (leaf_node before) → lo ++ e ∷ hi ≡ f before.places.items → IsContent (lo ++ e ∷ hi) → AllByRecursion (λ x. IsOffset x.payload) (lo ++ e ∷ hi)
       → AllByRecursion (λ x. IsInside place.left place.right (element_key x)) (lo ++ e ∷ hi) → AllByRecursion (IsUpTo mirror) (lo ++ e ∷ hi)
-      → 1 ≤ length lo → length lo ≤ 63 → length (e ∷ hi) ≤ 63 → before.mirror ≤ mirror → id ≤ mirror → IsBoundary at (element_key e)
-      → Split f key id place height map map (leaf_node before) (leaf_node (leaf_of mirror lo)) (leaf_node (leaf_of mirror (e ∷ hi))) at
-  split_leaf tree items content offsets inside upto some few more rise reach bound =
+      → 1 ≤ length lo → length lo ≤ 63 → length (e ∷ hi) ≤ 63 → MarksWithin marking key place.left place.right (λ _. before.mirror) (λ _. mirror) → IsBoundary at (element_key e)
+      → Split f key marking place height map map (leaf_node before) (leaf_node (leaf_of mirror lo)) (leaf_node (leaf_of mirror (e ∷ hi))) at
+  split_leaf tree items content offsets inside upto some few more marks bound =
       let first = each_front (λ x. IsInside place.left place.right (element_key x)) lo (e ∷ hi) inside in
       let second = each_back (λ x. IsInside place.left place.right (element_key x)) lo (e ∷ hi) inside in
       let each = recursion_from_All IsElement (lo ++ e ∷ hi) content.each in
@@ -88,10 +90,7 @@ module _ (f : List Element → List Element) (key : Key) (id : ℕ) (place : Sub
         lower_many = some;
         upper_many = omega arith;
         elements = items;
-        mark = record {
-          never_fall = λ k. omega (arith, same_choice (is_lt (key_cmp k (key_of at))) mirror);
-          reach = omega (arith, same_choice (is_lt (key_cmp key (key_of at))) mirror);
-        };
+        mark = same_marks (MarksWithin marking key place.left place.right (λ _. before.mirror)) (λ _. mirror) (both_sides at (λ _. mirror) (λ _. mirror)) (λ k. same_choice (is_lt (key_cmp k (key_of at))) mirror) marks;
         pages = replaces_none (λ x. false) map (λ x is. absurd (true≢false (sym is)));
         bound = record { key = refl; not_closed = bound.not_closed; no_kind = bound.no_kind; btype = bound.btype };
         from = subst (λ (k : Key). IsBefore (key_of place.left) k) (sym bound.key) (starts lo some first across);
@@ -113,20 +112,11 @@ module _ (f : List Element → List Element) (key : Key) (id : ℕ) (place : Sub
         starts [] some each before = absurd (omega arith)
         starts (x ∷ xs) some each before = from_then_before (key_of place.left) (element_key x) (element_key e) each.0.from before.0
 
--- the mark of a key among children that are cut in two
-pub mark_cut : (map : PageMap) (height : ℕ) (right : Base) (k : Key) (cs : List Child) (c : Child) (hi : List Child) → 1 ≤ length cs → AreRising right (cs ++ c ∷ hi)
-    → mark_under map height (cs ++ c ∷ hi) k ≡ (if is_lt (key_cmp k (key_of c.left)) then mark_under map height cs k else mark_under map height (c ∷ hi) k)
-mark_cut map height right k [] c hi some rising = absurd (omega arith)
-mark_cut map height right k (b ∷ bs) c hi some rising = by_test (starts_after k c) refl where
-  by_test : (t : Bool) → starts_after k c ≡ t → mark_under map height ((b ∷ bs) ++ c ∷ hi) k ≡ (if t then mark_under map height (b ∷ bs) k else mark_under map height (c ∷ hi) k)
-  by_test true is = ap (λ (x : Child). mark_in map height (node_at map x.child) k) (holder_front k b c bs hi is)
-  by_test false is = ap (λ (x : Child). mark_in map height (node_at map x.child) k) (holder_back k right b c bs hi rising is)
-
 -- an inner node whose children changed and are too many
-module _ (f : List Element → List Element) (key : Key) (id : ℕ) (place : Subtree) (height : ℕ) (old new : PageMap) (level mirror more : ℕ) (right : Base) (before lo : List Child) (c : Child) (hi : List Child) where
-  pub split_above : IsTree old (suc height) place (inner_node (inner_of level mirror before right)) → ChangedUnder f key id level right height old new before (lo ++ c ∷ hi) → AllByRecursion (λ d. d.mirror ≤ more) (lo ++ c ∷ hi)
+module _ (f : List Element → List Element) (key : Key) (marking : Marking) (place : Subtree) (height : ℕ) (old new : PageMap) (level mirror more : ℕ) (right : Base) (before lo : List Child) (c : Child) (hi : List Child) where
+  pub split_above : IsTree old (suc height) place (inner_node (inner_of level mirror before right)) → ChangedUnder f key marking level right height old new before (lo ++ c ∷ hi) → AllByRecursion (λ d. d.mirror ≤ more) (lo ++ c ∷ hi)
       → 16 ≤ length lo → length lo ≤ 62 → 16 ≤ length (c ∷ hi) → length (c ∷ hi) ≤ 62
-      → Split f key id place (suc height) old new (inner_node (inner_of level mirror before right)) (inner_node (inner_of level more lo c.left)) (inner_node (inner_of level more (c ∷ hi) right)) c.left
+      → Split f key marking place (suc height) old new (inner_node (inner_of level mirror before right)) (inner_node (inner_of level more lo c.left)) (inner_node (inner_of level more (c ∷ hi) right)) c.left
   split_above tree change mirrors some few many most =
       let els : Child → List Element = λ (x : Child). elements_in new height (node_at new x.child) in
       let lower : Node = inner_node (inner_of level more lo c.left) in
@@ -170,10 +160,9 @@ module _ (f : List Element → List Element) (key : Key) (id : ℕ) (place : Sub
         lower_many = some;
         upper_many = many;
         elements = sym (flat_map-append els lo (c ∷ hi)) ∙ change.elements;
-        mark = record {
-          never_fall = λ k. subst (λ (n : ℕ). mark_under old height before k ≤ n) (mark_cut new height right k lo c hi (omega arith) change.rising) (change.mark.never_fall k);
-          reach = subst (λ (n : ℕ). id ≤ n) (mark_cut new height right key lo c hi (omega arith) change.rising) change.mark.reach;
-        };
+        mark = same_marks (MarksWithin marking key place.left place.right (mark_under old height before)) (mark_under new height (lo ++ c ∷ hi)) (both_sides c.left (mark_under new height lo) (mark_under new height (c ∷ hi)))
+            (λ k. sym (mark_cut new height right k lo c hi (omega arith) change.rising))
+            (marks_bounds marking key (next_left right before) place.left right place.right (mark_under old height before) (mark_under new height (lo ++ c ∷ hi)) (begins_left place.left right before tree.fits.bounds.0) tree.fits.bounds.1 change.mark);
         pages = replaces_same old new (has_under old height before) (has_under new height (lo ++ c ∷ hi)) (has_under old height before) (λ x. has_under new height lo x || has_under new height (c ∷ hi) x)
             (λ x. refl) (λ x. sym (under_append new height x lo (c ∷ hi))) change.pages;
         bound = child.left;

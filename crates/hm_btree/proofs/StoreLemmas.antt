@@ -7,34 +7,37 @@ use Rattle.hm_types.specs.Elements.{Key}
 use Rattle.hm_types.specs.declared.fault.Fault.{Fault}
 use Rattle.hm_types.specs.declared.fault.Fault.TheVariants.{Media, Damaged, NoMemory}
 use Rattle.hm_fields.specs.Pages.{PageMap}
-use Rattle.hm_key.specs.Stores.{Marks, IsUndamaged, HasStoreCause}
+use Rattle.hm_key.specs.Stores.{Marks as OldMarks, IsUndamaged, HasStoreCause}
 use Rattle.hm_key.specs.declared.element.Element.{Element}
+use Rattle.hm_search.specs.Props.{IsSoundTree-prop, IsWhole-prop}
 use Rattle.hm_search.specs.Tree.{IsSoundTree, elements_of, mark_of}
-use Rattle.hm_btree.specs.Tree.{ChangesTree, HasTreeCause, IsIntact, told_elements, told_mark}
+use Rattle.hm_btree.specs.Marking.{Marking, Writes, TakesOut, Leaves, MarksBy}
+use Rattle.hm_btree.specs.Space.{IsSpot}
+use Rattle.hm_btree.specs.Tree.{ChangesTree, IsTreeSpace, HasTreeCause, IsIntact, told_elements, told_mark}
+use Rattle.hm_btree.proofs.RaiseLemmas.{marks_never_fall, join_never_falls, stay_never_falls}
 
 -- what a call that changes the tree leaves
-pub record StoreChanged (f : List Element → List Element) (key : Key) (id : ℕ) (intact : Bool) (old new : Option PageMap) (root root' : ℕ) : Type 0 where
+pub record StoreChanged (f : List Element → List Element) (key : Key) (marking : Marking) (intact : Bool) (old new : Option PageMap) (root root' : ℕ) : Type 0 where
   pub elements : told_elements true new root' ≡ option_map f (told_elements intact old root)
-  pub mark : IfSome (told_elements intact old root) (λ _. Marks key id (told_mark old root) (told_mark new root'))
+  pub mark : IfSome (told_elements intact old root) (λ _. MarksBy marking key (told_mark old root) (told_mark new root'))
   pub sound : ∥ IsIntact true new root' ∥₁
 
-elements_set : (a b : Option (List Element)) → IsProp (a ≡ b)
-elements_set a b = hlevel props
+spot_prop : (at : ℕ) → IsProp (IsSpot at)
+spot_prop at = hlevel props
 
-marks_prop : (key : Key) (id : ℕ) (old new : Key → ℕ) → IsProp (Marks key id old new)
-marks_prop key id old new = hlevel props
+-- that pages are a tree has one proof at most
+tree_prop : (pages : PageMap) (root : ℕ) → IsProp (IsTreeSpace pages root)
+tree_prop pages root = hlevel (IsSoundTree-prop, IsWhole-prop, spot_prop, props)
 
-pub store_changed : (f : List Element → List Element) (key : Key) (id : ℕ) (Needs : List Element → Type 0) (More : Type 0) (intact : Bool) (old new : Option PageMap) (root root' : ℕ)
-    → IsTrue intact → ∥ IsIntact intact old root ∥₁ → is_some new ≡ is_some old → IfSome (told_elements intact old root) Needs → More → ChangesTree f key id Needs More old new root root' → StoreChanged f key id intact old new root root'
-store_changed f key id Needs More false old new root root' is sound told needs more changes = absurd (true≢false (sym is))
-store_changed f key id Needs More true None None root root' is sound told needs more changes = record { elements = refl; mark = tt; sound = ∣ tt ∣₁ }
-store_changed f key id Needs More true None (Some new) root root' is sound told needs more changes = absurd (true≢false told)
-store_changed f key id Needs More true (Some old) None root root' is sound told needs more changes = absurd (true≢false (sym told))
-store_changed f key id Needs More true (Some old) (Some new) root root' is sound told needs more changes = record {
-  elements = ∥∥₁_elim sound (elements_set (Some (elements_of new root')) (Some (f (elements_of old root)))) (λ tree. ap Some (changes tree needs more).elements);
-  mark = ∥∥₁_elim sound (marks_prop key id (mark_of old root) (mark_of new root')) (λ tree. (changes tree needs more).mark);
-  sound = ∥∥₁_elim sound (hlevel props) (λ tree. ∣ (changes tree needs more).tree ∣₁);
-}
+pub store_changed : (f : List Element → List Element) (key : Key) (marking : Marking) (Needs : List Element → Type 0) (More : Type 0) (intact : Bool) (old new : Option PageMap) (root root' : ℕ)
+    → IsTrue intact → ∥ IsIntact intact old root ∥₁ → is_some new ≡ is_some old → IfSome (told_elements intact old root) Needs → More → ChangesTree f key marking Needs More old new root root' → StoreChanged f key marking intact old new root root'
+store_changed f key marking Needs More false old new root root' is sound told needs more changes = absurd (true≢false (sym is))
+store_changed f key marking Needs More true None None root root' is sound told needs more changes = record { elements = refl; mark = tt; sound = ∣ tt ∣₁ }
+store_changed f key marking Needs More true None (Some new) root root' is sound told needs more changes = absurd (true≢false told)
+store_changed f key marking Needs More true (Some old) None root root' is sound told needs more changes = absurd (true≢false (sym told))
+store_changed f key marking Needs More true (Some old) (Some new) root root' is sound told needs more changes =
+    let change = changes (∥∥₁_elim sound (tree_prop old root) (λ tree. tree)) needs more in
+    record { elements = ap Some change.elements; mark = change.mark; sound = ∣ change.tree ∣₁ }
 
 undamaged_prop : (fault : Fault) → IsProp (IsUndamaged fault)
 undamaged_prop (Media before after) = hlevel props
@@ -63,3 +66,22 @@ told_kept f intact old new root root' is = ap is_some is ∙ by_option (told_ele
 -- a room that stays
 pub room_kept : (old new : ℕ → ℕ) (zone : ℕ) → new ≡ old → old zone ≤ new zone + 0
 room_kept old new zone same = omega (arith, ap (λ (f : ℕ → ℕ). f zone) same)
+
+-- the id at most that a change of the marks writes
+abbrev pub id_in : Marking → ℕ
+id_in (Writes id) = id
+id_in TakesOut = 0
+id_in Leaves = 0
+
+-- what is said of marks in less words
+pub old_marks : {f : List Element → List Element} {key : Key} {marking : Marking} {intact : Bool} {old new : Option PageMap} {root root' : ℕ} → StoreChanged f key marking intact old new root root'
+    → IfSome (told_elements intact old root) (λ _. OldMarks key (id_in marking) (told_mark old root) (told_mark new root'))
+old_marks {key = key} {marking = marking} {intact = intact} {old = old} {new = new} {root = root} {root' = root'} changed = by_told (told_elements intact old root) changed.mark where
+  by_marking : (m : Marking) → MarksBy m key (told_mark old root) (told_mark new root') → OldMarks key (id_in m) (told_mark old root) (told_mark new root')
+  by_marking (Writes id) is = record { never_fall = marks_never_fall key id (told_mark old root) (told_mark new root') is; reach = is.reach }
+  by_marking TakesOut is = record { never_fall = join_never_falls key (told_mark old root) (told_mark new root') is; reach = omega arith }
+  by_marking Leaves is = record { never_fall = stay_never_falls (told_mark old root) (told_mark new root') is; reach = omega arith }
+
+  by_told : (o : Option (List Element)) → IfSome o (λ _. MarksBy marking key (told_mark old root) (told_mark new root')) → IfSome o (λ _. OldMarks key (id_in marking) (told_mark old root) (told_mark new root'))
+  by_told None is = tt
+  by_told (Some es) is = by_marking marking is

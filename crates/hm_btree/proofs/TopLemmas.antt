@@ -16,19 +16,21 @@ use Rattle.hm_search.specs.Tree.{node_at, elements_in, mark_in, reaches, height_
 use Rattle.hm_search.specs.declared.subtree.Subtree.{Subtree}
 use Rattle.hm_search.proofs.FrameLemmas.{IsSameUnder}
 use Rattle.hm_search.proofs.ReachLemmas.{not_below_itself}
+use Rattle.hm_btree.specs.Marking.{Marking, MarksBy}
 use Rattle.hm_btree.specs.Space.{HasWritten, IsSpot}
 use Rattle.hm_btree.specs.Below.{mark_under, has_under, ChangedUnder}
 use Rattle.hm_btree.specs.Grow.{Split, Grows, HasTop, top_of}
 use Rattle.hm_btree.specs.Tree.{IsTreeSpace, TreeChanged, ChangesTree}
 use Rattle.hm_btree.specs.declared.upper.Upper.{Upper}
+use Rattle.hm_btree.proofs.MarkLemmas.{same_marks, marks_whole}
 use Rattle.hm_btree.proofs.PairLemmas.{split_written, stored_there}
 use Rattle.hm_btree.proofs.PutLemmas.{put_at, put_other, replaces_new}
 use Rattle.hm_btree.proofs.RootLemmas.{whole_after, spots_after, turned}
 use Rattle.hm_btree.proofs.UnderLemmas.{under_there, under_elements, under_mark, under_has, under_stored}
 
-module _ (f : List Element → List Element) (key : Key) (id root : ℕ) (old mid new1 new3 : PageMap) (lower : Node) (upper : Upper) (top : ℕ) where
-  pub root_split : IsTreeSpace old root → Split f key id (root_place root) (height_of (node_at old root)) old mid (node_at old root) lower upper.node upper.left → HasWritten root lower mid new1
-      → HasTop (root_place root) lower upper top new1 new3 → IsSpot top → level_of lower ≤ 8 → TreeChanged f key id old new3 root top
+module _ (f : List Element → List Element) (key : Key) (marking : Marking) (root : ℕ) (old mid new1 new3 : PageMap) (lower : Node) (upper : Upper) (top : ℕ) where
+  pub root_split : IsTreeSpace old root → Split f key marking (root_place root) (height_of (node_at old root)) old mid (node_at old root) lower upper.node upper.left → HasWritten root lower mid new1
+      → HasTop (root_place root) lower upper top new1 new3 → IsSpot top → level_of lower ≤ 8 → TreeChanged f key marking old new3 root top
   root_split tree split written (new2, at, spot, added, (page3, spells3, come3)) spot3 shallow =
       let h : ℕ = height_of (node_at old root) in
       let place : Subtree = root_place root in
@@ -37,8 +39,8 @@ module _ (f : List Element → List Element) (key : Key) (id root : ℕ) (old mi
       let high : level_of lower + 1 ≡ suc (suc h) = omega (arith, split.lower_tree.level) in
       let itself : reaches old h (node_at old root) root ≡ false = not_below_itself old h place (node_at old root) root tree.sound.tree refl in
       let bound : IsBound place.left = record { key = refl; not_closed = refl; no_kind = refl; btype = refl } in
-      let change : ChangedUnder f key id (level_of lower + 1) place.right h old new2 (c ∷ []) cs =
-      split_written f key id (level_of lower + 1) place.right h old mid new1 new2 place c lower upper.node upper.left at
+      let change : ChangedUnder f key marking (level_of lower + 1) place.right h old new2 (c ∷ []) cs =
+      split_written f key marking (level_of lower + 1) place.right h old mid new1 new2 place c lower upper.node upper.left at
       (record { left = bound; child = (tree.spots root tree.sound.there).node }) refl refl high tree.sound.there itself split written added spot in
       let same : IsSameUnder new2 new3 h cs = record {
         same = λ x is. put_other top page3 new2 new3 come3.put x (λ one.
@@ -76,23 +78,24 @@ module _ (f : List Element → List Element) (key : Key) (id root : ℕ) (old mi
           spots = spots_after (has_under old h (c ∷ [])) (λ y. nat_eq top y || has_under new2 h cs y) old new3 replaces tree.spots;
         };
         elements = elements;
-        mark = record { never_fall = λ k. omega (arith, change.mark.never_fall k, marks k); reach = omega (arith, change.mark.reach, marks key) };
+        mark = same_marks (MarksBy marking key (mark_of old root)) (mark_under new2 h cs) (mark_of new3 top) marks
+            (marks_whole marking key place.left place.right (mark_of old root) (mark_under new2 h cs) change.mark);
       } where
         or_nil : (b : Bool) → (b || false) ≡ b
         or_nil true = refl
         or_nil false = refl
 
 -- the same where the pages are told
-pub root_grows : (f : List Element → List Element) (key : Key) (id root : ℕ) (Needs : Option Element → Type 0) (More : Type 0) (p0 p1 p2 p3 p4 : Option PageMap) (node lower : Node) (upper : Upper) (top : ℕ)
+pub root_grows : (f : List Element → List Element) (key : Key) (marking : Marking) (root : ℕ) (Needs : Option Element → Type 0) (More : Type 0) (p0 p1 p2 p3 p4 : Option PageMap) (node lower : Node) (upper : Upper) (top : ℕ)
     → ((old : PageMap) → IsTreeSpace old root → Needs (element_at key (elements_of old root)) → More → IsInside (root_place root).left (root_place root).right key)
-    → p1 ≡ p0 → IfSome p0 (λ map. SpellsHere (root_place root) (page_in (map root)) node) → Grows f key id Needs More p1 p2 node lower (Some upper) → BothTell p2 p3 (HasWritten root lower)
+    → p1 ≡ p0 → IfSome p0 (λ map. SpellsHere (root_place root) (page_in (map root)) node) → Grows f key marking Needs More p1 p2 node lower (Some upper) → BothTell p2 p3 (HasWritten root lower)
     → BothTell p3 p4 (HasTop (root_place root) lower upper top) → IsSpot top → level_of lower ≤ 8
-    → ChangesTree f key id (λ es. Needs (element_at key es)) More p0 p4 root top
-root_grows f key id root Needs More None p1 p2 p3 p4 node lower upper top inside same here grows written added spot shallow = tt
-root_grows f key id root Needs More (Some old) p1 p2 p3 p4 node lower upper top inside same here grows written added spot shallow = λ tree needs more.
-    by_pages p2 p3 p4 (subst (λ (p : Option PageMap). Grows f key id Needs More p p2 node lower (Some upper)) same grows) written added tree needs more where
-      by_pages : (p2 p3 p4 : Option PageMap) → Grows f key id Needs More (Some old) p2 node lower (Some upper) → BothTell p2 p3 (HasWritten root lower) → BothTell p3 p4 (HasTop (root_place root) lower upper top) → IsTreeSpace old root
-          → Needs (element_at key (elements_of old root)) → More → IfSome p4 (λ new. TreeChanged f key id old new root top)
+    → ChangesTree f key marking (λ es. Needs (element_at key es)) More p0 p4 root top
+root_grows f key marking root Needs More None p1 p2 p3 p4 node lower upper top inside same here grows written added spot shallow = tt
+root_grows f key marking root Needs More (Some old) p1 p2 p3 p4 node lower upper top inside same here grows written added spot shallow = λ tree needs more.
+    by_pages p2 p3 p4 (subst (λ (p : Option PageMap). Grows f key marking Needs More p p2 node lower (Some upper)) same grows) written added tree needs more where
+      by_pages : (p2 p3 p4 : Option PageMap) → Grows f key marking Needs More (Some old) p2 node lower (Some upper) → BothTell p2 p3 (HasWritten root lower) → BothTell p3 p4 (HasTop (root_place root) lower upper top) → IsTreeSpace old root
+          → Needs (element_at key (elements_of old root)) → More → IfSome p4 (λ new. TreeChanged f key marking old new root top)
       by_pages p2 p3 None grows written added tree needs more = tt
       by_pages p2 None (Some new3) grows written added tree needs more = absurd added
       by_pages None (Some new1) (Some new3) grows written added tree needs more = absurd written
@@ -101,14 +104,14 @@ root_grows f key id root Needs More (Some old) p1 p2 p3 p4 node lower upper top 
           let h : ℕ = height_of (node_at old root) in
           let split = grows (root_place root) h (subst (λ (n : Node). IsTree old h (root_place root) n) read tree.sound.tree) (inside old tree needs more)
           (subst (λ (n : Node). Needs (element_at key (elements_in old h n))) read needs) more in
-          root_split f key id root old mid new1 new3 lower upper top tree (subst (λ (n : Node). Split f key id (root_place root) h old mid n lower upper.node upper.left) (sym read) split) written added spot shallow
+          root_split f key marking root old mid new1 new3 lower upper top tree (subst (λ (n : Node). Split f key marking (root_place root) h old mid n lower upper.node upper.left) (sym read) split) written added spot shallow
 
 -- and where a root was added, or none
-pub top_result : (f : List Element → List Element) (key : Key) (id root : ℕ) (Needs : Option Element → Type 0) (More : Type 0) (p0 p1 p2 p3 p4 : Option PageMap) (node lower : Node) (upper : Upper)
+pub top_result : (f : List Element → List Element) (key : Key) (marking : Marking) (root : ℕ) (Needs : Option Element → Type 0) (More : Type 0) (p0 p1 p2 p3 p4 : Option PageMap) (node lower : Node) (upper : Upper)
     → ((old : PageMap) → IsTreeSpace old root → Needs (element_at key (elements_of old root)) → More → IsInside (root_place root).left (root_place root).right key)
-    → p1 ≡ p0 → IfSome p0 (λ map. SpellsHere (root_place root) (page_in (map root)) node) → Grows f key id Needs More p1 p2 node lower (Some upper) → BothTell p2 p3 (HasWritten root lower)
+    → p1 ≡ p0 → IfSome p0 (λ map. SpellsHere (root_place root) (page_in (map root)) node) → Grows f key marking Needs More p1 p2 node lower (Some upper) → BothTell p2 p3 (HasWritten root lower)
     → (place : Subtree) (r : Result ℕ Fault) → place ≡ root_place root → IfOk r (λ at. BothTell p3 p4 (HasTop place lower upper at)) → IfOk r IsSpot → OnOk r (level_of lower ≤ 8)
-    → IfOk r (λ at. ChangesTree f key id (λ es. Needs (element_at key es)) More p0 p4 root at)
-top_result f key id root Needs More p0 p1 p2 p3 p4 node lower upper inside same here grows written place (Ok at) is added spot shallow =
-    root_grows f key id root Needs More p0 p1 p2 p3 p4 node lower upper at inside same here grows written (subst (λ (s : Subtree). BothTell p3 p4 (HasTop s lower upper at)) is added) spot shallow
-top_result f key id root Needs More p0 p1 p2 p3 p4 node lower upper inside same here grows written place (Err fault) is added spot shallow = tt
+    → IfOk r (λ at. ChangesTree f key marking (λ es. Needs (element_at key es)) More p0 p4 root at)
+top_result f key marking root Needs More p0 p1 p2 p3 p4 node lower upper inside same here grows written place (Ok at) is added spot shallow =
+    root_grows f key marking root Needs More p0 p1 p2 p3 p4 node lower upper at inside same here grows written (subst (λ (s : Subtree). BothTell p3 p4 (HasTop s lower upper at)) is added) spot shallow
+top_result f key marking root Needs More p0 p1 p2 p3 p4 node lower upper inside same here grows written place (Err fault) is added spot shallow = tt

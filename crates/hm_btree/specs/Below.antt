@@ -8,7 +8,7 @@ use Rattle.hm_types.specs.declared.fault.Fault.{Fault}
 use Rattle.hm_fields.specs.Pages.{PageMap}
 use Rattle.hm_key.specs.Key.{IsBefore}
 use Rattle.hm_key.specs.Elements.{element_key}
-use Rattle.hm_key.specs.Stores.{Marks, IsUndamaged}
+use Rattle.hm_key.specs.Stores.{IsUndamaged}
 use Rattle.hm_key.specs.declared.base.Base.{Base}
 use Rattle.hm_key.specs.declared.element.Element.{Element}
 use Rattle.hm_node.specs.Base.{base_cmp}
@@ -19,6 +19,7 @@ use Rattle.hm_search.specs.Place.{mirror_of}
 use Rattle.hm_search.specs.Tree.{node_at, elements_in, mark_in, reaches, at_holder, next_left, places_of, IsTree, IsStoredTree}
 use Rattle.hm_search.specs.declared.subtree.Parent.{Parent}
 use Rattle.hm_search.specs.declared.subtree.Subtree.{Subtree}
+use Rattle.hm_btree.specs.Marking.{Marking, MarksWithin}
 use Rattle.hm_btree.specs.Space.{IsSpot}
 
 -- A call works on the pages at some offsets, `olds`, and `news` are those at which its pages stand afterwards.
@@ -63,19 +64,19 @@ pub record IsLocal (f : List Element → List Element) (key : Key) : Type 0 wher
   pub front : (xs ys : List Element) → AllByRecursion (λ e. IsBefore (element_key e) key) xs → f (xs ++ ys) ≡ xs ++ f ys
   pub back : (xs ys : List Element) → AllByRecursion (λ e. IsBefore key (element_key e)) ys → f (xs ++ ys) ≡ f xs ++ ys
 
--- A node and all below it changed: its list of elements in this way, while an id was written at a key. The
--- node's own page is not written yet.
-pub record Changed (f : List Element → List Element) (key : Key) (id : ℕ) (place : Subtree) (height : ℕ) (old new : PageMap) (before after : Node) : Type 0 where
+-- A node and all below it changed: its list of elements and the marks in these ways, at a key. The node's own page
+-- is not written yet.
+pub record Changed (f : List Element → List Element) (key : Key) (marking : Marking) (place : Subtree) (height : ℕ) (old new : PageMap) (before after : Node) : Type 0 where
   pub tree : IsTree new height (placed after place) after
   pub elements : elements_in new height after ≡ f (elements_in old height before)
-  pub mark : Marks key id (mark_in old height before) (mark_in new height after)
+  pub mark : MarksWithin marking key place.left place.right (mark_in old height before) (mark_in new height after)
   pub pages : Replaces (reaches old height before) (reaches new height after) old new
 
 -- the same of some children of one node
-pub record ChangedUnder (f : List Element → List Element) (key : Key) (id : ℕ) (level : ℕ) (right : Base) (height : ℕ) (old new : PageMap) (before after : List Child) : Type 0 where
+pub record ChangedUnder (f : List Element → List Element) (key : Key) (marking : Marking) (level : ℕ) (right : Base) (height : ℕ) (old new : PageMap) (before after : List Child) : Type 0 where
   pub stored : AreStored new height level right after
   pub elements : elements_under new height after ≡ f (elements_under old height before)
-  pub mark : Marks key id (mark_under old height before) (mark_under new height after)
+  pub mark : MarksWithin marking key (next_left right before) right (mark_under old height before) (mark_under new height after)
   pub pages : Replaces (has_under old height before) (has_under new height after) old new
   pub left : next_left right after ≡ next_left right before
   pub rising : AreRising right after

@@ -5,7 +5,6 @@ use Rattle.hm_types.specs.Elements.{Key, key_cmp}
 use Rattle.hm_fields.specs.Pages.{PageMap}
 use Rattle.hm_key.specs.Key.{key_of, IsBefore, IsBoundary}
 use Rattle.hm_key.specs.Elements.{element_at, element_key}
-use Rattle.hm_key.specs.Stores.{Marks}
 use Rattle.hm_key.specs.declared.base.Base.{Base}
 use Rattle.hm_key.specs.declared.element.Element.{Element}
 use Rattle.hm_node.specs.Inner.{IsBound}
@@ -18,6 +17,7 @@ use Rattle.hm_node.specs.declared.node.Node.TheVariants.{Leaf as leaf_node, Inne
 use Rattle.hm_search.specs.Place.{IsInside, least_count, mirror_of}
 use Rattle.hm_search.specs.Tree.{elements_in, mark_in, reaches, IsTree}
 use Rattle.hm_search.specs.declared.subtree.Subtree.{Subtree}
+use Rattle.hm_btree.specs.Marking.{Marking, MarksWithin}
 use Rattle.hm_btree.specs.Below.{Replaces, Changed, placed}
 use Rattle.hm_btree.specs.Edits.{leaf_of, inner_of, left_of}
 use Rattle.hm_btree.specs.Space.{HasAdded, IsSpot}
@@ -25,29 +25,29 @@ use Rattle.hm_btree.specs.declared.upper.Upper.{Upper}
 
 -- A node and all below it changed, as `Changed` says, and became two, of which neither is written. The upper one
 -- begins at a boundary inside those of the node.
-pub record Split (f : List Element → List Element) (key : Key) (id : ℕ) (place : Subtree) (height : ℕ) (old new : PageMap) (before lower upper : Node) (at : Base) : Type 0 where
+pub record Split (f : List Element → List Element) (key : Key) (marking : Marking) (place : Subtree) (height : ℕ) (old new : PageMap) (before lower upper : Node) (at : Base) : Type 0 where
   pub lower_tree : IsTree new height (placed lower (record place { right = at })) lower
   pub upper_tree : IsTree new height (placed upper (record place { left = at })) upper
   pub lower_many : least_count lower ≤ count_of lower
   pub upper_many : least_count upper ≤ count_of upper
   pub elements : elements_in new height lower ++ elements_in new height upper ≡ f (elements_in old height before)
-  pub mark : Marks key id (mark_in old height before) (λ k. if is_lt (key_cmp k (key_of at)) then mark_in new height lower k else mark_in new height upper k)
+  pub mark : MarksWithin marking key place.left place.right (mark_in old height before) (λ k. if is_lt (key_cmp k (key_of at)) then mark_in new height lower k else mark_in new height upper k)
   pub pages : Replaces (reaches old height before) (λ x. reaches new height lower x || reaches new height upper x) old new
   pub bound : IsBound at
   pub from : IsBefore (key_of place.left) (key_of at)
   pub to : IsBefore (key_of at) (key_of place.right)
 
 -- a node and all below it changed, and it is one still, or two
-abbrev pub GrownTo : (List Element → List Element) → Key → ℕ → Subtree → ℕ → PageMap → PageMap → Node → Node → Option Upper → Type 0
-GrownTo f key id place height old new before after None = Changed f key id place height old new before after
-GrownTo f key id place height old new before after (Some upper) = Split f key id place height old new before after upper.node upper.left
+abbrev pub GrownTo : (List Element → List Element) → Key → Marking → Subtree → ℕ → PageMap → PageMap → Node → Node → Option Upper → Type 0
+GrownTo f key marking place height old new before after None = Changed f key marking place height old new before after
+GrownTo f key marking place height old new before after (Some upper) = Split f key marking place height old new before after upper.node upper.left
 
 -- what a call that may make a node two makes of one, where the pages are told: it needs a fact of what stands at
 -- the key, and one more
-abbrev pub Grows : (List Element → List Element) → Key → ℕ → (Option Element → Type 0) → Type 0 → Option PageMap → Option PageMap → Node → Node → Option Upper → Type 0
-Grows f key id Needs More old new before after upper =
+abbrev pub Grows : (List Element → List Element) → Key → Marking → (Option Element → Type 0) → Type 0 → Option PageMap → Option PageMap → Node → Node → Option Upper → Type 0
+Grows f key marking Needs More old new before after upper =
     IfSome old (λ was. (place : Subtree) (height : ℕ) → IsTree was height place before → IsInside place.left place.right key → Needs (element_at key (elements_in was height before)) → More
-    → IfSome new (λ is. GrownTo f key id place height was is before after upper))
+    → IfSome new (λ is. GrownTo f key marking place height was is before after upper))
 
 -- a boundary at the first of some elements
 abbrev pub FirstAt : List Element → Base → Type 0

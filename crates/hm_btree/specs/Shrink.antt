@@ -4,9 +4,8 @@ use Rattle.std.specs.Ordering.{is_lt}
 use Rattle.arrayvec.specs.ArrayVec.{array_vec_len}
 use Rattle.hm_types.specs.Elements.{Key, key_cmp}
 use Rattle.hm_fields.specs.Pages.{PageMap}
-use Rattle.hm_key.specs.Key.{key_of, IsBefore}
+use Rattle.hm_key.specs.Key.{key_of, IsBefore, IsFrom}
 use Rattle.hm_key.specs.Elements.{element_at}
-use Rattle.hm_key.specs.Stores.{Marks}
 use Rattle.hm_key.specs.declared.base.Base.{Base}
 use Rattle.hm_key.specs.declared.element.Element.{Element}
 use Rattle.hm_node.specs.Inner.{IsBound}
@@ -20,6 +19,7 @@ use Rattle.hm_search.specs.Place.{IsInside, least_count, mirror_of}
 use Rattle.hm_search.specs.Search.{holder_place}
 use Rattle.hm_search.specs.Tree.{node_at, elements_in, mark_in, reaches, next_left, child_place, elements_of, mark_of, IsTree}
 use Rattle.hm_search.specs.declared.subtree.Subtree.{Subtree}
+use Rattle.hm_btree.specs.Marking.{Marking, TakesOut, MarksWithin}
 use Rattle.hm_btree.specs.Below.{Replaces, IsLocal, Changed}
 use Rattle.hm_btree.specs.Edits.{leaf_of, inner_of, left_of, with_mirror}
 use Rattle.hm_btree.specs.Grow.{FirstAt}
@@ -37,10 +37,10 @@ between left right = record { at = 0; left = left; right = right; parent = None 
 
 -- What a call that works at one key makes of a node, where the pages are told: it may leave it with too few places
 -- for where it stands. It needs a fact of what stands at the key.
-abbrev pub Shrinks : (List Element → List Element) → Key → ℕ → (Option Element → Type 0) → Option PageMap → Option PageMap → Node → Node → Type 0
-Shrinks f key id Needs old new before after =
+abbrev pub Shrinks : (List Element → List Element) → Key → Marking → (Option Element → Type 0) → Option PageMap → Option PageMap → Node → Node → Type 0
+Shrinks f key marking Needs old new before after =
     IfSome old (λ was. (place : Subtree) (height : ℕ) → IsTree was height place before → IsInside place.left place.right key → Needs (element_at key (elements_in was height before))
-    → IfSome new (λ is. Changed f key id (loose place) height was is before after))
+    → IfSome new (λ is. Changed f key marking (loose place) height was is before after))
 
 -- an element stands at a key below a node, which is sound with all below it
 pub record HoldsElement (key : Key) (node : Node) (map : PageMap) : Type 0 where
@@ -99,29 +99,39 @@ Joins (inner_node a) (inner_node b) (leaf_node lower) upper = ⊥
 Joins (inner_node a) (inner_node b) (inner_node lower) upper = JoinsInners a b lower upper
 
 -- Two neighbours, on both sides of a boundary, of which neither is written. Together they have these elements, and
--- the marks came from these while an id was written at a key.
-pub record Beside (key : Key) (id height : ℕ) (old mid : PageMap) (olds : ℕ → Bool) (want : List Element) (were : Key → ℕ) (left right : Base) (lower upper : Node) (at : Base) : Type 0 where
+-- the marks came from these by a change at a key.
+pub record Beside (key : Key) (marking : Marking) (height : ℕ) (old mid : PageMap) (olds : ℕ → Bool) (want : List Element) (were : Key → ℕ) (left right : Base) (lower upper : Node) (at : Base) : Type 0 where
   pub lower_tree : IsTree mid height (between left at) lower
   pub upper_tree : IsTree mid height (between at right) upper
   pub elements : elements_in mid height lower ++ elements_in mid height upper ≡ want
-  pub mark : Marks key id were (λ k. if is_lt (key_cmp k (key_of at)) then mark_in mid height lower k else mark_in mid height upper k)
+  pub mark : MarksWithin marking key left right were (λ k. if is_lt (key_cmp k (key_of at)) then mark_in mid height lower k else mark_in mid height upper k)
   pub pages : Replaces olds (λ x. reaches mid height lower x || reaches mid height upper x) old mid
   pub bound : IsBound at
   pub from : IsBefore (key_of left) (key_of at)
   pub to : IsBefore (key_of at) (key_of right)
 
+-- of two neighbours on both sides of a boundary, the one whose range has the key has too few places
+abbrev pub IsSmallAt : Key → Base → Node → Node → Type 0
+IsSmallAt key at lower upper = (IsBefore key (key_of at) × (count_of lower < 16)) ⊎ (IsFrom (key_of at) key × (count_of upper < 16))
+
+-- where they are leaves, the marks of both are these yet
+abbrev pub LeavesHave : (Key → ℕ) → Base → Node → Node → Type 0
+LeavesHave marks at (leaf_node a) (leaf_node b) = (k : Key) → marks k ≡ (if is_lt (key_cmp k (key_of at)) then a.mirror else b.mirror)
+LeavesHave marks at (leaf_node a) (inner_node b) = ⊤
+LeavesHave marks at (inner_node a) upper = ⊤
+
 -- two neighbours that have enough places
-pub record Shared (key : Key) (id height : ℕ) (old mid : PageMap) (olds : ℕ → Bool) (want : List Element) (were : Key → ℕ) (left right : Base) (lower upper : Node) (at : Base) : Type 0 where
-  pub beside : Beside key id height old mid olds want were left right lower upper at
+pub record Shared (key : Key) (marking : Marking) (height : ℕ) (old mid : PageMap) (olds : ℕ → Bool) (want : List Element) (were : Key → ℕ) (left right : Base) (lower upper : Node) (at : Base) : Type 0 where
+  pub beside : Beside key marking height old mid olds want were left right lower upper at
   pub lower_many : least_count lower ≤ count_of lower
   pub upper_many : least_count upper ≤ count_of upper
 
 -- the same of one node
-pub record Joined (key : Key) (id height : ℕ) (old mid : PageMap) (olds : ℕ → Bool) (want : List Element) (were : Key → ℕ) (left right : Base) (node : Node) : Type 0 where
+pub record Joined (key : Key) (marking : Marking) (height : ℕ) (old mid : PageMap) (olds : ℕ → Bool) (want : List Element) (were : Key → ℕ) (left right : Base) (node : Node) : Type 0 where
   pub tree : IsTree mid height (between left right) node
   pub many : least_count node ≤ count_of node
   pub elements : elements_in mid height node ≡ want
-  pub mark : Marks key id were (mark_in mid height node)
+  pub mark : MarksWithin marking key left right were (mark_in mid height node)
   pub pages : Replaces olds (reaches mid height node) old mid
 
 -- whether an offset is that of a node below one of two children
@@ -163,7 +173,6 @@ IsJoinedAt before i child old new after =
 pub record IsShrunk (inner : Inner) (i : ℕ) (node : Node) (now : PageMap) : Type 0 where
   pub f : List Element → List Element
   pub key : Key
-  pub id : ℕ
   pub local : IsLocal f key
   pub old : PageMap
   pub place : Subtree
@@ -173,7 +182,7 @@ pub record IsShrunk (inner : Inner) (i : ℕ) (node : Node) (now : PageMap) : Ty
   pub holder : i ≡ holder_place key inner.places.items
   pub child : Child
   pub at : slice_get inner.places.items i ≡ Some child
-  pub change : Changed f key id (loose (child_place inner.level (next_left inner.right (drop (suc i) inner.places.items)) child)) height old now (node_at old child.child) node
+  pub change : Changed f key TakesOut (loose (child_place inner.level (next_left inner.right (drop (suc i) inner.places.items)) child)) height old now (node_at old child.child) node
 
 -- the same tree stands from another root on, whose node is this one
 pub record IsLowered (old new : PageMap) (root root' : ℕ) (node : Node) : Type 0 where

@@ -4,9 +4,10 @@ use Rattle.hm_types.specs.Elements.{Key}
 use Rattle.hm_types.specs.Faults.{HasFaultCause}
 use Rattle.hm_types.specs.declared.fault.Fault.{Fault}
 use Rattle.hm_fields.specs.Pages.{PageMap}
-use Rattle.hm_key.specs.Stores.{Marks, IsUndamaged}
+use Rattle.hm_key.specs.Stores.{IsUndamaged}
 use Rattle.hm_key.specs.declared.element.Element.{Element}
 use Rattle.hm_search.specs.Tree.{IsSoundTree, IsWhole, elements_of, mark_of}
+use Rattle.hm_btree.specs.Marking.{Marking, MarksBy}
 use Rattle.hm_btree.specs.Space.{IsSpot}
 
 -- a space has no page
@@ -19,16 +20,16 @@ pub record IsTreeSpace (pages : PageMap) (root : ℕ) : Type 0 where
   pub whole : IsWhole pages root
   pub spots : (at : ℕ) → IsSome (pages at) → IsSpot at
 
--- a tree changed: its list of elements in this way, while an id was written at a key
-pub record TreeChanged (f : List Element → List Element) (key : Key) (id : ℕ) (old new : PageMap) (root root' : ℕ) : Type 0 where
+-- a tree changed: its list of elements and the marks in these ways, at a key
+pub record TreeChanged (f : List Element → List Element) (key : Key) (marking : Marking) (old new : PageMap) (root root' : ℕ) : Type 0 where
   pub tree : IsTreeSpace new root'
   pub elements : elements_of new root' ≡ f (elements_of old root)
-  pub mark : Marks key id (mark_of old root) (mark_of new root')
+  pub mark : MarksBy marking key (mark_of old root) (mark_of new root')
 
 -- a call changes a tree so, where what stands at the key is as it needs, and one more fact holds
-abbrev pub ChangesTree : (List Element → List Element) → Key → ℕ → (List Element → Type 0) → Type 0 → Option PageMap → Option PageMap → ℕ → ℕ → Type 0
-ChangesTree f key id Needs More old new root root' =
-    IfSome old (λ was. IsTreeSpace was root → Needs (elements_of was root) → More → IfSome new (λ is. TreeChanged f key id was is root root'))
+abbrev pub ChangesTree : (List Element → List Element) → Key → Marking → (List Element → Type 0) → Type 0 → Option PageMap → Option PageMap → ℕ → ℕ → Type 0
+ChangesTree f key marking Needs More old new root root' =
+    IfSome old (λ was. IsTreeSpace was root → Needs (elements_of was root) → More → IfSome new (λ is. TreeChanged f key marking was is root root'))
 
 -- Each fault of a call has its cause in the call: none tells of damage where the pages are a sound tree.
 pub record HasTreeCause {T : Type 0} (told : Option PageMap) (root old new : ℕ) (result : Result T Fault) : Type 0 where

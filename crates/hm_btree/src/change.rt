@@ -10,7 +10,7 @@ ghost use Rattle.hm_search.specs.Place.{IsInside};
 ghost use Rattle.hm_search.specs.Tree.{elements_in, IsTree};
 ghost use Rattle.hm_search.specs.declared.subtree.Subtree.{Subtree as Place};
 ghost use Rattle.hm_btree.specs.Below.{Changed, HasEditCause};
-ghost use Rattle.hm_btree.specs.Change.{change_of, id_of, with_change, MayChange};
+ghost use Rattle.hm_btree.specs.Change.{change_of, id_of, marking_of, with_change, MayChange};
 ghost use Rattle.hm_btree.specs.Edits.{ElementChange};
 ghost use Rattle.hm_btree.specs.Tree.{ChangesTree, HasTreeCause};
 
@@ -41,7 +41,7 @@ pub fn change_element<S: NodeSpace>(
     change: Change,
 ) -> Result<(), Fault>
     ensures ok { OnOk result (ChangesTree (with_change (key_of at.now) change) (key_of at.now)
-        (id_of change) (λ es. IsSome (element_at (key_of at.now) es))
+        (marking_of change) (λ es. IsSome (element_at (key_of at.now) es))
         (MayChange (key_of at.now) change)
         (S.pages space.old) (S.pages space.new) root root) }
     ensures told { OnOk result (is_some (S.pages space.new) ≡ is_some (S.pages space.old)) }
@@ -68,7 +68,7 @@ fn change_in<S: NodeSpace>(
         IsTree old height place node.old → IsInside place.left place.right (key_of at.now) →
         IsSome (element_at (key_of at.now) (elements_in old height node.old)) →
         MayChange (key_of at.now) change → OnOk result (IfSome (S.pages space.new) (λ new.
-        Changed (with_change (key_of at.now) change) (key_of at.now) (id_of change)
+        Changed (with_change (key_of at.now) change) (key_of at.now) (marking_of change)
         place height old new node.old node.new))) }
     ensures told { OnOk result (is_some (S.pages space.new) ≡ is_some (S.pages space.old)) }
     ensures rest { S.rest space.new ≡ S.rest space.old }

@@ -9,6 +9,7 @@ ghost use Rattle.hm_key.specs.Space.{Spends, in_zone};
 ghost use Rattle.hm_node.specs.Leaf.{HasLeafOrder};
 ghost use Rattle.hm_node.specs.Node.{IsNode, level_of};
 ghost use Rattle.hm_btree.specs.Below.{HasEditCause};
+ghost use Rattle.hm_btree.specs.Marking.{Writes};
 ghost use Rattle.hm_btree.specs.Grow.{Grows, LeafBecomes, InnerBecomes};
 
 use crate::inner_edit::{insert_child, set_mirror};
@@ -31,7 +32,7 @@ pub fn insert_into<S: NodeSpace>(
     requires node { IsNode node.old }
     requires room { NODE_BYTES * (level_of node.old - 1) ≤ S.room space.old TREE_ZONE }
     ensures ok { IfOk result (Grows (inserted element.now) (key_of element.now.base)
-        (last_id element.now) (λ o. IsNone o)
+        (Writes (last_id element.now)) (λ o. IsNone o)
         (IsElement element.now × IsOffset element.now.payload)
         (S.pages space.old) (S.pages space.new) node.old node.new) }
     ensures told { OnOk result (is_some (S.pages space.new) ≡ is_some (S.pages space.old)) }

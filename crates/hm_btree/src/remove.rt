@@ -7,6 +7,7 @@ ghost use Rattle.hm_key.specs.Key.{key_of};
 ghost use Rattle.hm_key.specs.Space.{Spends, nothing};
 ghost use Rattle.hm_node.specs.Node.{HasLevel, IsNode, level_of};
 ghost use Rattle.hm_node.specs.declared.inner.Child.{Child as ChildOf};
+ghost use Rattle.hm_btree.specs.Marking.{TakesOut};
 ghost use Rattle.hm_btree.specs.Shrink.{Shrinks, HoldsElement, HasNeighbours, IsLevelBelow, IsPairJoined, IsJoinedAt, IsShrunk};
 
 use crate::change::has_element;
@@ -27,7 +28,7 @@ pub fn remove_below<S: NodeSpace>(space: &mut S, node: &mut Node, at: &Base) -> 
     requires node { IsNode node.old }
     requires many { HasNeighbours node.old }
     requires told { IfSome (S.pages space.old) (HoldsElement (key_of at.now) node.old) }
-    ensures ok { OnOk result (Shrinks (removed (key_of at.now)) (key_of at.now) 0 (λ o. IsSome o)
+    ensures ok { OnOk result (Shrinks (removed (key_of at.now)) (key_of at.now) TakesOut (λ o. IsSome o)
         (S.pages space.old) (S.pages space.new) node.old node.new) }
     ensures level { OnOk result (HasLevel node.new × (level_of node.new ≡ level_of node.old)) }
     ensures told { OnOk result (is_some (S.pages space.new) ≡ is_some (S.pages space.old)) }

@@ -8,6 +8,7 @@ ghost use Rattle.hm_key.specs.Key.{key_of};
 ghost use Rattle.hm_key.specs.Space.{Spends, in_zone};
 ghost use Rattle.hm_node.specs.Node.{level_of};
 ghost use Rattle.hm_btree.specs.Grow.{HasTop, top_of};
+ghost use Rattle.hm_btree.specs.Marking.{Writes};
 ghost use Rattle.hm_btree.specs.Space.{IsSpot};
 ghost use Rattle.hm_btree.specs.Tree.{ChangesTree, HasTreeCause};
 
@@ -30,7 +31,7 @@ pub fn insert_from<S: NodeSpace>(
 ) -> Result<HOff, Fault>
     requires { INSERT_ROOM ≤ S.room space.old TREE_ZONE }
     ensures ok { IfOk result (ChangesTree (inserted element.now) (key_of element.now.base)
-        (last_id element.now) (λ es. IsNone (element_at (key_of element.now.base) es))
+        (Writes (last_id element.now)) (λ es. IsNone (element_at (key_of element.now.base) es))
         (IsElement element.now × IsOffset element.now.payload)
         (S.pages space.old) (S.pages space.new) root) }
     ensures told { OnOk result (is_some (S.pages space.new) ≡ is_some (S.pages space.old)) }

@@ -6,6 +6,7 @@ ghost use Rattle.hm_key.specs.Key.{key_of};
 ghost use Rattle.hm_key.specs.Space.{Spends, nothing};
 ghost use Rattle.hm_node.specs.Node.{IsNode};
 ghost use Rattle.hm_search.specs.Tree.{node_at, elements_of};
+ghost use Rattle.hm_btree.specs.Marking.{TakesOut};
 ghost use Rattle.hm_btree.specs.Shrink.{HasNeighbours, IsLowered, IsOnlyChild};
 ghost use Rattle.hm_btree.specs.Tree.{ChangesTree, IsTreeSpace};
 
@@ -23,7 +24,7 @@ pub fn remove_from<S: NodeSpace>(space: &mut S, root: HOff, at: &Base) -> Result
     requires tree { IfSome (S.pages space.old) (λ was. IsTreeSpace was root) }
     requires there { IfSome (S.pages space.old) (λ was.
         IsSome (element_at (key_of at.now) (elements_of was root))) }
-    ensures ok { IfOk result (ChangesTree (removed (key_of at.now)) (key_of at.now) 0
+    ensures ok { IfOk result (ChangesTree (removed (key_of at.now)) (key_of at.now) TakesOut
         (λ es. IsSome (element_at (key_of at.now) es)) ⊤
         (S.pages space.old) (S.pages space.new) root) }
     ensures told { OnOk result (is_some (S.pages space.new) ≡ is_some (S.pages space.old)) }

@@ -7,7 +7,7 @@ use Rattle.hm_key.specs.Key.{key_of}
 use Rattle.hm_node.specs.Node.{level_of}
 use Rattle.hm_node.specs.declared.node.Node.{Node}
 use Rattle.hm_btree.specs.Below.{HasEditCause}
-use Rattle.hm_btree.specs.Change.{change_of, id_of, MayChange, with_change}
+use Rattle.hm_btree.specs.Change.{change_of, MayChange, with_change, marking_of}
 use Rattle.hm_btree.proofs.EditLemmas.{place_within, child_lower, cause_read, cause_below}
 use Rattle.hm_btree.proofs.LocalLemmas.{changed_local}
 use Rattle.hm_btree.proofs.ToldLemmas.{inner_works, leaf_works, leaf_without}
@@ -63,7 +63,7 @@ returns-after-has_element-clause-ok g t c =
 pub returns-in_ok-write_node-in-Inner-clause-ok : goal.returns-in_ok-write_node-in-Inner-clause-ok
 returns-in_ok-write_node-in-Inner-clause-ok g t c =
     let key = key_of c.args.at.now in
-    inner_works (with_change key c.args.change) key (id_of c.args.change) (λ o. IsSome o) (MayChange key c.args.change) (changed_local key (change_of c.args.change)) c.in-Inner.inner c.set_mirror.new.inner
+    inner_works (with_change key c.args.change) key (marking_of c.args.change) (λ o. IsSome o) (MayChange key c.args.change) (changed_local key (change_of c.args.change)) c.in-Inner.inner c.set_mirror.new.inner
     c.child_place-i.result c.child-place.result c.in_ok-child-in-Inner.child c.change_in.new.node c.mirror.result c.args.node.now
     (g.S.Pages.pages c.args.space.now) (g.S.Pages.pages c.read_node.new.pages) (g.S.Pages.pages c.change_in.new.space) (g.S.Pages.pages c.write_node.new.space)
     c.in-Inner.is c.child_place-i.ensures c.child-place.ensures c.read_node.ensures.same.pages c.in_ok-child-in-Inner.ensures.ok c.in_ok-change_in-in-Inner.ensures.ok c.in_ok-write_node-in-Inner.ensures.ok

@@ -11,6 +11,7 @@ use Rattle.hm_key.specs.declared.room.TheConstants.{TREE_ZONE}
 use Rattle.hm_node.specs.Node.{level_of, IsNode}
 use Rattle.hm_node.specs.declared.node.Node.{Node}
 use Rattle.hm_node.specs.declared.node.Node.TheVariants.{Leaf as leaf_node}
+use Rattle.hm_btree.specs.Marking.{Writes}
 use Rattle.hm_btree.specs.Below.{HasEditCause}
 use Rattle.hm_btree.specs.Edits.{with_mirror}
 use Rattle.hm_btree.specs.Grow.{Grows}
@@ -133,9 +134,9 @@ pub returns-in-None-clause-ok : goal.returns-in-None-clause-ok
 returns-in-None-clause-ok g t c =
     let e = c.args.element.now in
     let key = key_of e.base in
-    let grows = subst (λ (o : Option Upper). Grows (inserted e) key (last_id e) (λ x. IsNone x) (IsElement e × IsOffset e.payload) (g.S.Pages.pages c.read_node.new.pages) (g.S.Pages.pages c.insert_into.new.space) c.in_ok-child-in-Inner.child c.insert_into.new.node o)
+    let grows = subst (λ (o : Option Upper). Grows (inserted e) key (Writes (last_id e)) (λ x. IsNone x) (IsElement e × IsOffset e.payload) (g.S.Pages.pages c.read_node.new.pages) (g.S.Pages.pages c.insert_into.new.space) c.in_ok-child-in-Inner.child c.insert_into.new.node o)
     c.in-None.is c.in_ok-upper-in-Inner.ensures.ok in
-    inner_works (inserted e) key (last_id e) (λ x. IsNone x) (IsElement e × IsOffset e.payload) (inserted_local e) c.in-Inner.inner c.set_mirror.new.inner
+    inner_works (inserted e) key (Writes (last_id e)) (λ x. IsNone x) (IsElement e × IsOffset e.payload) (inserted_local e) c.in-Inner.inner c.set_mirror.new.inner
     c.child_place-i.result c.child-place.result c.in_ok-child-in-Inner.child c.insert_into.new.node c.mirror.result c.args.node.now
     (g.S.Pages.pages c.args.space.now) (g.S.Pages.pages c.read_node.new.pages) (g.S.Pages.pages c.insert_into.new.space) (g.S.Pages.pages c.write_node.new.space)
     c.in-Inner.is c.child_place-i.ensures c.child-place.ensures c.read_node.ensures.same.pages c.in_ok-child-in-Inner.ensures.ok grows c.in_ok-write_node-in-Inner.ensures.ok
@@ -162,9 +163,9 @@ pub returns-in_ok-at-in-Some-clause-ok : goal.returns-in_ok-at-in-Some-clause-ok
 returns-in_ok-at-in-Some-clause-ok g t c =
     let e = c.args.element.now in
     let key = key_of e.base in
-    let grows = subst (λ (o : Option Upper). Grows (inserted e) key (last_id e) (λ x. IsNone x) (IsElement e × IsOffset e.payload) (g.S.Pages.pages c.read_node.new.pages) (g.S.Pages.pages c.insert_into.new.space) c.in_ok-child-in-Inner.child c.insert_into.new.node o)
+    let grows = subst (λ (o : Option Upper). Grows (inserted e) key (Writes (last_id e)) (λ x. IsNone x) (IsElement e × IsOffset e.payload) (g.S.Pages.pages c.read_node.new.pages) (g.S.Pages.pages c.insert_into.new.space) c.in_ok-child-in-Inner.child c.insert_into.new.node o)
     c.in-Some.is c.in_ok-upper-in-Inner.ensures.ok in
-    inner_grows (inserted e) key (last_id e) (λ x. IsNone x) (IsElement e × IsOffset e.payload) (inserted_local e) c.in-Inner.inner c.set_mirror.new.inner c.insert_beside.new.inner
+    inner_grows (inserted e) key (Writes (last_id e)) (λ x. IsNone x) (IsElement e × IsOffset e.payload) (inserted_local e) c.in-Inner.inner c.set_mirror.new.inner c.insert_beside.new.inner
     c.child_place-i.result c.child-place.result c.in_ok-child-in-Inner.child c.insert_into.new.node c.mirror.result c.in-Some.upper c.in_ok-at-in-Some.at c.mirror-in-Some.result c.insert_beside.result c.args.node.now
     (g.S.Pages.pages c.args.space.now) (g.S.Pages.pages c.read_node.new.pages) (g.S.Pages.pages c.insert_into.new.space) (g.S.Pages.pages c.write_node.new.space) (g.S.Pages.pages c.add_node.new.space)
     c.in-Inner.is c.child_place-i.ensures c.child-place.ensures c.read_node.ensures.same.pages c.in_ok-child-in-Inner.ensures.ok grows c.in_ok-write_node-in-Inner.ensures.ok c.in_ok-at-in-Some.ensures.ok c.in_ok-at-in-Some.ensures.offset

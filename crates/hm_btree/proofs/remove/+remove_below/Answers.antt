@@ -61,14 +61,14 @@ pub rejoin-requires-clause-told : goal.rejoin-requires-clause-told
 rejoin-requires-clause-told g t c =
     let key = key_of c.args.at.now in
     shrunk_told key c.in-Inner.inner c.child_place-i.result c.child-place.result c.in_ok-child-in-Inner.child c.child_place-i.ensures c.child-place.ensures
-    c.args.node.now (g.S.Pages.pages c.args.space.now) (g.S.Pages.pages c.read_node.new.pages) c.in-Inner.is c.read_node.ensures.same.pages (removed key) 0 (g.S.Pages.pages c.remove_below.new.space) c.remove_below.new.node
+    c.args.node.now (g.S.Pages.pages c.args.space.now) (g.S.Pages.pages c.read_node.new.pages) c.in-Inner.is c.read_node.ensures.same.pages (removed key) (g.S.Pages.pages c.remove_below.new.space) c.remove_below.new.node
     (removed_local key) c.requires.told c.in_ok-child-in-Inner.ensures.ok c.in_ok-remove_below-in-Inner.ensures.ok c.in_ok-remove_below-in-Inner.ensures.told
 
 pub returns-then-is_small-clause-ok : goal.returns-then-is_small-clause-ok
 returns-then-is_small-clause-ok g t c =
     let key = key_of c.args.at.now in
     on_ok_weaker c.rejoin.result
-    (λ joined. small_shrinks (removed key) key 0 (removed_local key) c.in-Inner.inner c.rejoin.new.inner c.child_place-i.result c.child-place.result c.in_ok-child-in-Inner.child c.remove_below.new.node c.child_place-i.ensures c.child-place.ensures
+    (λ joined. small_shrinks (removed key) key (removed_local key) c.in-Inner.inner c.rejoin.new.inner c.child_place-i.result c.child-place.result c.in_ok-child-in-Inner.child c.remove_below.new.node c.child_place-i.ensures c.child-place.ensures
     c.args.node.now (g.S.Pages.pages c.args.space.now) (g.S.Pages.pages c.read_node.new.pages) (g.S.Pages.pages c.remove_below.new.space) (g.S.Pages.pages c.rejoin.new.space) c.in-Inner.is c.read_node.ensures.same.pages
     c.in_ok-child-in-Inner.ensures.ok c.in_ok-remove_below-in-Inner.ensures.ok c.in_ok-remove_below-in-Inner.ensures.told (c.is_small.ensures.0 c.if-is_small.true) joined) c.rejoin.ensures.ok
 
@@ -105,7 +105,7 @@ returns-after-has_element-clause-ok g t c =
 pub returns-in_ok-write_node-in-Inner-clause-ok : goal.returns-in_ok-write_node-in-Inner-clause-ok
 returns-in_ok-write_node-in-Inner-clause-ok g t c =
     let key = key_of c.args.at.now in
-    large_shrinks (removed key) key 0 (removed_local key) c.in-Inner.inner c.set_mirror.new.inner c.child_place-i.result c.child-place.result c.in_ok-child-in-Inner.child c.remove_below.new.node c.child_place-i.ensures c.child-place.ensures
+    large_shrinks (removed key) key (removed_local key) c.in-Inner.inner c.set_mirror.new.inner c.child_place-i.result c.child-place.result c.in_ok-child-in-Inner.child c.remove_below.new.node c.child_place-i.ensures c.child-place.ensures
     c.mirror.result c.args.node.now (g.S.Pages.pages c.args.space.now) (g.S.Pages.pages c.read_node.new.pages) (g.S.Pages.pages c.remove_below.new.space) (g.S.Pages.pages c.write_node.new.space) c.in-Inner.is c.read_node.ensures.same.pages
     c.in_ok-child-in-Inner.ensures.ok c.in_ok-remove_below-in-Inner.ensures.ok c.in_ok-remove_below-in-Inner.ensures.told (not_small c.is_small.result (count_of c.remove_below.new.node) c.is_small.ensures c.if-is_small.false) c.in_ok-write_node-in-Inner.ensures.ok
     c.set_mirror.ensures.level c.set_mirror.ensures.mirror c.mirror.ensures c.set_mirror.ensures.items c.set_mirror.ensures.right

@@ -10,6 +10,7 @@ use Rattle.hm_key.specs.declared.room.TheConstants.{INSERT_ROOM}
 use Rattle.hm_node.specs.Node.{level_of}
 use Rattle.hm_search.specs.Place.{SpellsHere}
 use Rattle.hm_search.specs.declared.subtree.Subtree.{Subtree}
+use Rattle.hm_btree.specs.Marking.{Writes}
 use Rattle.hm_btree.specs.Grow.{Grows}
 use Rattle.hm_btree.specs.declared.space.TheConstants.{NODE_BYTES}
 use Rattle.hm_btree.specs.declared.upper.Upper.{Upper}
@@ -37,9 +38,9 @@ pub returns-in-None-clause-ok : goal.returns-in-None-clause-ok
 returns-in-None-clause-ok g c =
     let e = c.args.element.now in
     let key = key_of e.base in
-    let grows = subst (λ (o : Option Upper). Grows (inserted e) key (last_id e) (λ x. IsNone x) (IsElement e × IsOffset e.payload) (g.S.Pages.pages c.read_node.new.pages) (g.S.Pages.pages c.insert_into.new.space) c.in_ok-node.node c.insert_into.new.node o)
+    let grows = subst (λ (o : Option Upper). Grows (inserted e) key (Writes (last_id e)) (λ x. IsNone x) (IsElement e × IsOffset e.payload) (g.S.Pages.pages c.read_node.new.pages) (g.S.Pages.pages c.insert_into.new.space) c.in_ok-node.node c.insert_into.new.node o)
     c.in-None.is c.in_ok-upper.ensures.ok in
-    root_works (inserted e) key (last_id e) c.args.root (λ o. IsNone o) (IsElement e × IsOffset e.payload)
+    root_works (inserted e) key (Writes (last_id e)) c.args.root (λ o. IsNone o) (IsElement e × IsOffset e.payload)
     (g.S.Pages.pages c.args.space.now) (g.S.Pages.pages c.read_node.new.pages) (g.S.Pages.pages c.insert_into.new.space) (g.S.Pages.pages c.write_node.new.space) c.in_ok-node.node c.insert_into.new.node
     (λ old tree needs more. element_inside c.args.root e more.0 c.known_range.ensures) c.read_node.ensures.same.pages
     (subst (λ (s : Subtree). IfSome (g.S.Pages.pages c.args.space.now) (λ map. SpellsHere s (page_in (map s.at)) c.in_ok-node.node)) c.root-place.ensures c.in_ok-node.ensures.ok) grows c.in_ok-write_node.ensures.ok
@@ -63,9 +64,9 @@ pub returns-in-Some-clause-ok : goal.returns-in-Some-clause-ok
 returns-in-Some-clause-ok g c =
     let e = c.args.element.now in
     let key = key_of e.base in
-    let grows = subst (λ (o : Option Upper). Grows (inserted e) key (last_id e) (λ x. IsNone x) (IsElement e × IsOffset e.payload) (g.S.Pages.pages c.read_node.new.pages) (g.S.Pages.pages c.insert_into.new.space) c.in_ok-node.node c.insert_into.new.node o)
+    let grows = subst (λ (o : Option Upper). Grows (inserted e) key (Writes (last_id e)) (λ x. IsNone x) (IsElement e × IsOffset e.payload) (g.S.Pages.pages c.read_node.new.pages) (g.S.Pages.pages c.insert_into.new.space) c.in_ok-node.node c.insert_into.new.node o)
     c.in-Some.is c.in_ok-upper.ensures.ok in
-    top_result (inserted e) key (last_id e) c.args.root (λ o. IsNone o) (IsElement e × IsOffset e.payload)
+    top_result (inserted e) key (Writes (last_id e)) c.args.root (λ o. IsNone o) (IsElement e × IsOffset e.payload)
     (g.S.Pages.pages c.args.space.now) (g.S.Pages.pages c.read_node.new.pages) (g.S.Pages.pages c.insert_into.new.space) (g.S.Pages.pages c.write_node.new.space) (g.S.Pages.pages c.add_root.new.space) c.in_ok-node.node c.insert_into.new.node c.in-Some.upper
     (λ old tree needs more. element_inside c.args.root e more.0 c.known_range.ensures) c.read_node.ensures.same.pages
     (subst (λ (s : Subtree). IfSome (g.S.Pages.pages c.args.space.now) (λ map. SpellsHere s (page_in (map s.at)) c.in_ok-node.node)) c.root-place.ensures c.in_ok-node.ensures.ok) grows c.in_ok-write_node.ensures.ok

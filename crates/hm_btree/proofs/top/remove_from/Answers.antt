@@ -1,6 +1,7 @@
 use Rattle.std.proofs.Common.{◌∙◌}
 use Rattle.hm_key.specs.Elements.{removed}
 use Rattle.hm_key.specs.Key.{key_of}
+use Rattle.hm_btree.specs.Marking.{TakesOut}
 use Rattle.hm_btree.proofs.SpendLemmas.{spends_nothing, spends_both}
 use Rattle.hm_btree.proofs.UnrootLemmas.{holds_lowered, low_there, written_result, dropped_result}
 use Rattle.hm_btree.proofs.top.remove_from.Goals as goal
@@ -28,7 +29,7 @@ returns-in_err-remove_below-clause-space g c =
 pub drop_node-requires : goal.drop_node-requires
 drop_node-requires g c =
     low_there (key_of c.args.at.now) c.args.root c.in_ok-root.root c.in_ok-root.node (g.S.Pages.pages c.args.space.now) (g.S.Pages.pages c.read_node.new.pages) (g.S.Pages.pages c.lowest.new.space) c.read_node.ensures.same.pages c.in_ok-root.ensures.ok c.in_ok-root.ensures.told
-    (removed (key_of c.args.at.now)) 0 (g.S.Pages.pages c.remove_below.new.space) c.remove_below.new.node c.in_ok-remove_below.ensures.ok c.in_ok-remove_below.ensures.told c.requires.there
+    (removed (key_of c.args.at.now)) TakesOut (g.S.Pages.pages c.remove_below.new.space) c.remove_below.new.node c.in_ok-remove_below.ensures.ok c.in_ok-remove_below.ensures.told c.requires.there
 
 pub returns-in_err-drop_node-in-Some-clause-space : goal.returns-in_err-drop_node-in-Some-clause-space
 returns-in_err-drop_node-in-Some-clause-space g c =
@@ -48,7 +49,7 @@ returns-in_err-write_node-in-None-clause-space g c =
 pub returns-in_ok-drop_node-in-Some-clause-ok : goal.returns-in_ok-drop_node-in-Some-clause-ok
 returns-in_ok-drop_node-in-Some-clause-ok g c =
     dropped_result (key_of c.args.at.now) c.args.root c.in_ok-root.root c.in_ok-root.node (g.S.Pages.pages c.args.space.now) (g.S.Pages.pages c.read_node.new.pages) (g.S.Pages.pages c.lowest.new.space) c.read_node.ensures.same.pages c.in_ok-root.ensures.ok c.in_ok-root.ensures.told
-    (removed (key_of c.args.at.now)) 0 (g.S.Pages.pages c.remove_below.new.space) c.remove_below.new.node c.in_ok-remove_below.ensures.ok c.in_ok-remove_below.ensures.told (g.S.Pages.pages c.drop_node.new.self) c.in-Some.below c.in-Some.ensures.one c.in_ok-drop_node-in-Some.ensures.ok
+    (removed (key_of c.args.at.now)) TakesOut (g.S.Pages.pages c.remove_below.new.space) c.remove_below.new.node c.in_ok-remove_below.ensures.ok c.in_ok-remove_below.ensures.told (g.S.Pages.pages c.drop_node.new.self) c.in-Some.below c.in-Some.ensures.one c.in_ok-drop_node-in-Some.ensures.ok
 
 pub returns-in_ok-drop_node-in-Some-clause-extents : goal.returns-in_ok-drop_node-in-Some-clause-extents
 returns-in_ok-drop_node-in-Some-clause-extents g c =
@@ -65,7 +66,7 @@ returns-in_ok-drop_node-in-Some-clause-space g c =
 pub returns-in_ok-write_node-in-None-clause-ok : goal.returns-in_ok-write_node-in-None-clause-ok
 returns-in_ok-write_node-in-None-clause-ok g c =
     written_result (key_of c.args.at.now) c.args.root c.in_ok-root.root c.in_ok-root.node (g.S.Pages.pages c.args.space.now) (g.S.Pages.pages c.read_node.new.pages) (g.S.Pages.pages c.lowest.new.space) c.read_node.ensures.same.pages c.in_ok-root.ensures.ok c.in_ok-root.ensures.told
-    (removed (key_of c.args.at.now)) 0 (g.S.Pages.pages c.remove_below.new.space) c.remove_below.new.node c.in_ok-remove_below.ensures.ok c.in_ok-remove_below.ensures.told (g.S.Pages.pages c.write_node.new.space) c.in_ok-write_node-in-None.ensures.ok
+    (removed (key_of c.args.at.now)) TakesOut (g.S.Pages.pages c.remove_below.new.space) c.remove_below.new.node c.in_ok-remove_below.ensures.ok c.in_ok-remove_below.ensures.told (g.S.Pages.pages c.write_node.new.space) c.in_ok-write_node-in-None.ensures.ok
 
 pub returns-in_ok-write_node-in-None-clause-extents : goal.returns-in_ok-write_node-in-None-clause-extents
 returns-in_ok-write_node-in-None-clause-extents g c =

@@ -7,8 +7,9 @@ use Rattle.hm_key.specs.Element.{IsElement}
 use Rattle.hm_key.specs.Elements.{element_at, inserted, last_id}
 use Rattle.hm_key.specs.Extents.{Extent}
 use Rattle.hm_key.specs.Key.{key_of}
+use Rattle.hm_btree.specs.Marking.{Writes}
 use Rattle.hm_btree.specs.Tree.{HasTreeCause}
-use Rattle.hm_btree.proofs.StoreLemmas.{store_changed, store_cause, told_kept}
+use Rattle.hm_btree.proofs.StoreLemmas.{old_marks, store_changed, store_cause, told_kept}
 use Rattle.hm_btree.proofs.store.BTreeElementStore.insert.Goals as goal
 
 pub returns-in_err-root-clause-cause : goal.returns-in_err-root-clause-cause
@@ -27,7 +28,7 @@ pub invariant_of-self-2 : goal.invariant_of-self-2
 invariant_of-self-2 g c =
     let e = c.args.e.now in
     let key = key_of e.base in
-    let changed = store_changed (inserted e) key (last_id e) (λ es. IsNone (element_at key es)) (IsElement e × IsOffset e.payload) c.args.self.now.intact
+    let changed = store_changed (inserted e) key (Writes (last_id e)) (λ es. IsNone (element_at key es)) (IsElement e × IsOffset e.payload) c.args.self.now.intact
     (g.S.Pages.pages c.args.self.now.space) (g.S.Pages.pages c.insert_from.new.space) c.args.self.now.root c.in_ok-root.root c.in_ok-require_intact.ensures.ok c.args.self.now.sound
     c.in_ok-root.ensures.told c.requires.new (c.requires.element, c.known_offset.ensures) c.in_ok-root.ensures.ok in
     record { sound = changed.sound }
@@ -36,16 +37,16 @@ pub returns-clause-ok : goal.returns-clause-ok
 returns-clause-ok g c =
     let e = c.args.e.now in
     let key = key_of e.base in
-    let changed = store_changed (inserted e) key (last_id e) (λ es. IsNone (element_at key es)) (IsElement e × IsOffset e.payload) c.args.self.now.intact
+    let changed = store_changed (inserted e) key (Writes (last_id e)) (λ es. IsNone (element_at key es)) (IsElement e × IsOffset e.payload) c.args.self.now.intact
     (g.S.Pages.pages c.args.self.now.space) (g.S.Pages.pages c.insert_from.new.space) c.args.self.now.root c.in_ok-root.root c.in_ok-require_intact.ensures.ok c.args.self.now.sound
     c.in_ok-root.ensures.told c.requires.new (c.requires.element, c.known_offset.ensures) c.in_ok-root.ensures.ok in
-    record { elements = changed.elements; mark = changed.mark; extents = c.in_ok-root.ensures.extents }
+    record { elements = changed.elements; mark = old_marks changed; extents = c.in_ok-root.ensures.extents }
 
 pub returns-clause-keeps : goal.returns-clause-keeps
 returns-clause-keeps g c =
     let e = c.args.e.now in
     let key = key_of e.base in
-    let changed = store_changed (inserted e) key (last_id e) (λ es. IsNone (element_at key es)) (IsElement e × IsOffset e.payload) c.args.self.now.intact
+    let changed = store_changed (inserted e) key (Writes (last_id e)) (λ es. IsNone (element_at key es)) (IsElement e × IsOffset e.payload) c.args.self.now.intact
     (g.S.Pages.pages c.args.self.now.space) (g.S.Pages.pages c.insert_from.new.space) c.args.self.now.root c.in_ok-root.root c.in_ok-require_intact.ensures.ok c.args.self.now.sound
     c.in_ok-root.ensures.told c.requires.new (c.requires.element, c.known_offset.ensures) c.in_ok-root.ensures.ok in
     record {

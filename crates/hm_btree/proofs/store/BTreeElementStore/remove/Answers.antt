@@ -6,8 +6,9 @@ use Rattle.hm_fields.specs.Pages.{HasPageCause}
 use Rattle.hm_key.specs.Elements.{element_at, removed}
 use Rattle.hm_key.specs.Extents.{Extent}
 use Rattle.hm_key.specs.Key.{key_of}
+use Rattle.hm_btree.specs.Marking.{TakesOut}
 use Rattle.hm_btree.proofs.IntactLemmas.{intact_tree, intact_elements, cause_in_tree}
-use Rattle.hm_btree.proofs.StoreLemmas.{store_changed, told_kept}
+use Rattle.hm_btree.proofs.StoreLemmas.{old_marks, store_changed, told_kept}
 use Rattle.hm_btree.proofs.store.BTreeElementStore.remove.Goals as goal
 
 pub remove_from-requires-clause-tree : goal.remove_from-requires-clause-tree
@@ -30,7 +31,7 @@ returns-in_err-root-clause-cause g c =
 pub invariant_of-self-2 : goal.invariant_of-self-2
 invariant_of-self-2 g c =
     let key = key_of c.args.at.now in
-    let changed = store_changed (removed key) key 0 (λ es. IsSome (element_at key es)) ⊤ c.args.self.now.intact
+    let changed = store_changed (removed key) key TakesOut (λ es. IsSome (element_at key es)) ⊤ c.args.self.now.intact
     (g.S.Pages.pages c.args.self.now.space) (g.S.Pages.pages c.remove_from.new.space) c.args.self.now.root c.in_ok-root.root c.in_ok-require_intact.ensures.ok c.args.self.now.sound
     c.in_ok-root.ensures.told c.requires.there tt c.in_ok-root.ensures.ok in
     record { sound = changed.sound }
@@ -38,15 +39,15 @@ invariant_of-self-2 g c =
 pub returns-clause-ok : goal.returns-clause-ok
 returns-clause-ok g c =
     let key = key_of c.args.at.now in
-    let changed = store_changed (removed key) key 0 (λ es. IsSome (element_at key es)) ⊤ c.args.self.now.intact
+    let changed = store_changed (removed key) key TakesOut (λ es. IsSome (element_at key es)) ⊤ c.args.self.now.intact
     (g.S.Pages.pages c.args.self.now.space) (g.S.Pages.pages c.remove_from.new.space) c.args.self.now.root c.in_ok-root.root c.in_ok-require_intact.ensures.ok c.args.self.now.sound
     c.in_ok-root.ensures.told c.requires.there tt c.in_ok-root.ensures.ok in
-    record { elements = changed.elements; mark = changed.mark; extents = c.in_ok-root.ensures.extents }
+    record { elements = changed.elements; mark = old_marks changed; extents = c.in_ok-root.ensures.extents }
 
 pub returns-clause-keeps : goal.returns-clause-keeps
 returns-clause-keeps g c =
     let key = key_of c.args.at.now in
-    let changed = store_changed (removed key) key 0 (λ es. IsSome (element_at key es)) ⊤ c.args.self.now.intact
+    let changed = store_changed (removed key) key TakesOut (λ es. IsSome (element_at key es)) ⊤ c.args.self.now.intact
     (g.S.Pages.pages c.args.self.now.space) (g.S.Pages.pages c.remove_from.new.space) c.args.self.now.root c.in_ok-root.root c.in_ok-require_intact.ensures.ok c.args.self.now.sound
     c.in_ok-root.ensures.told c.requires.there tt c.in_ok-root.ensures.ok in
     record {

@@ -5,10 +5,11 @@ use Rattle.std.proofs.lemmas.Result.{err_from_is_err_and}
 use Rattle.hm_types.specs.declared.fault.Fault.{Fault}
 use Rattle.hm_key.specs.Elements.{element_at}
 use Rattle.hm_key.specs.Key.{key_of}
-use Rattle.hm_btree.specs.Change.{id_of, MayChange, with_change}
+use Rattle.hm_btree.specs.Marking.{Writes}
+use Rattle.hm_btree.specs.Change.{MayChange, with_change}
 use Rattle.hm_btree.specs.Tree.{HasTreeCause}
 use Rattle.hm_btree.specs.declared.change.Change.TheVariants.{Close}
-use Rattle.hm_btree.proofs.StoreLemmas.{store_changed, store_cause, told_kept, room_kept}
+use Rattle.hm_btree.proofs.StoreLemmas.{old_marks, store_changed, store_cause, told_kept, room_kept}
 use Rattle.hm_btree.proofs.store.BTreeElementStore.set_delete.Goals as goal
 
 pub returns-in_err-change_element-clause-space : goal.returns-in_err-change_element-clause-space
@@ -30,7 +31,7 @@ returns-in_err-change_element-clause-cause g c =
 pub invariant_of-self-2 : goal.invariant_of-self-2
 invariant_of-self-2 g c =
     let key = key_of c.args.at.now in
-    let changed = store_changed (with_change key (Close c.args.delete)) key (id_of (Close c.args.delete)) (λ es. IsSome (element_at key es)) (MayChange key (Close c.args.delete)) c.args.self.now.intact
+    let changed = store_changed (with_change key (Close c.args.delete)) key (Writes c.args.delete) (λ es. IsSome (element_at key es)) (MayChange key (Close c.args.delete)) c.args.self.now.intact
     (g.S.Pages.pages c.args.self.now.space) (g.S.Pages.pages c.change_element.new.space) c.args.self.now.root c.args.self.now.root c.in_ok-require_intact.ensures.ok c.args.self.now.sound
     c.in_ok-change_element.ensures.told c.requires.there c.requires.later c.in_ok-change_element.ensures.ok in
     record { sound = changed.sound }
@@ -38,16 +39,16 @@ invariant_of-self-2 g c =
 pub returns-clause-ok : goal.returns-clause-ok
 returns-clause-ok g c =
     let key = key_of c.args.at.now in
-    let changed = store_changed (with_change key (Close c.args.delete)) key (id_of (Close c.args.delete)) (λ es. IsSome (element_at key es)) (MayChange key (Close c.args.delete)) c.args.self.now.intact
+    let changed = store_changed (with_change key (Close c.args.delete)) key (Writes c.args.delete) (λ es. IsSome (element_at key es)) (MayChange key (Close c.args.delete)) c.args.self.now.intact
     (g.S.Pages.pages c.args.self.now.space) (g.S.Pages.pages c.change_element.new.space) c.args.self.now.root c.args.self.now.root c.in_ok-require_intact.ensures.ok c.args.self.now.sound
     c.in_ok-change_element.ensures.told c.requires.there c.requires.later c.in_ok-change_element.ensures.ok in
     let same = g.met.S.NodeSpace.rests c.args.self.now.space c.change_element.new.space c.change_element.ensures.rest in
-    record { elements = changed.elements; mark = changed.mark; extents = same.2 }
+    record { elements = changed.elements; mark = old_marks changed; extents = same.2 }
 
 pub returns-clause-keeps : goal.returns-clause-keeps
 returns-clause-keeps g c =
     let key = key_of c.args.at.now in
-    let changed = store_changed (with_change key (Close c.args.delete)) key (id_of (Close c.args.delete)) (λ es. IsSome (element_at key es)) (MayChange key (Close c.args.delete)) c.args.self.now.intact
+    let changed = store_changed (with_change key (Close c.args.delete)) key (Writes c.args.delete) (λ es. IsSome (element_at key es)) (MayChange key (Close c.args.delete)) c.args.self.now.intact
     (g.S.Pages.pages c.args.self.now.space) (g.S.Pages.pages c.change_element.new.space) c.args.self.now.root c.args.self.now.root c.in_ok-require_intact.ensures.ok c.args.self.now.sound
     c.in_ok-change_element.ensures.told c.requires.there c.requires.later c.in_ok-change_element.ensures.ok in
     let same = g.met.S.NodeSpace.rests c.args.self.now.space c.change_element.new.space c.change_element.ensures.rest in
