@@ -173,9 +173,9 @@ module _ (key : Key) (height : ℕ) (old mid : PageMap) (olds : ℕ → Bool) (w
     marks : MarksWithin TakesOut key left right (both_sides at (λ _. a.mirror) (λ _. b.mirror)) (both_sides now (λ _. low) (λ _. high))
     marks = elim side_of [
       | inl up ↦ subst (λ (t : Bool). MarksWithin TakesOut key left right (both_sides at (λ _. a.mirror) (λ _. b.mirror)) (both_sides now (λ _. low_of t a.mirror b.mirror) (λ _. high_of t a.mirror b.mirror))) (sym up.1)
-        (marks_gain_low at left right key a.mirror b.mirror beside.from beside.to now up.0 (moved_up up.1))
+          (marks_gain_low at left right key a.mirror b.mirror beside.from beside.to now up.0 (moved_up up.1))
       | inr down ↦ subst (λ (t : Bool). MarksWithin TakesOut key left right (both_sides at (λ _. a.mirror) (λ _. b.mirror)) (both_sides now (λ _. low_of t a.mirror b.mirror) (λ _. high_of t a.mirror b.mirror))) (sym down.1)
-        (marks_gain_high at left right key a.mirror b.mirror beside.from beside.to now down.0 (moved_down down.1))
+          (marks_gain_high at left right key a.mirror b.mirror beside.from beside.to now down.0 (moved_down down.1))
     ]
 
     both : lo ++ e ∷ hi ≡ all

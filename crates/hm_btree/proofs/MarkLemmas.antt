@@ -206,8 +206,8 @@ module _ (at left right : Base) (key : Key) (a b : ℕ) (from : IsBefore (key_of
         by_test : (k : Key) (t : Bool) → is_lt (key_cmp k (key_of now)) ≡ t → two_marks key ≡ a → IsBefore key (key_of now)
             → ((if t then max a b else b) ≡ two_marks k) ⊎ AllTook (λ mark. (mark ≡ two_marks key) ⊎ (mark ≡ two_marks (key_of at))) (max (two_marks key) (two_marks (key_of at))) k key two_marks (both_sides now (λ _. max a b) (λ _. b))
         by_test k true is here below = inr (λ other within. (
-            one_of (two_marks key) (two_marks (key_of at)) here in_high other,
-            side_low now (λ _. max a b) (λ _. b) other (between_before k key (key_of now) other (before_is k (key_of now) is) below within) ∙ omega (arith, here, in_high),
+          one_of (two_marks key) (two_marks (key_of at)) here in_high other,
+          side_low now (λ _. max a b) (λ _. b) other (between_before k key (key_of now) other (before_is k (key_of now) is) below within) ∙ omega (arith, here, in_high),
         ))
         by_test k false is here below = inl (sym (side_high at (λ _. a) (λ _. b) k (from_trans (key_of at) (key_of now) k up (from_is k (key_of now) is))))
 
@@ -221,6 +221,6 @@ module _ (at left right : Base) (key : Key) (a b : ℕ) (from : IsBefore (key_of
             → ((if t then a else max a b) ≡ two_marks k) ⊎ AllTook (λ mark. (mark ≡ two_marks key) ⊎ (mark ≡ two_marks (key_of left))) (max (two_marks key) (two_marks (key_of left))) k key two_marks (both_sides now (λ _. a) (λ _. max a b))
         by_test k true is here above = inl (sym (side_low at (λ _. a) (λ _. b) k (before_before k (key_of now) (key_of at) (before_is k (key_of now) is) down)))
         by_test k false is here above = inr (λ other within. (
-            turned (one_of (two_marks (key_of left)) (two_marks key) in_low here other),
-            side_high now (λ _. a) (λ _. max a b) other (between_from k key (key_of now) other (from_is k (key_of now) is) above within) ∙ omega (arith, here, in_low),
+          turned (one_of (two_marks (key_of left)) (two_marks key) in_low here other),
+          side_high now (λ _. a) (λ _. max a b) other (between_from k key (key_of now) other (from_is k (key_of now) is) above within) ∙ omega (arith, here, in_low),
         ))

@@ -9,11 +9,10 @@ use Rattle.hm_types.specs.declared.fault.Fault.TheVariants.{Media, Damaged, NoMe
 use Rattle.hm_fields.specs.Pages.{PageMap}
 use Rattle.hm_key.specs.Stores.{Marks as OldMarks, IsUndamaged, HasStoreCause}
 use Rattle.hm_key.specs.declared.element.Element.{Element}
-use Rattle.hm_search.specs.Props.{IsSoundTree-prop, IsWhole-prop}
 use Rattle.hm_search.specs.Tree.{IsSoundTree, elements_of, mark_of}
 use Rattle.hm_btree.specs.Marking.{Marking, Writes, TakesOut, Leaves, MarksBy}
-use Rattle.hm_btree.specs.Space.{IsSpot}
-use Rattle.hm_btree.specs.Tree.{ChangesTree, IsTreeSpace, HasTreeCause, IsIntact, told_elements, told_mark}
+use Rattle.hm_btree.specs.Tree.{ChangesTree, HasTreeCause, IsIntact, told_elements, told_mark}
+use Rattle.hm_btree.proofs.IntactLemmas.{intact_tree}
 use Rattle.hm_btree.proofs.RaiseLemmas.{marks_never_fall, join_never_falls, stay_never_falls}
 
 -- what a call that changes the tree leaves
@@ -22,13 +21,6 @@ pub record StoreChanged (f : List Element → List Element) (key : Key) (marking
   pub mark : IfSome (told_elements intact old root) (λ _. MarksBy marking key (told_mark old root) (told_mark new root'))
   pub sound : ∥ IsIntact true new root' ∥₁
 
-spot_prop : (at : ℕ) → IsProp (IsSpot at)
-spot_prop at = hlevel props
-
--- that pages are a tree has one proof at most
-tree_prop : (pages : PageMap) (root : ℕ) → IsProp (IsTreeSpace pages root)
-tree_prop pages root = hlevel (IsSoundTree-prop, IsWhole-prop, spot_prop, props)
-
 pub store_changed : (f : List Element → List Element) (key : Key) (marking : Marking) (Needs : List Element → Type 0) (More : Type 0) (intact : Bool) (old new : Option PageMap) (root root' : ℕ)
     → IsTrue intact → ∥ IsIntact intact old root ∥₁ → is_some new ≡ is_some old → IfSome (told_elements intact old root) Needs → More → ChangesTree f key marking Needs More old new root root' → StoreChanged f key marking intact old new root root'
 store_changed f key marking Needs More false old new root root' is sound told needs more changes = absurd (true≢false (sym is))
@@ -36,7 +28,7 @@ store_changed f key marking Needs More true None None root root' is sound told n
 store_changed f key marking Needs More true None (Some new) root root' is sound told needs more changes = absurd (true≢false told)
 store_changed f key marking Needs More true (Some old) None root root' is sound told needs more changes = absurd (true≢false (sym told))
 store_changed f key marking Needs More true (Some old) (Some new) root root' is sound told needs more changes =
-    let change = changes (∥∥₁_elim sound (tree_prop old root) (λ tree. tree)) needs more in
+    let change = changes (intact_tree true (Some old) root refl sound) needs more in
     record { elements = ap Some change.elements; mark = change.mark; sound = ∣ change.tree ∣₁ }
 
 undamaged_prop : (fault : Fault) → IsProp (IsUndamaged fault)
