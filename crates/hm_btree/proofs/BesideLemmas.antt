@@ -25,7 +25,7 @@ use Rattle.hm_search.proofs.ListLemmas.{each_so}
 use Rattle.hm_search.proofs.OrderLemmas.{from_not}
 use Rattle.hm_search.proofs.ReachLemmas.{is_under, or_left, or_right, fails, not_below_itself}
 use Rattle.hm_btree.specs.Marking.{Marking, TakesOut, MarksWithin}
-use Rattle.hm_btree.specs.Marks.{MarksJoin}
+use Rattle.hm_key.specs.Marks.{MarksJoin}
 use Rattle.hm_btree.specs.Below.{Replaces, elements_under, mark_under, AreStored, AreRising, IsLocal, Changed}
 use Rattle.hm_btree.specs.Shrink.{loose, between, below_both, Beside, LeavesHave}
 use Rattle.hm_btree.proofs.ChangeLemmas.{mark_cons}

@@ -3,7 +3,8 @@ use Rattle.std.proofs.Common.{◌≡◌, Bool, true, false, true≢false, ℕ, L
 use Rattle.std.specs.Prelude.{Option, IsSome, IsTrue, is_some, IfSome, ◌||◌}
 use Rattle.std.specs.List.Sorted.{IsStrictlySortedBy}
 use Rattle.std.proofs.lemmas.List.Elements.{All-from_recursion}
-use Rattle.hm_fields.specs.Pages.{PageMap, page_in, BothTell}
+use Rattle.hm_fields.specs.Pages.{PageMap, page_in}
+use Rattle.hm_types.specs.Told.{BothTell}
 use Rattle.hm_key.specs.Elements.{element_key, element_cmp}
 use Rattle.hm_node.specs.Leaf.{IsPlaced, IsUpTo}
 use Rattle.hm_node.specs.Node.{node_in, Spells}

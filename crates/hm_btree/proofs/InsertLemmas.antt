@@ -4,10 +4,11 @@ use Rattle.std.specs.Prelude.{if◌then◌else◌, slice_index_or}
 use Rattle.hm_key.specs.Key.{key_of, IsBoundary}
 use Rattle.hm_key.specs.Elements.{element_key, inserted, last_id}
 use Rattle.hm_key.specs.Places.{leading}
-use Rattle.hm_key.specs.Space.{Spends, in_zone}
+use Rattle.hm_types.specs.Space.{Spends, in_zone}
 use Rattle.hm_key.specs.declared.base.Base.{Base}
 use Rattle.hm_key.specs.declared.element.Element.{Element}
-use Rattle.hm_key.specs.declared.room.TheConstants.{TREE_ZONE, INSERT_ROOM}
+use Rattle.hm_types.specs.declared.zone.TheConstants.{TREE_ZONE}
+use Rattle.hm_types.specs.declared.space.TheConstants.{INSERT_ROOM}
 use Rattle.hm_key.proofs.PlaceLemmas.{inserted_here}
 use Rattle.hm_node.specs.Node.{level_of, IsNode}
 use Rattle.hm_node.specs.declared.inner.Child.{Child}

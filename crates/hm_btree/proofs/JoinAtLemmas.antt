@@ -1,7 +1,8 @@
 -- Two neighbours of an inner node are joined and written.
 use Rattle.std.proofs.Common.{◌≡◌, Bool, true, false, ℕ, zero, suc, ◌+◌, ◌<◌, List, [], ◌∷◌, ◌++◌, length, take, drop, remove, refl, sym, ap, subst, ◌∙◌, arith, max, Some, None}
 use Rattle.std.specs.Prelude.{Option, IsSome, IfSome, slice_get, slice_set, slice_index_or, ◌==◌, if◌then◌else◌}
-use Rattle.hm_fields.specs.Pages.{PageMap, BothTell}
+use Rattle.hm_fields.specs.Pages.{PageMap}
+use Rattle.hm_types.specs.Told.{BothTell}
 use Rattle.hm_node.specs.declared.inner.Child.{Child}
 use Rattle.hm_node.specs.declared.inner.Inner.{Inner}
 use Rattle.hm_node.specs.declared.node.Node.{Node}

@@ -25,7 +25,6 @@ pub mod OrderLemmas
 pub mod PairJoinedLemmas
 pub mod PairLemmas
 pub mod PutLemmas
-pub mod RaiseLemmas
 pub mod ReadingLemmas
 pub mod RejoinLemmas
 pub mod RemoveLemmas

@@ -1,11 +1,10 @@
 -- The neighbour of a child that lost places is as it was, and is read.
 use Rattle.std.proofs.Common.{◌≡◌, ℕ, suc, ◌+◌, ◌-◌, ◌<◌, ◌≤◌, inl, inr, List, ◌∷◌, ◌++◌, length, take, drop, sym, ap, subst, ◌∙◌, arith, Some, None, Err}
 use Rattle.std.specs.Prelude.{Option, IsSome, IfSome, slice_get}
-use Rattle.hm_types.specs.Faults.{HasFaultCause}
+use Rattle.hm_types.specs.Faults.{HasFaultCause, HasStoreCause, IsUndamaged}
 use Rattle.hm_types.specs.declared.fault.Fault.{Fault}
 use Rattle.hm_types.specs.declared.fault.Fault.TheVariants.{Media, Damaged, NoMemory}
-use Rattle.hm_fields.specs.Pages.{PageMap, page_in, HasPageCause, IsUndamaged as IsPageUndamaged}
-use Rattle.hm_key.specs.Stores.{IsUndamaged}
+use Rattle.hm_fields.specs.Pages.{PageMap, page_in}
 use Rattle.hm_key.specs.declared.base.Base.{Base}
 use Rattle.hm_node.specs.Node.{IsNode, level_of}
 use Rattle.hm_node.specs.declared.inner.Child.{Child}
@@ -105,13 +104,13 @@ level_below inner i s child at sound fits =
       by_place s {b = b} {c = c} same fits = (subst (λ (t : Subtree). Fits t child) same fits).level
 
 -- no damage is told of it
-page_undamaged : (fault : Fault) → IsUndamaged fault → IsPageUndamaged fault
+page_undamaged : (fault : Fault) → IsUndamaged fault → IsUndamaged fault
 page_undamaged (Media before after) is = tt
 page_undamaged (Damaged at kind) is = is
 page_undamaged NoMemory is = tt
 
 pub stored_cause : {T : Type 0} (told : Option PageMap) (s : Subtree) (old new : ℕ) (fault : Fault) → IfSome told (λ map. (height : ℕ) × IsStoredTree map height s) → HasFaultCause {T = Node} old new (Err fault) → IfSome told (λ map. TellsDamage s (page_in (map s.at)) fault)
-    → HasPageCause {T = T} told old new (Err fault)
+    → HasStoreCause {T = T} told old new (Err fault)
 stored_cause None s old new fault stored counted damage = record { counted = record { never_falls = counted.never_falls; caused = counted.caused }; undamaged = tt }
 stored_cause (Some map) s old new fault (height, stored) counted damage = record {
   counted = record { never_falls = counted.never_falls; caused = counted.caused };

@@ -7,7 +7,8 @@ use Rattle.hm_types.specs.Elements.{Key}
 use Rattle.hm_types.specs.declared.fault.Fault.{Fault}
 use Rattle.hm_fields.specs.Pages.{PageMap}
 use Rattle.hm_key.specs.Elements.{first_from}
-use Rattle.hm_key.specs.Stores.{IsQuiet, IsUndamaged, HasStoreCause}
+use Rattle.hm_key.specs.Marks.{IsQuiet}
+use Rattle.hm_types.specs.Faults.{IsUndamaged, HasStoreCause}
 use Rattle.hm_key.specs.declared.base.Base.{Base}
 use Rattle.hm_key.specs.declared.element.Element.{Element}
 use Rattle.hm_search.specs.Descent.{HasSearchCause}

@@ -2,11 +2,11 @@
 use Rattle.std.proofs.Common.{◌≡◌, Bool, true, false, true≢false, ◌||◌, ℕ, ◌≤◌, inl, inr, List, refl, sym, ap, subst, ◌∙◌, arith, nat_eq, eqb-true, eq-eqb, Some, None, Err}
 use Rattle.std.specs.Prelude.{Option, IsSome, IfSome}
 use Rattle.hm_types.specs.Elements.{Key}
-use Rattle.hm_types.specs.Faults.{HasFaultCause}
+use Rattle.hm_types.specs.Faults.{HasFaultCause, IsUndamaged}
 use Rattle.hm_types.specs.declared.fault.Fault.{Fault}
-use Rattle.hm_fields.specs.Pages.{PageMap, page_in, BothTell}
+use Rattle.hm_fields.specs.Pages.{PageMap, page_in}
+use Rattle.hm_types.specs.Told.{BothTell}
 use Rattle.hm_key.specs.Elements.{element_key, element_at}
-use Rattle.hm_key.specs.Stores.{IsUndamaged}
 use Rattle.hm_key.specs.declared.element.Element.{Element}
 use Rattle.hm_node.specs.Node.{node_in, Spells}
 use Rattle.hm_node.specs.declared.node.Node.{Node}

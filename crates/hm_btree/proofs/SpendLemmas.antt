@@ -1,6 +1,6 @@
 -- Calls that spend nothing.
 use Rattle.std.proofs.Common.{◌≡◌, ℕ, ap, arith}
-use Rattle.hm_key.specs.Space.{Spends, nothing}
+use Rattle.hm_types.specs.Space.{Spends, nothing}
 
 module _ {S : Type 0} (room_of : S → ℕ → ℕ) (free_of : S → ℕ) where
   -- the room and the free big-blocks stay

@@ -7,13 +7,14 @@ use Rattle.hm_types.specs.Elements.{Key}
 use Rattle.hm_types.specs.declared.fault.Fault.{Fault}
 use Rattle.hm_types.specs.declared.fault.Fault.TheVariants.{Media, Damaged, NoMemory}
 use Rattle.hm_fields.specs.Pages.{PageMap}
-use Rattle.hm_key.specs.Stores.{Marks as OldMarks, IsUndamaged, HasStoreCause}
+use Rattle.hm_key.specs.Marks.{Marks as OldMarks}
+use Rattle.hm_types.specs.Faults.{IsUndamaged, HasStoreCause}
 use Rattle.hm_key.specs.declared.element.Element.{Element}
 use Rattle.hm_search.specs.Tree.{IsSoundTree, elements_of, mark_of}
 use Rattle.hm_btree.specs.Marking.{Marking, Writes, TakesOut, Leaves, MarksBy}
 use Rattle.hm_btree.specs.Tree.{ChangesTree, HasTreeCause, IsIntact, told_elements, told_mark}
 use Rattle.hm_btree.proofs.IntactLemmas.{intact_tree}
-use Rattle.hm_btree.proofs.RaiseLemmas.{marks_never_fall, join_never_falls, stay_never_falls}
+use Rattle.hm_key.proofs.RaiseLemmas.{marks_never_fall, join_never_falls, stay_never_falls}
 
 -- what a call that changes the tree leaves
 pub record StoreChanged (f : List Element → List Element) (key : Key) (marking : Marking) (intact : Bool) (old new : Option PageMap) (root root' : ℕ) : Type 0 where

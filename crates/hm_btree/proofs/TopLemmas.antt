@@ -4,7 +4,8 @@ use Rattle.std.specs.Prelude.{Option, is_some, IfSome, IfOk, OnOk}
 use Rattle.std.proofs.lemmas.List.Elements.{All-from_recursion}
 use Rattle.hm_types.specs.Elements.{Key}
 use Rattle.hm_types.specs.declared.fault.Fault.{Fault}
-use Rattle.hm_fields.specs.Pages.{PageMap, page_in, BothTell}
+use Rattle.hm_fields.specs.Pages.{PageMap, page_in}
+use Rattle.hm_types.specs.Told.{BothTell}
 use Rattle.hm_key.specs.Elements.{element_at}
 use Rattle.hm_key.specs.declared.element.Element.{Element}
 use Rattle.hm_node.specs.Node.{node_in, level_of}

@@ -2,7 +2,8 @@
 use Rattle.std.proofs.Common.{◌≡◌, Bool, true, false, true≢false, ◌||◌, ℕ, zero, suc, List, [], ◌∷◌, refl, sym, ap, subst, ◌∙◌, arith, nat_eq, Some, None}
 use Rattle.std.specs.Prelude.{Option, IsSome, is_some, IfSome, ⊤}
 use Rattle.hm_types.specs.Elements.{Key}
-use Rattle.hm_fields.specs.Pages.{PageMap, BothTell}
+use Rattle.hm_fields.specs.Pages.{PageMap}
+use Rattle.hm_types.specs.Told.{BothTell}
 use Rattle.hm_key.specs.Elements.{element_at}
 use Rattle.hm_key.specs.declared.element.Element.{Element}
 use Rattle.hm_node.specs.declared.node.Node.{Node}

@@ -3,12 +3,11 @@ use Rattle.std.specs.Prelude.{◌≡◌, ◌⊎◌, ℕ, ◌||◌, Bool, true, f
 use Rattle.std.specs.List.{flat_map, list_any, AllByRecursion}
 use Rattle.std.specs.List.Sorted.{IsStrictlySortedBy}
 use Rattle.hm_types.specs.Elements.{Key}
-use Rattle.hm_types.specs.Faults.{HasFaultCause}
+use Rattle.hm_types.specs.Faults.{HasFaultCause, IsUndamaged}
 use Rattle.hm_types.specs.declared.fault.Fault.{Fault}
 use Rattle.hm_fields.specs.Pages.{PageMap}
 use Rattle.hm_key.specs.Key.{IsBefore}
 use Rattle.hm_key.specs.Elements.{element_key}
-use Rattle.hm_key.specs.Stores.{IsUndamaged}
 use Rattle.hm_key.specs.declared.base.Base.{Base}
 use Rattle.hm_key.specs.declared.element.Element.{Element}
 use Rattle.hm_node.specs.Base.{base_cmp}

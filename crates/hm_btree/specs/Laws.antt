@@ -4,7 +4,7 @@ use Rattle.std.proofs.Math.Logic.{∥∥₁_elim}
 use Rattle.hm_fields.specs.Pages.{PageMap}
 use Rattle.hm_key.specs.Elements.{IsContent}
 use Rattle.hm_key.specs.Props.{IsContent-prop, AllMarked-prop}
-use Rattle.hm_key.specs.Stores.{IsMarked}
+use Rattle.hm_key.specs.Marks.{IsMarked}
 use Rattle.hm_search.specs.Tree.{node_at, height_of, root_place, elements_of, mark_of}
 use Rattle.hm_search.proofs.ContentLemmas.{tree_content}
 use Rattle.hm_search.proofs.LawLemmas.{all_marked}

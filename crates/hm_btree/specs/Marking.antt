@@ -3,7 +3,7 @@ use Rattle.std.specs.Prelude.{ℕ}
 use Rattle.hm_types.specs.Elements.{Key}
 use Rattle.hm_key.specs.declared.base.Base.{Base}
 use Rattle.hm_search.specs.Place.{IsInside}
-use Rattle.hm_btree.specs.Marks.{Marks, MarksJoin, MarksStay}
+use Rattle.hm_key.specs.Marks.{Marks, MarksJoin, MarksStay}
 
 -- An id is written at a key; or what stands there is taken out, and keys round it may come together; or each mark stays.
 pub data Marking : Type 0 where

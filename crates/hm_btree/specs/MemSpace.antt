@@ -3,7 +3,7 @@ use Rattle.std.specs.Prelude.{ℕ, List, Option, option_map, Box, if◌then◌el
 use Rattle.std.specs.declared.alloc.Global.{Global}
 use Rattle.std.specs.Ordering.{nat_cmp}
 use Rattle.std.specs.BTreeMap as tree
-use Rattle.hm_key.specs.declared.room.TheConstants.{TREE_ZONE}
+use Rattle.hm_types.specs.declared.zone.TheConstants.{TREE_ZONE}
 use Rattle.hm_btree.specs.declared.mem_space.MemSpace.{MemSpace}
 
 -- the page at an offset, if it is kept

@@ -47,6 +47,7 @@ pub fn change_element<S: NodeSpace>(
     ensures told { OnOk result (is_some (S.pages space.new) ≡ is_some (S.pages space.old)) }
     ensures rest { S.rest space.new ≡ S.rest space.old }
     ensures name { S.name space.new ≡ S.name space.old }
+    ensures frame { S.frame space.new ≡ S.frame space.old }
     ensures cause { HasTreeCause (S.pages space.old) root
         (S.faults space.old) (S.faults space.new) result }
 {
@@ -73,6 +74,7 @@ fn change_in<S: NodeSpace>(
     ensures told { OnOk result (is_some (S.pages space.new) ≡ is_some (S.pages space.old)) }
     ensures rest { S.rest space.new ≡ S.rest space.old }
     ensures name { S.name space.new ≡ S.name space.old }
+    ensures frame { S.frame space.new ≡ S.frame space.old }
     ensures cause { HasEditCause (S.pages space.old) node.old
         (S.faults space.old) (S.faults space.new) result }
 {

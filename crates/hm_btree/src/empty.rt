@@ -1,16 +1,15 @@
 // A tree without elements.
 ghost use Rattle.std.specs.Prelude.{◌≡◌, ◌≤◌, ℕ, None, Some, [], Err, IfSome, IfOk, IfErr};
-ghost use Rattle.hm_fields.specs.Pages.{HasPageCause};
-ghost use Rattle.hm_key.specs.Space.{Spends, in_zone};
+ghost use Rattle.hm_types.specs.Faults.{HasStoreCause};
+ghost use Rattle.hm_types.specs.Space.{Spends, in_zone};
 ghost use Rattle.hm_btree.specs.Tree.{HasNoPage, told_elements};
 
 use crate::node_edit::add_node;
 use crate::space::{NODE_BYTES, NodeSpace};
 use crate::tree::BTree;
 use arrayvec::ArrayVec;
-use hm_key::TREE_ZONE;
 use hm_node::{Leaf, Node};
-use hm_types::{Counted, Fault};
+use hm_types::{Counted, Fault, TREE_ZONE};
 
 impl<S: NodeSpace> BTree<S> {
     /// The tree without elements, on a space that has no page where it tells its pages, and room for
@@ -24,9 +23,11 @@ impl<S: NodeSpace> BTree<S> {
         ensures space { IfOk result (λ tree.
             Spends S.room S.free (in_zone TREE_ZONE NODE_BYTES) space tree.space) }
         ensures name { IfOk result (λ tree. S.name tree.space ≡ S.name space) }
-        ensures back { IfErr result (λ e. S.name e.0 ≡ S.name space) }
+        ensures frame { IfOk result (λ tree. S.frame tree.space ≡ S.frame space) }
+        ensures back { IfErr result
+            (λ e. (S.name e.0 ≡ S.name space) × (S.frame e.0 ≡ S.frame space)) }
         ensures cause { IfErr result (λ e.
-            HasPageCause {T = ℕ} (S.pages space) (S.faults space) (S.faults e.0) (Err e.1)) }
+            HasStoreCause {T = ℕ} (S.pages space) (S.faults space) (S.faults e.0) (Err e.1)) }
     {
         let mut space = space;
         let node = Node::Leaf(Leaf {

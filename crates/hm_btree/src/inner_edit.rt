@@ -1,6 +1,5 @@
 // Edits of inner nodes.
-ghost use Rattle.std.specs.Prelude.{◌≡◌, ◌+◌, ◌/◌, ◌≤◌, ◌<◌, ◌++◌, if◌then◌else◌};
-ghost use Rattle.std.specs.Prelude.{max, take, drop, insert, remove, nat_lt};
+ghost use Rattle.std.specs.Prelude.{◌≡◌, ◌+◌, ◌/◌, ◌≤◌, ◌<◌, ◌++◌, if◌then◌else◌, max, take, drop, insert, remove, nat_lt};
 ghost use Rattle.arrayvec.specs.ArrayVec.{array_vec_len};
 ghost use Rattle.hm_btree.specs.Edits.{inner_of, left_of, with_mirror, with_left, InnerGrown, ChildChange};
 

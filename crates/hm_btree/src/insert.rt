@@ -5,7 +5,7 @@ ghost use Rattle.hm_types.specs.Offset.{IsOffset};
 ghost use Rattle.hm_key.specs.Element.{IsElement};
 ghost use Rattle.hm_key.specs.Elements.{inserted, last_id};
 ghost use Rattle.hm_key.specs.Key.{key_of};
-ghost use Rattle.hm_key.specs.Space.{Spends, in_zone};
+ghost use Rattle.hm_types.specs.Space.{Spends, in_zone};
 ghost use Rattle.hm_node.specs.Leaf.{HasLeafOrder};
 ghost use Rattle.hm_node.specs.Node.{IsNode, level_of};
 ghost use Rattle.hm_btree.specs.Below.{HasEditCause};
@@ -17,10 +17,10 @@ use crate::leaf_edit::insert_element;
 use crate::node_edit::{add_node, mirror, write_node};
 use crate::space::{NODE_BYTES, NodeSpace};
 use crate::upper::Upper;
-use hm_key::{Element, TREE_ZONE};
+use hm_key::Element;
 use hm_node::{Child, Inner, Leaf, Node};
 use hm_search::{Subtree, child_place, leaf_place, read_node};
-use hm_types::{Counted, Fault};
+use hm_types::{Counted, Fault, TREE_ZONE};
 
 /// Inserts an element below a node, which is not written. Where the node becomes two, the upper one
 /// is given, which is not written either. Takes one node less of room than the node has levels.
@@ -40,6 +40,7 @@ pub fn insert_into<S: NodeSpace>(
     ensures space { Spends S.room S.free (in_zone TREE_ZONE (NODE_BYTES * (level_of node.old - 1)))
         space.old space.new }
     ensures name { S.name space.new ≡ S.name space.old }
+    ensures frame { S.frame space.new ≡ S.frame space.old }
     ensures cause { HasEditCause (S.pages space.old) node.old
         (S.faults space.old) (S.faults space.new) result }
 {

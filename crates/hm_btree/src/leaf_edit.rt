@@ -1,6 +1,5 @@
 // Edits of leaves.
-ghost use Rattle.std.specs.Prelude.{◌≡◌, ◌+◌, ◌/◌, ◌≤◌, ◌<◌, ◌++◌, if◌then◌else◌};
-ghost use Rattle.std.specs.Prelude.{max, take, drop, insert, remove, nat_lt};
+ghost use Rattle.std.specs.Prelude.{◌≡◌, ◌+◌, ◌/◌, ◌≤◌, ◌<◌, ◌++◌, if◌then◌else◌, max, take, drop, insert, remove, nat_lt};
 ghost use Rattle.arrayvec.specs.ArrayVec.{array_vec_len};
 ghost use Rattle.hm_key.specs.Elements.{last_id, closed_at, moved_to};
 ghost use Rattle.hm_btree.specs.Edits.{leaf_of, LeafGrown, ElementChange};

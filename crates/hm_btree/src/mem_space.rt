@@ -3,8 +3,8 @@ ghost use Rattle.hm_btree.specs.MemSpace.{kept, room_of};
 
 use crate::space::{MOST_NODES, NODE_BYTES, NodeSpace};
 use hm_fields::{Page, Pages};
-use hm_key::{HasRoom, TREE_ZONE};
-use hm_types::{Counted, Fault, HOff};
+use hm_key::HasRoom;
+use hm_types::{Counted, Fault, HOff, TREE_ZONE};
 use std::alloc::Global;
 use std::collections::BTreeMap;
 
@@ -20,7 +20,8 @@ pub struct MemSpace {
 
 impl MemSpace {
     ghost use Rattle.std.specs.Prelude.{◌≡◌, Some, None, OnOk, ℕ};
-    ghost use Rattle.hm_fields.specs.Pages.{HasPut, HasPageCause};
+    ghost use Rattle.hm_fields.specs.Pages.{HasPut};
+    ghost use Rattle.hm_types.specs.Faults.{HasStoreCause};
 
     /// No page, and so many bytes of room in zone 8. It takes no memory.
     pub fn new(alloc: Global, room: u64) -> MemSpace
@@ -45,7 +46,7 @@ impl MemSpace {
         ensures ok { OnOk result (HasPut at with.now (kept self.old) (kept self.new)) }
         ensures room { self.new.room ≡ self.old.room }
         ensures made { self.new.made ≡ self.old.made }
-        ensures cause { HasPageCause (Some (kept self.old)) 0 0 result }
+        ensures cause { HasStoreCause (Some (kept self.old)) 0 0 result }
     {
         let page = Box::new(self.alloc, *with)?;
         self.pages.insert(at, page)?;
@@ -57,6 +58,8 @@ impl Counted for MemSpace {
     ghost faults = { λ _. 0 };
 
     ghost name = { λ _. 0 };
+
+    ghost frame = { λ _. tt };
 }
 
 impl HasRoom for MemSpace {
@@ -70,11 +73,11 @@ impl HasRoom for MemSpace {
 }
 
 impl Pages for MemSpace {
-    type Rest = u64;
-
-    ghost use Rattle.std.specs.Prelude.{Some};
+    ghost use Rattle.std.specs.Prelude.{ℕ, Some};
 
     ghost pages = { λ m. Some (kept m) };
+
+    ghost Rest = { ℕ };
 
     ghost rest = { λ m. m.room };
 

@@ -1,16 +1,16 @@
 // What leaves and inner nodes have in common.
 ghost use Rattle.std.specs.Prelude.{◌≡◌, ◌≤◌, IfOk, OnOk};
-ghost use Rattle.hm_fields.specs.Pages.{BothTell, HasPageCause};
+ghost use Rattle.hm_types.specs.Told.{BothTell};
+ghost use Rattle.hm_types.specs.Faults.{HasStoreCause};
 ghost use Rattle.hm_node.specs.Node.{level_of};
 ghost use Rattle.hm_search.specs.Place.{mirror_of};
-ghost use Rattle.hm_key.specs.Space.{Spends, in_zone};
+ghost use Rattle.hm_types.specs.Space.{Spends, in_zone};
 ghost use Rattle.hm_btree.specs.Space.{HasAdded, HasWritten, IsSpot};
 
 use crate::space::{NODE_BYTES, NodeSpace};
 use hm_fields::Page;
-use hm_key::TREE_ZONE;
 use hm_node::{LEAF_LEVEL, Node, encode};
-use hm_types::{Fault, HOff};
+use hm_types::{Fault, HOff, TREE_ZONE};
 
 /// The `mirror` of a node.
 pub fn mirror(node: &Node) -> u64
@@ -28,7 +28,8 @@ pub fn write_node<S: NodeSpace>(space: &mut S, at: HOff, node: &Node) -> Result<
         (BothTell (S.pages space.old) (S.pages space.new) (HasWritten at node.now)) }
     ensures rest { S.rest space.new ≡ S.rest space.old }
     ensures name { S.name space.new ≡ S.name space.old }
-    ensures cause { HasPageCause (S.pages space.old)
+    ensures frame { S.frame space.new ≡ S.frame space.old }
+    ensures cause { HasStoreCause (S.pages space.old)
         (S.faults space.old) (S.faults space.new) result }
 {
     let mut page = Page::zero();
@@ -45,7 +46,8 @@ pub fn add_node<S: NodeSpace>(space: &mut S, node: &Node) -> Result<HOff, Fault>
     ensures extents { OnOk result (S.extents space.new ≡ S.extents space.old) }
     ensures space { Spends S.room S.free (in_zone TREE_ZONE NODE_BYTES) space.old space.new }
     ensures name { S.name space.new ≡ S.name space.old }
-    ensures cause { HasPageCause (S.pages space.old)
+    ensures frame { S.frame space.new ≡ S.frame space.old }
+    ensures cause { HasStoreCause (S.pages space.old)
         (S.faults space.old) (S.faults space.new) result }
 {
     let mut page = Page::zero();

@@ -3,8 +3,8 @@ ghost use Rattle.hm_btree.specs.MemSpace.{room_of};
 
 use crate::space::{MOST_NODES, NODE_BYTES, NodeSpace};
 use hm_fields::{Page, Pages};
-use hm_key::{HasRoom, TREE_ZONE};
-use hm_types::{Counted, Fault, HOff};
+use hm_key::HasRoom;
+use hm_types::{Counted, Fault, HOff, TREE_ZONE};
 use std::alloc::Global;
 
 // How many bytes of room a table begins with: more than memory has.
@@ -25,7 +25,7 @@ pub struct NodeTable {
 
 impl NodeTable {
     ghost use Rattle.std.specs.Prelude.{◌≡◌, ℕ, None};
-    ghost use Rattle.hm_fields.specs.Pages.{HasPageCause};
+    ghost use Rattle.hm_types.specs.Faults.{HasStoreCause};
 
     /// No node. It takes no memory.
     pub fn new(alloc: Global) -> NodeTable
@@ -67,7 +67,7 @@ impl NodeTable {
 
     // Counts a write, unless it is refused.
     fn write(&mut self) -> Result<(), Fault>
-        ensures cause { HasPageCause {A = ℕ} None 0 0 result }
+        ensures cause { HasStoreCause {A = ℕ} None 0 0 result }
         ensures room { self.new.room ≡ self.old.room }
     {
         if self.writes >= self.refused {
@@ -91,6 +91,8 @@ impl Counted for NodeTable {
     ghost faults = { λ _. 0 };
 
     ghost name = { λ _. 0 };
+
+    ghost frame = { λ _. tt };
 }
 
 impl HasRoom for NodeTable {
@@ -104,11 +106,11 @@ impl HasRoom for NodeTable {
 }
 
 impl Pages for NodeTable {
-    type Rest = u64;
-
-    ghost use Rattle.std.specs.Prelude.{None};
+    ghost use Rattle.std.specs.Prelude.{ℕ, None};
 
     ghost pages = { λ _. None };
+
+    ghost Rest = { ℕ };
 
     ghost rest = { λ t. t.room };
 

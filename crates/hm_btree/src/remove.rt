@@ -1,10 +1,10 @@
 // Removal of an element below a node.
 ghost use Rattle.std.specs.Prelude.{◌≡◌, ◌+◌, ◌<◌, ◌≤◌, IfSome, IsSome, OnOk, Some, is_some, slice_get};
 ghost use Rattle.arrayvec.specs.ArrayVec.{array_vec_len};
-ghost use Rattle.hm_fields.specs.Pages.{HasPageCause};
+ghost use Rattle.hm_types.specs.Faults.{HasStoreCause};
 ghost use Rattle.hm_key.specs.Elements.{removed};
 ghost use Rattle.hm_key.specs.Key.{key_of};
-ghost use Rattle.hm_key.specs.Space.{Spends, nothing};
+ghost use Rattle.hm_types.specs.Space.{Spends, nothing};
 ghost use Rattle.hm_node.specs.Node.{HasLevel, IsNode, level_of};
 ghost use Rattle.hm_node.specs.declared.inner.Child.{Child as ChildOf};
 ghost use Rattle.hm_btree.specs.Marking.{TakesOut};
@@ -35,7 +35,8 @@ pub fn remove_below<S: NodeSpace>(space: &mut S, node: &mut Node, at: &Base) -> 
     ensures extents { OnOk result (S.extents space.new ≡ S.extents space.old) }
     ensures space { Spends S.room S.free nothing space.old space.new }
     ensures name { S.name space.new ≡ S.name space.old }
-    ensures cause { HasPageCause (S.pages space.old)
+    ensures frame { S.frame space.new ≡ S.frame space.old }
+    ensures cause { HasStoreCause (S.pages space.old)
         (S.faults space.old) (S.faults space.new) result }
 {
     match node {
@@ -79,7 +80,8 @@ fn rejoin<S: NodeSpace>(
     ensures extents { OnOk result (S.extents space.new ≡ S.extents space.old) }
     ensures space { Spends S.room S.free nothing space.old space.new }
     ensures name { S.name space.new ≡ S.name space.old }
-    ensures cause { HasPageCause (S.pages space.old)
+    ensures frame { S.frame space.new ≡ S.frame space.old }
+    ensures cause { HasStoreCause (S.pages space.old)
         (S.faults space.old) (S.faults space.new) result }
 {
     let count = inner.places.len();
@@ -112,7 +114,8 @@ fn join_at<S: NodeSpace>(
     ensures extents { OnOk result (S.extents space.new ≡ S.extents space.old) }
     ensures space { Spends S.room S.free nothing space.old space.new }
     ensures name { S.name space.new ≡ S.name space.old }
-    ensures cause { HasPageCause (S.pages space.old)
+    ensures frame { S.frame space.new ≡ S.frame space.old }
+    ensures cause { HasStoreCause (S.pages space.old)
         (S.faults space.old) (S.faults space.new) result }
 {
     let upper = join(&mut left, right);

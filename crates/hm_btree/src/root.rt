@@ -1,11 +1,12 @@
 // Insertion of an element into a tree.
 ghost use Rattle.std.specs.Prelude.{◌≡◌, ◌*◌, ◌^◌, ◌<◌, ◌≤◌, IsNone, IfOk, OnOk, is_some};
 ghost use Rattle.hm_types.specs.Offset.{IsOffset};
-ghost use Rattle.hm_fields.specs.Pages.{BothTell, HasPageCause};
+ghost use Rattle.hm_types.specs.Told.{BothTell};
+ghost use Rattle.hm_types.specs.Faults.{HasStoreCause};
 ghost use Rattle.hm_key.specs.Element.{IsElement};
 ghost use Rattle.hm_key.specs.Elements.{element_at, inserted, last_id};
 ghost use Rattle.hm_key.specs.Key.{key_of};
-ghost use Rattle.hm_key.specs.Space.{Spends, in_zone};
+ghost use Rattle.hm_types.specs.Space.{Spends, in_zone};
 ghost use Rattle.hm_node.specs.Node.{level_of};
 ghost use Rattle.hm_btree.specs.Grow.{HasTop, top_of};
 ghost use Rattle.hm_btree.specs.Marking.{Writes};
@@ -17,10 +18,10 @@ use crate::node_edit::{add_node, level, mirror, write_node};
 use crate::space::{NODE_BYTES, NodeSpace};
 use crate::upper::Upper;
 use arrayvec::ArrayVec;
-use hm_key::{Element, INSERT_ROOM, TREE_ZONE};
+use hm_key::Element;
 use hm_node::{Child, Inner, Node};
 use hm_search::{Subtree, read_node};
-use hm_types::{Counted, Fault, HOff, MOST_LEVELS};
+use hm_types::{Counted, Fault, HOff, INSERT_ROOM, MOST_LEVELS, TREE_ZONE};
 
 /// Inserts an element into the tree from a root on, and answers the root that it then has. Takes ten
 /// nodes of room at most.
@@ -38,6 +39,7 @@ pub fn insert_from<S: NodeSpace>(
     ensures extents { OnOk result (S.extents space.new ≡ S.extents space.old) }
     ensures space { Spends S.room S.free (in_zone TREE_ZONE INSERT_ROOM) space.old space.new }
     ensures name { S.name space.new ≡ S.name space.old }
+    ensures frame { S.frame space.new ≡ S.frame space.old }
     ensures cause { HasTreeCause (S.pages space.old) root
         (S.faults space.old) (S.faults space.new) result }
 {
@@ -69,7 +71,8 @@ fn add_root<S: NodeSpace>(
     ensures space { Spends S.room S.free (in_zone TREE_ZONE (NODE_BYTES * 2))
         space.old space.new }
     ensures name { S.name space.new ≡ S.name space.old }
-    ensures cause { HasPageCause (S.pages space.old)
+    ensures frame { S.frame space.new ≡ S.frame space.old }
+    ensures cause { HasStoreCause (S.pages space.old)
         (S.faults space.old) (S.faults space.new) result }
 {
     if level(lower) >= MOST_LEVELS {

@@ -1,12 +1,13 @@
 // The pages of a tree, with room for more.
 ghost use Rattle.std.specs.Prelude.{◌≡◌, ℕ, ◌+◌, ◌≤◌, Option, IfSome, IsSome, IfOk, OnOk};
-ghost use Rattle.hm_fields.specs.Pages.{BothTell, HasPageCause};
-ghost use Rattle.hm_key.specs.Space.{Spends, nothing, in_zone};
+ghost use Rattle.hm_types.specs.Told.{BothTell};
+ghost use Rattle.hm_types.specs.Faults.{HasStoreCause};
+ghost use Rattle.hm_types.specs.Space.{Spends, nothing, in_zone};
 ghost use Rattle.hm_btree.specs.Space.{HasNew, HasLost, IsSpot};
 
 use hm_fields::{Page, Pages};
-use hm_key::{HasRoom, TREE_ZONE};
-use hm_types::{Fault, HOff};
+use hm_key::HasRoom;
+use hm_types::{Fault, HOff, TREE_ZONE};
 
 /// The room that a node takes, in bytes of zone 8.
 pub const NODE_BYTES: u32 = 4_096;
@@ -31,7 +32,8 @@ pub trait NodeSpace: Pages + HasRoom {
         ensures space { Spends Self.room Self.free (in_zone TREE_ZONE NODE_BYTES)
             self.old self.new }
         ensures name { Self.name self.new ≡ Self.name self.old }
-        ensures cause { HasPageCause (Self.pages self.old)
+        ensures frame { Self.frame self.new ≡ Self.frame self.old }
+        ensures cause { HasStoreCause (Self.pages self.old)
             (Self.faults self.old) (Self.faults self.new) result };
 
     /// Takes the page at `at` out. There must be one, where the pages are told.
@@ -42,7 +44,8 @@ pub trait NodeSpace: Pages + HasRoom {
         ensures extents { OnOk result (Self.extents self.new ≡ Self.extents self.old) }
         ensures space { Spends Self.room Self.free nothing self.old self.new }
         ensures name { Self.name self.new ≡ Self.name self.old }
-        ensures cause { HasPageCause (Self.pages self.old)
+        ensures frame { Self.frame self.new ≡ Self.frame self.old }
+        ensures cause { HasStoreCause (Self.pages self.old)
             (Self.faults self.old) (Self.faults self.new) result };
 
     /// The room, the free big-blocks and the extents are among what no call of `Pages` changes.

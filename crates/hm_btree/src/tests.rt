@@ -4,13 +4,10 @@ ghost use Rattle.hm_key.specs.Element.{IsElement};
 
 use crate::{BTree, MemSpace, NodeTable};
 use hm_fields::{Page, Pages};
-use hm_key::{
-    Base, ELEMENT, Element, ElementStore, HasElements, HasRoom, INSERT_ROOM, OTHER_PART, SNAPSHOT,
-    TREE_ZONE,
-};
+use hm_key::{Base, ELEMENT, Element, ElementStore, HasElements, HasRoom, OTHER_PART, SNAPSHOT};
 use hm_node::{Node, encode};
 use hm_search::{Subtree, read_node};
-use hm_types::{Fault, HOff, Id, Obj};
+use hm_types::{Fault, HOff, INSERT_ROOM, Id, Obj, TREE_ZONE};
 use std::alloc::Global;
 use std::collections::BTreeMap;
 use std::process::Abort;

@@ -1,9 +1,9 @@
 // Removal of an element from a tree.
 ghost use Rattle.std.specs.Prelude.{◌≡◌, IfSome, IsSome, IfOk, OnOk, is_some, Some, None, IfNone, ⊤};
-ghost use Rattle.hm_fields.specs.Pages.{HasPageCause};
+ghost use Rattle.hm_types.specs.Faults.{HasStoreCause};
 ghost use Rattle.hm_key.specs.Elements.{element_at, removed};
 ghost use Rattle.hm_key.specs.Key.{key_of};
-ghost use Rattle.hm_key.specs.Space.{Spends, nothing};
+ghost use Rattle.hm_types.specs.Space.{Spends, nothing};
 ghost use Rattle.hm_node.specs.Node.{IsNode};
 ghost use Rattle.hm_search.specs.Tree.{node_at, elements_of};
 ghost use Rattle.hm_btree.specs.Marking.{TakesOut};
@@ -31,7 +31,8 @@ pub fn remove_from<S: NodeSpace>(space: &mut S, root: HOff, at: &Base) -> Result
     ensures extents { OnOk result (S.extents space.new ≡ S.extents space.old) }
     ensures space { Spends S.room S.free nothing space.old space.new }
     ensures name { S.name space.new ≡ S.name space.old }
-    ensures cause { HasPageCause (S.pages space.old)
+    ensures frame { S.frame space.new ≡ S.frame space.old }
+    ensures cause { HasStoreCause (S.pages space.old)
         (S.faults space.old) (S.faults space.new) result }
 {
     let node = read_node(space, &Subtree::root(root))?;
@@ -62,7 +63,8 @@ fn lowest<S: NodeSpace>(space: &mut S, root: HOff, node: Node) -> Result<(HOff, 
     ensures extents { OnOk result (S.extents space.new ≡ S.extents space.old) }
     ensures space { Spends S.room S.free nothing space.old space.new }
     ensures name { S.name space.new ≡ S.name space.old }
-    ensures cause { HasPageCause (S.pages space.old)
+    ensures frame { S.frame space.new ≡ S.frame space.old }
+    ensures cause { HasStoreCause (S.pages space.old)
         (S.faults space.old) (S.faults space.new) result }
 {
     match &node {

@@ -21,6 +21,10 @@ impl<S: NodeSpace> Counted for BTree<S> {
     ghost faults = { λ t. S.faults t.space };
 
     ghost name = { λ t. S.name t.space };
+
+    ghost Frame = { S.Frame };
+
+    ghost frame = { λ t. S.frame t.space };
 }
 
 impl<S: NodeSpace> HasRoom for BTree<S> {

@@ -18,7 +18,7 @@ use crate::place_rule::PlaceRule;
 use hm_fields::Page;
 use hm_key::Base;
 use hm_node::{Head, Inner, LEAF, place, read_base};
-use hm_types::{HOff, LEAST_PLACES};
+use hm_types::{BAD_BOUNDS, BAD_COUNT, BAD_LEVEL, BAD_MIRROR, HOff, LEAST_PLACES};
 
 /// What a node's parent says of it.
 #[derive(Clone, Copy, Debug, PartialEq, Eq)]
@@ -84,25 +84,25 @@ impl Subtree {
             place_number rule < limit → FitsBy self.now (node_in page.now) rule) }
     {
         let head = Head::read(page);
-        if limit <= 1 {
+        if limit <= BAD_LEVEL {
             return None;
         }
         if !self.fits_level(page, &head) {
             return Some(PlaceRule::Level);
         }
-        if limit <= 2 {
+        if limit <= BAD_COUNT {
             return None;
         }
         if !self.fits_count(page, &head) {
             return Some(PlaceRule::Count);
         }
-        if limit <= 4 {
+        if limit <= BAD_BOUNDS {
             return None;
         }
         if !self.fits_bounds(page, &head) {
             return Some(PlaceRule::Bounds);
         }
-        if limit <= 9 {
+        if limit <= BAD_MIRROR {
             return None;
         }
         if !self.fits_mirror(page, &head) {

@@ -6,7 +6,7 @@ use Rattle.hm_fields.specs.Pages.{page_in}
 use Rattle.hm_key.specs.Element.{IsElement}
 use Rattle.hm_key.specs.Elements.{inserted, last_id}
 use Rattle.hm_key.specs.Key.{key_of}
-use Rattle.hm_key.specs.declared.room.TheConstants.{INSERT_ROOM}
+use Rattle.hm_types.specs.declared.space.TheConstants.{INSERT_ROOM}
 use Rattle.hm_node.specs.Node.{level_of}
 use Rattle.hm_search.specs.Place.{SpellsHere}
 use Rattle.hm_search.specs.declared.subtree.Subtree.{Subtree}

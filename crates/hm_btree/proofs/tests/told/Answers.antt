@@ -1,5 +1,5 @@
 use Rattle.std.proofs.Common.{◌≡◌, ◌+◌, ◌≤◌, ℕ, ap, arith}
-use Rattle.hm_key.specs.declared.room.TheConstants.{TREE_ZONE}
+use Rattle.hm_types.specs.declared.zone.TheConstants.{TREE_ZONE}
 use Rattle.hm_btree.specs.declared.space.TheConstants.{NODE_BYTES}
 use Rattle.hm_btree.proofs.tests.told.Goals as goal
 

@@ -2,7 +2,7 @@ use Rattle.std.proofs.Common.{ℕ, ap, subst, Result}
 use Rattle.std.specs.Prelude.{Option, List, IsSome, is_some, ⊤}
 use Rattle.std.proofs.lemmas.Result.{err_from_is_err_and}
 use Rattle.hm_types.specs.declared.fault.Fault.{Fault}
-use Rattle.hm_fields.specs.Pages.{HasPageCause}
+use Rattle.hm_types.specs.Faults.{HasStoreCause}
 use Rattle.hm_key.specs.Elements.{element_at, removed}
 use Rattle.hm_key.specs.Extents.{Extent}
 use Rattle.hm_key.specs.Key.{key_of}
@@ -25,7 +25,7 @@ returns-in_err-root-clause-cause g c =
     let old = g.S.Counted.faults c.args.self.now.space in
     let new = g.S.Counted.faults c.remove_from.new.space in
     let fault = c.in_err-root.field-0.0 in
-    let whole = cause_in_tree c.args.self.now.intact told c.args.self.now.root old new fault (subst (λ (r : Result ℕ Fault). HasPageCause told old new r) c.in_err-root.was c.remove_from.ensures.cause) in
+    let whole = cause_in_tree c.args.self.now.intact told c.args.self.now.root old new fault (subst (λ (r : Result ℕ Fault). HasStoreCause told old new r) c.in_err-root.was c.remove_from.ensures.cause) in
     rw (p.1, p.2) whole
 
 pub invariant_of-self-2 : goal.invariant_of-self-2

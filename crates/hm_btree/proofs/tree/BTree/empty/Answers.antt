@@ -1,5 +1,5 @@
 use Rattle.std.proofs.Common.{List, ap, subst}
-use Rattle.hm_fields.specs.Pages.{BothTell}
+use Rattle.hm_types.specs.Told.{BothTell}
 use Rattle.hm_key.specs.declared.element.Element.{Element}
 use Rattle.hm_node.specs.declared.node.Node.{Node}
 use Rattle.hm_node.specs.declared.node.Node.TheVariants.{Leaf as leaf_node}
