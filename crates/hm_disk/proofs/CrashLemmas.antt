@@ -1,7 +1,10 @@
 -- Which images a crash may leave.
-use Rattle.std.proofs.Common.{◌≡◌, ℕ, List, [], refl, ◌∙◌, arith}
+use Rattle.std.proofs.Common.{◌≡◌, inl, inr, ℕ, ◌+◌, ◌≤◌, List, [], ◌∷◌, refl, sym, ◌∙◌, subst, arith, length}
 use Rattle.std.proofs.lemmas.List.{ext_get_or}
-use Rattle.hm_disk.specs.Crash.{Outside, MayLeave}
+use Rattle.hm_disk.specs.Crash.{Told, Outside, MayLeave}
+use Rattle.hm_disk.specs.Disk.{MayBeTorn, Written}
+use Rattle.hm_disk.specs.Moments.{Each}
+use Rattle.hm_disk.specs.WriteLaws.{MayLeave-added, MayLeave-overwritten}
 
 -- the bytes themselves
 pub MayLeave-same : (bytes : List ℕ) (unsettled : List (ℕ × ℕ)) → MayLeave bytes unsettled bytes
@@ -29,3 +32,22 @@ pub MayLeave-fewer : (bytes image : List ℕ) (ranges unsettled : List (ℕ × �
     → MayLeave bytes unsettled image → MayLeave bytes ranges image
 MayLeave-fewer bytes image ranges unsettled fewer left =
     MayLeave-through bytes bytes image ranges unsettled (MayLeave-same bytes ranges) fewer left
+
+-- What a crash might have left before a write it still may after it.
+pub MayLeave-torn : (old new : Told) (place count : ℕ) → MayBeTorn place count old new
+    → Each (MayLeave old.bytes old.unsettled) (MayLeave new.bytes new.unsettled)
+MayLeave-torn old new place count (inl torn) image left =
+    subst (λ (ranges : List (ℕ × ℕ)). MayLeave new.bytes ranges image) (sym torn.unsettled_are)
+    (MayLeave-added old.bytes new.bytes image (place, count) old.unsettled torn.bytes_are left)
+MayLeave-torn old new place count (inr same) image left =
+    subst (λ (ranges : List (ℕ × ℕ)). MayLeave new.bytes ranges image) (sym same.unsettled_are)
+    (subst (λ (bytes : List ℕ). MayLeave bytes old.unsettled image) (sym same.bytes_are) left)
+
+pub MayLeave-written : (old new : Told) (place : ℕ) (bytes : List ℕ) → place + length bytes ≤ length old.bytes → Written place bytes old new
+    → Each (MayLeave old.bytes old.unsettled) (MayLeave new.bytes new.unsettled)
+MayLeave-written old new place bytes within written = MayLeave-torn old new place (length bytes) (inl (record {
+  bytes_are = subst (λ (bs : List ℕ). MayLeave old.bytes ((place, length bytes) ∷ []) bs) (sym written.bytes_are)
+      (MayLeave-overwritten old.bytes place (length bytes) bytes (omega arith) within);
+  unsettled_are = written.unsettled_are;
+  moment_is = written.moment_is;
+}))

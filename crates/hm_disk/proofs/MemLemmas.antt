@@ -4,24 +4,19 @@ use Rattle.std.proofs.lemmas.List.{take_all, take-append-le}
 use native.Mathlib.Decide.{dec_le}
 use Rattle.hm_disk.specs.Crash.{Told, MayLeave}
 use Rattle.hm_disk.specs.Disk.{overwritten, Written, Torn, Unchanged, Synced}
-use Rattle.hm_disk.specs.Moments.{Elapses, WriteElapses, SyncElapses, Each, SameLeft}
-use Rattle.hm_disk.specs.MemDisk.{DiskState, zeros, changed, replayed, told_after, told_of, left_after, left_of}
-use Rattle.hm_disk.specs.MemLaws.{moment-told}
+use Rattle.hm_disk.specs.Moments.{CallElapses, Elapses, WriteElapses, SyncElapses, Each, SameLeft}
+use Rattle.hm_disk.specs.MemDisk.{DiskState, zeros, changed, told_after, told_of, left_after, left_of, written}
+use Rattle.hm_disk.specs.MemLaws.{changed-write, moment-replayed, replayed-append}
 use Rattle.hm_disk.specs.declared.change.Change.{Change}
 use Rattle.hm_disk.specs.declared.change.Change.TheVariants.{Write, Sync}
 use Rattle.hm_disk.proofs.OverwriteLemmas.{MayLeave-overwritten}
 use Rattle.hm_disk.proofs.CrashLemmas.{MayLeave-through, MayLeave-fewer}
 
-replayed-append : (changes : List Change) (change : Change) (told : Told)
-    → replayed (changes ++ change ∷ []) told ≡ changed change (replayed changes told)
-replayed-append [] change told = refl
-replayed-append (first ∷ changes) change told = replayed-append changes change (changed first told)
-
 -- what it tells
 pub told-more : (size : ℕ) (changes : List Change) (change : Change)
     → told_after size (changes ++ change ∷ []) ≡ changed change (told_after size changes)
 told-more size changes change =
-    replayed-append changes change (record { bytes = zeros size; unsettled = []; moment = 0 })
+    replayed-append changes (change ∷ []) (record { bytes = zeros size; unsettled = []; moment = 0 })
 
 -- How time goes on over it, where a crash after it leaves only what a crash within it may leave.
 elapses_more : (size : ℕ) (changes : List Change) (change : Change) (Within : List ℕ → Type 0)
@@ -29,25 +24,19 @@ elapses_more : (size : ℕ) (changes : List Change) (change : Change) (Within : 
     → Each (MayLeave (changed change (told_after size changes)).bytes (changed change (told_after size changes)).unsettled) Within
     → Elapses Within (left_after size changes) (left_after size (changes ++ change ∷ [])) (told_after size changes) (told_after size (changes ++ change ∷ []))
 elapses_more size changes change Within sized within = record {
-  later = omega (arith, moment, moment_then, length-append changes (change ∷ []));
+  later = subst (λ (told : Told). (told_after size changes).moment ≤ told.moment) (sym more) (moment-replayed (change ∷ []) (told_after size changes));
   size = ap (λ (told : Told). length told.bytes) more ∙ sized;
   only = λ first image early left. split left (dec_le left.0 (length changes));
   keeps = λ first image early left. (
     left.0,
-    left.1,
-    omega (arith, left.2, length-append changes (change ∷ [])),
-    subst (λ (told : Told). MayLeave told.bytes told.unsettled image) (sym (before left.0 left.2)) left.3,
+    omega (arith, left.1, length-append changes (change ∷ [])),
+    subst (λ (told : Told). first ≤ told.moment) (sym (before left.0 left.1)) left.2,
+    subst (λ (told : Told). MayLeave told.bytes told.unsettled image) (sym (before left.0 left.1)) left.3,
   );
 }
   where
     more : told_after size (changes ++ change ∷ []) ≡ changed change (told_after size changes)
     more = told-more size changes change
-
-    moment : (told_after size changes).moment ≡ length changes
-    moment = moment-told (record { size = size; changes = changes; calls = record { fails = []; made = 0; faults = 0 } })
-
-    moment_then : (told_after size (changes ++ change ∷ [])).moment ≡ length (changes ++ change ∷ [])
-    moment_then = moment-told (record { size = size; changes = changes ++ change ∷ []; calls = record { fails = []; made = 0; faults = 0 } })
 
     before : (k : ℕ) → k ≤ length changes → told_after size (take k (changes ++ change ∷ [])) ≡ told_after size (take k changes)
     before k le = ap (told_after size) (take-append-le k changes (change ∷ []) le)
@@ -58,7 +47,12 @@ elapses_more size changes change Within sized within = record {
     split : {first : ℕ} {image : List ℕ} (left : left_after size (changes ++ change ∷ []) first image) → Dec (left.0 ≤ length changes)
         → left_after size changes first image ⊎ Within image
     split {first} {image} left (yes le) =
-        inl (left.0, left.1, le, subst (λ (told : Told). MayLeave told.bytes told.unsettled image) (before left.0 le) left.3)
+        inl (
+          left.0,
+          le,
+          subst (λ (told : Told). first ≤ told.moment) (before left.0 le) left.2,
+          subst (λ (told : Told). MayLeave told.bytes told.unsettled image) (before left.0 le) left.3,
+        )
     split {first} {image} left (no gt) =
         inr (within image (subst (λ (told : Told). MayLeave told.bytes told.unsettled image)
         (all left.0 (omega (arith, gt, length-append changes (change ∷ [])))) left.3))
@@ -92,23 +86,41 @@ module _ (old new : DiskState) (sizes : new.size ≡ old.size) where
       (elapses_more old.size old.changes change Within sized within))
 
   -- a write that was recorded
-  module _ (place count : ℕ) (bytes : List ℕ) (changes : new.changes ≡ old.changes ++ Write place count bytes ∷ []) where
+  module _ (place count : ℕ) (bytes : List ℕ) (changes : new.changes ≡ old.changes ++ Write place count bytes ∷ [])
+      (front : length bytes ≤ count) (within : place + count ≤ length (told_of old).bytes) where
+    is_written : changed (Write place count bytes) (told_of old) ≡ written place count bytes (told_of old)
+    is_written = changed-write (told_of old) place count bytes within front
+
+    told_written : told_of new ≡ written place count bytes (told_of old)
+    told_written = told-changed (Write place count bytes) changes ∙ is_written
+
+    over : MayLeave (told_of old).bytes ((place, count) ∷ []) (overwritten (told_of old).bytes place bytes)
+    over = MayLeave-overwritten (told_of old).bytes place count bytes front within
+
     pub Written-write : count ≡ length bytes → Written place bytes (told_of old) (told_of new)
-    Written-write counts = subst (λ (told : Told). Written place bytes (told_of old) told) (sym (told-changed (Write place count bytes) changes))
-        (record { bytes_are = refl; unsettled_are = ap (λ n. (place, n) ∷ (told_of old).unsettled) counts })
+    Written-write counts = subst (λ (told : Told). Written place bytes (told_of old) told) (sym told_written)
+        (record { bytes_are = refl; unsettled_are = ap (λ n. (place, n) ∷ (told_of old).unsettled) counts; moment_is = refl })
 
-    pub Torn-write : length bytes ≤ count → place + count ≤ length (told_of old).bytes → Torn place count (told_of old) (told_of new)
-    Torn-write front within = subst (λ (told : Told). Torn place count (told_of old) told) (sym (told-changed (Write place count bytes) changes))
-        (record { bytes_are = MayLeave-overwritten (told_of old).bytes place count bytes front within; unsettled_are = refl })
+    pub Torn-write : Torn place count (told_of old) (told_of new)
+    Torn-write = subst (λ (told : Told). Torn place count (told_of old) told) (sym told_written)
+        (record { bytes_are = over; unsettled_are = refl; moment_is = refl })
 
-    pub WriteElapses-write : length bytes ≤ count → place + count ≤ length (told_of old).bytes
-        → WriteElapses place count (left_of old) (left_of new) (told_of old) (told_of new)
-    WriteElapses-write front within =
-        let over = MayLeave-overwritten (told_of old).bytes place count bytes front within in
-        elapses_changed (Write place count bytes) _ changes over.size
+    pub moment-written : (told_of new).moment ≡ (told_of old).moment
+    moment-written = Torn-write.moment_is
+
+    elapses_write : WriteElapses place count (left_of old) (left_of new) (told_of old) (told_of new)
+    elapses_write = elapses_changed (Write place count bytes) _ changes (ap (λ (told : Told). length told.bytes) is_written ∙ over.size)
         (λ image left. MayLeave-through (told_of old).bytes (overwritten (told_of old).bytes place bytes) image ((place, count) ∷ (told_of old).unsettled) ((place, count) ∷ (told_of old).unsettled)
         (MayLeave-fewer (told_of old).bytes (overwritten (told_of old).bytes place bytes) ((place, count) ∷ (told_of old).unsettled) ((place, count) ∷ []) (λ byte outside. (outside.0, tt)) over)
-        (λ byte outside. outside) left)
+        (λ byte outside. outside)
+        (subst (λ (told : Told). MayLeave told.bytes told.unsettled image) is_written left))
+
+    -- its range is unsettled besides, so it was begun
+    pub CallElapses-write : CallElapses place count (left_of old) (left_of new) (told_of old) (told_of new)
+    CallElapses-write = record {
+      begun = elapses_write;
+      not_begun = λ same. absurd (omega (arith, ap length (sym Torn-write.unsettled_are ∙ same.unsettled_are)));
+    }
 
   -- a sync that was recorded
   pub Synced-sync : new.changes ≡ old.changes ++ Sync ∷ [] → Synced (told_of old) (told_of new)
@@ -121,7 +133,10 @@ module _ (old new : DiskState) (sizes : new.size ≡ old.size) where
 
   -- nothing was recorded
   pub Unchanged-same : new.changes ≡ old.changes → Unchanged (told_of old) (told_of new)
-  Unchanged-same changes = subst (λ (told : Told). Unchanged (told_of old) told) (sym (told-same changes)) (record { bytes_are = refl; unsettled_are = refl })
+  Unchanged-same changes = subst (λ (told : Told). Unchanged (told_of old) told) (sym (told-same changes)) (record { bytes_are = refl; unsettled_are = refl; moment_is = refl })
+
+  pub CallElapses-same : (place count : ℕ) → new.changes ≡ old.changes → CallElapses place count (left_of old) (left_of new) (told_of old) (told_of new)
+  CallElapses-same place count changes = record { begun = Elapses-same _ changes; not_begun = λ same. SameLeft-same changes }
 
 -- what a call came to
 pub either : {T E A B : Type 0} (result : Result T E) → OnOk result A → OnErr result B → A ⊎ B

@@ -1,5 +1,5 @@
 -- How the moments of several calls come together.
-use Rattle.std.proofs.Common.{inl, inr, ⊎_elim, ℕ, ◌≤◌, List, refl, ◌∙◌, arith, Option, Some, None, IfSome}
+use Rattle.std.proofs.Common.{inl, inr, ⊎_elim, ◌↔◌, ℕ, ◌≤◌, List, refl, ◌∙◌, arith, Option, Some, None, IfSome}
 use Rattle.hm_disk.specs.Crash.{Told, MayLeave}
 use Rattle.hm_disk.specs.Moments.{LeftSince, Elapses, SameLeft, Each}
 
@@ -62,3 +62,10 @@ pub Each-now : (told : Option Told) (Has : List ℕ → Type 0) (since : LeftSin
     → IfSome told (λ t. Each (MayLeave t.bytes t.unsettled) Has → Each (since t.moment) Has)
 Each-now None Has since only = tt
 Each-now (Some t) Has since only = λ now image left. now image (only image left)
+
+pub left-now : (told : Option Told) (since : LeftSince) (image : List ℕ)
+    → ((moment : ℕ) → IfSome told (λ t. moment ≤ t.moment → MayLeave t.bytes t.unsettled image → since moment image))
+    → IfSome told (λ t. since t.moment image → MayLeave t.bytes t.unsettled image)
+    → IfSome told (λ t. since t.moment image ↔ MayLeave t.bytes t.unsettled image)
+left-now None since image counts only = tt
+left-now (Some t) since image counts only = (only, counts t.moment (omega arith))

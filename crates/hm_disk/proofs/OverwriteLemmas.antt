@@ -2,34 +2,13 @@
 use Rattle.std.proofs.Common.{◌≡◌, ◌⊎◌, inl, inr, ⊎_elim, ℕ, ◌+◌, ◌-◌, ◌<◌, ◌≤◌, List, [], ◌∷◌, sym, ◌∙◌, arith, length, take, get_or, slice_range}
 use Rattle.std.proofs.lemmas.List.{places, ext_get_or}
 use Rattle.std.proofs.lemmas.Bool.{cases_lt}
-use Rattle.hm_disk.specs.Crash.{MayLeave}
 use Rattle.hm_disk.specs.Disk.{overwritten}
+pub use Rattle.hm_disk.specs.WriteLaws.{MayLeave-overwritten, get_or-overwritten_out, length-overwritten}
 
 -- a byte that is overwritten
 pub get_or-overwritten_in : (old : List ℕ) (place : ℕ) (bytes : List ℕ) (byte : ℕ) → place + length bytes ≤ length old
     → place ≤ byte → byte < place + length bytes → get_or (overwritten old place bytes) byte 0 ≡ get_or bytes (byte - place) 0
 get_or-overwritten_in old place bytes byte within from below = grind (arith, places)
-
--- and one that is not
-pub get_or-overwritten_out : (old : List ℕ) (place : ℕ) (bytes : List ℕ) (byte : ℕ) → place + length bytes ≤ length old → byte < length old
-    → (byte < place) ⊎ (place + length bytes ≤ byte) → get_or (overwritten old place bytes) byte 0 ≡ get_or old byte 0
-get_or-overwritten_out old place bytes byte within below (inl low) = grind (arith, places)
-get_or-overwritten_out old place bytes byte within below (inr high) = grind (arith, places)
-
-pub length-overwritten : (old : List ℕ) (place : ℕ) (bytes : List ℕ) → place + length bytes ≤ length old → length (overwritten old place bytes) ≡ length old
-length-overwritten old place bytes within = grind (arith, places)
-
--- a front of a range is overwritten
-pub MayLeave-overwritten : (old : List ℕ) (place count : ℕ) (bytes : List ℕ) → length bytes ≤ count → place + count ≤ length old
-    → MayLeave old ((place, count) ∷ []) (overwritten old place bytes)
-MayLeave-overwritten old place count bytes front within = record {
-  size = length-overwritten old place bytes (omega arith);
-  same = λ byte below outside. get_or-overwritten_out old place bytes byte (omega arith) below (apart byte outside.0);
-}
-  where
-    apart : (byte : ℕ) → (byte < place) ⊎ (place + count ≤ byte) → (byte < place) ⊎ (place + length bytes ≤ byte)
-    apart byte (inl low) = inl low
-    apart byte (inr high) = inr (omega arith)
 
 -- nothing is overwritten
 pub overwritten-none : (old : List ℕ) (place : ℕ) → place ≤ length old → overwritten old place [] ≡ old

@@ -1,11 +1,12 @@
 -- How the pages of a disk in memory keep up with its record.
-use Rattle.std.proofs.Common.{◌≡◌, ◌⊎◌, inl, inr, ⊎_elim, ℕ, ◌+◌, ◌-◌, ◌<◌, ◌≤◌, List, [], ◌∷◌, ◌++◌, sym, ◌∙◌, ap, arith, length, get_or, slice_range}
+use Rattle.std.proofs.Common.{◌≡◌, refl, Bool, true, false, if◌then◌else◌, ◌⊎◌, inl, inr, ⊎_elim, ℕ, ◌+◌, ◌-◌, ◌<◌, ◌≤◌, List, [], ◌∷◌, ◌++◌, sym, ◌∙◌, ap, arith, length, get_or, slice_range}
 use Rattle.std.proofs.lemmas.List.{places, length-replicate, get_or-replicate, ext_get_or}
 use Rattle.std.proofs.lemmas.Bool.{cases_lt}
 use Rattle.hm_disk.specs.Crash.{Told, MayLeave}
 use Rattle.hm_disk.specs.Disk.{overwritten}
 use Rattle.hm_disk.specs.Pages.{Overwrites}
-use Rattle.hm_disk.specs.MemDisk.{zeros, told_after}
+use Rattle.hm_disk.specs.MemDisk.{changed, fits, replayed, told_after, written, zeros}
+use Rattle.hm_disk.specs.MemLaws.{changed-write, fits-within}
 use Rattle.hm_disk.specs.declared.change.Change.{Change}
 use Rattle.hm_disk.specs.declared.change.Change.TheVariants.{Write, Sync}
 use Rattle.hm_disk.proofs.MemLemmas.{told-more}
@@ -18,6 +19,23 @@ length-zeros size = length-replicate size 0
 pub get_or-zeros : (size byte : ℕ) → byte < size → get_or (zeros size) byte 0 ≡ 0
 unfolding zeros
 get_or-zeros size byte below = get_or-replicate size byte 0 0 below
+
+-- what a record tells has the disk's size
+length-changed : (change : Change) (told : Told) → length (changed change told).bytes ≡ length told.bytes
+length-changed (Write place count bytes) told = length_if (fits (length told.bytes) place count bytes) (fits-within (length told.bytes) place count bytes)
+  where
+    length_if : (b : Bool) → (b ≡ true → (place + count ≤ length told.bytes) × (length bytes ≤ count))
+        → length (if b then written place count bytes told else told).bytes ≡ length told.bytes
+    length_if true fit = let sure = fit refl in (MayLeave-overwritten told.bytes place count bytes sure.1 sure.0).size
+    length_if false fit = refl
+length-changed Sync told = refl
+
+length-replayed : (changes : List Change) (told : Told) → length (replayed changes told).bytes ≡ length told.bytes
+length-replayed [] told = refl
+length-replayed (change ∷ changes) told = length-replayed changes (changed change told) ∙ length-changed change told
+
+pub length-told : (size : ℕ) (changes : List Change) → length (told_after size changes).bytes ≡ size
+length-told size changes = length-replayed changes (record { bytes = zeros size; unsettled = []; moment = 0 }) ∙ length-zeros size
 
 -- Pages that read as a list of bytes read as that list overwritten, where the same is put into both.
 pub reads-overwritten : (before after : ℕ → ℕ) (old : List ℕ) (place : ℕ) (bytes : List ℕ) → place + length bytes ≤ length old
@@ -42,21 +60,26 @@ reads-overwritten before after old place bytes within reads put byte below = ⊎
     from : place ≤ byte → after byte ≡ get_or (overwritten old place bytes) byte 0
     from long = ⊎_elim (λ short. inside short long) (λ past. outside (inr past)) (cases_lt byte (place + length bytes))
 
+told-write : (size : ℕ) (changes : List Change) (place count : ℕ) (bytes : List ℕ) → length (told_after size changes).bytes ≡ size
+    → length bytes ≤ count → place + count ≤ size → told_after size (changes ++ Write place count bytes ∷ []) ≡ written place count bytes (told_after size changes)
+told-write size changes place count bytes sized front within =
+    told-more size changes (Write place count bytes) ∙ changed-write (told_after size changes) place count bytes (omega (arith, sized)) front
+
 -- what the record tells after a write has the disk's size
 pub sized-write : (size : ℕ) (changes : List Change) (place count : ℕ) (bytes : List ℕ) → length (told_after size changes).bytes ≡ size
-    → place + length bytes ≤ size → length (told_after size (changes ++ Write place count bytes ∷ [])).bytes ≡ size
-sized-write size changes place count bytes sized within =
-    ap (λ (told : Told). length told.bytes) (told-more size changes (Write place count bytes))
-    ∙ ((MayLeave-overwritten (told_after size changes).bytes place (length bytes) bytes (omega arith) (omega (arith, sized))).size ∙ sized)
+    → length bytes ≤ count → place + count ≤ size → length (told_after size (changes ++ Write place count bytes ∷ [])).bytes ≡ size
+sized-write size changes place count bytes sized front within =
+    ap (λ (told : Told). length told.bytes) (told-write size changes place count bytes sized front within)
+    ∙ ((MayLeave-overwritten (told_after size changes).bytes place count bytes front (omega (arith, sized))).size ∙ sized)
 
 -- and the pages read as it
 pub reads-write : (before after : ℕ → ℕ) (size : ℕ) (changes : List Change) (place count : ℕ) (bytes : List ℕ)
-    → length (told_after size changes).bytes ≡ size → place + length bytes ≤ size
+    → length (told_after size changes).bytes ≡ size → length bytes ≤ count → place + count ≤ size
     → ((byte : ℕ) → byte < size → before byte ≡ get_or (told_after size changes).bytes byte 0) → Overwrites before after place bytes
     → (byte : ℕ) → byte < size → after byte ≡ get_or (told_after size (changes ++ Write place count bytes ∷ [])).bytes byte 0
-reads-write before after size changes place count bytes sized within reads put byte below =
+reads-write before after size changes place count bytes sized front within reads put byte below =
     reads-overwritten before after (told_after size changes).bytes place bytes (omega (arith, sized)) (λ b short. reads b (omega (arith, sized))) put byte (omega (arith, sized))
-    ∙ sym (ap (λ (told : Told). get_or told.bytes byte 0) (told-more size changes (Write place count bytes)))
+    ∙ sym (ap (λ (told : Told). get_or told.bytes byte 0) (told-write size changes place count bytes sized front within))
 
 -- after a sync it tells the same bytes
 pub bytes-sync : (size : ℕ) (changes : List Change) → (told_after size (changes ++ Sync ∷ [])).bytes ≡ (told_after size changes).bytes

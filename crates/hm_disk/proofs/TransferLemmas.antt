@@ -6,7 +6,7 @@ use borrow.Rule.Slice.PartMut.{put_mid}
 use Rattle.std.proofs.lemmas.Bool.{cases_lt}
 use Rattle.hm_disk.specs.Crash.{Told, Outside, MayLeave}
 use Rattle.hm_disk.specs.Disk.{overwritten, Written}
-use Rattle.hm_disk.specs.Moments.{LeftSince, WriteElapses, SyncElapses}
+use Rattle.hm_disk.specs.Moments.{CallElapses, LeftSince, WriteElapses, SyncElapses}
 use Rattle.hm_disk.specs.Transfer.{UnsettlesAtMost, WrittenAll}
 use Rattle.hm_disk.proofs.CrashLemmas.{MayLeave-through, MayLeave-fewer}
 use Rattle.hm_disk.proofs.MomentLemmas.{Elapses-more}
@@ -16,6 +16,7 @@ use Rattle.hm_disk.proofs.OverwriteLemmas.{MayLeave-overwritten, overwritten-mor
 pub record WrittenSoFar (place : ℕ) (bytes : List ℕ) (done : ℕ) (past since : LeftSince) (old new : Told) : Type 0 where
   pub bytes_are : new.bytes ≡ overwritten old.bytes place (take done bytes)
   pub unsettled_are : UnsettlesAtMost place (length bytes) old new
+  pub moment_is : new.moment ≡ old.moment
   pub elapses : WriteElapses place (length bytes) past since old new
 
 -- a write of many pieces
@@ -45,13 +46,14 @@ module _ (place : ℕ) (bytes : List ℕ) (past : LeftSince) where
         narrower left)
 
     -- one piece more
-    pub WrittenSoFar-more : Written (place + done) (slice_range bytes done (done + count)) t u → WriteElapses (place + done) count middle since t u
+    pub WrittenSoFar-more : Written (place + done) (slice_range bytes done (done + count)) t u → CallElapses (place + done) count middle since t u
         → WrittenSoFar place bytes (done + count) past since s u
     WrittenSoFar-more then time = record {
       bytes_are = then.bytes_are ∙ (ap (λ bs. overwritten bs (place + done) (slice_range bytes done (done + count))) first.bytes_are ∙ overwritten-more s.bytes place bytes done count fits within);
       unsettled_are = λ byte outside. subst (λ (ranges : List (ℕ × ℕ)). Outside ranges byte) (sym then.unsettled_are)
           (subst (λ (n : ℕ). Outside ((place + done, n) ∷ t.unsettled) byte) (sym range) (narrower byte outside));
-      elapses = elapses time;
+      moment_is = then.moment_is ∙ first.moment_is;
+      elapses = elapses time.begun;
     }
       where
         range : length (slice_range bytes done (done + count)) ≡ count

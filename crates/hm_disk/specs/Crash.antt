@@ -2,7 +2,7 @@
 use Rattle.std.specs.Prelude.{◌≡◌, ◌⊎◌, ℕ, ◌+◌, ◌<◌, ◌≤◌, List, [], ◌∷◌, length, slice_index}
 
 -- what a disk tells: the bytes that reads give, the ranges that no sync has settled, each a place with
--- a length, and the moment, a number that never falls
+-- a length, and the moment, which a sync that succeeds raises, and nothing else
 pub record Told : Type 0 where
   pub bytes : List ℕ
   pub unsettled : List (ℕ × ℕ)

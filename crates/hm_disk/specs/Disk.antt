@@ -1,5 +1,5 @@
 -- What a call makes of what a disk tells.
-use Rattle.std.specs.Prelude.{◌≡◌, ◌⊎◌, ℕ, ◌+◌, ◌<◌, List, [], ◌∷◌, ◌++◌, length, take, drop, Option, Some, None}
+use Rattle.std.specs.Prelude.{◌≡◌, ◌⊎◌, ℕ, ◌+◌, ◌<◌, List, [], ◌∷◌, ◌++◌, length, take, drop, Option, Some, None, option_map}
 use Rattle.hm_disk.specs.Crash.{Told, MayLeave}
 
 -- a disk that told this before a call and tells that after it: it told and tells, and the two are so
@@ -10,6 +10,10 @@ BothTell (Some old) (Some new) Relation = Relation old new
 BothTell None (Some new) Relation = ⊥
 BothTell (Some old) None Relation = ⊥
 
+-- the moment, where it is told
+abbrev pub moment_of : Option Told → Option ℕ
+moment_of told = option_map (λ t. t.moment) told
+
 -- the old bytes with these in the place of those that stood there
 abbrev pub overwritten : List ℕ → ℕ → List ℕ → List ℕ
 overwritten old place bytes = take place old ++ (bytes ++ drop (place + length bytes) old)
@@ -18,19 +22,22 @@ overwritten old place bytes = take place old ++ (bytes ++ drop (place + length b
 pub record Written (place : ℕ) (bytes : List ℕ) (old new : Told) : Type 0 where
   pub bytes_are : new.bytes ≡ overwritten old.bytes place bytes
   pub unsettled_are : new.unsettled ≡ (place, length bytes) ∷ old.unsettled
+  pub moment_is : new.moment ≡ old.moment
 
 -- a write that was begun: the range holds any bytes and is unsettled too, and each byte outside it is
 -- as before
 pub record Torn (place count : ℕ) (old new : Told) : Type 0 where
   pub bytes_are : MayLeave old.bytes ((place, count) ∷ []) new.bytes
   pub unsettled_are : new.unsettled ≡ (place, count) ∷ old.unsettled
+  pub moment_is : new.moment ≡ old.moment
 
--- the disk holds what it held, as settled as it was; time may have passed
+-- the disk tells what it told
 pub record Unchanged (old new : Told) : Type 0 where
   pub bytes_are : new.bytes ≡ old.bytes
   pub unsettled_are : new.unsettled ≡ old.unsettled
+  pub moment_is : new.moment ≡ old.moment
 
--- a write that failed: it was begun, or it changed nothing at all
+-- a write that failed: it was begun, or it was not and changed nothing at all
 abbrev pub MayBeTorn : ℕ → ℕ → Told → Told → Type 0
 MayBeTorn place count old new = Torn place count old new ⊎ Unchanged old new
 

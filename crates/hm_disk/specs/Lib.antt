@@ -7,3 +7,4 @@ pub mod Moments
 pub mod Pages
 pub mod Sound
 pub mod Transfer
+pub mod WriteLaws

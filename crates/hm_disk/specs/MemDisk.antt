@@ -1,5 +1,5 @@
 -- A disk in memory: what its record of changes says that it holds, and what a call does to it.
-use Rattle.std.specs.Prelude.{◌≡◌, ◌⊎◌, ℕ, ◌+◌, ◌/◌, ◌≤◌, List, [], ◌∷◌, ◌++◌, length, take, replicate, ◌↔◌, Result, Ok, Err, IsErr, OnOk, OnErr}
+use Rattle.std.specs.Prelude.{◌≡◌, ◌⊎◌, ℕ, ◌+◌, ◌/◌, ◌≤◌, Bool, ◌&&◌, nat_le, if◌then◌else◌, IsTrue, List, [], ◌∷◌, ◌++◌, length, take, replicate, ◌↔◌, Result, Ok, Err, IsErr, OnOk, OnErr}
 use Rattle.hm_types.specs.Calls.{Counts, IsNextListed, called, faulted, no_calls}
 use Rattle.hm_disk.specs.Crash.{Told, MayLeave}
 use Rattle.hm_disk.specs.Disk.{overwritten}
@@ -20,13 +20,28 @@ zeros size = replicate size 0
 abbrev pub blank : ℕ → List ℕ → DiskState
 blank size fails = record { size = size; changes = []; calls = no_calls fails }
 
--- what a disk tells after one more change; each is a moment of its own
-abbrev pub changed : Change → Told → Told
-changed (Write place count bytes) told = record {
+-- a write lies inside a disk of this size, and the bytes that it put lie in its range
+abbrev pub fits : ℕ → ℕ → ℕ → List ℕ → Bool
+fits size place count bytes = nat_le (place + count) size && nat_le (length bytes) count
+
+-- a disk of this size may have recorded this change
+abbrev pub FitsIn : ℕ → Change → Type 0
+FitsIn size (Write place count bytes) = IsTrue (fits size place count bytes)
+FitsIn size Sync = Unit {0}
+
+-- what a disk tells after a write that put these bytes at the front of its range
+abbrev pub written : ℕ → ℕ → List ℕ → Told → Told
+written place count bytes told = record {
   bytes = overwritten told.bytes place bytes;
   unsettled = (place, count) ∷ told.unsettled;
-  moment = told.moment + 1;
+  moment = told.moment;
 }
+
+-- what a disk tells after one more change, of which a sync alone begins a moment; a write that does
+-- not fit would change nothing, and no disk in memory records one
+abbrev pub changed : Change → Told → Told
+changed (Write place count bytes) told =
+    if fits (length told.bytes) place count bytes then written place count bytes told else told
 changed Sync told = record { bytes = told.bytes; unsettled = []; moment = told.moment + 1 }
 
 -- what a disk tells after some changes
@@ -43,11 +58,11 @@ told_after size changes =
 abbrev pub told_of : DiskState → Told
 told_of d = told_after d.size d.changes
 
--- a crash since this moment may have left this image: after some of the changes, not earlier, it was
--- among those that a crash then may leave
+-- a crash since this moment may have left this image: after some first changes, at this moment or at
+-- a later one, it was among those that a crash then may leave
 abbrev pub left_after : ℕ → List Change → ℕ → List ℕ → Type 0
 left_after size changes moment image =
-    (k : ℕ) × (moment ≤ k) × (k ≤ length changes)
+    (k : ℕ) × (k ≤ length changes) × (moment ≤ (told_after size (take k changes)).moment)
     × MayLeave (told_after size (take k changes)).bytes
     (told_after size (take k changes)).unsettled image
 
@@ -63,6 +78,11 @@ with_change d change =
 -- a disk with other counts of its calls
 abbrev pub with_calls : DiskState → Counts → DiskState
 with_calls d calls = record { size = d.size; changes = d.changes; calls = calls }
+
+-- the disk as after its first so many changes, whose calls are counted anew and do not fail
+abbrev pub after_first : ℕ → DiskState → DiskState
+after_first count d =
+    record { size = d.size; changes = take count d.changes; calls = no_calls [] }
 
 -- one call more was counted, and a fault where it failed
 abbrev pub counted : {T E : Type 0} → Counts → Result T E → Counts

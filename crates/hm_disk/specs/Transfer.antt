@@ -12,11 +12,13 @@ UnsettlesAtMost place count old new =
 pub record WrittenAll (place : ℕ) (bytes : List ℕ) (old new : Told) : Type 0 where
   pub bytes_are : new.bytes ≡ overwritten old.bytes place bytes
   pub unsettled_are : UnsettlesAtMost place (length bytes) old new
+  pub moment_is : new.moment ≡ old.moment
 
 -- each byte outside the range is as before
 pub record TornAll (place count : ℕ) (old new : Told) : Type 0 where
   pub bytes_are : MayLeave old.bytes ((place, count) ∷ []) new.bytes
   pub unsettled_are : UnsettlesAtMost place count old new
+  pub moment_is : new.moment ≡ old.moment
 
 -- the disk holds these bytes there, and nothing is unsettled
 pub record WrittenSynced (place : ℕ) (bytes : List ℕ) (old new : Told) : Type 0 where

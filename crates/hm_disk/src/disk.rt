@@ -3,8 +3,8 @@ ghost use Rattle.std.specs.Prelude.{◌≡◌, ℕ, ◌≤◌, ◌+◌, List, Op
 ghost use Rattle.hm_types.specs.Faults.{HasCause};
 ghost use Rattle.hm_disk.specs.declared.limits.TheConstants.{MOST_CALL_BYTES};
 ghost use Rattle.hm_disk.specs.Crash.{Told, MayLeave};
-ghost use Rattle.hm_disk.specs.Disk.{BothTell, Written, MayBeTorn, Synced};
-ghost use Rattle.hm_disk.specs.Moments.{WriteElapses, SyncElapses, SameLeft};
+ghost use Rattle.hm_disk.specs.Disk.{BothTell, Written, MayBeTorn, Synced, moment_of};
+ghost use Rattle.hm_disk.specs.Moments.{CallElapses, SyncElapses, SameLeft};
 
 use hm_types::Failed;
 
@@ -15,7 +15,8 @@ use hm_types::Failed;
 /// the size of a disk never changes. Where it tells, a call asks that its range lies inside the disk.
 /// Its count of faults never falls, and stands still at the greatest `u64`.
 pub trait Disk {
-    /// What the disk holds, which of it is unsettled, and the moment.
+    /// What the disk holds, which of it is unsettled, and the moment: it counts the syncs that
+    /// succeeded, so that no other call changes it.
     ghost told: { Self → Option Told };
 
     /// Which images a crash at that moment or at any later one may have left, within a call too. It
@@ -44,7 +45,8 @@ pub trait Disk {
         ensures cause { HasCause (faults self.old) (faults self.new) result };
 
     /// Writes the bytes from `place` on, where they are unsettled until the next sync that succeeds.
-    /// After `Failed` the range holds any bytes and is unsettled, or nothing has changed.
+    /// After `Failed` the range holds any bytes and is unsettled, or the write was not begun: nothing
+    /// has changed, and no crash within left anything new. The moment stays.
     fn write_at(&mut self, place: u64, bytes: &[u8]) -> Result<(), Failed>
         requires length { length bytes.now ≤ MOST_CALL_BYTES }
         requires within { IfSome (told self.old) (λ t. place + length bytes.now ≤ length t.bytes) }
@@ -52,11 +54,13 @@ pub trait Disk {
             (BothTell (told self.old) (told self.new) (Written place bytes.now)) }
         ensures err { OnErr result
             (BothTell (told self.old) (told self.new) (MayBeTorn place (length bytes.now))) }
+        ensures moment { moment_of (told self.new) ≡ moment_of (told self.old) }
         ensures any_moment { BothTell (told self.old) (told self.new)
-            (WriteElapses place (length bytes.now) (left_since self.old) (left_since self.new)) }
+            (CallElapses place (length bytes.now) (left_since self.old) (left_since self.new)) }
         ensures cause { HasCause (faults self.old) (faults self.new) result };
 
-    /// Settles all that was written. After `Failed` nothing more is settled than before.
+    /// Settles all that was written, and raises the moment. After `Failed` nothing more is settled than
+    /// before, and the moment stays.
     fn sync(&mut self) -> Result<(), Failed>
         ensures ok { OnOk result (BothTell (told self.old) (told self.new) Synced) }
         ensures err { OnErr result (told self.new ≡ told self.old) }
@@ -72,7 +76,7 @@ pub trait Disk {
     ghost counts_now: { (disk : Self) (moment : ℕ) (image : List ℕ) → IfSome (told disk) (λ t.
         moment ≤ t.moment → MayLeave t.bytes t.unsettled image → left_since disk moment image) };
 
-    /// Since the present moment nothing else was left.
+    /// Since the present moment nothing else was left: within a moment writes only add to it.
     ghost only_now: { (disk : Self) (image : List ℕ) → IfSome (told disk) (λ t.
         left_since disk t.moment image → MayLeave t.bytes t.unsettled image) };
 

@@ -1,6 +1,7 @@
 // What follows from the definitions alone: each function states one law, and does nothing.
-ghost use Rattle.std.specs.Prelude.{◌≡◌, ◌≤◌, ◌∷◌, [], ℕ, List, IfSome};
+ghost use Rattle.std.specs.Prelude.{◌≡◌, ◌↔◌, ◌≤◌, ◌+◌, ◌∷◌, [], ℕ, List, IfSome, length};
 ghost use Rattle.hm_disk.specs.Crash.{Told, MayLeave};
+ghost use Rattle.hm_disk.specs.Disk.{Written, MayBeTorn};
 ghost use Rattle.hm_disk.specs.Moments.{WriteElapses, SyncElapses, SameLeft, Each};
 
 use crate::disk::Disk;
@@ -18,6 +19,22 @@ pub fn the_disk_as_it_reads_may_be_left()
 /// A crash of a disk that has no unsettled range leaves it as it reads, and nothing else.
 pub fn a_settled_disk_alone_is_left()
     ensures { (bytes image : List ℕ) → MayLeave bytes [] image → image ≡ bytes }
+{}
+
+/// What may have been left since the present moment is what a crash now may leave.
+pub fn left_since_now_is_what_a_crash_now_may_leave<D: Disk>()
+    ensures { (disk : D) (image : List ℕ) → IfSome (D.told disk) (λ t.
+        D.left_since disk t.moment image ↔ MayLeave t.bytes t.unsettled image) }
+{}
+
+/// A write only adds to what a crash may leave: what one just before it might have left, one after it
+/// still may.
+pub fn a_write_only_adds()
+    ensures ok { (old new : Told) (place : ℕ) (bytes : List ℕ) → place + length bytes ≤ length old.bytes →
+        Written place bytes old new →
+        Each (MayLeave old.bytes old.unsettled) (MayLeave new.bytes new.unsettled) }
+    ensures err { (old new : Told) (place count : ℕ) → MayBeTorn place count old new →
+        Each (MayLeave old.bytes old.unsettled) (MayLeave new.bytes new.unsettled) }
 {}
 
 /// Where all that a crash now may leave has a property, so has all that may have been left since this

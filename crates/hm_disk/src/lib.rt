@@ -16,7 +16,8 @@ pub use disk::Disk;
 pub use file_disk::FileDisk;
 pub use laws::{
     Property, a_property_holds_now, a_property_holds_over_a_read, a_property_holds_over_a_sync,
-    a_property_holds_over_a_write, a_settled_disk_alone_is_left, the_disk_as_it_reads_may_be_left,
+    a_property_holds_over_a_write, a_settled_disk_alone_is_left, a_write_only_adds,
+    left_since_now_is_what_a_crash_now_may_leave, the_disk_as_it_reads_may_be_left,
 };
 pub use limits::MOST_CALL_BYTES;
 pub use mem_disk::MemDisk;

@@ -1,11 +1,11 @@
 // A disk in memory.
-ghost use Rattle.std.specs.Prelude.{◌≡◌, ◌≤◌, ◌+◌, ◌*◌, Some, IfOk, OnOk, OnErr, length, slice_range};
+ghost use Rattle.std.specs.Prelude.{◌≡◌, ℕ, ◌≤◌, ◌+◌, ◌*◌, Some, IfOk, OnOk, OnErr, length, take, slice_range};
 ghost use Rattle.hm_types.specs.declared.limits.TheConstants.{BIGBLOCK_BYTES};
 ghost use Rattle.hm_types.specs.Calls.{no_calls};
 ghost use Rattle.hm_types.specs.Faults.{HasCause};
 ghost use Rattle.hm_disk.specs.Disk.{Written, MayBeTorn, Synced};
-ghost use Rattle.hm_disk.specs.Moments.{WriteElapses, SyncElapses, SameLeft};
-ghost use Rattle.hm_disk.specs.MemDisk.{told_of, left_of, blank, with_change, with_calls, OnlyCounts, Writes, Syncs};
+ghost use Rattle.hm_disk.specs.Moments.{CallElapses, SyncElapses, SameLeft};
+ghost use Rattle.hm_disk.specs.MemDisk.{told_of, told_after, left_of, blank, after_first, with_change, with_calls, FitsIn, OnlyCounts, Writes, Syncs};
 ghost use Rattle.hm_disk.specs.declared.change.Change.TheVariants.{Write, Sync};
 
 use crate::change::Change;
@@ -48,9 +48,16 @@ impl MemDisk {
         ensures value { result ≡ blank (bigblocks * BIGBLOCK_BYTES) fails.items }
         ensures sized { length (told_of result).bytes ≡ bigblocks * BIGBLOCK_BYTES }
     {
+        MemDisk::of_size(alloc, u64::from(bigblocks) * BIGBLOCK_BYTES, fails)
+    }
+
+    // A disk of so many bytes, all of them 0.
+    fn of_size(alloc: Global, size: u64, fails: Vec<u64>) -> MemDisk
+        ensures { result ≡ blank size fails.items }
+    {
         MemDisk {
             alloc,
-            size: u64::from(bigblocks) * BIGBLOCK_BYTES,
+            size,
             pages: Pages::new(alloc),
             changes: Vec::new(alloc),
             calls: Calls::new(fails),
@@ -75,6 +82,47 @@ impl MemDisk {
             pages,
             changes,
             calls: Calls::new(fails),
+        }
+    }
+
+    /// How many changes it has recorded: writes that put something, and syncs that succeeded.
+    pub fn changes(&self) -> usize
+        ensures { result ≡ length self.now.changes }
+    {
+        self.changes.len()
+    }
+
+    /// Another disk, as this one was after its first `count` changes, for tests of crashes: a crash
+    /// since may have left it as it reads. Its calls are counted anew, and none of them is to fail.
+    pub fn after_changes(&self, count: usize) -> Result<MemDisk, NoMemory>
+        requires { count ≤ length self.now.changes }
+        ensures value { IfOk result (λ d. d ≡ after_first count self.now) }
+        ensures told { IfOk result (λ d. told_of d
+            ≡ told_after self.now.size (take count self.now.changes)) }
+        ensures left { IfOk result (λ d. (moment : ℕ) → moment ≤ (told_of d).moment →
+            left_of self.now moment (told_of d).bytes) }
+    {
+        let mut disk = MemDisk::of_size(self.alloc, self.size, Vec::new(self.alloc));
+        for index in 0..count {
+            disk.replay(&self.changes[index])?;
+        }
+        Ok(disk)
+    }
+
+    // Makes and records a change that another disk of this size has recorded. It changes nothing where
+    // memory is refused.
+    fn replay(&mut self, change: &Change) -> Result<(), NoMemory>
+        requires { FitsIn (length (told_of self.old).bytes) change.now }
+        ensures ok { OnOk result (self.new ≡ with_change self.old change.now) }
+        ensures err { OnErr result (self.new ≡ self.old) }
+    {
+        match change {
+            Change::Write {
+                place,
+                count,
+                bytes,
+            } => self.put(*place, *count, bytes.bytes()),
+            Change::Sync => self.settle(),
         }
     }
 
@@ -157,7 +205,8 @@ impl Disk for MemDisk {
         ensures ok { OnOk result (Written place bytes.now (told_of self.old) (told_of self.new)) }
         ensures err { OnErr result
             (MayBeTorn place (length bytes.now) (told_of self.old) (told_of self.new)) }
-        ensures any_moment { WriteElapses place (length bytes.now) (left_of self.old)
+        ensures moment { (told_of self.new).moment ≡ (told_of self.old).moment }
+        ensures any_moment { CallElapses place (length bytes.now) (left_of self.old)
             (left_of self.new) (told_of self.old) (told_of self.new) }
         ensures cause { HasCause self.old.calls.faults self.new.calls.faults result }
         ensures change { Writes self.old self.new place bytes.now result }

@@ -228,6 +228,8 @@ impl Property for Any {
 fn laws_can_be_called() {
     the_disk_as_it_reads_may_be_left();
     a_settled_disk_alone_is_left();
+    left_since_now_is_what_a_crash_now_may_leave::<MemDisk>();
+    a_write_only_adds();
     a_property_holds_now::<MemDisk, Any>();
     a_property_holds_over_a_write::<MemDisk, Any>();
     a_property_holds_over_a_sync::<MemDisk, Any>();

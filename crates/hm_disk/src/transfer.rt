@@ -1,7 +1,7 @@
 // Transfers of any length, in pieces that a disk takes.
 ghost use Rattle.std.specs.Prelude.{◌≡◌, ◌<◌, ◌≤◌, ◌+◌, ◌^◌, IfSome, OnOk, OnErr, length, slice_range};
 ghost use Rattle.hm_types.specs.Faults.{HasCause};
-ghost use Rattle.hm_disk.specs.Disk.{BothTell};
+ghost use Rattle.hm_disk.specs.Disk.{BothTell, moment_of};
 ghost use Rattle.hm_disk.specs.Moments.{WriteElapses, SameLeft};
 ghost use Rattle.hm_disk.specs.Transfer.{WrittenAll, TornAll, WrittenSynced};
 
@@ -30,8 +30,9 @@ pub fn read_all_at<D: Disk>(disk: &mut D, place: u64, buf: &mut [u8]) -> Result<
 }
 
 /// Writes bytes of any number from `place` on, where they are unsettled until the next sync that
-/// succeeds. After `Failed` the range holds any bytes, and some or all of it is unsettled. At any
-/// moment within, a crash leaves what it might have left before, or changes the range alone.
+/// succeeds. After `Failed` the range holds any bytes, and some or all of it is unsettled. The moment
+/// stays. At any time within, a crash leaves what it might have left before, or changes the range
+/// alone.
 pub fn write_all_at<D: Disk>(disk: &mut D, place: u64, bytes: &[u8]) -> Result<(), Failed>
     requires range { place + length bytes.now < 2 ^ 64 }
     requires within { IfSome (D.told disk.old) (λ t. place + length bytes.now ≤ length t.bytes) }
@@ -39,6 +40,7 @@ pub fn write_all_at<D: Disk>(disk: &mut D, place: u64, bytes: &[u8]) -> Result<(
         (BothTell (D.told disk.old) (D.told disk.new) (WrittenAll place bytes.now)) }
     ensures err { OnErr result
         (BothTell (D.told disk.old) (D.told disk.new) (TornAll place (length bytes.now))) }
+    ensures moment { moment_of (D.told disk.new) ≡ moment_of (D.told disk.old) }
     ensures any_moment { BothTell (D.told disk.old) (D.told disk.new)
         (WriteElapses place (length bytes.now) (D.left_since disk.old) (D.left_since disk.new)) }
     ensures cause { HasCause (D.faults disk.old) (D.faults disk.new) result }
@@ -53,8 +55,8 @@ pub fn write_all_at<D: Disk>(disk: &mut D, place: u64, bytes: &[u8]) -> Result<(
 }
 
 /// Writes bytes of any number from `place` on, and then settles all that was written. After `Failed`
-/// the range holds any bytes, and some or all of it is unsettled. At any moment within, a crash leaves
-/// what it might have left before, or changes the range alone.
+/// the range holds any bytes, some or all of it is unsettled, and the moment stays. At any time within,
+/// a crash leaves what it might have left before, or changes the range alone.
 pub fn write_synced<D: Disk>(disk: &mut D, place: u64, bytes: &[u8]) -> Result<(), Failed>
     requires range { place + length bytes.now < 2 ^ 64 }
     requires within { IfSome (D.told disk.old) (λ t. place + length bytes.now ≤ length t.bytes) }
@@ -62,6 +64,7 @@ pub fn write_synced<D: Disk>(disk: &mut D, place: u64, bytes: &[u8]) -> Result<(
         (BothTell (D.told disk.old) (D.told disk.new) (WrittenSynced place bytes.now)) }
     ensures err { OnErr result
         (BothTell (D.told disk.old) (D.told disk.new) (TornAll place (length bytes.now))) }
+    ensures moment { OnErr result (moment_of (D.told disk.new) ≡ moment_of (D.told disk.old)) }
     ensures any_moment { BothTell (D.told disk.old) (D.told disk.new)
         (WriteElapses place (length bytes.now) (D.left_since disk.old) (D.left_since disk.new)) }
     ensures cause { HasCause (D.faults disk.old) (D.faults disk.new) result }

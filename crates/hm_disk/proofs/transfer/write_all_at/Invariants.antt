@@ -1,5 +1,5 @@
-use Rattle.std.proofs.Common.{length, ◌-◌, ◌≤◌}
-use Rattle.hm_disk.specs.Disk.{BothTell}
+use Rattle.std.proofs.Common.{◌≡◌, length, ◌-◌, ◌≤◌}
+use Rattle.hm_disk.specs.Disk.{BothTell, moment_of}
 use Rattle.hm_disk.proofs.TransferLemmas.{WrittenSoFar}
 use Rattle.hm_disk.proofs.transfer.write_all_at.Given as goal
 
@@ -9,6 +9,7 @@ invariant-loop-done g l = record {
   within : l.done ≤ length l.bytes;
   told : BothTell (g.D.Disk.told l.fn.disk) (g.D.Disk.told l.disk)
       (WrittenSoFar l.place l.bytes l.done (g.D.Disk.left_since l.fn.disk) (g.D.Disk.left_since l.disk));
+  moment : moment_of (g.D.Disk.told l.disk) ≡ moment_of (g.D.Disk.told l.fn.disk);
   counted : g.D.Disk.faults l.fn.disk ≤ g.D.Disk.faults l.disk;
 }
 

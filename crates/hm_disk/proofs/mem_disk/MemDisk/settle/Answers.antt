@@ -1,4 +1,6 @@
 use Rattle.std.proofs.Common.{◌≡◌, ◌∷◌, [], ◌++◌, ◌∙◌, sym, ap, length, get_or}
+use Rattle.std.proofs.lemmas.List.Elements.{All-push}
+use Rattle.hm_disk.specs.MemDisk.{FitsIn}
 use Rattle.hm_disk.specs.declared.change.Change.TheVariants.{Sync}
 use Rattle.hm_disk.proofs.SoundLemmas.{bytes-sync}
 use Rattle.hm_disk.proofs.mem_disk.MemDisk.settle.Goals as goal
@@ -8,6 +10,7 @@ invariant_of-self-2 c =
     let same = bytes-sync c.self.inside.size c.self.inside.changes.items in
     let noted : c.push.new.self.items ≡ c.self.inside.changes.items ++ Sync ∷ [] = c.in_ok-push.ensures.items in
     record {
+      fit = rw noted (All-push (FitsIn c.self.inside.size) c.self.inside.changes.items Sync c.self.invariant.fit tt);
       sized = rw noted (ap length same ∙ c.self.invariant.sized);
       reads = rw noted (λ byte below. c.self.invariant.reads byte below ∙ sym (ap (λ bs. get_or bs byte 0) same));
     }
