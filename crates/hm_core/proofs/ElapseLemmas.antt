@@ -1,5 +1,5 @@
 -- What a crash leaves within a header change.
-use Rattle.std.proofs.Common.{◌≡◌, inl, inr, ⊎_elim, ℕ, ◌+◌, ◌-◌, ◌≤◌, List, ◌∷◌, sym, subst, arith, ◌∙◌, length, get_or, slice_index, slice_range, Option, IfSome}
+use Rattle.std.proofs.Common.{◌≡◌, inl, inr, ⊎_elim, ℕ, ◌+◌, ◌-◌, ◌≤◌, List, ◌∷◌, refl, sym, subst, arith, ◌∙◌, length, get_or, slice_index, slice_range, Option, IfSome}
 use Rattle.hm_disk.specs.Crash.{Told, MayLeave}
 use Rattle.hm_disk.specs.Disk.{BothTell}
 use Rattle.hm_disk.specs.Moments.{Each, Elapses, LeftSince, SameLeft, SyncElapses, WriteElapses}
@@ -30,6 +30,7 @@ unfolding left_as
 torn place count t image settled left = record {
   bytes_are = subst (λ (ranges : List (ℕ × ℕ)). MayLeave t.bytes ((place, count) ∷ ranges) image) settled left;
   unsettled_are = λ byte outside. outside;
+  moment_is = refl;
 }
 
 -- more images

@@ -85,7 +85,7 @@ impl MemDisk {
         }
     }
 
-    /// How many changes it has recorded: writes that put something, and syncs that succeeded.
+    /// How many changes it has recorded: each write that was begun, and each sync that succeeded.
     pub fn changes(&self) -> usize
         ensures { result ≡ length self.now.changes }
     {
@@ -97,6 +97,8 @@ impl MemDisk {
     pub fn after_changes(&self, count: usize) -> Result<MemDisk, NoMemory>
         requires { count ≤ length self.now.changes }
         ensures value { IfOk result (λ d. d ≡ after_first count self.now) }
+        ensures sized { IfOk result (λ d.
+            length (told_of d).bytes ≡ length (told_of self.now).bytes) }
         ensures told { IfOk result (λ d. told_of d
             ≡ told_after self.now.size (take count self.now.changes)) }
         ensures left { IfOk result (λ d. (moment : ℕ) → moment ≤ (told_of d).moment →

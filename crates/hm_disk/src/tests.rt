@@ -117,6 +117,46 @@ fn counts_its_calls_anew(rt: HostRuntime) -> Result<(), Fail> {
     Ok(())
 }
 
+// The disk as a crash after so many changes may have left it.
+fn crashed(disk: &MemDisk, count: usize) -> Result<MemDisk, Fail>
+    requires { count ≤ length disk.now.changes }
+    ensures { IfOk result (λ d. length (told_of d).bytes ≡ length (told_of disk.now).bytes) }
+{
+    Ok(disk.after_changes(count)?)
+}
+
+#[test]
+fn a_disk_is_had_as_after_each_of_its_changes(rt: HostRuntime) -> Result<(), Fail> {
+    let mut disk = mem_disk(rt.alloc(), &[4, 5])?;
+    assert_eq!(rt; put(&mut disk, 4_092, b"abcdef"), Ok(()));
+    assert_eq!(rt; disk.sync(), Ok(()));
+    assert_eq!(rt; put(&mut disk, 4_094, b"CD"), Ok(()));
+    // It puts the first half, and the sync after it settles nothing.
+    assert_eq!(rt; put(&mut disk, 4_095, b"1234"), Err(Failed));
+    assert_eq!(rt; disk.sync(), Err(Failed));
+    assert_eq!(rt; put(&mut disk, 4_099, b"z"), Ok(()));
+    assert_eq!(rt; disk.sync(), Ok(()));
+    for (count, held) in [
+        (0, "\0\0\0\0\0\0\0\0"),
+        (1, "abcdef\0\0"),
+        (2, "abcdef\0\0"),
+        (3, "abCDef\0\0"),
+        (4, "abC12f\0\0"),
+        (5, "abC12f\0z"),
+        (6, "abC12f\0z"),
+    ] {
+        assert!(rt; count <= disk.changes(), "{count}");
+        let mut then = crashed(&disk, count)?;
+        let mut buf = [b'-'; 8];
+        assert_eq!(rt; get(&mut then, 4_092, &mut buf), Ok(()), "{count}");
+        assert_eq!(rt; buf.as_slice(), held.as_bytes(), "{count}");
+        assert_eq!(rt; then.changes(), count, "{count}");
+        assert_eq!(rt; (then.sync(), then.faults()), (Ok(()), 0), "{count}");
+    }
+    assert_eq!(rt; (disk.changes(), disk.faults()), (6, 2));
+    Ok(())
+}
+
 // So many bytes, none of them 0 and no two neighbours equal.
 fn pattern(alloc: Global, count: usize) -> Result<Vec<u8>, Fail>
     ensures { IfOk result (λ bytes. vec_len bytes ≡ count) }

@@ -4,7 +4,6 @@ use Rattle.std.proofs.lemmas.List.Elements.{All-get_or}
 use Rattle.hm_types.specs.Calls.{no_calls}
 use Rattle.hm_disk.specs.MemDisk.{DiskState, FitsIn, told_of, with_change}
 use Rattle.hm_disk.specs.declared.change.Change.{Change}
-use Rattle.hm_disk.proofs.CrashLemmas.{MayLeave-same}
 use Rattle.hm_disk.proofs.SoundLemmas.{length-told}
 use Rattle.hm_disk.proofs.mem_disk.MemDisk.after_changes.Goals as goal
 
@@ -33,3 +32,10 @@ loop-index-preserved c =
     c.in_ok-replay.ensures.ok
     ∙ (ap (λ (d : DiskState). with_change d change) c.loop-index.invariant
     ∙ ap (λ (changes : List Change). record { size = old.size; changes = changes; calls = no_calls [] }) more)
+
+pub returns-clause-sized : goal.returns-clause-sized
+returns-clause-sized c =
+    let old = c.args.self.now in
+    let disk = c.loop-index.disk in
+    let size : disk.size ≡ old.size = ap (λ (d : DiskState). d.size) c.loop-index.invariant in
+    length-told disk.size disk.changes ∙ (size ∙ sym (length-told old.size old.changes))
