@@ -109,11 +109,13 @@ module _ (old new : DiskState) (sizes : new.size ≡ old.size) where
     moment-written = Torn-write.moment_is
 
     elapses_write : WriteElapses place count (left_of old) (left_of new) (told_of old) (told_of new)
-    elapses_write = elapses_changed (Write place count bytes) _ changes (ap (λ (told : Told). length told.bytes) is_written ∙ over.size)
-        (λ image left. MayLeave-through (told_of old).bytes (overwritten (told_of old).bytes place bytes) image ((place, count) ∷ (told_of old).unsettled) ((place, count) ∷ (told_of old).unsettled)
-        (MayLeave-fewer (told_of old).bytes (overwritten (told_of old).bytes place bytes) ((place, count) ∷ (told_of old).unsettled) ((place, count) ∷ []) (λ byte outside. (outside.0, tt)) over)
-        (λ byte outside. outside)
-        (subst (λ (told : Told). MayLeave told.bytes told.unsettled image) is_written left))
+    elapses_write =
+        let bytes_then = overwritten (told_of old).bytes place bytes in
+        let ranges = (place, count) ∷ (told_of old).unsettled in
+        elapses_changed (Write place count bytes) _ changes (ap (λ (told : Told). length told.bytes) is_written ∙ over.size)
+        (λ image left. MayLeave-through (told_of old).bytes bytes_then image ranges ranges
+        (MayLeave-fewer (told_of old).bytes bytes_then ranges ((place, count) ∷ []) (λ byte outside. (outside.0, tt)) over)
+        (λ byte outside. outside) (subst (λ (told : Told). MayLeave told.bytes told.unsettled image) is_written left))
 
     -- its range is unsettled besides, so it was begun
     pub CallElapses-write : CallElapses place count (left_of old) (left_of new) (told_of old) (told_of new)
@@ -133,7 +135,8 @@ module _ (old new : DiskState) (sizes : new.size ≡ old.size) where
 
   -- nothing was recorded
   pub Unchanged-same : new.changes ≡ old.changes → Unchanged (told_of old) (told_of new)
-  Unchanged-same changes = subst (λ (told : Told). Unchanged (told_of old) told) (sym (told-same changes)) (record { bytes_are = refl; unsettled_are = refl; moment_is = refl })
+  Unchanged-same changes = subst (λ (told : Told). Unchanged (told_of old) told) (sym (told-same changes))
+      (record { bytes_are = refl; unsettled_are = refl; moment_is = refl })
 
   pub CallElapses-same : (place count : ℕ) → new.changes ≡ old.changes → CallElapses place count (left_of old) (left_of new) (told_of old) (told_of new)
   CallElapses-same place count changes = record { begun = Elapses-same _ changes; not_begun = λ same. SameLeft-same changes }

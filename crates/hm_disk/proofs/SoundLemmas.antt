@@ -22,7 +22,8 @@ get_or-zeros size byte below = get_or-replicate size byte 0 0 below
 
 -- what a record tells has the disk's size
 length-changed : (change : Change) (told : Told) → length (changed change told).bytes ≡ length told.bytes
-length-changed (Write place count bytes) told = length_if (fits (length told.bytes) place count bytes) (fits-within (length told.bytes) place count bytes)
+length-changed (Write place count bytes) told =
+    length_if (fits (length told.bytes) place count bytes) (fits-within (length told.bytes) place count bytes)
   where
     length_if : (b : Bool) → (b ≡ true → (place + count ≤ length told.bytes) × (length bytes ≤ count))
         → length (if b then written place count bytes told else told).bytes ≡ length told.bytes
@@ -60,26 +61,22 @@ reads-overwritten before after old place bytes within reads put byte below = ⊎
     from : place ≤ byte → after byte ≡ get_or (overwritten old place bytes) byte 0
     from long = ⊎_elim (λ short. inside short long) (λ past. outside (inr past)) (cases_lt byte (place + length bytes))
 
-told-write : (size : ℕ) (changes : List Change) (place count : ℕ) (bytes : List ℕ) → length (told_after size changes).bytes ≡ size
-    → length bytes ≤ count → place + count ≤ size → told_after size (changes ++ Write place count bytes ∷ []) ≡ written place count bytes (told_after size changes)
-told-write size changes place count bytes sized front within =
-    told-more size changes (Write place count bytes) ∙ changed-write (told_after size changes) place count bytes (omega (arith, sized)) front
+told-write : (size : ℕ) (changes : List Change) (place count : ℕ) (bytes : List ℕ) → length bytes ≤ count → place + count ≤ size
+    → told_after size (changes ++ Write place count bytes ∷ []) ≡ written place count bytes (told_after size changes)
+told-write size changes place count bytes front within =
+    told-more size changes (Write place count bytes)
+    ∙ changed-write (told_after size changes) place count bytes (omega (arith, length-told size changes)) front
 
--- what the record tells after a write has the disk's size
-pub sized-write : (size : ℕ) (changes : List Change) (place count : ℕ) (bytes : List ℕ) → length (told_after size changes).bytes ≡ size
-    → length bytes ≤ count → place + count ≤ size → length (told_after size (changes ++ Write place count bytes ∷ [])).bytes ≡ size
-sized-write size changes place count bytes sized front within =
-    ap (λ (told : Told). length told.bytes) (told-write size changes place count bytes sized front within)
-    ∙ ((MayLeave-overwritten (told_after size changes).bytes place count bytes front (omega (arith, sized))).size ∙ sized)
-
--- and the pages read as it
+-- the pages read as the record after a write
 pub reads-write : (before after : ℕ → ℕ) (size : ℕ) (changes : List Change) (place count : ℕ) (bytes : List ℕ)
-    → length (told_after size changes).bytes ≡ size → length bytes ≤ count → place + count ≤ size
+    → length bytes ≤ count → place + count ≤ size
     → ((byte : ℕ) → byte < size → before byte ≡ get_or (told_after size changes).bytes byte 0) → Overwrites before after place bytes
     → (byte : ℕ) → byte < size → after byte ≡ get_or (told_after size (changes ++ Write place count bytes ∷ [])).bytes byte 0
-reads-write before after size changes place count bytes sized front within reads put byte below =
-    reads-overwritten before after (told_after size changes).bytes place bytes (omega (arith, sized)) (λ b short. reads b (omega (arith, sized))) put byte (omega (arith, sized))
-    ∙ sym (ap (λ (told : Told). get_or told.bytes byte 0) (told-write size changes place count bytes sized front within))
+reads-write before after size changes place count bytes front within reads put byte below =
+    let sized = length-told size changes in
+    reads-overwritten before after (told_after size changes).bytes place bytes (omega (arith, sized))
+    (λ b short. reads b (omega (arith, sized))) put byte (omega (arith, sized))
+    ∙ sym (ap (λ (told : Told). get_or told.bytes byte 0) (told-write size changes place count bytes front within))
 
 -- after a sync it tells the same bytes
 pub bytes-sync : (size : ℕ) (changes : List Change) → (told_after size (changes ++ Sync ∷ [])).bytes ≡ (told_after size changes).bytes

@@ -1,5 +1,6 @@
 // Disks by tables of calls, with each call failing in turn, and a disk over a real file.
-ghost use Rattle.std.specs.Prelude.{◌≡◌, IfOk, OnOk, length, vec_len};
+ghost use Rattle.std.specs.Prelude.{◌≡◌, ◌≤◌, IfSome, IfOk, OnOk, length, vec_len};
+ghost use Rattle.hm_disk.specs.Disk.{moment_of};
 ghost use Rattle.hm_disk.specs.MemDisk.{told_of};
 
 use crate::*;
@@ -154,6 +155,25 @@ fn a_disk_is_had_as_after_each_of_its_changes(rt: HostRuntime) -> Result<(), Fai
         assert_eq!(rt; (then.sync(), then.faults()), (Ok(()), 0), "{count}");
     }
     assert_eq!(rt; (disk.changes(), disk.faults()), (6, 2));
+    Ok(())
+}
+
+// Generic code that writes keeps the moment, wherever it ends: the clauses go from call to call.
+fn write_between_sizes<D: Disk>(disk: &mut D) -> Result<u64, Failed>
+    requires { IfSome (D.told disk.old) (λ t. 0 + 3 ≤ length t.bytes) }
+    ensures { moment_of (D.told disk.new) ≡ moment_of (D.told disk.old) }
+{
+    disk.size()?;
+    disk.write_at(0, b"abc")?;
+    disk.size()
+}
+
+#[test]
+fn writes_keep_the_moment_of_any_disk(rt: HostRuntime) -> Result<(), Fail> {
+    for (fails, want) in [(0, Ok(201_326_592)), (2, Err(Failed)), (3, Err(Failed))] {
+        let mut disk = mem_disk(rt.alloc(), &[fails])?;
+        assert_eq!(rt; write_between_sizes(&mut disk), want, "{fails}");
+    }
     Ok(())
 }
 

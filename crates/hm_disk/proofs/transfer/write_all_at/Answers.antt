@@ -24,7 +24,8 @@ loop-done-preserved g c =
     let time = subst (λ (n : ℕ). BothTell told new (CallElapses (place + done) n middle since)) long c.in_ok-write_at.ensures.any_moment in
     record {
       within = within;
-      told = BothTell-then old told new (λ t. place + length bytes ≤ length t.bytes) _ (λ (t u : Told). Written (place + done) (slice_range bytes done (done + count)) t u × CallElapses (place + done) count middle since t u) _
+      told = BothTell-then old told new (λ t. place + length bytes ≤ length t.bytes) _
+          (λ (t u : Told). Written (place + done) (slice_range bytes done (done + count)) t u × CallElapses (place + done) count middle since t u) _
           (λ s t u fits first then. WrittenSoFar-more place bytes past done count within middle since s t u fits first then.0 then.1)
           c.requires.within c.loop-done.invariant.told (BothTell-and told new _ _ c.in_ok-write_at.ensures.ok time);
       moment = c.in_ok-write_at.ensures.moment ∙ c.loop-done.invariant.moment;

@@ -13,8 +13,10 @@ replay-requires c =
     let changes = c.self.inside.changes.items in
     let index = c.loop-index.index in
     let change = c.index.result.now in
-    let below : index < length changes = omega (arith, c.requires, c.loop-index-test.true, ap (λ (d : DiskState). length d.changes) c.self.view_is) in
-    let disk_size : c.loop-index.disk.size ≡ size = ap (λ (d : DiskState). d.size) c.loop-index.invariant ∙ sym (ap (λ (d : DiskState). d.size) c.self.view_is) in
+    let below : index < length changes =
+    omega (arith, c.requires, c.loop-index-test.true, ap (λ (d : DiskState). length d.changes) c.self.view_is) in
+    let disk_size : c.loop-index.disk.size ≡ size =
+    ap (λ (d : DiskState). d.size) c.loop-index.invariant ∙ sym (ap (λ (d : DiskState). d.size) c.self.view_is) in
     let same : length (told_of c.loop-index.disk).bytes ≡ size = length-told c.loop-index.disk.size c.loop-index.disk.changes ∙ disk_size in
     subst (λ (n : ℕ). FitsIn n change) (sym same)
     (subst (λ (one : Change). FitsIn size one) (sym c.index.ensures) (All-get_or (FitsIn size) changes index change below c.self.invariant.fit))

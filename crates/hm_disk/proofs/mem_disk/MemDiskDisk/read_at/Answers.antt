@@ -6,13 +6,15 @@ use Rattle.hm_disk.proofs.mem_disk.MemDiskDisk.read_at.Goals as goal
 
 pub read-requires : goal.read-requires
 read-requires c =
-    let sized : length (told_of c.args.self.now).bytes ≡ c.self.inside.size = ap (λ (d : DiskState). length (told_of d).bytes) (sym c.self.view_is) ∙ c.self.invariant.sized in
+    let sized : length (told_of c.args.self.now).bytes ≡ c.self.inside.size =
+    ap (λ (d : DiskState). length (told_of d).bytes) (sym c.self.view_is) ∙ c.self.invariant.sized in
     record { range = omega arith }
 
 pub returns-clause-ok : goal.returns-clause-ok
 returns-clause-ok c =
     let view = c.self.view_is in
-    let sized : length (told_of c.args.self.now).bytes ≡ c.self.inside.size = ap (λ (d : DiskState). length (told_of d).bytes) (sym c.self.view_is) ∙ c.self.invariant.sized in
+    let sized : length (told_of c.args.self.now).bytes ≡ c.self.inside.size =
+    ap (λ (d : DiskState). length (told_of d).bytes) (sym c.self.view_is) ∙ c.self.invariant.sized in
     let within : c.args.place + length c.args.buf.now ≤ length (told_of c.args.self.now).bytes = c.requires.within in
     let long : length c.read.new.buf ≡ length c.args.buf.now = search rules in
     rw (← long) (range_read _ c.read.new.buf c.args.place (byte_of c.self.inside.pages) (omega arith) (λ i below. c.read.ensures i (omega arith))

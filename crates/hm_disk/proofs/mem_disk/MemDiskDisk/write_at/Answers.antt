@@ -13,7 +13,8 @@ returns-in-Ok-clause-ok c =
     let write = Write c.args.place (length bytes) bytes in
     let is : c.put-2.new.self ≡ with_change (with_calls old c.begin.new.self) write =
     c.in-Ok.ensures.ok ∙ ap (λ (d : DiskState). with_change (with_calls d c.begin.new.self) write) c.self.view_is in
-    Written-write old c.put-2.new.self (ap (λ (d : DiskState). d.size) is) c.args.place (length bytes) bytes (ap (λ (d : DiskState). d.changes) is) (omega arith) c.requires.within refl
+    Written-write old c.put-2.new.self (ap (λ (d : DiskState). d.size) is) c.args.place (length bytes) bytes
+    (ap (λ (d : DiskState). d.changes) is) (omega arith) c.requires.within refl
 
 pub returns-in-Ok-clause-moment : goal.returns-in-Ok-clause-moment
 returns-in-Ok-clause-moment c =
@@ -22,7 +23,8 @@ returns-in-Ok-clause-moment c =
     let write = Write c.args.place (length bytes) bytes in
     let is : c.put-2.new.self ≡ with_change (with_calls old c.begin.new.self) write =
     c.in-Ok.ensures.ok ∙ ap (λ (d : DiskState). with_change (with_calls d c.begin.new.self) write) c.self.view_is in
-    moment-written old c.put-2.new.self (ap (λ (d : DiskState). d.size) is) c.args.place (length bytes) bytes (ap (λ (d : DiskState). d.changes) is) (omega arith) c.requires.within
+    moment-written old c.put-2.new.self (ap (λ (d : DiskState). d.size) is) c.args.place (length bytes) bytes
+    (ap (λ (d : DiskState). d.changes) is) (omega arith) c.requires.within
 
 pub returns-in-Ok-clause-any_moment : goal.returns-in-Ok-clause-any_moment
 returns-in-Ok-clause-any_moment c =
@@ -31,7 +33,8 @@ returns-in-Ok-clause-any_moment c =
     let write = Write c.args.place (length bytes) bytes in
     let is : c.put-2.new.self ≡ with_change (with_calls old c.begin.new.self) write =
     c.in-Ok.ensures.ok ∙ ap (λ (d : DiskState). with_change (with_calls d c.begin.new.self) write) c.self.view_is in
-    CallElapses-write old c.put-2.new.self (ap (λ (d : DiskState). d.size) is) c.args.place (length bytes) bytes (ap (λ (d : DiskState). d.changes) is) (omega arith) c.requires.within
+    CallElapses-write old c.put-2.new.self (ap (λ (d : DiskState). d.size) is) c.args.place (length bytes) bytes
+    (ap (λ (d : DiskState). d.changes) is) (omega arith) c.requires.within
 
 -- a listed call: half of the bytes were put, or nothing was
 pub returns-then-is_err-clause-err : goal.returns-then-is_err-clause-err
