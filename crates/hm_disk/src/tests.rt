@@ -160,7 +160,7 @@ fn a_disk_is_had_as_after_each_of_its_changes(rt: HostRuntime) -> Result<(), Fai
 
 // Generic code that writes keeps the moment, wherever it ends: the clauses go from call to call.
 fn write_between_sizes<D: Disk>(disk: &mut D) -> Result<u64, Failed>
-    requires { IfSome (D.told disk.old) (λ t. 0 + 3 ≤ length t.bytes) }
+    requires { IfSome (D.told disk.old) (λ t. 3 ≤ length t.bytes) }
     ensures { moment_of (D.told disk.new) ≡ moment_of (D.told disk.old) }
 {
     disk.size()?;
