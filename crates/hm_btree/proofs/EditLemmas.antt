@@ -1,6 +1,6 @@
 -- A step of a call down to a child, and back.
 use Rattle.std.proofs.Common.{◌≡◌, ℕ, zero, suc, ◌+◌, ◌<◌, ◌≤◌, List, [], ◌∷◌, ◌++◌, length, take, drop, refl, sym, ap, subst, ◌∙◌, arith, max, Some, None, Err, length-append}
-use Rattle.std.specs.Prelude.{Option, IfSome, All, slice_get, slice_set, slice_index_or}
+use Rattle.std.specs.Prelude.{IsSome, Option, IfSome, All, slice_get, slice_set, slice_index_or}
 use Rattle.std.specs.List.{AllByRecursion}
 use Rattle.std.proofs.lemmas.Grind.{flat_map-append}
 use Rattle.std.proofs.lemmas.List.Elements.{All-from_recursion, recursion_from_All}
@@ -19,7 +19,8 @@ use Rattle.hm_node.specs.declared.inner.Child.{Child}
 use Rattle.hm_node.specs.declared.inner.Inner.{Inner}
 use Rattle.hm_node.specs.declared.node.Node.{Node}
 use Rattle.hm_node.specs.declared.node.Node.TheVariants.{Inner as inner_node}
-use Rattle.hm_search.specs.Place.{IsInside, BeginsAt, Fits, FitsCount, SpellsHere, TellsDamage, mirror_of}
+use Rattle.hm_search.specs.Descent.{StandsHere}
+use Rattle.hm_search.specs.Place.{IsInside, BeginsAt, Fits, FitsCount, TellsDamage, mirror_of}
 use Rattle.hm_search.specs.Search.{holder_place}
 use Rattle.hm_search.specs.Tree.{node_at, elements_in, next_left, child_place, children_of, IsTree, IsStoredTree}
 use Rattle.hm_search.specs.declared.subtree.Parent.{Parent}
@@ -66,29 +67,33 @@ stored_below map height place node inner i s tree is at = by_height height (subs
   by_height (suc h) tree = record { lower = h; is = refl; stored = each_get (IsStoredTree map h) (children_of inner) i s at tree.below }
 
 -- the node that was read there
-pub tree_read : (map : PageMap) (lower : ℕ) (s : Subtree) (child : Node) → IsStoredTree map lower s → SpellsHere s (page_in (map s.at)) child → IsTree map lower s child
-tree_read map lower s child stored here = subst (λ (n : Node). IsTree map lower s n) here.spelled.value stored.tree
+pub tree_read : (map : PageMap) (lower : ℕ) (s : Subtree) (child : Node) → IsStoredTree map lower s → StandsHere map s child → IsTree map lower s child
+tree_read map lower s child stored here = subst (λ (n : Node). IsTree map lower s n) (here.spelled stored.there).value stored.tree
+
+-- it is the one in the page of the child that stands there
+pub read_there : (map : PageMap) (s : Subtree) (at : ℕ) (child : Node) → s.at ≡ at → IsSome (map at) → StandsHere map s child → node_at map at ≡ child
+read_there map s at child same there here = ap (node_at map) (sym same) ∙ (here.spelled (subst (λ (x : ℕ). IsSome (map x)) (sym same) there)).value
 
 -- the cause of a fault of the read, and of one further down
 pub cause_read : (told : Option PageMap) (node : Node) (inner : Inner) (i : ℕ) (s : Subtree) (old new : ℕ) (fault : Fault) → node ≡ inner_node inner → slice_get (children_of inner) i ≡ Some s
-    → HasFaultCause {T = Node} old new (Err fault) → IfSome told (λ map. TellsDamage s (page_in (map s.at)) fault) → HasEditCause {T = Unit {0}} told node old new (Err fault)
+    → HasFaultCause {T = Node} old new (Err fault) → IfSome told (λ map. TellsDamage s (map s.at) fault) → HasEditCause {T = Unit {0}} told node old new (Err fault)
 cause_read told node inner i s old new fault is at counted damage = record {
   counted = record { never_falls = counted.never_falls; caused = counted.caused };
   undamaged = if_told told damage;
 } where
-  if_told : (o : Option PageMap) → IfSome o (λ map. TellsDamage s (page_in (map s.at)) fault) → IfSome o (λ map. (place : Subtree) (height : ℕ) → IsTree map height place node → IsUndamaged fault)
+  if_told : (o : Option PageMap) → IfSome o (λ map. TellsDamage s (map s.at) fault) → IfSome o (λ map. (place : Subtree) (height : ℕ) → IsTree map height place node → IsUndamaged fault)
   if_told None damage = tt
   if_told (Some map) damage = λ place height tree.
       let below = stored_below map height place node inner i s tree is at in
-      tells_undamaged s (page_in (map s.at)) (node_at map s.at) fault (stored_here map below.lower s below.stored) damage
+      tells_undamaged s (map s.at) (node_at map s.at) fault below.stored.there (stored_here map below.lower s below.stored) damage
 
 pub cause_below : {T : Type 0} (told now : Option PageMap) (node child : Node) (inner : Inner) (i : ℕ) (s : Subtree) (old mid new : ℕ) (fault : Fault) → node ≡ inner_node inner → slice_get (children_of inner) i ≡ Some s
-    → now ≡ told → old ≤ mid → IfSome told (λ map. SpellsHere s (page_in (map s.at)) child) → HasEditCause {T = T} now child mid new (Err fault) → HasEditCause {T = T} told node old new (Err fault)
+    → now ≡ told → old ≤ mid → IfSome told (λ map. StandsHere map s child) → HasEditCause {T = T} now child mid new (Err fault) → HasEditCause {T = T} told node old new (Err fault)
 cause_below told now node child inner i s old mid new fault is at same low here cause = record {
   counted = record { never_falls = omega (arith, cause.counted.never_falls); caused = caused_since old mid new fault low cause.counted.caused };
   undamaged = if_told told here (subst (λ (o : Option PageMap). IfSome o (λ map. (place : Subtree) (height : ℕ) → IsTree map height place child → IsUndamaged fault)) same cause.undamaged);
 } where
-  if_told : (o : Option PageMap) → IfSome o (λ map. SpellsHere s (page_in (map s.at)) child) → IfSome o (λ map. (place : Subtree) (height : ℕ) → IsTree map height place child → IsUndamaged fault)
+  if_told : (o : Option PageMap) → IfSome o (λ map. StandsHere map s child) → IfSome o (λ map. (place : Subtree) (height : ℕ) → IsTree map height place child → IsUndamaged fault)
       → IfSome o (λ map. (place : Subtree) (height : ℕ) → IsTree map height place node → IsUndamaged fault)
   if_told None here more = tt
   if_told (Some map) here more = λ place height tree.

@@ -15,7 +15,8 @@ use Rattle.hm_node.specs.declared.inner.Inner.{Inner}
 use Rattle.hm_node.specs.declared.leaf.Leaf.{Leaf}
 use Rattle.hm_node.specs.declared.node.Node.{Node}
 use Rattle.hm_node.specs.declared.node.Node.TheVariants.{Leaf as leaf_node, Inner as inner_node}
-use Rattle.hm_search.specs.Place.{IsInside, SpellsHere, mirror_of}
+use Rattle.hm_search.specs.Descent.{StandsHere}
+use Rattle.hm_search.specs.Place.{IsInside, mirror_of}
 use Rattle.hm_search.specs.Search.{holder_place}
 use Rattle.hm_search.specs.Tree.{node_at, elements_in, next_left, child_place, children_of, IsTree, IsStoredTree}
 use Rattle.hm_search.specs.declared.subtree.Subtree.{Subtree}
@@ -26,7 +27,7 @@ use Rattle.hm_btree.specs.Space.{HasWritten, HasAdded, IsSpot}
 use Rattle.hm_btree.specs.Below.{IsLocal}
 use Rattle.hm_btree.specs.Grow.{Split, GrownTo, Grows, LeafBecomes, InnerBecomes}
 use Rattle.hm_btree.specs.declared.upper.Upper.{Upper}
-use Rattle.hm_btree.proofs.EditLemmas.{split_at, set_at_place, child_inside, child_tree, child_element}
+use Rattle.hm_btree.proofs.EditLemmas.{read_there, split_at, set_at_place, child_inside, child_tree, child_element}
 use Rattle.hm_btree.proofs.GrowLemmas.{grown_leaf, grown_parent}
 
 -- a leaf got an element
@@ -52,7 +53,7 @@ becomes_same l l' m m' cs cs' r r' x o a b c d becomes =
 
 module _ (f : List Element → List Element) (key : Key) (marking : Marking) (Needs : Option Element → Type 0) (More : Type 0) (local : IsLocal f key) (inner inner1 inner2 : Inner) (i : ℕ) (s : Subtree) (child after : Node) (m : ℕ) (upper : Upper) (at : ℕ) (mu : ℕ) (o : Option Upper) where
   parent_grown : (old mid new1 new2 : PageMap) (lower : ℕ) (place : Subtree) → IsTree old (suc lower) place (inner_node inner) → IsInside place.left place.right key → i ≡ holder_place key inner.places.items
-      → IsChildAt inner.level inner.right inner.places.items i s → SpellsHere s (page_in (old s.at)) child → HasWritten s.at after mid new1 → HasAdded at upper.node new1 new2 → IsSpot at
+      → IsChildAt inner.level inner.right inner.places.items i s → StandsHere old s child → HasWritten s.at after mid new1 → HasAdded at upper.node new1 new2 → IsSpot at
       → ((place : Subtree) (height : ℕ) → IsTree old height place child → IsInside place.left place.right key → Needs (element_at key (elements_in old height child)) → Split f key marking place height old mid child after upper.node upper.left)
       → Needs (element_at key (elements_in old (suc lower) (inner_node inner)))
       → inner1.level ≡ inner.level → inner1.mirror ≡ max inner.mirror m → m ≡ mirror_of after → mu ≡ mirror_of upper.node → ChildChange (with_mirror m) inner.places.items i inner1.places.items → inner1.right ≡ inner.right
@@ -70,9 +71,9 @@ module _ (f : List Element → List Element) (key : Key) (marking : Marking) (Ne
       subst (λ (l : List Child). Needs (element_at key (elements_in old (suc lower) (inner_node (inner_of inner.level inner.mirror l inner.right))))) split.0 needs in
       let held : length pre ≡ holder_place key (pre ++ c ∷ post) = split.1 ∙ at_holder ∙ ap (holder_place key) split.0 in
       let where_is : s.at ≡ c.child = ap (λ (t : Subtree). t.at) there.place in
-      let read : node_at old c.child ≡ child = ap (node_at old) (sym where_is) ∙ here.spelled.value in
       let spot_of : Subtree = child_place inner.level (next_left inner.right post) c in
       let stored : IsStoredTree old lower spot_of = child_tree key place lower inner.level inner.mirror inner.right old pre c post tree' held inside in
+      let read : node_at old c.child ≡ child = read_there old s c.child child where_is stored.there here in
       let below : Split f key marking spot_of lower old mid child after upper.node upper.left =
       rec spot_of lower (subst (λ (n : Node). IsTree old lower spot_of n) read stored.tree)
       (child_inside key place lower inner.level inner.mirror inner.right old pre c post tree' held inside)
@@ -91,7 +92,7 @@ module _ (f : List Element → List Element) (key : Key) (marking : Marking) (Ne
       (grown_parent key place lower inner.level inner.mirror inner.right old pre c post tree' held inside f marking mid new1 new2 after upper.node upper.left at inner2 o local
       (subst (λ (n : Node). Split f key marking spot_of lower old mid n after upper.node upper.left) (sym read) below) (subst (λ (a : ℕ). HasWritten a after mid new1) where_is written) added spot end)
 
-  pub inner_grows : (node : Node) (p0 p1 p2 p3 p4 : Option PageMap) → node ≡ inner_node inner → i ≡ holder_place key inner.places.items → slice_get (children_of inner) i ≡ Some s → p1 ≡ p0 → IfSome p0 (λ map. SpellsHere s (page_in (map s.at)) child)
+  pub inner_grows : (node : Node) (p0 p1 p2 p3 p4 : Option PageMap) → node ≡ inner_node inner → i ≡ holder_place key inner.places.items → slice_get (children_of inner) i ≡ Some s → p1 ≡ p0 → IfSome p0 (λ map. StandsHere map s child)
       → Grows f key marking Needs More p1 p2 child after (Some upper) → BothTell p2 p3 (HasWritten s.at after) → BothTell p3 p4 (HasAdded at upper.node) → IsSpot at
       → inner1.level ≡ inner.level → inner1.mirror ≡ max inner.mirror m → m ≡ mirror_of after → mu ≡ mirror_of upper.node → ChildChange (with_mirror m) inner.places.items i inner1.places.items → inner1.right ≡ inner.right
       → InnerBecomes inner1.level (max inner1.mirror mu) (insert inner1.places.items (i + 1) (record { left = upper.left; child = at; mirror = mu })) inner1.right inner2 o

@@ -10,7 +10,8 @@ use Rattle.hm_node.specs.declared.inner.Child.{Child}
 use Rattle.hm_node.specs.declared.inner.Inner.{Inner}
 use Rattle.hm_node.specs.declared.node.Node.{Node}
 use Rattle.hm_node.specs.declared.node.Node.TheVariants.{Leaf as leaf_node, Inner as inner_node}
-use Rattle.hm_search.specs.Place.{IsInside, Fits, SpellsHere}
+use Rattle.hm_search.specs.Descent.{StandsHere}
+use Rattle.hm_search.specs.Place.{IsInside, Fits}
 use Rattle.hm_search.specs.Search.{holder_place}
 use Rattle.hm_search.specs.Tree.{node_at, elements_in, next_left, child_place, children_of, IsTree, IsStoredTree}
 use Rattle.hm_search.specs.declared.subtree.Subtree.{Subtree}
@@ -19,7 +20,7 @@ use Rattle.hm_btree.specs.Marking.{TakesOut}
 use Rattle.hm_btree.specs.Below.{IsLocal, Changed}
 use Rattle.hm_btree.specs.Edits.{inner_of}
 use Rattle.hm_btree.specs.Shrink.{loose, Shrinks, HoldsElement, HasNeighbours, IsShrunk}
-use Rattle.hm_btree.proofs.EditLemmas.{split_at, stored_below, child_inside, child_tree, child_element}
+use Rattle.hm_btree.proofs.EditLemmas.{split_at, stored_below, child_inside, child_tree, child_element, read_there}
 
 -- a child that was read, inside whose boundaries a key lies
 pub record IsHolderBelow (map : PageMap) (height : ℕ) (key : Key) (inner : Inner) (i : ℕ) (s : Subtree) (child : Node) : Type 0 where
@@ -34,7 +35,7 @@ pub record IsHolderBelow (map : PageMap) (height : ℕ) (key : Key) (inner : Inn
   pub same : element_at key (elements_in map height (inner_node inner)) ≡ element_at key (elements_in map lower child)
 
 module _ (key : Key) (inner : Inner) (i : ℕ) (s : Subtree) (child : Node) (holder : i ≡ holder_place key inner.places.items) (at : slice_get (children_of inner) i ≡ Some s) where
-  pub holder_below : (map : PageMap) (height : ℕ) (place : Subtree) → IsTree map height place (inner_node inner) → IsInside place.left place.right key → SpellsHere s (page_in (map s.at)) child → IsHolderBelow map height key inner i s child
+  pub holder_below : (map : PageMap) (height : ℕ) (place : Subtree) → IsTree map height place (inner_node inner) → IsInside place.left place.right key → StandsHere map s child → IsHolderBelow map height key inner i s child
   holder_below map zero place tree inside here = absurd (omega (arith, tree.level, tree.sound.level.0))
   holder_below map (suc lower) place tree inside here =
       let there = place_is inner.level inner.right inner.places.items i s at in
@@ -47,14 +48,15 @@ module _ (key : Key) (inner : Inner) (i : ℕ) (s : Subtree) (child : Node) (hol
       subst (λ (l : List Child). IsTree map (suc lower) place (inner_node (inner_of inner.level inner.mirror l inner.right))) split.0 tree in
       let held : length pre ≡ holder_place key (pre ++ c ∷ post) = split.1 ∙ holder ∙ ap (holder_place key) split.0 in
       let where_is : s.at ≡ c.child = ap (λ (t : Subtree). t.at) there.place in
-      let read : node_at map c.child ≡ child = ap (node_at map) (sym where_is) ∙ here.spelled.value in
+      let stored : IsStoredTree map lower (child_place inner.level (next_left inner.right post) c) = child_tree key place lower inner.level inner.mirror inner.right map pre c post tree' held inside in
+      let read : node_at map c.child ≡ child = read_there map s c.child child where_is stored.there here in
       record {
         lower = lower;
         high = refl;
         one = c;
         at = there.is;
         where_is = where_is;
-        stored = child_tree key place lower inner.level inner.mirror inner.right map pre c post tree' held inside;
+        stored = stored;
         read = read;
         inside = child_inside key place lower inner.level inner.mirror inner.right map pre c post tree' held inside;
         same = ap (λ (l : List Child). element_at key (elements_in map (suc lower) (inner_node (inner_of inner.level inner.mirror l inner.right)))) split.0
@@ -63,9 +65,9 @@ module _ (key : Key) (inner : Inner) (i : ℕ) (s : Subtree) (child : Node) (hol
 
   -- where the pages are told
   module _ (node : Node) (p0 p1 : Option PageMap) (is : node ≡ inner_node inner) (same : p1 ≡ p0) where
-    pub holds_below : IfSome p0 (HoldsElement key node) → IfSome p0 (λ map. SpellsHere s (page_in (map s.at)) child) → IfSome p1 (HoldsElement key child)
+    pub holds_below : IfSome p0 (HoldsElement key node) → IfSome p0 (λ map. StandsHere map s child) → IfSome p1 (HoldsElement key child)
     holds_below holds here = subst (λ (p : Option PageMap). IfSome p (HoldsElement key child)) (sym same) (by_told p0 holds here) where
-      by_told : (p : Option PageMap) → IfSome p (HoldsElement key node) → IfSome p (λ map. SpellsHere s (page_in (map s.at)) child) → IfSome p (HoldsElement key child)
+      by_told : (p : Option PageMap) → IfSome p (HoldsElement key node) → IfSome p (λ map. StandsHere map s child) → IfSome p (HoldsElement key child)
       by_told None holds here = tt
       by_told (Some map) holds here =
           let tree : IsTree map holds.height holds.place (inner_node inner) = subst (λ (n : Node). IsTree map holds.height holds.place n) is holds.tree in
@@ -80,10 +82,10 @@ module _ (key : Key) (inner : Inner) (i : ℕ) (s : Subtree) (child : Node) (hol
           }
 
     -- and the child lost places
-    pub shrunk_told : (f : List Element → List Element) (p2 : Option PageMap) (after : Node) → IsLocal f key → IfSome p0 (HoldsElement key node) → IfSome p0 (λ map. SpellsHere s (page_in (map s.at)) child)
+    pub shrunk_told : (f : List Element → List Element) (p2 : Option PageMap) (after : Node) → IsLocal f key → IfSome p0 (HoldsElement key node) → IfSome p0 (λ map. StandsHere map s child)
         → Shrinks f key TakesOut (λ o. IsSome o) p1 p2 child after → is_some p2 ≡ is_some p1 → IfSome p2 (IsShrunk inner i after)
     shrunk_told f p2 after local holds here shrinks told = by_told p0 p2 holds here (subst (λ (p : Option PageMap). Shrinks f key TakesOut (λ o. IsSome o) p p2 child after) same shrinks) (told ∙ ap is_some same) where
-      by_told : (p q : Option PageMap) → IfSome p (HoldsElement key node) → IfSome p (λ map. SpellsHere s (page_in (map s.at)) child) → Shrinks f key TakesOut (λ o. IsSome o) p q child after → is_some q ≡ is_some p → IfSome q (IsShrunk inner i after)
+      by_told : (p q : Option PageMap) → IfSome p (HoldsElement key node) → IfSome p (λ map. StandsHere map s child) → Shrinks f key TakesOut (λ o. IsSome o) p q child after → is_some q ≡ is_some p → IfSome q (IsShrunk inner i after)
       by_told p None holds here shrinks told = tt
       by_told None (Some mid) holds here shrinks told = absurd (true≢false told)
       by_told (Some map) (Some mid) holds here shrinks told =

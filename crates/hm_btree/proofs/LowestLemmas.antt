@@ -12,7 +12,8 @@ use Rattle.hm_node.specs.declared.inner.Child.{Child}
 use Rattle.hm_node.specs.declared.inner.Inner.{Inner}
 use Rattle.hm_node.specs.declared.node.Node.{Node}
 use Rattle.hm_node.specs.declared.node.Node.TheVariants.{Leaf as leaf_node, Inner as inner_node}
-use Rattle.hm_search.specs.Place.{IsInside, BeginsAt, FitsBounds, SpellsHere}
+use Rattle.hm_search.specs.Descent.{StandsHere}
+use Rattle.hm_search.specs.Place.{IsInside, BeginsAt, FitsBounds}
 use Rattle.hm_search.specs.Tree.{node_at, elements_in, mark_in, reaches, height_of, root_place, children_of, IsTree, IsStoredTree, IsSoundTree, elements_of, mark_of}
 use Rattle.hm_search.specs.declared.subtree.Subtree.{Subtree}
 use Rattle.hm_search.proofs.ChildLemmas.{place_is}
@@ -161,18 +162,19 @@ one_child inner s long at =
 
 module _ (p0 p1 p2 : Option PageMap) (root : ℕ) (node child : Node) (inner : Inner) (s : Subtree) (is : node ≡ inner_node inner) (same : p1 ≡ p0) (lost : BothTell p1 p2 (HasLost root)) where
   -- where the pages are told
-  pub lowered_told : length inner.places.items ≡ 1 → slice_get (children_of inner) 0 ≡ Some s → IfSome p0 (λ was. IsTreeSpace was root) → IfSome p0 (λ was. node_at was root ≡ node) → IfSome p0 (λ map. SpellsHere s (page_in (map s.at)) child)
+  pub lowered_told : length inner.places.items ≡ 1 → slice_get (children_of inner) 0 ≡ Some s → IfSome p0 (λ was. IsTreeSpace was root) → IfSome p0 (λ was. node_at was root ≡ node) → IfSome p0 (λ map. StandsHere map s child)
       → IfSome p0 (λ was. IfSome p2 (λ map. IsLowered was map root s.at child))
   lowered_told long at tree here read = by_pages p0 p2 tree here read (subst (λ (p : Option PageMap). BothTell p p2 (HasLost root)) same lost) where
-    by_pages : (p q : Option PageMap) → IfSome p (λ was. IsTreeSpace was root) → IfSome p (λ was. node_at was root ≡ node) → IfSome p (λ map. SpellsHere s (page_in (map s.at)) child) → BothTell p q (HasLost root)
+    by_pages : (p q : Option PageMap) → IfSome p (λ was. IsTreeSpace was root) → IfSome p (λ was. node_at was root ≡ node) → IfSome p (λ map. StandsHere map s child) → BothTell p q (HasLost root)
         → IfSome p (λ was. IfSome q (λ map. IsLowered was map root s.at child))
     by_pages None q tree here read lost = tt
     by_pages (Some old) None tree here read lost = tt
     by_pages (Some old) (Some new) tree here read lost =
         let one = one_child inner s long at in
         let place : s.at ≡ one.0.child = one.2 in
+        let below = stored_below old (height_of (node_at old root)) (root_place root) (node_at old root) inner 0 s tree.sound.tree (here ∙ is) at in
         subst (λ (x : ℕ). IsLowered old new root x child) (sym place)
-        (subst (λ (n : Node). IsLowered old new root one.0.child n) (ap (node_at old) (sym place) ∙ read.spelled.value) (lowered old new root inner one.0 tree (here ∙ is) one.1 lost))
+        (subst (λ (n : Node). IsLowered old new root one.0.child n) (ap (node_at old) (sym place) ∙ (read.spelled below.stored.there).value) (lowered old new root inner one.0 tree (here ∙ is) one.1 lost))
 
   pub lowered_tree : IfSome p0 (λ was. IfSome p2 (λ map. IsLowered was map root s.at child)) → IfSome p2 (λ map. IsTreeSpace map s.at) × IfSome p2 (λ map. node_at map s.at ≡ child)
   lowered_tree lowered = by_pages p0 p2 (subst (λ (p : Option PageMap). BothTell p p2 (HasLost root)) same lost) lowered where

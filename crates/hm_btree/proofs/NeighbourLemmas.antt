@@ -11,7 +11,8 @@ use Rattle.hm_node.specs.declared.inner.Child.{Child}
 use Rattle.hm_node.specs.declared.inner.Inner.{Inner}
 use Rattle.hm_node.specs.declared.node.Node.{Node}
 use Rattle.hm_node.specs.declared.node.Node.TheVariants.{Inner as inner_node}
-use Rattle.hm_search.specs.Place.{Fits, SpellsHere, TellsDamage}
+use Rattle.hm_search.specs.Descent.{StandsHere}
+use Rattle.hm_search.specs.Place.{Fits, TellsDamage}
 use Rattle.hm_search.specs.Tree.{node_at, next_left, child_place, children_of, IsTree, IsStoredTree}
 use Rattle.hm_search.specs.declared.subtree.Subtree.{Subtree}
 use Rattle.hm_search.proofs.ChildLemmas.{place_is}
@@ -104,25 +105,20 @@ level_below inner i s child at sound fits =
       by_place s {b = b} {c = c} same fits = (subst (λ (t : Subtree). Fits t child) same fits).level
 
 -- no damage is told of it
-page_undamaged : (fault : Fault) → IsUndamaged fault → IsUndamaged fault
-page_undamaged (Media before after) is = tt
-page_undamaged (Damaged at kind) is = is
-page_undamaged NoMemory is = tt
-
-pub stored_cause : {T : Type 0} (told : Option PageMap) (s : Subtree) (old new : ℕ) (fault : Fault) → IfSome told (λ map. (height : ℕ) × IsStoredTree map height s) → HasFaultCause {T = Node} old new (Err fault) → IfSome told (λ map. TellsDamage s (page_in (map s.at)) fault)
+pub stored_cause : {T : Type 0} (told : Option PageMap) (s : Subtree) (old new : ℕ) (fault : Fault) → IfSome told (λ map. (height : ℕ) × IsStoredTree map height s) → HasFaultCause {T = Node} old new (Err fault) → IfSome told (λ map. TellsDamage s (map s.at) fault)
     → HasStoreCause {T = T} told old new (Err fault)
 stored_cause None s old new fault stored counted damage = record { counted = record { never_falls = counted.never_falls; caused = counted.caused }; undamaged = tt }
 stored_cause (Some map) s old new fault (height, stored) counted damage = record {
   counted = record { never_falls = counted.never_falls; caused = counted.caused };
-  undamaged = page_undamaged fault (tells_undamaged s (page_in (map s.at)) (node_at map s.at) fault (stored_here map height s stored) damage);
+  undamaged = tells_undamaged s (map s.at) (node_at map s.at) fault stored.there (stored_here map height s stored) damage;
 }
 
 -- the node that was read is the child's
-pub read_child : (map : PageMap) (inner : Inner) (i : ℕ) (s : Subtree) (node : Node) → slice_get (children_of inner) i ≡ Some s → SpellsHere s (page_in (map s.at)) node → IsChildNode inner i map node
-read_child map inner i s node at here c is =
+pub read_child : (map : PageMap) (inner : Inner) (i : ℕ) (s : Subtree) (node : Node) → slice_get (children_of inner) i ≡ Some s → IsSome (map s.at) → StandsHere map s node → IsChildNode inner i map node
+read_child map inner i s node at page here c is =
     let there = place_is inner.level inner.right inner.places.items i s at in
     let same : c ≡ there.child = by_option (sym is ∙ there.is) in
-    ap (λ (x : Child). node_at map x.child) same ∙ ap (λ (t : Subtree). node_at map t.at) (sym there.place) ∙ here.spelled.value where
+    ap (λ (x : Child). node_at map x.child) same ∙ ap (λ (t : Subtree). node_at map t.at) (sym there.place) ∙ (here.spelled page).value where
       by_option : {x y : Child} → Some x ≡ Some y → x ≡ y
       by_option is = cc
 
@@ -152,18 +148,18 @@ module _ (inner after : Inner) (i : ℕ) (child other : Node) (s : Subtree) (p0 
     by_told None shrunk = tt
     by_told (Some map) shrunk = λ c is. let there = place_is inner.level inner.right inner.places.items j s at in own_page inner i child map shrunk j next there.child c there.is is
 
-  pub right_joined : i + 1 < length inner.places.items → slice_get (children_of inner) (i + 1) ≡ Some s → IfSome p0 (λ map. SpellsHere s (page_in (map s.at)) other) → IfSome p1 (λ old. IfSome p2 (λ new. IsPairJoined inner i child other old new after))
+  pub right_joined : i + 1 < length inner.places.items → slice_get (children_of inner) (i + 1) ≡ Some s → IfSome p0 (λ map. (height : ℕ) × IsStoredTree map height s) → IfSome p0 (λ map. StandsHere map s other) → IfSome p1 (λ old. IfSome p2 (λ new. IsPairJoined inner i child other old new after))
       → IfSome p0 (λ old. IfSome p2 (λ new. IsJoinedAt inner i child old new after))
-  right_joined low at here joined = by_told p0 p2 here (subst (λ (p : Option PageMap). IfSome p (λ old. IfSome p2 (λ new. IsPairJoined inner i child other old new after))) same joined) where
-    by_told : (p q : Option PageMap) → IfSome p (λ map. SpellsHere s (page_in (map s.at)) other) → IfSome p (λ old. IfSome q (λ new. IsPairJoined inner i child other old new after)) → IfSome p (λ old. IfSome q (λ new. IsJoinedAt inner i child old new after))
-    by_told None q here joined = tt
-    by_told (Some old) None here joined = tt
-    by_told (Some old) (Some new) here joined = inl (low, other, read_child old inner (i + 1) s other at here, joined)
+  right_joined low at stored here joined = by_told p0 p2 stored here (subst (λ (p : Option PageMap). IfSome p (λ old. IfSome p2 (λ new. IsPairJoined inner i child other old new after))) same joined) where
+    by_told : (p q : Option PageMap) → IfSome p (λ map. (height : ℕ) × IsStoredTree map height s) → IfSome p (λ map. StandsHere map s other) → IfSome p (λ old. IfSome q (λ new. IsPairJoined inner i child other old new after)) → IfSome p (λ old. IfSome q (λ new. IsJoinedAt inner i child old new after))
+    by_told None q stored here joined = tt
+    by_told (Some old) None stored here joined = tt
+    by_told (Some old) (Some new) stored here joined = inl (low, other, read_child old inner (i + 1) s other at stored.1.there here, joined)
 
-  pub left_joined : (j : ℕ) → j + 1 ≡ i → slice_get (children_of inner) j ≡ Some s → IfSome p0 (λ map. SpellsHere s (page_in (map s.at)) other) → IfSome p1 (λ old. IfSome p2 (λ new. IsPairJoined inner j other child old new after))
+  pub left_joined : (j : ℕ) → j + 1 ≡ i → slice_get (children_of inner) j ≡ Some s → IfSome p0 (λ map. (height : ℕ) × IsStoredTree map height s) → IfSome p0 (λ map. StandsHere map s other) → IfSome p1 (λ old. IfSome p2 (λ new. IsPairJoined inner j other child old new after))
       → IfSome p0 (λ old. IfSome p2 (λ new. IsJoinedAt inner i child old new after))
-  left_joined j next at here joined = by_told p0 p2 here (subst (λ (p : Option PageMap). IfSome p (λ old. IfSome p2 (λ new. IsPairJoined inner j other child old new after))) same joined) where
-    by_told : (p q : Option PageMap) → IfSome p (λ map. SpellsHere s (page_in (map s.at)) other) → IfSome p (λ old. IfSome q (λ new. IsPairJoined inner j other child old new after)) → IfSome p (λ old. IfSome q (λ new. IsJoinedAt inner i child old new after))
-    by_told None q here joined = tt
-    by_told (Some old) None here joined = tt
-    by_told (Some old) (Some new) here joined = inr (j, next, other, read_child old inner j s other at here, joined)
+  left_joined j next at stored here joined = by_told p0 p2 stored here (subst (λ (p : Option PageMap). IfSome p (λ old. IfSome p2 (λ new. IsPairJoined inner j other child old new after))) same joined) where
+    by_told : (p q : Option PageMap) → IfSome p (λ map. (height : ℕ) × IsStoredTree map height s) → IfSome p (λ map. StandsHere map s other) → IfSome p (λ old. IfSome q (λ new. IsPairJoined inner j other child old new after)) → IfSome p (λ old. IfSome q (λ new. IsJoinedAt inner i child old new after))
+    by_told None q stored here joined = tt
+    by_told (Some old) None stored here joined = tt
+    by_told (Some old) (Some new) stored here joined = inr (j, next, other, read_child old inner j s other at stored.1.there here, joined)

@@ -10,7 +10,8 @@ use Rattle.hm_key.specs.Elements.{element_key, element_at}
 use Rattle.hm_key.specs.declared.element.Element.{Element}
 use Rattle.hm_node.specs.Node.{node_in, Spells}
 use Rattle.hm_node.specs.declared.node.Node.{Node}
-use Rattle.hm_search.specs.Place.{IsInside, SpellsHere, TellsDamage}
+use Rattle.hm_search.specs.Descent.{StandsHere}
+use Rattle.hm_search.specs.Place.{IsInside, TellsDamage}
 use Rattle.hm_search.specs.Tree.{node_at, elements_in, mark_in, reaches, height_of, root_place, IsTree, IsStoredTree, IsSoundTree, elements_of, mark_of}
 use Rattle.hm_search.specs.declared.subtree.Subtree.{Subtree}
 use Rattle.hm_search.proofs.ContentLemmas.{elements_inside}
@@ -82,7 +83,7 @@ module _ (f : List Element → List Element) (key : Key) (marking : Marking) (ro
 -- the same where the pages are told
 pub root_works : (f : List Element → List Element) (key : Key) (marking : Marking) (root : ℕ) (Needs : Option Element → Type 0) (More : Type 0) (p0 p1 p2 p3 : Option PageMap) (node after : Node)
     → ((old : PageMap) → IsTreeSpace old root → Needs (element_at key (elements_of old root)) → More → IsInside (root_place root).left (root_place root).right key)
-    → p1 ≡ p0 → IfSome p0 (λ map. SpellsHere (root_place root) (page_in (map root)) node) → Works f key marking Needs More p1 p2 node after → BothTell p2 p3 (HasWritten root after)
+    → p1 ≡ p0 → IfSome p0 (λ map. StandsHere map (root_place root) node) → Works f key marking Needs More p1 p2 node after → BothTell p2 p3 (HasWritten root after)
     → ChangesTree f key marking (λ es. Needs (element_at key es)) More p0 p3 root root
 root_works f key marking root Needs More None p1 p2 p3 node after inside same here works written = tt
 root_works f key marking root Needs More (Some old) p1 p2 p3 node after inside same here works written = λ tree needs more.
@@ -93,7 +94,7 @@ root_works f key marking root Needs More (Some old) p1 p2 p3 node after inside s
       by_pages None (Some new) works written tree needs more = absurd written
       by_pages (Some mid) None works written tree needs more = tt
       by_pages (Some mid) (Some new) works written tree needs more =
-          let read : node_at old root ≡ node = here.spelled.value in
+          let read : node_at old root ≡ node = (here.spelled tree.sound.there).value in
           let h : ℕ = height_of (node_at old root) in
           let change : Changed f key marking (root_place root) h old mid node after =
           works (root_place root) h (subst (λ (n : Node). IsTree old h (root_place root) n) read tree.sound.tree) (inside old tree needs more)
@@ -108,19 +109,19 @@ there_inside root key old tree there =
     subst (λ (k : Key). IsInside (root_place root).left (root_place root).right k) some.1 some.2
 
 -- the cause of a fault of the first read, and of one further down
-pub root_cause_read : (told : Option PageMap) (root old new : ℕ) (fault : Fault) → HasFaultCause {T = Node} old new (Err fault) → IfSome told (λ map. TellsDamage (root_place root) (page_in (map root)) fault) → HasTreeCause {T = Unit {0}} told root old new (Err fault)
+pub root_cause_read : (told : Option PageMap) (root old new : ℕ) (fault : Fault) → HasFaultCause {T = Node} old new (Err fault) → IfSome told (λ map. TellsDamage (root_place root) (map root) fault) → HasTreeCause {T = Unit {0}} told root old new (Err fault)
 root_cause_read told root old new fault counted damage = record { counted = record { never_falls = counted.never_falls; caused = counted.caused }; undamaged = if_told told damage } where
-  if_told : (o : Option PageMap) → IfSome o (λ map. TellsDamage (root_place root) (page_in (map root)) fault) → IfSome o (λ map. IsSoundTree map root → IsUndamaged fault)
+  if_told : (o : Option PageMap) → IfSome o (λ map. TellsDamage (root_place root) (map root) fault) → IfSome o (λ map. IsSoundTree map root → IsUndamaged fault)
   if_told None damage = tt
-  if_told (Some map) damage = λ sound. tells_undamaged (root_place root) (page_in (map root)) (node_at map root) fault (stored_here map (height_of (node_at map root)) (root_place root) sound) damage
+  if_told (Some map) damage = λ sound. tells_undamaged (root_place root) (map root) (node_at map root) fault sound.there (stored_here map (height_of (node_at map root)) (root_place root) sound) damage
 
-pub root_cause_below : {T U : Type 0} (told now : Option PageMap) (root old mid new : ℕ) (node : Node) (fault : Fault) → now ≡ told → old ≤ mid → IfSome told (λ map. SpellsHere (root_place root) (page_in (map root)) node)
+pub root_cause_below : {T U : Type 0} (told now : Option PageMap) (root old mid new : ℕ) (node : Node) (fault : Fault) → now ≡ told → old ≤ mid → IfSome told (λ map. StandsHere map (root_place root) node)
     → HasEditCause {T = T} now node mid new (Err fault) → HasTreeCause {T = U} told root old new (Err fault)
 root_cause_below told now root old mid new node fault same low here cause = record {
   counted = record { never_falls = omega (arith, cause.counted.never_falls); caused = caused_since old mid new fault low cause.counted.caused };
   undamaged = if_told told here (subst (λ (o : Option PageMap). IfSome o (λ map. (place : Subtree) (height : ℕ) → IsTree map height place node → IsUndamaged fault)) same cause.undamaged);
 } where
-  if_told : (o : Option PageMap) → IfSome o (λ map. SpellsHere (root_place root) (page_in (map root)) node) → IfSome o (λ map. (place : Subtree) (height : ℕ) → IsTree map height place node → IsUndamaged fault)
+  if_told : (o : Option PageMap) → IfSome o (λ map. StandsHere map (root_place root) node) → IfSome o (λ map. (place : Subtree) (height : ℕ) → IsTree map height place node → IsUndamaged fault)
       → IfSome o (λ map. IsSoundTree map root → IsUndamaged fault)
   if_told None here more = tt
-  if_told (Some map) here more = λ sound. more (root_place root) (height_of (node_at map root)) (subst (λ (n : Node). IsTree map (height_of (node_at map root)) (root_place root) n) here.spelled.value sound.tree)
+  if_told (Some map) here more = λ sound. more (root_place root) (height_of (node_at map root)) (subst (λ (n : Node). IsTree map (height_of (node_at map root)) (root_place root) n) (here.spelled sound.there).value sound.tree)

@@ -14,7 +14,8 @@ use Rattle.hm_node.specs.declared.inner.Inner.{Inner}
 use Rattle.hm_node.specs.declared.leaf.Leaf.{Leaf}
 use Rattle.hm_node.specs.declared.node.Node.{Node}
 use Rattle.hm_node.specs.declared.node.Node.TheVariants.{Leaf as leaf_node, Inner as inner_node}
-use Rattle.hm_search.specs.Place.{IsInside, SpellsHere, least_count, mirror_of}
+use Rattle.hm_search.specs.Descent.{StandsHere}
+use Rattle.hm_search.specs.Place.{IsInside, least_count, mirror_of}
 use Rattle.hm_search.specs.Search.{holder_place}
 use Rattle.hm_search.specs.Tree.{node_at, elements_in, next_left, child_place, children_of, IsTree}
 use Rattle.hm_search.specs.declared.subtree.Subtree.{Subtree}
@@ -38,7 +39,7 @@ module _ (f : List Element → List Element) (key : Key) (local : IsLocal f key)
       → IsInside one.left (next_left inner.right (drop (suc i) inner.places.items)) key
       → Changed f key TakesOut (loose (child_place inner.level (next_left inner.right (drop (suc i) inner.places.items)) one)) lower old mid (node_at old one.child) after → Result place lower old mid new
       → Changed f key TakesOut (loose place) (suc lower) old new (inner_node inner) (inner_node inner'))
-      → (node : Node) (p0 p1 p2 p3 : Option PageMap) → node ≡ inner_node inner → p1 ≡ p0 → IfSome p0 (λ map. SpellsHere s (page_in (map s.at)) child) → Shrinks f key TakesOut (λ o. IsSome o) p1 p2 child after → is_some p2 ≡ is_some p1
+      → (node : Node) (p0 p1 p2 p3 : Option PageMap) → node ≡ inner_node inner → p1 ≡ p0 → IfSome p0 (λ map. StandsHere map s child) → Shrinks f key TakesOut (λ o. IsSome o) p1 p2 child after → is_some p2 ≡ is_some p1
       → IfSome p2 (λ mid. IfSome p3 (λ new. (place : Subtree) (lower : ℕ) (old : PageMap) → Result place lower old mid new)) → Shrinks f key TakesOut (λ o. IsSome o) p0 p3 node (inner_node inner')
   below_shrinks Result step node None p1 p2 p3 is same here shrinks told result = tt
   below_shrinks Result step node (Some old) p1 p2 p3 is same here shrinks told result =
@@ -66,7 +67,7 @@ module _ (f : List Element → List Element) (key : Key) (local : IsLocal f key)
         by_pages (Some mid) (Some new) shrinks told result height place tree inside there = by_height mid new shrinks result height place tree inside there
 
   -- it has too few places, and was joined with a neighbour
-  pub small_shrinks : (node : Node) (p0 p1 p2 p3 : Option PageMap) → node ≡ inner_node inner → p1 ≡ p0 → IfSome p0 (λ map. SpellsHere s (page_in (map s.at)) child) → Shrinks f key TakesOut (λ o. IsSome o) p1 p2 child after → is_some p2 ≡ is_some p1
+  pub small_shrinks : (node : Node) (p0 p1 p2 p3 : Option PageMap) → node ≡ inner_node inner → p1 ≡ p0 → IfSome p0 (λ map. StandsHere map s child) → Shrinks f key TakesOut (λ o. IsSome o) p1 p2 child after → is_some p2 ≡ is_some p1
       → count_of after < 16 → IfSome p2 (λ mid. IfSome p3 (λ new. IsJoinedAt inner i after mid new inner')) → Shrinks f key TakesOut (λ o. IsSome o) p0 p3 node (inner_node inner')
   small_shrinks node p0 p1 p2 p3 is same here shrinks told small result =
       below_shrinks (λ place lower old mid new. IsJoinedAt inner i after mid new inner')
@@ -78,7 +79,7 @@ module _ (f : List Element → List Element) (key : Key) (local : IsLocal f key)
         each (Some mid) (Some new) result = λ place lower old. result
 
   -- it has enough, and was written
-  pub large_shrinks : (m : ℕ) (node : Node) (p0 p1 p2 p3 : Option PageMap) → node ≡ inner_node inner → p1 ≡ p0 → IfSome p0 (λ map. SpellsHere s (page_in (map s.at)) child) → Shrinks f key TakesOut (λ o. IsSome o) p1 p2 child after → is_some p2 ≡ is_some p1
+  pub large_shrinks : (m : ℕ) (node : Node) (p0 p1 p2 p3 : Option PageMap) → node ≡ inner_node inner → p1 ≡ p0 → IfSome p0 (λ map. StandsHere map s child) → Shrinks f key TakesOut (λ o. IsSome o) p1 p2 child after → is_some p2 ≡ is_some p1
       → 16 ≤ count_of after → BothTell p2 p3 (HasWritten s.at after)
       → inner'.level ≡ inner.level → inner'.mirror ≡ max inner.mirror m → m ≡ mirror_of after → ChildChange (with_mirror m) inner.places.items i inner'.places.items → inner'.right ≡ inner.right
       → Shrinks f key TakesOut (λ o. IsSome o) p0 p3 node (inner_node inner')

@@ -7,14 +7,12 @@ use Rattle.hm_types.specs.Elements.{Key}
 use Rattle.hm_types.specs.declared.fault.Fault.{Fault}
 use Rattle.hm_types.specs.declared.fault.Fault.TheVariants.{Media, Damaged, NoMemory}
 use Rattle.hm_fields.specs.Pages.{PageMap}
-use Rattle.hm_key.specs.Marks.{Marks as OldMarks}
 use Rattle.hm_types.specs.Faults.{IsUndamaged, HasStoreCause}
 use Rattle.hm_key.specs.declared.element.Element.{Element}
 use Rattle.hm_search.specs.Tree.{IsSoundTree, elements_of, mark_of}
-use Rattle.hm_btree.specs.Marking.{Marking, Writes, TakesOut, Leaves, MarksBy}
+use Rattle.hm_btree.specs.Marking.{Marking, MarksBy}
 use Rattle.hm_btree.specs.Tree.{ChangesTree, HasTreeCause, IsIntact, told_elements, told_mark}
 use Rattle.hm_btree.proofs.IntactLemmas.{intact_tree}
-use Rattle.hm_key.proofs.RaiseLemmas.{marks_never_fall, join_never_falls, stay_never_falls}
 
 -- what a call that changes the tree leaves
 pub record StoreChanged (f : List Element → List Element) (key : Key) (marking : Marking) (intact : Bool) (old new : Option PageMap) (root root' : ℕ) : Type 0 where
@@ -59,22 +57,3 @@ told_kept f intact old new root root' is = ap is_some is ∙ by_option (told_ele
 -- a room that stays
 pub room_kept : (old new : ℕ → ℕ) (zone : ℕ) → new ≡ old → old zone ≤ new zone + 0
 room_kept old new zone same = omega (arith, ap (λ (f : ℕ → ℕ). f zone) same)
-
--- the id at most that a change of the marks writes
-abbrev pub id_in : Marking → ℕ
-id_in (Writes id) = id
-id_in TakesOut = 0
-id_in Leaves = 0
-
--- what is said of marks in less words
-pub old_marks : {f : List Element → List Element} {key : Key} {marking : Marking} {intact : Bool} {old new : Option PageMap} {root root' : ℕ} → StoreChanged f key marking intact old new root root'
-    → IfSome (told_elements intact old root) (λ _. OldMarks key (id_in marking) (told_mark old root) (told_mark new root'))
-old_marks {key = key} {marking = marking} {intact = intact} {old = old} {new = new} {root = root} {root' = root'} changed = by_told (told_elements intact old root) changed.mark where
-  by_marking : (m : Marking) → MarksBy m key (told_mark old root) (told_mark new root') → OldMarks key (id_in m) (told_mark old root) (told_mark new root')
-  by_marking (Writes id) is = record { never_fall = marks_never_fall key id (told_mark old root) (told_mark new root') is; reach = is.reach }
-  by_marking TakesOut is = record { never_fall = join_never_falls key (told_mark old root) (told_mark new root') is; reach = omega arith }
-  by_marking Leaves is = record { never_fall = stay_never_falls (told_mark old root) (told_mark new root') is; reach = omega arith }
-
-  by_told : (o : Option (List Element)) → IfSome o (λ _. MarksBy marking key (told_mark old root) (told_mark new root')) → IfSome o (λ _. OldMarks key (id_in marking) (told_mark old root) (told_mark new root'))
-  by_told None is = tt
-  by_told (Some es) is = by_marking marking is

@@ -13,7 +13,8 @@ use Rattle.hm_node.specs.declared.inner.Inner.{Inner}
 use Rattle.hm_node.specs.declared.leaf.Leaf.{Leaf}
 use Rattle.hm_node.specs.declared.node.Node.{Node}
 use Rattle.hm_node.specs.declared.node.Node.TheVariants.{Leaf as leaf_node, Inner as inner_node}
-use Rattle.hm_search.specs.Place.{IsInside, SpellsHere, mirror_of}
+use Rattle.hm_search.specs.Descent.{StandsHere}
+use Rattle.hm_search.specs.Place.{IsInside, mirror_of}
 use Rattle.hm_search.specs.Search.{holder_place}
 use Rattle.hm_search.specs.Tree.{node_at, elements_in, next_left, child_place, children_of, IsTree, IsStoredTree}
 use Rattle.hm_search.specs.declared.subtree.Subtree.{Subtree}
@@ -24,7 +25,7 @@ use Rattle.hm_btree.specs.Space.{HasWritten}
 use Rattle.hm_btree.specs.Below.{IsLocal, Changed}
 use Rattle.hm_btree.specs.Change.{change_of, id_of, marking_of, MayChange, with_change}
 use Rattle.hm_btree.specs.declared.change.Change.{Change}
-use Rattle.hm_btree.proofs.EditLemmas.{split_at, set_at_place, child_inside, child_tree, child_element, changed_parent}
+use Rattle.hm_btree.proofs.EditLemmas.{read_there, split_at, set_at_place, child_inside, child_tree, child_element, changed_parent}
 use Rattle.hm_search.proofs.ContentLemmas.{elements_inside}
 use Rattle.hm_btree.proofs.LeafLemmas.{element_changed}
 use Rattle.hm_btree.proofs.LocalLemmas.{element_each}
@@ -43,7 +44,7 @@ Works f key marking Needs More old new before after =
 module _ (f : List Element → List Element) (key : Key) (marking : Marking) (Needs : Option Element → Type 0) (More : Type 0) (local : IsLocal f key) (inner inner' : Inner) (i : ℕ) (s : Subtree) (child after : Node) (m : ℕ) where
   -- the child that holds the key changed, and was written
   parent_changed : (old mid new : PageMap) (lower : ℕ) (place : Subtree) → IsTree old (suc lower) place (inner_node inner) → IsInside place.left place.right key → i ≡ holder_place key inner.places.items
-      → IsChildAt inner.level inner.right inner.places.items i s → SpellsHere s (page_in (old s.at)) child → HasWritten s.at after mid new
+      → IsChildAt inner.level inner.right inner.places.items i s → StandsHere old s child → HasWritten s.at after mid new
       → ((place : Subtree) (height : ℕ) → IsTree old height place child → IsInside place.left place.right key → Needs (element_at key (elements_in old height child)) → Changed f key marking place height old mid child after)
       → Needs (element_at key (elements_in old (suc lower) (inner_node inner)))
       → inner'.level ≡ inner.level → inner'.mirror ≡ max inner.mirror m → m ≡ mirror_of after → ChildChange (with_mirror m) inner.places.items i inner'.places.items → inner'.right ≡ inner.right
@@ -60,8 +61,8 @@ module _ (f : List Element → List Element) (key : Key) (marking : Marking) (Ne
       subst (λ (l : List Child). Needs (element_at key (elements_in old (suc lower) (inner_node (inner_of inner.level inner.mirror l inner.right))))) split.0 needs in
       let held : length pre ≡ holder_place key (pre ++ c ∷ post) = split.1 ∙ at ∙ ap (holder_place key) split.0 in
       let where_is : s.at ≡ c.child = ap (λ (t : Subtree). t.at) there.place in
-      let read : node_at old c.child ≡ child = ap (node_at old) (sym where_is) ∙ here.spelled.value in
       let stored : IsStoredTree old lower (child_place inner.level (next_left inner.right post) c) = child_tree key place lower inner.level inner.mirror inner.right old pre c post tree' held inside in
+      let read : node_at old c.child ≡ child = read_there old s c.child child where_is stored.there here in
       let below : Changed f key marking (child_place inner.level (next_left inner.right post) c) lower old mid child after =
       rec (child_place inner.level (next_left inner.right post) c) lower (subst (λ (n : Node). IsTree old lower (child_place inner.level (next_left inner.right post) c) n) read stored.tree)
       (child_inside key place lower inner.level inner.mirror inner.right old pre c post tree' held inside)
@@ -77,7 +78,7 @@ module _ (f : List Element → List Element) (key : Key) (marking : Marking) (Ne
       (subst (λ (l : List Child). Changed f key marking place (suc lower) old new (inner_node (inner_of inner.level inner.mirror l inner.right)) (inner_node (inner_of inner.level (max inner.mirror (mirror_of after)) (pre ++ with_mirror (mirror_of after) c ∷ post) inner.right)))
       (sym split.0) whole)
 
-  pub inner_works : (node : Node) (p0 p1 p2 p3 : Option PageMap) → node ≡ inner_node inner → i ≡ holder_place key inner.places.items → slice_get (children_of inner) i ≡ Some s → p1 ≡ p0 → IfSome p0 (λ map. SpellsHere s (page_in (map s.at)) child)
+  pub inner_works : (node : Node) (p0 p1 p2 p3 : Option PageMap) → node ≡ inner_node inner → i ≡ holder_place key inner.places.items → slice_get (children_of inner) i ≡ Some s → p1 ≡ p0 → IfSome p0 (λ map. StandsHere map s child)
       → Works f key marking Needs More p1 p2 child after → BothTell p2 p3 (HasWritten s.at after)
       → inner'.level ≡ inner.level → inner'.mirror ≡ max inner.mirror m → m ≡ mirror_of after → ChildChange (with_mirror m) inner.places.items i inner'.places.items → inner'.right ≡ inner.right
       → Works f key marking Needs More p0 p3 node (inner_node inner')

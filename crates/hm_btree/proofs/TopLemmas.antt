@@ -12,7 +12,8 @@ use Rattle.hm_node.specs.Node.{node_in, level_of}
 use Rattle.hm_node.specs.Inner.{IsChild, IsBound}
 use Rattle.hm_node.specs.declared.inner.Child.{Child}
 use Rattle.hm_node.specs.declared.node.Node.{Node}
-use Rattle.hm_search.specs.Place.{IsInside, SpellsHere, mirror_of}
+use Rattle.hm_search.specs.Descent.{StandsHere}
+use Rattle.hm_search.specs.Place.{IsInside, mirror_of}
 use Rattle.hm_search.specs.Tree.{node_at, elements_in, mark_in, reaches, height_of, root_place, IsTree, IsStoredTree, elements_of, mark_of}
 use Rattle.hm_search.specs.declared.subtree.Subtree.{Subtree}
 use Rattle.hm_search.proofs.FrameLemmas.{IsSameUnder}
@@ -89,7 +90,7 @@ module _ (f : List Element → List Element) (key : Key) (marking : Marking) (ro
 -- the same where the pages are told
 pub root_grows : (f : List Element → List Element) (key : Key) (marking : Marking) (root : ℕ) (Needs : Option Element → Type 0) (More : Type 0) (p0 p1 p2 p3 p4 : Option PageMap) (node lower : Node) (upper : Upper) (top : ℕ)
     → ((old : PageMap) → IsTreeSpace old root → Needs (element_at key (elements_of old root)) → More → IsInside (root_place root).left (root_place root).right key)
-    → p1 ≡ p0 → IfSome p0 (λ map. SpellsHere (root_place root) (page_in (map root)) node) → Grows f key marking Needs More p1 p2 node lower (Some upper) → BothTell p2 p3 (HasWritten root lower)
+    → p1 ≡ p0 → IfSome p0 (λ map. StandsHere map (root_place root) node) → Grows f key marking Needs More p1 p2 node lower (Some upper) → BothTell p2 p3 (HasWritten root lower)
     → BothTell p3 p4 (HasTop (root_place root) lower upper top) → IsSpot top → level_of lower ≤ 8
     → ChangesTree f key marking (λ es. Needs (element_at key es)) More p0 p4 root top
 root_grows f key marking root Needs More None p1 p2 p3 p4 node lower upper top inside same here grows written added spot shallow = tt
@@ -101,7 +102,7 @@ root_grows f key marking root Needs More (Some old) p1 p2 p3 p4 node lower upper
       by_pages p2 None (Some new3) grows written added tree needs more = absurd added
       by_pages None (Some new1) (Some new3) grows written added tree needs more = absurd written
       by_pages (Some mid) (Some new1) (Some new3) grows written added tree needs more =
-          let read : node_at old root ≡ node = here.spelled.value in
+          let read : node_at old root ≡ node = (here.spelled tree.sound.there).value in
           let h : ℕ = height_of (node_at old root) in
           let split = grows (root_place root) h (subst (λ (n : Node). IsTree old h (root_place root) n) read tree.sound.tree) (inside old tree needs more)
           (subst (λ (n : Node). Needs (element_at key (elements_in old h n))) read needs) more in
@@ -110,7 +111,7 @@ root_grows f key marking root Needs More (Some old) p1 p2 p3 p4 node lower upper
 -- and where a root was added, or none
 pub top_result : (f : List Element → List Element) (key : Key) (marking : Marking) (root : ℕ) (Needs : Option Element → Type 0) (More : Type 0) (p0 p1 p2 p3 p4 : Option PageMap) (node lower : Node) (upper : Upper)
     → ((old : PageMap) → IsTreeSpace old root → Needs (element_at key (elements_of old root)) → More → IsInside (root_place root).left (root_place root).right key)
-    → p1 ≡ p0 → IfSome p0 (λ map. SpellsHere (root_place root) (page_in (map root)) node) → Grows f key marking Needs More p1 p2 node lower (Some upper) → BothTell p2 p3 (HasWritten root lower)
+    → p1 ≡ p0 → IfSome p0 (λ map. StandsHere map (root_place root) node) → Grows f key marking Needs More p1 p2 node lower (Some upper) → BothTell p2 p3 (HasWritten root lower)
     → (place : Subtree) (r : Result ℕ Fault) → place ≡ root_place root → IfOk r (λ at. BothTell p3 p4 (HasTop place lower upper at)) → IfOk r IsSpot → OnOk r (level_of lower ≤ 8)
     → IfOk r (λ at. ChangesTree f key marking (λ es. Needs (element_at key es)) More p0 p4 root at)
 top_result f key marking root Needs More p0 p1 p2 p3 p4 node lower upper inside same here grows written place (Ok at) is added spot shallow =

@@ -98,6 +98,8 @@ impl NodeSpace for MemSpace {
     ghost use Rattle.std.specs.Prelude.{refl};
     ghost use Rattle.std.proofs.Common.{ap};
 
+    ghost keeps_any = { λ at bytes. tt };
+
     ghost rests = { λ s t same. (ap room_of same, refl, refl) };
 
     fn new_node(&mut self, with: &Page) -> Result<HOff, Fault> {

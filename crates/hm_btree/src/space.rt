@@ -1,5 +1,5 @@
 // The pages of a tree, with room for more.
-ghost use Rattle.std.specs.Prelude.{◌≡◌, ℕ, ◌+◌, ◌≤◌, Option, IfSome, IsSome, IfOk, OnOk};
+ghost use Rattle.std.specs.Prelude.{◌≡◌, ℕ, List, ◌+◌, ◌≤◌, Option, IfSome, IsSome, IfOk, OnOk};
 ghost use Rattle.hm_types.specs.Told.{BothTell};
 ghost use Rattle.hm_types.specs.Faults.{HasStoreCause};
 ghost use Rattle.hm_types.specs.Space.{Spends, nothing, in_zone};
@@ -48,12 +48,17 @@ pub trait NodeSpace: Pages + HasRoom {
         ensures cause { HasStoreCause (Self.pages self.old)
             (Self.faults self.old) (Self.faults self.new) result };
 
+    /// Any page may be put: what a page that was read is known to be is not used by the tree yet.
+    ghost keeps_any: { (at : ℕ) (bytes : List ℕ) → Self.kept at bytes };
+
     /// The room, the free big-blocks and the extents are among what no call of `Pages` changes.
     ghost rests: { (s t : Self) → Self.rest t ≡ Self.rest s → (Self.room t ≡ Self.room s)
         × (Self.free t ≡ Self.free s) × (Self.extents t ≡ Self.extents s) };
 }
 
 impl<S: NodeSpace> NodeSpace for &mut S {
+    ghost keeps_any = { S.NodeSpace.keeps_any };
+
     ghost rests = { λ s t same. S.NodeSpace.rests s.now t.now same };
 
     fn new_node(&mut self, with: &Page) -> Result<HOff, Fault> {

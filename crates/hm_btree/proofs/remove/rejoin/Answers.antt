@@ -60,7 +60,9 @@ join_at-requires-else-i-count-clause-told g c =
 pub returns-in_ok-right-clause-ok : goal.returns-in_ok-right-clause-ok
 returns-in_ok-right-clause-ok g c =
     on_ok_weaker c.join_at.result (λ joined. right_joined c.args.inner.now c.join_at.new.inner c.args.i c.args.child c.in_ok-right.right c.child.result (g.S.Pages.pages c.args.space.now) (g.S.Pages.pages c.read_node.new.pages) (g.S.Pages.pages c.join_at.new.space)
-    c.read_node.ensures.same.pages (omega (arith, c.if-i-count.true, c.len-count.ensures.value)) c.child.ensures c.in_ok-right.ensures.ok joined) c.join_at.ensures.ok
+    c.read_node.ensures.same.pages (omega (arith, c.if-i-count.true, c.len-count.ensures.value)) c.child.ensures
+    (right_read c.args.inner.now c.args.inner.now c.args.i c.args.child c.args.child c.child.result (g.S.Pages.pages c.args.space.now) (g.S.Pages.pages c.read_node.new.pages) (g.S.Pages.pages c.args.space.now) c.read_node.ensures.same.pages c.requires.told c.child.ensures)
+    c.in_ok-right.ensures.ok joined) c.join_at.ensures.ok
 
 pub returns-in_ok-right-clause-extents : goal.returns-in_ok-right-clause-extents
 returns-in_ok-right-clause-extents g c =
@@ -76,7 +78,9 @@ pub returns-in_ok-left-clause-ok : goal.returns-in_ok-left-clause-ok
 returns-in_ok-left-clause-ok g c =
     let next : c.args.i - 1 + 1 ≡ c.args.i = before_last c.args.i c.len-count.result (length c.args.inner.now.places.items) c.if-i-count.false c.len-count.ensures.value c.requires.many in
     on_ok_weaker c.join_at-else-i-count.result (λ joined. left_joined c.args.inner.now c.join_at-else-i-count.new.inner c.args.i c.args.child c.in_ok-left.left c.child-else-i-count.result (g.S.Pages.pages c.args.space.now) (g.S.Pages.pages c.read_node-else-i-count.new.pages) (g.S.Pages.pages c.join_at-else-i-count.new.space)
-    c.read_node-else-i-count.ensures.same.pages (c.args.i - 1) next c.child-else-i-count.ensures c.in_ok-left.ensures.ok joined) c.join_at-else-i-count.ensures.ok
+    c.read_node-else-i-count.ensures.same.pages (c.args.i - 1) next c.child-else-i-count.ensures
+    (left_read c.args.inner.now c.args.inner.now c.args.i c.args.child c.args.child c.child-else-i-count.result (g.S.Pages.pages c.args.space.now) (g.S.Pages.pages c.read_node-else-i-count.new.pages) (g.S.Pages.pages c.args.space.now) c.read_node-else-i-count.ensures.same.pages (c.args.i - 1) next c.requires.told c.child-else-i-count.ensures)
+    c.in_ok-left.ensures.ok joined) c.join_at-else-i-count.ensures.ok
 
 pub returns-in_ok-left-clause-extents : goal.returns-in_ok-left-clause-extents
 returns-in_ok-left-clause-extents g c =

@@ -8,7 +8,7 @@ use Rattle.hm_key.specs.Elements.{inserted, last_id}
 use Rattle.hm_key.specs.Key.{key_of}
 use Rattle.hm_types.specs.declared.space.TheConstants.{INSERT_ROOM}
 use Rattle.hm_node.specs.Node.{level_of}
-use Rattle.hm_search.specs.Place.{SpellsHere}
+use Rattle.hm_search.specs.Descent.{StandsHere}
 use Rattle.hm_search.specs.declared.subtree.Subtree.{Subtree}
 use Rattle.hm_btree.specs.Marking.{Writes}
 use Rattle.hm_btree.specs.Grow.{Grows}
@@ -43,7 +43,7 @@ returns-in-None-clause-ok g c =
     root_works (inserted e) key (Writes (last_id e)) c.args.root (λ o. IsNone o) (IsElement e × IsOffset e.payload)
     (g.S.Pages.pages c.args.space.now) (g.S.Pages.pages c.read_node.new.pages) (g.S.Pages.pages c.insert_into.new.space) (g.S.Pages.pages c.write_node.new.space) c.in_ok-node.node c.insert_into.new.node
     (λ old tree needs more. element_inside c.args.root e more.0 c.known_range.ensures) c.read_node.ensures.same.pages
-    (subst (λ (s : Subtree). IfSome (g.S.Pages.pages c.args.space.now) (λ map. SpellsHere s (page_in (map s.at)) c.in_ok-node.node)) c.root-place.ensures c.in_ok-node.ensures.ok) grows c.in_ok-write_node.ensures.ok
+    (subst (λ (s : Subtree). IfSome (g.S.Pages.pages c.args.space.now) (λ map. StandsHere map s c.in_ok-node.node)) c.root-place.ensures c.in_ok-node.ensures.ok) grows c.in_ok-write_node.ensures.ok
 
 pub returns-in-None-clause-extents : goal.returns-in-None-clause-extents
 returns-in-None-clause-extents g c =
@@ -69,7 +69,7 @@ returns-in-Some-clause-ok g c =
     top_result (inserted e) key (Writes (last_id e)) c.args.root (λ o. IsNone o) (IsElement e × IsOffset e.payload)
     (g.S.Pages.pages c.args.space.now) (g.S.Pages.pages c.read_node.new.pages) (g.S.Pages.pages c.insert_into.new.space) (g.S.Pages.pages c.write_node.new.space) (g.S.Pages.pages c.add_root.new.space) c.in_ok-node.node c.insert_into.new.node c.in-Some.upper
     (λ old tree needs more. element_inside c.args.root e more.0 c.known_range.ensures) c.read_node.ensures.same.pages
-    (subst (λ (s : Subtree). IfSome (g.S.Pages.pages c.args.space.now) (λ map. SpellsHere s (page_in (map s.at)) c.in_ok-node.node)) c.root-place.ensures c.in_ok-node.ensures.ok) grows c.in_ok-write_node.ensures.ok
+    (subst (λ (s : Subtree). IfSome (g.S.Pages.pages c.args.space.now) (λ map. StandsHere map s c.in_ok-node.node)) c.root-place.ensures c.in_ok-node.ensures.ok) grows c.in_ok-write_node.ensures.ok
     c.root-place.result c.add_root.result c.root-place.ensures c.add_root.ensures.ok c.add_root.ensures.offset c.add_root.ensures.shallow
 
 pub returns-in-Some-clause-extents : goal.returns-in-Some-clause-extents

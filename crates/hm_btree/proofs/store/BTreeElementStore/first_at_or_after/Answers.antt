@@ -14,7 +14,6 @@ returns-clause-keeps g c =
     let pages = c.first_at_or_after.ensures.same.pages in
     let same = g.met.S.NodeSpace.rests c.args.self.now.space c.first_at_or_after.new.pages c.first_at_or_after.ensures.same.rest in
     record {
-      name = c.first_at_or_after.ensures.same.name;
       elements = ap (λ (o : Option PageMap). told_elements c.args.self.now.intact o c.args.self.now.root) pages;
       mark = ap (λ (o : Option PageMap). told_mark o c.args.self.now.root) pages;
       extents = same.2;

@@ -9,7 +9,7 @@ use Rattle.hm_key.specs.Extents.{Extent}
 use Rattle.hm_key.specs.Key.{key_of}
 use Rattle.hm_btree.specs.Marking.{Writes}
 use Rattle.hm_btree.specs.Tree.{HasTreeCause}
-use Rattle.hm_btree.proofs.StoreLemmas.{old_marks, store_changed, store_cause, told_kept}
+use Rattle.hm_btree.proofs.StoreLemmas.{store_changed, store_cause, told_kept}
 use Rattle.hm_btree.proofs.store.BTreeElementStore.insert.Goals as goal
 
 pub returns-in_err-root-clause-cause : goal.returns-in_err-root-clause-cause
@@ -40,7 +40,7 @@ returns-clause-ok g c =
     let changed = store_changed (inserted e) key (Writes (last_id e)) (λ es. IsNone (element_at key es)) (IsElement e × IsOffset e.payload) c.args.self.now.intact
     (g.S.Pages.pages c.args.self.now.space) (g.S.Pages.pages c.insert_from.new.space) c.args.self.now.root c.in_ok-root.root c.in_ok-require_intact.ensures.ok c.args.self.now.sound
     c.in_ok-root.ensures.told c.requires.new (c.requires.element, c.known_offset.ensures) c.in_ok-root.ensures.ok in
-    record { elements = changed.elements; mark = old_marks changed; extents = c.in_ok-root.ensures.extents }
+    record { elements = changed.elements; mark = changed.mark; extents = c.in_ok-root.ensures.extents }
 
 pub returns-clause-keeps : goal.returns-clause-keeps
 returns-clause-keeps g c =
@@ -50,7 +50,6 @@ returns-clause-keeps g c =
     (g.S.Pages.pages c.args.self.now.space) (g.S.Pages.pages c.insert_from.new.space) c.args.self.now.root c.in_ok-root.root c.in_ok-require_intact.ensures.ok c.args.self.now.sound
     c.in_ok-root.ensures.told c.requires.new (c.requires.element, c.known_offset.ensures) c.in_ok-root.ensures.ok in
     record {
-      name = c.insert_from.ensures.name;
       elements = told_kept (inserted e) c.args.self.now.intact (g.S.Pages.pages c.args.self.now.space) (g.S.Pages.pages c.insert_from.new.space) c.args.self.now.root c.in_ok-root.root changed.elements;
       extents = ap (λ (o : Option (List Extent)). is_some o) c.in_ok-root.ensures.extents;
     }

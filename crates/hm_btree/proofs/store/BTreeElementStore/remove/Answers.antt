@@ -8,7 +8,7 @@ use Rattle.hm_key.specs.Extents.{Extent}
 use Rattle.hm_key.specs.Key.{key_of}
 use Rattle.hm_btree.specs.Marking.{TakesOut}
 use Rattle.hm_btree.proofs.IntactLemmas.{intact_tree, intact_elements, cause_in_tree}
-use Rattle.hm_btree.proofs.StoreLemmas.{old_marks, store_changed, told_kept}
+use Rattle.hm_btree.proofs.StoreLemmas.{store_changed, told_kept}
 use Rattle.hm_btree.proofs.store.BTreeElementStore.remove.Goals as goal
 
 pub remove_from-requires-clause-tree : goal.remove_from-requires-clause-tree
@@ -42,7 +42,7 @@ returns-clause-ok g c =
     let changed = store_changed (removed key) key TakesOut (λ es. IsSome (element_at key es)) ⊤ c.args.self.now.intact
     (g.S.Pages.pages c.args.self.now.space) (g.S.Pages.pages c.remove_from.new.space) c.args.self.now.root c.in_ok-root.root c.in_ok-require_intact.ensures.ok c.args.self.now.sound
     c.in_ok-root.ensures.told c.requires.there tt c.in_ok-root.ensures.ok in
-    record { elements = changed.elements; mark = old_marks changed; extents = c.in_ok-root.ensures.extents }
+    record { elements = changed.elements; mark = changed.mark; extents = c.in_ok-root.ensures.extents }
 
 pub returns-clause-keeps : goal.returns-clause-keeps
 returns-clause-keeps g c =
@@ -51,7 +51,6 @@ returns-clause-keeps g c =
     (g.S.Pages.pages c.args.self.now.space) (g.S.Pages.pages c.remove_from.new.space) c.args.self.now.root c.in_ok-root.root c.in_ok-require_intact.ensures.ok c.args.self.now.sound
     c.in_ok-root.ensures.told c.requires.there tt c.in_ok-root.ensures.ok in
     record {
-      name = c.remove_from.ensures.name;
       elements = told_kept (removed key) c.args.self.now.intact (g.S.Pages.pages c.args.self.now.space) (g.S.Pages.pages c.remove_from.new.space) c.args.self.now.root c.in_ok-root.root changed.elements;
       extents = ap (λ (o : Option (List Extent)). is_some o) c.in_ok-root.ensures.extents;
     }

@@ -9,7 +9,7 @@ use Rattle.hm_btree.specs.Marking.{Writes}
 use Rattle.hm_btree.specs.Change.{MayChange, with_change}
 use Rattle.hm_btree.specs.Tree.{HasTreeCause}
 use Rattle.hm_btree.specs.declared.change.Change.TheVariants.{Close}
-use Rattle.hm_btree.proofs.StoreLemmas.{old_marks, store_changed, store_cause, told_kept, room_kept}
+use Rattle.hm_btree.proofs.StoreLemmas.{store_changed, store_cause, told_kept, room_kept}
 use Rattle.hm_btree.proofs.store.BTreeElementStore.set_delete.Goals as goal
 
 pub returns-in_err-change_element-clause-space : goal.returns-in_err-change_element-clause-space
@@ -43,7 +43,7 @@ returns-clause-ok g c =
     (g.S.Pages.pages c.args.self.now.space) (g.S.Pages.pages c.change_element.new.space) c.args.self.now.root c.args.self.now.root c.in_ok-require_intact.ensures.ok c.args.self.now.sound
     c.in_ok-change_element.ensures.told c.requires.there c.requires.later c.in_ok-change_element.ensures.ok in
     let same = g.met.S.NodeSpace.rests c.args.self.now.space c.change_element.new.space c.change_element.ensures.rest in
-    record { elements = changed.elements; mark = old_marks changed; extents = same.2 }
+    record { elements = changed.elements; mark = changed.mark; extents = same.2 }
 
 pub returns-clause-keeps : goal.returns-clause-keeps
 returns-clause-keeps g c =
@@ -53,7 +53,6 @@ returns-clause-keeps g c =
     c.in_ok-change_element.ensures.told c.requires.there c.requires.later c.in_ok-change_element.ensures.ok in
     let same = g.met.S.NodeSpace.rests c.args.self.now.space c.change_element.new.space c.change_element.ensures.rest in
     record {
-      name = c.change_element.ensures.name;
       elements = told_kept (with_change key (Close c.args.delete)) c.args.self.now.intact (g.S.Pages.pages c.args.self.now.space) (g.S.Pages.pages c.change_element.new.space) c.args.self.now.root c.args.self.now.root changed.elements;
       extents = ap (λ (o : Option (List Extent)). is_some o) same.2;
     }

@@ -14,7 +14,6 @@ returns-clause-keeps g c =
     let pages = c.unchanged_until.ensures.same.pages in
     let same = g.met.S.NodeSpace.rests c.args.self.now.space c.unchanged_until.new.pages c.unchanged_until.ensures.same.rest in
     record {
-      name = c.unchanged_until.ensures.same.name;
       elements = ap (λ (o : Option PageMap). told_elements c.args.self.now.intact o c.args.self.now.root) pages;
       mark = ap (λ (o : Option PageMap). told_mark o c.args.self.now.root) pages;
       extents = same.2;
