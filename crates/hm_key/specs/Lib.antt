@@ -11,3 +11,5 @@ pub mod Marks
 pub mod Calls
 pub mod Stores
 pub mod Sweep
+pub mod ToyDisk
+pub mod LogStore

@@ -18,9 +18,10 @@ use hm_types::{Counted, Fault, HOff, SpaceFault, Zones};
 /// call other than `fetch`, nothing is known of the content, also not whether it is told.
 pub trait Extents: HasElements {
     /// Lets each named zone have room of at least its reserve: 1,048,576 bytes in zone 8, and
-    /// 131,072 bytes in the zones 9, 10 and 11. A zone that has less room takes one free big-block; one
-    /// that is replaced while nothing in it is live becomes free at once. `NoSpace` exactly where more zones need one than are free after `held` of them were held
-    /// back; the store is then as before.
+    /// 131,072 bytes in the zones 9, 10 and 11. A zone that has less room takes one free big-block;
+    /// the one that it replaces becomes free at once where nothing in it is live. `NoSpace` exactly
+    /// where more zones need one than are free after `held` of them were held back; the store is
+    /// then as before.
     fn admit(&mut self, zones: Zones, held: u32) -> Result<(), SpaceFault>
         ensures answers { Admission Self.elements Self.mark Self.extents Self.room Self.free
             zones held self.old self.new result }

@@ -11,6 +11,10 @@ mod extents;
 mod held;
 mod job;
 mod laws;
+#[cfg(test)]
+mod log_owner;
+#[cfg(test)]
+mod log_store;
 mod mark_list;
 mod memory;
 mod rec_type;
@@ -21,6 +25,8 @@ mod store;
 mod sweep;
 #[cfg(test)]
 mod tests;
+#[cfg(test)]
+mod toy_disk;
 
 pub use base::{BOUNDARY, Base, ELEMENT};
 pub use element::{Element, is_element};
