@@ -1,9 +1,9 @@
 -- What an owner of a small store knows from a frame that was kept.
-use Rattle.std.proofs.Common.{◌≡◌, ℕ, ◌<◌, ◌≤◌, List, Option, None, Some, refl, ap, sym, ◌∙◌, subst, arith, length}
-use Rattle.std.specs.Prelude.{IfSome, All, slice_index, slice_index_or}
+use Rattle.std.proofs.Common.{◌≡◌, ℕ, ◌<◌, List, Option, None, Some, refl, ap, sym, ◌∙◌, subst, arith, length}
+use Rattle.std.specs.Prelude.{IfSome}
 use Rattle.hm_types.specs.Told.{BothTell}
 use Rattle.hm_key.specs.ToyDisk.{Told, LeftSince, MayLeave, Outside}
-use Rattle.hm_key.specs.LogStore.{LogFrame, log_frame, IsSafe, Recovers, StillSafe}
+use Rattle.hm_key.specs.LogStore.{log_frame, IsSafe, Recovers, StillSafe}
 
 -- on a safe disk each image that a crash now may leave recovers to the committed bytes
 pub crash_recovers : (committed : List ℕ) (size : ℕ) (t : Told) → IsSafe committed size t → (image : List ℕ) → MayLeave t.bytes t.unsettled image → Recovers committed image

@@ -5,7 +5,7 @@ use Rattle.std.specs.Prelude.{◌⊎◌}
 use Rattle.std.specs.declared.cmp.Ordering.{Ordering}
 use Rattle.std.specs.declared.cmp.Ordering.TheVariants.{Less, Equal, Greater}
 use Rattle.hm_types.specs.Elements.{Key, key_cmp}
-use Rattle.hm_key.specs.Key.{IsBefore, IsFrom}
+use Rattle.hm_key.specs.Key.{IsFrom}
 use Rattle.hm_key.specs.Marks.{AllTook, IsBetween, Marks, MarksJoin, MarksStay, NoneFall}
 use Rattle.hm_key.proofs.KeyLemmas.{key_same, key_before, key_not_before, key_from_before}
 

@@ -1,8 +1,8 @@
 -- What the calls do that have more to say than a line: the whole of it under one word each.
-use Rattle.std.specs.Prelude.{◌≡◌, ℕ, ◌+◌, ◌≤◌, Bool, List, Option, Result, IfErr, IfOk, IfSome, IsSomeAnd, IsFalse, OnErr, OnOk, OnSome, length}
+use Rattle.std.specs.Prelude.{◌≡◌, ℕ, ◌+◌, ◌≤◌, Bool, List, Option, Result, IfErr, IfSome, IsSomeAnd, IsFalse, OnErr, OnOk, OnSome, length}
 use Rattle.hm_types.specs.Elements.{Key}
 use Rattle.hm_types.specs.Offset.{zone_of}
-use Rattle.hm_types.specs.Space.{Admits, IfNoSpace, LacksSpace, Spends, in_zone, rounded}
+use Rattle.hm_types.specs.Space.{Admits, IfNoSpace, LacksSpace, rounded}
 use Rattle.hm_types.specs.declared.fault.Fault.{Fault}
 use Rattle.hm_types.specs.declared.fault.SpaceFault.{SpaceFault}
 use Rattle.hm_types.specs.declared.zones.Zones.{Zones}

@@ -1,5 +1,5 @@
 -- The live extents of a store, by their places, and what a call makes of them.
-use Rattle.std.specs.Prelude.{◌≡◌, ℕ, ◌+◌, ◌-◌, ◌*◌, ◌/◌, ◌≤◌, if◌then◌else◌, nat_eq, nat_lt, List, [], ◌∷◌, length, take, Option, None, Some, All, ⊤}
+use Rattle.std.specs.Prelude.{◌≡◌, ℕ, ◌+◌, ◌-◌, ◌≤◌, if◌then◌else◌, nat_eq, nat_lt, List, [], ◌∷◌, length, take, Option, None, Some, All, ⊤}
 use Rattle.hm_types.specs.Offset.{zone_of, volume_of, byte_of}
 use Rattle.hm_types.specs.Space.{IsPayloadZone, rounded}
 

@@ -1,4 +1,3 @@
-use Rattle.std.specs.Prelude.{IfSome}
 use Rattle.hm_key.proofs.LogLemmas.{still_safe}
 use Rattle.hm_key.proofs.log_owner.Owner.renew_from.Goals as goal
 
