@@ -4,17 +4,31 @@ ghost use Rattle.hm_types.specs.Faults.{HasCause};
 
 use crate::disk::Disk;
 use hm_types::{BIGBLOCK_BYTES, Failed};
-use std::fs::{OpenFile, OpenOptions};
+use std::fs::{File, OpenFile, OpenOptions, TryLockError};
 use std::io;
-use std::io::{Read, Seek, SeekFrom, Write};
+use std::io::{ErrorKind, Read, Seek, SeekFrom, Write};
 use std::marker::Model;
 use std::rt::Files;
+
+/// An open file that can be had by one opening of it alone.
+pub trait LockFile {
+    /// Takes the file for this opening alone, until it is closed. It never waits: where another opening
+    /// has the file, it fails at once.
+    fn try_lock(&self) -> Result<(), TryLockError>;
+}
+
+impl LockFile for File {
+    fn try_lock(&self) -> Result<(), TryLockError> {
+        File::try_lock(self)
+    }
+}
 
 /// A file as a disk. It tells nothing of what it holds: a contract sees what it was made from and its
 /// count of faults.
 ///
-/// The first call opens the file, and a failure to open is a failed call, after which the next call
-/// tries again. A call whose range does not lie inside the file fails.
+/// The first call opens the file and locks it, so that no other `FileDisk` has it until this one is
+/// dropped. A failure to open or to lock is a failed call, after which the next call tries again. A call
+/// whose range does not lie inside the file fails.
 #[derive(Drop)]
 pub struct FileDisk<R: Files> {
     rt: R,
@@ -22,6 +36,7 @@ pub struct FileDisk<R: Files> {
     bigblocks: Option<u32>,
     file: Option<Opened<R::File>>,
     faults: u64,
+    error: Option<io::Error>,
 }
 
 // An open file, with its size in bytes as it was opened.
@@ -57,9 +72,27 @@ impl<R: Files> FileDisk<R> {
             bigblocks,
             file: None,
             faults: 0,
+            error: None,
         }
     }
 
+    /// The name of the file.
+    pub fn name(&self) -> &str
+        ensures { result.now ≡ self.now.name }
+    {
+        &self.name
+    }
+
+    /// Why the call failed that failed last.
+    pub fn last_error(&self) -> Option<io::Error> {
+        self.error
+    }
+}
+
+impl<R: Files> FileDisk<R>
+where
+    R::File: LockFile,
+{
     // The open file, which the caller puts back.
     fn take_file(&mut self) -> io::Result<Opened<R::File>>
         ensures { self.new ≡ self.old }
@@ -112,23 +145,40 @@ impl<R: Files> FileDisk<R> {
     {
         match answer {
             Ok(value) => Ok(value),
-            Err(_) => {
+            Err(error) => {
                 self.faults = self.faults.saturating_add(1);
+                self.error = Some(error);
                 Err(Failed)
             }
         }
     }
 }
 
-fn open<R: Files>(rt: &R, name: &str, bigblocks: Option<u32>) -> io::Result<Opened<R::File>> {
+// Nothing of the file is changed before it is locked.
+fn open<R: Files>(rt: &R, name: &str, bigblocks: Option<u32>) -> io::Result<Opened<R::File>>
+where
+    R::File: LockFile,
+{
     let mut options = OpenOptions::new();
     options.read(true).write(true).create(bigblocks.is_some());
     let file = options.open(rt, name)?;
+    if let Err(refusal) = file.try_lock() {
+        return Err(lock_error(refusal));
+    }
     if let Some(count) = bigblocks {
         file.set_len(u64::from(count) * BIGBLOCK_BYTES)?;
     }
     let size = file.metadata()?.len();
     Ok(Opened { file, size })
+}
+
+fn lock_error(refusal: TryLockError) -> io::Error {
+    match refusal {
+        TryLockError::WouldBlock => {
+            io::Error::new(ErrorKind::WouldBlock, "another run has the volume")
+        }
+        TryLockError::Error(error) => error,
+    }
 }
 
 impl<F: Read + Write + Seek> Opened<F> {
@@ -139,7 +189,7 @@ impl<F: Read + Write + Seek> Opened<F> {
                 self.file.seek(SeekFrom::Start(place))?;
                 Ok(())
             }
-            _ => Err(io::Error::from(io::ErrorKind::InvalidInput)),
+            _ => Err(io::Error::new(ErrorKind::InvalidInput, "a range past the end of the file")),
         }
     }
 
@@ -154,7 +204,10 @@ impl<F: Read + Write + Seek> Opened<F> {
     }
 }
 
-impl<R: Files> Disk for FileDisk<R> {
+impl<R: Files> Disk for FileDisk<R>
+where
+    R::File: LockFile,
+{
     ghost told = { λ _. None };
 
     ghost left_since = { λ _ _ _. Unit {0} };
@@ -192,3 +245,6 @@ impl<R: Files> Disk for FileDisk<R> {
         self.faults
     }
 }
+
+#[cfg(test)]
+mod tests;

@@ -13,7 +13,7 @@ mod tests;
 mod transfer;
 
 pub use disk::Disk;
-pub use file_disk::FileDisk;
+pub use file_disk::{FileDisk, LockFile};
 pub use laws::{
     Property, a_property_holds_now, a_property_holds_over_a_read, a_property_holds_over_a_sync,
     a_property_holds_over_a_write, a_settled_disk_alone_is_left, a_write_only_adds,

@@ -1,4 +1,4 @@
-// Disks by tables of calls, with each call failing in turn, and a disk over a real file.
+// Disks by tables of calls, with each call failing in turn.
 ghost use Rattle.std.specs.Prelude.{◌≡◌, ◌≤◌, IfSome, IfOk, OnOk, length, vec_len};
 ghost use Rattle.hm_disk.specs.Disk.{moment_of};
 ghost use Rattle.hm_disk.specs.MemDisk.{told_of};
@@ -6,7 +6,6 @@ ghost use Rattle.hm_disk.specs.MemDisk.{told_of};
 use crate::*;
 use hm_types::{BIGBLOCK_BYTES, Failed};
 use std::alloc::Global;
-use std::fs;
 use std::test::Fail;
 
 const SIZE: u64 = 24 * BIGBLOCK_BYTES;
@@ -235,44 +234,6 @@ fn a_long_read_ends_where_a_piece_fails(rt: HostRuntime) -> Result<(), Fail> {
             "{fails}"
         );
         assert_eq!(rt; disk.faults(), faults, "{fails}");
-    }
-    Ok(())
-}
-
-#[test]
-fn a_file_of_24_bigblocks_is_a_disk(rt: HostRuntime) -> Result<(), Fail> {
-    let name = String::from_str(rt.alloc(), "volume")?;
-    let mut disk = FileDisk::named(rt, name.clone()?, Some(24));
-    assert_eq!(rt; disk.size(), Ok(201_326_592));
-    assert_eq!(rt; disk.write_at(201_326_584, b"the end."), Ok(()));
-    assert_eq!(rt; disk.sync(), Ok(()));
-    let mut buf = [0xFF; 10];
-    assert_eq!(rt; disk.read_at(201_326_582, &mut buf), Ok(()));
-    assert_eq!(rt; buf.as_slice(), b"\0\0the end.".as_slice());
-    // A range that does not lie inside the file.
-    assert_eq!(rt; disk.read_at(201_326_583, &mut buf), Err(Failed));
-    assert_eq!(rt; disk.write_at(201_326_585, b"the end."), Err(Failed));
-    assert_eq!(rt; disk.write_at(u64::MAX, b"x"), Err(Failed));
-    assert_eq!(rt; disk.faults(), 3);
-    // Without a number the file keeps its size.
-    let mut again = FileDisk::named(rt, name, None);
-    let mut end = [0xFF; 8];
-    assert_eq!(rt; again.read_at(201_326_584, &mut end), Ok(()));
-    assert_eq!(rt; end.as_slice(), b"the end.".as_slice());
-    assert_eq!(rt; again.size(), Ok(201_326_592));
-    assert_eq!(rt; again.faults(), 0);
-    fs::remove_file(&rt, "volume")?;
-    // No file is made without a number, nor of the empty name.
-    for (name, bigblocks) in [
-        ("missing", None),
-        ("missing", None),
-        ("", None),
-        ("", Some(24)),
-    ] {
-        let mut none = FileDisk::named(rt, String::from_str(rt.alloc(), name)?, bigblocks);
-        assert_eq!(rt; none.size(), Err(Failed), "{name}");
-        assert_eq!(rt; none.sync(), Err(Failed), "{name}");
-        assert_eq!(rt; none.faults(), 2, "{name}");
     }
     Ok(())
 }

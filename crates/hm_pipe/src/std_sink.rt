@@ -5,6 +5,7 @@ ghost use Rattle.hm_types.specs.Faults.{HasCause};
 
 use crate::sink::Sink;
 use hm_types::Failed;
+use std::io;
 use std::io::Write;
 use std::marker::Model;
 
@@ -16,6 +17,7 @@ use std::marker::Model;
 pub struct StdSink<W> {
     inner: W,
     faults: u64,
+    error: Option<io::Error>,
 }
 
 impl<W> Model for StdSink<W> {
@@ -31,7 +33,16 @@ impl<W: Write> StdSink<W> {
     pub fn new(inner: W) -> StdSink<W>
         ensures { result ≡ record { inner = inner; faults = 0 } }
     {
-        StdSink { inner, faults: 0 }
+        StdSink {
+            inner,
+            faults: 0,
+            error: None,
+        }
+    }
+
+    /// Why the call failed that failed last.
+    pub fn last_error(&self) -> Option<io::Error> {
+        self.error
     }
 }
 
@@ -49,8 +60,9 @@ impl<W: Write> Sink for StdSink<W> {
     {
         match self.inner.write_all(piece) {
             Ok(()) => Ok(()),
-            Err(_) => {
+            Err(error) => {
                 self.faults = self.faults.saturating_add(1);
+                self.error = Some(error);
                 Err(Failed)
             }
         }
@@ -64,7 +76,6 @@ impl<W: Write> Sink for StdSink<W> {
 #[cfg(test)]
 mod tests {
     use super::*;
-    use std::io;
     use std::test::Fail;
 
     // Takes so many bytes, one a call, and then fails.
@@ -110,6 +121,12 @@ mod tests {
         for (piece, want, faults) in [("one", true, 0), ("two", false, 1), ("three", false, 2)] {
             assert_eq!(rt; sink.put(piece.as_bytes()).is_ok(), want, "{piece}");
             assert_eq!(rt; sink.faults(), faults, "{piece}");
+            let last = match sink.last_error() {
+                Some(error) => Some(error.kind()),
+                None => None,
+            };
+            let full = io::ErrorKind::StorageFull;
+            assert_eq!(rt; last, if want { None } else { Some(full) }, "{piece}");
         }
     }
 }

@@ -5,6 +5,7 @@ ghost use Rattle.hm_types.specs.Faults.{HasCause};
 
 use crate::source::Source;
 use hm_types::Failed;
+use std::io;
 use std::io::{ErrorKind, Read};
 use std::marker::Model;
 
@@ -16,6 +17,7 @@ use std::marker::Model;
 pub struct StdSource<R> {
     inner: R,
     faults: u64,
+    error: Option<io::Error>,
 }
 
 impl<R> Model for StdSource<R> {
@@ -31,7 +33,16 @@ impl<R: Read> StdSource<R> {
     pub fn new(inner: R) -> StdSource<R>
         ensures { result ≡ record { inner = inner; faults = 0 } }
     {
-        StdSource { inner, faults: 0 }
+        StdSource {
+            inner,
+            faults: 0,
+            error: None,
+        }
+    }
+
+    /// Why the call failed that failed last.
+    pub fn last_error(&self) -> Option<io::Error> {
+        self.error
     }
 }
 
@@ -52,6 +63,7 @@ impl<R: Read> Source for StdSource<R> {
                 Ok(count) => return Ok(count),
                 Err(error) => {
                     if error.kind() != ErrorKind::Interrupted {
+                        self.error = Some(error);
                         break;
                     }
                 }
@@ -69,7 +81,6 @@ impl<R: Read> Source for StdSource<R> {
 #[cfg(test)]
 mod tests {
     use super::*;
-    use std::io;
     use std::test::Fail;
 
     // Gives one byte a call, and an error of this kind at each second call.
@@ -126,6 +137,11 @@ mod tests {
                 assert_eq!(rt; source.take(&mut [0; 4]).ok(), want, "{kind:?}");
             }
             assert_eq!(rt; source.faults(), faults, "{kind:?}");
+            let last = match source.last_error() {
+                Some(error) => Some(error.kind()),
+                None => None,
+            };
+            assert_eq!(rt; last, if faults == 0 { None } else { Some(kind) });
         }
     }
 }

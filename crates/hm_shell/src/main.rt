@@ -9,9 +9,11 @@ mod laws;
 mod plan;
 mod print;
 mod read;
+mod reason;
 mod run;
 mod serve;
 mod stop;
+mod streams;
 mod volume;
 mod words;
 
@@ -20,10 +22,13 @@ use hm_disk::FileDisk;
 use hm_pipe::{FileSink, FileSource, NoGate, StdSink, StdSource};
 use plan::{Plan, PlanFault};
 use print::print_last;
+use reason::tell_reason;
 use run::run;
+use std::io::ErrorKind;
 use std::process::ExitCode;
 use std::{env, io};
 use stop::Stop;
+use streams::stand_in;
 use words::plan;
 
 fn given_words(rt: &HostRuntime) -> io::Result<Vec<String>> {
@@ -34,17 +39,31 @@ fn given_words(rt: &HostRuntime) -> io::Result<Vec<String>> {
     Ok(words)
 }
 
+// A run that stops before it has any device.
+fn stop_early(rt: &HostRuntime, stop: Stop) -> ExitCode {
+    print_last(stop, &mut StdSink::new(rt.stdout()));
+    ExitCode::from(stop.status())
+}
+
 fn main(rt: HostRuntime) -> ExitCode {
-    // Where the words cannot be had, no words are handed in, which is answered as wrong words are.
-    let words = given_words(&rt).unwrap_or(Vec::new(rt.alloc()));
+    let _stand_ins = match stand_in(&rt) {
+        Ok(stand_ins) => stand_ins,
+        Err(stop) => return stop_early(&rt, stop),
+    };
+    let words = match given_words(&rt) {
+        Ok(words) => words,
+        Err(error) if error.kind() == ErrorKind::OutOfMemory => {
+            return stop_early(&rt, Stop::NoMemory);
+        }
+        // Where the system does not give the words, or one is not UTF-8, no words are handed in,
+        // which is answered as wrong words are.
+        Err(_) => Vec::new(rt.alloc()),
+    };
     let plan = match plan(rt.alloc(), &words) {
         Ok(plan) => plan,
         // `run` refuses the words again, and no device is used.
         Err(PlanFault::Usage) => Plan::without_names(rt.alloc()),
-        Err(PlanFault::NoMemory) => {
-            print_last(Stop::NoMemory, &mut StdSink::new(rt.stdout()));
-            return ExitCode::from(Stop::NoMemory.status());
-        }
+        Err(PlanFault::NoMemory) => return stop_early(&rt, Stop::NoMemory),
     };
     let Plan {
         volume,
@@ -60,6 +79,9 @@ fn main(rt: HostRuntime) -> ExitCode {
         stream_in: FileSource::named(rt, stream_in),
         stream_out: FileSink::named(rt, stream_out),
     };
-    let Ended { status, .. } = run(&rt, &words, devices, &NoGate);
+    let Ended { status, devices } = run(&rt, &words, devices, &NoGate);
+    tell_reason(&rt, devices.disk.name(), devices.disk.last_error());
+    tell_reason(&rt, "standard input", devices.script.last_error());
+    tell_reason(&rt, "standard output", devices.out.last_error());
     ExitCode::from(status)
 }
