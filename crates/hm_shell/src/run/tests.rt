@@ -9,6 +9,7 @@ use std::test::Fail;
 mod disks;
 mod failing;
 mod files;
+mod gate;
 mod lines;
 mod words;
 
@@ -41,16 +42,24 @@ fn run_over<R: AllocGlobal + Threads + Wait + Sync>(
     takes: &[u64],
     puts: &[u64],
 ) -> Result<Memory, AllocError> {
-    let alloc = rt.alloc();
-    let owned = owned(alloc, words)?;
-    let devices = Devices {
+    let devices = in_memory(rt.alloc(), disk, script, takes, puts)?;
+    Ok(run(rt, &owned(rt.alloc(), words)?, devices, &NoGate))
+}
+
+fn in_memory(
+    alloc: Global,
+    disk: MemDisk,
+    script: Vec<u8>,
+    takes: &[u64],
+    puts: &[u64],
+) -> Result<Devices<MemDisk, MemSource, MemSink, MemSource, MemSink>, AllocError> {
+    Ok(Devices {
         disk,
         script: MemSource::new(script, takes.to_vec(alloc)?),
         out: MemSink::new(alloc, puts.to_vec(alloc)?),
         stream_in: MemSource::new(Vec::new(alloc), Vec::new(alloc)),
         stream_out: MemSink::new(alloc, Vec::new(alloc)),
-    };
-    Ok(run(rt, &owned, devices, &NoGate))
+    })
 }
 
 // The status of a run that ended, what was printed, and the disk that it left.
