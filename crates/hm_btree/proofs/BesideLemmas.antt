@@ -2,7 +2,6 @@
 use Rattle.std.proofs.Common.{◌≡◌, ◌≢◌, Bool, true, false, true≢false, ◌||◌, ℕ, suc, List, [], ◌∷◌, ◌++◌, refl, sym, ap, subst, ◌∙◌, arith, nat_eq, append-nil}
 use Rattle.std.specs.Prelude.{Option, IsSome, if◌then◌else◌}
 use Rattle.std.specs.List.{AllByRecursion}
-use Rattle.std.specs.Ordering.{is_lt}
 use Rattle.hm_types.specs.Elements.{Key}
 use Rattle.hm_fields.specs.Pages.{PageMap, page_in}
 use Rattle.hm_key.specs.Key.{key_of, IsBefore, IsFrom}
@@ -22,7 +21,6 @@ use Rattle.hm_search.specs.declared.subtree.Subtree.{Subtree}
 use Rattle.hm_search.proofs.ContentLemmas.{elements_inside}
 use Rattle.hm_search.proofs.FrameLemmas.{IsSameBelow, frame_elements, frame_mark, frame_reaches, frame_stored}
 use Rattle.hm_search.proofs.ListLemmas.{each_so}
-use Rattle.hm_search.proofs.OrderLemmas.{from_not}
 use Rattle.hm_search.proofs.ReachLemmas.{is_under, or_left, or_right, fails, not_below_itself}
 use Rattle.hm_btree.specs.Marking.{Marking, TakesOut, MarksWithin}
 use Rattle.hm_key.specs.Marks.{MarksJoin}

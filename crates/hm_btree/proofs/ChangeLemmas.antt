@@ -17,7 +17,6 @@ use Rattle.hm_search.specs.Place.{IsInside}
 use Rattle.hm_search.specs.Tree.{node_at, elements_in, mark_in, holder, starts_after, next_left, child_place, places_of, IsStoredTree}
 use Rattle.hm_search.proofs.ListLemmas.{each_so, each_append}
 use Rattle.hm_search.proofs.OrderLemmas.{from_is, from_not, from_trans}
-use Rattle.hm_search.proofs.ChildLemmas.{holder_later}
 use Rattle.hm_search.proofs.ContentLemmas.{AreInside, from_next_on, elements_inside}
 use Rattle.hm_search.proofs.FrameLemmas.{IsSameUnder}
 use Rattle.hm_search.proofs.ReachLemmas.{is_under}

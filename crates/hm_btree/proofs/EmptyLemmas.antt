@@ -3,6 +3,7 @@ use Rattle.std.proofs.Common.{◌≡◌, Bool, true, false, true≢false, ℕ, L
 use Rattle.std.specs.Prelude.{Option, IsSome, IsTrue, is_some, IfSome, ◌||◌}
 use Rattle.std.specs.List.Sorted.{IsStrictlySortedBy}
 use Rattle.std.proofs.lemmas.List.Elements.{All-from_recursion}
+use Rattle.hm_types.specs.Elements.{Key}
 use Rattle.hm_fields.specs.Pages.{PageMap, page_in}
 use Rattle.hm_types.specs.Told.{BothTell}
 use Rattle.hm_key.specs.Elements.{element_key, element_cmp}
@@ -11,10 +12,10 @@ use Rattle.hm_node.specs.Node.{node_in, Spells}
 use Rattle.hm_node.specs.declared.node.Node.{Node}
 use Rattle.hm_node.specs.declared.node.Node.TheVariants.{Leaf as leaf_node}
 use Rattle.hm_search.specs.Place.{IsInside}
-use Rattle.hm_search.specs.Tree.{node_at, elements_in, elements_of, root_place, height_of, reaches, IsTree, IsStoredTree}
+use Rattle.hm_search.specs.Tree.{node_at, elements_in, elements_of, mark_in, mark_of, root_place, height_of, reaches, IsTree, IsStoredTree}
 use Rattle.hm_btree.specs.Edits.{leaf_of}
 use Rattle.hm_btree.specs.Space.{HasAdded, IsSpot}
-use Rattle.hm_btree.specs.Tree.{HasNoPage, HoldsTree, IsTreeSpace, told_elements}
+use Rattle.hm_btree.specs.Tree.{HasNoPage, HoldsTree, IsTreeSpace, told_elements, told_mark}
 use Rattle.hm_btree.proofs.PutLemmas.{put_at, put_other, test_other}
 
 no_order : IsStrictlySortedBy element_cmp []
@@ -26,7 +27,7 @@ abbrev pub no_elements : Node
 no_elements = leaf_node (leaf_of 0 [])
 
 module _ (root : ℕ) (old new : PageMap) (none : HasNoPage old) (spot : IsSpot root) where
-  pub empty_tree : HasAdded root no_elements old new → IsTreeSpace new root × (elements_of new root ≡ [])
+  pub empty_tree : HasAdded root no_elements old new → IsTreeSpace new root × (elements_of new root ≡ []) × ((key : Key) → mark_of new root key ≡ 0)
   empty_tree (page, spells, come) =
       let there : new root ≡ Some page = put_at root page old new come.put in
       let here : node_at new root ≡ no_elements = ap (λ (o : Option (List ℕ)). node_in (page_in o)) there ∙ spells.value in
@@ -47,6 +48,7 @@ module _ (root : ℕ) (old new : PageMap) (none : HasNoPage old) (spot : IsSpot 
           spots = λ at some. subst (λ (x : ℕ). IsSpot x) (sym (one at some)) spot;
         },
         ap (λ (n : Node). elements_in new (height_of n) n) here,
+        λ key. ap (λ (n : Node). mark_in new (height_of n) n key) here,
       ) where
         not_there : (o : Option (List ℕ)) → o ≡ None → IsSome o → ⊥
         not_there o is some = true≢false (sym some ∙ ap (λ (p : Option (List ℕ)). is_some p) is)
@@ -66,3 +68,8 @@ pub empty_told : (root : ℕ) (intact : Bool) (p q : Option PageMap) → IsTrue 
 empty_told root intact None q whole none spot added = tt
 empty_told root intact (Some old) None whole none spot added = absurd added
 empty_told root intact (Some old) (Some new) whole none spot added = rw whole (ap Some (empty_tree root old new none spot added).1)
+
+pub empty_marks : (root : ℕ) (p q : Option PageMap) → IfSome p HasNoPage → IsSpot root → BothTell p q (HasAdded root no_elements) → IfSome p (λ _. (key : Key) → told_mark q root key ≡ 0)
+empty_marks root None q none spot added = tt
+empty_marks root (Some old) None none spot added = absurd added
+empty_marks root (Some old) (Some new) none spot added = (empty_tree root old new none spot added).2

@@ -1,5 +1,5 @@
 -- Two neighbouring leaves that become one, or share their elements out.
-use Rattle.std.proofs.Common.{◌≡◌, Bool, true, false, true≢false, ℕ, ◌-◌, ◌<◌, ◌≤◌, ◌⊎◌, inl, inr, List, [], ◌∷◌, ◌++◌, length, drop, refl, sym, ap, subst, ◌∙◌, arith, max, ltb-true, ltb-false, length-append, length-drop, take-append-drop}
+use Rattle.std.proofs.Common.{◌≡◌, Bool, true, false, ℕ, ◌-◌, ◌<◌, ◌≤◌, ◌⊎◌, inl, inr, List, [], ◌∷◌, ◌++◌, length, drop, refl, sym, ap, subst, ◌∙◌, arith, max, ltb-true, ltb-false, length-append, length-drop, take-append-drop}
 use Rattle.std.specs.Prelude.{if◌then◌else◌}
 use Rattle.std.specs.List.{AllByRecursion}
 use Rattle.std.specs.List.Sorted.{IsStrictlySortedBy}
@@ -21,7 +21,7 @@ use Rattle.hm_node.specs.declared.node.Node.TheVariants.{Leaf as leaf_node}
 use Rattle.hm_search.specs.Place.{IsInside}
 use Rattle.hm_search.specs.Tree.{IsTree}
 use Rattle.hm_search.proofs.ListLemmas.{each_so, each_append, sorted_append, around}
-use Rattle.hm_search.proofs.OrderLemmas.{before_is, from_is, from_not, from_trans}
+use Rattle.hm_search.proofs.OrderLemmas.{from_trans}
 use Rattle.hm_btree.specs.Marking.{Writes, TakesOut, MarksWithin}
 use Rattle.hm_btree.specs.Edits.{leaf_of}
 use Rattle.hm_btree.specs.Grow.{Split}

@@ -24,7 +24,7 @@ use Rattle.hm_node.specs.declared.leaf.Leaf.{Leaf}
 use Rattle.hm_node.specs.declared.node.Node.{Node}
 use Rattle.hm_node.specs.declared.node.Node.TheVariants.{Leaf as leaf_node, Inner as inner_node}
 use Rattle.hm_search.specs.Place.{IsInside, BeginsAt, FitsCount}
-use Rattle.hm_search.specs.Tree.{node_at, elements_in, mark_in, starts_after, next_left, IsTree}
+use Rattle.hm_search.specs.Tree.{node_at, elements_in, next_left, IsTree}
 use Rattle.hm_search.specs.declared.subtree.Parent.{Parent}
 use Rattle.hm_search.specs.declared.subtree.Subtree.{Subtree}
 use Rattle.hm_search.proofs.ListLemmas.{each_so}

@@ -9,7 +9,7 @@ use Rattle.hm_types.specs.declared.fault.Fault.TheVariants.{Media, Damaged, NoMe
 use Rattle.hm_fields.specs.Pages.{PageMap}
 use Rattle.hm_types.specs.Faults.{IsUndamaged, HasStoreCause}
 use Rattle.hm_key.specs.declared.element.Element.{Element}
-use Rattle.hm_search.specs.Tree.{IsSoundTree, elements_of, mark_of}
+use Rattle.hm_search.specs.Tree.{IsSoundTree}
 use Rattle.hm_btree.specs.Marking.{Marking, MarksBy}
 use Rattle.hm_btree.specs.Tree.{ChangesTree, HasTreeCause, IsIntact, told_elements, told_mark}
 use Rattle.hm_btree.proofs.IntactLemmas.{intact_tree}

@@ -1,8 +1,9 @@
 // A tree without elements.
 ghost use Rattle.std.specs.Prelude.{◌≡◌, ◌≤◌, ℕ, None, Some, [], Err, IfSome, IfOk, IfErr};
+ghost use Rattle.hm_types.specs.Elements.{Key};
 ghost use Rattle.hm_types.specs.Faults.{HasStoreCause};
 ghost use Rattle.hm_types.specs.Space.{Spends, in_zone};
-ghost use Rattle.hm_btree.specs.Tree.{HasNoPage, told_elements};
+ghost use Rattle.hm_btree.specs.Tree.{HasNoPage, told_elements, told_mark};
 
 use crate::node_edit::add_node;
 use crate::space::{NODE_BYTES, NodeSpace};
@@ -19,6 +20,8 @@ impl<S: NodeSpace> BTree<S> {
         requires room { NODE_BYTES ≤ S.room space TREE_ZONE }
         ensures elements { IfOk result (λ tree. IfSome (S.pages space) (λ _.
             told_elements tree.intact (S.pages tree.space) tree.root ≡ Some [])) }
+        ensures marks { IfOk result (λ tree. IfSome (S.pages space) (λ _. (key : Key) →
+            told_mark (S.pages tree.space) tree.root key ≡ 0)) }
         ensures extents { IfOk result (λ tree. S.extents tree.space ≡ S.extents space) }
         ensures space { IfOk result (λ tree.
             Spends S.room S.free (in_zone TREE_ZONE NODE_BYTES) space tree.space) }

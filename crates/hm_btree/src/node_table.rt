@@ -51,6 +51,17 @@ impl NodeTable {
         self.writes
     }
 
+    /// How many nodes there are.
+    pub fn len(&self) -> usize {
+        let mut nodes: usize = 0;
+        for page in self.pages.iter() {
+            if page.is_some() {
+                nodes = nodes.saturating_add(1);
+            }
+        }
+        nodes
+    }
+
     /// How many bytes of room are left in zone 8.
     pub fn room(&self) -> u64
         ensures { result ≡ self.now.room }

@@ -1,5 +1,5 @@
 // Insertion of an element into a tree.
-ghost use Rattle.std.specs.Prelude.{◌≡◌, ◌*◌, ◌^◌, ◌<◌, ◌≤◌, IsNone, IfOk, OnOk, is_some};
+ghost use Rattle.std.specs.Prelude.{◌≡◌, ◌↔◌, ◌*◌, ◌^◌, ◌<◌, ◌≤◌, IsTrue, IsNone, IfOk, OnOk, is_some};
 ghost use Rattle.hm_types.specs.Offset.{IsOffset};
 ghost use Rattle.hm_types.specs.Told.{BothTell};
 ghost use Rattle.hm_types.specs.Faults.{HasStoreCause};
@@ -75,12 +75,19 @@ fn add_root<S: NodeSpace>(
     ensures cause { HasStoreCause (S.pages space.old)
         (S.faults space.old) (S.faults space.new) result }
 {
-    if level(lower) >= MOST_LEVELS {
+    if !may_grow(lower) {
         return Err(Fault::NoMemory);
     }
     let at = add_node(space, &upper.node)?;
     let top = top_over(place, lower, upper, at);
     add_node(space, &top)
+}
+
+// Whether a root may stand above a node: it has at most the greatest level.
+fn may_grow(lower: &Node) -> bool
+    ensures { IsTrue result ↔ (level_of lower.now < 9) }
+{
+    level(lower) < MOST_LEVELS
 }
 
 // The root above two nodes.

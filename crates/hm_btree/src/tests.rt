@@ -183,8 +183,9 @@ fn a_call_reads_and_writes_few_nodes(rt: HostRuntime) -> Result<(), Fail> {
     let tree = empty(rt.alloc())?;
     let tree = count_writes(&rt, tree, 10_000, false)?;
     let tree = count_reads(&rt, tree, 10_000)?;
-    let (_, levels) = levels_of(count_writes(&rt, tree, 9_999, true)?)?;
+    let (tree, levels) = levels_of(count_writes(&rt, tree, 9_999, true)?)?;
     assert_eq!(rt; levels, 1);
+    assert_eq!(rt; tree.space().len(), 1);
     Ok(())
 }
 
@@ -206,6 +207,114 @@ fn marks_reach_each_id_that_was_written(rt: HostRuntime) -> Result<(), Fail> {
     match tree.unchanged_until(&first, Id(1_000))? {
         Some(end) => assert!(rt; end.key <= 500),
         None => panic!(rt; "the first leaf has no newer id"),
+    }
+    Ok(())
+}
+
+// A tree of the keys below 1,000, all made by id 1. Its leaves have 32 of them each, and so begin at
+// 0, 32, 64 and so on, but for the last one. The leaf of key 500, from 480 on, was written by id 9.
+fn marked(alloc: Global) -> Result<BTree<NodeTable>, Fail> {
+    let mut tree = empty(alloc)?;
+    for i in 0..1_000u64 {
+        insert(&mut tree, &element(i, 1))?;
+    }
+    tree.set_delete(&element(500, 1).base, 9)?;
+    Ok(tree)
+}
+
+// The boundary at the element with this key.
+fn boundary(key: u64) -> Base {
+    element(key, 1).base.boundary()
+}
+
+#[test]
+fn marks_stay_when_an_element_is_readdressed(rt: HostRuntime) -> Result<(), Fail> {
+    let mut tree = marked(rt.alloc())?;
+    for i in [0, 500, 999] {
+        tree.readdress(&element(i, 1).base, HOff::default())?;
+    }
+    let (first, last) = (Base::least(), Some(Base::greatest()));
+    assert_eq!(rt; tree.unchanged_until(&first, Id(1))?, Some(boundary(480)));
+    assert_eq!(rt; tree.unchanged_until(&boundary(480), Id(8))?, None);
+    assert_eq!(rt; tree.unchanged_until(&boundary(512), Id(1))?, last);
+    assert_eq!(rt; tree.unchanged_until(&first, Id(9))?, last);
+    Ok(())
+}
+
+#[test]
+fn a_removal_raises_marks_only_where_leaves_come_together(rt: HostRuntime) -> Result<(), Fail> {
+    let mut tree = marked(rt.alloc())?;
+    let (first, last) = (Base::least(), Some(Base::greatest()));
+    // The leaf from 480 on keeps 16 elements, and each mark stays.
+    for i in 480..496u64 {
+        tree.remove(&element(i, 1).base)?;
+    }
+    assert_eq!(rt; tree.unchanged_until(&first, Id(1))?, Some(boundary(480)));
+    assert_eq!(rt; tree.unchanged_until(&boundary(480), Id(8))?, None);
+    assert_eq!(rt; tree.unchanged_until(&boundary(512), Id(1))?, last);
+    assert_eq!(rt; tree.unchanged_until(&first, Id(9))?, last);
+    // It has 15, and takes over the range of the next one, from 512 on.
+    tree.remove(&element(496, 1).base)?;
+    assert_eq!(rt; tree.unchanged_until(&first, Id(1))?, Some(boundary(480)));
+    assert_eq!(rt; tree.unchanged_until(&boundary(512), Id(8))?, None);
+    assert_eq!(rt; tree.unchanged_until(&boundary(544), Id(1))?, last);
+    assert_eq!(rt; tree.unchanged_until(&first, Id(9))?, last);
+    Ok(())
+}
+
+#[test]
+fn an_insertion_has_room_for_ten_nodes(rt: HostRuntime) -> Result<(), Fail> {
+    assert_eq!(rt; INSERT_ROOM, 40_960);
+    Ok(())
+}
+
+// A tree of the keys below 192 whose leaves begin at 0, 32 and so on. In one of these the `mirror` is
+// greater than the one that the root has for it. With where that leaf stands.
+fn marred(alloc: Global, child: usize) -> Result<(BTree<NodeTable>, HOff), Fail> {
+    let mut tree = empty(alloc)?;
+    for i in 0..192u64 {
+        insert(&mut tree, &element(i, 1))?;
+    }
+    let (mut space, root) = tree.into_parts();
+    let place = match read_node(&mut space, &Subtree::root(root))? {
+        Node::Inner(inner) if child < inner.places.len() => Subtree::child(&inner, child),
+        _ => return Err(Fail::from("the root has no such child")),
+    };
+    let mut page = Page::zero();
+    match read_node(&mut space, &place)? {
+        Node::Leaf(mut leaf) => {
+            leaf.mirror = 2;
+            encode(&Node::Leaf(leaf), &mut page);
+        }
+        Node::Inner(_) => return Err(Fail::from("the child is no leaf")),
+    }
+    space.change(place.at, &page)?;
+    Ok((BTree::over(space, root), place.at))
+}
+
+#[test]
+fn damage_below_the_root_is_told_where_it_is(rt: HostRuntime) -> Result<(), Fail> {
+    let alloc = rt.alloc();
+    for child in 0..6usize {
+        let key = 32 * child as u64 + 7;
+        let at = element(key, 1).base;
+        let (mut tree, place) = marred(alloc, child)?;
+        let damage = Fault::Damaged { at: place, kind: 9 };
+        assert_eq!(rt;
+            insert(&mut tree, &element(key, 2)),
+            Err(damage),
+            "child {child}"
+        );
+        let (mut tree, _) = marred(alloc, child)?;
+        assert_eq!(rt; tree.set_delete(&at, 9), Err(damage), "child {child}");
+        let (mut tree, _) = marred(alloc, child)?;
+        assert_eq!(rt;
+            tree.readdress(&at, HOff::default()),
+            Err(damage),
+            "child {child}"
+        );
+        let (mut tree, _) = marred(alloc, child)?;
+        assert_eq!(rt; tree.remove(&at), Err(damage), "child {child}");
     }
     Ok(())
 }
