@@ -235,8 +235,8 @@ fn marks_stay_when_an_element_is_readdressed(rt: HostRuntime) -> Result<(), Fail
     }
     let (first, last) = (Base::least(), Some(Base::greatest()));
     assert_eq!(rt; tree.unchanged_until(&first, Id(1))?, Some(boundary(480)));
-    assert_eq!(rt; tree.unchanged_until(&boundary(480), Id(8))?, None);
-    assert_eq!(rt; tree.unchanged_until(&boundary(512), Id(1))?, last);
+    assert_eq!(rt; tree.unchanged_until(&element(480, 1).base, Id(8))?, None);
+    assert_eq!(rt; tree.unchanged_until(&element(512, 1).base, Id(1))?, last);
     assert_eq!(rt; tree.unchanged_until(&first, Id(9))?, last);
     Ok(())
 }
@@ -250,14 +250,14 @@ fn a_removal_raises_marks_only_where_leaves_come_together(rt: HostRuntime) -> Re
         tree.remove(&element(i, 1).base)?;
     }
     assert_eq!(rt; tree.unchanged_until(&first, Id(1))?, Some(boundary(480)));
-    assert_eq!(rt; tree.unchanged_until(&boundary(480), Id(8))?, None);
-    assert_eq!(rt; tree.unchanged_until(&boundary(512), Id(1))?, last);
+    assert_eq!(rt; tree.unchanged_until(&element(480, 1).base, Id(8))?, None);
+    assert_eq!(rt; tree.unchanged_until(&element(512, 1).base, Id(1))?, last);
     assert_eq!(rt; tree.unchanged_until(&first, Id(9))?, last);
     // It has 15, and takes over the range of the next one, from 512 on.
     tree.remove(&element(496, 1).base)?;
     assert_eq!(rt; tree.unchanged_until(&first, Id(1))?, Some(boundary(480)));
-    assert_eq!(rt; tree.unchanged_until(&boundary(512), Id(8))?, None);
-    assert_eq!(rt; tree.unchanged_until(&boundary(544), Id(1))?, last);
+    assert_eq!(rt; tree.unchanged_until(&element(512, 1).base, Id(8))?, None);
+    assert_eq!(rt; tree.unchanged_until(&element(544, 1).base, Id(1))?, last);
     assert_eq!(rt; tree.unchanged_until(&first, Id(9))?, last);
     Ok(())
 }
@@ -292,6 +292,11 @@ fn marred(alloc: Global, child: usize) -> Result<(BTree<NodeTable>, HOff), Fail>
     Ok((BTree::over(space, root), place.at))
 }
 
+// What that leaf is damaged by.
+fn other_mirror(at: HOff) -> Fault {
+    Fault::Damaged { at, kind: 9 }
+}
+
 #[test]
 fn damage_below_the_root_is_told_where_it_is(rt: HostRuntime) -> Result<(), Fail> {
     let alloc = rt.alloc();
@@ -299,22 +304,19 @@ fn damage_below_the_root_is_told_where_it_is(rt: HostRuntime) -> Result<(), Fail
         let key = 32 * child as u64 + 7;
         let at = element(key, 1).base;
         let (mut tree, place) = marred(alloc, child)?;
-        let damage = Fault::Damaged { at: place, kind: 9 };
         assert_eq!(rt;
             insert(&mut tree, &element(key, 2)),
-            Err(damage),
-            "child {child}"
+            Err(other_mirror(place))
         );
-        let (mut tree, _) = marred(alloc, child)?;
-        assert_eq!(rt; tree.set_delete(&at, 9), Err(damage), "child {child}");
-        let (mut tree, _) = marred(alloc, child)?;
+        let (mut tree, place) = marred(alloc, child)?;
+        assert_eq!(rt; tree.set_delete(&at, 9), Err(other_mirror(place)));
+        let (mut tree, place) = marred(alloc, child)?;
         assert_eq!(rt;
             tree.readdress(&at, HOff::default()),
-            Err(damage),
-            "child {child}"
+            Err(other_mirror(place))
         );
-        let (mut tree, _) = marred(alloc, child)?;
-        assert_eq!(rt; tree.remove(&at), Err(damage), "child {child}");
+        let (mut tree, place) = marred(alloc, child)?;
+        assert_eq!(rt; tree.remove(&at), Err(other_mirror(place)));
     }
     Ok(())
 }
