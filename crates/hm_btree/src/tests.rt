@@ -227,38 +227,43 @@ fn boundary(key: u64) -> Base {
     element(key, 1).base.boundary()
 }
 
+// How far nothing above an id was written from a key on: to the end of its leaf, where the root has
+// a greater id.
+fn quiet(tree: &mut BTree<NodeTable>, key: u64, since: u64) -> Result<Option<Base>, Fault> {
+    tree.unchanged_until(&element(key, 1).base, Id(since))
+}
+
 #[test]
 fn marks_stay_when_an_element_is_readdressed(rt: HostRuntime) -> Result<(), Fail> {
     let mut tree = marked(rt.alloc())?;
     for i in [0, 500, 999] {
         tree.readdress(&element(i, 1).base, HOff::default())?;
     }
-    let (first, last) = (Base::least(), Some(Base::greatest()));
-    assert_eq!(rt; tree.unchanged_until(&first, Id(1))?, Some(boundary(480)));
-    assert_eq!(rt; tree.unchanged_until(&element(480, 1).base, Id(8))?, None);
-    assert_eq!(rt; tree.unchanged_until(&element(512, 1).base, Id(1))?, last);
-    assert_eq!(rt; tree.unchanged_until(&first, Id(9))?, last);
+    assert_eq!(rt; quiet(&mut tree, 0, 1)?, Some(boundary(32)));
+    assert_eq!(rt; quiet(&mut tree, 448, 1)?, Some(boundary(480)));
+    assert_eq!(rt; quiet(&mut tree, 480, 8)?, None);
+    assert_eq!(rt; quiet(&mut tree, 512, 1)?, Some(boundary(544)));
+    assert_eq!(rt; quiet(&mut tree, 480, 9)?, Some(Base::greatest()));
     Ok(())
 }
 
 #[test]
 fn a_removal_raises_marks_only_where_leaves_come_together(rt: HostRuntime) -> Result<(), Fail> {
     let mut tree = marked(rt.alloc())?;
-    let (first, last) = (Base::least(), Some(Base::greatest()));
     // The leaf from 480 on keeps 16 elements, and each mark stays.
     for i in 480..496u64 {
         tree.remove(&element(i, 1).base)?;
     }
-    assert_eq!(rt; tree.unchanged_until(&first, Id(1))?, Some(boundary(480)));
-    assert_eq!(rt; tree.unchanged_until(&element(480, 1).base, Id(8))?, None);
-    assert_eq!(rt; tree.unchanged_until(&element(512, 1).base, Id(1))?, last);
-    assert_eq!(rt; tree.unchanged_until(&first, Id(9))?, last);
+    assert_eq!(rt; quiet(&mut tree, 448, 1)?, Some(boundary(480)));
+    assert_eq!(rt; quiet(&mut tree, 480, 8)?, None);
+    assert_eq!(rt; quiet(&mut tree, 512, 1)?, Some(boundary(544)));
+    assert_eq!(rt; quiet(&mut tree, 480, 9)?, Some(Base::greatest()));
     // It has 15, and takes over the range of the next one, from 512 on.
     tree.remove(&element(496, 1).base)?;
-    assert_eq!(rt; tree.unchanged_until(&first, Id(1))?, Some(boundary(480)));
-    assert_eq!(rt; tree.unchanged_until(&element(512, 1).base, Id(8))?, None);
-    assert_eq!(rt; tree.unchanged_until(&element(544, 1).base, Id(1))?, last);
-    assert_eq!(rt; tree.unchanged_until(&first, Id(9))?, last);
+    assert_eq!(rt; quiet(&mut tree, 448, 1)?, Some(boundary(480)));
+    assert_eq!(rt; quiet(&mut tree, 512, 8)?, None);
+    assert_eq!(rt; quiet(&mut tree, 544, 1)?, Some(boundary(576)));
+    assert_eq!(rt; quiet(&mut tree, 480, 9)?, Some(Base::greatest()));
     Ok(())
 }
 
