@@ -13,7 +13,7 @@ use Rattle.hm_model.specs.declared.reply.Reply.{Reply}
 use Rattle.hm_model.specs.declared.reply.Reply.TheVariants.{BadPath, Busy, Exists, Future, HashFull, IdsSpent, NotMaster, NotSlave, ReadOnly, SharedDiffers, TooManyIntervals}
 use Rattle.hm_model.specs.Answer.{is_master}
 use Rattle.hm_model.specs.Call.{Call, all_located, first_site, second_site, site_object, site_system, standing}
-use Rattle.hm_model.specs.Due.{Check, a_dir, a_file, a_link, a_master, a_slave, checks, early_checks, first_refusal, fits_file, gives_way, good_path, good_paths, has_id, has_its_name, has_snapshots, hash_is_full, hash_left, ids_left, intervals_left, is_above, is_empty, is_in_slave, is_pass, is_pfs_call, is_tree_call, links_left, name_is_new, new_name, no_dir, no_future, no_future_begin, none_open, not_into_itself, of_system, one_pfs, one_shared, own_checks, parts_in, past_stays, pfs_left, pruned_count, refusal, refuse_if, slaves_stay, walks, was_passed, way_is_free}
+use Rattle.hm_model.specs.Due.{Check, a_dir, a_file, a_link, a_master, a_slave, checks, early_checks, first_refusal, fits_file, good_path, good_paths, has_id, has_its_name, has_snapshots, hash_is_full, hash_left, ids_left, intervals_left, is_above, is_empty, is_in_slave, is_pass, is_pfs_call, is_tree_call, is_way_free, links_left, name_is_new, new_name, no_dir, no_future, no_future_begin, none_open, not_into_itself, of_system, one_pfs, one_shared, own_checks, parts_in, past_stays, pfs_left, pruned_count, refusal, refuse_if, slaves_stay, walks, was_passed, way_is_free}
 use Rattle.hm_model.specs.Reply.{is_refusal}
 use Rattle.hm_model.specs.Sites.{BadAt, Parsed, Parts, Site, Use, uses_of}
 use Rattle.hm_model.specs.Laws.{rewrites}
@@ -38,9 +38,8 @@ new_refuses call site = of_option CheckRefuses (λ (o : Obj). Some Exists) _ Non
 
 way_refuses : (call : Call) → CheckRefuses (way_is_free call)
 way_refuses call =
-    of_option CheckRefuses (λ (there : Object). if option_map_or (λ (moved : Object). gives_way call moved there) (site_object call (first_site call)) false then None else Some Exists)
-    (standing call (second_site call)) None
-    (λ there. unless_refuses (option_map_or (λ (moved : Object). gives_way call moved there) (site_object call (first_site call)) false) Exists refl) tt
+    of_option CheckRefuses (λ (number : Obj). if is_way_free call then None else Some Exists) _ None
+    (λ number. unless_refuses (is_way_free call) Exists refl) tt
 
 -- the checks before the walks
 good_refuses : (u : Use) (path : Parsed) → CheckRefuses (good_path u path)

@@ -36,13 +36,14 @@ of_and_then (Refuses reply passed) next refuses each = refuses
 enter_refuses : (volume : Volume) (view : View) (pfs : ℕ) (when : When) (passed : Passed) → WalkRefuses (enter volume view pfs when passed)
 enter_refuses volume view pfs when passed =
     of_option WalkRefuses (λ (s : PseudoFileSystem). enter_root volume view pfs when passed) _ (Refuses NotFound passed)
-    (λ s. of_test WalkRefuses (is_seen volume pfs when) (and_then (reach (root_of pfs when) passed) (look_at_root view)) (Refuses NotRetained passed)
-    (of_and_then (reach (root_of pfs when) passed) (look_at_root view) tt (λ here more. of_option WalkRefuses (λ (o : Object). Reaches here more) (object_at view here) (Refuses NotFound more) (λ o. tt) refl)) refl) refl
+    (λ s. of_and_then (reach (root_of pfs when) passed) (look_at_root volume view) tt (λ here more.
+    of_test WalkRefuses (is_seen volume here.pfs here.when) (option_map_or (λ (o : Object). Reaches here more) (object_at view here) (Refuses NotFound more)) (Refuses NotRetained more)
+    (of_option WalkRefuses (λ (o : Object). Reaches here more) (object_at view here) (Refuses NotFound more) (λ o. tt) refl) refl)) refl
 
 link_refuses : (volume : Volume) (view : View) (follow : Follow) (pfs : ℕ) (here : Position) (passed : Passed) → WalkRefuses (over_link volume view follow pfs here passed)
 link_refuses volume view Stays pfs here passed = tt
 link_refuses volume view Follows pfs here passed = enter_refuses volume view pfs here.when passed
-link_refuses volume view TakesPfs pfs here passed = of_option WalkRefuses (λ (s : PseudoFileSystem). reach (root_of pfs here.when) passed) _ (Refuses NotFound passed) (λ s. tt) refl
+link_refuses volume view TakesPfs pfs here passed = of_option WalkRefuses (λ (s : PseudoFileSystem). Reaches (root_of pfs here.when) passed) _ (Refuses NotFound passed) (λ s. tt) refl
 
 object_refuses : (volume : Volume) (view : View) (follow : Follow) (here : Position) (passed : Passed) → WalkRefuses (find_object volume view follow here passed)
 object_refuses volume view goes here passed =

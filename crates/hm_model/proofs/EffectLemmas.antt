@@ -12,6 +12,7 @@ use Rattle.hm_model.specs.After.{Event, OpenCall, State, accepted_effect, after_
 use Rattle.hm_model.specs.Call.{Call, first_site, own_id, second_site}
 use Rattle.hm_model.specs.Change.{change}
 use Rattle.hm_model.specs.Cut.{cut, pruned}
+use Rattle.hm_model.specs.Foreign.{no_feed}
 use Rattle.hm_model.specs.Due.{is_tree_call, kept_ids}
 use Rattle.hm_model.specs.Laws.{IsUnfed, is_rewriter, rewrites, versions_of}
 use Rattle.hm_model.specs.Reply.{is_refusal}
@@ -22,24 +23,24 @@ use Rattle.hm_model.proofs.GrowthLemmas.{Grows, Grows-changed, Grows-same, Keeps
 
 -- what holds after each kind of call holds after an accepted one
 pub accepted_cases : (P : State → Type 0) (state : State) (call : Call) (command : Command) →
-    P (on_volume (with_opened state call (first_site call).at.pfs (first_site call).at.pfs None) (of_pfs state.volume (first_site call).at.pfs (λ s. retaining (pruned s.retention (kept_ids call)) s))) →
-    P (on_volume (with_opened state call (first_site call).at.pfs (first_site call).at.pfs None) (of_pfs state.volume (first_site call).at.pfs (present_only (own_id call)))) →
-    ((pfs : ℕ) → P (with_opened state call pfs pfs None)) →
+    P (on_volume (with_opened state call (first_site call).at.pfs (first_site call).at.pfs no_feed) (of_pfs state.volume (first_site call).at.pfs (λ s. retaining (pruned s.retention (kept_ids call)) s))) →
+    P (on_volume (with_opened state call (first_site call).at.pfs (first_site call).at.pfs no_feed) (of_pfs state.volume (first_site call).at.pfs (present_only (own_id call)))) →
+    ((pfs : ℕ) → P (with_opened state call pfs pfs no_feed)) →
     P (record (feeding state call (first_site call).at.pfs (first_site call).at.pfs (stream_origin (next_stream state.streams)) (next_stream state.streams)) { streams = later_streams state.streams }) →
-    P (feeding state call (second_site call).at.pfs (first_site call).at.pfs (Local (first_site call).at.pfs) None) →
+    P (feeding state call (second_site call).at.pfs (first_site call).at.pfs (Local (first_site call).at.pfs) no_feed) →
     P (if is_tree_call call.command then on_volume state (change call) else state) →
     P (elim command [
-      | Prune path ↦ on_volume (with_opened state call (first_site call).at.pfs (first_site call).at.pfs None)
+      | Prune path ↦ on_volume (with_opened state call (first_site call).at.pfs (first_site call).at.pfs no_feed)
           (of_pfs state.volume (first_site call).at.pfs (λ s. retaining (pruned s.retention (kept_ids call)) s))
-      | PruneAll path ↦ on_volume (with_opened state call (first_site call).at.pfs (first_site call).at.pfs None) (of_pfs state.volume (first_site call).at.pfs (present_only (own_id call)))
-      | Reblock fill ↦ with_opened state call 0 0 None
-      | PfsUpgrade path ↦ with_opened state call (first_site call).at.pfs (first_site call).at.pfs None
-      | MirrorRead path begin ↦ with_opened state call (first_site call).at.pfs (first_site call).at.pfs None
+      | PruneAll path ↦ on_volume (with_opened state call (first_site call).at.pfs (first_site call).at.pfs no_feed) (of_pfs state.volume (first_site call).at.pfs (present_only (own_id call)))
+      | Reblock fill ↦ with_opened state call 0 0 no_feed
+      | PfsUpgrade path ↦ with_opened state call (first_site call).at.pfs (first_site call).at.pfs no_feed
+      | MirrorRead path begin ↦ with_opened state call (first_site call).at.pfs (first_site call).at.pfs no_feed
       | MirrorWrite path ↦
           record (feeding state call (first_site call).at.pfs (first_site call).at.pfs (stream_origin (next_stream state.streams)) (next_stream state.streams)) {
             streams = later_streams state.streams;
           }
-      | MirrorCopy master slave limit ↦ feeding state call (second_site call).at.pfs (first_site call).at.pfs (Local (first_site call).at.pfs) None
+      | MirrorCopy master slave limit ↦ feeding state call (second_site call).at.pfs (first_site call).at.pfs (Local (first_site call).at.pfs) no_feed
       | other ↦ if is_tree_call call.command then on_volume state (change call) else state
     ])
 accepted_cases P state call (Prune path) prune all opens write copy tree = prune

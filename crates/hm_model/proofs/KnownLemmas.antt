@@ -10,9 +10,10 @@ use Rattle.hm_model.specs.declared.reply.Reply.{Reply}
 use Rattle.hm_model.specs.declared.reply.Reply.TheVariants.{Done, Listing, Content, Status, Target, Synced, MadePfs, PfsIs, Space, Finished, Passed, Cut, Busy}
 use Rattle.hm_model.specs.After.{Event, OpenCall, State, accepted_effect, after_event, call_of, effect, ended, feeding, later_streams, next_stream, no_hash, of_pfs, on_volume, present_only, retaining, stream_origin, with_opened}
 use Rattle.hm_model.specs.Call.{Call, first_site, own_id, second_site}
-use Rattle.hm_model.specs.Caused.{IsFree, KeepsEarly, Known, early_refusal, is_ending, is_housekeeping, known_after_entry, known_busy, number_of, opens, still_open}
+use Rattle.hm_model.specs.Caused.{IsFree, IsPossible, Known, early_refusal, is_ending, is_housekeeping, known_after_entry, known_busy, number_of, opens, still_open}
 use Rattle.hm_model.specs.Change.{change}
 use Rattle.hm_model.specs.Cut.{pruned}
+use Rattle.hm_model.specs.Foreign.{no_feed}
 use Rattle.hm_model.specs.Due.{Check, first_refusal, good_paths, is_pass, is_tree_call, kept_ids, no_future, no_future_begin, none_open, past_stays}
 use Rattle.hm_model.specs.Sites.{Use, uses_of}
 use Rattle.hm_model.specs.Reply.{is_refusal}
@@ -34,17 +35,17 @@ OpensIf test state call after = pairs after.opened ≡ (if test then (own_id cal
 
 accepted_opens : (state : State) (call : Call) (command : Command) →
     OpensIf (is_housekeeping command) state call (elim command [
-      | Prune path ↦ on_volume (with_opened state call (first_site call).at.pfs (first_site call).at.pfs None)
+      | Prune path ↦ on_volume (with_opened state call (first_site call).at.pfs (first_site call).at.pfs no_feed)
           (of_pfs state.volume (first_site call).at.pfs (λ s. retaining (pruned s.retention (kept_ids call)) s))
-      | PruneAll path ↦ on_volume (with_opened state call (first_site call).at.pfs (first_site call).at.pfs None) (of_pfs state.volume (first_site call).at.pfs (present_only (own_id call)))
-      | Reblock fill ↦ with_opened state call 0 0 None
-      | PfsUpgrade path ↦ with_opened state call (first_site call).at.pfs (first_site call).at.pfs None
-      | MirrorRead path begin ↦ with_opened state call (first_site call).at.pfs (first_site call).at.pfs None
+      | PruneAll path ↦ on_volume (with_opened state call (first_site call).at.pfs (first_site call).at.pfs no_feed) (of_pfs state.volume (first_site call).at.pfs (present_only (own_id call)))
+      | Reblock fill ↦ with_opened state call 0 0 no_feed
+      | PfsUpgrade path ↦ with_opened state call (first_site call).at.pfs (first_site call).at.pfs no_feed
+      | MirrorRead path begin ↦ with_opened state call (first_site call).at.pfs (first_site call).at.pfs no_feed
       | MirrorWrite path ↦
           record (feeding state call (first_site call).at.pfs (first_site call).at.pfs (stream_origin (next_stream state.streams)) (next_stream state.streams)) {
             streams = later_streams state.streams;
           }
-      | MirrorCopy master slave limit ↦ feeding state call (second_site call).at.pfs (first_site call).at.pfs (Local (first_site call).at.pfs) None
+      | MirrorCopy master slave limit ↦ feeding state call (second_site call).at.pfs (first_site call).at.pfs (Local (first_site call).at.pfs) no_feed
       | other ↦ if is_tree_call call.command then on_volume state (change call) else state
     ])
 accepted_opens state call (Prune path) = refl
@@ -193,8 +194,8 @@ busy_first : (busy : Option ℕ) (command : Command) (opening : ℕ) (rest : Lis
 busy_first busy command opening rest pass is = rw (pass, is) refl
 
 -- a pass is accepted only where no other is known to be open
-pub accepted_alone : (known : Known) (event : Event) → KeepsEarly (early_refusal known event) event.entry.reply → is_refusal event.entry.reply ≡ false → is_pass event.entry.call ≡ true → known_busy known.opened ≡ None
-accepted_alone known event early accepted pass = by (known_busy known.opened) refl
+pub accepted_alone : (known : Known) (event : Event) (numbers : List ℕ) → IsPossible (early_refusal known event) numbers event.entry.reply → is_refusal event.entry.reply ≡ false → is_pass event.entry.call ≡ true → known_busy known.opened ≡ None
+accepted_alone known event numbers early accepted pass = by (known_busy known.opened) refl
   where
     by : (found : Option ℕ) → known_busy known.opened ≡ found → known_busy known.opened ≡ None
     by None is = is
@@ -202,7 +203,7 @@ accepted_alone known event early accepted pass = by (known_busy known.opened) re
         let uses : List (Use × List ℕ) = uses_of event.entry.call in
         let rest : List Check = good_paths uses event.paths ++ map (no_future known.last) event.paths ++ no_future_begin known.last event.entry.call ∷ past_stays event.entry.call event.paths ∷ [] in
         let first : early_refusal known event ≡ Some (Busy (record { 0 = opening })) = busy_first (known_busy known.opened) event.entry.call opening rest pass is in
-        let either : (event.entry.reply ≡ Busy (record { 0 = opening })) ⊎ IsFree event.entry.reply = subst (λ (check : Check). KeepsEarly check event.entry.reply) first early in
+        let either : (event.entry.reply ≡ Busy (record { 0 = opening })) ⊎ IsFree event.entry.reply = subst (λ (check : Check). IsPossible check numbers event.entry.reply) first early in
         let refused : is_refusal event.entry.reply ≡ true = elim either [
           | inl busy ↦ ap is_refusal busy
           | inr free ↦ free_refuses event.entry.reply (low (number_of event.entry.reply) free.0 free.1 free.2)

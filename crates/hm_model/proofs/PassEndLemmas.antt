@@ -80,27 +80,24 @@ ends_clear : (call : Call) (opening : Id) → call.command ≡ End opening → e
 ends_clear call opening is = rw is refl
 
 -- the begin id is the sync end, or the id that was given
-either_way : (Write Other Q : Type 0) (command : Command) → (elim command as (λ x. Type 0) [ MirrorWrite path ↦ Write | other ↦ Other ]) → (Write → Q) → (Other → Q) → Q
-either_way Write Other Q (MirrorWrite path) is write other = write is
-either_way Write Other Q command is write other = other is
-
-begin_passed : (volume : Volume) (o : OpenCall) (ending begin end : ℕ) → IsPassed volume o ending begin end → begin ≡ begin_of volume o
-begin_passed volume o ending begin end passed =
-    either_way ((begin ≡ begin_of volume o) × (begin ≤ end) × (end ≤ GREATEST_ID)) ((begin ≡ begin_of volume o) × IsEndId o ending end × MasterKeeps volume o end) (begin ≡ begin_of volume o) o.command passed (λ both. both.0) (λ both. both.0)
-
 pub begin_legal : (run : Setting) (before : List Event) (event : Event) (o : OpenCall) (begin end : Id) → MayFollow run before event → EndsPass (state_after run before) event o begin end → begin.0 ≡ begin_of (state_after run before).volume o
 begin_legal run before event o begin end follows ends =
     let allowed : IsAllowed run before event = follows.allowed (ends_clear (call_after run before event) ends.opening ends.call) in
     let ended = rw ends.call at allowed in
     let same : ended.0 ≡ o = cc in
     let ending : IsEnding (floor_after run before) (state_after run before).volume o event.entry.id.0 event.entry.reply = rw same at ended.2 in
-    begin_passed (state_after run before).volume o event.entry.id.0 begin.0 end.0 (rw ends.reply at ending)
+    let passed : IsPassed (state_after run before).volume o event.entry.id.0 begin.0 end.0 = rw ends.reply at ending in
+    passed.begins
 
 -- what a copy is given: its master's versions
 pub given_copy : (volume : Volume) (o : OpenCall) (from into : Text) (limit : Option ℕ) → o.command ≡ MirrorCopy from into limit → given_in volume o ≡ given_by volume o.master
 given_copy volume o from into limit command = rw command refl
 
-given_write : (volume : Volume) (o : OpenCall) (into : Text) (foreign : ForeignMaster) → o.command ≡ MirrorWrite into → o.stream ≡ Some foreign → given_in volume o ≡ given_by_stream (Some foreign)
+-- what a stream is given: the versions of its master, and what its end brought
+abbrev streamed : Feed → ForeignMaster → Given
+streamed feed foreign = record (given_by foreign.volume foreign.master) { retention = brought feed }
+
+given_write : (volume : Volume) (o : OpenCall) (into : Text) (foreign : ForeignMaster) → o.command ≡ MirrorWrite into → o.stream.master ≡ Some foreign → given_in volume o ≡ streamed o.stream foreign
 given_write volume o into foreign command is = rw (command, is) refl
 
 pub versions_given : (volume : Volume) (master : ℕ) → (given_by volume master).versions ≡ versions_of volume master
@@ -122,9 +119,9 @@ at-copied state event o begin end from into limit slave id ends command found ri
     at-after_pass state event o begin end slave id ends found rising after by
     ∙ (ap (λ (g : Given). g.tree id) given ∙ tree_given state.volume o.master id)
 
-pub at-streamed : (state : State) (event : Event) (o : OpenCall) (begin end : Id) (into : Text) (slave : PseudoFileSystem) (foreign : ForeignMaster) (id : ℕ) → EndsPass state event o begin end → o.command ≡ MirrorWrite into → system_of state.volume o.pfs ≡ Some slave → o.stream ≡ Some foreign → AreRising (versions_of foreign.volume foreign.master) → begin.0 < id → id ≤ end.0 → at (after_event state event).volume o.pfs id ≡ at foreign.volume foreign.master id
+pub at-streamed : (state : State) (event : Event) (o : OpenCall) (begin end : Id) (into : Text) (slave : PseudoFileSystem) (foreign : ForeignMaster) (id : ℕ) → EndsPass state event o begin end → o.command ≡ MirrorWrite into → system_of state.volume o.pfs ≡ Some slave → o.stream.master ≡ Some foreign → AreRising (versions_of foreign.volume foreign.master) → begin.0 < id → id ≤ end.0 → at (after_event state event).volume o.pfs id ≡ at foreign.volume foreign.master id
 at-streamed state event o begin end into slave foreign id ends command found is rise after by =
-    let given : given_in state.volume o ≡ given_by_stream (Some foreign) = given_write state.volume o into foreign command is in
+    let given : given_in state.volume o ≡ streamed o.stream foreign = given_write state.volume o into foreign command is in
     let rising : AreRising (given_in state.volume o).versions = rw (given, versions_given foreign.volume foreign.master) rise in
     at-after_pass state event o begin end slave id ends found rising after by
     ∙ (ap (λ (g : Given). g.tree id) given ∙ tree_given foreign.volume foreign.master id)

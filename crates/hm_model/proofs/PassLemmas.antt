@@ -103,9 +103,9 @@ given-versions volume m id = by (system_of volume m) (at-versions volume m id)
     by (Some s) is = is
 
 pub given_in-versions : (volume : Volume) (o : OpenCall) (id : ℕ) → (given_in volume o).tree id ≡ as_of id no_tree (given_in volume o).versions
-given_in-versions volume o id = by (λ (g : Given). g.tree id ≡ as_of id no_tree g.versions) o.command (from_stream o.stream) (given-versions volume o.master id)
+given_in-versions volume o id = by (λ (g : Given). g.tree id ≡ as_of id no_tree g.versions) o.command (from_stream o.stream.master) (given-versions volume o.master id)
   where
-    from_stream : (stream : Option ForeignMaster) → (given_by_stream stream).tree id ≡ as_of id no_tree (given_by_stream stream).versions
+    from_stream : (master : Option ForeignMaster) → (option_map_or (λ (m : ForeignMaster). given_by m.volume m.master) master nothing_given).tree id ≡ as_of id no_tree (option_map_or (λ (m : ForeignMaster). given_by m.volume m.master) master nothing_given).versions
     from_stream None = refl
     from_stream (Some f) = given-versions f.volume f.master id
 

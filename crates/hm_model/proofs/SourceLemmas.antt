@@ -7,7 +7,7 @@ use Rattle.hm_model.specs.declared.command.Command.{Command}
 use Rattle.hm_model.specs.declared.command.Command.TheVariants.{MirrorCopy, MirrorWrite}
 use Rattle.hm_model.specs.After.{fed_from, is_origin, stream_origin, with_origin}
 use Rattle.hm_model.specs.Due.{is_pass}
-use Rattle.hm_model.specs.Foreign.{ForeignMaster}
+use Rattle.hm_model.specs.Foreign.{Feed, ForeignMaster}
 use Rattle.hm_model.specs.Tree.{no_tree}
 use Rattle.hm_model.specs.Volume.{Origin, Nowhere, Local, Foreign, Mixed, PseudoFileSystem, Slave, as_of}
 use Rattle.hm_model.proofs.AgeLemmas.{Ages}
@@ -113,15 +113,18 @@ source_new (Local n) a = by (eqb n a) refl
 source_new (Foreign k) a = tt
 source_new Mixed a = tt
 
-pub outside_new : (old : Origin) (stream : Option ForeignMaster) → IsOutside (fed_from old (stream_origin stream))
-outside_new Nowhere None = tt
-outside_new Nowhere (Some f) = tt
-outside_new (Local n) None = tt
-outside_new (Local n) (Some f) = tt
-outside_new (Foreign k) None = tt
-outside_new (Foreign k) (Some f) = either_origin IsOutside (is_origin (Foreign k) (Foreign f.source)) (Foreign k) Mixed tt tt
-outside_new Mixed None = tt
-outside_new Mixed (Some f) = tt
+pub outside_new : (old : Origin) (feed : Feed) → IsOutside (fed_from old (stream_origin feed))
+outside_new old feed = by old feed.master
+  where
+    by : (old : Origin) (master : Option ForeignMaster) → IsOutside (fed_from old (option_map_or (λ (m : ForeignMaster). Foreign m.source) master Mixed))
+    by Nowhere None = tt
+    by Nowhere (Some f) = tt
+    by (Local n) None = tt
+    by (Local n) (Some f) = tt
+    by (Foreign k) None = tt
+    by (Foreign k) (Some f) = either_origin IsOutside (is_origin (Foreign k) (Foreign f.source)) (Foreign k) Mixed tt tt
+    by Mixed None = tt
+    by Mixed (Some f) = tt
 
 -- What an open call with this master says of the slave that it feeds, which had this source before: a copy
 -- gave it a source; a stream one outside, and what the source before says holds still.

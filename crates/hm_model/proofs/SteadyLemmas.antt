@@ -15,6 +15,7 @@ use Rattle.hm_model.specs.Call.{Call, each_located, first_of, first_site, own_id
 use Rattle.hm_model.specs.Caused.{is_ending}
 use Rattle.hm_model.specs.Change.{change}
 use Rattle.hm_model.specs.Cut.{pruned}
+use Rattle.hm_model.specs.Foreign.{no_feed}
 use Rattle.hm_model.specs.Due.{Check, is_tree_call, kept_ids, refusal}
 use Rattle.hm_model.specs.Hash.{name_hash}
 use Rattle.hm_model.specs.Laws.{AreClear, IsMasterThroughout, IsSteadyMaster, IsUnfed, is_rewriter, rewrites}
@@ -64,35 +65,35 @@ OpenedAt state call after =
     ⊎ ((o : OpenCall) × (after.opened ≡ o ∷ state.opened) × (o.command ≡ call.command)
     × (rewrites call.command ≡ true → o.pfs ≡ (written_site call.command (first_site call) (second_site call)).at.pfs))
 
-opens_other : (state after : State) (call : Call) (pfs : ℕ) (command : Command) → call.command ≡ command → rewrites command ≡ false → after.opened ≡ new_call state call pfs pfs None ∷ state.opened → OpenedAt state call after
+opens_other : (state after : State) (call : Call) (pfs : ℕ) (command : Command) → call.command ≡ command → rewrites command ≡ false → after.opened ≡ new_call state call pfs pfs no_feed ∷ state.opened → OpenedAt state call after
 opens_other state after call pfs command is other opened =
-    inr (new_call state call pfs pfs None, opened, refl, λ writes. absurd (let no_way : rewrites call.command ≡ false = ap rewrites is ∙ other in cc))
+    inr (new_call state call pfs pfs no_feed, opened, refl, λ writes. absurd (let no_way : rewrites call.command ≡ false = ap rewrites is ∙ other in cc))
 
 opened_at : (state : State) (call : Call) (command : Command) → call.command ≡ command →
     OpenedAt state call (elim command [
-      | Prune path ↦ on_volume (with_opened state call (first_site call).at.pfs (first_site call).at.pfs None)
+      | Prune path ↦ on_volume (with_opened state call (first_site call).at.pfs (first_site call).at.pfs no_feed)
           (of_pfs state.volume (first_site call).at.pfs (λ s. retaining (pruned s.retention (kept_ids call)) s))
-      | PruneAll path ↦ on_volume (with_opened state call (first_site call).at.pfs (first_site call).at.pfs None) (of_pfs state.volume (first_site call).at.pfs (present_only (own_id call)))
-      | Reblock fill ↦ with_opened state call 0 0 None
-      | PfsUpgrade path ↦ with_opened state call (first_site call).at.pfs (first_site call).at.pfs None
-      | MirrorRead path begin ↦ with_opened state call (first_site call).at.pfs (first_site call).at.pfs None
+      | PruneAll path ↦ on_volume (with_opened state call (first_site call).at.pfs (first_site call).at.pfs no_feed) (of_pfs state.volume (first_site call).at.pfs (present_only (own_id call)))
+      | Reblock fill ↦ with_opened state call 0 0 no_feed
+      | PfsUpgrade path ↦ with_opened state call (first_site call).at.pfs (first_site call).at.pfs no_feed
+      | MirrorRead path begin ↦ with_opened state call (first_site call).at.pfs (first_site call).at.pfs no_feed
       | MirrorWrite path ↦
           record (feeding state call (first_site call).at.pfs (first_site call).at.pfs (stream_origin (next_stream state.streams)) (next_stream state.streams)) {
             streams = later_streams state.streams;
           }
-      | MirrorCopy master slave limit ↦ feeding state call (second_site call).at.pfs (first_site call).at.pfs (Local (first_site call).at.pfs) None
+      | MirrorCopy master slave limit ↦ feeding state call (second_site call).at.pfs (first_site call).at.pfs (Local (first_site call).at.pfs) no_feed
       | other ↦ if is_tree_call call.command then on_volume state (change call) else state
     ])
-opened_at state call (Prune path) is = opens_other state (on_volume (with_opened state call (first_site call).at.pfs (first_site call).at.pfs None) (of_pfs state.volume (first_site call).at.pfs (λ s. retaining (pruned s.retention (kept_ids call)) s))) call (first_site call).at.pfs (Prune path) is refl refl
-opened_at state call (PruneAll path) is = opens_other state (on_volume (with_opened state call (first_site call).at.pfs (first_site call).at.pfs None) (of_pfs state.volume (first_site call).at.pfs (present_only (own_id call)))) call (first_site call).at.pfs (PruneAll path) is refl refl
-opened_at state call (Reblock fill) is = opens_other state (with_opened state call 0 0 None) call 0 (Reblock fill) is refl refl
-opened_at state call (MirrorRead path begin) is = opens_other state (with_opened state call (first_site call).at.pfs (first_site call).at.pfs None) call (first_site call).at.pfs (MirrorRead path begin) is refl refl
+opened_at state call (Prune path) is = opens_other state (on_volume (with_opened state call (first_site call).at.pfs (first_site call).at.pfs no_feed) (of_pfs state.volume (first_site call).at.pfs (λ s. retaining (pruned s.retention (kept_ids call)) s))) call (first_site call).at.pfs (Prune path) is refl refl
+opened_at state call (PruneAll path) is = opens_other state (on_volume (with_opened state call (first_site call).at.pfs (first_site call).at.pfs no_feed) (of_pfs state.volume (first_site call).at.pfs (present_only (own_id call)))) call (first_site call).at.pfs (PruneAll path) is refl refl
+opened_at state call (Reblock fill) is = opens_other state (with_opened state call 0 0 no_feed) call 0 (Reblock fill) is refl refl
+opened_at state call (MirrorRead path begin) is = opens_other state (with_opened state call (first_site call).at.pfs (first_site call).at.pfs no_feed) call (first_site call).at.pfs (MirrorRead path begin) is refl refl
 opened_at state call (PfsUpgrade path) is =
-    inr (new_call state call (first_site call).at.pfs (first_site call).at.pfs None, refl, refl, λ writes. sym (ap (λ (c : Command). (written_site c (first_site call) (second_site call)).at.pfs) is))
+    inr (new_call state call (first_site call).at.pfs (first_site call).at.pfs no_feed, refl, refl, λ writes. sym (ap (λ (c : Command). (written_site c (first_site call) (second_site call)).at.pfs) is))
 opened_at state call (MirrorWrite path) is =
     inr (new_call state call (first_site call).at.pfs (first_site call).at.pfs (next_stream state.streams), refl, refl, λ writes. sym (ap (λ (c : Command). (written_site c (first_site call) (second_site call)).at.pfs) is))
 opened_at state call (MirrorCopy master slave limit) is =
-    inr (new_call state call (second_site call).at.pfs (first_site call).at.pfs None, refl, refl, λ writes. sym (ap (λ (c : Command). (written_site c (first_site call) (second_site call)).at.pfs) is))
+    inr (new_call state call (second_site call).at.pfs (first_site call).at.pfs no_feed, refl, refl, λ writes. sym (ap (λ (c : Command). (written_site c (first_site call) (second_site call)).at.pfs) is))
 opened_at state call other is = by (is_tree_call call.command)
   where
     by : (test : Bool) → OpenedAt state call (if test then on_volume state (change call) else state)

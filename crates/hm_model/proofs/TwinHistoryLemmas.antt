@@ -9,7 +9,7 @@ use Rattle.hm_model.specs.declared.command.Command.{Command}
 use Rattle.hm_model.specs.declared.command.Command.TheVariants.{End, MirrorCopy, MirrorWrite, PfsUpgrade}
 use Rattle.hm_model.specs.declared.reply.Reply.{Reply}
 use Rattle.hm_model.specs.After.{Event, OpenCall, State, accepted_effect, after_event, call_of, effect, end_effect, end_of_pass, end_of_upgrade, end_of_write, ended, last_after, no_hash, opened_with, opening_state}
-use Rattle.hm_model.specs.Caused.{KeepsEarly, Known, early_refusal, is_ending, known_after, known_after_entry, known_at}
+use Rattle.hm_model.specs.Caused.{IsPossible, Known, early_refusal, is_ending, known_after, known_after_entry, known_at}
 use Rattle.hm_model.specs.Due.{is_pass}
 use Rattle.hm_model.specs.Laws.{EndsPass, IsMasterThroughout, IsUnfed, is_rewriter}
 use Rattle.hm_model.specs.Legal.{IsLegal, MayFollow, Setting, begin_of, state_after}

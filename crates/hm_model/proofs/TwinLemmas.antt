@@ -10,7 +10,7 @@ use Rattle.hm_model.specs.Call.{Call, first_site, own_id, second_site}
 use Rattle.hm_model.specs.Change.{change}
 use Rattle.hm_model.specs.Cut.{pruned}
 use Rattle.hm_model.specs.Due.{is_pass, is_tree_call, kept_ids}
-use Rattle.hm_model.specs.Foreign.{ForeignMaster}
+use Rattle.hm_model.specs.Foreign.{Feed, no_feed}
 use Rattle.hm_model.specs.Laws.{AreRising, BeginBy, RiseFrom, versions_of}
 use Rattle.hm_model.specs.Tree.{FileTree}
 use Rattle.hm_model.specs.Volume.{Origin, Nowhere, Local, PseudoFileSystem, Slave, Volume, system_of}
@@ -61,7 +61,7 @@ pub origin_found : (volume : Volume) (pfs : ℕ) (s : PseudoFileSystem) → syst
 origin_found volume pfs s found = ap (λ (x : Option PseudoFileSystem). option_map_or (λ (y : PseudoFileSystem). y.origin) x Nowhere) found
 
 -- the call that is opened
-abbrev pub new_call : State → Call → ℕ → ℕ → Option ForeignMaster → OpenCall
+abbrev pub new_call : State → Call → ℕ → ℕ → Feed → OpenCall
 new_call state call pfs master stream = record {
   opening = own_id call;
   command = call.command;
@@ -77,27 +77,27 @@ by_command n s u before a b same is = subst (λ (c : Command). FedNew n s u befo
 -- what an accepted call opens
 opened_as : (state : State) (call : Call) (command : Command) → call.command ≡ command →
     OpenedAs state call (elim command [
-      | Prune path ↦ on_volume (with_opened state call (first_site call).at.pfs (first_site call).at.pfs None)
+      | Prune path ↦ on_volume (with_opened state call (first_site call).at.pfs (first_site call).at.pfs no_feed)
           (of_pfs state.volume (first_site call).at.pfs (λ s. retaining (pruned s.retention (kept_ids call)) s))
-      | PruneAll path ↦ on_volume (with_opened state call (first_site call).at.pfs (first_site call).at.pfs None) (of_pfs state.volume (first_site call).at.pfs (present_only (own_id call)))
-      | Reblock fill ↦ with_opened state call 0 0 None
-      | PfsUpgrade path ↦ with_opened state call (first_site call).at.pfs (first_site call).at.pfs None
-      | MirrorRead path begin ↦ with_opened state call (first_site call).at.pfs (first_site call).at.pfs None
+      | PruneAll path ↦ on_volume (with_opened state call (first_site call).at.pfs (first_site call).at.pfs no_feed) (of_pfs state.volume (first_site call).at.pfs (present_only (own_id call)))
+      | Reblock fill ↦ with_opened state call 0 0 no_feed
+      | PfsUpgrade path ↦ with_opened state call (first_site call).at.pfs (first_site call).at.pfs no_feed
+      | MirrorRead path begin ↦ with_opened state call (first_site call).at.pfs (first_site call).at.pfs no_feed
       | MirrorWrite path ↦
           record (feeding state call (first_site call).at.pfs (first_site call).at.pfs (stream_origin (next_stream state.streams)) (next_stream state.streams)) {
             streams = later_streams state.streams;
           }
-      | MirrorCopy master slave limit ↦ feeding state call (second_site call).at.pfs (first_site call).at.pfs (Local (first_site call).at.pfs) None
+      | MirrorCopy master slave limit ↦ feeding state call (second_site call).at.pfs (first_site call).at.pfs (Local (first_site call).at.pfs) no_feed
       | other ↦ if is_tree_call call.command then on_volume state (change call) else state
     ])
-opened_as state call (Prune path) is = inr (new_call state call (first_site call).at.pfs (first_site call).at.pfs None, refl, refl, λ s u found after. by_command (first_site call).at.pfs s u (origin_of state.volume (first_site call).at.pfs) call.command (Prune path) is tt)
-opened_as state call (PruneAll path) is = inr (new_call state call (first_site call).at.pfs (first_site call).at.pfs None, refl, refl, λ s u found after. by_command (first_site call).at.pfs s u (origin_of state.volume (first_site call).at.pfs) call.command (PruneAll path) is tt)
-opened_as state call (Reblock fill) is = inr (new_call state call 0 0 None, refl, refl, λ s u found after. by_command 0 s u (origin_of state.volume 0) call.command (Reblock fill) is tt)
-opened_as state call (PfsUpgrade path) is = inr (new_call state call (first_site call).at.pfs (first_site call).at.pfs None, refl, refl, λ s u found after. by_command (first_site call).at.pfs s u (origin_of state.volume (first_site call).at.pfs) call.command (PfsUpgrade path) is tt)
-opened_as state call (MirrorRead path begin) is = inr (new_call state call (first_site call).at.pfs (first_site call).at.pfs None, refl, refl, λ s u found after. by_command (first_site call).at.pfs s u (origin_of state.volume (first_site call).at.pfs) call.command (MirrorRead path begin) is tt)
+opened_as state call (Prune path) is = inr (new_call state call (first_site call).at.pfs (first_site call).at.pfs no_feed, refl, refl, λ s u found after. by_command (first_site call).at.pfs s u (origin_of state.volume (first_site call).at.pfs) call.command (Prune path) is tt)
+opened_as state call (PruneAll path) is = inr (new_call state call (first_site call).at.pfs (first_site call).at.pfs no_feed, refl, refl, λ s u found after. by_command (first_site call).at.pfs s u (origin_of state.volume (first_site call).at.pfs) call.command (PruneAll path) is tt)
+opened_as state call (Reblock fill) is = inr (new_call state call 0 0 no_feed, refl, refl, λ s u found after. by_command 0 s u (origin_of state.volume 0) call.command (Reblock fill) is tt)
+opened_as state call (PfsUpgrade path) is = inr (new_call state call (first_site call).at.pfs (first_site call).at.pfs no_feed, refl, refl, λ s u found after. by_command (first_site call).at.pfs s u (origin_of state.volume (first_site call).at.pfs) call.command (PfsUpgrade path) is tt)
+opened_as state call (MirrorRead path begin) is = inr (new_call state call (first_site call).at.pfs (first_site call).at.pfs no_feed, refl, refl, λ s u found after. by_command (first_site call).at.pfs s u (origin_of state.volume (first_site call).at.pfs) call.command (MirrorRead path begin) is tt)
 opened_as state call (MirrorWrite path) is =
     let a : ℕ = (first_site call).at.pfs in
-    let stream : Option ForeignMaster = next_stream state.streams in
+    let stream : Feed = next_stream state.streams in
     inr (
       new_call state call a a stream,
       refl,
@@ -112,7 +112,7 @@ opened_as state call (MirrorCopy master slave limit) is =
     let a : ℕ = (first_site call).at.pfs in
     let b : ℕ = (second_site call).at.pfs in
     inr (
-      new_call state call b a None,
+      new_call state call b a no_feed,
       refl,
       refl,
       λ s u found after.

@@ -17,7 +17,7 @@ use Rattle.hm_model.specs.Cut.{cut, join, pruned}
 use Rattle.hm_model.specs.Call.{Call, first_site, second_site, own_id}
 use Rattle.hm_model.specs.Due.{is_pass, is_tree_call, kept_ids}
 use Rattle.hm_model.specs.Change.{change}
-use Rattle.hm_model.specs.Foreign.{ForeignMaster, Foreigners, carried}
+use Rattle.hm_model.specs.Foreign.{Feed, Foreigners, ForeignMaster, brought, no_feed}
 
 -- an entry, how the path words of its call are read, and the trees that it saw in place of those that are
 -- not certain
@@ -28,20 +28,20 @@ pub record Event : Type 0 where
 
 -- a housekeeping call that was opened and is not at its end: its opening id, its command, the PFS that it
 -- works on, the PFS that a mirror pass within this volume reads from, where the elements of the first came
--- from before, and the master of its stream
+-- from before, and what its stream is fed with
 pub record OpenCall : Type 0 where
   pub opening : ℕ
   pub command : Command
   pub pfs : ℕ
   pub master : ℕ
   pub origin : Origin
-  pub stream : Option ForeignMaster
+  pub stream : Feed
 
 -- the volume, the housekeeping calls that are open, and the streams that are still to come
 pub record State : Type 0 where
   pub volume : Volume
   pub opened : List OpenCall
-  pub streams : List (Option ForeignMaster)
+  pub streams : List Feed
 
 -- the state as a run begins
 abbrev pub opening_state : Volume → Foreigners → State
@@ -102,25 +102,24 @@ abbrev pub with_origin : Origin → PseudoFileSystem → PseudoFileSystem
 with_origin origin s = record s { origin = origin }
 
 -- the source of a stream
-abbrev pub stream_origin : Option ForeignMaster → Origin
-stream_origin None = Mixed
-stream_origin (Some m) = Foreign m.source
+abbrev pub stream_origin : Feed → Origin
+stream_origin feed = option_map_or (λ (m : ForeignMaster). Foreign m.source) feed.master Mixed
 
 -- the next stream that is to come, and those after it
-abbrev pub next_stream : List (Option ForeignMaster) → Option ForeignMaster
-next_stream [] = None
-next_stream (m ∷ ms) = m
+abbrev pub next_stream : List Feed → Feed
+next_stream [] = no_feed
+next_stream (feed ∷ feeds) = feed
 
-abbrev pub later_streams : List (Option ForeignMaster) → List (Option ForeignMaster)
+abbrev pub later_streams : List Feed → List Feed
 later_streams [] = []
-later_streams (m ∷ ms) = ms
+later_streams (feed ∷ feeds) = feeds
 
 -- the source of a PFS
 abbrev pub origin_of : Volume → ℕ → Origin
 origin_of volume pfs = option_map_or (λ s. s.origin) (system_of volume pfs) Nowhere
 
 -- the state with one more call open, which works on a PFS and reads from one
-abbrev pub with_opened : State → Call → ℕ → ℕ → Option ForeignMaster → State
+abbrev pub with_opened : State → Call → ℕ → ℕ → Feed → State
 with_opened state call pfs master stream = record state {
   opened = record {
     opening = own_id call;
@@ -137,7 +136,7 @@ abbrev pub on_volume : State → Volume → State
 on_volume state volume = record state { volume = volume }
 
 -- the state with the call open that was opened on a PFS, which a source feeds from here on
-abbrev pub feeding : State → Call → ℕ → ℕ → Origin → Option ForeignMaster → State
+abbrev pub feeding : State → Call → ℕ → ℕ → Origin → Feed → State
 feeding state call pfs master origin stream =
     on_volume (with_opened state call pfs master stream)
     (of_pfs state.volume pfs (with_origin (fed_from (origin_of state.volume pfs) origin)))
@@ -162,11 +161,13 @@ given_by volume m = option_map_or (λ s. record {
   tree = at volume m;
 }) (system_of volume m) nothing_given
 
--- what the master of a stream gives: its retention is the one that the stream's end carried
-abbrev pub given_by_stream : Option ForeignMaster → Given
-given_by_stream None = nothing_given
-given_by_stream (Some m) =
-    record (given_by m.volume m.master) { retention = carried (given_by m.volume m.master).retention m.lists }
+-- What a stream gives. Its versions are those of its master, if it has one, and its retention is the one that
+-- its end brought, whoever sent it.
+abbrev pub given_by_stream : Feed → Given
+given_by_stream feed =
+    record (option_map_or (λ (m : ForeignMaster). given_by m.volume m.master) feed.master nothing_given) {
+      retention = brought feed;
+    }
 
 -- what the master of an open pass gives
 abbrev pub given_in : Volume → OpenCall → Given
@@ -265,17 +266,17 @@ accepted_effect state call =
     let a : ℕ = (first_site call).at.pfs in
     let b : ℕ = (second_site call).at.pfs in
     elim call.command [
-      | Prune path ↦ on_volume (with_opened state call a a None)
+      | Prune path ↦ on_volume (with_opened state call a a no_feed)
           (of_pfs state.volume a (λ s. retaining (pruned s.retention (kept_ids call)) s))
-      | PruneAll path ↦ on_volume (with_opened state call a a None) (of_pfs state.volume a (present_only (own_id call)))
-      | Reblock fill ↦ with_opened state call 0 0 None
-      | PfsUpgrade path ↦ with_opened state call a a None
-      | MirrorRead path begin ↦ with_opened state call a a None
+      | PruneAll path ↦ on_volume (with_opened state call a a no_feed) (of_pfs state.volume a (present_only (own_id call)))
+      | Reblock fill ↦ with_opened state call 0 0 no_feed
+      | PfsUpgrade path ↦ with_opened state call a a no_feed
+      | MirrorRead path begin ↦ with_opened state call a a no_feed
       | MirrorWrite path ↦
           record (feeding state call a a (stream_origin (next_stream state.streams)) (next_stream state.streams)) {
             streams = later_streams state.streams;
           }
-      | MirrorCopy master slave limit ↦ feeding state call b a (Local a) None
+      | MirrorCopy master slave limit ↦ feeding state call b a (Local a) no_feed
       | other ↦ if is_tree_call call.command then on_volume state (change call) else state
     ]
 

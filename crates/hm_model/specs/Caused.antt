@@ -1,16 +1,18 @@
 -- The cause of every reply, whatever a disk holds: what may be said of a history without its trees.
-use Rattle.std.specs.Prelude.{◌≡◌, ◌≢◌, ◌⊎◌, ℕ, ◌+◌, ◌-◌, ◌<◌, ◌≤◌, List, [], ◌∷◌, ◌++◌, Bool, true, false, Option, Some, None, ◌==◌, if◌then◌else◌, filter, find, max, IsTrue}
+use Rattle.std.specs.Prelude.{◌≡◌, ◌≢◌, ◌⊎◌, ℕ, ◌+◌, ◌-◌, ◌<◌, ◌≤◌, List, [], ◌∷◌, ◌++◌, Bool, true, false, Option, Some, None, ◌==◌, if◌then◌else◌, filter, find, length, max, IsTrue}
+use Rattle.std.specs.Bool.{nat_lt}
 use Rattle.std.specs.List.{Contains, list_any}
 use Rattle.std.specs.Option.{option_map_or}
 use Rattle.hm_types.specs.Faults.{IsMedia}
-use Rattle.hm_types.specs.declared.limits.TheConstants.{GREATEST_ID}
+use Rattle.hm_types.specs.declared.limits.TheConstants.{GREATEST_ID, MOST_FILE_BYTES}
 use Rattle.hm_model.specs.declared.command.Command.{Command}
 use Rattle.hm_model.specs.declared.command.Command.TheVariants.{Mkdir, Touch, Symlink, Snapshot, Ln, Mv, Write, Fill, Truncate, Rm, Rmdir, Ls, Cat, Stat, Readlink, Sync, Synctid, Prune, PruneAll, Reblock, PfsMaster, PfsSlave, PfsStatus, PfsUpgrade, MirrorRead, MirrorWrite, MirrorCopy, Df, Progress, End}
 use Rattle.hm_model.specs.declared.entry.Entry.{Entry}
 use Rattle.hm_model.specs.declared.reply.Reply.{Reply}
 use Rattle.hm_model.specs.declared.reply.Reply.TheVariants.{Done, Listing, Content, Status, Target, Synced, MadePfs, PfsIs, Space, Finished, Passed, Cut, Exists, NotFound, NotDir, IsDir, NotEmpty, BadPath, ReadOnly, NotRetained, Future, TooBig, CrossPfs, IntoItself, HashFull, PfsFull, NoSnapshots, TooManyIntervals, NotSlave, NotMaster, IdsSpent, NoSpace, Media, Damaged, NoMemory, SharedDiffers, BeginDiffers, StreamBad, StreamShort, StreamFault, EndPruned, Busy, NotLink, NotFile}
 use Rattle.hm_model.specs.Reply.{is_refusal}
-use Rattle.hm_model.specs.Due.{Check, early_checks, first_refusal, is_pass}
+use Rattle.hm_model.specs.Sites.{Parsed, ReadsWords}
+use Rattle.hm_model.specs.Due.{Check, early_checks, first_refusal, has_id, is_pass}
 use Rattle.hm_model.specs.After.{Event, last_after}
 
 -- the number of a reply: refusals have 1 to 32, and those that accept a call have 101 to 112
@@ -64,45 +66,63 @@ number_of NotFile = 32
 abbrev pub at_any_point : List ℕ
 at_any_point = 21 ∷ 22 ∷ 23 ∷ []
 
--- the refusals that any call with a path may meet, and any call that changes a tree or a PFS
-abbrev pub on_a_path : List ℕ
-on_a_path = 2 ∷ 3 ∷ 6 ∷ 8 ∷ 9 ∷ at_any_point
+-- those of any walk; of one where a path has an id, which only a call that reads follows; and of one that is
+-- to change what it comes to
+abbrev pub on_a_walk : List ℕ
+on_a_walk = 2 ∷ 3 ∷ at_any_point
+
+abbrev pub on_a_read : List Parsed → List ℕ
+on_a_read paths = if list_any has_id paths then 8 ∷ on_a_walk else on_a_walk
 
 abbrev pub on_a_change : List ℕ
-on_a_change = 7 ∷ on_a_path
+on_a_change = 7 ∷ on_a_walk
 
--- the numbers of the replies that a call can give
-abbrev pub possible : Command → List ℕ
-possible (Mkdir path) = 101 ∷ 1 ∷ 13 ∷ 20 ∷ on_a_change
-possible (Touch path) = 101 ∷ 1 ∷ 13 ∷ 20 ∷ on_a_change
-possible (Symlink target path) = 101 ∷ 1 ∷ 13 ∷ 20 ∷ on_a_change
-possible (Snapshot path) = 101 ∷ 1 ∷ 13 ∷ 20 ∷ on_a_change
-possible (Ln old new) = 101 ∷ 4 ∷ 32 ∷ 11 ∷ 1 ∷ 10 ∷ 13 ∷ 20 ∷ on_a_change
-possible (Mv old new) = 101 ∷ 11 ∷ 12 ∷ 1 ∷ 13 ∷ 20 ∷ on_a_change
-possible (Write path offset bytes) = 101 ∷ 4 ∷ 32 ∷ 10 ∷ 20 ∷ on_a_change
-possible (Fill path offset count byte) = 101 ∷ 4 ∷ 32 ∷ 10 ∷ 20 ∷ on_a_change
-possible (Truncate path size) = 101 ∷ 4 ∷ 32 ∷ 10 ∷ 20 ∷ on_a_change
-possible (Rm path) = 101 ∷ 4 ∷ 20 ∷ on_a_change
-possible (Rmdir path) = 101 ∷ 5 ∷ on_a_change
-possible (Ls path) = 102 ∷ on_a_path
-possible (Cat path offset count) = 103 ∷ 4 ∷ 32 ∷ on_a_path
-possible (Stat path) = 104 ∷ on_a_path
-possible (Readlink path) = 105 ∷ 31 ∷ on_a_path
-possible Sync = 106 ∷ at_any_point
-possible Synctid = 106 ∷ at_any_point
-possible (Prune path) = 101 ∷ 15 ∷ 16 ∷ 20 ∷ on_a_change
-possible (PruneAll path) = 101 ∷ 20 ∷ on_a_change
-possible (Reblock fill) = 101 ∷ at_any_point
-possible (PfsMaster path shared) = 107 ∷ 1 ∷ 14 ∷ 13 ∷ 20 ∷ on_a_change
-possible (PfsSlave path shared) = 107 ∷ 1 ∷ 14 ∷ 13 ∷ 20 ∷ on_a_change
-possible (PfsStatus path) = 108 ∷ on_a_change
-possible (PfsUpgrade path) = 101 ∷ 30 ∷ 17 ∷ on_a_change
-possible (MirrorRead path begin) = 101 ∷ 30 ∷ 18 ∷ on_a_change
-possible (MirrorWrite path) = 101 ∷ 30 ∷ 17 ∷ on_a_change
-possible (MirrorCopy master slave limit) = 101 ∷ 30 ∷ 18 ∷ 17 ∷ 24 ∷ on_a_change
-possible Df = 109 ∷ at_any_point
-possible Progress = []
-possible (End opening) = []
+-- those of a call that makes a name, and its want of space
+abbrev pub on_a_name : List ℕ
+on_a_name = 1 ∷ 13 ∷ 20 ∷ on_a_change
+
+-- the replies of a call that gives a file this end: it is too big, or the call may be accepted
+abbrev pub on_a_file : ℕ → List ℕ
+on_a_file end = 4 ∷ 32 ∷ (if nat_lt MOST_FILE_BYTES end then 10 ∷ on_a_change else 101 ∷ 20 ∷ on_a_change)
+
+-- The numbers of the replies that a call can give, where none of the early checks fails. Those that the early
+-- checks alone give, 6, 9 and 30, are nowhere among them.
+abbrev pub possible : Command → List Parsed → List ℕ
+possible (Mkdir path) paths = 101 ∷ on_a_name
+possible (Touch path) paths = 101 ∷ on_a_name
+possible (Symlink target path) paths = 101 ∷ on_a_name
+possible (Snapshot path) paths = 101 ∷ on_a_name
+possible (Ln old new) paths = 101 ∷ 4 ∷ 32 ∷ 11 ∷ 10 ∷ on_a_name
+possible (Mv old new) paths = 101 ∷ 11 ∷ 12 ∷ on_a_name
+possible (Write path offset bytes) paths = on_a_file (offset + length bytes)
+possible (Fill path offset count byte) paths = on_a_file (offset + count)
+possible (Truncate path size) paths = on_a_file size
+possible (Rm path) paths = 101 ∷ 4 ∷ 20 ∷ on_a_change
+possible (Rmdir path) paths = 101 ∷ 5 ∷ on_a_change
+possible (Ls path) paths = 102 ∷ on_a_read paths
+possible (Cat path offset count) paths = 103 ∷ 4 ∷ 32 ∷ on_a_read paths
+possible (Stat path) paths = 104 ∷ on_a_read paths
+possible (Readlink path) paths = 105 ∷ 31 ∷ on_a_read paths
+possible Sync paths = 106 ∷ at_any_point
+possible Synctid paths = 106 ∷ at_any_point
+possible (Prune path) paths = 101 ∷ 15 ∷ 16 ∷ 20 ∷ on_a_walk
+possible (PruneAll path) paths = 101 ∷ 20 ∷ on_a_walk
+possible (Reblock fill) paths = 101 ∷ at_any_point
+possible (PfsMaster path shared) paths = 107 ∷ 14 ∷ on_a_name
+possible (PfsSlave path shared) paths = 107 ∷ 14 ∷ on_a_name
+possible (PfsStatus path) paths = 108 ∷ on_a_walk
+possible (PfsUpgrade path) paths = 101 ∷ 17 ∷ on_a_walk
+possible (MirrorRead path begin) paths = 101 ∷ 18 ∷ on_a_walk
+possible (MirrorWrite path) paths = 101 ∷ 17 ∷ on_a_walk
+possible (MirrorCopy master slave limit) paths = 101 ∷ 18 ∷ 17 ∷ 24 ∷ on_a_walk
+possible Df paths = 109 ∷ at_any_point
+possible Progress paths = []
+possible (End opening) paths = []
+
+-- that a copy was cut, where it has a limit
+abbrev pub where_limited : Option ℕ → List ℕ
+where_limited None = []
+where_limited (Some limit) = 112 ∷ []
 
 -- the numbers of the replies that the ending of a housekeeping call can give
 abbrev pub possible_at_end : Command → List ℕ
@@ -111,9 +131,31 @@ possible_at_end (PruneAll path) = 110 ∷ at_any_point
 possible_at_end (Reblock fill) = 110 ∷ 20 ∷ at_any_point
 possible_at_end (PfsUpgrade path) = 110 ∷ 20 ∷ at_any_point
 possible_at_end (MirrorRead path begin) = 111 ∷ 28 ∷ 29 ∷ at_any_point
-possible_at_end (MirrorCopy master slave limit) = 111 ∷ 112 ∷ 16 ∷ 20 ∷ 29 ∷ at_any_point
+possible_at_end (MirrorCopy master slave limit) = where_limited limit ++ 111 ∷ 16 ∷ 20 ∷ 29 ∷ at_any_point
 possible_at_end (MirrorWrite path) = 111 ∷ 16 ∷ 20 ∷ 24 ∷ 25 ∷ 26 ∷ 27 ∷ 28 ∷ at_any_point
-possible_at_end other = []
+possible_at_end (Mkdir path) = []
+possible_at_end (Touch path) = []
+possible_at_end (Symlink target path) = []
+possible_at_end (Snapshot path) = []
+possible_at_end (Ln old new) = []
+possible_at_end (Mv old new) = []
+possible_at_end (Write path offset bytes) = []
+possible_at_end (Fill path offset count byte) = []
+possible_at_end (Truncate path size) = []
+possible_at_end (Rm path) = []
+possible_at_end (Rmdir path) = []
+possible_at_end (Ls path) = []
+possible_at_end (Cat path offset count) = []
+possible_at_end (Stat path) = []
+possible_at_end (Readlink path) = []
+possible_at_end Sync = []
+possible_at_end Synctid = []
+possible_at_end (PfsMaster path shared) = []
+possible_at_end (PfsSlave path shared) = []
+possible_at_end (PfsStatus path) = []
+possible_at_end Df = []
+possible_at_end Progress = []
+possible_at_end (End opening) = []
 
 -- whether a command is one of housekeeping: where it is accepted, an ending follows
 abbrev pub is_housekeeping : Command → Bool
@@ -124,7 +166,29 @@ is_housekeeping (PfsUpgrade path) = true
 is_housekeeping (MirrorRead path begin) = true
 is_housekeeping (MirrorWrite path) = true
 is_housekeeping (MirrorCopy master slave limit) = true
-is_housekeeping other = false
+is_housekeeping (Mkdir path) = false
+is_housekeeping (Touch path) = false
+is_housekeeping (Symlink target path) = false
+is_housekeeping (Snapshot path) = false
+is_housekeeping (Ln old new) = false
+is_housekeeping (Mv old new) = false
+is_housekeeping (Write path offset bytes) = false
+is_housekeeping (Fill path offset count byte) = false
+is_housekeeping (Truncate path size) = false
+is_housekeeping (Rm path) = false
+is_housekeeping (Rmdir path) = false
+is_housekeeping (Ls path) = false
+is_housekeeping (Cat path offset count) = false
+is_housekeeping (Stat path) = false
+is_housekeeping (Readlink path) = false
+is_housekeeping Sync = false
+is_housekeeping Synctid = false
+is_housekeeping (PfsMaster path shared) = false
+is_housekeeping (PfsSlave path shared) = false
+is_housekeeping (PfsStatus path) = false
+is_housekeeping Df = false
+is_housekeeping Progress = false
+is_housekeeping (End opening) = false
 
 -- the counts of faults of the disk and of both streams
 pub record Counts : Type 0 where
@@ -157,10 +221,45 @@ ended_command opened (End opening) =
     option_map_or (λ (o : ℕ × Command). Some o.1) (find (λ (o : ℕ × Command). o.0 == opening.0) opened) None
 ended_command opened other = None
 
+-- whether an entry is the accepted opening of a call that takes from the stream that comes in
+abbrev pub takes_stream : Entry → Bool
+takes_stream e = elim e.call [
+  | MirrorWrite path ↦ if is_refusal e.reply then false else true
+  | other ↦ false
+]
+
 -- whether a command writes a stream; of the others one reads it
 abbrev pub writes_stream : Command → Bool
 writes_stream (MirrorRead path begin) = true
-writes_stream other = false
+writes_stream (Mkdir path) = false
+writes_stream (Touch path) = false
+writes_stream (Symlink target path) = false
+writes_stream (Snapshot path) = false
+writes_stream (Ln old new) = false
+writes_stream (Mv old new) = false
+writes_stream (Write path offset bytes) = false
+writes_stream (Fill path offset count byte) = false
+writes_stream (Truncate path size) = false
+writes_stream (Rm path) = false
+writes_stream (Rmdir path) = false
+writes_stream (Ls path) = false
+writes_stream (Cat path offset count) = false
+writes_stream (Stat path) = false
+writes_stream (Readlink path) = false
+writes_stream Sync = false
+writes_stream Synctid = false
+writes_stream (Prune path) = false
+writes_stream (PruneAll path) = false
+writes_stream (Reblock fill) = false
+writes_stream (PfsMaster path shared) = false
+writes_stream (PfsSlave path shared) = false
+writes_stream (PfsStatus path) = false
+writes_stream (PfsUpgrade path) = false
+writes_stream (MirrorWrite path) = false
+writes_stream (MirrorCopy master slave limit) = false
+writes_stream Df = false
+writes_stream Progress = false
+writes_stream (End opening) = false
 
 -- whether the stream that an ending tells of is the output
 abbrev pub is_output : List (ℕ × Command) → Command → Bool
@@ -215,17 +314,18 @@ early_refusal known event =
 abbrev pub IsFree : Reply → Type 0
 IsFree reply = Contains at_any_point (number_of reply)
 
--- a reply that an early check alone gives: a bad path, an id in the future, or another open pass
-abbrev pub IsEarly : Reply → Type 0
-IsEarly reply = Contains (6 ∷ 9 ∷ 30 ∷ []) (number_of reply)
+-- where an early check fails the reply is its refusal, or a free one; else it is one of these
+abbrev pub IsPossible : Check → List ℕ → Reply → Type 0
+IsPossible (Some refusal) numbers reply = (reply ≡ refusal) ⊎ IsFree reply
+IsPossible None numbers reply = Contains numbers (number_of reply)
 
--- where an early check fails the reply is its refusal, or a free one; else it is none of theirs
-abbrev pub KeepsEarly : Check → Reply → Type 0
-KeepsEarly (Some refusal) reply = (reply ≡ refusal) ⊎ IsFree reply
-KeepsEarly None reply = IsEarly reply → ⊥
+-- a copy was cut after as many items as its limit says
+abbrev pub IsCutAt : Option Command → ℕ → Type 0
+IsCutAt (Some (MirrorCopy master slave (Some limit))) items = items ≡ limit
+IsCutAt other items = ⊥
 
--- a reply's own numbers have their cause: a boundary lies between those before it and the reply's own id,
--- and a count of faults rose from what it was known to be
+-- a reply's own numbers have their cause: a boundary lies between those before it and the reply's own id, a
+-- count of faults rose from what it was known to be, and a cut is at its limit
 abbrev pub HasNumbers : Counts → Known → Entry → Type 0
 HasNumbers now known e = elim e.reply [
   | Synced boundary ↦ (known.boundary ≤ boundary.0) × (boundary.0 < e.id.0)
@@ -233,6 +333,7 @@ HasNumbers now known e = elim e.reply [
   | StreamFault before after ↦
       let output : Bool = is_output known.opened e.call in
       IsMedia (stream_count output known.counts) (stream_count output now) before after
+  | Cut items ↦ IsCutAt (ended_command known.opened e.call) items
   | other ↦ Unit {0}
 ]
 
@@ -241,19 +342,22 @@ abbrev pub is_ending : Command → Bool
 is_ending (End opening) = true
 is_ending other = false
 
--- the numbers of the replies that an entry may have: those of its call, or of the ending of the open call
--- that it names
-abbrev pub possible_for : Known → Entry → List ℕ
-possible_for known e =
-    if is_ending e.call then option_map_or possible_at_end (ended_command known.opened e.call) [] else possible e.call
+-- the numbers of the replies that an event may have where no early check fails: those of its call, or of the
+-- ending of the open call that it names
+abbrev pub possible_for : Known → Event → List ℕ
+possible_for known event =
+    if is_ending event.entry.call
+    then option_map_or possible_at_end (ended_command known.opened event.entry.call) []
+    else possible event.entry.call event.paths
 
--- An event has its cause where this much is known: the next id, a possible reply that keeps the early
--- checks, and numbers of its own that have theirs.
+-- An event has its cause where this much is known: the next id; readings of its call's path words; a reply
+-- that keeps the early checks of these and is one that the call can give; and numbers of its own that have
+-- their cause.
 pub record HasCause (now : Counts) (known : Known) (event : Event) : Type 0 where
   pub id : event.entry.id.0 ≡ known.last + 1
   pub drawn : event.entry.id.0 ≤ GREATEST_ID
-  pub possible_reply : Contains (possible_for known event.entry) (number_of event.entry.reply)
-  pub early : KeepsEarly (early_refusal known event) event.entry.reply
+  pub read : ReadsWords event.entry.call event.paths
+  pub possible : IsPossible (early_refusal known event) (possible_for known event) event.entry.reply
   pub numbers : HasNumbers now known event.entry
 
 -- the same after others

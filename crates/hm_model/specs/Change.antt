@@ -4,7 +4,7 @@ use Rattle.std.specs.Option.{option_map_or}
 use Rattle.hm_types.specs.Id.{id_text}
 use Rattle.hm_types.specs.declared.id.Obj.{Obj}
 use Rattle.hm_model.specs.declared.command.Command.{Command}
-use Rattle.hm_model.specs.declared.command.Command.TheVariants.{Mkdir, Touch, Symlink, Snapshot, Ln, Mv, Write, Fill, Truncate, Rm, Rmdir, PfsMaster, PfsSlave}
+use Rattle.hm_model.specs.declared.command.Command.TheVariants.{Mkdir, Touch, Symlink, Snapshot, Ln, Mv, Write, Fill, Truncate, Rm, Rmdir, PfsMaster, PfsSlave, Ls, Cat, Stat, Readlink, Sync, Synctid, Prune, PruneAll, Reblock, PfsStatus, PfsUpgrade, MirrorRead, MirrorWrite, MirrorCopy, Df, Progress, End}
 use Rattle.hm_model.specs.declared.object.Object.{Object}
 use Rattle.hm_model.specs.declared.object.Kind.{Kind}
 use Rattle.hm_model.specs.declared.object.Kind.TheVariants.{Directory, File, Softlink, PfsLink}
@@ -87,7 +87,23 @@ changed call tree =
       | Rmdir path ↦
           without_object (without_name tree a.directory.object a.name) a.at.object
       | Mv old new ↦ of_object call a tree (moved call tree)
-      | other ↦ tree
+      | Ls path ↦ tree
+      | Cat path offset count ↦ tree
+      | Stat path ↦ tree
+      | Readlink path ↦ tree
+      | Sync ↦ tree
+      | Synctid ↦ tree
+      | Prune path ↦ tree
+      | PruneAll path ↦ tree
+      | Reblock fill ↦ tree
+      | PfsStatus path ↦ tree
+      | PfsUpgrade path ↦ tree
+      | MirrorRead path begin ↦ tree
+      | MirrorWrite path ↦ tree
+      | MirrorCopy master slave limit ↦ tree
+      | Df ↦ tree
+      | Progress ↦ tree
+      | End opening ↦ tree
     ]
 
 -- a new slave: nothing was mirrored into it yet

@@ -1,14 +1,14 @@
 -- The reply that a call is due: the refusal of the first check that fails, or else the accepted one.
 use Rattle.std.specs.Prelude.{◌≡◌, ℕ, ◌+◌, ◌-◌, ◌*◌, ◌/◌, ◌^◌, List, [], ◌∷◌, ◌++◌, Bool, true, false, Option, Some, None, ◌==◌, ◌&&◌, ◌||◌, if◌then◌else◌, filter, find, length, map, min}
 use Rattle.std.specs.Bool.{nat_le, nat_lt}
-use Rattle.std.specs.List.{AllZip, list_any, count_by}
+use Rattle.std.specs.List.{list_any, count_by}
 use Rattle.std.specs.Option.{option_map_or}
 use Rattle.hm_types.specs.declared.id.Id.{Id}
 use Rattle.hm_types.specs.declared.id.Obj.{Obj}
 use Rattle.hm_types.specs.declared.limits.TheConstants.{GREATEST_ID, MOST_FILE_BYTES, MOST_INTERVALS, MOST_PFS}
 use Rattle.hm_path.specs.declared.part.Part.{Part}
 use Rattle.hm_model.specs.declared.command.Command.{Command}
-use Rattle.hm_model.specs.declared.command.Command.TheVariants.{Mkdir, Touch, Symlink, Snapshot, Ln, Mv, Write, Fill, Truncate, Rm, Rmdir, Ls, Cat, Stat, Readlink, Prune, PruneAll, PfsMaster, PfsSlave, PfsStatus, PfsUpgrade, MirrorRead, MirrorWrite, MirrorCopy}
+use Rattle.hm_model.specs.declared.command.Command.TheVariants.{Mkdir, Touch, Symlink, Snapshot, Ln, Mv, Write, Fill, Truncate, Rm, Rmdir, Ls, Cat, Stat, Readlink, Prune, PruneAll, PfsMaster, PfsSlave, PfsStatus, PfsUpgrade, MirrorRead, MirrorWrite, MirrorCopy, Sync, Synctid, Reblock, Df, Progress, End}
 use Rattle.hm_model.specs.declared.reply.Reply.{Reply}
 use Rattle.hm_model.specs.declared.reply.Reply.TheVariants.{Done, MadePfs, Exists, NotFound, NotDir, IsDir, NotEmpty, BadPath, ReadOnly, Future, TooBig, CrossPfs, IntoItself, HashFull, PfsFull, NoSnapshots, TooManyIntervals, NotSlave, NotMaster, IdsSpent, SharedDiffers, Busy, NotLink, NotFile}
 use Rattle.hm_model.specs.declared.object.Object.{Object}
@@ -17,7 +17,7 @@ use Rattle.hm_model.specs.declared.object.Kind.{Kind}
 use Rattle.hm_model.specs.declared.object.Kind.TheVariants.{Directory, File, Softlink, PfsLink}
 use Rattle.hm_model.specs.Tree.{FileTree, entries_in, named_in}
 use Rattle.hm_model.specs.Volume.{Volume, PseudoFileSystem}
-use Rattle.hm_model.specs.Sites.{Use, MakesName, TakesName, Walks, Parsed, Parts, BadAt, IsParsed, Site, Located, At, Nowhere, uses_of, last_name}
+use Rattle.hm_model.specs.Sites.{Use, MakesName, TakesName, Walks, Parsed, Parts, BadAt, ReadsWords, Site, Located, At, Nowhere, uses_of, last_name}
 use Rattle.hm_model.specs.Cut.{pruned, snapshot_ids}
 use Rattle.hm_model.specs.Call.{Call, all_located, call_shown, first_site, own_id, second_site, site_object, site_system, site_tree, standing}
 use Rattle.hm_model.specs.Answer.{answer, is_master}
@@ -63,7 +63,16 @@ class_of (PfsUpgrade path) = PfsCall
 class_of (MirrorRead path begin) = PfsCall
 class_of (MirrorWrite path) = PfsCall
 class_of (MirrorCopy master slave limit) = PfsCall
-class_of other = OtherCall
+class_of (Ls path) = OtherCall
+class_of (Cat path offset count) = OtherCall
+class_of (Stat path) = OtherCall
+class_of (Readlink path) = OtherCall
+class_of Sync = OtherCall
+class_of Synctid = OtherCall
+class_of (Reblock fill) = OtherCall
+class_of Df = OtherCall
+class_of Progress = OtherCall
+class_of (End opening) = OtherCall
 
 -- whether a command changes a tree, and whether it speaks of a PFS
 abbrev pub is_tree_call : Command → Bool
@@ -78,7 +87,32 @@ is_pass (MirrorRead path begin) = true
 is_pass (MirrorWrite path) = true
 is_pass (MirrorCopy master slave limit) = true
 is_pass (PfsUpgrade path) = true
-is_pass other = false
+is_pass (Mkdir path) = false
+is_pass (Touch path) = false
+is_pass (Symlink target path) = false
+is_pass (Snapshot path) = false
+is_pass (Ln old new) = false
+is_pass (Mv old new) = false
+is_pass (Write path offset bytes) = false
+is_pass (Fill path offset count byte) = false
+is_pass (Truncate path size) = false
+is_pass (Rm path) = false
+is_pass (Rmdir path) = false
+is_pass (Ls path) = false
+is_pass (Cat path offset count) = false
+is_pass (Stat path) = false
+is_pass (Readlink path) = false
+is_pass Sync = false
+is_pass Synctid = false
+is_pass (Prune path) = false
+is_pass (PruneAll path) = false
+is_pass (Reblock fill) = false
+is_pass (PfsMaster path shared) = false
+is_pass (PfsSlave path shared) = false
+is_pass (PfsStatus path) = false
+is_pass Df = false
+is_pass Progress = false
+is_pass (End opening) = false
 
 -- The checks in their order. The first: an id is left to draw.
 abbrev pub ids_left : Call → Check
@@ -211,12 +245,17 @@ gives_way call moved there =
     (moved.number.0 == there.number.0)
     || ((if is_dir_or_link there.kind then false else true) && (if is_dir moved.kind then false else true))
 
--- nothing that stays stands under the new name
+-- whether what stands under the new name is there and gives way to what is moved
+abbrev pub is_way_free : Call → Bool
+is_way_free call =
+    option_map_or (λ there. option_map_or (λ moved. gives_way call moved there) (site_object call (first_site call)) false)
+    (standing call (second_site call)) false
+
+-- nothing that stays stands under the new name: a name that leads to no object stays
 abbrev pub way_is_free : Call → Check
 way_is_free call =
-    option_map_or (λ there.
-    if option_map_or (λ moved. gives_way call moved there) (site_object call (first_site call)) false then None else Some Exists)
-    (standing call (second_site call)) None
+    option_map_or (λ number. if is_way_free call then None else Some Exists)
+    (named_in (site_tree call (second_site call)) (second_site call).directory.object (second_site call).name) None
 
 -- a number of a PFS is left
 abbrev pub pfs_left : Call → Check
@@ -280,7 +319,15 @@ own_checks call =
       | MirrorRead path begin ↦ a_master call a ∷ []
       | MirrorWrite path ↦ a_slave call a ∷ []
       | MirrorCopy master slave limit ↦ a_master call a ∷ a_slave call b ∷ one_shared call ∷ []
-      | other ↦ []
+      | Stat path ↦ []
+      | Sync ↦ []
+      | Synctid ↦ []
+      | PruneAll path ↦ []
+      | Reblock fill ↦ []
+      | PfsStatus path ↦ []
+      | Df ↦ []
+      | Progress ↦ []
+      | End opening ↦ []
     ]
 
 -- the site at which a call makes a name, if it does
@@ -288,6 +335,44 @@ abbrev pub new_name : List (Use × List ℕ) → List Located → Option Site
 new_name ((MakesName, path) ∷ uses) (At site ∷ more) = Some site
 new_name (u ∷ uses) (l ∷ more) = new_name uses more
 new_name uses more = None
+
+-- the own checks that look at records of PFS alone, and at no tree
+abbrev pub record_checks : Call → List Check
+record_checks call =
+    let a : Site = first_site call in
+    let b : Site = second_site call in
+    elim call.command [
+      | PfsMaster path shared ↦ pfs_left call ∷ []
+      | PfsSlave path shared ↦ pfs_left call ∷ []
+      | PfsUpgrade path ↦ a_slave call a ∷ was_passed call a ∷ []
+      | MirrorRead path begin ↦ a_master call a ∷ []
+      | MirrorWrite path ↦ a_slave call a ∷ []
+      | MirrorCopy master slave limit ↦ a_master call a ∷ a_slave call b ∷ one_shared call ∷ []
+      | Mkdir path ↦ []
+      | Touch path ↦ []
+      | Symlink target path ↦ []
+      | Snapshot path ↦ []
+      | Ln old new ↦ []
+      | Mv old new ↦ []
+      | Write path offset bytes ↦ []
+      | Fill path offset count byte ↦ []
+      | Truncate path size ↦ []
+      | Rm path ↦ []
+      | Rmdir path ↦ []
+      | Ls path ↦ []
+      | Cat path offset count ↦ []
+      | Stat path ↦ []
+      | Readlink path ↦ []
+      | Sync ↦ []
+      | Synctid ↦ []
+      | Prune path ↦ []
+      | PruneAll path ↦ []
+      | Reblock fill ↦ []
+      | PfsStatus path ↦ []
+      | Df ↦ []
+      | Progress ↦ []
+      | End opening ↦ []
+    ]
 
 -- how many entries of a directory have the hash of a name, in bits 17 to 63
 abbrev pub same_hash : (List ℕ → ℕ) → List ℕ → Triple → Bool
@@ -352,7 +437,29 @@ accepted call = elim call.command [
   | PfsStatus path ↦ answer call
   | PfsMaster path shared ↦ MadePfs (record { 0 = new_pfs call.volume })
   | PfsSlave path shared ↦ MadePfs (record { 0 = new_pfs call.volume })
-  | other ↦ Done
+  | Mkdir path ↦ Done
+  | Touch path ↦ Done
+  | Symlink target path ↦ Done
+  | Snapshot path ↦ Done
+  | Ln old new ↦ Done
+  | Mv old new ↦ Done
+  | Write path offset bytes ↦ Done
+  | Fill path offset count byte ↦ Done
+  | Truncate path size ↦ Done
+  | Rm path ↦ Done
+  | Rmdir path ↦ Done
+  | Sync ↦ Done
+  | Synctid ↦ Done
+  | Prune path ↦ Done
+  | PruneAll path ↦ Done
+  | Reblock fill ↦ Done
+  | PfsUpgrade path ↦ Done
+  | MirrorRead path begin ↦ Done
+  | MirrorWrite path ↦ Done
+  | MirrorCopy master slave limit ↦ Done
+  | Df ↦ Done
+  | Progress ↦ Done
+  | End opening ↦ Done
 ]
 
 -- the refusal that a call is due, if it is due one
@@ -365,4 +472,4 @@ due call = option_map_or (λ r. r) (refusal call) (accepted call)
 
 -- the path words of the call are read so
 abbrev pub ReadsPaths : Call → Type 0
-ReadsPaths call = AllZip (λ u path. IsParsed u.1 path) (uses_of call.command) call.paths
+ReadsPaths call = ReadsWords call.command call.paths

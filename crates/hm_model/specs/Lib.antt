@@ -12,9 +12,11 @@ pub mod Answer
 pub mod Due
 pub mod Change
 pub mod Foreign
+pub mod Streams
 pub mod After
 pub mod Needs
 pub mod Caused
+pub mod Carried
 pub mod Hash
 pub mod Stop
 pub mod Plain

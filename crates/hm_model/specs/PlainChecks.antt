@@ -7,9 +7,9 @@ use Rattle.hm_model.specs.declared.object.Object.{Object}
 use Rattle.hm_model.specs.declared.reply.Reply.{Reply}
 use Rattle.hm_model.specs.declared.reply.Reply.TheVariants.{CrossPfs, Exists, IntoItself, HashFull, NotFound}
 use Rattle.hm_model.specs.Answer.{answer_at}
-use Rattle.hm_model.specs.Tree.{FileTree}
+use Rattle.hm_model.specs.Tree.{FileTree, named_in}
 use Rattle.hm_model.specs.Sites.{Site}
-use Rattle.hm_model.specs.Call.{Call, site_object, standing}
+use Rattle.hm_model.specs.Call.{Call, site_object, site_tree, standing}
 use Rattle.hm_model.specs.Due.{Check, a_dir, a_file, a_link, fits_file, gives_way, hash_is_full, is_empty, is_passed, links_left, name_is_new, no_dir, refuse_if}
 use Rattle.hm_model.specs.PlainCall.{inner_call}
 
@@ -24,11 +24,15 @@ one_pfs_at a b = if a.at.pfs == b.at.pfs then None else Some CrossPfs
 abbrev pub not_into_itself_at : Site → Site → Check
 not_into_itself_at a b = refuse_if (is_passed a b) IntoItself
 
+abbrev pub is_way_free_at : FileTree → Site → Site → Bool
+is_way_free_at tree a b =
+    option_map_or (λ (there : Object). option_map_or (λ (moved : Object). gives_way (finds tree) moved there) (site_object (finds tree) a) false)
+    (standing (finds tree) b) false
+
 abbrev pub way_at : FileTree → Site → Site → Check
 way_at tree a b =
-    option_map_or (λ (there : Object).
-    if option_map_or (λ (moved : Object). gives_way (finds tree) moved there) (site_object (finds tree) a) false then None else Some Exists)
-    (standing (finds tree) b) None
+    option_map_or (λ number. if is_way_free_at tree a b then None else Some Exists)
+    (named_in (site_tree (finds tree) b) b.directory.object b.name) None
 
 -- a command's own checks
 abbrev pub own_at : FileTree → Command → Site → Site → List Check

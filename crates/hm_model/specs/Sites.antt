@@ -1,10 +1,11 @@
 -- What a call does with its paths, and where they lead.
 use Rattle.std.specs.Prelude.{ℕ, List, [], ◌∷◌, Bool, true, false, Option, Some, None, if◌then◌else◌}
+use Rattle.std.specs.List.{AllZip}
 use Rattle.std.specs.Option.{option_map_or}
 use Rattle.hm_path.specs.Path.{IsPath, IsBadPlace}
 use Rattle.hm_path.specs.declared.part.Part.{Part}
 use Rattle.hm_model.specs.declared.command.Command.{Command}
-use Rattle.hm_model.specs.declared.command.Command.TheVariants.{Mkdir, Touch, Symlink, Snapshot, Ln, Mv, Write, Fill, Truncate, Rm, Rmdir, Ls, Cat, Stat, Readlink, Prune, PruneAll, PfsMaster, PfsSlave, PfsStatus, PfsUpgrade, MirrorRead, MirrorWrite, MirrorCopy}
+use Rattle.hm_model.specs.declared.command.Command.TheVariants.{Mkdir, Touch, Symlink, Snapshot, Ln, Mv, Write, Fill, Truncate, Rm, Rmdir, Ls, Cat, Stat, Readlink, Prune, PruneAll, PfsMaster, PfsSlave, PfsStatus, PfsUpgrade, MirrorRead, MirrorWrite, MirrorCopy, Df, Progress, End, Reblock, Sync, Synctid}
 use Rattle.hm_model.specs.declared.reply.Reply.{Reply}
 use Rattle.hm_model.specs.declared.reply.Reply.TheVariants.{NotDir}
 use Rattle.hm_model.specs.Volume.{Volume}
@@ -54,7 +55,16 @@ uses_of (PfsUpgrade path) = (Walks TakesPfs, path) ∷ []
 uses_of (MirrorRead path begin) = (Walks TakesPfs, path) ∷ []
 uses_of (MirrorWrite path) = (Walks TakesPfs, path) ∷ []
 uses_of (MirrorCopy master slave limit) = (Walks TakesPfs, master) ∷ (Walks TakesPfs, slave) ∷ []
-uses_of other = []
+uses_of Sync = []
+uses_of Synctid = []
+uses_of (Reblock fill) = []
+uses_of Df = []
+uses_of Progress = []
+uses_of (End opening) = []
+
+-- the path words of a command are read so
+abbrev pub ReadsWords : Command → List Parsed → Type 0
+ReadsWords command paths = AllZip (λ u path. IsParsed u.1 path) (uses_of command) paths
 
 -- all parts but the last
 abbrev pub front_of : List Part → List Part

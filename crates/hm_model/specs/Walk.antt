@@ -24,7 +24,8 @@ pub data Follow : Type 0 where
   Follows : Follow
   TakesPfs : Follow
 
--- the objects that a walk passed, as pairs of PFS and number: objects of two PFS are two
+-- The objects that a walk passed, as pairs of PFS and number: objects of two PFS are two. A walk has entered the
+-- PFS of these objects.
 abbrev pub Passed : Type 0
 Passed = List (ℕ × ℕ)
 
@@ -68,26 +69,25 @@ root_of pfs when = record { pfs = pfs; object = root_number; when = when }
 abbrev pub reach : Position → Passed → Walked
 reach here passed = Reaches here (passed ++ (here.pfs, here.object.0) ∷ [])
 
--- The root of a PFS that a link leads to: there must be such a PFS, it must keep the id that is in force,
--- and its view must have a root.
-abbrev pub look_at_root : View → Position → Passed → Walked
-look_at_root view here passed =
-    option_map_or (λ _. Reaches here passed) (object_at view here) (Refuses NotFound passed)
+-- A walk that comes to the root of a PFS that a link leads to has entered that PFS: there must be such a PFS.
+-- Then it must keep the id that is in force, and its view must have a root.
+abbrev pub look_at_root : Volume → View → Position → Passed → Walked
+look_at_root volume view here passed =
+    if is_seen volume here.pfs here.when
+    then option_map_or (λ _. Reaches here passed) (object_at view here) (Refuses NotFound passed)
+    else Refuses NotRetained passed
 
 abbrev pub enter_root : Volume → View → ℕ → When → Passed → Walked
-enter_root volume view pfs when passed =
-    if is_seen volume pfs when
-    then and_then (reach (root_of pfs when) passed) (look_at_root view)
-    else Refuses NotRetained passed
+enter_root volume view pfs when passed = and_then (reach (root_of pfs when) passed) (look_at_root volume view)
 
 abbrev pub enter : Volume → View → ℕ → When → Passed → Walked
 enter volume view pfs when passed =
     option_map_or (λ _. enter_root volume view pfs when passed) (system_of volume pfs) (Refuses NotFound passed)
 
--- the PFS that a link leads to, without a look at its root
+-- the PFS that a link leads to, without a look at its root: so it is not entered
 abbrev pub take_pfs : Volume → ℕ → When → Passed → Walked
 take_pfs volume pfs when passed =
-    option_map_or (λ _. reach (root_of pfs when) passed) (system_of volume pfs) (Refuses NotFound passed)
+    option_map_or (λ _. Reaches (root_of pfs when) passed) (system_of volume pfs) (Refuses NotFound passed)
 
 -- from a PFS link
 abbrev pub over_link : Volume → View → Follow → ℕ → Position → Passed → Walked

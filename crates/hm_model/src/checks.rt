@@ -163,16 +163,15 @@ fn has_passed(place: &Place, object: Obj) -> bool
     place.passed.iter().any(|o| *o == object)
 }
 
-// Nothing that stays stands under the new name.
+// Nothing that stays stands under the new name: a name that leads to no object stays.
 fn way_is_free(tree: &Tree, a: &Place, b: &Place) -> Option<Reply>
     ensures check { result ≡ way_at tree.now (site_of a.now) (site_of b.now) }
     ensures refuses { IfSome result (λ r. is_refusal r ≡ true) }
 {
-    let there = standing(tree, b)?;
-    if may_replace(tree, a, there) {
-        None
-    } else {
-        Some(Reply::Exists)
+    let number = tree.named(b.directory, &b.name)?;
+    match tree.object(number) {
+        Some(there) if may_replace(tree, a, there) => None,
+        _ => Some(Reply::Exists),
     }
 }
 

@@ -55,7 +55,7 @@ pub fn streams_bring_their_masters_trees()
     ensures { (state : State) (event : Event) (o : OpenCall) (begin end : Id) (into : Text)
         (slave : PseudoFileSystem) (foreign : ForeignMaster) (id : ℕ) →
         EndsPass state event o begin end → o.command ≡ MirrorWrite into →
-        system_of state.volume o.pfs ≡ Some slave → o.stream ≡ Some foreign →
+        system_of state.volume o.pfs ≡ Some slave → o.stream.master ≡ Some foreign →
         AreRising (versions_of foreign.volume foreign.master) → begin.0 < id → id ≤ end.0 →
         at (after_event state event).volume o.pfs id ≡ at foreign.volume foreign.master id }
 {}
