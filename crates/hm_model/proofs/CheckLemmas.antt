@@ -13,7 +13,7 @@ use Rattle.hm_model.specs.declared.reply.Reply.{Reply}
 use Rattle.hm_model.specs.declared.reply.Reply.TheVariants.{BadPath, Busy, Exists, Future, HashFull, IdsSpent, NotMaster, NotSlave, ReadOnly, SharedDiffers, TooManyIntervals}
 use Rattle.hm_model.specs.Answer.{is_master}
 use Rattle.hm_model.specs.Call.{Call, all_located, first_site, second_site, site_object, site_system, standing}
-use Rattle.hm_model.specs.Due.{Check, a_dir, a_file, a_link, a_master, a_slave, checks, early_checks, first_refusal, fits_file, good_path, good_paths, has_id, has_its_name, has_snapshots, hash_is_full, hash_left, ids_left, intervals_left, is_above, is_empty, is_in_slave, is_pass, is_pfs_call, is_tree_call, is_way_free, links_left, name_is_new, new_name, no_dir, no_future, no_future_begin, none_open, not_into_itself, of_system, one_pfs, one_shared, own_checks, parts_in, past_stays, pfs_left, pruned_count, refusal, refuse_if, slaves_stay, walks, was_passed, way_is_free}
+use Rattle.hm_model.specs.Due.{Check, a_master, a_slave, checks, early_checks, first_refusal, good_path, good_paths, has_id, has_its_name, hash_is_full, hash_left, ids_left, intervals_left, is_above, is_in_slave, is_pass, is_pfs_call, is_tree_call, is_way_free, name_is_new, new_name, no_future, no_future_begin, none_open, of_system, one_shared, own_checks, own_checks_of, parts_in, past_stays, pfs_left, pruned_count, record_checks, record_checks_of, refusal, refuse_if, slaves_stay, walks, was_passed, way_is_free}
 use Rattle.hm_model.specs.Reply.{is_refusal}
 use Rattle.hm_model.specs.Sites.{BadAt, Parsed, Parts, Site, Use, uses_of}
 use Rattle.hm_model.specs.Laws.{rewrites}
@@ -83,30 +83,7 @@ shared_refuses call =
     (λ s. unless_refuses (s.shared == m.shared) (SharedDiffers s.shared m.shared) refl))
 
 -- a command's own checks, for two sites
-own_refuse : (call : Call) (a b : Site) (command : Command) → AllRefuse (elim command [
-  | Mkdir path ↦ name_is_new call a ∷ []
-  | Touch path ↦ name_is_new call a ∷ []
-  | Symlink target path ↦ name_is_new call a ∷ []
-  | Snapshot path ↦ name_is_new call a ∷ []
-  | Ln old new ↦ no_dir call a ∷ a_file call a ∷ one_pfs call ∷ name_is_new call b ∷ links_left call a ∷ []
-  | Write path offset bytes ↦ no_dir call a ∷ a_file call a ∷ fits_file (offset + length bytes) ∷ []
-  | Fill path offset count byte ↦ no_dir call a ∷ a_file call a ∷ fits_file (offset + count) ∷ []
-  | Truncate path size ↦ no_dir call a ∷ a_file call a ∷ fits_file size ∷ []
-  | Rm path ↦ no_dir call a ∷ []
-  | Rmdir path ↦ a_dir call a ∷ is_empty call a ∷ []
-  | Mv old new ↦ one_pfs call ∷ not_into_itself call ∷ way_is_free call ∷ []
-  | Ls path ↦ a_dir call a ∷ []
-  | Cat path offset count ↦ no_dir call a ∷ a_file call a ∷ []
-  | Readlink path ↦ a_link call a ∷ []
-  | Prune path ↦ a_dir call a ∷ has_snapshots call ∷ []
-  | PfsMaster path shared ↦ name_is_new call a ∷ pfs_left call ∷ []
-  | PfsSlave path shared ↦ name_is_new call a ∷ pfs_left call ∷ []
-  | PfsUpgrade path ↦ a_slave call a ∷ was_passed call a ∷ []
-  | MirrorRead path begin ↦ a_master call a ∷ []
-  | MirrorWrite path ↦ a_slave call a ∷ []
-  | MirrorCopy master slave limit ↦ a_master call a ∷ a_slave call b ∷ one_shared call ∷ []
-  | other ↦ []
-])
+own_refuse : (call : Call) (a b : Site) (command : Command) → AllRefuse (own_checks_of call a b command)
 own_refuse call a b (Mkdir path) = (new_refuses call a, tt)
 own_refuse call a b (Touch path) = (new_refuses call a, tt)
 own_refuse call a b (Symlink target path) = (new_refuses call a, tt)
@@ -162,67 +139,32 @@ pub refusal_refuses : (call : Call) (reply : Reply) → refusal call ≡ Some re
 refusal_refuses call reply is = first_refuses (checks call) reply (all_refuse call) is
 
 -- where none refuses, none of any part does
-no_first : (xs ys : List Check) → first_refusal (xs ++ ys) ≡ None → (first_refusal xs ≡ None) × (first_refusal ys ≡ None)
+pub no_first : (xs ys : List Check) → first_refusal (xs ++ ys) ≡ None → (first_refusal xs ≡ None) × (first_refusal ys ≡ None)
 no_first [] ys none = (refl, none)
 no_first (None ∷ xs) ys none = no_first xs ys none
 no_first (Some reply ∷ xs) ys none = absurd (cc)
 
-no_rest : (x : Check) (xs : List Check) → first_refusal (x ∷ xs) ≡ None → (x ≡ None) × (first_refusal xs ≡ None)
+pub no_rest : (x : Check) (xs : List Check) → first_refusal (x ∷ xs) ≡ None → (x ≡ None) × (first_refusal xs ≡ None)
 no_rest None xs none = (refl, none)
 no_rest (Some reply) xs none = absurd (cc)
-
--- so none of a command's own checks does
-own_pass : (call : Call) → refusal call ≡ None → first_refusal (own_checks call) ≡ None
-own_pass call none =
-    let early : List Check = early_checks call.volume.last call.busy call.command call.paths in
-    let on_walks : List Check = map walks (all_located call) in
-    let own : List Check = slaves_stay call ∷ own_checks call in
-    let last : List Check = hash_left call ∷ intervals_left call ∷ [] in
-    let after_ids : first_refusal (((early ++ on_walks) ++ own) ++ last) ≡ None = (no_rest (ids_left call) (((early ++ on_walks) ++ own) ++ last) none).1 in
-    let before_last : first_refusal ((early ++ on_walks) ++ own) ≡ None = (no_first ((early ++ on_walks) ++ own) last after_ids).0 in
-    let of_own : first_refusal own ≡ None = (no_first (early ++ on_walks) own before_last).1 in
-    (no_rest (slaves_stay call) (own_checks call) of_own).1
 
 -- which site a call that rewrites a PFS works on
 abbrev pub written_site : Command → Site → Site → Site
 written_site (MirrorCopy master slave limit) a b = b
 written_site other a b = a
 
-slave_checked : (call : Call) (a b : Site) (command : Command) → rewrites command ≡ true → first_refusal (elim command [
-  | Mkdir path ↦ name_is_new call a ∷ []
-  | Touch path ↦ name_is_new call a ∷ []
-  | Symlink target path ↦ name_is_new call a ∷ []
-  | Snapshot path ↦ name_is_new call a ∷ []
-  | Ln old new ↦ no_dir call a ∷ a_file call a ∷ one_pfs call ∷ name_is_new call b ∷ links_left call a ∷ []
-  | Write path offset bytes ↦ no_dir call a ∷ a_file call a ∷ fits_file (offset + length bytes) ∷ []
-  | Fill path offset count byte ↦ no_dir call a ∷ a_file call a ∷ fits_file (offset + count) ∷ []
-  | Truncate path size ↦ no_dir call a ∷ a_file call a ∷ fits_file size ∷ []
-  | Rm path ↦ no_dir call a ∷ []
-  | Rmdir path ↦ a_dir call a ∷ is_empty call a ∷ []
-  | Mv old new ↦ one_pfs call ∷ not_into_itself call ∷ way_is_free call ∷ []
-  | Ls path ↦ a_dir call a ∷ []
-  | Cat path offset count ↦ no_dir call a ∷ a_file call a ∷ []
-  | Readlink path ↦ a_link call a ∷ []
-  | Prune path ↦ a_dir call a ∷ has_snapshots call ∷ []
-  | PfsMaster path shared ↦ name_is_new call a ∷ pfs_left call ∷ []
-  | PfsSlave path shared ↦ name_is_new call a ∷ pfs_left call ∷ []
-  | PfsUpgrade path ↦ a_slave call a ∷ was_passed call a ∷ []
-  | MirrorRead path begin ↦ a_master call a ∷ []
-  | MirrorWrite path ↦ a_slave call a ∷ []
-  | MirrorCopy master slave limit ↦ a_master call a ∷ a_slave call b ∷ one_shared call ∷ []
-  | other ↦ []
-]) ≡ None → a_slave call (written_site command a b) ≡ None
+slave_checked : (call : Call) (a b : Site) (command : Command) → rewrites command ≡ true → first_refusal (record_checks_of call a b command) ≡ None → a_slave call (written_site command a b) ≡ None
 slave_checked call a b (PfsUpgrade path) is none = (no_rest (a_slave call a) (was_passed call a ∷ []) none).0
 slave_checked call a b (MirrorWrite path) is none = (no_rest (a_slave call a) [] none).0
 slave_checked call a b (MirrorCopy master slave limit) is none = (no_rest (a_slave call b) (one_shared call ∷ []) (no_rest (a_master call a) (a_slave call b ∷ one_shared call ∷ []) none).1).0
 slave_checked call a b command is none = absurd (cc)
 
--- a call that rewrites a PFS is accepted for no master
-pub written_slave : (call : Call) (s : PseudoFileSystem) → refusal call ≡ None → rewrites call.command ≡ true → system_of call.volume (written_site call.command (first_site call) (second_site call)).at.pfs ≡ Some s → is_master s ≡ false
+-- a call that rewrites a PFS and lands works on no master
+pub written_slave : (call : Call) (s : PseudoFileSystem) → first_refusal (record_checks call) ≡ None → rewrites call.command ≡ true → system_of call.volume (written_site call.command (first_site call) (second_site call)).at.pfs ≡ Some s → is_master s ≡ false
 written_slave call s none writes found = by (is_master s) refl
   where
     checked : a_slave call (written_site call.command (first_site call) (second_site call)) ≡ None
-    checked = slave_checked call (first_site call) (second_site call) call.command writes (own_pass call none)
+    checked = slave_checked call (first_site call) (second_site call) call.command writes none
 
     here : refuse_if (is_master s) NotSlave ≡ None
     here = subst (λ (x : Option PseudoFileSystem). option_map_or (λ (y : PseudoFileSystem). refuse_if (is_master y) NotSlave) x None ≡ None) found checked

@@ -12,6 +12,7 @@ pub mod PlainDueLemmas
 pub mod HistoryLemmas
 pub mod IntervalLemmas
 pub mod KnownLemmas
+pub mod LandLemmas
 pub mod LineLemmas
 pub mod MasterLemmas
 pub mod NumberLemmas

@@ -1,62 +1,33 @@
--- A master stays one, and no pass into it and no upgrade of it is opened, where all trees are certain.
+-- A master stays one, and no pass into it and no upgrade of it is opened.
 use Rattle.std.proofs.Common.{◌≡◌, ℕ, true, false, List, [], ◌∷◌, ◌++◌, filter, refl, ◌∙◌, ap, sym, subst, inl, inr, arith, eqb, append_assoc}
 use Rattle.std.proofs.lemmas.List.{append-nil}
 use Rattle.std.specs.Prelude.{◌⊎◌, Bool, ◌&&◌, Some, None, if◌then◌else◌}
 use Rattle.std.specs.List.{list_any}
 use Rattle.std.proofs.lemmas.Bool.Decides.{nat_tests}
-use Rattle.hm_types.specs.declared.id.Id.{Id}
 use Rattle.hm_model.specs.declared.command.Command.{Command}
 use Rattle.hm_model.specs.declared.command.Command.TheVariants.{Prune, PruneAll, Reblock, PfsUpgrade, MirrorRead, MirrorWrite, MirrorCopy, End}
-use Rattle.hm_model.specs.declared.reply.Reply.{Reply}
-use Rattle.hm_model.specs.declared.reply.Reply.TheVariants.{Media, NoMemory, NoSpace}
-use Rattle.hm_model.specs.After.{Event, OpenCall, State, accepted_effect, after_event, call_of, effect, ended, feeding, last_after, later_streams, next_stream, no_hash, of_pfs, on_volume, opened_with, opening_state, present_only, retaining, stream_origin, with_opened}
+use Rattle.hm_model.specs.After.{Event, OpenCall, State, accepted_effect, after_event, call_of, effect, ended, feeding, last_after, later_streams, next_stream, no_hash, of_pfs, on_volume, opening_state, present_only, retaining, stream_origin, with_opened}
 use Rattle.hm_model.specs.Answer.{is_master}
 use Rattle.hm_model.specs.Call.{Call, each_located, first_of, first_site, own_id, second_of, second_site}
 use Rattle.hm_model.specs.Caused.{is_ending}
 use Rattle.hm_model.specs.Change.{change}
 use Rattle.hm_model.specs.Cut.{pruned}
 use Rattle.hm_model.specs.Foreign.{no_feed}
-use Rattle.hm_model.specs.Due.{Check, is_tree_call, kept_ids, refusal}
+use Rattle.hm_model.specs.Due.{first_refusal, is_tree_call, kept_ids, record_checks}
 use Rattle.hm_model.specs.Hash.{name_hash}
-use Rattle.hm_model.specs.Laws.{AreClear, IsMasterThroughout, IsSteadyMaster, IsUnfed, is_rewriter, rewrites}
-use Rattle.hm_model.specs.Legal.{IsAllowed, IsDue, IsEnding, IsException, IsLegal, IsReply, MayFollow, Setting, call_after, floor_after, state_after}
+use Rattle.hm_model.specs.Laws.{IsMasterThroughout, IsSteadyMaster, IsUnfed, is_rewriter, rewrites}
+use Rattle.hm_model.specs.Legal.{IsLegal, MayFollow, Setting, state_after}
 use Rattle.hm_model.specs.Reply.{is_refusal}
 use Rattle.hm_model.specs.Sites.{Parsed, BadAt, Parts, Site, Use, uses_of}
 use Rattle.hm_model.specs.Volume.{Local, PseudoFileSystem, Role, Master, Slave, system_of}
 use Rattle.hm_model.proofs.AgeLemmas.{AgesIn, ages_accepted}
-use Rattle.hm_model.proofs.CheckLemmas.{refusal_refuses, written_site, written_slave}
+use Rattle.hm_model.proofs.CheckLemmas.{written_site, written_slave}
 use Rattle.hm_model.proofs.EffectLemmas.{ended_system, or_false}
 use Rattle.hm_model.proofs.EventLemmas.{after_events-push}
 use Rattle.hm_model.proofs.KnownLemmas.{opening_of}
 use Rattle.hm_model.proofs.PassEndLemmas.{ending_is}
 use Rattle.hm_model.proofs.RefusalLemmas.{not_ending}
 use Rattle.hm_model.proofs.TwinLemmas.{aged_some, new_call}
-
--- an exception refuses
-exception_refuses : (least : ℕ) (call : Call) (reply : Reply) → IsException least call reply → is_refusal reply ≡ true
-exception_refuses least call (NoSpace free needed) is = refl
-exception_refuses least call (Media before after) is = refl
-exception_refuses least call NoMemory is = refl
-exception_refuses least call reply is = absurd is
-
--- a call is accepted only where no check fails
-accepted_passes : (least : ℕ) (call : Call) (reply : Reply) → IsReply least call reply → is_refusal reply ≡ false → refusal call ≡ None
-accepted_passes least call reply is accepted = by (refusal call) refl
-  where
-    refused : (r : Reply) → refusal call ≡ Some r → is_refusal reply ≡ true
-    refused r found = elim is [
-      | inl due ↦ let same : reply ≡ r = subst (λ (x : Check). IsDue least call x reply) found due in rw same (refusal_refuses call r found)
-      | inr exception ↦ exception_refuses least call reply exception
-    ]
-
-    by : (found : Check) → refusal call ≡ found → refusal call ≡ None
-    by None found = found
-    by (Some r) found = absurd (let no_way : is_refusal reply ≡ true = refused r found in cc)
-
--- the reply of a call that is no ending
-allowed_reply : (Ending : Id → Type 0) (Other : Type 0) (call : Command) → is_ending call ≡ false → (elim call as (λ x. Type 0) [ End opening ↦ Ending opening | other ↦ Other ]) → Other
-allowed_reply Ending Other (End opening) is allowed = absurd (cc)
-allowed_reply Ending Other call is allowed = allowed
 
 -- what an accepted call opens, and on which PFS
 abbrev pub OpenedAt : State → Call → State → Type 0
@@ -124,7 +95,7 @@ not_both true false both = refl
 not_both false b both = refl
 
 -- over an accepted call
-steady_accepted : (state : State) (event : Event) (pfs : ℕ) → refusal (call_of name_hash state event) ≡ None → IsSteadyMaster state pfs → IsSteadyMaster (accepted_effect state (call_of no_hash state event)) pfs
+steady_accepted : (state : State) (event : Event) (pfs : ℕ) → first_refusal (record_checks (call_of name_hash state event)) ≡ None → IsSteadyMaster state pfs → IsSteadyMaster (accepted_effect state (call_of no_hash state event)) pfs
 steady_accepted state event pfs none steady =
     let call : Call = call_of no_hash state event in
     let named : Call = call_of name_hash state event in
@@ -152,8 +123,8 @@ steady_accepted state event pfs none steady =
     record { system = u.0; found = u.1; master = u.2.role ∙ steady.master; unfed = unfed }
 
 -- over an event
-steady_event : (run : Setting) (before : List Event) (event : Event) (pfs : ℕ) → MayFollow run before event → IsAllowed run before event → IsSteadyMaster (state_after run before) pfs → IsSteadyMaster (after_event (state_after run before) event) pfs
-steady_event run before event pfs follows allowed steady = last (effect (state_after run before) event) (by (is_ending event.entry.call) refl)
+steady_event : (run : Setting) (before : List Event) (event : Event) (pfs : ℕ) → MayFollow run before event → IsSteadyMaster (state_after run before) pfs → IsSteadyMaster (after_event (state_after run before) event) pfs
+steady_event run before event pfs follows steady = last (effect (state_after run before) event) (by (is_ending event.entry.call) refl)
   where
     state : State
     state = state_after run before
@@ -161,15 +132,9 @@ steady_event run before event pfs follows allowed steady = last (effect (state_a
     last : (s : State) → IsSteadyMaster s pfs → IsSteadyMaster (on_volume s (record s.volume { last = last_after event.entry })) pfs
     last s is = record { system = is.system; found = is.found; master = is.master; unfed = is.unfed }
 
-    none : is_ending event.entry.call ≡ false → is_refusal event.entry.reply ≡ false → refusal (call_after run before event) ≡ None
-    none call accepted =
-        accepted_passes (floor_after run before) (call_after run before event) event.entry.reply
-        (allowed_reply (λ (opening : Id). (o : OpenCall) × (opened_with opening.0 state.opened ≡ Some o) × IsEnding (floor_after run before) state.volume o event.entry.id.0 event.entry.reply) (IsReply (floor_after run before) (call_after run before event) event.entry.reply) event.entry.call call allowed)
-        accepted
-
     call_by : is_ending event.entry.call ≡ false → (test : Bool) → is_refusal event.entry.reply ≡ test → IsSteadyMaster (if test then state else accepted_effect state (call_of no_hash state event)) pfs
     call_by call true is = steady
-    call_by call false is = steady_accepted state event pfs (none call is) steady
+    call_by call false is = steady_accepted state event pfs (follows.lands is).records steady
 
     by : (test : Bool) → is_ending event.entry.call ≡ test → IsSteadyMaster (effect state event) pfs
     by true is =
@@ -187,18 +152,17 @@ steady_event run before event pfs follows allowed steady = last (effect (state_a
         subst (λ (s : State). IsSteadyMaster s pfs) (sym goes) (call_by is (is_refusal event.entry.reply) refl)
 
 -- over a history
-steady_history : (run : Setting) (before es : List Event) (pfs : ℕ) → IsLegal run (before ++ es) → AreClear run (before ++ es) → IsSteadyMaster (state_after run before) pfs → IsSteadyMaster (state_after run (before ++ es)) pfs
-steady_history run before [] pfs legal clear steady = rw append-nil steady
-steady_history run before (e ∷ es) pfs legal clear steady =
+steady_history : (run : Setting) (before es : List Event) (pfs : ℕ) → IsLegal run (before ++ es) → IsSteadyMaster (state_after run before) pfs → IsSteadyMaster (state_after run (before ++ es)) pfs
+steady_history run before [] pfs legal steady = rw append-nil steady
+steady_history run before (e ∷ es) pfs legal steady =
     let follows : MayFollow run before e = legal before e es refl in
-    let next : IsSteadyMaster (after_event (state_after run before) e) pfs = steady_event run before e pfs follows (follows.allowed (clear before e es refl)) steady in
+    let next : IsSteadyMaster (after_event (state_after run before) e) pfs = steady_event run before e pfs follows steady in
     let pushed : state_after run (before ++ e ∷ []) ≡ after_event (state_after run before) e = after_events-push (opening_state run.opening run.foreigners) before e in
     let together : (before ++ e ∷ []) ++ es ≡ before ++ e ∷ es = append_assoc before (e ∷ []) es in
-    rw (← together) (steady_history run (before ++ e ∷ []) es pfs (rw together legal) (rw together clear) (subst (λ (s : State). IsSteadyMaster s pfs) (sym pushed) next))
+    rw (← together) (steady_history run (before ++ e ∷ []) es pfs (rw together legal) (subst (λ (s : State). IsSteadyMaster s pfs) (sym pushed) next))
 
-pub master_throughout : (run : Setting) (events : List Event) (pfs : ℕ) (s : PseudoFileSystem) → IsLegal run events → AreClear run events → system_of run.opening pfs ≡ Some s → s.role ≡ Master → IsMasterThroughout run events pfs
-master_throughout run events pfs s legal clear found master before rest is =
+pub master_throughout : (run : Setting) (events : List Event) (pfs : ℕ) (s : PseudoFileSystem) → IsLegal run events → system_of run.opening pfs ≡ Some s → s.role ≡ Master → IsMasterThroughout run events pfs
+master_throughout run events pfs s legal found master before rest is =
     steady_history run [] before pfs
     (λ xs x more same. legal xs x (more ++ rest) (is ∙ (ap (λ (es : List Event). es ++ rest) same ∙ append_assoc xs (x ∷ more) rest)))
-    (λ xs x more same. clear xs x (more ++ rest) (is ∙ (ap (λ (es : List Event). es ++ rest) same ∙ append_assoc xs (x ∷ more) rest)))
     (record { system = s; found = found; master = master; unfed = refl })

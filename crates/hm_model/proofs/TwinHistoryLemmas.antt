@@ -9,7 +9,7 @@ use Rattle.hm_model.specs.declared.command.Command.{Command}
 use Rattle.hm_model.specs.declared.command.Command.TheVariants.{End, MirrorCopy, MirrorWrite, PfsUpgrade}
 use Rattle.hm_model.specs.declared.reply.Reply.{Reply}
 use Rattle.hm_model.specs.After.{Event, OpenCall, State, accepted_effect, after_event, call_of, effect, end_effect, end_of_pass, end_of_upgrade, end_of_write, ended, last_after, no_hash, opened_with, opening_state}
-use Rattle.hm_model.specs.Caused.{IsPossible, Known, early_refusal, is_ending, known_after, known_after_entry, known_at}
+use Rattle.hm_model.specs.Caused.{IsPossible, Known, early_refusal, is_ending, known_after, known_after_entry, known_at, possible_for}
 use Rattle.hm_model.specs.Due.{is_pass}
 use Rattle.hm_model.specs.Laws.{EndsPass, IsMasterThroughout, IsUnfed, is_rewriter}
 use Rattle.hm_model.specs.Legal.{IsLegal, MayFollow, Setting, begin_of, state_after}
@@ -114,8 +114,8 @@ twin_ended state event opening slave m call id unfed begins twin = by (opened_wi
     by (Some o) is = each o is (is_pass o.command) refl
 
 -- over an event
-pub Twin-event : (known : Known) (state : State) (event : Event) (slave m : ℕ) → Agrees known state → event.entry.id.0 ≡ known.last + 1 → KeepsEarly (early_refusal known event) event.entry.reply → IsUnfed state m → ((o : OpenCall) (begin end : Id) → EndsPass state event o begin end → begin.0 ≡ begin_of state.volume o) → Twin state.volume.last state.volume state.opened slave m → Twin (last_after event.entry) (after_event state event).volume (after_event state event).opened slave m
-Twin-event known state event slave m agrees id early unfed begins twin =
+pub Twin-event : (known : Known) (state : State) (event : Event) (numbers : List ℕ) (slave m : ℕ) → Agrees known state → event.entry.id.0 ≡ known.last + 1 → IsPossible (early_refusal known event) numbers event.entry.reply → IsUnfed state m → ((o : OpenCall) (begin end : Id) → EndsPass state event o begin end → begin.0 ≡ begin_of state.volume o) → Twin state.volume.last state.volume state.opened slave m → Twin (last_after event.entry) (after_event state event).volume (after_event state event).opened slave m
+Twin-event known state event numbers slave m agrees id early unfed begins twin =
     let now : ℕ = last_after event.entry in
     twin_drawn now now now (effect state event).volume (effect state event).opened slave m (omega arith) (by (is_ending event.entry.call) refl)
   where
@@ -130,7 +130,7 @@ Twin-event known state event slave m agrees id early unfed begins twin =
     call false is =
         drawn (accepted_effect state (call_of no_hash state event)) (omega (arith, own))
         (Twin-accepted state (call_of no_hash state event) slave m refl
-        (λ pass. none_busy state.opened (rw agrees.opened at (accepted_alone known event early is pass))) twin)
+        (λ pass. none_busy state.opened (rw agrees.opened at (accepted_alone known event numbers early is pass))) twin)
 
     by : (test : Bool) → is_ending event.entry.call ≡ test → Twin (last_after event.entry) (effect state event).volume (effect state event).opened slave m
     by true is =
@@ -153,7 +153,7 @@ Twin-history run before (e ∷ es) slave m legal master agrees twin =
     let state : State = state_after run before in
     let follows : MayFollow run before e = legal before e es refl in
     let unfed : IsUnfed state m = (master before (e ∷ es) refl).unfed in
-    let next : Twin (last_after e.entry) (after_event state e).volume (after_event state e).opened slave m = Twin-event known state e slave m agrees follows.caused.id follows.caused.early unfed (λ o begin end ends. begin_legal run before e o begin end follows ends) twin in
+    let next : Twin (last_after e.entry) (after_event state e).volume (after_event state e).opened slave m = Twin-event known state e (possible_for known e) slave m agrees follows.caused.id follows.caused.possible unfed (λ o begin end ends. begin_legal run before e o begin end follows ends) twin in
     let also : Agrees (known_after_entry known e.entry) (after_event state e) = Agrees-event known state e agrees follows.caused.id in
     let pushed : state_after run (before ++ e ∷ []) ≡ after_event state e = after_events-push (opening_state run.opening run.foreigners) before e in
     let known_pushed : known_after (known_at run.opening.last run.start) (before ++ e ∷ []) ≡ known_after_entry known e.entry = known_after-push (known_at run.opening.last run.start) before e in

@@ -5,7 +5,7 @@ use Rattle.hm_types.specs.declared.text.Text.{Text}
 use Rattle.hm_model.specs.declared.command.Command.TheVariants.{End, MirrorCopy, Sync}
 use Rattle.hm_model.specs.declared.reply.Reply.TheVariants.{NoMemory, Passed}
 use Rattle.hm_model.specs.After.{Event, OpenCall, State}
-use Rattle.hm_model.specs.Foreign.{no_foreigners}
+use Rattle.hm_model.specs.Foreign.{no_feed, no_foreigners}
 use Rattle.hm_model.specs.Change.{new_slave}
 use Rattle.hm_model.specs.Laws.{AreClear, AreRising, BeginBy, EndsPass, FollowsMaster, IsMasterThroughout, versions_of}
 use Rattle.hm_model.specs.Legal.{IsLegal, MayFollow, Setting, no_counts}
@@ -34,21 +34,12 @@ refused_sync = record {
   substitutes = [];
 }
 
--- its reply is none that an early check gives
-abbrev early_numbers : List ℕ
-early_numbers = 6 ∷ 9 ∷ 30 ∷ []
-
-not_early : (k : ℕ) → k < 3 → get_or early_numbers k 23 ≡ 23 → ⊥
-not_early zero within is = omega (arith, is)
-not_early (suc zero) within is = omega (arith, is)
-not_early (suc (suc zero)) within is = omega (arith, is)
-not_early (suc (suc (suc k))) within is = omega (arith, within)
-
 may_follow : MayFollow run [] refused_sync
 may_follow = record {
-  caused = record { id = refl; drawn = omega arith; possible_reply = (3, omega arith, refl); early = λ has. not_early has.0 has.1 has.2; numbers = tt };
-  read = tt;
+  caused = record { id = refl; drawn = omega arith; read = tt; possible = (3, omega arith, refl); numbers = tt };
   allowed = λ clear. inr tt;
+  lands = λ accepted. absurd (cc);
+  fed = λ takes. absurd (cc);
   undamaged = tt;
 }
 
@@ -62,7 +53,7 @@ clear before event rest is = elim (last_or_before [] refused_sync before event r
 ]
 
 pub master : IsMasterThroughout run (refused_sync ∷ []) 0
-master = master_throughout run (refused_sync ∷ []) 0 (new_master 0 0 ((1, root_tree) ∷ [])) legal clear refl refl
+master = master_throughout run (refused_sync ∷ []) 0 (new_master 0 0 ((1, root_tree) ∷ [])) legal refl refl
 
 pub rising : AreRising (versions_of two 0)
 rising = (omega arith, tt)
@@ -111,7 +102,7 @@ copy path = record {
   pfs = 1;
   master = 0;
   origin = Nowhere;
-  stream = None;
+  stream = no_feed;
 }
 
 abbrev pub copying : Text → State

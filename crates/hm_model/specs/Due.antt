@@ -292,87 +292,83 @@ one_shared call =
     of_system call (second_site call) (λ s.
     if s.shared == m.shared then None else Some (SharedDiffers s.shared m.shared)))
 
--- a command's own checks, in their order
+-- those of a command's own checks that look at records of PFS alone, and at no tree, by where its paths lead
+abbrev pub record_checks_of : Call → Site → Site → Command → List Check
+record_checks_of call a b (Mkdir path) = []
+record_checks_of call a b (Touch path) = []
+record_checks_of call a b (Symlink target path) = []
+record_checks_of call a b (Snapshot path) = []
+record_checks_of call a b (Ln old new) = []
+record_checks_of call a b (Mv old new) = []
+record_checks_of call a b (Write path offset bytes) = []
+record_checks_of call a b (Fill path offset count byte) = []
+record_checks_of call a b (Truncate path size) = []
+record_checks_of call a b (Rm path) = []
+record_checks_of call a b (Rmdir path) = []
+record_checks_of call a b (Ls path) = []
+record_checks_of call a b (Cat path offset count) = []
+record_checks_of call a b (Stat path) = []
+record_checks_of call a b (Readlink path) = []
+record_checks_of call a b Sync = []
+record_checks_of call a b Synctid = []
+record_checks_of call a b (Prune path) = []
+record_checks_of call a b (PruneAll path) = []
+record_checks_of call a b (Reblock fill) = []
+record_checks_of call a b (PfsMaster path shared) = pfs_left call ∷ []
+record_checks_of call a b (PfsSlave path shared) = pfs_left call ∷ []
+record_checks_of call a b (PfsStatus path) = []
+record_checks_of call a b (PfsUpgrade path) = a_slave call a ∷ was_passed call a ∷ []
+record_checks_of call a b (MirrorRead path begin) = a_master call a ∷ []
+record_checks_of call a b (MirrorWrite path) = a_slave call a ∷ []
+record_checks_of call a b (MirrorCopy master slave limit) = a_master call a ∷ a_slave call b ∷ one_shared call ∷ []
+record_checks_of call a b Df = []
+record_checks_of call a b Progress = []
+record_checks_of call a b (End opening) = []
+
+abbrev pub record_checks : Call → List Check
+record_checks call = record_checks_of call (first_site call) (second_site call) call.command
+
+-- a command's own checks, in their order, by where its paths lead
+abbrev pub own_checks_of : Call → Site → Site → Command → List Check
+own_checks_of call a b (Mkdir path) = name_is_new call a ∷ []
+own_checks_of call a b (Touch path) = name_is_new call a ∷ []
+own_checks_of call a b (Symlink target path) = name_is_new call a ∷ []
+own_checks_of call a b (Snapshot path) = name_is_new call a ∷ []
+own_checks_of call a b (Ln old new) = no_dir call a ∷ a_file call a ∷ one_pfs call ∷ name_is_new call b ∷ links_left call a ∷ []
+own_checks_of call a b (Mv old new) = one_pfs call ∷ not_into_itself call ∷ way_is_free call ∷ []
+own_checks_of call a b (Write path offset bytes) = no_dir call a ∷ a_file call a ∷ fits_file (offset + length bytes) ∷ []
+own_checks_of call a b (Fill path offset count byte) = no_dir call a ∷ a_file call a ∷ fits_file (offset + count) ∷ []
+own_checks_of call a b (Truncate path size) = no_dir call a ∷ a_file call a ∷ fits_file size ∷ []
+own_checks_of call a b (Rm path) = no_dir call a ∷ []
+own_checks_of call a b (Rmdir path) = a_dir call a ∷ is_empty call a ∷ []
+own_checks_of call a b (Ls path) = a_dir call a ∷ []
+own_checks_of call a b (Cat path offset count) = no_dir call a ∷ a_file call a ∷ []
+own_checks_of call a b (Stat path) = []
+own_checks_of call a b (Readlink path) = a_link call a ∷ []
+own_checks_of call a b Sync = []
+own_checks_of call a b Synctid = []
+own_checks_of call a b (Prune path) = a_dir call a ∷ has_snapshots call ∷ []
+own_checks_of call a b (PruneAll path) = []
+own_checks_of call a b (Reblock fill) = []
+own_checks_of call a b (PfsMaster path shared) = name_is_new call a ∷ record_checks_of call a b (PfsMaster path shared)
+own_checks_of call a b (PfsSlave path shared) = name_is_new call a ∷ record_checks_of call a b (PfsSlave path shared)
+own_checks_of call a b (PfsStatus path) = []
+own_checks_of call a b (PfsUpgrade path) = record_checks_of call a b (PfsUpgrade path)
+own_checks_of call a b (MirrorRead path begin) = record_checks_of call a b (MirrorRead path begin)
+own_checks_of call a b (MirrorWrite path) = record_checks_of call a b (MirrorWrite path)
+own_checks_of call a b (MirrorCopy master slave limit) = record_checks_of call a b (MirrorCopy master slave limit)
+own_checks_of call a b Df = []
+own_checks_of call a b Progress = []
+own_checks_of call a b (End opening) = []
+
 abbrev pub own_checks : Call → List Check
-own_checks call =
-    let a : Site = first_site call in
-    let b : Site = second_site call in
-    elim call.command [
-      | Mkdir path ↦ name_is_new call a ∷ []
-      | Touch path ↦ name_is_new call a ∷ []
-      | Symlink target path ↦ name_is_new call a ∷ []
-      | Snapshot path ↦ name_is_new call a ∷ []
-      | Ln old new ↦ no_dir call a ∷ a_file call a ∷ one_pfs call ∷ name_is_new call b ∷ links_left call a ∷ []
-      | Write path offset bytes ↦ no_dir call a ∷ a_file call a ∷ fits_file (offset + length bytes) ∷ []
-      | Fill path offset count byte ↦ no_dir call a ∷ a_file call a ∷ fits_file (offset + count) ∷ []
-      | Truncate path size ↦ no_dir call a ∷ a_file call a ∷ fits_file size ∷ []
-      | Rm path ↦ no_dir call a ∷ []
-      | Rmdir path ↦ a_dir call a ∷ is_empty call a ∷ []
-      | Mv old new ↦ one_pfs call ∷ not_into_itself call ∷ way_is_free call ∷ []
-      | Ls path ↦ a_dir call a ∷ []
-      | Cat path offset count ↦ no_dir call a ∷ a_file call a ∷ []
-      | Readlink path ↦ a_link call a ∷ []
-      | Prune path ↦ a_dir call a ∷ has_snapshots call ∷ []
-      | PfsMaster path shared ↦ name_is_new call a ∷ pfs_left call ∷ []
-      | PfsSlave path shared ↦ name_is_new call a ∷ pfs_left call ∷ []
-      | PfsUpgrade path ↦ a_slave call a ∷ was_passed call a ∷ []
-      | MirrorRead path begin ↦ a_master call a ∷ []
-      | MirrorWrite path ↦ a_slave call a ∷ []
-      | MirrorCopy master slave limit ↦ a_master call a ∷ a_slave call b ∷ one_shared call ∷ []
-      | Stat path ↦ []
-      | Sync ↦ []
-      | Synctid ↦ []
-      | PruneAll path ↦ []
-      | Reblock fill ↦ []
-      | PfsStatus path ↦ []
-      | Df ↦ []
-      | Progress ↦ []
-      | End opening ↦ []
-    ]
+own_checks call = own_checks_of call (first_site call) (second_site call) call.command
 
 -- the site at which a call makes a name, if it does
 abbrev pub new_name : List (Use × List ℕ) → List Located → Option Site
 new_name ((MakesName, path) ∷ uses) (At site ∷ more) = Some site
 new_name (u ∷ uses) (l ∷ more) = new_name uses more
 new_name uses more = None
-
--- the own checks that look at records of PFS alone, and at no tree
-abbrev pub record_checks : Call → List Check
-record_checks call =
-    let a : Site = first_site call in
-    let b : Site = second_site call in
-    elim call.command [
-      | PfsMaster path shared ↦ pfs_left call ∷ []
-      | PfsSlave path shared ↦ pfs_left call ∷ []
-      | PfsUpgrade path ↦ a_slave call a ∷ was_passed call a ∷ []
-      | MirrorRead path begin ↦ a_master call a ∷ []
-      | MirrorWrite path ↦ a_slave call a ∷ []
-      | MirrorCopy master slave limit ↦ a_master call a ∷ a_slave call b ∷ one_shared call ∷ []
-      | Mkdir path ↦ []
-      | Touch path ↦ []
-      | Symlink target path ↦ []
-      | Snapshot path ↦ []
-      | Ln old new ↦ []
-      | Mv old new ↦ []
-      | Write path offset bytes ↦ []
-      | Fill path offset count byte ↦ []
-      | Truncate path size ↦ []
-      | Rm path ↦ []
-      | Rmdir path ↦ []
-      | Ls path ↦ []
-      | Cat path offset count ↦ []
-      | Stat path ↦ []
-      | Readlink path ↦ []
-      | Sync ↦ []
-      | Synctid ↦ []
-      | Prune path ↦ []
-      | PruneAll path ↦ []
-      | Reblock fill ↦ []
-      | PfsStatus path ↦ []
-      | Df ↦ []
-      | Progress ↦ []
-      | End opening ↦ []
-    ]
 
 -- how many entries of a directory have the hash of a name, in bits 17 to 63
 abbrev pub same_hash : (List ℕ → ℕ) → List ℕ → Triple → Bool

@@ -10,7 +10,7 @@ use Rattle.hm_model.specs.declared.command.Command.{Command}
 use Rattle.hm_model.specs.declared.command.Command.TheVariants.{Sync, Synctid, Df, Progress, End, MirrorRead, MirrorWrite, MirrorCopy, Mkdir, Touch, Symlink, Snapshot, Ln, Mv, Write, Fill, Truncate, Rm, Rmdir, Ls, Cat, Stat, Readlink, Prune, PruneAll, Reblock, PfsMaster, PfsSlave, PfsStatus, PfsUpgrade}
 use Rattle.hm_model.specs.declared.entry.Entry.{Entry}
 use Rattle.hm_model.specs.declared.reply.Reply.{Reply}
-use Rattle.hm_model.specs.declared.reply.Reply.TheVariants.{Synced, MadePfs, Space, Passed, Cut, NoSpace, Media, Damaged, NoMemory, TooManyIntervals, SharedDiffers, BeginDiffers, EndPruned, Finished}
+use Rattle.hm_model.specs.declared.reply.Reply.TheVariants.{Synced, MadePfs, Space, Passed, Cut, NoSpace, Media, Damaged, NoMemory, TooManyIntervals, SharedDiffers, BeginDiffers, EndPruned, Finished, StreamBad, StreamShort, StreamFault}
 use Rattle.hm_model.specs.Volume.{Volume, PseudoFileSystem, system_of}
 use Rattle.hm_model.specs.View.{is_clear}
 use Rattle.hm_model.specs.Sites.{Located, passed_by}
@@ -197,8 +197,13 @@ IsEnding least volume o ending reply = elim reply [
   | TooManyIntervals count ↦ IsTooMany volume o ending count
   | SharedDiffers slave stream ↦ Differ volume o (λ (s : PseudoFileSystem). s.shared) slave stream
   | BeginDiffers slave stream ↦ Differ volume o (λ (s : PseudoFileSystem). s.sync_end) slave.0 stream.0
-  | Damaged at kind ↦ ⊥
-  | other ↦ Unit {0}
+  | Finished ↦ Unit {0}
+  | Media before after ↦ Unit {0}
+  | NoMemory ↦ Unit {0}
+  | StreamBad place ↦ Unit {0}
+  | StreamShort taken ↦ Unit {0}
+  | StreamFault before after ↦ Unit {0}
+  | other ↦ ⊥
 ]
 
 -- the reply of an event, by its call

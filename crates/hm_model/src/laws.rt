@@ -20,7 +20,8 @@ pub use passes::{
     streams_bring_their_masters_trees,
 };
 pub use refusals::{
-    checks_give_refusals, refused_calls_change_nothing, refused_endings_keep_all_but_sources,
+    accepted_calls_land, checks_give_refusals, refused_calls_change_nothing,
+    refused_endings_keep_all_but_sources,
 };
 pub use retentions::{cuts_keep_what_is_listed, joins_keep_both, walks_find_what_is_kept};
 pub use served::served_ids_rise;

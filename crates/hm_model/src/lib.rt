@@ -31,7 +31,7 @@ mod walk;
 pub use command::Command;
 pub use entry::Entry;
 pub use laws::{
-    after_goes_on, beginnings_are_legal, calls_change_one_pfs, calls_leave_the_past,
+    accepted_calls_land, after_goes_on, beginnings_are_legal, calls_change_one_pfs, calls_leave_the_past,
     checks_give_refusals, copies_bring_the_masters_trees, cuts_keep_what_is_listed,
     ids_come_before_names, joins_keep_both, legal_goes_on, legal_ids_rise,
     masters_have_what_was_done, masters_stay_masters, new_numbers_are_unused, no_part_goes_nowhere,

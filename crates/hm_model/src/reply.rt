@@ -118,7 +118,7 @@ pub enum Reply {
     /// `damaged AT K`: the bytes there break their grammar, by the rule with this number.
     Damaged {
         at: HOff,
-        kind: u32,
+        kind: u8,
     },
     /// `no memory`: an allocation was refused.
     NoMemory,

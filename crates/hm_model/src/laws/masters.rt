@@ -2,7 +2,6 @@
 ghost use Rattle.std.specs.Prelude.{◌≡◌, ℕ, ◌≤◌, List, Some};
 ghost use Rattle.hm_model.specs.After.{Event, State, after_event};
 ghost use Rattle.hm_model.specs.Laws.{
-  AreClear,
   BeginBy,
   IsMasterThroughout,
   IsUnfed,
@@ -20,12 +19,10 @@ pub fn only_passes_and_upgrades_rewrite()
         at (after_event state event).volume pfs id ≡ at state.volume pfs id }
 {}
 
-/// In a legal history in which no walk enters a PFS whose trees are not certain, a master stays one,
-/// and no pass into it and no upgrade of it is ever open.
+/// In a legal history a master stays one, and no pass into it and no upgrade of it is ever open.
 pub fn masters_stay_masters()
     ensures { (run : Setting) (events : List Event) (pfs : ℕ) (s : PseudoFileSystem) →
-        IsLegal run events → AreClear run events →
-        system_of run.opening pfs ≡ Some s → s.role ≡ Master →
+        IsLegal run events → system_of run.opening pfs ≡ Some s → s.role ≡ Master →
         IsMasterThroughout run events pfs }
 {}
 
