@@ -1,5 +1,5 @@
 -- The ending of a pass into a slave that came to its end.
-use Rattle.std.proofs.Common.{◌≡◌, ◌≢◌, ℕ, ◌<◌, ◌≤◌, true, false, List, refl, ◌∙◌, ap, sym}
+use Rattle.std.proofs.Common.{◌≡◌, ◌≢◌, ℕ, ◌<◌, ◌≤◌, true, false, List, [], refl, ◌∙◌, ap, sym}
 use Rattle.std.specs.Prelude.{Option, Some, None, if◌then◌else◌}
 use Rattle.std.specs.Option.{option_map_or}
 use Rattle.hm_types.specs.declared.id.Id.{Id}
@@ -8,11 +8,11 @@ use Rattle.hm_model.specs.declared.command.Command.TheVariants.{End, MirrorCopy,
 use Rattle.hm_model.specs.declared.reply.Reply.{Reply}
 use Rattle.hm_model.specs.declared.reply.Reply.TheVariants.{Passed}
 use Rattle.hm_types.specs.declared.text.Text.{Text}
-use Rattle.hm_model.specs.Foreign.{Feed, ForeignMaster, brought}
+use Rattle.hm_model.specs.Foreign.{Feed, ForeignMaster, StreamEnd, brought}
 use Rattle.hm_model.specs.After.{Event, Given, OpenCall, State, accepted_effect, after_event, after_pass, call_of, end_effect, end_of_pass, end_of_upgrade, end_of_write, ended, given_by, given_in, no_hash, nothing_given, origin_of}
 use Rattle.hm_model.specs.Call.{Call}
 use Rattle.hm_model.specs.Laws.{AreRising, EndsPass, merges, versions_of}
-use Rattle.hm_model.specs.Legal.{IsAllowed, IsEnding, IsPassed, MayFollow, Setting, begin_of, call_after, enters_unclear, floor_after, state_after}
+use Rattle.hm_model.specs.Legal.{IsAllowed, IsBrought, IsEnding, IsPassed, MayFollow, Setting, begin_of, call_after, enters_unclear, floor_after, state_after}
 use Rattle.hm_model.specs.Reply.{is_refusal}
 use Rattle.hm_model.specs.Tree.{no_tree}
 use Rattle.hm_model.specs.Volume.{PseudoFileSystem, Volume, as_of, at, system_of}
@@ -78,15 +78,28 @@ at-after_pass state event o begin end slave id ends found rise after by =
 ends_clear : (call : Call) (opening : Id) → call.command ≡ End opening → enters_unclear call ≡ false
 ends_clear call opening is = rw is refl
 
--- the begin id is the sync end, or the id that was given
-pub begin_legal : (run : Setting) (before : List Event) (event : Event) (o : OpenCall) (begin end : Id) → MayFollow run before event → EndsPass (state_after run before) event o begin end → begin.0 ≡ begin_of (state_after run before).volume o
-begin_legal run before event o begin end follows ends =
+-- the ids of a pass that ends in a legal history: it begins at the sync end, or at the id that was given
+pub passed_legal : (run : Setting) (before : List Event) (event : Event) (o : OpenCall) (begin end : Id) → MayFollow run before event → EndsPass (state_after run before) event o begin end → IsPassed (state_after run before).volume o event.entry.id.0 begin.0 end.0
+passed_legal run before event o begin end follows ends =
     let allowed : IsAllowed run before event = follows.allowed (ends_clear (call_after run before event) ends.opening ends.call) in
     let ended = rw ends.call at allowed in
     let same : ended.0 ≡ o = cc in
     let ending : IsEnding (floor_after run before) (state_after run before).volume o event.entry.id.0 event.entry.reply = rw same at ended.2 in
-    let passed : IsPassed (state_after run before).volume o event.entry.id.0 begin.0 end.0 = rw ends.reply at ending in
-    passed.begins
+    rw ends.reply at ending
+
+pub begin_legal : (run : Setting) (before : List Event) (event : Event) (o : OpenCall) (begin end : Id) → MayFollow run before event → EndsPass (state_after run before) event o begin end → begin.0 ≡ begin_of (state_after run before).volume o
+begin_legal run before event o begin end follows ends = (passed_legal run before event o begin end follows ends).begins
+
+-- what the stream of such a pass brought
+pub brought_legal : (run : Setting) (before : List Event) (event : Event) (o : OpenCall) (begin end : Id) (into : Text) → MayFollow run before event → EndsPass (state_after run before) event o begin end → o.command ≡ MirrorWrite into → IsBrought o.stream end.0
+brought_legal run before event o begin end into follows ends command =
+    let passed : IsPassed (state_after run before).volume o event.entry.id.0 begin.0 end.0 = passed_legal run before event o begin end follows ends in
+    (rw command at passed.ends).0
+
+pub retention_brought : (volume : Volume) (o : OpenCall) (into : Text) (t : StreamEnd) → o.command ≡ MirrorWrite into → o.stream.term ≡ Some t → (given_in volume o).retention ≡ t.retention
+retention_brought volume o into t command taken =
+    let given : (given_in volume o).retention ≡ brought o.stream = rw command refl in
+    given ∙ ap (λ (x : Option StreamEnd). option_map_or (λ (u : StreamEnd). u.retention) x []) taken
 
 -- what a copy is given: its master's versions
 pub given_copy : (volume : Volume) (o : OpenCall) (from into : Text) (limit : Option ℕ) → o.command ≡ MirrorCopy from into limit → given_in volume o ≡ given_by volume o.master

@@ -1,14 +1,24 @@
 // Laws of passes into a slave.
-ghost use Rattle.std.specs.Prelude.{◌≡◌, ◌≢◌, ℕ, ◌<◌, ◌≤◌, List, Option, Some};
+ghost use Rattle.std.specs.Prelude.{◌≡◌, ◌≢◌, ℕ, ◌-◌, ◌^◌, ◌<◌, ◌≤◌, List, Option, Some, min};
 ghost use Rattle.hm_types.specs.declared.id.Id.{Id};
+ghost use Rattle.hm_types.specs.declared.limits.TheConstants.{MOST_INTERVALS};
 ghost use Rattle.hm_types.specs.declared.text.Text.{Text};
 ghost use Rattle.hm_model.specs.declared.command.Command.TheVariants.{MirrorCopy, MirrorWrite};
 ghost use Rattle.hm_model.specs.After.{Event, OpenCall, State, after_event, given_in};
 ghost use Rattle.hm_model.specs.Cut.{join};
-ghost use Rattle.hm_model.specs.Foreign.{ForeignMaster};
+ghost use Rattle.hm_model.specs.Foreign.{ForeignMaster, StreamEnd};
 ghost use Rattle.hm_model.specs.Laws.{AreRising, EndsPass, versions_of};
-ghost use Rattle.hm_model.specs.Legal.{MayFollow, Setting, begin_of, state_after};
-ghost use Rattle.hm_model.specs.Volume.{PseudoFileSystem, at, system_of};
+ghost use Rattle.hm_model.specs.Legal.{
+  IsPassEnd,
+  IsPassed,
+  IsTooMany,
+  MayFollow,
+  Setting,
+  begin_of,
+  gained_count,
+  state_after,
+};
+ghost use Rattle.hm_model.specs.Volume.{PseudoFileSystem, Volume, at, system_of};
 
 /// A pass that comes to its end leaves what the slave showed as of each id up to the pass's begin
 /// id, which in a legal history is the slave's sync end before it. It changes no other PFS.
@@ -58,4 +68,30 @@ pub fn streams_bring_their_masters_trees()
         system_of state.volume o.pfs ≡ Some slave → o.stream.master ≡ Some foreign →
         AreRising (versions_of foreign.volume foreign.master) → begin.0 < id → id ≤ end.0 →
         at (after_event state event).volume o.pfs id ≡ at foreign.volume foreign.master id }
+{}
+
+/// In a legal history a pass of `mirror-write` joins to the slave's retention what the end of its
+/// stream brought, also where nobody answers for the stream.
+pub fn streams_join_what_their_end_brought()
+    ensures { (run : Setting) (before : List Event) (event : Event) (o : OpenCall) (begin end : Id)
+        (into : Text) (slave : PseudoFileSystem) → MayFollow run before event →
+        EndsPass (state_after run before) event o begin end → o.command ≡ MirrorWrite into →
+        system_of (state_after run before).volume o.pfs ≡ Some slave →
+        (t : StreamEnd) × (after : PseudoFileSystem)
+        × (o.stream.term ≡ Some t) × (t.end ≡ end.0)
+        × (system_of (after_event (state_after run before) event).volume o.pfs ≡ Some after)
+        × (after.retention ≡ join slave.retention t.retention begin.0 end.0) }
+{}
+
+/// A pass that reads its master, or its stream, to the end has passed where the slave's retention gets
+/// no more than 4,096 intervals, and else answers how many there would be.
+pub fn passes_fit_or_have_too_many_intervals()
+    ensures fits { (volume : Volume) (o : OpenCall) (ending end : ℕ) →
+        IsPassEnd volume o ending end → gained_count volume o end ≤ MOST_INTERVALS →
+        IsPassed volume o ending (begin_of volume o) end }
+    ensures too_many { (volume : Volume) (o : OpenCall) (ending end : ℕ) →
+        IsPassEnd volume o ending end → MOST_INTERVALS < gained_count volume o end →
+        IsTooMany volume o ending (min (gained_count volume o end) (2 ^ 32 - 1)) }
+    ensures not_both { (volume : Volume) (o : OpenCall) (ending begin end : ℕ) →
+        IsPassed volume o ending begin end → MOST_INTERVALS < gained_count volume o end → ⊥ }
 {}

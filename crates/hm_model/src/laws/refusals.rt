@@ -7,7 +7,6 @@ ghost use Rattle.hm_model.specs.Call.{Call};
 ghost use Rattle.hm_model.specs.Caused.{is_ending};
 ghost use Rattle.hm_model.specs.Due.{refusal};
 ghost use Rattle.hm_model.specs.Laws.{IsButOrigin};
-ghost use Rattle.hm_model.specs.Legal.{IsReply, Lands};
 ghost use Rattle.hm_model.specs.Reply.{is_refusal};
 ghost use Rattle.hm_model.specs.Volume.{at};
 
@@ -15,13 +14,6 @@ ghost use Rattle.hm_model.specs.Volume.{at};
 pub fn checks_give_refusals()
     ensures { (call : Call) (reply : Reply) →
         refusal call ≡ Some reply → is_refusal reply ≡ true }
-{}
-
-/// Where all trees are certain, the reply of an accepted call says already that its walks end, no tree
-/// call's in a slave, that the records of PFS allow it, and that the PFS it names is the one it adds.
-pub fn accepted_calls_land()
-    ensures { (least : ℕ) (call : Call) (reply : Reply) →
-        IsReply least call reply → is_refusal reply ≡ false → Lands call reply }
 {}
 
 /// A refused call leaves every PFS as it was, so its retention and its trees as of every id, and

@@ -1,5 +1,5 @@
 use Rattle.hm_model.proofs.LandLemmas.{lands_accepted}
-use Rattle.hm_model.proofs.laws.refusals.accepted_calls_land.Goals as goal
+use Rattle.hm_model.proofs.laws.landing.accepted_calls_land.Goals as goal
 
 pub returns : goal.returns
 returns c = lands_accepted
