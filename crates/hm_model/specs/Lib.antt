@@ -30,5 +30,5 @@ pub mod Forms
 pub mod Script
 pub mod Out
 pub mod Laws
-pub mod Examples
+pub mod SingleCalls
 pub mod Served

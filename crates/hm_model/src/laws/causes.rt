@@ -1,7 +1,7 @@
 // Laws of causes: what is asked of an entry, whatever a disk holds.
 ghost use Rattle.std.specs.Prelude.{◌≡◌, ℕ};
 ghost use Rattle.hm_model.specs.Caused.{HasCause, known_at};
-ghost use Rattle.hm_model.specs.Examples.{bad_at};
+ghost use Rattle.hm_model.specs.SingleCalls.{bad_at};
 ghost use Rattle.hm_model.specs.Legal.{no_counts};
 
 /// A path is bad where its word is: of a word that does not begin with a slash, its first byte is

@@ -5,7 +5,7 @@ ghost use Rattle.hm_model.specs.After.{Event};
 ghost use Rattle.hm_model.specs.Call.{Call, all_located};
 ghost use Rattle.hm_model.specs.declared.reply.Reply.{Reply};
 ghost use Rattle.hm_model.specs.declared.reply.Reply.TheVariants.{Done};
-ghost use Rattle.hm_model.specs.Examples.{a_root, touching};
+ghost use Rattle.hm_model.specs.SingleCalls.{a_root, touching};
 ghost use Rattle.hm_model.specs.Legal.{IsReply, Lands, MayFollow, Setting, call_after};
 ghost use Rattle.hm_model.specs.Reply.{is_refusal};
 ghost use Rattle.hm_model.specs.Sites.{Nowhere};
