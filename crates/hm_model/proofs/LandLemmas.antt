@@ -164,4 +164,3 @@ lands_accepted least call reply is accepted =
       fits = all.intervals;
       named = reply_names least call reply call.command (accepted_reply least call reply is accepted none);
     }
-

@@ -3,6 +3,7 @@ use Rattle.std.specs.Prelude.{◌≡◌, ℕ, ◌+◌, ◌-◌, ◌*◌, ◌/◌
 use Rattle.std.specs.Bool.{nat_lt}
 use Rattle.std.specs.List.{Contains, list_any}
 use Rattle.std.specs.Option.{option_map_or}
+use Rattle.hm_types.specs.declared.zone.TheConstants.{TREE_ZONE, META_ZONE, LARGE_ZONE, SMALL_ZONE}
 use Rattle.hm_model.specs.declared.command.Command.{Command}
 use Rattle.hm_model.specs.declared.command.Command.TheVariants.{Mkdir, Touch, Symlink, Snapshot, Ln, Mv, Write, Fill, Truncate, Rm, Prune, PruneAll, Reblock, PfsMaster, PfsSlave, PfsUpgrade, MirrorWrite, MirrorCopy, Rmdir, Ls, Cat, Stat, Readlink, Sync, Synctid, PfsStatus, MirrorRead, Df, Progress, End}
 use Rattle.hm_model.specs.declared.entry.Entry.{Entry}
@@ -38,15 +39,12 @@ stays_put call =
     option_map_or (λ (there : Object). there.number.0 == (first_site call).at.object.0)
     (standing call (second_site call)) false
 
--- the zones that hold the tree, all else that is not a file's bytes, and the bytes of files, long and short
-abbrev pub tree_zone : ℕ
-tree_zone = 8
-
+-- the zones of a call that writes names, objects or records, and of one that writes bytes of files besides
 abbrev pub names_zones : List ℕ
-names_zones = tree_zone ∷ 9 ∷ []
+names_zones = TREE_ZONE ∷ META_ZONE ∷ []
 
 abbrev pub bytes_zones : List ℕ
-bytes_zones = tree_zone ∷ 9 ∷ 10 ∷ 11 ∷ []
+bytes_zones = TREE_ZONE ∷ META_ZONE ∷ LARGE_ZONE ∷ SMALL_ZONE ∷ []
 
 -- the zones in which a single call or an opening needs room, none where it takes none
 abbrev pub zones_of : Call → List ℕ

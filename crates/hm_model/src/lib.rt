@@ -33,14 +33,15 @@ pub use entry::Entry;
 pub use laws::{
     accepted_calls_end_their_walks, accepted_calls_land, after_goes_on,
     bad_paths_are_told_by_their_words, beginnings_are_legal, calls_change_one_pfs,
-    calls_land_under_the_trees_that_they_saw, calls_leave_the_past,
-    checks_give_refusals, copies_bring_the_masters_trees, cuts_keep_what_is_listed,
-    ids_come_before_names, joins_keep_both, legal_goes_on, legal_ids_rise, lists_follow_themselves,
-    masters_without_elements_have_streams,
-    masters_have_what_was_done, masters_stay_masters, new_numbers_are_unused, no_part_goes_nowhere,
-    only_passes_and_upgrades_rewrite, passes_fit_or_have_too_many_intervals, passes_keep_what_was_shown, passes_set_the_sync_end,
+    calls_land_under_the_trees_that_they_saw, calls_leave_the_past, checks_give_refusals,
+    copies_bring_the_masters_trees, cuts_keep_what_is_listed, ids_come_before_names,
+    joins_keep_both, legal_goes_on, legal_ids_rise, lists_follow_themselves,
+    masters_have_what_was_done, masters_stay_masters, masters_without_elements_have_streams,
+    new_numbers_are_unused, no_part_goes_nowhere, only_passes_and_upgrades_rewrite,
+    passes_fit_or_have_too_many_intervals, passes_keep_what_was_shown, passes_set_the_sync_end,
     refused_calls_change_nothing, refused_endings_keep_all_but_sources, served_ids_rise,
-    slaves_show_their_masters_trees, streams_bring_their_masters_trees, streams_join_what_their_end_brought, walks_find_what_is_kept,
+    slaves_show_their_masters_trees, streams_bring_their_masters_trees,
+    streams_join_what_their_end_brought, walks_find_what_is_kept,
 };
 pub use line::Line;
 pub use object::{Content, Kind, Object, Triple};
