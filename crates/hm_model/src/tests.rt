@@ -252,6 +252,23 @@ fn moves_keep_the_object_and_drop_the_old_name(rt: HostRuntime) -> Result<(), Fa
 }
 
 #[test]
+fn a_name_that_leads_to_no_object_is_in_the_way(rt: HostRuntime) -> Result<(), Fail> {
+    let alloc = rt.alloc();
+    let tree = Tree::root(alloc)?;
+    let first = command(alloc, "touch", "/a", "", 0, 0)?;
+    let second = command(alloc, "touch", "/b", "", 0, 0)?;
+    let (_, tree) = answered(alloc, tree, &first, 2)?;
+    let (_, mut tree) = answered(alloc, tree, &second, 3)?;
+    let _object = tree.objects.pop();
+    let moved = command(alloc, "mv", "/a", "/b", 0, 0)?;
+    let (line, tree) = answered(alloc, tree, &moved, 4)?;
+    assert_eq!(rt; line.as_slice(), b"exists".as_slice());
+    let (line, _) = answered(alloc, tree, &second, 5)?;
+    assert_eq!(rt; line.as_slice(), b"exists".as_slice());
+    Ok(())
+}
+
+#[test]
 fn a_snapshot_names_the_id_before_its_own(rt: HostRuntime) -> Result<(), Fail> {
     let wrong = first_wrong(
         rt.alloc(),
