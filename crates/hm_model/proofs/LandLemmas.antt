@@ -95,7 +95,9 @@ answer_names : (call : Call) → NamesAdded call (answer call)
 answer_names call = by call.command
   where
     seen : NamesAdded call (option_map_or (answer_at call (call.view (first_site call).at.pfs (first_site call).at.when)) (site_object call (first_site call)) NotFound)
-    seen = of_option (NamesAdded call) (answer_at call (call.view (first_site call).at.pfs (first_site call).at.when)) (site_object call (first_site call)) NotFound (looked_names call (call.view (first_site call).at.pfs (first_site call).at.when)) tt
+    seen =
+        let tree : FileTree = call.view (first_site call).at.pfs (first_site call).at.when in
+        of_option (NamesAdded call) (answer_at call tree) (site_object call (first_site call)) NotFound (looked_names call tree) tt
 
     by : (command : Command) → NamesAdded call (elim command [
       | PfsStatus path ↦ option_map_or record_of (site_system call (first_site call)) NotFound
