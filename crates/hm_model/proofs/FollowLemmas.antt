@@ -15,7 +15,7 @@ use Rattle.hm_model.proofs.TwinHistoryLemmas.{IsTwin, Twin-history}
 at_found : (volume : Volume) (pfs id : ℕ) (s : PseudoFileSystem) → system_of volume pfs ≡ Some s → at volume pfs id ≡ as_of id no_tree s.versions
 at_found volume pfs id s found = at-versions volume pfs id ∙ ap (λ (x : Option PseudoFileSystem). as_of id no_tree (versions_in x)) found
 
-retention_found : (volume : Volume) (pfs : ℕ) (s : PseudoFileSystem) → system_of volume pfs ≡ Some s → retention_of volume pfs ≡ s.retention
+pub retention_found : (volume : Volume) (pfs : ℕ) (s : PseudoFileSystem) → system_of volume pfs ≡ Some s → retention_of volume pfs ≡ s.retention
 retention_found volume pfs s found = ap (λ (x : Option PseudoFileSystem). option_map_or (λ (y : PseudoFileSystem). y.retention) x []) found
 
 -- at the start
@@ -45,7 +45,7 @@ twin_opening run slave m steady rising begun follows =
     }
 
 -- and at the end
-twin_follows : (state : State) (slave m : ℕ) → IsTwin state slave m → FollowsMaster state.volume slave m
+pub twin_follows : (state : State) (slave m : ℕ) → IsTwin state slave m → FollowsMaster state.volume slave m
 twin_follows state slave m twin = record {
   own = twin.own;
   found = twin.found;

@@ -34,3 +34,16 @@ pub mod TwinLemmas
 pub mod VersionLemmas
 pub mod WitnessLemmas
 pub mod WalkLemmas
+pub mod BeginningLemmas
+pub mod LinkLemmas
+pub mod LookLemmas
+pub mod NewPfsLemmas
+pub mod KeptPastLemmas
+pub mod ReadingLemmas
+pub mod StepByStepLemmas
+pub mod ExampleLemmas
+pub mod ThereLemmas
+pub mod OpenLemmas
+pub mod MadeLemmas
+pub mod SmallLemmas
+pub mod OpenEndLemmas

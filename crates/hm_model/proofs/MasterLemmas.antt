@@ -59,14 +59,14 @@ past_stays state known (e ∷ es) pfs id same follow steady drawn =
     ∙ at-event state e pfs id (steady [] (e ∷ es) refl).unfed drawn
 
 -- no later event has an id that was drawn
-none_to : (known : Known) (es : List Event) (id : ℕ) → IdsFollow known es → id ≤ known.last → events_to id es ≡ []
+pub none_to : (known : Known) (es : List Event) (id : ℕ) → IdsFollow known es → id ≤ known.last → events_to id es ≡ []
 none_to known [] id follow drawn = refl
 none_to known (e ∷ es) id follow drawn =
     let no : nat_le e.entry.id.0 id ≡ false = grind (arith, nat_tests, follow.0) in
     rw no (none_to (known_after_entry known e.entry) es id follow.1 (omega (arith, follow.0)))
 
 -- the tree as of an id is the one shown after the events up to it
-shown_then : (state : State) (known : Known) (es : List Event) (pfs id : ℕ) → known.last ≡ state.volume.last → IdsFollow known es → IsSteady state es pfs → BeginBy state.volume.last (versions_of state.volume pfs) → BeginBy id (versions_of state.volume pfs) → at (after_events state es).volume pfs id ≡ shown (after_events state (events_to id es)).volume pfs
+pub shown_then : (state : State) (known : Known) (es : List Event) (pfs id : ℕ) → known.last ≡ state.volume.last → IdsFollow known es → IsSteady state es pfs → BeginBy state.volume.last (versions_of state.volume pfs) → BeginBy id (versions_of state.volume pfs) → at (after_events state es).volume pfs id ≡ shown (after_events state (events_to id es)).volume pfs
 shown_then state known [] pfs id same follow steady by_last by_id = shown_now state pfs id (steady [] [] refl) by_last by_id
 shown_then state known (e ∷ es) pfs id same follow steady by_last by_id = elim (less_or_not id e.entry.id.0) [
   | inl less ↦

@@ -27,7 +27,7 @@ as_of-risen t least tree (v ∷ vs) rise later =
     rw no (as_of-risen t v.0 tree vs rise.1 (omega (arith, rise.0)))
 
 -- versions that begin after an id may be left out
-as_of-to : (t begin : ℕ) (tree : FileTree) (versions : List (ℕ × FileTree)) → t ≤ begin → as_of t tree (versions_to begin versions) ≡ as_of t tree versions
+pub as_of-to : (t begin : ℕ) (tree : FileTree) (versions : List (ℕ × FileTree)) → t ≤ begin → as_of t tree (versions_to begin versions) ≡ as_of t tree versions
 as_of-to t begin tree [] by = refl
 as_of-to t begin tree (v ∷ vs) by = elim (less_or_not begin v.0) [
   | inl later ↦

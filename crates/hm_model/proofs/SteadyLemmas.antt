@@ -40,7 +40,7 @@ opens_other : (state after : State) (call : Call) (pfs : ℕ) (command : Command
 opens_other state after call pfs command is other opened =
     inr (new_call state call pfs pfs no_feed, opened, refl, λ writes. absurd (let no_way : rewrites call.command ≡ false = ap rewrites is ∙ other in cc))
 
-opened_at : (state : State) (call : Call) (command : Command) → call.command ≡ command →
+pub opened_at : (state : State) (call : Call) (command : Command) → call.command ≡ command →
     OpenedAt state call (elim command [
       | Prune path ↦ on_volume (with_opened state call (first_site call).at.pfs (first_site call).at.pfs no_feed)
           (of_pfs state.volume (first_site call).at.pfs (λ s. retaining (pruned s.retention (kept_ids call)) s))
@@ -72,7 +72,7 @@ opened_at state call other is = by (is_tree_call call.command)
     by false = inl refl
 
 -- where paths lead does not hang on the hash of names
-same_sites : (call : Call) (hash : List ℕ → ℕ) (uses : List (Use × List ℕ)) (paths : List Parsed) → each_located (record call { hash = hash }) uses paths ≡ each_located call uses paths
+pub same_sites : (call : Call) (hash : List ℕ → ℕ) (uses : List (Use × List ℕ)) (paths : List Parsed) → each_located (record call { hash = hash }) uses paths ≡ each_located call uses paths
 same_sites call hash [] paths = refl
 same_sites call hash (u ∷ uses) [] = refl
 same_sites call hash (u ∷ uses) (Parts parts ∷ paths) = rw (same_sites call hash uses paths) refl
@@ -123,7 +123,7 @@ steady_accepted state event pfs none steady =
     record { system = u.0; found = u.1; master = u.2.role ∙ steady.master; unfed = unfed }
 
 -- over an event
-steady_event : (run : Setting) (before : List Event) (event : Event) (pfs : ℕ) → MayFollow run before event → IsSteadyMaster (state_after run before) pfs → IsSteadyMaster (after_event (state_after run before) event) pfs
+pub steady_event : (run : Setting) (before : List Event) (event : Event) (pfs : ℕ) → MayFollow run before event → IsSteadyMaster (state_after run before) pfs → IsSteadyMaster (after_event (state_after run before) event) pfs
 steady_event run before event pfs follows steady = last (effect (state_after run before) event) (by (is_ending event.entry.call) refl)
   where
     state : State
@@ -152,7 +152,7 @@ steady_event run before event pfs follows steady = last (effect (state_after run
         subst (λ (s : State). IsSteadyMaster s pfs) (sym goes) (call_by is (is_refusal event.entry.reply) refl)
 
 -- over a history
-steady_history : (run : Setting) (before es : List Event) (pfs : ℕ) → IsLegal run (before ++ es) → IsSteadyMaster (state_after run before) pfs → IsSteadyMaster (state_after run (before ++ es)) pfs
+pub steady_history : (run : Setting) (before es : List Event) (pfs : ℕ) → IsLegal run (before ++ es) → IsSteadyMaster (state_after run before) pfs → IsSteadyMaster (state_after run (before ++ es)) pfs
 steady_history run before [] pfs legal steady = rw append-nil steady
 steady_history run before (e ∷ es) pfs legal steady =
     let follows : MayFollow run before e = legal before e es refl in

@@ -43,7 +43,7 @@ pub record Ended (last : ℕ) (volume : Volume) (slave m : ℕ) (other : PseudoF
   pub follows : own.role ≡ Slave → Follows m own other own.origin
 
 -- by its kind, what an ending does
-end_by : (P : Volume → Type 0) (volume : Volume) (reply : Reply) (o : OpenCall) (command : Command) → o.command ≡ command → P volume →
+pub end_by : (P : Volume → Type 0) (volume : Volume) (reply : Reply) (o : OpenCall) (command : Command) → o.command ≡ command → P volume →
     ((from into : Text) (limit : Option ℕ) → o.command ≡ MirrorCopy from into limit → P (end_of_pass volume o reply)) →
     ((into : Text) → o.command ≡ MirrorWrite into → P (end_of_write volume o reply)) →
     ((path : Text) → o.command ≡ PfsUpgrade path → P (end_of_upgrade volume o reply)) →
@@ -59,11 +59,11 @@ end_by P volume reply o (PfsUpgrade path) is same copy write upgrade = upgrade p
 end_by P volume reply o command is same copy write upgrade = same
 
 -- by its reply, what the end of a pass does
-pass_by : (P : Volume → Type 0) (volume : Volume) (o : OpenCall) (reply : Reply) → P volume → ((begin end : Id) → reply ≡ Passed begin end → P (of_pfs volume o.pfs (after_pass (given_in volume o) begin.0 end.0))) → P (end_of_pass volume o reply)
+pub pass_by : (P : Volume → Type 0) (volume : Volume) (o : OpenCall) (reply : Reply) → P volume → ((begin end : Id) → reply ≡ Passed begin end → P (of_pfs volume o.pfs (after_pass (given_in volume o) begin.0 end.0))) → P (end_of_pass volume o reply)
 pass_by P volume o (Passed begin end) same passed = passed begin end refl
 pass_by P volume o reply same passed = same
 
-upgrade_by : (P : Volume → Type 0) (volume : Volume) (o : OpenCall) (reply : Reply) → P volume → P (of_pfs volume o.pfs upgraded) → P (end_of_upgrade volume o reply)
+pub upgrade_by : (P : Volume → Type 0) (volume : Volume) (o : OpenCall) (reply : Reply) → P volume → P (of_pfs volume o.pfs upgraded) → P (end_of_upgrade volume o reply)
 upgrade_by P volume o Finished same finished = finished
 upgrade_by P volume o reply same finished = same
 

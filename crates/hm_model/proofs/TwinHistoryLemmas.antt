@@ -11,7 +11,7 @@ use Rattle.hm_model.specs.declared.reply.Reply.{Reply}
 use Rattle.hm_model.specs.After.{Event, OpenCall, State, accepted_effect, after_event, call_of, effect, end_effect, end_of_pass, end_of_upgrade, end_of_write, ended, last_after, no_hash, opened_with, opening_state}
 use Rattle.hm_model.specs.Caused.{IsPossible, Known, early_refusal, is_ending, known_after, known_after_entry, known_at, possible_for}
 use Rattle.hm_model.specs.Due.{is_pass}
-use Rattle.hm_model.specs.Laws.{EndsPass, IsMasterThroughout, IsUnfed, is_rewriter}
+use Rattle.hm_model.specs.Laws.{EndsPass, IsMasterFrom, IsUnfed, is_rewriter}
 use Rattle.hm_model.specs.Legal.{IsLegal, MayFollow, Setting, begin_of, state_after}
 use Rattle.hm_model.specs.Reply.{is_refusal}
 use Rattle.hm_model.specs.Volume.{PseudoFileSystem, Volume}
@@ -145,18 +145,22 @@ Twin-event known state event numbers slave m agrees id early unfed begins twin =
 abbrev pub IsTwin : State → ℕ → ℕ → Type 0
 IsTwin state slave m = Twin state.volume.last state.volume state.opened slave m
 
--- over a history
-pub Twin-history : (run : Setting) (before es : List Event) (slave m : ℕ) → IsLegal run (before ++ es) → IsMasterThroughout run (before ++ es) m → Agrees (known_after (known_at run.opening.last run.start) before) (state_after run before) → IsTwin (state_after run before) slave m → IsTwin (state_after run (before ++ es)) slave m
+-- a master later on
+pub master_later : (run : Setting) (before : List Event) (e : Event) (es : List Event) (m : ℕ) → IsMasterFrom run before (e ∷ es) m → IsMasterFrom run (before ++ e ∷ []) es m
+master_later run before e es m master some rest is = rw append_assoc (master (e ∷ some) rest (ap (λ (xs : List Event). e ∷ xs) is))
+
+-- over a history, from the end of a beginning of it on
+pub Twin-history : (run : Setting) (before es : List Event) (slave m : ℕ) → IsLegal run (before ++ es) → IsMasterFrom run before es m → Agrees (known_after (known_at run.opening.last run.start) before) (state_after run before) → IsTwin (state_after run before) slave m → IsTwin (state_after run (before ++ es)) slave m
 Twin-history run before [] slave m legal master agrees twin = rw append-nil twin
 Twin-history run before (e ∷ es) slave m legal master agrees twin =
     let known : Known = known_after (known_at run.opening.last run.start) before in
     let state : State = state_after run before in
     let follows : MayFollow run before e = legal before e es refl in
-    let unfed : IsUnfed state m = (master before (e ∷ es) refl).unfed in
+    let unfed : IsUnfed state m = (rw append-nil at (master [] (e ∷ es) refl)).unfed in
     let next : Twin (last_after e.entry) (after_event state e).volume (after_event state e).opened slave m = Twin-event known state e (possible_for known e) slave m agrees follows.caused.id follows.caused.possible unfed (λ o begin end ends. begin_legal run before e o begin end follows ends) twin in
     let also : Agrees (known_after_entry known e.entry) (after_event state e) = Agrees-event known state e agrees follows.caused.id in
     let pushed : state_after run (before ++ e ∷ []) ≡ after_event state e = after_events-push (opening_state run.opening run.foreigners) before e in
     let known_pushed : known_after (known_at run.opening.last run.start) (before ++ e ∷ []) ≡ known_after_entry known e.entry = known_after-push (known_at run.opening.last run.start) before e in
     let together : (before ++ e ∷ []) ++ es ≡ before ++ e ∷ es = append_assoc before (e ∷ []) es in
-    rw (← together) (Twin-history run (before ++ e ∷ []) es slave m (rw together legal) (rw together master)
+    rw (← together) (Twin-history run (before ++ e ∷ []) es slave m (rw together legal) (master_later run before e es m master)
     (rw (pushed, known_pushed) also) (subst (λ (s : State). IsTwin s slave m) (sym pushed) next))

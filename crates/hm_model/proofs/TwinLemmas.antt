@@ -130,7 +130,7 @@ aged_some last s None ages = absurd ages
 aged_some last s (Some u) ages = (u, refl, ages)
 
 -- versions that begin at a later id go on rising
-rise_grown : (least bound id : ℕ) (old more : List (ℕ × FileTree)) → RiseFrom least old → BeginBy bound old → bound ≤ id → least ≤ id → AllByRecursion (λ (v : ℕ × FileTree). v.0 ≡ id) more → RiseFrom least (old ++ more)
+pub rise_grown : (least bound id : ℕ) (old more : List (ℕ × FileTree)) → RiseFrom least old → BeginBy bound old → bound ≤ id → least ≤ id → AllByRecursion (λ (v : ℕ × FileTree). v.0 ≡ id) more → RiseFrom least (old ++ more)
 rise_grown least bound id [] [] rise begin by from all = tt
 rise_grown least bound id [] (v ∷ vs) rise begin by from all = (omega (arith, all.0), rise_grown v.0 bound id [] vs tt tt by (omega (arith, all.0)) all.1)
 rise_grown least bound id (v ∷ vs) more rise begin by from all = (rise.0, rise_grown v.0 bound id vs more rise.1 begin.1 by (omega (arith, begin.0)) all)

@@ -1,17 +1,24 @@
 -- Words in which the laws of the definitions are said.
-use Rattle.std.specs.Prelude.{◌≡◌, ℕ, ◌≤◌, List, [], ◌∷◌, ◌++◌, Bool, true, false, Some, ◌==◌, ◌&&◌, filter}
+use Rattle.std.specs.Prelude.{◌≡◌, ℕ, ◌≤◌, List, [], ◌∷◌, ◌++◌, Bool, true, false, Some, ◌==◌, ◌&&◌, filter, length}
 use Rattle.std.specs.Bool.{nat_le}
 use Rattle.std.specs.List.{AllByRecursion, list_any}
 use Rattle.std.specs.Option.{option_map_or}
 use Rattle.hm_types.specs.declared.id.Id.{Id}
+use Rattle.hm_types.specs.declared.text.Text.{Text}
 use Rattle.hm_types.specs.Intervals.{Keeps}
+use Rattle.hm_retain.specs.Intervals.{IsIntervals}
+use Rattle.hm_types.specs.declared.limits.TheConstants.{MOST_INTERVALS}
 use Rattle.hm_model.specs.declared.command.Command.{Command}
-use Rattle.hm_model.specs.declared.command.Command.TheVariants.{End, MirrorCopy, MirrorWrite, PfsMaster, PfsSlave, PfsUpgrade}
-use Rattle.hm_model.specs.declared.reply.Reply.TheVariants.{Passed}
+use Rattle.hm_model.specs.declared.command.Command.TheVariants.{Cat, Df, End, Ls, MirrorCopy, MirrorWrite, PfsMaster, PfsSlave, PfsStatus, PfsUpgrade, Readlink, Stat, Sync, Synctid}
+use Rattle.hm_model.specs.declared.reply.Reply.TheVariants.{Finished, Passed}
+use Rattle.hm_model.specs.declared.object.Object.{Object}
+use Rattle.hm_model.specs.Reply.{is_refusal}
 use Rattle.hm_model.specs.After.{Event, OpenCall, State, opened_with}
 use Rattle.hm_model.specs.Legal.{Setting, call_after, enters_unclear, state_after}
-use Rattle.hm_model.specs.Tree.{FileTree}
-use Rattle.hm_model.specs.Volume.{PseudoFileSystem, Master, Slave, Nowhere, Local, Volume, at, system_of}
+use Rattle.hm_model.specs.Tree.{FileTree, named_in}
+use Rattle.hm_model.specs.View.{Position, View, object_at}
+use Rattle.hm_model.specs.Walk.{is_directory, linked_in}
+use Rattle.hm_model.specs.Volume.{PseudoFileSystem, Master, Slave, Nowhere, Local, Volume, at, open_end, system_of}
 
 -- the same PFS, but for the source of its elements
 abbrev pub IsButOrigin : PseudoFileSystem → PseudoFileSystem → Type 0
@@ -40,6 +47,19 @@ IsUnfed state pfs = list_any (is_rewriter pfs) state.opened ≡ false
 abbrev pub versions_of : Volume → ℕ → List (ℕ × FileTree)
 versions_of volume pfs = option_map_or (λ (s : PseudoFileSystem). s.versions) (system_of volume pfs) []
 
+-- a PFS with this number is there
+abbrev pub IsThere : Volume → ℕ → Type 0
+IsThere volume pfs = (s : PseudoFileSystem) × (system_of volume pfs ≡ Some s)
+
+-- no retention has more intervals than one may have
+abbrev pub AreSmall : Volume → Type 0
+AreSmall volume = (pfs : ℕ) (s : PseudoFileSystem) → system_of volume pfs ≡ Some s → length s.retention ≤ MOST_INTERVALS
+
+-- the intervals of a retention are maximal, and one of them has an open end
+pub record IsOpenEnded (retention : List (ℕ × ℕ)) : Type 0 where
+  pub intervals : IsIntervals retention
+  pub kept : Keeps retention open_end
+
 -- whether a command makes a PFS
 abbrev pub adds_pfs : Command → Bool
 adds_pfs (PfsMaster path shared) = true
@@ -57,6 +77,28 @@ pub record IsSteadyMaster (state : State) (pfs : ℕ) : Type 0 where
 abbrev pub IsMasterThroughout : Setting → List Event → ℕ → Type 0
 IsMasterThroughout run events pfs =
     (before rest : List Event) → events ≡ before ++ rest → IsSteadyMaster (state_after run before) pfs
+
+-- a PFS is a steady master after the first of these events, and after each beginning of the later ones
+abbrev pub IsMasterFrom : Setting → List Event → List Event → ℕ → Type 0
+IsMasterFrom run before events pfs =
+    (some rest : List Event) → events ≡ some ++ rest → IsSteadyMaster (state_after run (before ++ some)) pfs
+
+-- an event is this call, and it was accepted
+pub record Makes (event : Event) (command : Command) : Type 0 where
+  pub call : event.entry.call ≡ command
+  pub accepted : is_refusal event.entry.reply ≡ false
+
+-- whether a command only looks: it reads, or waits for the disk
+abbrev pub only_looks : Command → Bool
+only_looks (Ls path) = true
+only_looks (Cat path offset count) = true
+only_looks (Stat path) = true
+only_looks (Readlink path) = true
+only_looks (PfsStatus path) = true
+only_looks Sync = true
+only_looks Synctid = true
+only_looks Df = true
+only_looks other = false
 
 -- no walk of a history enters a PFS whose trees are not certain
 abbrev pub AreClear : Setting → List Event → Type 0
@@ -104,3 +146,21 @@ pub record FollowsMaster (volume : Volume) (slave master : ℕ) : Type 0 where
   pub empty : own.role ≡ Slave → own.origin ≡ Nowhere → (id : ℕ) → Keeps own.retention id → ⊥
   pub same : own.role ≡ Slave → own.origin ≡ Local master → (id : ℕ) → id ≤ own.sync_end →
       Keeps own.retention id → Keeps (retention_of volume master) id → at volume slave id ≡ at volume master id
+
+-- Under a name in the directory in hand a link to a PFS stands, at this position.
+pub record NamesLink (view : View) (here : Position) (name : List ℕ) (link : Position) (pfs : ℕ) : Type 0 where
+  pub directory : option_map_or is_directory (object_at view here) false ≡ true
+  pub named : named_in (view here.pfs here.when) here.object name ≡ Some link.object
+  pub beside : link ≡ record here { object = link.object }
+  pub object : Object
+  pub found : object_at view link ≡ Some object
+  pub linked : linked_in object.content ≡ Some pfs
+
+-- an event is the ending of this open call, an upgrade, which came to its end
+pub record EndsUpgrade (state : State) (event : Event) (o : OpenCall) : Type 0 where
+  pub opening : Id
+  pub path : Text
+  pub call : event.entry.call ≡ End opening
+  pub reply : event.entry.reply ≡ Finished
+  pub found : opened_with opening.0 state.opened ≡ Some o
+  pub upgrade : o.command ≡ PfsUpgrade path

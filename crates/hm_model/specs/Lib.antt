@@ -31,4 +31,7 @@ pub mod Script
 pub mod Out
 pub mod Laws
 pub mod SingleCalls
+pub mod Generator
+pub mod Examples
+pub mod ExampleRuns
 pub mod Served

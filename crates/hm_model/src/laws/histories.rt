@@ -1,8 +1,9 @@
 // Laws of histories as they go on.
-ghost use Rattle.std.specs.Prelude.{◌≡◌, ◌↔◌, List, [], ◌∷◌, ◌++◌};
+ghost use Rattle.std.specs.Prelude.{◌≡◌, ◌↔◌, ℕ, List, [], ◌∷◌, ◌++◌};
 ghost use Rattle.hm_model.specs.After.{Event, after, after_event};
 ghost use Rattle.hm_model.specs.Foreign.{Foreigners};
 ghost use Rattle.hm_model.specs.History.{IsHistory};
+ghost use Rattle.hm_model.specs.Laws.{events_to};
 ghost use Rattle.hm_model.specs.Legal.{IsLegal, MayFollow, Setting, entries_of};
 ghost use Rattle.hm_model.specs.Volume.{Volume};
 
@@ -30,4 +31,12 @@ pub fn legal_goes_on()
     ensures { (run : Setting) (events : List Event) (event : Event) →
         (IsLegal run (events ++ event ∷ [])
         ↔ (IsLegal run events × MayFollow run events event)) }
+{}
+
+/// The events of a legal history with ids up to one are a beginning of it, and legal.
+pub fn past_is_a_beginning()
+    ensures begins { (run : Setting) (events : List Event) (id : ℕ) → IsLegal run events →
+        (later : List Event) × (events ≡ events_to id events ++ later) }
+    ensures legal { (run : Setting) (events : List Event) (id : ℕ) → IsLegal run events →
+        IsLegal run (events_to id events) }
 {}
