@@ -33,5 +33,4 @@ pub mod Laws
 pub mod SingleCalls
 pub mod Generator
 pub mod Examples
-pub mod ExampleRuns
 pub mod Served

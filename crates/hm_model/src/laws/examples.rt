@@ -1,7 +1,7 @@
 // Laws of examples: what a run would print is a legal history, entry by entry. So no definition asks for
 // what cannot be.
 ghost use Rattle.std.specs.Prelude.{[], ◌∷◌};
-ghost use Rattle.hm_model.specs.ExampleRuns.{
+ghost use Rattle.hm_model.specs.Examples.{
   a_foreign_stream,
   a_pruned_end,
   a_stream_is_sent,
