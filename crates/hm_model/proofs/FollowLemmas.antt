@@ -12,7 +12,7 @@ use Rattle.hm_model.proofs.SourceLemmas.{Follows}
 use Rattle.hm_model.proofs.TwinHistoryLemmas.{IsTwin, Twin-history}
 
 -- the trees and the retention of a PFS that is found
-at_found : (volume : Volume) (pfs id : ℕ) (s : PseudoFileSystem) → system_of volume pfs ≡ Some s → at volume pfs id ≡ as_of id no_tree s.versions
+pub at_found : (volume : Volume) (pfs id : ℕ) (s : PseudoFileSystem) → system_of volume pfs ≡ Some s → at volume pfs id ≡ as_of id no_tree s.versions
 at_found volume pfs id s found = at-versions volume pfs id ∙ ap (λ (x : Option PseudoFileSystem). as_of id no_tree (versions_in x)) found
 
 pub retention_found : (volume : Volume) (pfs : ℕ) (s : PseudoFileSystem) → system_of volume pfs ≡ Some s → retention_of volume pfs ≡ s.retention

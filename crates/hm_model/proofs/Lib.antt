@@ -47,3 +47,4 @@ pub mod OpenLemmas
 pub mod MadeLemmas
 pub mod SmallLemmas
 pub mod OpenEndLemmas
+pub mod ForeignLemmas

@@ -87,7 +87,7 @@ IsOutside (Foreign k) = Unit {0}
 IsOutside Mixed = Unit {0}
 
 -- of a test's two origins each is one
-either_origin : (P : Origin → Type 0) (test : Bool) (a b : Origin) → P a → P b → P (if test then a else b)
+pub either_origin : (P : Origin → Type 0) (test : Bool) (a b : Origin) → P a → P b → P (if test then a else b)
 either_origin P true a b of_a of_b = of_a
 either_origin P false a b of_a of_b = of_b
 

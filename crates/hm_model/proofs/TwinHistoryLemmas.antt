@@ -31,7 +31,7 @@ none_fed slave m s t [] none = tt
 none_fed slave m s t (o ∷ os) none = (λ is. fed_no_pass o.master m s t o.origin o.command none.0, none_fed slave m s t os none.1)
 
 -- the end of a call that is no pass does nothing
-no_pass_same : (volume : Volume) (reply : Reply) (o : OpenCall) (command : Command) → is_pass command ≡ false →
+pub no_pass_same : (volume : Volume) (reply : Reply) (o : OpenCall) (command : Command) → is_pass command ≡ false →
     (elim command [
       | MirrorCopy master slave limit ↦ end_of_pass volume o reply
       | MirrorWrite path ↦ end_of_write volume o reply

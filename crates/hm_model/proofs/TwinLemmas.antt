@@ -47,7 +47,7 @@ OpenedAs state call after =
     × ((s u : PseudoFileSystem) → system_of state.volume o.pfs ≡ Some s → system_of after.volume o.pfs ≡ Some u → FedNew o.master s u o.origin o.command))
 
 -- the source of a slave that is fed from here on
-fed_origin : (volume : Volume) (pfs : ℕ) (fed : Origin) (s u : PseudoFileSystem) → system_of volume pfs ≡ Some s → system_of (of_pfs volume pfs (with_origin (fed_from (origin_of volume pfs) fed))) pfs ≡ Some u → u.origin ≡ fed_from (origin_of volume pfs) fed
+pub fed_origin : (volume : Volume) (pfs : ℕ) (fed : Origin) (s u : PseudoFileSystem) → system_of volume pfs ≡ Some s → system_of (of_pfs volume pfs (with_origin (fed_from (origin_of volume pfs) fed))) pfs ≡ Some u → u.origin ≡ fed_from (origin_of volume pfs) fed
 fed_origin volume pfs fed s u found after =
     let new : PseudoFileSystem = with_origin (fed_from (origin_of volume pfs) fed) s in
     let is : system_of (of_pfs volume pfs (with_origin (fed_from (origin_of volume pfs) fed))) pfs ≡ Some new =

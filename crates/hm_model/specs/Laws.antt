@@ -1,5 +1,5 @@
 -- Words in which the laws of the definitions are said.
-use Rattle.std.specs.Prelude.{◌≡◌, ℕ, ◌≤◌, List, [], ◌∷◌, ◌++◌, Bool, true, false, Some, ◌==◌, ◌&&◌, filter, length}
+use Rattle.std.specs.Prelude.{◌≡◌, ℕ, ◌<◌, ◌≤◌, List, [], ◌∷◌, ◌++◌, Bool, true, false, Some, ◌==◌, ◌&&◌, filter, length}
 use Rattle.std.specs.Bool.{nat_le}
 use Rattle.std.specs.List.{AllByRecursion, list_any}
 use Rattle.std.specs.Option.{option_map_or}
@@ -13,12 +13,13 @@ use Rattle.hm_model.specs.declared.command.Command.TheVariants.{Cat, Df, End, Ls
 use Rattle.hm_model.specs.declared.reply.Reply.TheVariants.{Finished, Passed}
 use Rattle.hm_model.specs.declared.object.Object.{Object}
 use Rattle.hm_model.specs.Reply.{is_refusal}
+use Rattle.hm_model.specs.Foreign.{Feed, ForeignMaster, StreamEnd}
 use Rattle.hm_model.specs.After.{Event, OpenCall, State, opened_with}
 use Rattle.hm_model.specs.Legal.{Setting, call_after, enters_unclear, state_after}
 use Rattle.hm_model.specs.Tree.{FileTree, named_in}
 use Rattle.hm_model.specs.View.{Position, View, object_at}
 use Rattle.hm_model.specs.Walk.{is_directory, linked_in}
-use Rattle.hm_model.specs.Volume.{PseudoFileSystem, Master, Slave, Nowhere, Local, Volume, at, open_end, system_of}
+use Rattle.hm_model.specs.Volume.{PseudoFileSystem, Master, Slave, Nowhere, Foreign, Local, Volume, at, open_end, system_of}
 
 -- the same PFS, but for the source of its elements
 abbrev pub IsButOrigin : PseudoFileSystem → PseudoFileSystem → Type 0
@@ -164,3 +165,22 @@ pub record EndsUpgrade (state : State) (event : Event) (o : OpenCall) : Type 0 w
   pub reply : event.entry.reply ≡ Finished
   pub found : opened_with opening.0 state.opened ≡ Some o
   pub upgrade : o.command ≡ PfsUpgrade path
+
+-- A feed shows these trees as of these ids, where its stream is from this source: its master has them as of
+-- each such id up to the end of what was read from it, the first ids of its versions do not fall, and the
+-- stream brought no later end id.
+pub record ShowsTrees (source : ℕ) (kept : ℕ → Bool) (trees : ℕ → FileTree) (feed : Feed) : Type 0 where
+  pub rising : (m : ForeignMaster) → feed.master ≡ Some m → m.source ≡ source → AreRising (versions_of m.volume m.master)
+  pub same : (m : ForeignMaster) → feed.master ≡ Some m → m.source ≡ source → (id : ℕ) → kept id ≡ true → id ≤ m.end →
+      at m.volume m.master id ≡ trees id
+  pub ends : (m : ForeignMaster) (t : StreamEnd) → feed.master ≡ Some m → feed.term ≡ Some t → t.end ≤ m.end
+
+-- A slave shows these trees as of these ids up to its sync end, where this foreign source is its only one.
+-- As long as it has no source, it has no sync end. Its sync end was drawn.
+pub record FollowsForeign (volume : Volume) (slave source : ℕ) (kept : ℕ → Bool) (trees : ℕ → FileTree) : Type 0 where
+  pub own : PseudoFileSystem
+  pub found : system_of volume slave ≡ Some own
+  pub drawn : own.sync_end ≤ volume.last
+  pub unfed : own.role ≡ Slave → own.origin ≡ Nowhere → own.sync_end ≡ 0
+  pub same : own.role ≡ Slave → own.origin ≡ Foreign source → (id : ℕ) → kept id ≡ true → 0 < id → id ≤ own.sync_end →
+      at volume slave id ≡ trees id
