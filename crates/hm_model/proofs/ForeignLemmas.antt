@@ -12,27 +12,28 @@ use Rattle.hm_model.specs.declared.command.Command.{Command}
 use Rattle.hm_model.specs.declared.command.Command.TheVariants.{End, MirrorCopy, MirrorRead, MirrorWrite, PfsSlave, PfsUpgrade, Prune, PruneAll, Reblock}
 use Rattle.hm_model.specs.declared.reply.Reply.{Reply}
 use Rattle.hm_model.specs.declared.reply.Reply.TheVariants.{Passed}
-use Rattle.hm_model.specs.After.{Event, OpenCall, State, accepted_effect, after_event, after_pass, call_of, effect, end_effect, end_id, end_of_pass, end_of_upgrade, end_of_write, ended, fed_from, feeding, given_in, is_origin, last_after, later_streams, next_stream, no_hash, nothing_merged, of_pfs, on_volume, opened_with, opening_state, origin_of, present_only, retaining, stream_origin, upgraded, with_opened, with_origin}
+use Rattle.hm_model.specs.After.{Event, OpenCall, State, accepted_effect, after_event, after_events, after_pass, call_of, effect, end_effect, end_id, end_of_pass, end_of_upgrade, end_of_write, ended, fed_from, feeding, given_in, is_origin, last_after, later_streams, next_stream, no_hash, nothing_merged, of_pfs, on_volume, opened_with, opening_state, origin_of, present_only, retaining, stream_origin, upgraded, with_opened, with_origin}
 use Rattle.hm_model.specs.Call.{Call, first_site, own_id, second_site}
 use Rattle.hm_model.specs.Caused.{Known, early_refusal, is_ending, known_after, known_after_entry, known_at, possible_for}
 use Rattle.hm_model.specs.Change.{change, new_slave}
 use Rattle.hm_model.specs.Cut.{pruned}
 use Rattle.hm_model.specs.Due.{is_pass, is_tree_call, kept_ids, new_pfs}
 use Rattle.hm_model.specs.Foreign.{Feed, ForeignMaster, StreamEnd, no_feed}
-use Rattle.hm_model.specs.Laws.{EndsPass, FollowsForeign, IsThere, Makes, ShowsTrees, merges}
+use Rattle.hm_model.specs.Laws.{EndsPass, FollowsForeign, IsThere, Makes, ShowsTrees, merges, rewrites}
 use Rattle.hm_model.specs.Legal.{IsBrought, IsLegal, MayFollow, Setting, begin_of, state_after}
 use Rattle.hm_model.specs.Reply.{is_refusal}
 use Rattle.hm_model.specs.Tree.{FileTree, no_tree}
 use Rattle.hm_model.specs.Volume.{Origin, Nowhere, Local, Foreign, Mixed, PseudoFileSystem, Slave, Volume, as_of, at, system_of}
 use Rattle.hm_model.proofs.AgeLemmas.{Ages, AgesIn, ages_accepted}
-use Rattle.hm_model.proofs.EffectLemmas.{accepted_cases}
+use Rattle.hm_model.proofs.EffectLemmas.{accepted_cases, effect_cases}
 use Rattle.hm_model.proofs.EventLemmas.{IsLegal-beginning, after_events-push, known_after-push}
 use Rattle.hm_model.proofs.FollowLemmas.{at_found}
 use Rattle.hm_model.proofs.GrowthLemmas.{KeepsNumber, found-changed, found-other, same_or_not}
 use Rattle.hm_model.proofs.KeptPastLemmas.{effect-ending}
 use Rattle.hm_model.proofs.KnownLemmas.{Agrees, Agrees-event, All-still, NoPass, OnePass, OnePass-still, accepted_alone, none_busy, none_still, opening_of}
-use Rattle.hm_model.proofs.MadeLemmas.{state_pushed}
-use Rattle.hm_model.proofs.OpenLemmas.{StandsAfter, StandsAfter-legal}
+use Rattle.hm_model.proofs.MadeLemmas.{absent, effect_slave, made_slave, one_more, stands_before, state_pushed}
+use Rattle.hm_model.proofs.NewPfsLemmas.{none-new}
+use Rattle.hm_model.proofs.OpenLemmas.{NamesThere, StandsAfter, StandsAfter-legal}
 use Rattle.hm_model.proofs.PassEndLemmas.{at-streamed, begin_legal, brought_legal, slave-pass}
 use Rattle.hm_model.proofs.PassLemmas.{passed-before}
 use Rattle.hm_model.proofs.RefusalLemmas.{not_ending}
@@ -465,3 +466,42 @@ module _ (source : ℕ) (kept : ℕ → Bool) (trees : ℕ → FileTree) where
   FollowsForeign-legal run events slave root legal shown f =
       fed_follows (state_after run events) slave (fed_history run [] events slave root legal
       (record { own = f.own; found = f.found; drawn = f.drawn; follows = λ role. follows_origin run.opening slave f role f.own.origin refl; fed = tt; one = tt; shown = shown }))
+
+  -- the feeds that are to come are among those of the start
+  shown_effect : (state : State) (event : Event) → AllByRecursion (ShowsTrees source kept trees) state.streams → AllByRecursion (ShowsTrees source kept trees) (effect state event).streams
+  shown_effect state event shown =
+      effect_cases (λ (s : State). AllByRecursion (ShowsTrees source kept trees) s.streams) state event event.entry.call shown (λ opening. shown) (streams_accepted state (call_of no_hash state event) shown)
+
+  shown_after : (state : State) (es : List Event) → AllByRecursion (ShowsTrees source kept trees) state.streams → AllByRecursion (ShowsTrees source kept trees) (after_events state es).streams
+  shown_after state [] shown = shown
+  shown_after state (e ∷ es) shown = shown_after (after_event state e) es (shown_effect state e shown)
+
+  -- calls that name PFS that are there feed no new one
+  none_feed : (volume : Volume) (slave : ℕ) (s : PseudoFileSystem) (os : List OpenCall) → system_of volume slave ≡ None → AllByRecursion (NamesThere volume) os → AllByRecursion (FedBy slave s) os
+  none_feed volume slave s [] none named = tt
+  none_feed volume slave s (o ∷ os) none named = (λ here. by o.command refl here, none_feed volume slave s os none named.1)
+    where
+      by : (command : Command) → o.command ≡ command → o.pfs ≡ slave → FedAs s o.origin o.stream command
+      by (MirrorCopy from into limit) is here = absurd (absent volume slave o none named.0 here (ap rewrites is))
+      by (MirrorWrite into) is here = absurd (absent volume slave o none named.0 here (ap rewrites is))
+      by command is here = tt
+
+  -- a made slave
+  pub FollowsForeign-made : (run : Setting) (before : List Event) (event : Event) (rest : List Event) (path : Text) (shared : ℕ) → IsThere run.opening 0 → IsLegal run (before ++ event ∷ rest) → Makes event (PfsSlave path shared) → AllByRecursion (ShowsTrees source kept trees) run.foreigners.streams → FollowsForeign (state_after run (before ++ event ∷ rest)).volume (new_pfs (state_after run before).volume) source kept trees
+  FollowsForeign-made run before event rest path shared root legal makes shown =
+      let state : State = state_after run before in
+      let pfs : ℕ = new_pfs state.volume in
+      let stands : StandsAfter run before = stands_before run before event rest root legal in
+      let does : effect state event ≡ on_volume state (change (call_of no_hash state event)) = effect_slave state event path shared makes in
+      let opened : (after_event state event).opened ≡ state.opened = ap (λ (s : State). s.opened) does in
+      let now : IsFedIn (after_event state event) pfs = record {
+        own = new_slave pfs shared;
+        found = made_slave state event path shared makes;
+        drawn = omega arith;
+        follows = λ role. refl;
+        fed = rw opened (none_feed state.volume pfs (new_slave pfs shared) state.opened (none-new state.volume) stands.orderly.named);
+        one = rw opened stands.orderly.one;
+        shown = shown_effect state event (shown_after (opening_state run.opening run.foreigners) before shown);
+      } in
+      let later : IsFedIn (state_after run ((before ++ event ∷ []) ++ rest)) pfs = fed_history run (before ++ event ∷ []) rest pfs root (one_more run before event rest legal) (subst (λ (s : State). IsFedIn s pfs) (sym (state_pushed run before event)) now) in
+      fed_follows (state_after run (before ++ event ∷ rest)) pfs (rw append_assoc at later)

@@ -52,7 +52,7 @@ effect_master : (state : State) (event : Event) (path : Text) (shared : ℕ) →
 effect_master state event path shared makes =
     does_master state event path shared event.entry.call makes.call ∙ ap (λ (test : Bool). if test then state else on_volume state (change (call_of no_hash state event))) makes.accepted
 
-effect_slave : (state : State) (event : Event) (path : Text) (shared : ℕ) → Makes event (PfsSlave path shared) → effect state event ≡ on_volume state (change (call_of no_hash state event))
+pub effect_slave : (state : State) (event : Event) (path : Text) (shared : ℕ) → Makes event (PfsSlave path shared) → effect state event ≡ on_volume state (change (call_of no_hash state event))
 effect_slave state event path shared makes =
     does_slave state event path shared event.entry.call makes.call ∙ ap (λ (test : Bool). if test then state else on_volume state (change (call_of no_hash state event))) makes.accepted
 
@@ -62,7 +62,7 @@ made_master state event path shared makes =
     ap (λ (s : State). system_of s.volume (new_pfs state.volume)) (effect_master state event path shared makes)
     ∙ system-new_master (call_of no_hash state event) path shared makes.call
 
-made_slave : (state : State) (event : Event) (path : Text) (shared : ℕ) → Makes event (PfsSlave path shared) → system_of (after_event state event).volume (new_pfs state.volume) ≡ Some (new_slave (new_pfs state.volume) shared)
+pub made_slave : (state : State) (event : Event) (path : Text) (shared : ℕ) → Makes event (PfsSlave path shared) → system_of (after_event state event).volume (new_pfs state.volume) ≡ Some (new_slave (new_pfs state.volume) shared)
 made_slave state event path shared makes =
     ap (λ (s : State). system_of s.volume (new_pfs state.volume)) (effect_slave state event path shared makes)
     ∙ system-new_slave (call_of no_hash state event) path shared makes.call
@@ -75,13 +75,13 @@ steady_made state event path shared named makes =
     record { system = new_master (new_pfs state.volume) shared ((state.volume.last + 1, root_tree) ∷ []); found = made_master state event path shared makes; master = refl; unfed = rw opened unfed }
 
 -- a history that goes on by one event
-one_more : (run : Setting) (before : List Event) (event : Event) (rest : List Event) → IsLegal run (before ++ event ∷ rest) → IsLegal run ((before ++ event ∷ []) ++ rest)
+pub one_more : (run : Setting) (before : List Event) (event : Event) (rest : List Event) → IsLegal run (before ++ event ∷ rest) → IsLegal run ((before ++ event ∷ []) ++ rest)
 one_more run before event rest legal = rw append_assoc legal
 
 pub state_pushed : (run : Setting) (before : List Event) (event : Event) → state_after run (before ++ event ∷ []) ≡ after_event (state_after run before) event
 state_pushed run before event = after_events-push (opening_state run.opening run.foreigners) before event
 
-stands_before : (run : Setting) (before : List Event) (event : Event) (rest : List Event) → IsThere run.opening 0 → IsLegal run (before ++ event ∷ rest) → StandsAfter run before
+pub stands_before : (run : Setting) (before : List Event) (event : Event) (rest : List Event) → IsThere run.opening 0 → IsLegal run (before ++ event ∷ rest) → StandsAfter run before
 stands_before run before event rest root legal = StandsAfter-legal run before root (IsLegal-beginning run before (event ∷ rest) legal)
 
 pub master_made : (run : Setting) (before : List Event) (event : Event) (rest : List Event) (path : Text) (shared : ℕ) → IsThere run.opening 0 → IsLegal run (before ++ event ∷ rest) → Makes event (PfsMaster path shared) → IsMasterFrom run (before ++ event ∷ []) rest (new_pfs (state_after run before).volume)
@@ -192,7 +192,7 @@ shown_made run before event rest path shared id root legal makes from =
     ∙ sym (ap (λ (xs : List Event). shown (state_after run xs).volume pfs) events ∙ ap (λ (s : State). shown s.volume pfs) (after_both opening before (event ∷ events_to id rest))))
 
 -- calls that name PFS that are there feed no new one
-absent : (volume : Volume) (slave : ℕ) (o : OpenCall) → system_of volume slave ≡ None → NamesThere volume o → o.pfs ≡ slave → rewrites o.command ≡ true → ⊥
+pub absent : (volume : Volume) (slave : ℕ) (o : OpenCall) → system_of volume slave ≡ None → NamesThere volume o → o.pfs ≡ slave → rewrites o.command ≡ true → ⊥
 absent volume slave o none named here writes =
     let there = named writes in
     let found : system_of volume slave ≡ Some there.0 = rw (← here) there.1 in

@@ -5,6 +5,7 @@ mod causes;
 mod endings;
 mod examples;
 mod foreign;
+mod generated;
 mod histories;
 mod landing;
 mod links;
@@ -23,7 +24,8 @@ pub use calls::{calls_change_one_pfs, calls_leave_the_past, looks_change_nothing
 pub use causes::bad_paths_are_told_by_their_words;
 pub use endings::{cut_passes_change_nothing, slaves_keep_their_past, upgrades_leave_the_past};
 pub use examples::{examples_of_mirrors_are_legal, examples_of_streams_are_legal, examples_of_the_past_are_legal};
-pub use foreign::slaves_show_their_foreign_masters_trees;
+pub use foreign::{made_slaves_show_their_foreign_masters_trees, slaves_show_their_foreign_masters_trees};
+pub use generated::generated_reads_are_of_the_past;
 pub use histories::{after_goes_on, beginnings_are_legal, legal_goes_on, legal_ids_rise, past_is_a_beginning};
 pub use landing::{accepted_calls_end_their_walks, accepted_calls_land, calls_land_under_the_trees_that_they_saw};
 pub use links::{last_links_are_followed_or_not, slaves_show_their_sync_end};
