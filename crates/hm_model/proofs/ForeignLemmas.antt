@@ -44,7 +44,6 @@ use Rattle.hm_model.proofs.TwinLemmas.{aged_some, fed_origin, new_call, origin_f
 
 -- of a source of trees, which ids are spoken of, and the trees that are shown as of them
 module _ (source : ℕ) (kept : ℕ → Bool) (trees : ℕ → FileTree) where
-
   -- what the source of a slave says of its trees
   abbrev pub Follows : PseudoFileSystem → Origin → Type 0
   Follows s Nowhere = s.sync_end ≡ 0
@@ -123,7 +122,8 @@ module _ (source : ℕ) (kept : ℕ → Bool) (trees : ℕ → FileTree) where
       unknown (Foreign k) = tt
       unknown Mixed = tt
 
-      by : (found : Option ForeignMaster) → feed.master ≡ found → IsOf feed (fed_from old (option_map_or (λ (m : ForeignMaster). Foreign m.source) feed.master Mixed))
+      by : (found : Option ForeignMaster) → feed.master ≡ found →
+          IsOf feed (fed_from old (option_map_or (λ (m : ForeignMaster). Foreign m.source) feed.master Mixed))
       by None is = subst (λ (x : Option ForeignMaster). IsOf feed (fed_from old (option_map_or (λ (m : ForeignMaster). Foreign m.source) x Mixed))) (sym is) (unknown old)
       by (Some m) is = subst (λ (x : Option ForeignMaster). IsOf feed (fed_from old (option_map_or (λ (m : ForeignMaster). Foreign m.source) x Mixed))) (sym is) (known m is old)
 
@@ -139,7 +139,8 @@ module _ (source : ℕ) (kept : ℕ → Bool) (trees : ℕ → FileTree) where
   aged : (P : Origin → Type 0) (last : ℕ) (s u : PseudoFileSystem) → Ages last s u → ((new : Origin) → P (fed_from s.origin new)) → P s.origin → P u.origin
   aged P last s u ages fed same = elim ages.source [ inl is ↦ rw is same | inr new ↦ rw new.1 (fed new.0) ]
 
-  fed_later : (last : ℕ) (s u : PseudoFileSystem) (before : Origin) (feed : Feed) (command : Command) → Ages last s u → s.sync_end ≤ last → FedAs s before feed command → FedAs u before feed command
+  fed_later : (last : ℕ) (s u : PseudoFileSystem) (before : Origin) (feed : Feed) (command : Command) → Ages last s u → s.sync_end ≤ last →
+      FedAs s before feed command → FedAs u before feed command
   fed_later last s u before feed (MirrorCopy from into limit) ages drawn is = aged IsInside last s u ages (λ new. inside_fed s.origin new is) is
   fed_later last s u before feed (MirrorWrite into) ages drawn is = (
     λ role. follows_later last s u ages drawn before (is.0 (sym ages.role ∙ role)),
@@ -148,7 +149,8 @@ module _ (source : ℕ) (kept : ℕ → Bool) (trees : ℕ → FileTree) where
   )
   fed_later last s u before feed command ages drawn is = tt
 
-  each_later : (slave last : ℕ) (s u : PseudoFileSystem) (os : List OpenCall) → Ages last s u → s.sync_end ≤ last → AllByRecursion (FedBy slave s) os → AllByRecursion (FedBy slave u) os
+  each_later : (slave last : ℕ) (s u : PseudoFileSystem) (os : List OpenCall) → Ages last s u → s.sync_end ≤ last →
+      AllByRecursion (FedBy slave s) os → AllByRecursion (FedBy slave u) os
   each_later slave last s u [] ages drawn fed = tt
   each_later slave last s u (o ∷ os) ages drawn fed = (λ is. fed_later last s u o.origin o.stream o.command ages drawn (fed.0 is), each_later slave last s u os ages drawn fed.1)
 
@@ -164,7 +166,8 @@ module _ (source : ℕ) (kept : ℕ → Bool) (trees : ℕ → FileTree) where
       ⊎ ((o : OpenCall) × (after.opened ≡ o ∷ state.opened) × (o.command ≡ call.command)
       × ((s u : PseudoFileSystem) → system_of state.volume o.pfs ≡ Some s → system_of after.volume o.pfs ≡ Some u → FedNew state s u o.origin o.stream o.command))
 
-  by_command : (state : State) (s u : PseudoFileSystem) (before : Origin) (feed : Feed) (a b : Command) → a ≡ b → FedNew state s u before feed b → FedNew state s u before feed a
+  by_command : (state : State) (s u : PseudoFileSystem) (before : Origin) (feed : Feed) (a b : Command) → a ≡ b → FedNew state s u before feed b →
+      FedNew state s u before feed a
   by_command state s u before feed a b same is = subst (λ (c : Command). FedNew state s u before feed c) (sym same) is
 
   opened_as : (state : State) (call : Call) (command : Command) → call.command ≡ command →
@@ -231,11 +234,13 @@ module _ (source : ℕ) (kept : ℕ → Bool) (trees : ℕ → FileTree) where
   next_shown [] all = record { rising = λ m is. absurd (cc); same = λ m is. absurd (cc); ends = λ m t is. absurd (cc) }
   next_shown (feed ∷ feeds) all = all.0
 
-  later_shown : (streams : List Feed) → AllByRecursion (ShowsTrees source kept trees) streams → AllByRecursion (ShowsTrees source kept trees) (later_streams streams)
+  later_shown : (streams : List Feed) → AllByRecursion (ShowsTrees source kept trees) streams →
+      AllByRecursion (ShowsTrees source kept trees) (later_streams streams)
   later_shown [] all = tt
   later_shown (feed ∷ feeds) all = all.1
 
-  streams_accepted : (state : State) (call : Call) → AllByRecursion (ShowsTrees source kept trees) state.streams → AllByRecursion (ShowsTrees source kept trees) (accepted_effect state call).streams
+  streams_accepted : (state : State) (call : Call) → AllByRecursion (ShowsTrees source kept trees) state.streams →
+      AllByRecursion (ShowsTrees source kept trees) (accepted_effect state call).streams
   streams_accepted state call shown =
       accepted_cases (λ (s : State). AllByRecursion (ShowsTrees source kept trees) s.streams) state call call.command shown shown (λ pfs. shown) (later_shown state.streams shown) shown (by (is_tree_call call.command))
     where
@@ -243,13 +248,17 @@ module _ (source : ℕ) (kept : ℕ → Bool) (trees : ℕ → FileTree) where
       by true = shown
       by false = shown
 
-  fed_new : (state : State) (s u : PseudoFileSystem) (before : Origin) (feed : Feed) (command : Command) → AllByRecursion (ShowsTrees source kept trees) state.streams → FedNew state s u before feed command → (u.role ≡ Slave → Follows u s.origin) → FedAs u before feed command
+  fed_new : (state : State) (s u : PseudoFileSystem) (before : Origin) (feed : Feed) (command : Command) →
+      AllByRecursion (ShowsTrees source kept trees) state.streams → FedNew state s u before feed command → (u.role ≡ Slave → Follows u s.origin) →
+      FedAs u before feed command
   fed_new state s u before feed (MirrorCopy from into limit) shown is follows = is
   fed_new state s u before feed (MirrorWrite into) shown is follows = (λ role. rw is.0 (follows role), rw is.1 (next_shown state.streams shown), is.2)
   fed_new state s u before feed command shown is follows = tt
 
   -- over an accepted call
-  fed_accepted : (state : State) (call : Call) (slave : ℕ) → call.volume ≡ state.volume → (is_pass call.command ≡ true → NoPass state.opened) → IsFed state.volume.last state.volume state.opened state.streams slave → IsFed (state.volume.last + 1) (accepted_effect state call).volume (accepted_effect state call).opened (accepted_effect state call).streams slave
+  fed_accepted : (state : State) (call : Call) (slave : ℕ) → call.volume ≡ state.volume → (is_pass call.command ≡ true → NoPass state.opened) →
+      IsFed state.volume.last state.volume state.opened state.streams slave →
+      IsFed (state.volume.last + 1) (accepted_effect state call).volume (accepted_effect state call).opened (accepted_effect state call).streams slave
   fed_accepted state call slave same alone is =
       let last : ℕ = state.volume.last in
       let after : State = accepted_effect state call in
@@ -293,18 +302,23 @@ module _ (source : ℕ) (kept : ℕ → Bool) (trees : ℕ → FileTree) where
   follows_with s other (Foreign k) follows = follows
   follows_with s other Mixed follows = tt
 
-  ended_changed : (now : ℕ) (volume : Volume) (slave pfs : ℕ) (f : PseudoFileSystem → PseudoFileSystem) (s : PseudoFileSystem) → system_of volume slave ≡ Some s → KeepsNumber f → EndedAs now volume slave → (pfs ≡ slave → ((f s).sync_end ≤ now) × ((f s).role ≡ Slave → Follows (f s) (f s).origin)) → EndedAs now (of_pfs volume pfs f) slave
+  ended_changed : (now : ℕ) (volume : Volume) (slave pfs : ℕ) (f : PseudoFileSystem → PseudoFileSystem) (s : PseudoFileSystem) →
+      system_of volume slave ≡ Some s → KeepsNumber f → EndedAs now volume slave →
+      (pfs ≡ slave → ((f s).sync_end ≤ now) × ((f s).role ≡ Slave → Follows (f s) (f s).origin)) → EndedAs now (of_pfs volume pfs f) slave
   ended_changed now volume slave pfs f s found keeps before gives = elim (same_or_not pfs slave) [
     | inl same ↦
         let after : system_of (of_pfs volume pfs f) slave ≡ Some (f s) =
         ap (λ (n : ℕ). system_of (of_pfs volume n f) slave) same
-            ∙ (found-changed slave f volume.systems keeps ∙ ap (λ (x : Option PseudoFileSystem). option_map_or (λ (y : PseudoFileSystem). Some (f y)) x None) found) in
+        ∙ (found-changed slave f volume.systems keeps ∙ ap (λ (x : Option PseudoFileSystem). option_map_or (λ (y : PseudoFileSystem). Some (f y)) x None) found) in
         record { own = f s; found = after; drawn = (gives same).0; follows = (gives same).1 }
     | inr differ ↦ record { own = before.own; found = found-other slave pfs f volume.systems keeps differ ∙ before.found; drawn = before.drawn; follows = before.follows }
   ]
 
   -- a stream that was read to its end brings the trees
-  follows_streamed : (run : Setting) (before : List Event) (event : Event) (o : OpenCall) (begin end : Id) (into : Text) (s : PseudoFileSystem) → MayFollow run before event → EndsPass (state_after run before) event o begin end → o.command ≡ MirrorWrite into → system_of (state_after run before).volume o.pfs ≡ Some s → begin.0 ≡ s.sync_end → ShowsTrees source kept trees o.stream → (origin : Origin) → IsOf o.stream origin → Follows s origin → Follows (after_pass (given_in (state_after run before).volume o) begin.0 end.0 s) origin
+  follows_streamed : (run : Setting) (before : List Event) (event : Event) (o : OpenCall) (begin end : Id) (into : Text) (s : PseudoFileSystem) →
+      MayFollow run before event → EndsPass (state_after run before) event o begin end → o.command ≡ MirrorWrite into →
+      system_of (state_after run before).volume o.pfs ≡ Some s → begin.0 ≡ s.sync_end → ShowsTrees source kept trees o.stream → (origin : Origin) →
+      IsOf o.stream origin → Follows s origin → Follows (after_pass (given_in (state_after run before).volume o) begin.0 end.0 s) origin
   follows_streamed run before event o begin end into s follows ends command found first shows Nowhere is old = absurd is
   follows_streamed run before event o begin end into s follows ends command found first shows (Local n) is old = tt
   follows_streamed run before event o begin end into s follows ends command found first shows (Foreign k) is old = λ same id has some by. elim (less_or_not begin.0 id) [
@@ -329,7 +343,6 @@ module _ (source : ℕ) (kept : ℕ → Bool) (trees : ℕ → FileTree) where
       (follow : MayFollow run before event) (call : event.entry.call ≡ End opening) (found : opened_with opening.0 (state_after run before).opened ≡ Some o)
       (of_slave : system_of (state_after run before).volume slave ≡ Some s) (drawn : s.sync_end ≤ last_after event.entry) (follows : s.role ≡ Slave → Follows s s.origin)
       (fed : FedBy slave s o) where
-
     abbrev Then : Volume → Type 0
     Then volume = EndedAs (last_after event.entry) volume slave
 
@@ -339,12 +352,14 @@ module _ (source : ℕ) (kept : ℕ → Bool) (trees : ℕ → FileTree) where
     till : (begin end : Id) → event.entry.reply ≡ Passed begin end → end.0 ≤ last_after event.entry
     till begin end told = let is : end_id event.entry.reply ≡ end.0 = ap end_id told in omega (arith, is)
 
-    copy : (from into : Text) (limit : Option ℕ) → o.command ≡ MirrorCopy from into limit → Then (end_of_pass (state_after run before).volume o event.entry.reply)
+    copy : (from into : Text) (limit : Option ℕ) → o.command ≡ MirrorCopy from into limit →
+        Then (end_of_pass (state_after run before).volume o event.entry.reply)
     copy from into limit is = pass_by Then (state_after run before).volume o event.entry.reply unchanged (λ begin end told.
         ended_changed (last_after event.entry) (state_after run before).volume slave o.pfs (after_pass (given_in (state_after run before).volume o) begin.0 end.0) s of_slave (λ x. refl) unchanged (λ same.
         (till begin end told, λ role. inside_follows (after_pass (given_in (state_after run before).volume o) begin.0 end.0 s) s.origin (subst (λ (c : Command). FedAs s o.origin o.stream c) is (fed same)))))
 
-    write : (into : Text) → o.command ≡ MirrorWrite into → (test : Bool) → Then (if test then of_pfs (state_after run before).volume o.pfs (with_origin o.origin) else end_of_pass (state_after run before).volume o event.entry.reply)
+    write : (into : Text) → o.command ≡ MirrorWrite into → (test : Bool) →
+        Then (if test then of_pfs (state_after run before).volume o.pfs (with_origin o.origin) else end_of_pass (state_after run before).volume o event.entry.reply)
     write into is true =
         ended_changed (last_after event.entry) (state_after run before).volume slave o.pfs (with_origin o.origin) s of_slave (λ x. refl) unchanged (λ same.
         (drawn, λ role. follows_with s o.origin o.origin ((subst (λ (c : Command). FedAs s o.origin o.stream c) is (fed same)).0 role)))
@@ -373,7 +388,10 @@ module _ (source : ℕ) (kept : ℕ → Bool) (trees : ℕ → FileTree) where
       no_pass s before feed command is = tt
 
   -- over an ending
-  fed_ended : (run : Setting) (before : List Event) (event : Event) (opening : Id) (slave : ℕ) → MayFollow run before event → event.entry.call ≡ End opening → (state_after run before).volume.last ≤ last_after event.entry → IsFed (state_after run before).volume.last (state_after run before).volume (state_after run before).opened (state_after run before).streams slave → IsFed (last_after event.entry) (ended (state_after run before) opening.0 event.entry.reply).volume (ended (state_after run before) opening.0 event.entry.reply).opened (ended (state_after run before) opening.0 event.entry.reply).streams slave
+  fed_ended : (run : Setting) (before : List Event) (event : Event) (opening : Id) (slave : ℕ) → MayFollow run before event →
+      event.entry.call ≡ End opening → (state_after run before).volume.last ≤ last_after event.entry →
+      IsFed (state_after run before).volume.last (state_after run before).volume (state_after run before).opened (state_after run before).streams slave →
+      IsFed (last_after event.entry) (ended (state_after run before) opening.0 event.entry.reply).volume (ended (state_after run before) opening.0 event.entry.reply).opened (ended (state_after run before) opening.0 event.entry.reply).streams slave
   fed_ended run before event opening slave follow call later is = by (opened_with opening.0 (state_after run before).opened) refl
     where
       state : State
@@ -391,18 +409,20 @@ module _ (source : ℕ) (kept : ℕ → Bool) (trees : ℕ → FileTree) where
       one : OnePass (filter (λ (o : OpenCall). if eqb o.opening opening.0 then false else true) (state_after run before).opened)
       one = OnePass-still opening.0 (state_after run before).opened is.one
 
-      each : (o : OpenCall) → opened_with opening.0 (state_after run before).opened ≡ Some o → (test : Bool) → is_pass o.command ≡ test → IsFed (last_after event.entry) (end_effect (state_after run before).volume event.entry.reply o) (filter (λ (x : OpenCall). if eqb x.opening opening.0 then false else true) (state_after run before).opened) (state_after run before).streams slave
+      each : (o : OpenCall) → opened_with opening.0 (state_after run before).opened ≡ Some o → (test : Bool) → is_pass o.command ≡ test →
+          IsFed (last_after event.entry) (end_effect (state_after run before).volume event.entry.reply o) (filter (λ (x : OpenCall). if eqb x.opening opening.0 then false else true) (state_after run before).opened) (state_after run before).streams slave
       each o found true pass =
           let end : EndedAs (last_after event.entry) (end_effect (state_after run before).volume event.entry.reply o) slave =
           fed-end run before event opening o slave is.own follow call found is.found (omega (arith, is.drawn, later)) is.follows
-              (found_holds (FedBy slave is.own) (λ (x : OpenCall). eqb x.opening opening.0) (state_after run before).opened o found is.fed) in
+          (found_holds (FedBy slave is.own) (λ (x : OpenCall). eqb x.opening opening.0) (state_after run before).opened o found is.fed) in
           let none : NoPass (filter (λ (x : OpenCall). if eqb x.opening opening.0 then false else true) (state_after run before).opened) = none_still opening.0 (state_after run before).opened o is.one found pass in
           record { own = end.own; found = end.found; drawn = end.drawn; follows = end.follows; fed = none_fed slave end.own (filter (λ (x : OpenCall). if eqb x.opening opening.0 then false else true) (state_after run before).opened) none; one = one; shown = is.shown }
       each o found false pass =
           subst (λ (v : Volume). IsFed (last_after event.entry) v (filter (λ (x : OpenCall). if eqb x.opening opening.0 then false else true) (state_after run before).opened) (state_after run before).streams slave) (sym (no_pass_same (state_after run before).volume event.entry.reply o o.command pass))
           (record { own = is.own; found = is.found; drawn = omega (arith, is.drawn, later); follows = is.follows; fed = still; one = one; shown = is.shown })
 
-      by : (found : Option OpenCall) → opened_with opening.0 (state_after run before).opened ≡ found → IsFed (last_after event.entry) (option_map_or (end_effect (state_after run before).volume event.entry.reply) found (state_after run before).volume) (filter (λ (x : OpenCall). if eqb x.opening opening.0 then false else true) (state_after run before).opened) (state_after run before).streams slave
+      by : (found : Option OpenCall) → opened_with opening.0 (state_after run before).opened ≡ found →
+          IsFed (last_after event.entry) (option_map_or (end_effect (state_after run before).volume event.entry.reply) found (state_after run before).volume) (filter (λ (x : OpenCall). if eqb x.opening opening.0 then false else true) (state_after run before).opened) (state_after run before).streams slave
       by None none = record { own = is.own; found = is.found; drawn = omega (arith, is.drawn, later); follows = is.follows; fed = still; one = one; shown = is.shown }
       by (Some o) some = each o some (is_pass o.command) refl
 
@@ -411,26 +431,33 @@ module _ (source : ℕ) (kept : ℕ → Bool) (trees : ℕ → FileTree) where
   IsFedIn state slave = IsFed state.volume.last state.volume state.opened state.streams slave
 
   -- over an event
-  fed_event : (run : Setting) (before : List Event) (event : Event) (slave : ℕ) → MayFollow run before event → Agrees (known_after (known_at run.opening.last run.start) before) (state_after run before) → IsFedIn (state_after run before) slave → IsFedIn (after_event (state_after run before) event) slave
+  fed_event : (run : Setting) (before : List Event) (event : Event) (slave : ℕ) → MayFollow run before event →
+      Agrees (known_after (known_at run.opening.last run.start) before) (state_after run before) → IsFedIn (state_after run before) slave →
+      IsFedIn (after_event (state_after run before) event) slave
   fed_event run before event slave follow agrees is = whole (by (is_ending event.entry.call) refl)
     where
       own : event.entry.id.0 ≡ (state_after run before).volume.last + 1
       own = follow.caused.id ∙ ap (λ (n : ℕ). n + 1) agrees.last
 
-      whole : IsFed (last_after event.entry) (effect (state_after run before) event).volume (effect (state_after run before) event).opened (effect (state_after run before) event).streams slave → IsFedIn (after_event (state_after run before) event) slave
+      whole :
+          IsFed (last_after event.entry) (effect (state_after run before) event).volume (effect (state_after run before) event).opened (effect (state_after run before) event).streams slave →
+          IsFedIn (after_event (state_after run before) event) slave
       whole fed = record { own = fed.own; found = fed.found; drawn = fed.drawn; follows = fed.follows; fed = fed.fed; one = fed.one; shown = fed.shown }
 
-      later : (n : ℕ) (s : State) → n ≤ last_after event.entry → IsFed n s.volume s.opened s.streams slave → IsFed (last_after event.entry) s.volume s.opened s.streams slave
+      later : (n : ℕ) (s : State) → n ≤ last_after event.entry → IsFed n s.volume s.opened s.streams slave →
+          IsFed (last_after event.entry) s.volume s.opened s.streams slave
       later n s most fed = record { own = fed.own; found = fed.found; drawn = omega (arith, fed.drawn, most); follows = fed.follows; fed = fed.fed; one = fed.one; shown = fed.shown }
 
-      call : (test : Bool) → is_refusal event.entry.reply ≡ test → IsFed (last_after event.entry) (if test then state_after run before else accepted_effect (state_after run before) (call_of no_hash (state_after run before) event)).volume (if test then state_after run before else accepted_effect (state_after run before) (call_of no_hash (state_after run before) event)).opened (if test then state_after run before else accepted_effect (state_after run before) (call_of no_hash (state_after run before) event)).streams slave
+      call : (test : Bool) → is_refusal event.entry.reply ≡ test →
+          IsFed (last_after event.entry) (if test then state_after run before else accepted_effect (state_after run before) (call_of no_hash (state_after run before) event)).volume (if test then state_after run before else accepted_effect (state_after run before) (call_of no_hash (state_after run before) event)).opened (if test then state_after run before else accepted_effect (state_after run before) (call_of no_hash (state_after run before) event)).streams slave
       call true refused = later (state_after run before).volume.last (state_after run before) (omega (arith, own)) is
       call false accepted =
           later ((state_after run before).volume.last + 1) (accepted_effect (state_after run before) (call_of no_hash (state_after run before) event)) (omega (arith, own))
           (fed_accepted (state_after run before) (call_of no_hash (state_after run before) event) slave refl
           (λ pass. none_busy (state_after run before).opened (rw agrees.opened at (accepted_alone (known_after (known_at run.opening.last run.start) before) event (possible_for (known_after (known_at run.opening.last run.start) before) event) follow.caused.possible accepted pass))) is)
 
-      by : (test : Bool) → is_ending event.entry.call ≡ test → IsFed (last_after event.entry) (effect (state_after run before) event).volume (effect (state_after run before) event).opened (effect (state_after run before) event).streams slave
+      by : (test : Bool) → is_ending event.entry.call ≡ test →
+          IsFed (last_after event.entry) (effect (state_after run before) event).volume (effect (state_after run before) event).opened (effect (state_after run before) event).streams slave
       by true ending =
           let named = opening_of event.entry.call ending in
           subst (λ (s : State). IsFed (last_after event.entry) s.volume s.opened s.streams slave) (sym (effect-ending (state_after run before) event named.0 named.1)) (fed_ended run before event named.0 slave follow named.1 (omega (arith, own)) is)
@@ -438,7 +465,8 @@ module _ (source : ℕ) (kept : ℕ → Bool) (trees : ℕ → FileTree) where
           let goes : effect (state_after run before) event ≡ (if is_refusal event.entry.reply then state_after run before else accepted_effect (state_after run before) (call_of no_hash (state_after run before) event)) = not_ending (λ opening. ended (state_after run before) opening.0 event.entry.reply) (if is_refusal event.entry.reply then state_after run before else accepted_effect (state_after run before) (call_of no_hash (state_after run before) event)) event.entry.call ending in
           subst (λ (s : State). IsFed (last_after event.entry) s.volume s.opened s.streams slave) (sym goes) (call (is_refusal event.entry.reply) refl)
 
-  fed_history : (run : Setting) (before es : List Event) (slave : ℕ) → IsThere run.opening 0 → IsLegal run (before ++ es) → IsFedIn (state_after run before) slave → IsFedIn (state_after run (before ++ es)) slave
+  fed_history : (run : Setting) (before es : List Event) (slave : ℕ) → IsThere run.opening 0 → IsLegal run (before ++ es) →
+      IsFedIn (state_after run before) slave → IsFedIn (state_after run (before ++ es)) slave
   fed_history run before [] slave root legal is = rw append-nil is
   fed_history run before (e ∷ es) slave root legal is =
       let stands : StandsAfter run before = StandsAfter-legal run before root (IsLegal-beginning run before (e ∷ es) legal) in
@@ -456,28 +484,34 @@ module _ (source : ℕ) (kept : ℕ → Bool) (trees : ℕ → FileTree) where
     same = λ role foreign id has some by. at_found state.volume slave id is.own is.found ∙ subst (Follows is.own) foreign (is.follows role) refl id has some by;
   }
 
-  follows_origin : (volume : Volume) (slave : ℕ) (f : FollowsForeign volume slave source kept trees) → f.own.role ≡ Slave → (origin : Origin) → f.own.origin ≡ origin → Follows f.own origin
+  follows_origin : (volume : Volume) (slave : ℕ) (f : FollowsForeign volume slave source kept trees) → f.own.role ≡ Slave → (origin : Origin) →
+      f.own.origin ≡ origin → Follows f.own origin
   follows_origin volume slave f role Nowhere is = f.unfed role is
   follows_origin volume slave f role (Local n) is = tt
   follows_origin volume slave f role (Foreign k) is = λ same id has some by. sym (at_found volume slave id f.own f.found) ∙ f.same role (is ∙ ap Foreign same) id has some by
   follows_origin volume slave f role Mixed is = tt
 
-  pub FollowsForeign-legal : (run : Setting) (events : List Event) (slave : ℕ) → IsThere run.opening 0 → IsLegal run events → AllByRecursion (ShowsTrees source kept trees) run.foreigners.streams → FollowsForeign run.opening slave source kept trees → FollowsForeign (state_after run events).volume slave source kept trees
+  pub FollowsForeign-legal : (run : Setting) (events : List Event) (slave : ℕ) → IsThere run.opening 0 → IsLegal run events →
+      AllByRecursion (ShowsTrees source kept trees) run.foreigners.streams → FollowsForeign run.opening slave source kept trees →
+      FollowsForeign (state_after run events).volume slave source kept trees
   FollowsForeign-legal run events slave root legal shown f =
       fed_follows (state_after run events) slave (fed_history run [] events slave root legal
       (record { own = f.own; found = f.found; drawn = f.drawn; follows = λ role. follows_origin run.opening slave f role f.own.origin refl; fed = tt; one = tt; shown = shown }))
 
   -- the feeds that are to come are among those of the start
-  shown_effect : (state : State) (event : Event) → AllByRecursion (ShowsTrees source kept trees) state.streams → AllByRecursion (ShowsTrees source kept trees) (effect state event).streams
+  shown_effect : (state : State) (event : Event) → AllByRecursion (ShowsTrees source kept trees) state.streams →
+      AllByRecursion (ShowsTrees source kept trees) (effect state event).streams
   shown_effect state event shown =
       effect_cases (λ (s : State). AllByRecursion (ShowsTrees source kept trees) s.streams) state event event.entry.call shown (λ opening. shown) (streams_accepted state (call_of no_hash state event) shown)
 
-  shown_after : (state : State) (es : List Event) → AllByRecursion (ShowsTrees source kept trees) state.streams → AllByRecursion (ShowsTrees source kept trees) (after_events state es).streams
+  shown_after : (state : State) (es : List Event) → AllByRecursion (ShowsTrees source kept trees) state.streams →
+      AllByRecursion (ShowsTrees source kept trees) (after_events state es).streams
   shown_after state [] shown = shown
   shown_after state (e ∷ es) shown = shown_after (after_event state e) es (shown_effect state e shown)
 
   -- calls that name PFS that are there feed no new one
-  none_feed : (volume : Volume) (slave : ℕ) (s : PseudoFileSystem) (os : List OpenCall) → system_of volume slave ≡ None → AllByRecursion (NamesThere volume) os → AllByRecursion (FedBy slave s) os
+  none_feed : (volume : Volume) (slave : ℕ) (s : PseudoFileSystem) (os : List OpenCall) → system_of volume slave ≡ None →
+      AllByRecursion (NamesThere volume) os → AllByRecursion (FedBy slave s) os
   none_feed volume slave s [] none named = tt
   none_feed volume slave s (o ∷ os) none named = (λ here. by o.command refl here, none_feed volume slave s os none named.1)
     where
@@ -487,7 +521,10 @@ module _ (source : ℕ) (kept : ℕ → Bool) (trees : ℕ → FileTree) where
       by command is here = tt
 
   -- a made slave
-  pub FollowsForeign-made : (run : Setting) (before : List Event) (event : Event) (rest : List Event) (path : Text) (shared : ℕ) → IsThere run.opening 0 → IsLegal run (before ++ event ∷ rest) → Makes event (PfsSlave path shared) → AllByRecursion (ShowsTrees source kept trees) run.foreigners.streams → FollowsForeign (state_after run (before ++ event ∷ rest)).volume (new_pfs (state_after run before).volume) source kept trees
+  pub FollowsForeign-made : (run : Setting) (before : List Event) (event : Event) (rest : List Event) (path : Text) (shared : ℕ) →
+      IsThere run.opening 0 → IsLegal run (before ++ event ∷ rest) → Makes event (PfsSlave path shared) →
+      AllByRecursion (ShowsTrees source kept trees) run.foreigners.streams →
+      FollowsForeign (state_after run (before ++ event ∷ rest)).volume (new_pfs (state_after run before).volume) source kept trees
   FollowsForeign-made run before event rest path shared root legal makes shown =
       let state : State = state_after run before in
       let pfs : ℕ = new_pfs state.volume in

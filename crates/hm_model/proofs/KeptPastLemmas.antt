@@ -31,10 +31,13 @@ abbrev pub tree_in : ℕ → Option PseudoFileSystem → FileTree
 tree_in id found = as_of id no_tree (versions_in found)
 
 -- a change of a PFS that shows the same as of an id
-pub at-changed : (volume : Volume) (pfs other id : ℕ) (f : PseudoFileSystem → PseudoFileSystem) → KeepsNumber f → ((s : PseudoFileSystem) → other ≡ pfs → system_of volume pfs ≡ Some s → as_of id no_tree (f s).versions ≡ as_of id no_tree s.versions) → at (of_pfs volume other f) pfs id ≡ at volume pfs id
+pub at-changed : (volume : Volume) (pfs other id : ℕ) (f : PseudoFileSystem → PseudoFileSystem) → KeepsNumber f →
+    ((s : PseudoFileSystem) → other ≡ pfs → system_of volume pfs ≡ Some s → as_of id no_tree (f s).versions ≡ as_of id no_tree s.versions) →
+    at (of_pfs volume other f) pfs id ≡ at volume pfs id
 at-changed volume pfs other id f keeps same = at-versions (of_pfs volume other f) pfs id ∙ (found ∙ sym (at-versions volume pfs id))
   where
-    by : other ≡ pfs → (s : Option PseudoFileSystem) → system_of volume pfs ≡ s → tree_in id (option_map_or (λ (x : PseudoFileSystem). Some (f x)) s None) ≡ tree_in id s
+    by : other ≡ pfs → (s : Option PseudoFileSystem) → system_of volume pfs ≡ s →
+        tree_in id (option_map_or (λ (x : PseudoFileSystem). Some (f x)) s None) ≡ tree_in id s
     by is None found = refl
     by is (Some s) found = same s is found
 
@@ -64,11 +67,13 @@ cut_ends volume items None = refl
 cut_ends volume items (Some o) = cut_leaves volume o items o.command
 
 -- what an ending does
-pub effect-ending : (state : State) (event : Event) (opening : Id) → event.entry.call ≡ End opening → effect state event ≡ ended state opening.0 event.entry.reply
+pub effect-ending : (state : State) (event : Event) (opening : Id) → event.entry.call ≡ End opening →
+    effect state event ≡ ended state opening.0 event.entry.reply
 effect-ending state event opening is =
     ending_is (λ o. ended state o.0 event.entry.reply) (if is_refusal event.entry.reply then state else accepted_effect state (call_of no_hash state event)) event.entry.call opening is
 
-pub systems-cut : (state : State) (event : Event) (items : ℕ) → is_ending event.entry.call ≡ true → event.entry.reply ≡ Cut items → (after_event state event).volume.systems ≡ state.volume.systems
+pub systems-cut : (state : State) (event : Event) (items : ℕ) → is_ending event.entry.call ≡ true → event.entry.reply ≡ Cut items →
+    (after_event state event).volume.systems ≡ state.volume.systems
 systems-cut state event items ending reply =
     let named = opening_of event.entry.call ending in
     ap (λ (s : State). s.volume.systems) (effect-ending state event named.0 named.1)
@@ -89,7 +94,8 @@ module _ (state : State) (event : Event) (opening : Id) (o : OpenCall) (slave id
   begin_write : (into : Text) → o.command ≡ MirrorWrite into → o.pfs ≡ slave → begin_of state.volume o ≡ s.sync_end
   begin_write into is same = rw (is, same, of_slave) refl
 
-  pass : merges o.command ≡ true → (o.pfs ≡ slave → begin_of state.volume o ≡ s.sync_end) → at (end_of_pass state.volume o event.entry.reply) slave id ≡ at state.volume slave id
+  pass : merges o.command ≡ true → (o.pfs ≡ slave → begin_of state.volume o ≡ s.sync_end) →
+      at (end_of_pass state.volume o event.entry.reply) slave id ≡ at state.volume slave id
   pass merging first =
       pass_by (λ (v : Volume). at v slave id ≡ at state.volume slave id) state.volume o event.entry.reply refl
       (λ begin end told. at-changed state.volume slave o.pfs id (after_pass (given_in state.volume o) begin.0 end.0) (λ x. refl)
@@ -101,7 +107,8 @@ module _ (state : State) (event : Event) (opening : Id) (o : OpenCall) (slave id
   write : (into : Text) → o.command ≡ MirrorWrite into → at (end_of_write state.volume o event.entry.reply) slave id ≡ at state.volume slave id
   write into is = each (nothing_merged event.entry.reply)
     where
-      each : (test : Bool) → at (if test then of_pfs state.volume o.pfs (with_origin o.origin) else end_of_pass state.volume o event.entry.reply) slave id ≡ at state.volume slave id
+      each : (test : Bool) →
+          at (if test then of_pfs state.volume o.pfs (with_origin o.origin) else end_of_pass state.volume o event.entry.reply) slave id ≡ at state.volume slave id
       each true = at-changed state.volume slave o.pfs id (with_origin o.origin) (λ x. refl) (λ t same found_t. refl)
       each false = pass (ap merges is) (begin_write into is)
 
@@ -115,18 +122,23 @@ module _ (state : State) (event : Event) (opening : Id) (o : OpenCall) (slave id
       (λ from into limit is. pass (ap merges is) (begin_copy from into limit is)) write (λ path is. upgrade)
 
 -- so at an ending
-at-ending : (run : Setting) (before : List Event) (event : Event) (opening : Id) (slave id : ℕ) (s : PseudoFileSystem) → MayFollow run before event → event.entry.call ≡ End opening → system_of (state_after run before).volume slave ≡ Some s → id ≤ s.sync_end → at (ended (state_after run before) opening.0 event.entry.reply).volume slave id ≡ at (state_after run before).volume slave id
+at-ending : (run : Setting) (before : List Event) (event : Event) (opening : Id) (slave id : ℕ) (s : PseudoFileSystem) → MayFollow run before event →
+    event.entry.call ≡ End opening → system_of (state_after run before).volume slave ≡ Some s → id ≤ s.sync_end →
+    at (ended (state_after run before) opening.0 event.entry.reply).volume slave id ≡ at (state_after run before).volume slave id
 at-ending run before event opening slave id s follows call found up = each (opened_with opening.0 state.opened) refl
   where
     state : State
     state = state_after run before
 
-    each : (o : Option OpenCall) → opened_with opening.0 state.opened ≡ o → at (option_map_or (end_effect state.volume event.entry.reply) o state.volume) slave id ≡ at state.volume slave id
+    each : (o : Option OpenCall) → opened_with opening.0 state.opened ≡ o →
+        at (option_map_or (end_effect state.volume event.entry.reply) o state.volume) slave id ≡ at state.volume slave id
     each None none = refl
     each (Some o) some = at-end_call state event opening o slave id s call some found up (λ begin end ends. begin_legal run before event o begin end follows ends)
 
 -- and at every event
-pub at-kept : (run : Setting) (before : List Event) (event : Event) (slave id : ℕ) (s : PseudoFileSystem) → MayFollow run before event → system_of (state_after run before).volume slave ≡ Some s → id ≤ s.sync_end → s.sync_end ≤ (state_after run before).volume.last → at (after_event (state_after run before) event).volume slave id ≡ at (state_after run before).volume slave id
+pub at-kept : (run : Setting) (before : List Event) (event : Event) (slave id : ℕ) (s : PseudoFileSystem) → MayFollow run before event →
+    system_of (state_after run before).volume slave ≡ Some s → id ≤ s.sync_end → s.sync_end ≤ (state_after run before).volume.last →
+    at (after_event (state_after run before) event).volume slave id ≡ at (state_after run before).volume slave id
 at-kept run before event slave id s follows found up drawn = each (is_ending event.entry.call) refl
   where
     state : State
@@ -150,7 +162,8 @@ at-kept run before event slave id s follows found up drawn = each (is_ending eve
 upgrade_is : (volume : Volume) (o : OpenCall) (path : Text) → o.command ≡ PfsUpgrade path → end_effect volume Finished o ≡ of_pfs volume o.pfs upgraded
 upgrade_is volume o path is = rw is refl
 
-pub system-upgrade : (state : State) (event : Event) (o : OpenCall) (s : PseudoFileSystem) → EndsUpgrade state event o → system_of state.volume o.pfs ≡ Some s → system_of (after_event state event).volume o.pfs ≡ Some (upgraded s)
+pub system-upgrade : (state : State) (event : Event) (o : OpenCall) (s : PseudoFileSystem) → EndsUpgrade state event o →
+    system_of state.volume o.pfs ≡ Some s → system_of (after_event state event).volume o.pfs ≡ Some (upgraded s)
 system-upgrade state event o s ends found =
     ap (λ (x : State). system_of x.volume o.pfs) (effect-ending state event ends.opening ends.call)
     ∙ (ap (λ (x : Option OpenCall). system_of (option_map_or (end_effect state.volume event.entry.reply) x state.volume) o.pfs) ends.found
@@ -180,10 +193,14 @@ as_of-least id end tree (v ∷ vs) = elim (less_or_not end v.0) [
       ]))
 ]
   where
-    kept_least : as_of id (if nat_le v.0 (min id end) then v.1 else tree) (versions_to end vs) ≡ as_of (min id end) (if nat_le v.0 (min id end) then v.1 else tree) vs → nat_le v.0 id ≡ nat_le v.0 (min id end) → as_of id (if nat_le v.0 id then v.1 else tree) (versions_to end vs) ≡ as_of (min id end) (if nat_le v.0 (min id end) then v.1 else tree) vs
+    kept_least :
+        as_of id (if nat_le v.0 (min id end) then v.1 else tree) (versions_to end vs) ≡ as_of (min id end) (if nat_le v.0 (min id end) then v.1 else tree) vs →
+        nat_le v.0 id ≡ nat_le v.0 (min id end) →
+        as_of id (if nat_le v.0 id then v.1 else tree) (versions_to end vs) ≡ as_of (min id end) (if nat_le v.0 (min id end) then v.1 else tree) vs
     kept_least rest same = ap (λ (test : Bool). as_of id (if test then v.1 else tree) (versions_to end vs)) same ∙ rest
 
-pub at-upgrade : (state : State) (event : Event) (o : OpenCall) (s : PseudoFileSystem) (id : ℕ) → EndsUpgrade state event o → system_of state.volume o.pfs ≡ Some s → at (after_event state event).volume o.pfs id ≡ at state.volume o.pfs (min id s.sync_end)
+pub at-upgrade : (state : State) (event : Event) (o : OpenCall) (s : PseudoFileSystem) (id : ℕ) → EndsUpgrade state event o →
+    system_of state.volume o.pfs ≡ Some s → at (after_event state event).volume o.pfs id ≡ at state.volume o.pfs (min id s.sync_end)
 at-upgrade state event o s id ends found =
     at-versions (after_event state event).volume o.pfs id
     ∙ (ap (tree_in id) (system-upgrade state event o s ends found)

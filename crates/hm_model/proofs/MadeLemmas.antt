@@ -32,7 +32,8 @@ use Rattle.hm_model.proofs.TwinLemmas.{FedBy, rise_grown}
 use Rattle.hm_model.proofs.VersionLemmas.{by_later}
 
 -- a steady master is one from then on
-pub steady_from : (run : Setting) (before rest : List Event) (pfs : ℕ) → IsLegal run (before ++ rest) → IsSteadyMaster (state_after run before) pfs → IsMasterFrom run before rest pfs
+pub steady_from : (run : Setting) (before rest : List Event) (pfs : ℕ) → IsLegal run (before ++ rest) → IsSteadyMaster (state_after run before) pfs →
+    IsMasterFrom run before rest pfs
 steady_from run before rest pfs legal steady some more is =
     let whole : IsLegal run ((before ++ some) ++ more) = rw (append_assoc, ← is) legal in
     steady_history run before some pfs (IsLegal-beginning run (before ++ some) more whole) steady
@@ -42,56 +43,68 @@ abbrev with_call : Event → Command → Event
 with_call event call = record event { entry = record event.entry { call = call } }
 
 -- what a call that makes a PFS does
-does_master : (state : State) (event : Event) (path : Text) (shared : ℕ) (command : Command) → command ≡ PfsMaster path shared → effect state (with_call event command) ≡ (if is_refusal event.entry.reply then state else on_volume state (change (call_of no_hash state (with_call event command))))
+does_master : (state : State) (event : Event) (path : Text) (shared : ℕ) (command : Command) → command ≡ PfsMaster path shared →
+    effect state (with_call event command) ≡ (if is_refusal event.entry.reply then state else on_volume state (change (call_of no_hash state (with_call event command))))
 does_master state event path shared command is = subst (λ (c : Command). effect state (with_call event c) ≡ (if is_refusal event.entry.reply then state else on_volume state (change (call_of no_hash state (with_call event c))))) (sym is) refl
 
-does_slave : (state : State) (event : Event) (path : Text) (shared : ℕ) (command : Command) → command ≡ PfsSlave path shared → effect state (with_call event command) ≡ (if is_refusal event.entry.reply then state else on_volume state (change (call_of no_hash state (with_call event command))))
+does_slave : (state : State) (event : Event) (path : Text) (shared : ℕ) (command : Command) → command ≡ PfsSlave path shared →
+    effect state (with_call event command) ≡ (if is_refusal event.entry.reply then state else on_volume state (change (call_of no_hash state (with_call event command))))
 does_slave state event path shared command is = subst (λ (c : Command). effect state (with_call event c) ≡ (if is_refusal event.entry.reply then state else on_volume state (change (call_of no_hash state (with_call event c))))) (sym is) refl
 
-effect_master : (state : State) (event : Event) (path : Text) (shared : ℕ) → Makes event (PfsMaster path shared) → effect state event ≡ on_volume state (change (call_of no_hash state event))
+effect_master : (state : State) (event : Event) (path : Text) (shared : ℕ) → Makes event (PfsMaster path shared) →
+    effect state event ≡ on_volume state (change (call_of no_hash state event))
 effect_master state event path shared makes =
     does_master state event path shared event.entry.call makes.call ∙ ap (λ (test : Bool). if test then state else on_volume state (change (call_of no_hash state event))) makes.accepted
 
-pub effect_slave : (state : State) (event : Event) (path : Text) (shared : ℕ) → Makes event (PfsSlave path shared) → effect state event ≡ on_volume state (change (call_of no_hash state event))
+pub effect_slave : (state : State) (event : Event) (path : Text) (shared : ℕ) → Makes event (PfsSlave path shared) →
+    effect state event ≡ on_volume state (change (call_of no_hash state event))
 effect_slave state event path shared makes =
     does_slave state event path shared event.entry.call makes.call ∙ ap (λ (test : Bool). if test then state else on_volume state (change (call_of no_hash state event))) makes.accepted
 
 -- the PFS after it
-pub made_master : (state : State) (event : Event) (path : Text) (shared : ℕ) → Makes event (PfsMaster path shared) → system_of (after_event state event).volume (new_pfs state.volume) ≡ Some (new_master (new_pfs state.volume) shared ((state.volume.last + 1, root_tree) ∷ []))
+pub made_master : (state : State) (event : Event) (path : Text) (shared : ℕ) → Makes event (PfsMaster path shared) →
+    system_of (after_event state event).volume (new_pfs state.volume) ≡ Some (new_master (new_pfs state.volume) shared ((state.volume.last + 1, root_tree) ∷ []))
 made_master state event path shared makes =
     ap (λ (s : State). system_of s.volume (new_pfs state.volume)) (effect_master state event path shared makes)
     ∙ system-new_master (call_of no_hash state event) path shared makes.call
 
-pub made_slave : (state : State) (event : Event) (path : Text) (shared : ℕ) → Makes event (PfsSlave path shared) → system_of (after_event state event).volume (new_pfs state.volume) ≡ Some (new_slave (new_pfs state.volume) shared)
+pub made_slave : (state : State) (event : Event) (path : Text) (shared : ℕ) → Makes event (PfsSlave path shared) →
+    system_of (after_event state event).volume (new_pfs state.volume) ≡ Some (new_slave (new_pfs state.volume) shared)
 made_slave state event path shared makes =
     ap (λ (s : State). system_of s.volume (new_pfs state.volume)) (effect_slave state event path shared makes)
     ∙ system-new_slave (call_of no_hash state event) path shared makes.call
 
 -- a made master is steady
-steady_made : (state : State) (event : Event) (path : Text) (shared : ℕ) → AllByRecursion (NamesThere state.volume) state.opened → Makes event (PfsMaster path shared) → IsSteadyMaster (after_event state event) (new_pfs state.volume)
+steady_made : (state : State) (event : Event) (path : Text) (shared : ℕ) → AllByRecursion (NamesThere state.volume) state.opened →
+    Makes event (PfsMaster path shared) → IsSteadyMaster (after_event state event) (new_pfs state.volume)
 steady_made state event path shared named makes =
     let opened : (after_event state event).opened ≡ state.opened = ap (λ (s : State). s.opened) (effect_master state event path shared makes) in
     let unfed : IsUnfed state (new_pfs state.volume) = none_unfed state.volume (new_pfs state.volume) state.opened (none-new state.volume) named in
     record { system = new_master (new_pfs state.volume) shared ((state.volume.last + 1, root_tree) ∷ []); found = made_master state event path shared makes; master = refl; unfed = rw opened unfed }
 
 -- a history that goes on by one event
-pub one_more : (run : Setting) (before : List Event) (event : Event) (rest : List Event) → IsLegal run (before ++ event ∷ rest) → IsLegal run ((before ++ event ∷ []) ++ rest)
+pub one_more : (run : Setting) (before : List Event) (event : Event) (rest : List Event) → IsLegal run (before ++ event ∷ rest) →
+    IsLegal run ((before ++ event ∷ []) ++ rest)
 one_more run before event rest legal = rw append_assoc legal
 
 pub state_pushed : (run : Setting) (before : List Event) (event : Event) → state_after run (before ++ event ∷ []) ≡ after_event (state_after run before) event
 state_pushed run before event = after_events-push (opening_state run.opening run.foreigners) before event
 
-pub stands_before : (run : Setting) (before : List Event) (event : Event) (rest : List Event) → IsThere run.opening 0 → IsLegal run (before ++ event ∷ rest) → StandsAfter run before
+pub stands_before : (run : Setting) (before : List Event) (event : Event) (rest : List Event) → IsThere run.opening 0 →
+    IsLegal run (before ++ event ∷ rest) → StandsAfter run before
 stands_before run before event rest root legal = StandsAfter-legal run before root (IsLegal-beginning run before (event ∷ rest) legal)
 
-pub master_made : (run : Setting) (before : List Event) (event : Event) (rest : List Event) (path : Text) (shared : ℕ) → IsThere run.opening 0 → IsLegal run (before ++ event ∷ rest) → Makes event (PfsMaster path shared) → IsMasterFrom run (before ++ event ∷ []) rest (new_pfs (state_after run before).volume)
+pub master_made : (run : Setting) (before : List Event) (event : Event) (rest : List Event) (path : Text) (shared : ℕ) → IsThere run.opening 0 →
+    IsLegal run (before ++ event ∷ rest) → Makes event (PfsMaster path shared) →
+    IsMasterFrom run (before ++ event ∷ []) rest (new_pfs (state_after run before).volume)
 master_made run before event rest path shared root legal makes =
     let state : State = state_after run before in
     let steady : IsSteadyMaster (after_event state event) (new_pfs state.volume) = steady_made state event path shared (stands_before run before event rest root legal).orderly.named makes in
     steady_from run (before ++ event ∷ []) rest (new_pfs state.volume) (one_more run before event rest legal) (subst (λ (s : State). IsSteadyMaster s (new_pfs state.volume)) (sym (state_pushed run before event)) steady)
 
 -- its versions
-last_drawn : (run : Setting) (before : List Event) (event : Event) → MayFollow run before event → StandsAfter run before → event.entry.id.0 ≡ (state_after run before).volume.last + 1
+last_drawn : (run : Setting) (before : List Event) (event : Event) → MayFollow run before event → StandsAfter run before →
+    event.entry.id.0 ≡ (state_after run before).volume.last + 1
 last_drawn run before event follows stands = follows.caused.id ∙ ap (λ (n : ℕ). n + 1) stands.agrees.last
 
 -- versions that rise and begin by an id
@@ -100,7 +113,8 @@ pub record AreInOrder (volume : Volume) (pfs : ℕ) : Type 0 where
   pub begun : BeginBy volume.last (versions_of volume pfs)
 
 -- over an event
-order_event : (state : State) (event : Event) (pfs : ℕ) → IsUnfed state pfs → state.volume.last + 1 ≤ last_after event.entry → AreInOrder state.volume pfs → AreInOrder (after_event state event).volume pfs
+order_event : (state : State) (event : Event) (pfs : ℕ) → IsUnfed state pfs → state.volume.last + 1 ≤ last_after event.entry →
+    AreInOrder state.volume pfs → AreInOrder (after_event state event).volume pfs
 order_event state event pfs unfed later order =
     let id : ℕ = state.volume.last + 1 in
     let old : List (ℕ × FileTree) = versions_of state.volume pfs in
@@ -110,7 +124,8 @@ order_event state event pfs unfed later order =
       begun = rw grows.grown (begin_grown (last_after event.entry) id old grows.more later (by_later state.volume.last (last_after event.entry) old order.begun (omega (arith, later))) grows.begin);
     }
 
-order_history : (state : State) (known : Known) (es : List Event) (pfs : ℕ) → known.last ≡ state.volume.last → IdsFollow known es → IsSteady state es pfs → AreInOrder state.volume pfs → AreInOrder (after_events state es).volume pfs
+order_history : (state : State) (known : Known) (es : List Event) (pfs : ℕ) → known.last ≡ state.volume.last → IdsFollow known es →
+    IsSteady state es pfs → AreInOrder state.volume pfs → AreInOrder (after_events state es).volume pfs
 order_history state known [] pfs same follow steady order = order
 order_history state known (e ∷ es) pfs same follow steady order =
     order_history (after_event state e) (known_after_entry known e.entry) es pfs refl follow.1
@@ -125,17 +140,20 @@ after_both state (b ∷ bs) es = after_both (after_event state b) bs es
 steady_is : (run : Setting) (before rest : List Event) (pfs : ℕ) → IsMasterFrom run before rest pfs → IsSteady (state_after run before) rest pfs
 steady_is run before rest pfs master some more is = subst (λ (s : State). IsSteadyMaster s pfs) (after_both (opening_state run.opening run.foreigners) before some) (master some more is)
 
-pub last_known : (known : Known) (state : State) (before : List Event) → known.last ≡ state.volume.last → (known_after known before).last ≡ (after_events state before).volume.last
+pub last_known : (known : Known) (state : State) (before : List Event) → known.last ≡ state.volume.last →
+    (known_after known before).last ≡ (after_events state before).volume.last
 last_known known state [] same = same
 last_known known state (e ∷ es) same = last_known (known_after_entry known e.entry) (after_event state e) es refl
 
-pub order_later : (run : Setting) (before rest : List Event) (pfs : ℕ) → IsLegal run (before ++ rest) → IsMasterFrom run before rest pfs → AreInOrder (state_after run before).volume pfs → AreInOrder (state_after run (before ++ rest)).volume pfs
+pub order_later : (run : Setting) (before rest : List Event) (pfs : ℕ) → IsLegal run (before ++ rest) → IsMasterFrom run before rest pfs →
+    AreInOrder (state_after run before).volume pfs → AreInOrder (state_after run (before ++ rest)).volume pfs
 order_later run before rest pfs legal master order =
     let known : Known = known_after (known_at run.opening.last run.start) before in
     rw (after_both (opening_state run.opening run.foreigners) before rest)
     (order_history (state_after run before) known rest pfs (last_known (known_at run.opening.last run.start) (opening_state run.opening run.foreigners) before refl) (ids_follow run before rest legal) (steady_is run before rest pfs master) order)
 
-pub order_made : (run : Setting) (before : List Event) (event : Event) (path : Text) (shared : ℕ) → IsLegal run (before ++ event ∷ []) → Makes event (PfsMaster path shared) → AreInOrder (state_after run (before ++ event ∷ [])).volume (new_pfs (state_after run before).volume)
+pub order_made : (run : Setting) (before : List Event) (event : Event) (path : Text) (shared : ℕ) → IsLegal run (before ++ event ∷ []) →
+    Makes event (PfsMaster path shared) → AreInOrder (state_after run (before ++ event ∷ [])).volume (new_pfs (state_after run before).volume)
 order_made run before event path shared legal makes =
     let state : State = state_after run before in
     let follows : MayFollow run before event = legal before event [] refl in
@@ -163,12 +181,15 @@ events_append : (id : ℕ) (xs ys : List Event) → events_to id (xs ++ ys) ≡ 
 events_append id [] ys = refl
 events_append id (x ∷ xs) ys = by (nat_le x.entry.id.0 id) (events_append id xs ys)
   where
-    by : (test : Bool) → events_to id (xs ++ ys) ≡ events_to id xs ++ events_to id ys → (if test then x ∷ events_to id (xs ++ ys) else events_to id (xs ++ ys)) ≡ (if test then x ∷ events_to id xs else events_to id xs) ++ events_to id ys
+    by : (test : Bool) → events_to id (xs ++ ys) ≡ events_to id xs ++ events_to id ys →
+        (if test then x ∷ events_to id (xs ++ ys) else events_to id (xs ++ ys)) ≡ (if test then x ∷ events_to id xs else events_to id xs) ++ events_to id ys
     by true same = ap (λ (zs : List Event). x ∷ zs) same
     by false same = same
 
 -- what a made master has as of an id
-pub shown_made : (run : Setting) (before : List Event) (event : Event) (rest : List Event) (path : Text) (shared id : ℕ) → IsThere run.opening 0 → IsLegal run (before ++ event ∷ rest) → Makes event (PfsMaster path shared) → event.entry.id.0 ≤ id → at (state_after run (before ++ event ∷ rest)).volume (new_pfs (state_after run before).volume) id ≡ shown (state_after run (events_to id (before ++ event ∷ rest))).volume (new_pfs (state_after run before).volume)
+pub shown_made : (run : Setting) (before : List Event) (event : Event) (rest : List Event) (path : Text) (shared id : ℕ) → IsThere run.opening 0 →
+    IsLegal run (before ++ event ∷ rest) → Makes event (PfsMaster path shared) → event.entry.id.0 ≤ id →
+    at (state_after run (before ++ event ∷ rest)).volume (new_pfs (state_after run before).volume) id ≡ shown (state_after run (events_to id (before ++ event ∷ rest))).volume (new_pfs (state_after run before).volume)
 shown_made run before event rest path shared id root legal makes from =
     let opening : State = opening_state run.opening run.foreigners in
     let state : State = state_after run before in
@@ -199,17 +220,22 @@ absent volume slave o none named here writes =
     let wrong : Some there.0 ≡ None = sym found ∙ none in
     cc
 
-fed_absent : (volume : Volume) (slave m : ℕ) (s t : PseudoFileSystem) (o : OpenCall) (command : Command) → o.command ≡ command → system_of volume slave ≡ None → NamesThere volume o → o.pfs ≡ slave → FedAs o.master m s t o.origin command
+fed_absent : (volume : Volume) (slave m : ℕ) (s t : PseudoFileSystem) (o : OpenCall) (command : Command) → o.command ≡ command →
+    system_of volume slave ≡ None → NamesThere volume o → o.pfs ≡ slave → FedAs o.master m s t o.origin command
 fed_absent volume slave m s t o (MirrorCopy from into limit) is none named here = absurd (absent volume slave o none named here (ap rewrites is))
 fed_absent volume slave m s t o (MirrorWrite into) is none named here = absurd (absent volume slave o none named here (ap rewrites is))
 fed_absent volume slave m s t o command is none named here = tt
 
-none_feed : (volume : Volume) (slave m : ℕ) (s t : PseudoFileSystem) (os : List OpenCall) → system_of volume slave ≡ None → AllByRecursion (NamesThere volume) os → AllByRecursion (FedBy slave m s t) os
+none_feed : (volume : Volume) (slave m : ℕ) (s t : PseudoFileSystem) (os : List OpenCall) → system_of volume slave ≡ None →
+    AllByRecursion (NamesThere volume) os → AllByRecursion (FedBy slave m s t) os
 none_feed volume slave m s t [] none named = tt
 none_feed volume slave m s t (o ∷ os) none named = (λ here. fed_absent volume slave m s t o o.command refl none named.0 here, none_feed volume slave m s t os none named.1)
 
 -- a made slave has its twin at once
-twin_made : (run : Setting) (before : List Event) (event : Event) (path : Text) (shared m : ℕ) → StandsAfter run before → Makes event (PfsSlave path shared) → IsSteadyMaster (after_event (state_after run before) event) m → AreInOrder (after_event (state_after run before) event).volume m → IsTwin (after_event (state_after run before) event) (new_pfs (state_after run before).volume) m
+twin_made : (run : Setting) (before : List Event) (event : Event) (path : Text) (shared m : ℕ) → StandsAfter run before →
+    Makes event (PfsSlave path shared) → IsSteadyMaster (after_event (state_after run before) event) m →
+    AreInOrder (after_event (state_after run before) event).volume m →
+    IsTwin (after_event (state_after run before) event) (new_pfs (state_after run before).volume) m
 twin_made run before event path shared m stands makes steady order =
     let state : State = state_after run before in
     let pfs : ℕ = new_pfs state.volume in
@@ -228,7 +254,10 @@ twin_made run before event path shared m stands makes steady order =
       begun = rw versions at order.begun;
     }
 
-pub follows_made : (run : Setting) (before : List Event) (event : Event) (rest : List Event) (path : Text) (shared m : ℕ) → IsThere run.opening 0 → IsLegal run (before ++ event ∷ rest) → Makes event (PfsSlave path shared) → IsMasterFrom run (before ++ event ∷ []) rest m → AreInOrder (state_after run (before ++ event ∷ [])).volume m → FollowsMaster (state_after run (before ++ event ∷ rest)).volume (new_pfs (state_after run before).volume) m
+pub follows_made : (run : Setting) (before : List Event) (event : Event) (rest : List Event) (path : Text) (shared m : ℕ) → IsThere run.opening 0 →
+    IsLegal run (before ++ event ∷ rest) → Makes event (PfsSlave path shared) → IsMasterFrom run (before ++ event ∷ []) rest m →
+    AreInOrder (state_after run (before ++ event ∷ [])).volume m →
+    FollowsMaster (state_after run (before ++ event ∷ rest)).volume (new_pfs (state_after run before).volume) m
 follows_made run before event rest path shared m root legal makes master order =
     let pfs : ℕ = new_pfs (state_after run before).volume in
     let stands : StandsAfter run before = stands_before run before event rest root legal in

@@ -33,7 +33,8 @@ use Rattle.hm_model.proofs.RetentionLemmas.{IsIntervals-cut}
 use Rattle.hm_model.proofs.TwinHistoryLemmas.{master_later}
 
 -- the interval that keeps the greatest number is the last, and ends there
-last_open : (least : ℕ) (list : List (ℕ × ℕ)) → RiseFrom least list → Keeps list open_end → (front : List (ℕ × ℕ)) × (last : ℕ × ℕ) × (list ≡ front ++ last ∷ []) × (last.1 ≡ open_end)
+last_open : (least : ℕ) (list : List (ℕ × ℕ)) → RiseFrom least list → Keeps list open_end →
+    (front : List (ℕ × ℕ)) × (last : ℕ × ℕ) × (list ≡ front ++ last ∷ []) × (last.1 ≡ open_end)
 last_open least [] rise kept = absurd kept
 last_open least (x ∷ []) rise (inl held) = ([], x, refl, omega (arith, held.1, rise.0.bounded))
 last_open least (x ∷ []) rise (inr none) = absurd none
@@ -42,7 +43,8 @@ last_open least (x ∷ y ∷ ys) rise (inr kept) =
     let rest = last_open (x.1 + 2) (y ∷ ys) rise.1 kept in
     (x ∷ rest.0, rest.1, ap (λ (is : List (ℕ × ℕ)). x ∷ is) rest.2, rest.3)
 
-pub last-open : (retention : List (ℕ × ℕ)) → IsOpenEnded retention → (front : List (ℕ × ℕ)) × (last : ℕ × ℕ) × (retention ≡ front ++ last ∷ []) × (last.1 ≡ open_end)
+pub last-open : (retention : List (ℕ × ℕ)) → IsOpenEnded retention →
+    (front : List (ℕ × ℕ)) × (last : ℕ × ℕ) × (retention ≡ front ++ last ∷ []) × (last.1 ≡ open_end)
 last-open retention endless = last_open 0 retention endless.intervals endless.kept
 
 -- a cut from an id on leaves the open end
@@ -58,7 +60,8 @@ greatest_to : (shown : ℕ) (ids : List ℕ) → greatest (filter (λ id. nat_le
 greatest_to shown [] = omega arith
 greatest_to shown (id ∷ ids) = by (nat_le id shown) refl (greatest_to shown ids)
   where
-    by : (test : Bool) → nat_le id shown ≡ test → greatest (filter (λ i. nat_le i shown) ids) ≤ shown → greatest (filter (λ i. nat_le i shown) (id ∷ ids)) ≤ shown
+    by : (test : Bool) → nat_le id shown ≡ test → greatest (filter (λ i. nat_le i shown) ids) ≤ shown →
+        greatest (filter (λ i. nat_le i shown) (id ∷ ids)) ≤ shown
     by true is rest = let low : id ≤ shown = grind (arith, nat_tests, is) in rw is (omega (arith, low, rest))
     by false is rest = rw is rest
 
@@ -70,7 +73,8 @@ pub record HasOpen (volume : Volume) (pfs : ℕ) : Type 0 where
   pub endless : IsOpenEnded system.retention
 
 -- a change of a PFS that leaves it so
-open_changed : (volume : Volume) (pfs other : ℕ) (f : PseudoFileSystem → PseudoFileSystem) → KeepsNumber f → (has : HasOpen volume pfs) → (other ≡ pfs → ((f has.system).role ≡ Master) × IsOpenEnded (f has.system).retention) → HasOpen (of_pfs volume other f) pfs
+open_changed : (volume : Volume) (pfs other : ℕ) (f : PseudoFileSystem → PseudoFileSystem) → KeepsNumber f → (has : HasOpen volume pfs) →
+    (other ≡ pfs → ((f has.system).role ≡ Master) × IsOpenEnded (f has.system).retention) → HasOpen (of_pfs volume other f) pfs
 open_changed volume pfs other f keeps has gives = elim (same_or_not other pfs) [
   | inl same ↦
       let found : system_of (of_pfs volume other f) pfs ≡ Some (f has.system) =
@@ -81,7 +85,8 @@ open_changed volume pfs other f keeps has gives = elim (same_or_not other pfs) [
 ]
 
 -- the ids that a prune of a master keeps
-kept_low : (call : Call) (s : PseudoFileSystem) → system_of call.volume (first_site call).at.pfs ≡ Some s → s.role ≡ Master → greatest (kept_ids call) ≤ own_id call
+kept_low : (call : Call) (s : PseudoFileSystem) → system_of call.volume (first_site call).at.pfs ≡ Some s → s.role ≡ Master →
+    greatest (kept_ids call) ≤ own_id call
 kept_low call s found role =
     let ids : kept_ids call ≡ snapshot_ids (site_tree call (first_site call)) (first_site call).at.object (call_shown call s) = ap (λ (x : Option PseudoFileSystem). option_map_or (λ (t : PseudoFileSystem). snapshot_ids (site_tree call (first_site call)) (first_site call).at.object (call_shown call t)) x []) found in
     let shown : call_shown call s ≡ own_id call = ap (λ (r : Role). elim r [ Master ↦ own_id call | Slave ↦ s.sync_end ]) role in
@@ -97,7 +102,8 @@ open_tree call pfs has =
     (λ shared. record { system = once.system; found = still_found (versioned call).systems (new_slave (new_pfs call.volume) shared) once.system pfs once.found; role = once.role; endless = once.endless })
 
 -- over an accepted call
-open_accepted : (state : State) (event : Event) (pfs : ℕ) → state.volume.last + 1 ≤ open_end → HasOpen state.volume pfs → HasOpen (accepted_effect state (call_of no_hash state event)).volume pfs
+open_accepted : (state : State) (event : Event) (pfs : ℕ) → state.volume.last + 1 ≤ open_end → HasOpen state.volume pfs →
+    HasOpen (accepted_effect state (call_of no_hash state event)).volume pfs
 open_accepted state event pfs drawn has =
     let call : Call = call_of no_hash state event in
     let a : ℕ = (first_site call).at.pfs in
@@ -122,14 +128,16 @@ open_accepted state event pfs drawn has =
     by false = has
 
 -- over an event
-open_event : (state : State) (event : Event) (pfs : ℕ) → IsUnfed state pfs → state.volume.last + 1 ≤ open_end → HasOpen state.volume pfs → HasOpen (after_event state event).volume pfs
+open_event : (state : State) (event : Event) (pfs : ℕ) → IsUnfed state pfs → state.volume.last + 1 ≤ open_end → HasOpen state.volume pfs →
+    HasOpen (after_event state event).volume pfs
 open_event state event pfs unfed drawn has =
     let whole : HasOpen (effect state event).volume pfs = effect_cases (λ (s : State). HasOpen s.volume pfs) state event event.entry.call has
     (λ opening. record { system = has.system; found = ended_system state opening event.entry.reply pfs unfed ∙ has.found; role = has.role; endless = has.endless })
     (open_accepted state event pfs drawn has) in
     record { system = whole.system; found = whole.found; role = whole.role; endless = whole.endless }
 
-open_history : (run : Setting) (before es : List Event) (pfs : ℕ) → IsLegal run (before ++ es) → IsMasterFrom run before es pfs → HasOpen (state_after run before).volume pfs → HasOpen (state_after run (before ++ es)).volume pfs
+open_history : (run : Setting) (before es : List Event) (pfs : ℕ) → IsLegal run (before ++ es) → IsMasterFrom run before es pfs →
+    HasOpen (state_after run before).volume pfs → HasOpen (state_after run (before ++ es)).volume pfs
 open_history run before [] pfs legal master has = rw append-nil has
 open_history run before (e ∷ es) pfs legal master has =
     let state : State = state_after run before in
@@ -142,14 +150,16 @@ open_history run before (e ∷ es) pfs legal master has =
     let together : (before ++ e ∷ []) ++ es ≡ before ++ e ∷ es = append_assoc before (e ∷ []) es in
     rw (← together) (open_history run (before ++ e ∷ []) es pfs (rw together legal) (master_later run before e es pfs master) (subst (λ (s : State). HasOpen s.volume pfs) (sym pushed) next))
 
-pub open-later : (run : Setting) (before rest : List Event) (pfs : ℕ) → IsLegal run (before ++ rest) → IsMasterFrom run before rest pfs → IsOpenEnded (retention_of (state_after run before).volume pfs) → IsOpenEnded (retention_of (state_after run (before ++ rest)).volume pfs)
+pub open-later : (run : Setting) (before rest : List Event) (pfs : ℕ) → IsLegal run (before ++ rest) → IsMasterFrom run before rest pfs →
+    IsOpenEnded (retention_of (state_after run before).volume pfs) → IsOpenEnded (retention_of (state_after run (before ++ rest)).volume pfs)
 open-later run before rest pfs legal master endless =
     let steady : IsSteadyMaster (state_after run before) pfs = rw append-nil at (master [] rest refl) in
     let has : HasOpen (state_after run before).volume pfs = record { system = steady.system; found = steady.found; role = steady.master; endless = rw (retention_found (state_after run before).volume pfs steady.system steady.found) at endless } in
     let later : HasOpen (state_after run (before ++ rest)).volume pfs = open_history run before rest pfs legal master has in
     rw (retention_found (state_after run (before ++ rest)).volume pfs later.system later.found) later.endless
 
-pub open-made : (run : Setting) (before : List Event) (event : Event) (path : Text) (shared : ℕ) → Makes event (PfsMaster path shared) → IsOpenEnded (retention_of (state_after run (before ++ event ∷ [])).volume (new_pfs (state_after run before).volume))
+pub open-made : (run : Setting) (before : List Event) (event : Event) (path : Text) (shared : ℕ) → Makes event (PfsMaster path shared) →
+    IsOpenEnded (retention_of (state_after run (before ++ event ∷ [])).volume (new_pfs (state_after run before).volume))
 open-made run before event path shared makes =
     let state : State = state_after run before in
     let pfs : ℕ = new_pfs state.volume in

@@ -38,13 +38,15 @@ pub record IsOrderly (volume : Volume) (opened : List OpenCall) : Type 0 where
   pub one : OnePass opened
 
 -- what is there stays, over an accepted call and over the end of one
-there_accepted : (state : State) (call : Call) (pfs : ℕ) → call.volume ≡ state.volume → IsThere state.volume pfs → IsThere (accepted_effect state call).volume pfs
+there_accepted : (state : State) (call : Call) (pfs : ℕ) → call.volume ≡ state.volume → IsThere state.volume pfs →
+    IsThere (accepted_effect state call).volume pfs
 there_accepted state call pfs same there =
     let aged : AgesIn state.volume.last (Some there.0) (system_of (accepted_effect state call).volume pfs) = rw there.1 at (ages_accepted state call pfs same) in
     let u = aged_some state.volume.last there.0 (system_of (accepted_effect state call).volume pfs) aged in
     (u.0, u.1)
 
-there_changed : (volume : Volume) (pfs other : ℕ) (f : PseudoFileSystem → PseudoFileSystem) → KeepsNumber f → IsThere volume pfs → IsThere (of_pfs volume other f) pfs
+there_changed : (volume : Volume) (pfs other : ℕ) (f : PseudoFileSystem → PseudoFileSystem) → KeepsNumber f → IsThere volume pfs →
+    IsThere (of_pfs volume other f) pfs
 there_changed volume pfs other f keeps there = elim (same_or_not other pfs) [
   | inl same ↦ (f there.0, rw same (found-changed pfs f volume.systems keeps ∙ ap (λ (x : Option PseudoFileSystem). option_map_or (λ (y : PseudoFileSystem). Some (f y)) x None) there.1))
   | inr differ ↦ (there.0, found-other pfs other f volume.systems keeps differ ∙ there.1)
@@ -60,16 +62,19 @@ there_end volume reply o pfs there = end_by (λ (v : Volume). IsThere v pfs) vol
     write true = there_changed volume pfs o.pfs (with_origin o.origin) (λ x. refl) there
     write false = pass
 
-there_ended : (volume : Volume) (reply : Reply) (found : Option OpenCall) (pfs : ℕ) → IsThere volume pfs → IsThere (option_map_or (end_effect volume reply) found volume) pfs
+there_ended : (volume : Volume) (reply : Reply) (found : Option OpenCall) (pfs : ℕ) → IsThere volume pfs →
+    IsThere (option_map_or (end_effect volume reply) found volume) pfs
 there_ended volume reply None pfs there = there
 there_ended volume reply (Some o) pfs there = there_end volume reply o pfs there
 
 -- what all open calls have over one change of volumes
-all_there : (a b : Volume) (os : List OpenCall) → ((pfs : ℕ) → IsThere a pfs → IsThere b pfs) → AllByRecursion (NamesThere a) os → AllByRecursion (NamesThere b) os
+all_there : (a b : Volume) (os : List OpenCall) → ((pfs : ℕ) → IsThere a pfs → IsThere b pfs) → AllByRecursion (NamesThere a) os →
+    AllByRecursion (NamesThere b) os
 all_there a b [] stays all = tt
 all_there a b (o ∷ os) stays all = (λ writes. stays o.pfs (all.0 writes), all_there a b os stays all.1)
 
-orderly_accepted : (state : State) (call : Call) → call.volume ≡ state.volume → (is_pass call.command ≡ true → NoPass state.opened) → IsOrderly state.volume state.opened → IsOrderly (accepted_effect state call).volume (accepted_effect state call).opened
+orderly_accepted : (state : State) (call : Call) → call.volume ≡ state.volume → (is_pass call.command ≡ true → NoPass state.opened) →
+    IsOrderly state.volume state.opened → IsOrderly (accepted_effect state call).volume (accepted_effect state call).opened
 orderly_accepted state call same alone orderly =
     let after : State = accepted_effect state call in
     let stays : (pfs : ℕ) → IsThere state.volume pfs → IsThere after.volume pfs = λ pfs there. there_accepted state call pfs same there in
@@ -89,7 +94,8 @@ orderly_accepted state call same alone orderly =
     ] in
     record { root = stays 0 orderly.root; named = both.0; one = both.1 }
 
-orderly_ended : (state : State) (opening : ℕ) (reply : Reply) → IsOrderly state.volume state.opened → IsOrderly (ended state opening reply).volume (ended state opening reply).opened
+orderly_ended : (state : State) (opening : ℕ) (reply : Reply) → IsOrderly state.volume state.opened →
+    IsOrderly (ended state opening reply).volume (ended state opening reply).opened
 orderly_ended state opening reply orderly =
     let after : Volume = (ended state opening reply).volume in
     let stays : (pfs : ℕ) → IsThere state.volume pfs → IsThere after pfs = λ pfs there. there_ended state.volume reply (opened_with opening state.opened) pfs there in
@@ -100,12 +106,15 @@ orderly_ended state opening reply orderly =
     }
 
 -- over an event
-orderly_event : (known : Known) (state : State) (event : Event) (numbers : List ℕ) → Agrees known state → IsPossible (early_refusal known event) numbers event.entry.reply → IsOrderly state.volume state.opened → IsOrderly (after_event state event).volume (after_event state event).opened
+orderly_event : (known : Known) (state : State) (event : Event) (numbers : List ℕ) → Agrees known state →
+    IsPossible (early_refusal known event) numbers event.entry.reply → IsOrderly state.volume state.opened →
+    IsOrderly (after_event state event).volume (after_event state event).opened
 orderly_event known state event numbers agrees early orderly =
     let whole : IsOrderly (effect state event).volume (effect state event).opened = by (is_ending event.entry.call) refl in
     record { root = whole.root; named = whole.named; one = whole.one }
   where
-    call : (test : Bool) → is_refusal event.entry.reply ≡ test → IsOrderly (if test then state else accepted_effect state (call_of no_hash state event)).volume (if test then state else accepted_effect state (call_of no_hash state event)).opened
+    call : (test : Bool) → is_refusal event.entry.reply ≡ test →
+        IsOrderly (if test then state else accepted_effect state (call_of no_hash state event)).volume (if test then state else accepted_effect state (call_of no_hash state event)).opened
     call true is = orderly
     call false is = orderly_accepted state (call_of no_hash state event) refl (λ pass. none_busy state.opened (rw agrees.opened at (accepted_alone known event numbers early is pass))) orderly
 
@@ -140,7 +149,8 @@ pub StandsAfter-legal : (run : Setting) (events : List Event) → IsThere run.op
 StandsAfter-legal run events root legal = stands_on run [] events legal (record { agrees = record { last = refl; opened = refl }; orderly = record { root = root; named = tt; one = tt } })
 
 -- no open call rewrites a PFS that is not there
-pub none_unfed : (volume : Volume) (pfs : ℕ) (os : List OpenCall) → system_of volume pfs ≡ None → AllByRecursion (NamesThere volume) os → list_any (is_rewriter pfs) os ≡ false
+pub none_unfed : (volume : Volume) (pfs : ℕ) (os : List OpenCall) → system_of volume pfs ≡ None → AllByRecursion (NamesThere volume) os →
+    list_any (is_rewriter pfs) os ≡ false
 none_unfed volume pfs [] none named = refl
 none_unfed volume pfs (o ∷ os) none named = rw (head (eqb o.pfs pfs) (rewrites o.command) refl refl) (rw (none_unfed volume pfs os none named.1) refl)
   where

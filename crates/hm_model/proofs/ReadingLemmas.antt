@@ -70,11 +70,13 @@ digits_are (b ∷ bs) all =
     (here, digits_are bs both.1)
 
 -- a component that is an id
-pub dated : (digits : List ℕ) → length digits ≡ 16 → list_all (λ b. nat_lt (digit_value b) 16) digits ≡ true → IsComponent (id_sign ++ digits) (record { name = None; as_of = Some (record { 0 = digits_value 16 digits }) })
+pub dated : (digits : List ℕ) → length digits ≡ 16 → list_all (λ b. nat_lt (digit_value b) 16) digits ≡ true →
+    IsComponent (id_sign ++ digits) (record { name = None; as_of = Some (record { 0 = digits_value 16 digits }) })
 dated digits size each = record { digits = digits; written = refl; spelled = record { size = size; each = digits_are digits each; value = refl } }
 
 -- a word is a path of parts, where its components are written as they are
-pub path : (word : List ℕ) (parts : List Part) → nat_le (length word) MOST_PATH_BYTES ≡ true → get_or word 0 0 ≡ 0x2F → nat_le (length parts) MOST_PATH_PARTS ≡ true → AllZip IsComponent (component_texts (drop 1 word)) parts → IsPath word parts
+pub path : (word : List ℕ) (parts : List Part) → nat_le (length word) MOST_PATH_BYTES ≡ true → get_or word 0 0 ≡ 0x2F →
+    nat_le (length parts) MOST_PATH_PARTS ≡ true → AllZip IsComponent (component_texts (drop 1 word)) parts → IsPath word parts
 path word parts size rooted few each =
     let within : length word ≤ MOST_PATH_BYTES = grind (arith, nat_tests, size) in
     let count : length parts ≤ MOST_PATH_PARTS = grind (arith, nat_tests, few) in

@@ -112,7 +112,8 @@ opened_length (i ∷ []) = refl
 opened_length (i ∷ j ∷ is) = let rest : length (opened_end (j ∷ is)) ≡ length (j ∷ is) = opened_length (j ∷ is) in omega (arith, rest)
 
 -- a change of one PFS that leaves it small
-small_changed : (volume : Volume) (other : ℕ) (f : PseudoFileSystem → PseudoFileSystem) → KeepsNumber f → AreSmall volume → ((s : PseudoFileSystem) → system_of volume other ≡ Some s → length (f s).retention ≤ MOST_INTERVALS) → AreSmall (of_pfs volume other f)
+small_changed : (volume : Volume) (other : ℕ) (f : PseudoFileSystem → PseudoFileSystem) → KeepsNumber f → AreSmall volume →
+    ((s : PseudoFileSystem) → system_of volume other ≡ Some s → length (f s).retention ≤ MOST_INTERVALS) → AreSmall (of_pfs volume other f)
 small_changed volume other f keeps small gives pfs t found = elim (same_or_not other pfs) [
   | inl same ↦
       let changed : system_of (of_pfs volume other f) other ≡ option_map_or (λ (s : PseudoFileSystem). Some (f s)) (system_of volume other) None = found-changed other f volume.systems keeps in
@@ -120,21 +121,26 @@ small_changed volume other f keeps small gives pfs t found = elim (same_or_not o
   | inr differ ↦ small pfs t (sym (found-other pfs other f volume.systems keeps differ) ∙ found)
 ]
   where
-    by : (was : Option PseudoFileSystem) → system_of volume other ≡ was → option_map_or (λ (s : PseudoFileSystem). Some (f s)) was None ≡ Some t → length t.retention ≤ MOST_INTERVALS
+    by : (was : Option PseudoFileSystem) → system_of volume other ≡ was → option_map_or (λ (s : PseudoFileSystem). Some (f s)) was None ≡ Some t →
+        length t.retention ≤ MOST_INTERVALS
     by None is none = absurd (cc)
     by (Some s) is some = let one : f s ≡ t = cc in subst (λ (u : PseudoFileSystem). length u.retention ≤ MOST_INTERVALS) one (gives s is)
 
-small_same : (volume : Volume) (other : ℕ) (f : PseudoFileSystem → PseudoFileSystem) → KeepsNumber f → ((s : PseudoFileSystem) → (f s).retention ≡ s.retention) → AreSmall volume → AreSmall (of_pfs volume other f)
+small_same : (volume : Volume) (other : ℕ) (f : PseudoFileSystem → PseudoFileSystem) → KeepsNumber f →
+    ((s : PseudoFileSystem) → (f s).retention ≡ s.retention) → AreSmall volume → AreSmall (of_pfs volume other f)
 small_same volume other f keeps same small = small_changed volume other f keeps small (λ s found. rw (same s) (small other s found))
 
-small_pushed : (systems : List PseudoFileSystem) (new : PseudoFileSystem) → length new.retention ≤ MOST_INTERVALS → ((pfs : ℕ) (s : PseudoFileSystem) → found_in systems pfs ≡ Some s → length s.retention ≤ MOST_INTERVALS) → (pfs : ℕ) (s : PseudoFileSystem) → found_in (systems ++ new ∷ []) pfs ≡ Some s → length s.retention ≤ MOST_INTERVALS
+small_pushed : (systems : List PseudoFileSystem) (new : PseudoFileSystem) → length new.retention ≤ MOST_INTERVALS →
+    ((pfs : ℕ) (s : PseudoFileSystem) → found_in systems pfs ≡ Some s → length s.retention ≤ MOST_INTERVALS) → (pfs : ℕ) (s : PseudoFileSystem) →
+    found_in (systems ++ new ∷ []) pfs ≡ Some s → length s.retention ≤ MOST_INTERVALS
 small_pushed systems new few small pfs s found = by (found_in systems pfs) refl (sym (found-pushed systems new pfs) ∙ found)
   where
     beside : (test : Bool) → (if test then Some new else None) ≡ Some s → length s.retention ≤ MOST_INTERVALS
     beside true is = let one : new ≡ s = cc in subst (λ (u : PseudoFileSystem). length u.retention ≤ MOST_INTERVALS) one few
     beside false is = absurd (cc)
 
-    by : (was : Option PseudoFileSystem) → found_in systems pfs ≡ was → option_map_or (λ (x : PseudoFileSystem). Some x) was (found_in (new ∷ []) pfs) ≡ Some s → length s.retention ≤ MOST_INTERVALS
+    by : (was : Option PseudoFileSystem) → found_in systems pfs ≡ was →
+        option_map_or (λ (x : PseudoFileSystem). Some x) was (found_in (new ∷ []) pfs) ≡ Some s → length s.retention ≤ MOST_INTERVALS
     by None is some = beside (eqb new.number pfs) some
     by (Some x) is some = let one : x ≡ s = cc in small pfs s (is ∙ ap Some one)
 
@@ -157,7 +163,9 @@ left_by command call = elim command [
 prune_passes : (command : Command) (path : List ℕ) (call : Call) → command ≡ Prune path → left_by command call ≡ None → pruned_count call ≤ MOST_INTERVALS
 prune_passes command path call is fits = by (nat_lt MOST_INTERVALS (pruned_count call)) refl (rw is at fits)
   where
-    by : (test : Bool) → nat_lt MOST_INTERVALS (pruned_count call) ≡ test → refuse_if (nat_lt MOST_INTERVALS (pruned_count call)) (TooManyIntervals (min (pruned_count call) (2 ^ 32 - 1))) ≡ None → pruned_count call ≤ MOST_INTERVALS
+    by : (test : Bool) → nat_lt MOST_INTERVALS (pruned_count call) ≡ test →
+        refuse_if (nat_lt MOST_INTERVALS (pruned_count call)) (TooManyIntervals (min (pruned_count call) (2 ^ 32 - 1))) ≡ None →
+        pruned_count call ≤ MOST_INTERVALS
     by true test none = absurd (let some : Some (TooManyIntervals (min (pruned_count call) (2 ^ 32 - 1))) ≡ None = rw test at none in cc)
     by false test none = grind (arith, nat_tests, test)
 
@@ -178,7 +186,8 @@ abbrev IsSmallState : State → Type 0
 IsSmallState s = AreSmall s.volume
 
 -- an accepted call
-small_accepted : (state : State) (event : Event) (command : Command) → event.entry.call ≡ command → intervals_left (call_of name_hash state event) ≡ None → AreSmall state.volume →
+small_accepted : (state : State) (event : Event) (command : Command) → event.entry.call ≡ command →
+    intervals_left (call_of name_hash state event) ≡ None → AreSmall state.volume →
     IsSmallState (elim command [
       | Prune path ↦ on_volume (with_opened state (call_of no_hash state event) (first_site (call_of no_hash state event)).at.pfs (first_site (call_of no_hash state event)).at.pfs no_feed)
           (of_pfs state.volume (first_site (call_of no_hash state event)).at.pfs (λ s. retaining (pruned s.retention (kept_ids (call_of no_hash state event))) s))
@@ -224,14 +233,18 @@ merges_not (MirrorCopy master slave limit) is = refl
 merges_not (MirrorWrite path) is = refl
 merges_not command is = absurd (cc)
 
-join_small : (volume : Volume) (o : OpenCall) (ending begin end : ℕ) (s : PseudoFileSystem) → merges o.command ≡ true → IsPassed volume o ending begin end → system_of volume o.pfs ≡ Some s → length (join s.retention (given_in volume o).retention begin end) ≤ MOST_INTERVALS
+join_small : (volume : Volume) (o : OpenCall) (ending begin end : ℕ) (s : PseudoFileSystem) → merges o.command ≡ true →
+    IsPassed volume o ending begin end → system_of volume o.pfs ≡ Some s →
+    length (join s.retention (given_in volume o).retention begin end) ≤ MOST_INTERVALS
 join_small volume o ending begin end s merging passed found =
     let count : gained_count volume o end ≡ joined_count volume o end = ap (λ (test : Bool). if test then 0 else joined_count volume o end) (merges_not o.command merging) in
     let some : joined_count volume o end ≡ length (join s.retention (given_in volume o).retention (begin_of volume o) end) = ap (λ (x : Option PseudoFileSystem). option_map_or (λ (t : PseudoFileSystem). length (join t.retention (given_in volume o).retention (begin_of volume o) end)) x 0) found in
     let few : length (join s.retention (given_in volume o).retention (begin_of volume o) end) ≤ MOST_INTERVALS = omega (arith, passed.fits, count, some) in
     subst (λ (b : ℕ). length (join s.retention (given_in volume o).retention b end) ≤ MOST_INTERVALS) (sym passed.begins) few
 
-small_end : (run : Setting) (before : List Event) (event : Event) (opening : Id) (o : OpenCall) → MayFollow run before event → event.entry.call ≡ End opening → opened_with opening.0 (state_after run before).opened ≡ Some o → AreSmall (state_after run before).volume → AreSmall (end_effect (state_after run before).volume event.entry.reply o)
+small_end : (run : Setting) (before : List Event) (event : Event) (opening : Id) (o : OpenCall) → MayFollow run before event →
+    event.entry.call ≡ End opening → opened_with opening.0 (state_after run before).opened ≡ Some o → AreSmall (state_after run before).volume →
+    AreSmall (end_effect (state_after run before).volume event.entry.reply o)
 small_end run before event opening o follows call found small =
     end_by AreSmall volume reply o o.command refl small (λ from into limit is. pass (ap merges is)) (λ into is. write (ap merges is) (nothing_merged reply))
     (λ path is. upgrade_by AreSmall volume o reply small (small_changed volume o.pfs upgraded (λ s. refl) small (λ s there. subst (λ (n : ℕ). n ≤ MOST_INTERVALS) (sym (opened_length s.retention)) (small o.pfs s there))))
@@ -248,25 +261,30 @@ small_end run before event opening o follows call found small =
         let ends : EndsPass (state_after run before) event o begin end = record { opening = opening; call = call; reply = told; found = found; pass = merging } in
         join_small (state_after run before).volume o event.entry.id.0 begin.0 end.0 s merging (passed_legal run before event o begin end follows ends) there))
 
-    write : merges o.command ≡ true → (test : Bool) → AreSmall (if test then of_pfs (state_after run before).volume o.pfs (with_origin o.origin) else end_of_pass (state_after run before).volume o event.entry.reply)
+    write : merges o.command ≡ true → (test : Bool) →
+        AreSmall (if test then of_pfs (state_after run before).volume o.pfs (with_origin o.origin) else end_of_pass (state_after run before).volume o event.entry.reply)
     write merging true = small_same (state_after run before).volume o.pfs (with_origin o.origin) (λ s. refl) (λ s. refl) small
     write merging false = pass merging
 
-small_ended : (run : Setting) (before : List Event) (event : Event) (opening : Id) → MayFollow run before event → event.entry.call ≡ End opening → AreSmall (state_after run before).volume → AreSmall (ended (state_after run before) opening.0 event.entry.reply).volume
+small_ended : (run : Setting) (before : List Event) (event : Event) (opening : Id) → MayFollow run before event → event.entry.call ≡ End opening →
+    AreSmall (state_after run before).volume → AreSmall (ended (state_after run before) opening.0 event.entry.reply).volume
 small_ended run before event opening follows call small = by (opened_with opening.0 (state_after run before).opened) refl
   where
-    by : (found : Option OpenCall) → opened_with opening.0 (state_after run before).opened ≡ found → AreSmall (option_map_or (end_effect (state_after run before).volume event.entry.reply) found (state_after run before).volume)
+    by : (found : Option OpenCall) → opened_with opening.0 (state_after run before).opened ≡ found →
+        AreSmall (option_map_or (end_effect (state_after run before).volume event.entry.reply) found (state_after run before).volume)
     by None is = small
     by (Some o) is = small_end run before event opening o follows call is small
 
 -- an event
-small_event : (run : Setting) (before : List Event) (event : Event) → MayFollow run before event → AreSmall (state_after run before).volume → AreSmall (effect (state_after run before) event).volume
+small_event : (run : Setting) (before : List Event) (event : Event) → MayFollow run before event → AreSmall (state_after run before).volume →
+    AreSmall (effect (state_after run before) event).volume
 small_event run before event follows small = by (is_ending event.entry.call) refl
   where
     state : State
     state = state_after run before
 
-    call : (test : Bool) → is_refusal event.entry.reply ≡ test → AreSmall (if test then state_after run before else accepted_effect (state_after run before) (call_of no_hash (state_after run before) event)).volume
+    call : (test : Bool) → is_refusal event.entry.reply ≡ test →
+        AreSmall (if test then state_after run before else accepted_effect (state_after run before) (call_of no_hash (state_after run before) event)).volume
     call true is = small
     call false is = small_accepted (state_after run before) event event.entry.call refl (follows.lands is).fits small
 
@@ -278,7 +296,8 @@ small_event run before event follows small = by (is_ending event.entry.call) ref
         let goes : effect (state_after run before) event ≡ (if is_refusal event.entry.reply then state_after run before else accepted_effect (state_after run before) (call_of no_hash (state_after run before) event)) = not_ending (λ opening. ended (state_after run before) opening.0 event.entry.reply) (if is_refusal event.entry.reply then state_after run before else accepted_effect (state_after run before) (call_of no_hash (state_after run before) event)) event.entry.call is in
         subst (λ (s : State). AreSmall s.volume) (sym goes) (call (is_refusal event.entry.reply) refl)
 
-small_history : (run : Setting) (before es : List Event) → IsLegal run (before ++ es) → AreSmall (state_after run before).volume → AreSmall (state_after run (before ++ es)).volume
+small_history : (run : Setting) (before es : List Event) → IsLegal run (before ++ es) → AreSmall (state_after run before).volume →
+    AreSmall (state_after run (before ++ es)).volume
 small_history run before [] legal small = rw append-nil small
 small_history run before (e ∷ es) legal small =
     let next : AreSmall (after_event (state_after run before) e).volume = small_event run before e (legal before e es refl) small in

@@ -44,14 +44,17 @@ AllFollow now free done known state (e ∷ es) =
     × AllFollow now free (done ++ e.entry ∷ []) (known_after_entry known e.entry) (after_event state e) es
 
 -- so each finds what it needs
-follows_at : (now : Counts) (free : ℕ) (done : List Entry) (known : Known) (state : State) (before : List Event) (event : Event) (rest : List Event) → AllFollow now free done known state (before ++ event ∷ rest) → CanFollow now (floor free (done ++ entries_of before)) (known_after known before) (after_events state before) event
+follows_at : (now : Counts) (free : ℕ) (done : List Entry) (known : Known) (state : State) (before : List Event) (event : Event) (rest : List Event) →
+    AllFollow now free done known state (before ++ event ∷ rest) →
+    CanFollow now (floor free (done ++ entries_of before)) (known_after known before) (after_events state before) event
 follows_at now free done known state [] event rest all = rw append-nil all.0
 follows_at now free done known state (b ∷ bs) event rest all =
     let later : CanFollow now (floor free ((done ++ b.entry ∷ []) ++ entries_of bs)) (known_after (known_after_entry known b.entry) bs) (after_events (after_event state b) bs) event =
     follows_at now free (done ++ b.entry ∷ []) (known_after_entry known b.entry) (after_event state b) bs event rest all.1 in
     rw append_assoc at later
 
-pub IsLegal-steps : (run : Setting) (events : List Event) → AllFollow run.now run.free [] (known_at run.opening.last run.start) (opening_state run.opening run.foreigners) events → IsLegal run events
+pub IsLegal-steps : (run : Setting) (events : List Event) →
+    AllFollow run.now run.free [] (known_at run.opening.last run.start) (opening_state run.opening run.foreigners) events → IsLegal run events
 IsLegal-steps run events all before event rest is =
     let whole : AllFollow run.now run.free [] (known_at run.opening.last run.start) (opening_state run.opening run.foreigners) (before ++ event ∷ rest) = rw is at all in
     let step : CanFollow run.now (floor run.free (entries_of before)) (known_after (known_at run.opening.last run.start) before) (state_after run before) event =
@@ -103,7 +106,10 @@ lands_so call reply well named =
 
 -- An event may follow where the tests say so, its path words are read so, its reply is allowed, and its numbers
 -- have their causes.
-pub by_tests : (now : Counts) (least : ℕ) (known : Known) (state : State) (event : Event) → event.entry.id.0 ≡ known.last + 1 → is_in_order known state event ≡ true → ReadsWords event.entry.call event.paths → HasNumbers now known event.entry → IsAllowedOn least state event → NamesAdded (call_of name_hash state event) event.entry.reply → (takes_stream event.entry ≡ true → HasFeed state) → IsUndamaged event.entry.reply → CanFollow now least known state event
+pub by_tests : (now : Counts) (least : ℕ) (known : Known) (state : State) (event : Event) → event.entry.id.0 ≡ known.last + 1 →
+    is_in_order known state event ≡ true → ReadsWords event.entry.call event.paths → HasNumbers now known event.entry →
+    IsAllowedOn least state event → NamesAdded (call_of name_hash state event) event.entry.reply → (takes_stream event.entry ≡ true → HasFeed state) →
+    IsUndamaged event.entry.reply → CanFollow now least known state event
 by_tests now least known state event id order read numbers allowed named fed undamaged =
     let call : Call = call_of name_hash state event in
     let landing : Bool = if is_refusal event.entry.reply then true else lands_well call in
@@ -123,7 +129,10 @@ by_tests now least known state event id order read numbers allowed named fed und
     }
 
 -- an event whose call an early check refuses
-pub early_step : (now : Counts) (least : ℕ) (known : Known) (state : State) (event : Event) → event.entry.id.0 ≡ known.last + 1 → nat_le event.entry.id.0 GREATEST_ID ≡ true → early_refusal known event ≡ Some event.entry.reply → is_refusal event.entry.reply ≡ true → takes_stream event.entry ≡ false → ReadsWords event.entry.call event.paths → HasNumbers now known event.entry → IsAllowedOn least state event → IsUndamaged event.entry.reply → CanFollow now least known state event
+pub early_step : (now : Counts) (least : ℕ) (known : Known) (state : State) (event : Event) → event.entry.id.0 ≡ known.last + 1 →
+    nat_le event.entry.id.0 GREATEST_ID ≡ true → early_refusal known event ≡ Some event.entry.reply → is_refusal event.entry.reply ≡ true →
+    takes_stream event.entry ≡ false → ReadsWords event.entry.call event.paths → HasNumbers now known event.entry → IsAllowedOn least state event →
+    IsUndamaged event.entry.reply → CanFollow now least known state event
 early_step now least known state event id order early refused takes read numbers allowed undamaged =
     let drawn : event.entry.id.0 ≤ GREATEST_ID = grind (arith, nat_tests, order) in
     let possible : IsPossible (early_refusal known event) (possible_for known event) event.entry.reply =

@@ -29,5 +29,5 @@ pub fn made_slaves_show_their_foreign_masters_trees()
         Makes event (PfsSlave path shared) →
         AllByRecursion (ShowsTrees source kept trees) run.foreigners.streams →
         FollowsForeign (state_after run (before ++ event ∷ rest)).volume
-            (new_pfs (state_after run before).volume) source kept trees }
+        (new_pfs (state_after run before).volume) source kept trees }
 {}
