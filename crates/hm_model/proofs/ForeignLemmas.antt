@@ -54,7 +54,8 @@ module _ (source : ℕ) (kept : ℕ → Bool) (trees : ℕ → FileTree) where
   follows_later : (last : ℕ) (s u : PseudoFileSystem) → Ages last s u → s.sync_end ≤ last → (origin : Origin) → Follows s origin → Follows u origin
   follows_later last s u ages drawn Nowhere follows = ages.sync ∙ follows
   follows_later last s u ages drawn (Local n) follows = tt
-  follows_later last s u ages drawn (Foreign k) follows = λ same id has some by. ages.trees id (omega (arith, ages.sync, by, drawn)) ∙ follows same id has some (omega (arith, ages.sync, by))
+  follows_later last s u ages drawn (Foreign k) follows =
+      λ same id has some by. ages.trees id (omega (arith, ages.sync, by, drawn)) ∙ follows same id has some (omega (arith, ages.sync, by))
   follows_later last s u ages drawn Mixed follows = tt
 
   follows_fed : (s : PseudoFileSystem) (old new : Origin) → Follows s old → Follows s (fed_from old new)
@@ -124,8 +125,10 @@ module _ (source : ℕ) (kept : ℕ → Bool) (trees : ℕ → FileTree) where
 
       by : (found : Option ForeignMaster) → feed.master ≡ found →
           IsOf feed (fed_from old (option_map_or (λ (m : ForeignMaster). Foreign m.source) feed.master Mixed))
-      by None is = subst (λ (x : Option ForeignMaster). IsOf feed (fed_from old (option_map_or (λ (m : ForeignMaster). Foreign m.source) x Mixed))) (sym is) (unknown old)
-      by (Some m) is = subst (λ (x : Option ForeignMaster). IsOf feed (fed_from old (option_map_or (λ (m : ForeignMaster). Foreign m.source) x Mixed))) (sym is) (known m is old)
+      by None is =
+          subst (λ (x : Option ForeignMaster). IsOf feed (fed_from old (option_map_or (λ (m : ForeignMaster). Foreign m.source) x Mixed))) (sym is) (unknown old)
+      by (Some m) is =
+          subst (λ (x : Option ForeignMaster). IsOf feed (fed_from old (option_map_or (λ (m : ForeignMaster). Foreign m.source) x Mixed))) (sym is) (known m is old)
 
   -- what an open call says of the slave that it feeds
   abbrev pub FedAs : PseudoFileSystem → Origin → Feed → Command → Type 0
@@ -152,7 +155,8 @@ module _ (source : ℕ) (kept : ℕ → Bool) (trees : ℕ → FileTree) where
   each_later : (slave last : ℕ) (s u : PseudoFileSystem) (os : List OpenCall) → Ages last s u → s.sync_end ≤ last →
       AllByRecursion (FedBy slave s) os → AllByRecursion (FedBy slave u) os
   each_later slave last s u [] ages drawn fed = tt
-  each_later slave last s u (o ∷ os) ages drawn fed = (λ is. fed_later last s u o.origin o.stream o.command ages drawn (fed.0 is), each_later slave last s u os ages drawn fed.1)
+  each_later slave last s u (o ∷ os) ages drawn fed =
+      (λ is. fed_later last s u o.origin o.stream o.command ages drawn (fed.0 is), each_later slave last s u os ages drawn fed.1)
 
   -- what the opening of a call does to the slave that it feeds
   abbrev FedNew : State → PseudoFileSystem → PseudoFileSystem → Origin → Feed → Command → Type 0
@@ -185,11 +189,16 @@ module _ (source : ℕ) (kept : ℕ → Bool) (trees : ℕ → FileTree) where
         | MirrorCopy master slave limit ↦ feeding state call (second_site call).at.pfs (first_site call).at.pfs (Local (first_site call).at.pfs) no_feed
         | other ↦ if is_tree_call call.command then on_volume state (change call) else state
       ])
-  opened_as state call (Prune path) is = inr (new_call state call (first_site call).at.pfs (first_site call).at.pfs no_feed, refl, refl, λ s u found after. by_command state s u (origin_of state.volume (first_site call).at.pfs) no_feed call.command (Prune path) is tt)
-  opened_as state call (PruneAll path) is = inr (new_call state call (first_site call).at.pfs (first_site call).at.pfs no_feed, refl, refl, λ s u found after. by_command state s u (origin_of state.volume (first_site call).at.pfs) no_feed call.command (PruneAll path) is tt)
-  opened_as state call (Reblock fill) is = inr (new_call state call 0 0 no_feed, refl, refl, λ s u found after. by_command state s u (origin_of state.volume 0) no_feed call.command (Reblock fill) is tt)
-  opened_as state call (PfsUpgrade path) is = inr (new_call state call (first_site call).at.pfs (first_site call).at.pfs no_feed, refl, refl, λ s u found after. by_command state s u (origin_of state.volume (first_site call).at.pfs) no_feed call.command (PfsUpgrade path) is tt)
-  opened_as state call (MirrorRead path begin) is = inr (new_call state call (first_site call).at.pfs (first_site call).at.pfs no_feed, refl, refl, λ s u found after. by_command state s u (origin_of state.volume (first_site call).at.pfs) no_feed call.command (MirrorRead path begin) is tt)
+  opened_as state call (Prune path) is =
+      inr (new_call state call (first_site call).at.pfs (first_site call).at.pfs no_feed, refl, refl, λ s u found after. by_command state s u (origin_of state.volume (first_site call).at.pfs) no_feed call.command (Prune path) is tt)
+  opened_as state call (PruneAll path) is =
+      inr (new_call state call (first_site call).at.pfs (first_site call).at.pfs no_feed, refl, refl, λ s u found after. by_command state s u (origin_of state.volume (first_site call).at.pfs) no_feed call.command (PruneAll path) is tt)
+  opened_as state call (Reblock fill) is =
+      inr (new_call state call 0 0 no_feed, refl, refl, λ s u found after. by_command state s u (origin_of state.volume 0) no_feed call.command (Reblock fill) is tt)
+  opened_as state call (PfsUpgrade path) is =
+      inr (new_call state call (first_site call).at.pfs (first_site call).at.pfs no_feed, refl, refl, λ s u found after. by_command state s u (origin_of state.volume (first_site call).at.pfs) no_feed call.command (PfsUpgrade path) is tt)
+  opened_as state call (MirrorRead path begin) is =
+      inr (new_call state call (first_site call).at.pfs (first_site call).at.pfs no_feed, refl, refl, λ s u found after. by_command state s u (origin_of state.volume (first_site call).at.pfs) no_feed call.command (MirrorRead path begin) is tt)
   opened_as state call (MirrorWrite path) is =
       let a : ℕ = (first_site call).at.pfs in
       let feed : Feed = next_stream state.streams in
@@ -265,7 +274,8 @@ module _ (source : ℕ) (kept : ℕ → Bool) (trees : ℕ → FileTree) where
       let own_in : AgesIn last (Some is.own) (system_of after.volume slave) = rw is.found at (ages_accepted state call slave same) in
       let u = aged_some last is.own (system_of after.volume slave) own_in in
       let still : AllByRecursion (FedBy slave u.0) state.opened = each_later slave last is.own u.0 state.opened u.2 is.drawn is.fed in
-      let as_before : u.0.role ≡ Slave → Follows u.0 is.own.origin = λ role. follows_later last is.own u.0 u.2 is.drawn is.own.origin (is.follows (sym u.2.role ∙ role)) in
+      let as_before : u.0.role ≡ Slave → Follows u.0 is.own.origin =
+      λ role. follows_later last is.own u.0 u.2 is.drawn is.own.origin (is.follows (sym u.2.role ∙ role)) in
       let calls : AllByRecursion (FedBy slave u.0) after.opened × OnePass after.opened = elim (opened_as state call call.command refl) [
         | inl none ↦ rw none (still, is.one)
         | inr new ↦ rw new.1 (
@@ -321,21 +331,22 @@ module _ (source : ℕ) (kept : ℕ → Bool) (trees : ℕ → FileTree) where
       IsOf o.stream origin → Follows s origin → Follows (after_pass (given_in (state_after run before).volume o) begin.0 end.0 s) origin
   follows_streamed run before event o begin end into s follows ends command found first shows Nowhere is old = absurd is
   follows_streamed run before event o begin end into s follows ends command found first shows (Local n) is old = tt
-  follows_streamed run before event o begin end into s follows ends command found first shows (Foreign k) is old = λ same id has some by. elim (less_or_not begin.0 id) [
-    | inl after ↦
-        let state : State = state_after run before in
-        let new : PseudoFileSystem = after_pass (given_in state.volume o) begin.0 end.0 s in
-        let there : system_of (after_event state event).volume o.pfs ≡ Some new =
-        slave-pass state event o begin end ends ∙ ap (λ (x : Option PseudoFileSystem). option_map_or (λ (t : PseudoFileSystem). Some (after_pass (given_in state.volume o) begin.0 end.0 t)) x None) found in
-        let brought : IsBrought o.stream end.0 = brought_legal run before event o begin end into follows ends command in
-        let low : brought.term.end ≤ is.0.end = shows.ends is.0 brought.term is.1 brought.taken in
-        sym (at_found (after_event state event).volume o.pfs id new there)
-        ∙ (at-streamed state event o begin end into s is.0 id ends command found is.1 (shows.rising is.0 is.1 (is.2 ∙ same)) after by
-        ∙ shows.same is.0 is.1 (is.2 ∙ same) id has (omega (arith, by, low, brought.named)))
-    | inr till ↦
-        passed-before s.versions (given_in (state_after run before).volume o) begin.0 end.0 id till
-        ∙ old same id has some (omega (arith, till, first))
-  ]
+  follows_streamed run before event o begin end into s follows ends command found first shows (Foreign k) is old =
+      λ same id has some by. elim (less_or_not begin.0 id) [
+        | inl after ↦
+            let state : State = state_after run before in
+            let new : PseudoFileSystem = after_pass (given_in state.volume o) begin.0 end.0 s in
+            let there : system_of (after_event state event).volume o.pfs ≡ Some new =
+            slave-pass state event o begin end ends ∙ ap (λ (x : Option PseudoFileSystem). option_map_or (λ (t : PseudoFileSystem). Some (after_pass (given_in state.volume o) begin.0 end.0 t)) x None) found in
+            let brought : IsBrought o.stream end.0 = brought_legal run before event o begin end into follows ends command in
+            let low : brought.term.end ≤ is.0.end = shows.ends is.0 brought.term is.1 brought.taken in
+            sym (at_found (after_event state event).volume o.pfs id new there)
+            ∙ (at-streamed state event o begin end into s is.0 id ends command found is.1 (shows.rising is.0 is.1 (is.2 ∙ same)) after by
+            ∙ shows.same is.0 is.1 (is.2 ∙ same) id has (omega (arith, by, low, brought.named)))
+        | inr till ↦
+            passed-before s.versions (given_in (state_after run before).volume o) begin.0 end.0 id till
+            ∙ old same id has some (omega (arith, till, first))
+      ]
   follows_streamed run before event o begin end into s follows ends command found first shows Mixed is old = tt
 
   -- the end of an open call
@@ -365,7 +376,8 @@ module _ (source : ℕ) (kept : ℕ → Bool) (trees : ℕ → FileTree) where
         (drawn, λ role. follows_with s o.origin o.origin ((subst (λ (c : Command). FedAs s o.origin o.stream c) is (fed same)).0 role)))
     write into is false = pass_by Then (state_after run before).volume o event.entry.reply unchanged (λ begin end told.
         ended_changed (last_after event.entry) (state_after run before).volume slave o.pfs (after_pass (given_in (state_after run before).volume o) begin.0 end.0) s of_slave (λ x. refl) unchanged (λ same.
-        let as_fed : (s.role ≡ Slave → Follows s o.origin) × ShowsTrees source kept trees o.stream × IsOf o.stream s.origin = subst (λ (c : Command). FedAs s o.origin o.stream c) is (fed same) in
+        let as_fed : (s.role ≡ Slave → Follows s o.origin) × ShowsTrees source kept trees o.stream × IsOf o.stream s.origin =
+        subst (λ (c : Command). FedAs s o.origin o.stream c) is (fed same) in
         let there : system_of (state_after run before).volume o.pfs ≡ Some s = rw same of_slave in
         let ends : EndsPass (state_after run before) event o begin end = record { opening = opening; call = call; reply = told; found = found; pass = ap merges is } in
         let first : begin.0 ≡ s.sync_end = begin_legal run before event o begin end follow ends ∙ rw (is, there) refl in
@@ -415,7 +427,8 @@ module _ (source : ℕ) (kept : ℕ → Bool) (trees : ℕ → FileTree) where
           let end : EndedAs (last_after event.entry) (end_effect (state_after run before).volume event.entry.reply o) slave =
           fed-end run before event opening o slave is.own follow call found is.found (omega (arith, is.drawn, later)) is.follows
           (found_holds (FedBy slave is.own) (λ (x : OpenCall). eqb x.opening opening.0) (state_after run before).opened o found is.fed) in
-          let none : NoPass (filter (λ (x : OpenCall). if eqb x.opening opening.0 then false else true) (state_after run before).opened) = none_still opening.0 (state_after run before).opened o is.one found pass in
+          let none : NoPass (filter (λ (x : OpenCall). if eqb x.opening opening.0 then false else true) (state_after run before).opened) =
+          none_still opening.0 (state_after run before).opened o is.one found pass in
           record { own = end.own; found = end.found; drawn = end.drawn; follows = end.follows; fed = none_fed slave end.own (filter (λ (x : OpenCall). if eqb x.opening opening.0 then false else true) (state_after run before).opened) none; one = one; shown = is.shown }
       each o found false pass =
           subst (λ (v : Volume). IsFed (last_after event.entry) v (filter (λ (x : OpenCall). if eqb x.opening opening.0 then false else true) (state_after run before).opened) (state_after run before).streams slave) (sym (no_pass_same (state_after run before).volume event.entry.reply o o.command pass))
@@ -462,7 +475,8 @@ module _ (source : ℕ) (kept : ℕ → Bool) (trees : ℕ → FileTree) where
           let named = opening_of event.entry.call ending in
           subst (λ (s : State). IsFed (last_after event.entry) s.volume s.opened s.streams slave) (sym (effect-ending (state_after run before) event named.0 named.1)) (fed_ended run before event named.0 slave follow named.1 (omega (arith, own)) is)
       by false ending =
-          let goes : effect (state_after run before) event ≡ (if is_refusal event.entry.reply then state_after run before else accepted_effect (state_after run before) (call_of no_hash (state_after run before) event)) = not_ending (λ opening. ended (state_after run before) opening.0 event.entry.reply) (if is_refusal event.entry.reply then state_after run before else accepted_effect (state_after run before) (call_of no_hash (state_after run before) event)) event.entry.call ending in
+          let goes : effect (state_after run before) event ≡ (if is_refusal event.entry.reply then state_after run before else accepted_effect (state_after run before) (call_of no_hash (state_after run before) event)) =
+          not_ending (λ opening. ended (state_after run before) opening.0 event.entry.reply) (if is_refusal event.entry.reply then state_after run before else accepted_effect (state_after run before) (call_of no_hash (state_after run before) event)) event.entry.call ending in
           subst (λ (s : State). IsFed (last_after event.entry) s.volume s.opened s.streams slave) (sym goes) (call (is_refusal event.entry.reply) refl)
 
   fed_history : (run : Setting) (before es : List Event) (slave : ℕ) → IsThere run.opening 0 → IsLegal run (before ++ es) →
@@ -488,7 +502,8 @@ module _ (source : ℕ) (kept : ℕ → Bool) (trees : ℕ → FileTree) where
       f.own.origin ≡ origin → Follows f.own origin
   follows_origin volume slave f role Nowhere is = f.unfed role is
   follows_origin volume slave f role (Local n) is = tt
-  follows_origin volume slave f role (Foreign k) is = λ same id has some by. sym (at_found volume slave id f.own f.found) ∙ f.same role (is ∙ ap Foreign same) id has some by
+  follows_origin volume slave f role (Foreign k) is =
+      λ same id has some by. sym (at_found volume slave id f.own f.found) ∙ f.same role (is ∙ ap Foreign same) id has some by
   follows_origin volume slave f role Mixed is = tt
 
   pub FollowsForeign-legal : (run : Setting) (events : List Event) (slave : ℕ) → IsThere run.opening 0 → IsLegal run events →
@@ -540,5 +555,6 @@ module _ (source : ℕ) (kept : ℕ → Bool) (trees : ℕ → FileTree) where
         one = rw opened stands.orderly.one;
         shown = shown_effect state event (shown_after (opening_state run.opening run.foreigners) before shown);
       } in
-      let later : IsFedIn (state_after run ((before ++ event ∷ []) ++ rest)) pfs = fed_history run (before ++ event ∷ []) rest pfs root (one_more run before event rest legal) (subst (λ (s : State). IsFedIn s pfs) (sym (state_pushed run before event)) now) in
+      let later : IsFedIn (state_after run ((before ++ event ∷ []) ++ rest)) pfs =
+      fed_history run (before ++ event ∷ []) rest pfs root (one_more run before event rest legal) (subst (λ (s : State). IsFedIn s pfs) (sym (state_pushed run before event)) now) in
       fed_follows (state_after run (before ++ event ∷ rest)) pfs (rw append_assoc at later)

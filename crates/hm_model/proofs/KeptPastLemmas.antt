@@ -133,7 +133,8 @@ at-ending run before event opening slave id s follows call found up = each (open
     each : (o : Option OpenCall) → opened_with opening.0 state.opened ≡ o →
         at (option_map_or (end_effect state.volume event.entry.reply) o state.volume) slave id ≡ at state.volume slave id
     each None none = refl
-    each (Some o) some = at-end_call state event opening o slave id s call some found up (λ begin end ends. begin_legal run before event o begin end follows ends)
+    each (Some o) some =
+        at-end_call state event opening o slave id s call some found up (λ begin end ends. begin_legal run before event o begin end follows ends)
 
 -- and at every event
 pub at-kept : (run : Setting) (before : List Event) (event : Event) (slave id : ℕ) (s : PseudoFileSystem) → MayFollow run before event →

@@ -45,11 +45,13 @@ with_call event call = record event { entry = record event.entry { call = call }
 -- what a call that makes a PFS does
 does_master : (state : State) (event : Event) (path : Text) (shared : ℕ) (command : Command) → command ≡ PfsMaster path shared →
     effect state (with_call event command) ≡ (if is_refusal event.entry.reply then state else on_volume state (change (call_of no_hash state (with_call event command))))
-does_master state event path shared command is = subst (λ (c : Command). effect state (with_call event c) ≡ (if is_refusal event.entry.reply then state else on_volume state (change (call_of no_hash state (with_call event c))))) (sym is) refl
+does_master state event path shared command is =
+    subst (λ (c : Command). effect state (with_call event c) ≡ (if is_refusal event.entry.reply then state else on_volume state (change (call_of no_hash state (with_call event c))))) (sym is) refl
 
 does_slave : (state : State) (event : Event) (path : Text) (shared : ℕ) (command : Command) → command ≡ PfsSlave path shared →
     effect state (with_call event command) ≡ (if is_refusal event.entry.reply then state else on_volume state (change (call_of no_hash state (with_call event command))))
-does_slave state event path shared command is = subst (λ (c : Command). effect state (with_call event c) ≡ (if is_refusal event.entry.reply then state else on_volume state (change (call_of no_hash state (with_call event c))))) (sym is) refl
+does_slave state event path shared command is =
+    subst (λ (c : Command). effect state (with_call event c) ≡ (if is_refusal event.entry.reply then state else on_volume state (change (call_of no_hash state (with_call event c))))) (sym is) refl
 
 effect_master : (state : State) (event : Event) (path : Text) (shared : ℕ) → Makes event (PfsMaster path shared) →
     effect state event ≡ on_volume state (change (call_of no_hash state event))
@@ -99,7 +101,8 @@ pub master_made : (run : Setting) (before : List Event) (event : Event) (rest : 
     IsMasterFrom run (before ++ event ∷ []) rest (new_pfs (state_after run before).volume)
 master_made run before event rest path shared root legal makes =
     let state : State = state_after run before in
-    let steady : IsSteadyMaster (after_event state event) (new_pfs state.volume) = steady_made state event path shared (stands_before run before event rest root legal).orderly.named makes in
+    let steady : IsSteadyMaster (after_event state event) (new_pfs state.volume) =
+    steady_made state event path shared (stands_before run before event rest root legal).orderly.named makes in
     steady_from run (before ++ event ∷ []) rest (new_pfs state.volume) (one_more run before event rest legal) (subst (λ (s : State). IsSteadyMaster s (new_pfs state.volume)) (sym (state_pushed run before event)) steady)
 
 -- its versions
@@ -138,7 +141,8 @@ after_both state [] es = refl
 after_both state (b ∷ bs) es = after_both (after_event state b) bs es
 
 steady_is : (run : Setting) (before rest : List Event) (pfs : ℕ) → IsMasterFrom run before rest pfs → IsSteady (state_after run before) rest pfs
-steady_is run before rest pfs master some more is = subst (λ (s : State). IsSteadyMaster s pfs) (after_both (opening_state run.opening run.foreigners) before some) (master some more is)
+steady_is run before rest pfs master some more is =
+    subst (λ (s : State). IsSteadyMaster s pfs) (after_both (opening_state run.opening run.foreigners) before some) (master some more is)
 
 pub last_known : (known : Known) (state : State) (before : List Event) → known.last ≡ state.volume.last →
     (known_after known before).last ≡ (after_events state before).volume.last
@@ -157,8 +161,10 @@ pub order_made : (run : Setting) (before : List Event) (event : Event) (path : T
 order_made run before event path shared legal makes =
     let state : State = state_after run before in
     let follows : MayFollow run before event = legal before event [] refl in
-    let same : (known_after (known_at run.opening.last run.start) before).last ≡ state.volume.last = last_known (known_at run.opening.last run.start) (opening_state run.opening run.foreigners) before refl in
-    let versions : versions_of (after_event state event).volume (new_pfs state.volume) ≡ (state.volume.last + 1, root_tree) ∷ [] = ap versions_in (made_master state event path shared makes) in
+    let same : (known_after (known_at run.opening.last run.start) before).last ≡ state.volume.last =
+    last_known (known_at run.opening.last run.start) (opening_state run.opening run.foreigners) before refl in
+    let versions : versions_of (after_event state event).volume (new_pfs state.volume) ≡ (state.volume.last + 1, root_tree) ∷ [] =
+    ap versions_in (made_master state event path shared makes) in
     let drawn : state.volume.last + 1 ≤ last_after event.entry = omega (arith, follows.caused.id, same) in
     let order : AreInOrder (after_event state event).volume (new_pfs state.volume) = record { rising = rw versions (omega arith, tt); begun = rw versions (drawn, tt) } in
     subst (λ (s : State). AreInOrder s.volume (new_pfs state.volume)) (sym (state_pushed run before event)) order
@@ -167,13 +173,15 @@ order_made run before event path shared legal makes =
 pub last_rises : (known : Known) (es : List Event) → IdsFollow known es → known.last ≤ (known_after known es).last
 last_rises known [] follow = omega arith
 last_rises known (e ∷ es) follow =
-    let later : (known_after_entry known e.entry).last ≤ (known_after (known_after_entry known e.entry) es).last = last_rises (known_after_entry known e.entry) es follow.1 in
+    let later : (known_after_entry known e.entry).last ≤ (known_after (known_after_entry known e.entry) es).last =
+    last_rises (known_after_entry known e.entry) es follow.1 in
     omega (arith, follow.0, later)
 
 all_to : (known : Known) (es : List Event) (id : ℕ) → IdsFollow known es → (known_after known es).last ≤ id → events_to id es ≡ es
 all_to known [] id follow to = refl
 all_to known (e ∷ es) id follow to =
-    let later : (known_after_entry known e.entry).last ≤ (known_after (known_after_entry known e.entry) es).last = last_rises (known_after_entry known e.entry) es follow.1 in
+    let later : (known_after_entry known e.entry).last ≤ (known_after (known_after_entry known e.entry) es).last =
+    last_rises (known_after_entry known e.entry) es follow.1 in
     let yes : nat_le e.entry.id.0 id ≡ true = grind (arith, nat_tests, later, to) in
     rw yes (ap (λ (xs : List Event). e ∷ xs) (all_to (known_after_entry known e.entry) es id follow.1 to))
 
@@ -199,11 +207,14 @@ shown_made run before event rest path shared id root legal makes from =
     let same : known.last ≡ state.volume.last = last_known first opening before refl in
     let follow : IdsFollow known (event ∷ rest) = ids_follow run before (event ∷ rest) legal in
     let front : IdsFollow first before = ids_follow run [] before (IsLegal-beginning run before (event ∷ rest) legal) in
-    let versions : versions_of (after_event state event).volume pfs ≡ (state.volume.last + 1, root_tree) ∷ [] = ap versions_in (made_master state event path shared makes) in
-    let by_last : BeginBy (after_event state event).volume.last (versions_of (after_event state event).volume pfs) = rw versions (omega (arith, follow.0, same), tt) in
+    let versions : versions_of (after_event state event).volume pfs ≡ (state.volume.last + 1, root_tree) ∷ [] =
+    ap versions_in (made_master state event path shared makes) in
+    let by_last : BeginBy (after_event state event).volume.last (versions_of (after_event state event).volume pfs) =
+    rw versions (omega (arith, follow.0, same), tt) in
     let by_id : BeginBy id (versions_of (after_event state event).volume pfs) = rw versions (omega (arith, follow.0, same, from), tt) in
     let master : IsMasterFrom run (before ++ event ∷ []) rest pfs = master_made run before event rest path shared root legal makes in
-    let steady : IsSteady (after_event state event) rest pfs = subst (λ (s : State). IsSteady s rest pfs) (state_pushed run before event) (steady_is run (before ++ event ∷ []) rest pfs master) in
+    let steady : IsSteady (after_event state event) rest pfs =
+    subst (λ (s : State). IsSteady s rest pfs) (state_pushed run before event) (steady_is run (before ++ event ∷ []) rest pfs master) in
     let all : events_to id before ≡ before = all_to first before id front (omega (arith, follow.0, from)) in
     let yes : nat_le event.entry.id.0 id ≡ true = grind (arith, nat_tests, from) in
     let events : events_to id (before ++ event ∷ rest) ≡ before ++ event ∷ events_to id rest =
@@ -213,7 +224,8 @@ shown_made run before event rest path shared id root legal makes from =
     ∙ sym (ap (λ (xs : List Event). shown (state_after run xs).volume pfs) events ∙ ap (λ (s : State). shown s.volume pfs) (after_both opening before (event ∷ events_to id rest))))
 
 -- calls that name PFS that are there feed no new one
-pub absent : (volume : Volume) (slave : ℕ) (o : OpenCall) → system_of volume slave ≡ None → NamesThere volume o → o.pfs ≡ slave → rewrites o.command ≡ true → ⊥
+pub absent : (volume : Volume) (slave : ℕ) (o : OpenCall) → system_of volume slave ≡ None → NamesThere volume o → o.pfs ≡ slave → rewrites o.command
+    ≡ true → ⊥
 absent volume slave o none named here writes =
     let there = named writes in
     let found : system_of volume slave ≡ Some there.0 = rw (← here) there.1 in
@@ -229,7 +241,8 @@ fed_absent volume slave m s t o command is none named here = tt
 none_feed : (volume : Volume) (slave m : ℕ) (s t : PseudoFileSystem) (os : List OpenCall) → system_of volume slave ≡ None →
     AllByRecursion (NamesThere volume) os → AllByRecursion (FedBy slave m s t) os
 none_feed volume slave m s t [] none named = tt
-none_feed volume slave m s t (o ∷ os) none named = (λ here. fed_absent volume slave m s t o o.command refl none named.0 here, none_feed volume slave m s t os none named.1)
+none_feed volume slave m s t (o ∷ os) none named =
+    (λ here. fed_absent volume slave m s t o o.command refl none named.0 here, none_feed volume slave m s t os none named.1)
 
 -- a made slave has its twin at once
 twin_made : (run : Setting) (before : List Event) (event : Event) (path : Text) (shared m : ℕ) → StandsAfter run before →
@@ -262,9 +275,13 @@ follows_made run before event rest path shared m root legal makes master order =
     let pfs : ℕ = new_pfs (state_after run before).volume in
     let stands : StandsAfter run before = stands_before run before event rest root legal in
     let whole : IsLegal run ((before ++ event ∷ []) ++ rest) = one_more run before event rest legal in
-    let next : StandsAfter run (before ++ event ∷ []) = StandsAfter-legal run (before ++ event ∷ []) root (IsLegal-beginning run (before ++ event ∷ []) rest whole) in
+    let next : StandsAfter run (before ++ event ∷ []) =
+    StandsAfter-legal run (before ++ event ∷ []) root (IsLegal-beginning run (before ++ event ∷ []) rest whole) in
     let pushed : state_after run (before ++ event ∷ []) ≡ after_event (state_after run before) event = state_pushed run before event in
-    let steady : IsSteadyMaster (after_event (state_after run before) event) m = subst (λ (s : State). IsSteadyMaster s m) pushed (rw append-nil at (master [] rest refl)) in
-    let twin : IsTwin (after_event (state_after run before) event) pfs m = twin_made run before event path shared m stands makes steady (subst (λ (s : State). AreInOrder s.volume m) pushed order) in
-    let later : IsTwin (state_after run ((before ++ event ∷ []) ++ rest)) pfs m = Twin-history run (before ++ event ∷ []) rest pfs m whole master next.agrees (subst (λ (s : State). IsTwin s pfs m) (sym pushed) twin) in
+    let steady : IsSteadyMaster (after_event (state_after run before) event) m =
+    subst (λ (s : State). IsSteadyMaster s m) pushed (rw append-nil at (master [] rest refl)) in
+    let twin : IsTwin (after_event (state_after run before) event) pfs m =
+    twin_made run before event path shared m stands makes steady (subst (λ (s : State). AreInOrder s.volume m) pushed order) in
+    let later : IsTwin (state_after run ((before ++ event ∷ []) ++ rest)) pfs m =
+    Twin-history run (before ++ event ∷ []) rest pfs m whole master next.agrees (subst (λ (s : State). IsTwin s pfs m) (sym pushed) twin) in
     twin_follows (state_after run (before ++ event ∷ rest)) pfs m (rw append_assoc at later)

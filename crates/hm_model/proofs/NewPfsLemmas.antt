@@ -19,7 +19,8 @@ use Rattle.hm_model.proofs.NumberLemmas.{least_unused-is, numbers_in, unused_non
 -- what is found stays found where one more PFS is added
 pub still_found : (systems : List PseudoFileSystem) (new s : PseudoFileSystem) (pfs : ℕ) → found_in systems pfs ≡ Some s →
     found_in (systems ++ new ∷ []) pfs ≡ Some s
-still_found systems new s pfs found = found-pushed systems new pfs ∙ ap (λ (x : Option PseudoFileSystem). option_map_or (λ (y : PseudoFileSystem). Some y) x (found_in (new ∷ []) pfs)) found
+still_found systems new s pfs found =
+    found-pushed systems new pfs ∙ ap (λ (x : Option PseudoFileSystem). option_map_or (λ (y : PseudoFileSystem). Some y) x (found_in (new ∷ []) pfs)) found
 
 -- the changed PFS after a call
 pub system-changed : (call : Call) (s : PseudoFileSystem) → system_of call.volume (changed_pfs call) ≡ Some s →

@@ -88,7 +88,8 @@ open_changed volume pfs other f keeps has gives = elim (same_or_not other pfs) [
 kept_low : (call : Call) (s : PseudoFileSystem) → system_of call.volume (first_site call).at.pfs ≡ Some s → s.role ≡ Master →
     greatest (kept_ids call) ≤ own_id call
 kept_low call s found role =
-    let ids : kept_ids call ≡ snapshot_ids (site_tree call (first_site call)) (first_site call).at.object (call_shown call s) = ap (λ (x : Option PseudoFileSystem). option_map_or (λ (t : PseudoFileSystem). snapshot_ids (site_tree call (first_site call)) (first_site call).at.object (call_shown call t)) x []) found in
+    let ids : kept_ids call ≡ snapshot_ids (site_tree call (first_site call)) (first_site call).at.object (call_shown call s) =
+    ap (λ (x : Option PseudoFileSystem). option_map_or (λ (t : PseudoFileSystem). snapshot_ids (site_tree call (first_site call)) (first_site call).at.object (call_shown call t)) x []) found in
     let shown : call_shown call s ≡ own_id call = ap (λ (r : Role). elim r [ Master ↦ own_id call | Slave ↦ s.sync_end ]) role in
     let low : greatest (kept_ids call) ≤ call_shown call s = rw ids (greatest_to (call_shown call s) _) in
     omega (arith, low, shown)
@@ -96,7 +97,8 @@ kept_low call s found role =
 open_tree : (call : Call) (pfs : ℕ) → HasOpen call.volume pfs → HasOpen (change call) pfs
 open_tree call pfs has =
     let tree : FileTree = changed call (call.view (changed_pfs call) Now) in
-    let once : HasOpen (versioned call) pfs = open_changed call.volume pfs (changed_pfs call) (add_version (own_id call) tree) (λ s. refl) has (λ same. (has.role, has.endless)) in
+    let once : HasOpen (versioned call) pfs =
+    open_changed call.volume pfs (changed_pfs call) (add_version (own_id call) tree) (λ s. refl) has (λ same. (has.role, has.endless)) in
     new_cases (λ (v : Volume). HasOpen v pfs) call (versioned call) call.command once
     (λ shared. record { system = once.system; found = still_found (versioned call).systems (new_master (new_pfs call.volume) shared ((own_id call, root_tree) ∷ [])) once.system pfs once.found; role = once.role; endless = once.endless })
     (λ shared. record { system = once.system; found = still_found (versioned call).systems (new_slave (new_pfs call.volume) shared) once.system pfs once.found; role = once.role; endless = once.endless })
@@ -164,5 +166,6 @@ open-made run before event path shared makes =
     let state : State = state_after run before in
     let pfs : ℕ = new_pfs state.volume in
     let all : IsOpenEnded ((1, open_end) ∷ []) = record { intervals = (record { above = omega arith; ordered = omega arith; bounded = omega arith }, tt); kept = inl (omega arith, omega arith) } in
-    let found : retention_of (after_event state event).volume pfs ≡ (1, open_end) ∷ [] = retention_found (after_event state event).volume pfs (new_master pfs shared ((state.volume.last + 1, root_tree) ∷ [])) (made_master state event path shared makes) in
+    let found : retention_of (after_event state event).volume pfs ≡ (1, open_end) ∷ [] =
+    retention_found (after_event state event).volume pfs (new_master pfs shared ((state.volume.last + 1, root_tree) ∷ [])) (made_master state event path shared makes) in
     subst (λ (s : State). IsOpenEnded (retention_of s.volume pfs)) (sym (state_pushed run before event)) (rw found all)

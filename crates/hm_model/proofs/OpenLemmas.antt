@@ -41,7 +41,8 @@ pub record IsOrderly (volume : Volume) (opened : List OpenCall) : Type 0 where
 there_accepted : (state : State) (call : Call) (pfs : ℕ) → call.volume ≡ state.volume → IsThere state.volume pfs →
     IsThere (accepted_effect state call).volume pfs
 there_accepted state call pfs same there =
-    let aged : AgesIn state.volume.last (Some there.0) (system_of (accepted_effect state call).volume pfs) = rw there.1 at (ages_accepted state call pfs same) in
+    let aged : AgesIn state.volume.last (Some there.0) (system_of (accepted_effect state call).volume pfs) =
+    rw there.1 at (ages_accepted state call pfs same) in
     let u = aged_some state.volume.last there.0 (system_of (accepted_effect state call).volume pfs) aged in
     (u.0, u.1)
 
@@ -53,7 +54,8 @@ there_changed volume pfs other f keeps there = elim (same_or_not other pfs) [
 ]
 
 there_end : (volume : Volume) (reply : Reply) (o : OpenCall) (pfs : ℕ) → IsThere volume pfs → IsThere (end_effect volume reply o) pfs
-there_end volume reply o pfs there = end_by (λ (v : Volume). IsThere v pfs) volume reply o o.command refl there (λ from into limit is. pass) (λ into is. write (nothing_merged reply)) (λ path is. upgrade_by (λ (v : Volume). IsThere v pfs) volume o reply there (there_changed volume pfs o.pfs upgraded (λ x. refl) there))
+there_end volume reply o pfs there =
+    end_by (λ (v : Volume). IsThere v pfs) volume reply o o.command refl there (λ from into limit is. pass) (λ into is. write (nothing_merged reply)) (λ path is. upgrade_by (λ (v : Volume). IsThere v pfs) volume o reply there (there_changed volume pfs o.pfs upgraded (λ x. refl) there))
   where
     pass : IsThere (end_of_pass volume o reply) pfs
     pass = pass_by (λ (v : Volume). IsThere v pfs) volume o reply there (λ begin end told. there_changed volume pfs o.pfs (after_pass (given_in volume o) begin.0 end.0) (λ x. refl) there)
@@ -85,7 +87,8 @@ orderly_accepted state call same alone orderly =
         (
           λ writes.
               let also : rewrites call.command ≡ true = rw (← new.2) writes in
-              let here : IsThere state.volume new.0.pfs = rw (new.3 also) (subst (λ (v : Volume). IsThere v (written_site call.command (first_site call) (second_site call)).at.pfs) same (written_there call call.command also (subst (λ (v : Volume). IsThere v 0) (sym same) orderly.root))) in
+              let here : IsThere state.volume new.0.pfs =
+              rw (new.3 also) (subst (λ (v : Volume). IsThere v (written_site call.command (first_site call) (second_site call)).at.pfs) same (written_there call call.command also (subst (λ (v : Volume). IsThere v 0) (sym same) orderly.root))) in
               stays new.0.pfs here,
           still,
         ),
@@ -98,7 +101,8 @@ orderly_ended : (state : State) (opening : ℕ) (reply : Reply) → IsOrderly st
     IsOrderly (ended state opening reply).volume (ended state opening reply).opened
 orderly_ended state opening reply orderly =
     let after : Volume = (ended state opening reply).volume in
-    let stays : (pfs : ℕ) → IsThere state.volume pfs → IsThere after pfs = λ pfs there. there_ended state.volume reply (opened_with opening state.opened) pfs there in
+    let stays : (pfs : ℕ) → IsThere state.volume pfs → IsThere after pfs =
+    λ pfs there. there_ended state.volume reply (opened_with opening state.opened) pfs there in
     record {
       root = stays 0 orderly.root;
       named = All-still (NamesThere after) opening state.opened (all_there state.volume after state.opened stays orderly.named);
@@ -116,14 +120,16 @@ orderly_event known state event numbers agrees early orderly =
     call : (test : Bool) → is_refusal event.entry.reply ≡ test →
         IsOrderly (if test then state else accepted_effect state (call_of no_hash state event)).volume (if test then state else accepted_effect state (call_of no_hash state event)).opened
     call true is = orderly
-    call false is = orderly_accepted state (call_of no_hash state event) refl (λ pass. none_busy state.opened (rw agrees.opened at (accepted_alone known event numbers early is pass))) orderly
+    call false is =
+        orderly_accepted state (call_of no_hash state event) refl (λ pass. none_busy state.opened (rw agrees.opened at (accepted_alone known event numbers early is pass))) orderly
 
     by : (test : Bool) → is_ending event.entry.call ≡ test → IsOrderly (effect state event).volume (effect state event).opened
     by true is =
         let named = opening_of event.entry.call is in
         subst (λ (s : State). IsOrderly s.volume s.opened) (sym (effect-ending state event named.0 named.1)) (orderly_ended state named.0.0 event.entry.reply orderly)
     by false is =
-        let goes : effect state event ≡ (if is_refusal event.entry.reply then state else accepted_effect state (call_of no_hash state event)) = not_ending (λ opening. ended state opening.0 event.entry.reply) (if is_refusal event.entry.reply then state else accepted_effect state (call_of no_hash state event)) event.entry.call is in
+        let goes : effect state event ≡ (if is_refusal event.entry.reply then state else accepted_effect state (call_of no_hash state event)) =
+        not_ending (λ opening. ended state opening.0 event.entry.reply) (if is_refusal event.entry.reply then state else accepted_effect state (call_of no_hash state event)) event.entry.call is in
         subst (λ (s : State). IsOrderly s.volume s.opened) (sym goes) (call (is_refusal event.entry.reply) refl)
 
 -- what holds after a beginning of a legal history: what is known agrees, and the open calls are orderly
@@ -137,16 +143,19 @@ stands_on run before (e ∷ es) legal stands =
     let known : Known = known_after (known_at run.opening.last run.start) before in
     let state : State = state_after run before in
     let follows : MayFollow run before e = legal before e es refl in
-    let orderly : IsOrderly (after_event state e).volume (after_event state e).opened = orderly_event known state e (possible_for known e) stands.agrees follows.caused.possible stands.orderly in
+    let orderly : IsOrderly (after_event state e).volume (after_event state e).opened =
+    orderly_event known state e (possible_for known e) stands.agrees follows.caused.possible stands.orderly in
     let agrees : Agrees (known_after_entry known e.entry) (after_event state e) = Agrees-event known state e stands.agrees follows.caused.id in
     let pushed : state_after run (before ++ e ∷ []) ≡ after_event state e = after_events-push (opening_state run.opening run.foreigners) before e in
-    let known_pushed : known_after (known_at run.opening.last run.start) (before ++ e ∷ []) ≡ known_after_entry known e.entry = known_after-push (known_at run.opening.last run.start) before e in
+    let known_pushed : known_after (known_at run.opening.last run.start) (before ++ e ∷ []) ≡ known_after_entry known e.entry =
+    known_after-push (known_at run.opening.last run.start) before e in
     let together : (before ++ e ∷ []) ++ es ≡ before ++ e ∷ es = append_assoc before (e ∷ []) es in
     rw (← together) (stands_on run (before ++ e ∷ []) es (rw together legal)
     (record { agrees = rw (pushed, known_pushed) agrees; orderly = subst (λ (s : State). IsOrderly s.volume s.opened) (sym pushed) orderly }))
 
 pub StandsAfter-legal : (run : Setting) (events : List Event) → IsThere run.opening 0 → IsLegal run events → StandsAfter run events
-StandsAfter-legal run events root legal = stands_on run [] events legal (record { agrees = record { last = refl; opened = refl }; orderly = record { root = root; named = tt; one = tt } })
+StandsAfter-legal run events root legal =
+    stands_on run [] events legal (record { agrees = record { last = refl; opened = refl }; orderly = record { root = root; named = tt; one = tt } })
 
 -- no open call rewrites a PFS that is not there
 pub none_unfed : (volume : Volume) (pfs : ℕ) (os : List OpenCall) → system_of volume pfs ≡ None → AllByRecursion (NamesThere volume) os →

@@ -100,8 +100,10 @@ present_small id s small =
     let b : length (within id open_end s.retention) ≤ length s.retention = within_le id open_end s.retention in
     omega (arith, a, b, small))
     (let none : within (2 ^ 64) open_end s.retention ≡ [] = within_none (2 ^ 64) open_end s.retention (omega arith) in
-    let a : length (cut s.retention (s.sync_end ∷ []) (2 ^ 64)) ≤ length (single s.retention (s.sync_end ∷ []) ++ within (2 ^ 64) open_end s.retention) = maximal_le (single s.retention (s.sync_end ∷ []) ++ within (2 ^ 64) open_end s.retention) in
-    let b : length (single s.retention (s.sync_end ∷ []) ++ within (2 ^ 64) open_end s.retention) ≡ length (single s.retention (s.sync_end ∷ [])) = ap (λ (xs : List (ℕ × ℕ)). length (single s.retention (s.sync_end ∷ []) ++ xs)) none ∙ ap length (append-nil (single s.retention (s.sync_end ∷ []))) in
+    let a : length (cut s.retention (s.sync_end ∷ []) (2 ^ 64)) ≤ length (single s.retention (s.sync_end ∷ []) ++ within (2 ^ 64) open_end s.retention) =
+    maximal_le (single s.retention (s.sync_end ∷ []) ++ within (2 ^ 64) open_end s.retention) in
+    let b : length (single s.retention (s.sync_end ∷ []) ++ within (2 ^ 64) open_end s.retention) ≡ length (single s.retention (s.sync_end ∷ [])) =
+    ap (λ (xs : List (ℕ × ℕ)). length (single s.retention (s.sync_end ∷ []) ++ xs)) none ∙ ap length (append-nil (single s.retention (s.sync_end ∷ []))) in
     let c : length (single s.retention (s.sync_end ∷ [])) ≤ 1 = single_one s.retention s.sync_end in
     omega (arith, a, b, c))
 
@@ -116,7 +118,8 @@ small_changed : (volume : Volume) (other : ℕ) (f : PseudoFileSystem → Pseudo
     ((s : PseudoFileSystem) → system_of volume other ≡ Some s → length (f s).retention ≤ MOST_INTERVALS) → AreSmall (of_pfs volume other f)
 small_changed volume other f keeps small gives pfs t found = elim (same_or_not other pfs) [
   | inl same ↦
-      let changed : system_of (of_pfs volume other f) other ≡ option_map_or (λ (s : PseudoFileSystem). Some (f s)) (system_of volume other) None = found-changed other f volume.systems keeps in
+      let changed : system_of (of_pfs volume other f) other ≡ option_map_or (λ (s : PseudoFileSystem). Some (f s)) (system_of volume other) None =
+      found-changed other f volume.systems keeps in
       by (system_of volume other) refl (sym changed ∙ subst (λ (n : ℕ). system_of (of_pfs volume other f) n ≡ Some t) (sym same) found)
   | inr differ ↦ small pfs t (sym (found-other pfs other f volume.systems keeps differ) ∙ found)
 ]
@@ -178,7 +181,8 @@ count_at call site ids = option_map_or (λ (s : PseudoFileSystem). length (prune
 
 same_count : (call : Call) (hash : List ℕ → ℕ) → pruned_count (record call { hash = hash }) ≡ pruned_count call
 same_count call hash =
-    let located : each_located (record call { hash = hash }) (uses_of call.command) call.paths ≡ each_located call (uses_of call.command) call.paths = same_sites call hash (uses_of call.command) call.paths in
+    let located : each_located (record call { hash = hash }) (uses_of call.command) call.paths ≡ each_located call (uses_of call.command) call.paths =
+    same_sites call hash (uses_of call.command) call.paths in
     let first : first_site (record call { hash = hash }) ≡ first_site call = ap first_of located in
     ap (λ (site : Site). count_at call site (kept_at call site)) first
 
@@ -204,7 +208,8 @@ small_accepted : (state : State) (event : Event) (command : Command) → event.e
     ])
 small_accepted state event (Prune path) is fits small =
     let call : Call = call_of no_hash state event in
-    let few : pruned_count call ≤ MOST_INTERVALS = rw (sym (same_count call name_hash)) (prune_passes event.entry.call path (call_of name_hash state event) is fits) in
+    let few : pruned_count call ≤ MOST_INTERVALS =
+    rw (sym (same_count call name_hash)) (prune_passes event.entry.call path (call_of name_hash state event) is fits) in
     small_changed state.volume (first_site call).at.pfs (λ s. retaining (pruned s.retention (kept_ids call)) s) (λ s. refl) small (λ s found.
     subst (λ (n : ℕ). n ≤ MOST_INTERVALS) (ap (λ (x : Option PseudoFileSystem). option_map_or (λ (t : PseudoFileSystem). length (pruned t.retention (kept_ids call))) x 0) found) few)
 small_accepted state event (PruneAll path) is fits small =
@@ -237,8 +242,10 @@ join_small : (volume : Volume) (o : OpenCall) (ending begin end : ℕ) (s : Pseu
     IsPassed volume o ending begin end → system_of volume o.pfs ≡ Some s →
     length (join s.retention (given_in volume o).retention begin end) ≤ MOST_INTERVALS
 join_small volume o ending begin end s merging passed found =
-    let count : gained_count volume o end ≡ joined_count volume o end = ap (λ (test : Bool). if test then 0 else joined_count volume o end) (merges_not o.command merging) in
-    let some : joined_count volume o end ≡ length (join s.retention (given_in volume o).retention (begin_of volume o) end) = ap (λ (x : Option PseudoFileSystem). option_map_or (λ (t : PseudoFileSystem). length (join t.retention (given_in volume o).retention (begin_of volume o) end)) x 0) found in
+    let count : gained_count volume o end ≡ joined_count volume o end =
+    ap (λ (test : Bool). if test then 0 else joined_count volume o end) (merges_not o.command merging) in
+    let some : joined_count volume o end ≡ length (join s.retention (given_in volume o).retention (begin_of volume o) end) =
+    ap (λ (x : Option PseudoFileSystem). option_map_or (λ (t : PseudoFileSystem). length (join t.retention (given_in volume o).retention (begin_of volume o) end)) x 0) found in
     let few : length (join s.retention (given_in volume o).retention (begin_of volume o) end) ≤ MOST_INTERVALS = omega (arith, passed.fits, count, some) in
     subst (λ (b : ℕ). length (join s.retention (given_in volume o).retention b end) ≤ MOST_INTERVALS) (sym passed.begins) few
 
@@ -293,7 +300,8 @@ small_event run before event follows small = by (is_ending event.entry.call) ref
         let named = opening_of event.entry.call is in
         subst (λ (s : State). AreSmall s.volume) (sym (effect-ending (state_after run before) event named.0 named.1)) (small_ended run before event named.0 follows named.1 small)
     by false is =
-        let goes : effect (state_after run before) event ≡ (if is_refusal event.entry.reply then state_after run before else accepted_effect (state_after run before) (call_of no_hash (state_after run before) event)) = not_ending (λ opening. ended (state_after run before) opening.0 event.entry.reply) (if is_refusal event.entry.reply then state_after run before else accepted_effect (state_after run before) (call_of no_hash (state_after run before) event)) event.entry.call is in
+        let goes : effect (state_after run before) event ≡ (if is_refusal event.entry.reply then state_after run before else accepted_effect (state_after run before) (call_of no_hash (state_after run before) event)) =
+        not_ending (λ opening. ended (state_after run before) opening.0 event.entry.reply) (if is_refusal event.entry.reply then state_after run before else accepted_effect (state_after run before) (call_of no_hash (state_after run before) event)) event.entry.call is in
         subst (λ (s : State). AreSmall s.volume) (sym goes) (call (is_refusal event.entry.reply) refl)
 
 small_history : (run : Setting) (before es : List Event) → IsLegal run (before ++ es) → AreSmall (state_after run before).volume →
@@ -301,7 +309,8 @@ small_history : (run : Setting) (before es : List Event) → IsLegal run (before
 small_history run before [] legal small = rw append-nil small
 small_history run before (e ∷ es) legal small =
     let next : AreSmall (after_event (state_after run before) e).volume = small_event run before e (legal before e es refl) small in
-    let pushed : state_after run (before ++ e ∷ []) ≡ after_event (state_after run before) e = after_events-push (opening_state run.opening run.foreigners) before e in
+    let pushed : state_after run (before ++ e ∷ []) ≡ after_event (state_after run before) e =
+    after_events-push (opening_state run.opening run.foreigners) before e in
     let together : (before ++ e ∷ []) ++ es ≡ before ++ e ∷ es = append_assoc before (e ∷ []) es in
     rw (← together) (small_history run (before ++ e ∷ []) es (rw together legal) (subst (λ (s : State). AreSmall s.volume) (sym pushed) next))
 

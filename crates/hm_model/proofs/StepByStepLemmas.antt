@@ -56,7 +56,8 @@ follows_at now free done known state (b ∷ bs) event rest all =
 pub IsLegal-steps : (run : Setting) (events : List Event) →
     AllFollow run.now run.free [] (known_at run.opening.last run.start) (opening_state run.opening run.foreigners) events → IsLegal run events
 IsLegal-steps run events all before event rest is =
-    let whole : AllFollow run.now run.free [] (known_at run.opening.last run.start) (opening_state run.opening run.foreigners) (before ++ event ∷ rest) = rw is at all in
+    let whole : AllFollow run.now run.free [] (known_at run.opening.last run.start) (opening_state run.opening run.foreigners) (before ++ event ∷ rest) =
+    rw is at all in
     let step : CanFollow run.now (floor run.free (entries_of before)) (known_after (known_at run.opening.last run.start) before) (state_after run before) event =
     follows_at run.now run.free [] (known_at run.opening.last run.start) (opening_state run.opening run.foreigners) before event rest whole in
     record { caused = step.caused; allowed = step.allowed; lands = step.lands; fed = step.fed; undamaged = step.undamaged }
@@ -93,7 +94,8 @@ same_number a b is = grind (arith, nat_tests, is)
 
 lands_so : (call : Call) (reply : Reply) → lands_well call ≡ true → NamesAdded call reply → Lands call reply
 lands_so call reply well named =
-    let a = both_true (passes (first_refusal (map walks (all_located call)))) (passes (slaves_stay call) && (passes (first_refusal (record_checks call)) && passes (intervals_left call))) well in
+    let a =
+    both_true (passes (first_refusal (map walks (all_located call)))) (passes (slaves_stay call) && (passes (first_refusal (record_checks call)) && passes (intervals_left call))) well in
     let b = both_true (passes (slaves_stay call)) (passes (first_refusal (record_checks call)) && passes (intervals_left call)) a.1 in
     let c = both_true (passes (first_refusal (record_checks call))) (passes (intervals_left call)) b.1 in
     record {
@@ -113,11 +115,13 @@ pub by_tests : (now : Counts) (least : ℕ) (known : Known) (state : State) (eve
 by_tests now least known state event id order read numbers allowed named fed undamaged =
     let call : Call = call_of name_hash state event in
     let landing : Bool = if is_refusal event.entry.reply then true else lands_well call in
-    let a = both_true (nat_le event.entry.id.0 GREATEST_ID) (passes (early_refusal known event) && (list_any (λ n. number_of event.entry.reply == n) (possible_for known event) && landing)) order in
+    let a =
+    both_true (nat_le event.entry.id.0 GREATEST_ID) (passes (early_refusal known event) && (list_any (λ n. number_of event.entry.reply == n) (possible_for known event) && landing)) order in
     let b = both_true (passes (early_refusal known event)) (list_any (λ n. number_of event.entry.reply == n) (possible_for known event) && landing) a.1 in
     let c = both_true (list_any (λ n. number_of event.entry.reply == n) (possible_for known event)) landing b.1 in
     let drawn : event.entry.id.0 ≤ GREATEST_ID = grind (arith, nat_tests, a.0) in
-    let among : Contains (possible_for known event) (number_of event.entry.reply) = Contains-from_any same_number (number_of event.entry.reply) (possible_for known event) c.0 in
+    let among : Contains (possible_for known event) (number_of event.entry.reply) =
+    Contains-from_any same_number (number_of event.entry.reply) (possible_for known event) c.0 in
     let possible : IsPossible (early_refusal known event) (possible_for known event) event.entry.reply =
     subst (λ (check : Check). IsPossible check (possible_for known event) event.entry.reply) (sym (passes_none (early_refusal known event) b.0)) among in
     record {

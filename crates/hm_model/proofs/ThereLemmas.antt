@@ -54,7 +54,8 @@ enter_there volume view pfs when passed =
     (some_there volume (λ (o : Object). Reaches here more) (object_at view here) (Refuses NotFound more) (λ o found_o. there) tt) tt)) tt
 
 take_there : (volume : Volume) (pfs : ℕ) (when : When) (passed : Passed) → EndsThere volume (take_pfs volume pfs when passed)
-take_there volume pfs when passed = some_there volume (λ (s : PseudoFileSystem). Reaches (root_of pfs when) passed) (system_of volume pfs) (Refuses NotFound passed) (λ s found. (s, found)) tt
+take_there volume pfs when passed =
+    some_there volume (λ (s : PseudoFileSystem). Reaches (root_of pfs when) passed) (system_of volume pfs) (Refuses NotFound passed) (λ s found. (s, found)) tt
 
 link_there : (volume : Volume) (view : View) (mode : Follow) (pfs : ℕ) (here : Position) (passed : Passed) → IsThere volume here.pfs →
     EndsThere volume (over_link volume view mode pfs here passed)
@@ -94,7 +95,8 @@ end_there volume (Reaches here passed) root there = there
 end_there volume (Refuses reply passed) root there = root
 
 located_there : (call : Call) (mode : Follow) (path : Parsed) → IsThere call.volume 0 → IsThere call.volume (site_in (located call (Walks mode) path)).at.pfs
-located_there call mode (Parts parts) root = end_there call.volume (walk call.volume call.view mode parts) root (walk_there call.volume call.view mode parts start ((0, 1) ∷ []) root)
+located_there call mode (Parts parts) root =
+    end_there call.volume (walk call.volume call.view mode parts) root (walk_there call.volume call.view mode parts start ((0, 1) ∷ []) root)
 located_there call mode (BadAt place) root = root
 
 one_there : (call : Call) (mode : Follow) (word : List ℕ) (paths : List Parsed) → IsThere call.volume 0 →
