@@ -1,5 +1,5 @@
 -- The examples are legal.
-use Rattle.std.proofs.Common.{◌≡◌, ℕ, ◌+◌, ◌≤◌, true, false, List, [], ◌∷◌, ◌++◌, refl, inl, inr, arith}
+use Rattle.std.proofs.Common.{◌≡◌, ℕ, ◌+◌, ◌≤◌, true, false, List, [], ◌∷◌, ◌++◌, refl, subst, inl, inr, arith}
 use Rattle.std.specs.Prelude.{Some, codes}
 use Rattle.std.specs.Bool.{nat_le}
 use Rattle.std.specs.Fmt.{char_count, digits, padded_integral}
@@ -7,8 +7,11 @@ use Rattle.std.proofs.lemmas.Bool.Decides.{nat_tests}
 use Rattle.hm_path.specs.Path.{IsPath}
 use Rattle.hm_model.specs.After.{Event, State}
 use Rattle.hm_model.specs.Caused.{Counts, HasNumbers, Known, takes_stream}
-use Rattle.hm_model.specs.Examples.{a_foreign_stream, a_pruned_end, a_stream_is_sent, a_stream_of_nobody, an_upgrade, by_id, by_name, fed_with, mirror_copies, of_new_volume, of_nobody, on_fresh, reads_of_the_past, snapshots_and_prune, stream_end}
+use Rattle.hm_model.specs.Examples.{a_foreign_stream, a_pruned_end, a_stream_is_sent, a_stream_of_nobody, an_upgrade, by_id, by_name, fed_with, mirror_copies, of_new_volume, of_nobody, on_fresh, on_new, new_volume, reads_of_the_past, snapshots_and_prune, stream_end}
+use Rattle.hm_model.specs.Foreign.{ForeignMaster, StreamEnd}
 use Rattle.hm_model.specs.Hash.{name_hash}
+use Rattle.hm_model.specs.Laws.{AreRising, ShowsTrees, versions_of}
+use Rattle.hm_model.specs.Volume.{at}
 use Rattle.hm_model.specs.Legal.{IsLegal, IsUndamaged, NamesAdded}
 use Rattle.hm_model.specs.Sites.{ReadsWords}
 use Rattle.hm_model.specs.After.{call_of}
@@ -238,8 +241,8 @@ legal-an_upgrade = IsLegal-steps on_fresh an_upgrade (
   ),
 )
 
-pub legal-a_stream_is_sent : IsLegal on_fresh a_stream_is_sent
-legal-a_stream_is_sent = IsLegal-steps on_fresh a_stream_is_sent (
+pub legal-a_stream_is_sent : IsLegal (on_new 24) a_stream_is_sent
+legal-a_stream_is_sent = IsLegal-steps (on_new 24) a_stream_is_sent (
   step _ _ _ _ _ refl refl refl (path_root, tt) tt (inl refl) tt tt,
   (
     step _ _ _ _ _ refl refl refl tt tt (_, refl, record { begins = refl; ends = (record { opened = omega arith; before = omega arith }, inl (omega arith, omega arith)); fits = within refl }) tt tt,
@@ -303,3 +306,14 @@ legal-a_stream_of_nobody = IsLegal-steps (fed_with (of_nobody ∷ [])) a_stream_
     ),
   ),
 )
+
+-- the stream of the new volume shows that volume's trees
+pub shows-new_volume : ShowsTrees 1 (λ id. true) (at new_volume.volume 0) of_new_volume
+shows-new_volume = record {
+  rising = λ m is same. let one : new_volume ≡ m = cc in subst (λ (n : ForeignMaster). AreRising (versions_of n.volume n.master)) one (omega arith, tt);
+  same = λ m is same id kept by. let one : new_volume ≡ m = cc in subst (λ (n : ForeignMaster). at n.volume n.master id ≡ at new_volume.volume 0 id) one refl;
+  ends = λ m t is brought.
+      let one : new_volume ≡ m = cc in
+      let end : stream_end ≡ t = cc in
+      subst (λ (n : ForeignMaster). t.end ≤ n.end) one (subst (λ (u : StreamEnd). u.end ≤ 2) end (omega arith));
+}

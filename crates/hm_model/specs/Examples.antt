@@ -12,15 +12,19 @@ use Rattle.hm_model.specs.Foreign.{Feed, ForeignMaster, StreamEnd, no_foreigners
 use Rattle.hm_model.specs.After.{Event}
 use Rattle.hm_model.specs.Legal.{Setting, no_counts, pool_of}
 
--- a run over a volume as it is made, of 100 big-blocks, of which each zone has one; no device fails
-abbrev pub on_fresh : Setting
-on_fresh = record {
-  opening = fresh 100;
+-- a run over a volume as it is made, of so many big-blocks, of which each zone has one; no device fails
+abbrev pub on_new : ℕ → Setting
+on_new bigblocks = record {
+  opening = fresh bigblocks;
   foreigners = no_foreigners;
-  free = pool_of (fresh 100) - 4;
+  free = pool_of (fresh bigblocks) - 4;
   start = no_counts;
   now = no_counts;
 }
+
+-- the same of 100 big-blocks
+abbrev pub on_fresh : Setting
+on_fresh = on_new 100
 
 -- the same with these feeds
 abbrev pub fed_with : List Feed → Setting

@@ -15,7 +15,8 @@ pub fn cut_passes_change_nothing()
 {}
 
 /// What a slave has as of an id up to its sync end stays, whatever event comes: while a pass into it
-/// is open, at that pass's end, however it comes out, and at the end of an upgrade.
+/// is open, at that pass's end, however it comes out, and at the end of an upgrade. Asked is that the
+/// sync end was drawn.
 pub fn slaves_keep_their_past()
     ensures { (run : Setting) (before : List Event) (event : Event) (slave id : ℕ)
         (s : PseudoFileSystem) → MayFollow run before event →
