@@ -1,6 +1,6 @@
 -- The examples are legal.
-use Rattle.std.proofs.Common.{◌≡◌, ℕ, ◌+◌, ◌≤◌, true, false, List, [], ◌∷◌, ◌++◌, refl, subst, inl, inr, arith}
-use Rattle.std.specs.Prelude.{Some, codes}
+use Rattle.std.proofs.Common.{◌≡◌, ℕ, ◌+◌, ◌≤◌, true, false, [], ◌∷◌, ◌++◌, refl, subst, inl, inr, arith}
+use Rattle.std.specs.Prelude.{codes}
 use Rattle.std.specs.Bool.{nat_le}
 use Rattle.std.specs.Fmt.{char_count, digits, padded_integral}
 use Rattle.std.proofs.lemmas.Bool.Decides.{nat_tests}
@@ -15,7 +15,7 @@ use Rattle.hm_model.specs.Volume.{at}
 use Rattle.hm_model.specs.Legal.{IsLegal, IsUndamaged, NamesAdded}
 use Rattle.hm_model.specs.Sites.{ReadsWords}
 use Rattle.hm_model.specs.After.{call_of}
-use Rattle.hm_model.proofs.ReadingLemmas.{dated, is_plain, named, path}
+use Rattle.hm_model.proofs.ReadingLemmas.{dated, named, path}
 use Rattle.hm_model.proofs.StepByStepLemmas.{CanFollow, IsAllowedOn, IsLegal-steps, by_tests, early_step, is_in_order}
 
 -- an event that takes no stream and tells nothing that needs a cause

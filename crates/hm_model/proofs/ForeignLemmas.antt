@@ -10,27 +10,26 @@ use Rattle.hm_types.specs.declared.text.Text.{Text}
 use Rattle.hm_retain.proofs.SetLemmas.{less_or_not}
 use Rattle.hm_model.specs.declared.command.Command.{Command}
 use Rattle.hm_model.specs.declared.command.Command.TheVariants.{End, MirrorCopy, MirrorRead, MirrorWrite, PfsSlave, PfsUpgrade, Prune, PruneAll, Reblock}
-use Rattle.hm_model.specs.declared.reply.Reply.{Reply}
 use Rattle.hm_model.specs.declared.reply.Reply.TheVariants.{Passed}
-use Rattle.hm_model.specs.After.{Event, OpenCall, State, accepted_effect, after_event, after_events, after_pass, call_of, effect, end_effect, end_id, end_of_pass, end_of_upgrade, end_of_write, ended, fed_from, feeding, given_in, is_origin, last_after, later_streams, next_stream, no_hash, nothing_merged, of_pfs, on_volume, opened_with, opening_state, origin_of, present_only, retaining, stream_origin, upgraded, with_opened, with_origin}
+use Rattle.hm_model.specs.After.{Event, OpenCall, State, accepted_effect, after_event, after_events, after_pass, call_of, effect, end_effect, end_id, end_of_pass, end_of_upgrade, ended, fed_from, feeding, given_in, is_origin, last_after, later_streams, next_stream, no_hash, nothing_merged, of_pfs, on_volume, opened_with, opening_state, origin_of, present_only, retaining, stream_origin, upgraded, with_opened, with_origin}
 use Rattle.hm_model.specs.Call.{Call, first_site, own_id, second_site}
-use Rattle.hm_model.specs.Caused.{Known, early_refusal, is_ending, known_after, known_after_entry, known_at, possible_for}
+use Rattle.hm_model.specs.Caused.{is_ending, known_after, known_at, possible_for}
 use Rattle.hm_model.specs.Change.{change, new_slave}
 use Rattle.hm_model.specs.Cut.{pruned}
 use Rattle.hm_model.specs.Due.{is_pass, is_tree_call, kept_ids, new_pfs}
-use Rattle.hm_model.specs.Foreign.{Feed, ForeignMaster, StreamEnd, no_feed}
+use Rattle.hm_model.specs.Foreign.{Feed, ForeignMaster, no_feed}
 use Rattle.hm_model.specs.Laws.{EndsPass, FollowsForeign, IsThere, Makes, ShowsTrees, merges, rewrites}
-use Rattle.hm_model.specs.Legal.{IsBrought, IsLegal, MayFollow, Setting, begin_of, state_after}
+use Rattle.hm_model.specs.Legal.{IsBrought, IsLegal, MayFollow, Setting, state_after}
 use Rattle.hm_model.specs.Reply.{is_refusal}
 use Rattle.hm_model.specs.Tree.{FileTree, no_tree}
 use Rattle.hm_model.specs.Volume.{Origin, Nowhere, Local, Foreign, Mixed, PseudoFileSystem, Slave, Volume, as_of, at, system_of}
 use Rattle.hm_model.proofs.AgeLemmas.{Ages, AgesIn, ages_accepted}
 use Rattle.hm_model.proofs.EffectLemmas.{accepted_cases, effect_cases}
-use Rattle.hm_model.proofs.EventLemmas.{IsLegal-beginning, after_events-push, known_after-push}
+use Rattle.hm_model.proofs.EventLemmas.{IsLegal-beginning}
 use Rattle.hm_model.proofs.FollowLemmas.{at_found}
 use Rattle.hm_model.proofs.GrowthLemmas.{KeepsNumber, found-changed, found-other, same_or_not}
 use Rattle.hm_model.proofs.KeptPastLemmas.{effect-ending}
-use Rattle.hm_model.proofs.KnownLemmas.{Agrees, Agrees-event, All-still, NoPass, OnePass, OnePass-still, accepted_alone, none_busy, none_still, opening_of}
+use Rattle.hm_model.proofs.KnownLemmas.{Agrees, All-still, NoPass, OnePass, OnePass-still, accepted_alone, none_busy, none_still, opening_of}
 use Rattle.hm_model.proofs.MadeLemmas.{absent, effect_slave, made_slave, one_more, stands_before, state_pushed}
 use Rattle.hm_model.proofs.NewPfsLemmas.{none-new}
 use Rattle.hm_model.proofs.OpenLemmas.{NamesThere, StandsAfter, StandsAfter-legal}

@@ -1,5 +1,5 @@
 -- The trees that a slave keeps over the endings of calls.
-use Rattle.std.proofs.Common.{◌≡◌, ℕ, ◌+◌, ◌≤◌, min, true, false, List, [], ◌∷◌, refl, ◌∙◌, ap, sym, subst, inl, inr, arith, eqb}
+use Rattle.std.proofs.Common.{◌≡◌, ℕ, ◌+◌, ◌≤◌, min, true, false, List, [], ◌∷◌, refl, ◌∙◌, ap, sym, inl, inr, arith}
 use Rattle.std.specs.Prelude.{Bool, Option, Some, None, if◌then◌else◌}
 use Rattle.std.specs.Bool.{nat_le}
 use Rattle.std.specs.Option.{option_map_or}
@@ -13,13 +13,13 @@ use Rattle.hm_model.specs.declared.reply.Reply.{Reply}
 use Rattle.hm_model.specs.declared.reply.Reply.TheVariants.{Cut, Finished}
 use Rattle.hm_model.specs.After.{Event, OpenCall, State, accepted_effect, after_event, after_pass, call_of, effect, end_effect, end_of_pass, end_of_upgrade, end_of_write, ended, given_in, no_hash, nothing_merged, of_pfs, opened_with, upgraded, versions_to, with_origin}
 use Rattle.hm_model.specs.Caused.{is_ending}
-use Rattle.hm_model.specs.Laws.{EndsPass, EndsUpgrade, merges, versions_of}
+use Rattle.hm_model.specs.Laws.{EndsPass, EndsUpgrade, merges}
 use Rattle.hm_model.specs.Legal.{MayFollow, Setting, begin_of, state_after}
 use Rattle.hm_model.specs.Reply.{is_refusal}
 use Rattle.hm_model.specs.Tree.{FileTree, no_tree}
 use Rattle.hm_model.specs.Volume.{PseudoFileSystem, Volume, as_of, at, system_of}
-use Rattle.hm_model.proofs.EffectLemmas.{accepted_grows, effect_cases}
-use Rattle.hm_model.proofs.GrowthLemmas.{KeepsNumber, at-grown, at-versions, found-changed, found-other, found_in, same_or_not, versions_in}
+use Rattle.hm_model.proofs.EffectLemmas.{accepted_grows}
+use Rattle.hm_model.proofs.GrowthLemmas.{KeepsNumber, at-grown, at-versions, found-changed, found-other, same_or_not, versions_in}
 use Rattle.hm_model.proofs.KnownLemmas.{opening_of}
 use Rattle.hm_model.proofs.PassEndLemmas.{begin_legal, ending_is}
 use Rattle.hm_model.proofs.PassLemmas.{as_of-to, passed-before}

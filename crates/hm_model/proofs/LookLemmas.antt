@@ -1,14 +1,11 @@
 -- What calls that only look leave: everything.
-use Rattle.std.proofs.Common.{◌≡◌, ℕ, true, false, List, refl, ap}
-use Rattle.std.specs.Prelude.{Bool, Option, if◌then◌else◌}
+use Rattle.std.proofs.Common.{◌≡◌, ℕ, true, false, refl}
+use Rattle.std.specs.Prelude.{Bool, if◌then◌else◌}
 use Rattle.hm_model.specs.declared.command.Command.{Command}
-use Rattle.hm_model.specs.declared.command.Command.TheVariants.{Cat, Df, End, Ls, PfsStatus, Readlink, Stat, Sync, Synctid}
-use Rattle.hm_model.specs.declared.reply.Reply.{Reply}
-use Rattle.hm_model.specs.After.{Event, State, accepted_effect, busy_in, effect, ended, no_hash}
+use Rattle.hm_model.specs.declared.command.Command.TheVariants.{Cat, Df, Ls, PfsStatus, Readlink, Stat, Sync, Synctid}
+use Rattle.hm_model.specs.After.{Event, State, effect}
 use Rattle.hm_model.specs.Laws.{only_looks}
 use Rattle.hm_model.specs.Reply.{is_refusal}
-use Rattle.hm_model.specs.Sites.{Parsed}
-use Rattle.hm_model.specs.View.{View, view_of}
 
 -- a state that is left, accepted or not
 either_way : (state : State) (test : Bool) → (if test then state else state) ≡ state

@@ -1,7 +1,7 @@
 -- PFS that are made in a run, from the event on that makes them.
 use Rattle.std.proofs.Common.{◌≡◌, ℕ, ◌+◌, ◌≤◌, zero, suc, true, false, List, [], ◌∷◌, ◌++◌, refl, ◌∙◌, ap, sym, subst, arith, append_assoc}
 use Rattle.std.proofs.lemmas.List.{append-nil}
-use Rattle.std.specs.Prelude.{Bool, Option, Some, None, if◌then◌else◌}
+use Rattle.std.specs.Prelude.{Bool, Some, None, if◌then◌else◌}
 use Rattle.std.specs.Bool.{nat_le}
 use Rattle.std.specs.List.{AllByRecursion}
 use Rattle.std.proofs.lemmas.Bool.Decides.{nat_tests}
@@ -9,7 +9,6 @@ use Rattle.hm_types.specs.declared.text.Text.{Text}
 use Rattle.hm_model.specs.declared.command.Command.{Command}
 use Rattle.hm_model.specs.declared.command.Command.TheVariants.{MirrorCopy, MirrorWrite, PfsMaster, PfsSlave}
 use Rattle.hm_model.specs.After.{Event, OpenCall, State, after_event, after_events, call_of, effect, last_after, no_hash, on_volume, opening_state}
-use Rattle.hm_model.specs.Call.{Call, own_id}
 use Rattle.hm_model.specs.Caused.{Known, known_after, known_after_entry, known_at}
 use Rattle.hm_model.specs.Change.{change, new_slave}
 use Rattle.hm_model.specs.Due.{new_pfs}
@@ -17,9 +16,9 @@ use Rattle.hm_model.specs.Laws.{AreRising, BeginBy, FollowsMaster, IsMasterFrom,
 use Rattle.hm_model.specs.Legal.{IsLegal, MayFollow, Setting, state_after}
 use Rattle.hm_model.specs.Reply.{is_refusal}
 use Rattle.hm_model.specs.Tree.{FileTree, root_tree}
-use Rattle.hm_model.specs.Volume.{Nowhere, Origin, PseudoFileSystem, Volume, at, new_master, shown, system_of}
+use Rattle.hm_model.specs.Volume.{PseudoFileSystem, Volume, at, new_master, shown, system_of}
 use Rattle.hm_model.proofs.EffectLemmas.{Grows-event}
-use Rattle.hm_model.proofs.EventLemmas.{IdsFollow, IsLegal-beginning, after_events-push, ids_follow, known_after-push}
+use Rattle.hm_model.proofs.EventLemmas.{IdsFollow, IsLegal-beginning, after_events-push, ids_follow}
 use Rattle.hm_model.proofs.FollowLemmas.{twin_follows}
 use Rattle.hm_model.proofs.GrowthLemmas.{Grows, versions_in}
 use Rattle.hm_model.proofs.MasterLemmas.{IsSteady, begin_grown, shown_then}

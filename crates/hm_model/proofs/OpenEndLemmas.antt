@@ -1,17 +1,16 @@
 -- That a master's last interval has an open end.
-use Rattle.std.proofs.Common.{◌≡◌, ℕ, ◌+◌, ◌-◌, ◌<◌, ◌≤◌, ◌^◌, max, true, false, List, [], ◌∷◌, ◌++◌, filter, refl, ◌∙◌, ap, sym, subst, inl, inr, arith, append_assoc}
+use Rattle.std.proofs.Common.{◌≡◌, ℕ, ◌+◌, ◌-◌, ◌<◌, ◌≤◌, ◌^◌, true, false, List, [], ◌∷◌, ◌++◌, filter, refl, ◌∙◌, ap, sym, subst, inl, inr, arith, append_assoc}
 use Rattle.std.proofs.lemmas.List.{append-nil}
 use Rattle.std.proofs.lemmas.Bool.Decides.{nat_tests}
 use Rattle.std.specs.Prelude.{Bool, Option, Some, None, if◌then◌else◌}
 use Rattle.std.specs.Bool.{nat_le}
 use Rattle.std.specs.Option.{option_map_or}
-use Rattle.hm_types.specs.declared.limits.TheConstants.{GREATEST_ID}
 use Rattle.hm_types.specs.declared.text.Text.{Text}
-use Rattle.hm_types.specs.Intervals.{Holds, Keeps}
-use Rattle.hm_retain.specs.Intervals.{IsIntervals, RiseFrom}
+use Rattle.hm_types.specs.Intervals.{Keeps}
+use Rattle.hm_retain.specs.Intervals.{RiseFrom}
 use Rattle.hm_model.specs.declared.command.Command.TheVariants.{PfsMaster}
-use Rattle.hm_model.specs.After.{Event, State, accepted_effect, after_event, call_of, effect, ended, fed_from, next_stream, no_hash, of_pfs, on_volume, opening_state, origin_of, present_only, retaining, stream_origin, with_origin}
-use Rattle.hm_model.specs.Call.{Call, call_shown, first_site, own_id, second_site, site_system, site_tree}
+use Rattle.hm_model.specs.After.{Event, State, accepted_effect, after_event, call_of, effect, fed_from, next_stream, no_hash, of_pfs, on_volume, opening_state, origin_of, present_only, retaining, stream_origin, with_origin}
+use Rattle.hm_model.specs.Call.{Call, call_shown, first_site, own_id, second_site, site_tree}
 use Rattle.hm_model.specs.Caused.{known_at}
 use Rattle.hm_model.specs.Change.{change, changed, changed_pfs, new_slave}
 use Rattle.hm_model.specs.Cut.{cut, greatest, pruned, single, snapshot_ids, within}

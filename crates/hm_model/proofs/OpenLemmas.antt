@@ -1,18 +1,17 @@
 -- Which calls are open in a legal history: those that rewrite a PFS name one that is there, and at most one is
 -- a pass.
-use Rattle.std.proofs.Common.{◌≡◌, ℕ, ◌+◌, true, false, List, [], ◌∷◌, ◌++◌, filter, refl, ◌∙◌, ap, sym, subst, inl, inr, arith, eqb, append_assoc}
+use Rattle.std.proofs.Common.{◌≡◌, ℕ, ◌+◌, true, false, List, [], ◌∷◌, ◌++◌, refl, ◌∙◌, ap, sym, subst, inl, inr, arith, eqb, append_assoc}
 use Rattle.std.proofs.lemmas.List.{append-nil}
 use Rattle.std.proofs.lemmas.Bool.Decides.{nat_tests}
 use Rattle.std.specs.Prelude.{◌&&◌, ◌||◌, Bool, Option, Some, None, if◌then◌else◌}
 use Rattle.std.specs.List.{AllByRecursion, list_any}
 use Rattle.std.specs.Option.{option_map_or}
-use Rattle.hm_model.specs.declared.command.Command.{Command}
 use Rattle.hm_model.specs.declared.reply.Reply.{Reply}
-use Rattle.hm_model.specs.After.{Event, OpenCall, State, accepted_effect, after_event, after_pass, call_of, effect, end_effect, end_of_pass, end_of_upgrade, end_of_write, ended, given_in, no_hash, nothing_merged, of_pfs, opened_with, opening_state, upgraded, with_origin}
+use Rattle.hm_model.specs.After.{Event, OpenCall, State, accepted_effect, after_event, after_pass, call_of, effect, end_effect, end_of_pass, ended, given_in, no_hash, nothing_merged, of_pfs, opened_with, opening_state, upgraded, with_origin}
 use Rattle.hm_model.specs.Call.{Call, first_site, second_site}
 use Rattle.hm_model.specs.Caused.{IsPossible, Known, early_refusal, is_ending, known_after, known_after_entry, known_at, possible_for}
 use Rattle.hm_model.specs.Due.{is_pass}
-use Rattle.hm_model.specs.Laws.{IsThere, IsUnfed, is_rewriter, rewrites}
+use Rattle.hm_model.specs.Laws.{IsThere, is_rewriter, rewrites}
 use Rattle.hm_model.specs.Legal.{IsLegal, MayFollow, Setting, state_after}
 use Rattle.hm_model.specs.Reply.{is_refusal}
 use Rattle.hm_model.specs.Volume.{PseudoFileSystem, Volume, system_of}

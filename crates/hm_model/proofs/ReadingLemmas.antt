@@ -1,16 +1,15 @@
 -- Path words of lower-case letters and of ids, read by computing.
-use Rattle.std.proofs.Common.{◌≡◌, ◌≢◌, ℕ, zero, suc, ◌+◌, ◌<◌, ◌≤◌, true, false, List, [], ◌∷◌, ◌++◌, length, drop, get_or, refl, ◌∙◌, ap, sym, inl, inr, arith}
-use Rattle.std.specs.Prelude.{Bool, ◌&&◌, ◌==◌, Option, Some, None, All, codes, if◌then◌else◌}
+use Rattle.std.proofs.Common.{◌≡◌, ◌≢◌, ℕ, zero, suc, ◌+◌, ◌<◌, ◌≤◌, true, false, List, [], ◌∷◌, ◌++◌, length, drop, get_or, refl, ◌∙◌, arith}
+use Rattle.std.specs.Prelude.{Bool, ◌&&◌, ◌==◌, Some, None, codes, if◌then◌else◌}
 use Rattle.std.specs.Bool.{nat_le, nat_lt}
 use Rattle.std.specs.List.{AllZip, list_all}
 use Rattle.std.specs.Char.{digit_value}
 use Rattle.std.specs.Str.Parse.{AllDigits, digits_value}
 use Rattle.std.proofs.lemmas.Bool.Decides.{nat_tests}
-use Rattle.hm_types.specs.declared.id.Id.{Id}
 use Rattle.hm_types.specs.declared.limits.TheConstants.{MOST_PATH_BYTES, MOST_PATH_PARTS}
 use Rattle.hm_types.specs.Name.{IsName}
 use Rattle.hm_path.specs.declared.part.Part.{Part}
-use Rattle.hm_path.specs.Component.{IsComponent, IsIdText, id_sign}
+use Rattle.hm_path.specs.Component.{IsComponent, id_sign}
 use Rattle.hm_path.specs.Path.{IsPath, component_texts}
 
 both_true : (a b : Bool) → (a && b) ≡ true → (a ≡ true) × (b ≡ true)

@@ -1,5 +1,5 @@
 -- How many intervals the retentions have in a legal history.
-use Rattle.std.proofs.Common.{◌≡◌, ◌≢◌, ℕ, ◌+◌, ◌<◌, ◌≤◌, ◌-◌, ◌^◌, eqb, max, min, true, false, List, [], ◌∷◌, ◌++◌, length, refl, ◌∙◌, ap, sym, subst, inl, inr, arith, append_assoc, length-append}
+use Rattle.std.proofs.Common.{◌≡◌, ◌≢◌, ℕ, ◌+◌, ◌<◌, ◌≤◌, ◌-◌, ◌^◌, eqb, max, min, true, false, List, [], ◌∷◌, ◌++◌, length, refl, ◌∙◌, ap, sym, subst, inl, inr, arith, append_assoc}
 use Rattle.std.proofs.lemmas.List.{append-nil}
 use Rattle.std.proofs.lemmas.Bool.Decides.{nat_tests}
 use Rattle.std.specs.Prelude.{Bool, Option, Some, None, if◌then◌else◌}
@@ -13,11 +13,11 @@ use Rattle.hm_model.specs.declared.command.Command.{Command}
 use Rattle.hm_model.specs.declared.command.Command.TheVariants.{End, Prune, PruneAll, Reblock, PfsUpgrade, MirrorRead, MirrorWrite, MirrorCopy}
 use Rattle.hm_model.specs.declared.reply.Reply.{Reply}
 use Rattle.hm_model.specs.declared.reply.Reply.TheVariants.{TooManyIntervals}
-use Rattle.hm_model.specs.After.{Event, OpenCall, State, accepted_effect, after_event, after_pass, call_of, effect, end_effect, end_of_pass, end_of_upgrade, end_of_write, ended, fed_from, feeding, given_in, later_streams, next_stream, no_hash, nothing_merged, of_pfs, on_volume, opened_end, opened_with, opening_state, origin_of, present_only, retaining, stream_origin, upgraded, with_opened, with_origin}
+use Rattle.hm_model.specs.After.{Event, OpenCall, State, accepted_effect, after_event, after_pass, call_of, effect, end_effect, end_of_pass, ended, fed_from, feeding, given_in, later_streams, next_stream, no_hash, nothing_merged, of_pfs, on_volume, opened_end, opened_with, opening_state, origin_of, present_only, retaining, stream_origin, upgraded, with_opened, with_origin}
 use Rattle.hm_model.specs.Call.{Call, call_shown, each_located, first_of, first_site, own_id, second_site, site_system, site_tree}
 use Rattle.hm_model.specs.Caused.{is_ending, writes_stream}
 use Rattle.hm_model.specs.Change.{change, changed, changed_pfs, new_slave}
-use Rattle.hm_model.specs.Cut.{clipped, cut, join, maximal, pruned, single, snapshot_ids, with_interval, within}
+use Rattle.hm_model.specs.Cut.{cut, join, maximal, pruned, single, snapshot_ids, with_interval, within}
 use Rattle.hm_model.specs.Due.{intervals_left, is_tree_call, kept_ids, new_pfs, pruned_count, Check, refuse_if}
 use Rattle.hm_model.specs.Foreign.{no_feed}
 use Rattle.hm_model.specs.Hash.{name_hash}
@@ -32,7 +32,7 @@ use Rattle.hm_model.specs.Walk.{holds}
 use Rattle.hm_model.proofs.ChangeLemmas.{new_cases, versioned}
 use Rattle.hm_model.proofs.EffectLemmas.{by_role}
 use Rattle.hm_model.proofs.EventLemmas.{after_events-push}
-use Rattle.hm_model.proofs.GrowthLemmas.{KeepsNumber, changed_in, found-changed, found-other, found-pushed, found_in, same_or_not}
+use Rattle.hm_model.proofs.GrowthLemmas.{KeepsNumber, found-changed, found-other, found-pushed, found_in, same_or_not}
 use Rattle.hm_model.proofs.KeptPastLemmas.{effect-ending}
 use Rattle.hm_model.proofs.KnownLemmas.{opening_of}
 use Rattle.hm_model.proofs.PassEndLemmas.{passed_legal}

@@ -1,7 +1,7 @@
 -- A history that is legal step by step, as it can be computed: what each event finds is carried along.
-use Rattle.std.proofs.Common.{◌≡◌, ℕ, zero, suc, ◌+◌, ◌<◌, ◌≤◌, true, false, List, [], ◌∷◌, ◌++◌, map, refl, ◌∙◌, ap, sym, subst, inl, inr, arith, append_assoc}
+use Rattle.std.proofs.Common.{◌≡◌, ℕ, zero, suc, ◌+◌, ◌<◌, ◌≤◌, true, false, List, [], ◌∷◌, ◌++◌, map, refl, ◌∙◌, sym, subst, inl, arith, append_assoc}
 use Rattle.std.proofs.lemmas.List.{append-nil}
-use Rattle.std.specs.Prelude.{Bool, ◌&&◌, ◌==◌, Option, Some, None, if◌then◌else◌}
+use Rattle.std.specs.Prelude.{Bool, ◌&&◌, ◌==◌, Some, None, if◌then◌else◌}
 use Rattle.std.specs.Bool.{nat_le}
 use Rattle.std.specs.List.{Contains, list_any}
 use Rattle.std.proofs.lemmas.Bool.Decides.{nat_tests}
@@ -15,7 +15,7 @@ use Rattle.hm_model.specs.Call.{Call, all_located}
 use Rattle.hm_model.specs.Caused.{Counts, HasCause, HasNumbers, IsPossible, Known, early_refusal, known_after, known_after_entry, known_at, number_of, possible_for, takes_stream}
 use Rattle.hm_model.specs.Due.{Check, first_refusal, intervals_left, record_checks, slaves_stay, walks}
 use Rattle.hm_model.specs.Hash.{name_hash}
-use Rattle.hm_model.specs.Legal.{HasFeed, IsEnding, IsLegal, IsReply, IsUndamaged, Lands, MayFollow, NamesAdded, Setting, enters_unclear, entries_of, floor_after, state_after}
+use Rattle.hm_model.specs.Legal.{HasFeed, IsEnding, IsLegal, IsReply, IsUndamaged, Lands, NamesAdded, Setting, enters_unclear, entries_of, state_after}
 use Rattle.hm_model.specs.Needs.{floor}
 use Rattle.hm_model.specs.Reply.{is_refusal}
 use Rattle.hm_model.specs.Sites.{ReadsWords}

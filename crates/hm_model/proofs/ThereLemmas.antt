@@ -1,5 +1,5 @@
 -- Walks end in PFS that are there, and no event takes one away.
-use Rattle.std.proofs.Common.{◌≡◌, ℕ, true, false, List, [], ◌∷◌, ◌++◌, refl, ◌∙◌, ap, sym, subst, inl, inr}
+use Rattle.std.proofs.Common.{◌≡◌, ℕ, true, false, List, [], ◌∷◌, ◌++◌, refl, ◌∙◌}
 use Rattle.std.specs.Prelude.{Bool, Option, Some, None, if◌then◌else◌}
 use Rattle.std.specs.Option.{option_map_or}
 use Rattle.hm_types.specs.declared.id.Id.{Id}
@@ -10,7 +10,7 @@ use Rattle.hm_model.specs.declared.command.Command.TheVariants.{MirrorCopy, Mirr
 use Rattle.hm_model.specs.declared.reply.Reply.TheVariants.{NotDir, NotFound, NotRetained}
 use Rattle.hm_model.specs.Call.{Call, each_located, first_of, located, second_of, site_in}
 use Rattle.hm_model.specs.Laws.{IsThere, rewrites}
-use Rattle.hm_model.specs.Sites.{BadAt, Located, Nowhere, At, Parsed, Parts, Use, Walks, at_end, uses_of}
+use Rattle.hm_model.specs.Sites.{BadAt, Parsed, Parts, Walks, at_end, uses_of}
 use Rattle.hm_model.specs.View.{AsOf, Position, View, When, object_at}
 use Rattle.hm_model.specs.Volume.{PseudoFileSystem, Volume, system_of}
 use Rattle.hm_model.specs.Walk.{Follow, Follows, Passed, Reaches, Refuses, Stays, TakesPfs, Walked, and_then, by_id, by_name, enter, find_name, find_object, from_found, is_directory, is_kept, is_seen, linked_in, look_at_root, over_link, reach, root_of, start, step, take_pfs, walk, walk_on, follow_before}

@@ -1,13 +1,12 @@
 -- Histories of a few lines, entry by entry, each as its run would print it.
-use Rattle.std.specs.Prelude.{ℕ, ◌-◌, List, [], ◌∷◌, ◌++◌, Bool, true, false, Option, Some, None, codes}
-use Rattle.hm_types.specs.Id.{id_text}
+use Rattle.std.specs.Prelude.{ℕ, ◌-◌, List, [], ◌∷◌, ◌++◌, true, false, Some, None, codes}
 use Rattle.hm_path.specs.declared.part.Part.{Part}
 use Rattle.hm_model.specs.declared.command.Command.{Command}
 use Rattle.hm_model.specs.declared.command.Command.TheVariants.{Touch, Mkdir, Write, Cat, Ls, Readlink, Snapshot, Prune, PruneAll, PfsMaster, PfsSlave, PfsStatus, PfsUpgrade, MirrorRead, MirrorWrite, MirrorCopy, End}
 use Rattle.hm_model.specs.declared.reply.Reply.{Reply}
 use Rattle.hm_model.specs.declared.reply.Reply.TheVariants.{Done, Content, Listing, Target, Finished, Passed, Cut, MadePfs, PfsIs, Busy, EndPruned, NoSnapshots, NotRetained, ReadOnly}
-use Rattle.hm_model.specs.Sites.{Parsed, Parts}
-use Rattle.hm_model.specs.Volume.{Volume, fresh, open_end}
+use Rattle.hm_model.specs.Sites.{Parts}
+use Rattle.hm_model.specs.Volume.{fresh, open_end}
 use Rattle.hm_model.specs.Foreign.{Feed, ForeignMaster, StreamEnd, no_foreigners}
 use Rattle.hm_model.specs.After.{Event}
 use Rattle.hm_model.specs.Legal.{Setting, no_counts, pool_of}

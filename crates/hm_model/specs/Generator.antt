@@ -1,10 +1,9 @@
 -- The lines that are run where no script is read, made from one number, and what such a run prints.
-use Rattle.std.specs.Prelude.{◌≡◌, ℕ, zero, suc, ◌+◌, ◌-◌, ◌*◌, ◌/◌, ◌%◌, ◌^◌, List, [], ◌∷◌, ◌++◌, Bool, true, false, Option, None, Some, ◌==◌, if◌then◌else◌, codes, decimal, map}
+use Rattle.std.specs.Prelude.{◌≡◌, ℕ, zero, suc, ◌+◌, ◌-◌, ◌*◌, ◌/◌, ◌%◌, ◌^◌, List, [], ◌∷◌, ◌++◌, Bool, true, false, ◌==◌, if◌then◌else◌, codes, decimal, map}
 use Rattle.std.specs.Bool.{nat_le, nat_lt}
 use Rattle.std.specs.List.{count_by}
 use Rattle.std.specs.Fmt.{digits, padded_integral, format_spec}
 use Rattle.hm_types.specs.Id.{id_text}
-use Rattle.hm_types.specs.declared.id.Id.{Id}
 use Rattle.hm_model.specs.declared.command.Command.{Command}
 use Rattle.hm_model.specs.declared.command.Command.TheVariants.{Touch, Snapshot, Fill, Truncate, Ls, Cat, Stat, Sync, Prune, Reblock}
 use Rattle.hm_model.specs.declared.entry.Entry.{Entry}
