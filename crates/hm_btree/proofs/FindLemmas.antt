@@ -1,12 +1,12 @@
 -- The element at a key of a leaf.
-use Rattle.std.proofs.Common.{◌≡◌, Bool, false, ℕ, List, sym, ap, ◌∙◌, Some, None, Bor}
-use Rattle.std.specs.Prelude.{Option, is_some, ◌==◌, slice_get}
+use Rattle.std.proofs.Common.{◌≡◌, Bool, false, ℕ, List, sym, ap, ◌∙◌, Some, None, Bor, refl}
+use Rattle.std.specs.Prelude.{IfSome, Option, is_some, ◌==◌, slice_get}
 use Rattle.std.specs.Option.{option_copied}
 use Rattle.std.specs.Slice.{IsItemAt}
 use Rattle.std.specs.Ordering.{ordering_index}
 use Rattle.std.specs.declared.cmp.Ordering.{Ordering}
 use Rattle.hm_types.specs.Elements.{Key, key_cmp}
-use Rattle.hm_key.specs.Elements.{element_key, element_at, first_from}
+use Rattle.hm_key.specs.Elements.{IsContent, element_key, element_at, first_from}
 use Rattle.hm_key.specs.Places.{leading}
 use Rattle.hm_key.specs.declared.element.Element.{Element}
 use Rattle.hm_key.proofs.PlaceLemmas.{first_from-leading, got}
@@ -25,3 +25,14 @@ module _ (leaf : Leaf) (key : Key) (i : ℕ) (lent : Option (Bor Element)) where
 
   pub none_at : (xs : List Element) → HasLeafOrder leaf → i ≡ leading key leaf.places.items → IsItemAt xs i lent → xs ≡ leaf.places.items → lent ≡ None → false ≡ is_some (element_at key leaf.places.items)
   none_at xs order at item same is = has_none key leaf.places.items order (first_is xs at item same ∙ ap option_copied is)
+
+-- whether an element stands at a key, by the first one from it on that a store answered
+pub stands_there : (at : Key) (e : Element) (found : Option Element) (old new : Option (List Element)) (o : Ordering) (test : Bool) → new ≡ old → IfSome old IsContent
+    → IfSome old (λ es. found ≡ first_from at es) → found ≡ Some e → o ≡ key_cmp (element_key e) at → test ≡ (ordering_index o == 1) → IfSome new (λ es. test ≡ is_some (element_at at es))
+stands_there at e found None new o test same content search is order tested = rw same tt
+stands_there at e found (Some es) new o test same content search is order tested = rw same (has_found at e es o test content.rising (sym search ∙ is) order tested)
+
+pub stands_nowhere : (at : Key) (found : Option Element) (old new : Option (List Element)) → new ≡ old → IfSome old IsContent → IfSome old (λ es. found ≡ first_from at es) → found ≡ None
+    → IfSome new (λ es. false ≡ is_some (element_at at es))
+stands_nowhere at found None new same content search is = rw same tt
+stands_nowhere at found (Some es) new same content search is = rw same (has_none at es content.rising (sym search ∙ is))

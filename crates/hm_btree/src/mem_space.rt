@@ -41,6 +41,13 @@ impl MemSpace {
         self.pages.len()
     }
 
+    /// How many bytes of room are left in zone 8.
+    pub fn room(&self) -> u64
+        ensures { result ≡ self.now.room }
+    {
+        self.room
+    }
+
     // Puts a page.
     fn put(&mut self, at: HOff, with: &Page) -> Result<(), Fault>
         ensures ok { OnOk result (HasPut at with.now (kept self.old) (kept self.new)) }

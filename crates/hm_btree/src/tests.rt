@@ -1,14 +1,17 @@
 // The tree beside a plain ordered map, what its calls read and write, and bad pages.
-ghost use Rattle.std.specs.Prelude.{◌≡◌, ◌<◌, ◌≤◌, [], Some, IfOk};
+ghost use Rattle.std.specs.Prelude.{◌≡◌, ◌<◌, ◌≤◌, [], Some, IfOk, IfSome, is_some};
 ghost use Rattle.hm_key.specs.Element.{IsElement};
+ghost use Rattle.hm_key.specs.Elements.{element_at};
+ghost use Rattle.hm_key.specs.Key.{key_of};
 
 use crate::{BTree, MemSpace, NodeTable};
 use hm_fields::{Page, Pages};
 use hm_key::{Base, ELEMENT, Element, ElementStore, HasElements, HasRoom, OTHER_PART, SNAPSHOT};
 use hm_node::{Node, encode};
 use hm_search::{Subtree, read_node};
-use hm_types::{Fault, HOff, INSERT_ROOM, Id, Obj, TREE_ZONE};
+use hm_types::{BAD_LEVEL, BAD_MIRROR, Fault, HOff, INSERT_ROOM, Id, Obj, TREE_ZONE};
 use std::alloc::Global;
+use std::cmp::Ordering;
 use std::collections::BTreeMap;
 use std::process::Abort;
 use std::test::Fail;
@@ -58,16 +61,16 @@ fn insert(tree: &mut BTree<NodeTable>, e: &Element) -> Result<(), Fault>
     tree.insert(e)
 }
 
-// Whether a tree gives the elements of a map, one after the other, and no other.
-fn is_same(tree: &mut BTree<NodeTable>, map: &BTreeMap<u64, Element>) -> Result<bool, Fault> {
+// Whether a store gives the elements of a map, one after the other, and no other.
+fn is_same<T: ElementStore>(store: &mut T, map: &BTreeMap<u64, Element>) -> Result<bool, Fault> {
     let mut at = Base::least();
     for (_, want) in map.iter() {
-        match tree.first_at_or_after(&at)? {
+        match store.first_at_or_after(&at)? {
             Some(found) if found == *want => at = after(&found),
             _ => return Ok(false),
         }
     }
-    Ok(tree.first_at_or_after(&at)?.is_none())
+    Ok(store.first_at_or_after(&at)?.is_none())
 }
 
 // The base after that of an element.
@@ -299,7 +302,10 @@ fn marred(alloc: Global, child: usize) -> Result<(BTree<NodeTable>, HOff), Fail>
 
 // What that leaf is damaged by.
 fn other_mirror(at: HOff) -> Fault {
-    Fault::Damaged { at, kind: 9 }
+    Fault::Damaged {
+        at,
+        kind: BAD_MIRROR,
+    }
 }
 
 #[test]
@@ -350,7 +356,7 @@ fn looped(alloc: Global) -> Result<BTree<NodeTable>, Fail> {
 fn damage(tree: &BTree<NodeTable>) -> Fault {
     Fault::Damaged {
         at: tree.root(),
-        kind: 1,
+        kind: BAD_LEVEL,
     }
 }
 
@@ -411,10 +417,76 @@ fn told(alloc: Global) -> Result<BTree<MemSpace>, Fail>
     ensures elements { IfOk result (λ tree. ⟦<BTree<MemSpace> as HasElements>⟧.elements tree ≡ Some []) }
     ensures room { IfOk result (λ tree. INSERT_ROOM ≤ ⟦<BTree<MemSpace> as HasRoom>⟧.room tree TREE_ZONE) }
 {
-    match BTree::empty(MemSpace::new(alloc, 1_000_000)) {
+    match BTree::empty(MemSpace::new(alloc, 1 << 42)) {
         Ok(tree) => Ok(tree),
         Err(_) => Err(Fail::from("the root is refused")),
     }
+}
+
+// Whether an element stands at a key.
+fn stands<T: ElementStore>(store: &mut T, at: &Base) -> Result<bool, Fault>
+    ensures { IfOk result (λ is. IfSome (T.elements store.new)
+        (λ es. is ≡ is_some (element_at (key_of at.now) es))) }
+{
+    match store.first_at_or_after(at)? {
+        Some(found) => Ok(found.base.order(at) == Ordering::Equal),
+        None => Ok(false),
+    }
+}
+
+// Inserts so many elements into a tree that tells its pages, which has none of them, and a map. They are
+// compared at each hundredth call.
+fn fill_told(
+    rt: &impl Abort,
+    tree: &mut BTree<MemSpace>,
+    map: &mut BTreeMap<u64, Element>,
+    elements: u64,
+) -> Result<(), Fail> {
+    for i in 0..elements {
+        let e = element(key(i), 1);
+        if stands(tree, &e.base)? || tree.space().room() < u64::from(INSERT_ROOM) {
+            return Err(Fail::from("it stands there, or has no room"));
+        }
+        tree.insert(&e)?;
+        map.insert(e.base.key, e)?;
+        if i % 100 == 99 {
+            assert!(rt; is_same(tree, map)?, "after {i} inserts");
+        }
+    }
+    Ok(())
+}
+
+// Removes so many of them, which stand there, and compares at each hundredth call.
+fn drain_told(
+    rt: &impl Abort,
+    tree: &mut BTree<MemSpace>,
+    map: &mut BTreeMap<u64, Element>,
+    elements: u64,
+) -> Result<(), Fail> {
+    for i in 0..elements {
+        let e = element(key(i), 1);
+        if !stands(tree, &e.base)? {
+            return Err(Fail::from("it does not stand there"));
+        }
+        tree.remove(&e.base)?;
+        map.remove(&e.base.key);
+        if i % 100 == 99 {
+            assert!(rt; is_same(tree, map)?, "after {i} removals");
+        }
+    }
+    Ok(())
+}
+
+#[test]
+fn a_tree_that_tells_its_pages_is_the_sorted_list_of_its_elements(
+    rt: HostRuntime,
+) -> Result<(), Fail> {
+    let mut tree = told(rt.alloc())?;
+    let mut map = BTreeMap::new(rt.alloc());
+    fill_told(&rt, &mut tree, &mut map, 10_000)?;
+    drain_told(&rt, &mut tree, &mut map, 9_900)?;
+    assert_eq!(rt; map.len(), 100);
+    Ok(())
 }
 
 #[test]
