@@ -4,6 +4,8 @@ use Rattle.std.specs.Prelude.{◌≡◌, ℕ, ◌+◌, ◌-◌, ◌*◌, ◌%◌
 use Rattle.std.specs.List.{flat_map}
 use Rattle.byteorder.specs.Endian.{little_bytes}
 use Rattle.hm_types.specs.Layout.{first_pool, start_of}
+use Rattle.hm_types.specs.Offset.{raw_of}
+use Rattle.hm_types.specs.declared.zone.TheConstants.{TREE_ZONE}
 use Rattle.hm_core.specs.declared.directory.Directory.{Directory}
 
 -- one directory: its id in 8 bytes, the length of its name in 2, and the name
@@ -25,7 +27,7 @@ list_place bigblocks generation = start_of (list_block bigblocks generation)
 
 -- the root that names it: an offset of the zone of nodes
 abbrev pub list_root : ℕ → ℕ → ℕ
-list_root bigblocks generation = 8 * 2 ^ 60 + list_place bigblocks generation
+list_root bigblocks generation = raw_of TREE_ZONE (list_place bigblocks generation)
 
 -- the list stands in the bytes, from this place on
 abbrev pub HoldsAt : List ℕ → ℕ → List Directory → Type 0

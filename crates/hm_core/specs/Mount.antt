@@ -2,6 +2,7 @@
 use Rattle.std.specs.Prelude.{◌≡◌, ℕ, ◌+◌, ◌*◌, ◌≤◌, List, Option, IfSome, slice_range}
 use Rattle.byteorder.specs.Endian.{little_bytes}
 use Rattle.hm_types.specs.declared.fault.Fault.{Fault}
+use Rattle.hm_types.specs.declared.damage.TheConstants.{BAD_FIELD}
 use Rattle.hm_types.specs.declared.fault.Fault.TheVariants.{Media, Damaged, NoMemory}
 use Rattle.hm_disk.specs.Crash.{Told}
 use Rattle.hm_header.specs.declared.header.Header.{Header}
@@ -36,7 +37,7 @@ pub record IsOpened (told : Option Told) (opened : Opened) : Type 0 where
 -- why no list was read: no list stands there that the header may name, or the disk or memory failed
 abbrev pub IsListFault : Option Told → Header → Fault → Type 0
 IsListFault told header (Damaged at kind) =
-    (kind ≡ 5) × (at ≡ header.root)
+    (kind ≡ BAD_FIELD) × (at ≡ header.root)
     × IfSome told (λ t. (ds : List Directory) → HasList t.bytes header ds → ⊥)
 IsListFault told header (Media before after) = Unit {0}
 IsListFault told header NoMemory = Unit {0}

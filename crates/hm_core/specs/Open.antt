@@ -3,6 +3,7 @@ use Rattle.std.specs.Prelude.{◌≡◌, ℕ, ◌<◌, ◌≤◌, ◌*◌, List,
 use Rattle.hm_types.specs.declared.limits.TheConstants.{BIGBLOCK_BYTES}
 use Rattle.hm_types.specs.Faults.{IsCaused}
 use Rattle.hm_types.specs.declared.fault.Fault.{Fault}
+use Rattle.hm_types.specs.declared.damage.TheConstants.{BAD_FIELD}
 use Rattle.hm_types.specs.declared.fault.Fault.TheVariants.{Media, Damaged, NoMemory}
 use Rattle.hm_disk.specs.Crash.{Told}
 use Rattle.hm_header.specs.declared.header.Header.{Header}
@@ -33,7 +34,7 @@ pub record HasBrokenList (bytes : List ℕ) (at : ℕ) : Type 0 where
 
 -- damage tells of such a place, with the number of a broken field
 abbrev pub IsListDamage : List ℕ → Fault → Type 0
-IsListDamage bytes (Damaged at kind) = (kind ≡ 5) × HasBrokenList bytes at
+IsListDamage bytes (Damaged at kind) = (kind ≡ BAD_FIELD) × HasBrokenList bytes at
 IsListDamage bytes (Media before after) = Unit {0}
 IsListDamage bytes NoMemory = Unit {0}
 

@@ -18,14 +18,11 @@ use byteorder::{ByteOrder, LittleEndian};
 use hm_disk::{Disk, read_all_at};
 use hm_header::Header;
 use hm_model::MOST_DIRECTORIES;
-use hm_types::Fault;
+use hm_types::{BAD_FIELD, Fault};
 use std::alloc::Global;
 
 /// The bytes before the directories of a list: their number.
 const COUNT_BYTES: usize = 8;
-
-/// The number of the rule that a list breaks which is none: a field is broken.
-const BROKEN_FIELD: u8 = 5;
 
 /// A volume as it was read: the header that counts, the number of its slot, and the directories of
 /// the list that it names.
@@ -68,7 +65,7 @@ fn read_directories<D: Disk>(
 {
     let damage = Fault::Damaged {
         at: header.root,
-        kind: BROKEN_FIELD,
+        kind: BAD_FIELD,
     };
     if header.root != list_root(header.bigblocks, header.generation) {
         return Err(damage);

@@ -3,10 +3,7 @@ ghost use Rattle.std.specs.Prelude.{◌≡◌, ◌≤◌, ◌*◌};
 ghost use Rattle.hm_types.specs.declared.limits.TheConstants.{MOST_BIGBLOCKS};
 ghost use Rattle.hm_core.specs.Listed.{list_place, list_root};
 
-use hm_types::{BIGBLOCK_BYTES, HOff, first_pool};
-
-// The zone of the B-tree's nodes.
-const TREE_ZONE: u8 = 8;
+use hm_types::{BIGBLOCK_BYTES, HOff, TREE_ZONE, first_pool};
 
 /// The first byte of the list that a header of this generation names, from the start of the volume:
 /// the list stands in the first big-block of the pool where the generation is odd, and else in the

@@ -6,7 +6,7 @@ use super::*;
 use hm_disk::{Disk, MemDisk, write_synced};
 use hm_model::{Command, Reply, Tree, apply, look};
 use hm_path::read_id;
-use hm_types::{Fault, HOff, Id, NoMemory, Text, is_name};
+use hm_types::{BAD_FIELD, Fault, HOff, Id, NoMemory, Text, is_name};
 use std::alloc::Global;
 use std::process::Abort;
 use std::test::Fail;
@@ -309,7 +309,10 @@ fn directories_stand_in_order_under_names_of_their_own(rt: HostRuntime) {
 // Damage of the list at this place.
 fn damage(rt: &impl Abort, root: u64) -> OpenFault {
     let at = HOff::from_raw(root).expect(rt, "an offset");
-    OpenFault::Fault(Fault::Damaged { at, kind: 5 })
+    OpenFault::Fault(Fault::Damaged {
+        at,
+        kind: BAD_FIELD,
+    })
 }
 
 #[test]

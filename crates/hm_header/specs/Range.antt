@@ -4,6 +4,7 @@ use Rattle.std.specs.List.{AllByRecursion}
 use Rattle.hm_types.specs.declared.limits.TheConstants.{BIGBLOCK_BYTES, GREATEST_ID, LEAST_BIGBLOCKS, MOST_BIGBLOCKS, MOST_GROUP_PAGES, PAGE_BYTES, UNDO_ENTRIES}
 use Rattle.hm_types.specs.Layout.{IsPool, block_of}
 use Rattle.hm_types.specs.Offset.{zone_of, volume_of, byte_of}
+use Rattle.hm_types.specs.declared.zone.TheConstants.{TREE_ZONE}
 use Rattle.hm_header.specs.declared.header.Header.{Header}
 use Rattle.hm_header.specs.declared.header.TheConstants.{VERSION}
 
@@ -21,7 +22,7 @@ IsId id = (1 ≤ id) × (id ≤ GREATEST_ID)
 
 -- the raw offset of a root node: a page of the B-tree's zone, in the pool
 pub record IsRoot (bigblocks raw : ℕ) : Type 0 where
-  pub zone : zone_of raw ≡ 8
+  pub zone : zone_of raw ≡ TREE_ZONE
   pub volume : volume_of raw ≡ 0
   pub pool : IsPool bigblocks (block_of (byte_of raw))
   pub page : byte_of raw % PAGE_BYTES ≡ 0

@@ -13,11 +13,8 @@ use crate::slot::Slot;
 use hm_fields::{Page, put_u32, put_u64};
 use hm_types::{
     BIGBLOCK_BYTES, GREATEST_ID, HOff, Id, LEAST_BIGBLOCKS, MOST_BIGBLOCKS, MOST_GROUP_PAGES,
-    PAGE_BYTES, UNDO_ENTRIES, is_pool,
+    PAGE_BYTES, TREE_ZONE, UNDO_ENTRIES, is_pool,
 };
-
-// The zone of the B-tree's nodes.
-const TREE_ZONE: u8 = 8;
 
 /// Writes the body of a slot with this header: all of the slot but its gate. `choose` reads back a
 /// header whose fields are in range. Takes no memory.
