@@ -7,6 +7,7 @@ pub mod EndLemmas
 pub mod FindLemmas
 pub mod GrowLemmas
 pub mod GrowsLemmas
+pub mod HeldLemmas
 pub mod HoldsLemmas
 pub mod InnerJoinLemmas
 pub mod InsertLemmas
@@ -29,6 +30,7 @@ pub mod ReadingLemmas
 pub mod RejoinLemmas
 pub mod RemoveLemmas
 pub mod RootLemmas
+pub mod ShapeLemmas
 pub mod ShrinkLemmas
 pub mod ShrinksLemmas
 pub mod SpendLemmas

@@ -24,6 +24,7 @@ use Rattle.hm_btree.specs.Shrink.{loose, IsLevelBelow, IsChildNode, IsPairJoined
 use Rattle.hm_btree.proofs.BesideLemmas.{upper_stays, lower_stays, upper_there}
 use Rattle.hm_btree.proofs.JoinAtLemmas.{split_pair, rest_pair}
 use Rattle.hm_btree.proofs.ShrinkLemmas.{upper_child, pair_rising, pair_stored}
+use Rattle.hm_btree.proofs.ShapeLemmas.{node_shaped}
 
 module _ (inner : Inner) (i : ℕ) (node : Node) (mid : PageMap) (shrunk : IsShrunk inner i node mid) where
   abbrev cs : List Child
@@ -100,7 +101,7 @@ before_last i count n last is many = omega arith
 pub level_below : (inner : Inner) (i : ℕ) (s : Subtree) (child : Node) → slice_get (children_of inner) i ≡ Some s → IsNode child → Fits s child → IsLevelBelow inner.level child
 level_below inner i s child at sound fits =
     let there = place_is inner.level inner.right inner.places.items i s at in
-    (sound.level, by_place s there.place fits) where
+    (node_shaped child sound, by_place s there.place fits) where
       by_place : (s : Subtree) {b : Base} {c : Child} → s ≡ child_place inner.level b c → Fits s child → level_of child + 1 ≡ inner.level
       by_place s {b = b} {c = c} same fits = (subst (λ (t : Subtree). Fits t child) same fits).level
 

@@ -8,7 +8,7 @@ use Rattle.hm_types.specs.Told.{BothTell}
 use Rattle.hm_key.specs.Elements.{element_at, removed}
 use Rattle.hm_key.specs.Places.{leading}
 use Rattle.hm_key.specs.declared.element.Element.{Element}
-use Rattle.hm_node.specs.Node.{HasLevel, count_of, level_of}
+use Rattle.hm_node.specs.Node.{count_of, level_of}
 use Rattle.hm_node.specs.declared.inner.Child.{Child}
 use Rattle.hm_node.specs.declared.inner.Inner.{Inner}
 use Rattle.hm_node.specs.declared.leaf.Leaf.{Leaf}
@@ -23,6 +23,7 @@ use Rattle.hm_btree.specs.Marking.{TakesOut}
 use Rattle.hm_btree.specs.Below.{IsLocal, Changed}
 use Rattle.hm_btree.specs.Edits.{inner_of, leaf_of, with_mirror, ChildChange}
 use Rattle.hm_btree.specs.Shrink.{loose, Shrinks, IsJoinedAt, IsLevelBelow}
+use Rattle.hm_btree.specs.Shape.{IsShaped}
 use Rattle.hm_btree.specs.Space.{HasWritten}
 use Rattle.hm_btree.proofs.EditLemmas.{split_at, set_at_place}
 use Rattle.hm_btree.proofs.HoldsLemmas.{holder_below}
@@ -131,8 +132,8 @@ leaf_has_none key node after leaf (Some old) is none = λ place height tree insi
     absurd (true≢false (sym (subst (λ (n : Node). IsSome (element_at key (elements_in old height n))) is there) ∙ none))
 
 -- the level of a node that has that of another
-pub level_kept : (level : ℕ) (child after : Node) → IsLevelBelow level child → HasLevel after × (level_of after ≡ level_of child) → IsLevelBelow level after
-level_kept level child after below same = (same.0, omega (arith, same.1, below.1))
+pub level_kept : (level : ℕ) (child after : Node) → IsLevelBelow level child → level_of after ≡ level_of child → IsShaped after → IsLevelBelow level after
+level_kept level child after below same shape = (shape, omega (arith, same, below.1))
 
 -- a node that has not too few places
 pub not_small : (small : Bool) (count : ℕ) → (IsTrue small ↔ (count < 16)) → small ≡ false → 16 ≤ count

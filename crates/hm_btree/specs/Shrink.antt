@@ -9,7 +9,7 @@ use Rattle.hm_key.specs.Elements.{element_at}
 use Rattle.hm_key.specs.declared.base.Base.{Base}
 use Rattle.hm_key.specs.declared.element.Element.{Element}
 use Rattle.hm_node.specs.Inner.{IsBound}
-use Rattle.hm_node.specs.Node.{HasLevel, count_of, level_of}
+use Rattle.hm_node.specs.Node.{count_of, level_of}
 use Rattle.hm_node.specs.declared.inner.Child.{Child}
 use Rattle.hm_node.specs.declared.inner.Inner.{Inner}
 use Rattle.hm_node.specs.declared.leaf.Leaf.{Leaf}
@@ -23,6 +23,7 @@ use Rattle.hm_btree.specs.Marking.{Marking, TakesOut, MarksWithin}
 use Rattle.hm_btree.specs.Below.{Replaces, IsLocal, Changed}
 use Rattle.hm_btree.specs.Edits.{leaf_of, inner_of, left_of, with_mirror}
 use Rattle.hm_btree.specs.Grow.{FirstAt}
+use Rattle.hm_btree.specs.Shape.{IsShaped}
 use Rattle.hm_btree.specs.Space.{HasWritten, HasLost}
 use Rattle.hm_btree.specs.Tree.{IsTreeSpace}
 use Rattle.hm_btree.specs.declared.upper.Upper.{Upper}
@@ -52,7 +53,7 @@ pub record HoldsElement (key : Key) (node : Node) (map : PageMap) : Type 0 where
 
 -- a node that may stand below an inner node of this level
 abbrev pub IsLevelBelow : ℕ → Node → Type 0
-IsLevelBelow level node = HasLevel node × (level_of node + 1 ≡ level)
+IsLevelBelow level node = IsShaped node × (level_of node + 1 ≡ level)
 
 -- an inner node has two children at least
 abbrev pub HasNeighbours : Node → Type 0

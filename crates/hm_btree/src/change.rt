@@ -4,6 +4,7 @@ ghost use Rattle.arrayvec.specs.ArrayVec.{array_vec_len};
 ghost use Rattle.hm_key.specs.Elements.{element_at};
 ghost use Rattle.hm_key.specs.Key.{key_of};
 ghost use Rattle.hm_key.specs.Places.{leading};
+ghost use Rattle.hm_node.specs.Inner.{IsNodeOffset};
 ghost use Rattle.hm_node.specs.Leaf.{HasLeafOrder};
 ghost use Rattle.hm_node.specs.Node.{IsNode};
 ghost use Rattle.hm_search.specs.Place.{IsInside};
@@ -12,6 +13,7 @@ ghost use Rattle.hm_search.specs.declared.subtree.Subtree.{Subtree as Place};
 ghost use Rattle.hm_btree.specs.Below.{Changed, HasEditCause};
 ghost use Rattle.hm_btree.specs.Change.{change_of, id_of, marking_of, with_change, MayChange};
 ghost use Rattle.hm_btree.specs.Edits.{ElementChange};
+ghost use Rattle.hm_btree.specs.Shape.{IsShaped};
 ghost use Rattle.hm_btree.specs.Tree.{ChangesTree, HasTreeCause};
 
 use crate::inner_edit::set_mirror;
@@ -40,6 +42,8 @@ pub fn change_element<S: NodeSpace>(
     at: &Base,
     change: Change,
 ) -> Result<(), Fault>
+    requires root { IsNodeOffset root }
+    requires may { MayChange (key_of at.now) change }
     ensures ok { OnOk result (ChangesTree (with_change (key_of at.now) change) (key_of at.now)
         (marking_of change) (λ es. IsSome (element_at (key_of at.now) es))
         (MayChange (key_of at.now) change)
@@ -64,13 +68,15 @@ fn change_in<S: NodeSpace>(
     at: &Base,
     change: Change,
 ) -> Result<(), Fault>
-    requires { IsNode node.old }
+    requires node { IsNode node.old }
+    requires may { MayChange (key_of at.now) change }
     ensures ok { IfSome (S.pages space.old) (λ old. (place : Place) (height : ℕ) →
         IsTree old height place node.old → IsInside place.left place.right (key_of at.now) →
         IsSome (element_at (key_of at.now) (elements_in old height node.old)) →
         MayChange (key_of at.now) change → OnOk result (IfSome (S.pages space.new) (λ new.
         Changed (with_change (key_of at.now) change) (key_of at.now) (marking_of change)
         place height old new node.old node.new))) }
+    ensures shape { OnOk result (IsShaped node.new) }
     ensures told { OnOk result (is_some (S.pages space.new) ≡ is_some (S.pages space.old)) }
     ensures rest { S.rest space.new ≡ S.rest space.old }
     ensures name { S.name space.new ≡ S.name space.old }

@@ -6,11 +6,12 @@ ghost use Rattle.hm_key.specs.Element.{IsElement};
 ghost use Rattle.hm_key.specs.Elements.{inserted, last_id};
 ghost use Rattle.hm_key.specs.Key.{key_of};
 ghost use Rattle.hm_types.specs.Space.{Spends, in_zone};
-ghost use Rattle.hm_node.specs.Leaf.{HasLeafOrder};
+ghost use Rattle.hm_node.specs.Leaf.{HasLeafOrder, IsPlaced};
 ghost use Rattle.hm_node.specs.Node.{IsNode, level_of};
 ghost use Rattle.hm_btree.specs.Below.{HasEditCause};
 ghost use Rattle.hm_btree.specs.Marking.{Writes};
 ghost use Rattle.hm_btree.specs.Grow.{Grows, LeafBecomes, InnerBecomes};
+ghost use Rattle.hm_btree.specs.Shape.{AreShaped};
 
 use crate::inner_edit::{insert_child, set_mirror};
 use crate::leaf_edit::insert_element;
@@ -30,11 +31,13 @@ pub fn insert_into<S: NodeSpace>(
     element: &Element,
 ) -> Result<Option<Upper>, Fault>
     requires node { IsNode node.old }
+    requires element { IsPlaced element.now }
     requires room { NODE_BYTES * (level_of node.old - 1) ≤ S.room space.old TREE_ZONE }
     ensures ok { IfOk result (Grows (inserted element.now) (key_of element.now.base)
         (Writes (last_id element.now)) (λ o. IsNone o)
         (IsElement element.now × IsOffset element.now.payload)
         (S.pages space.old) (S.pages space.new) node.old node.new) }
+    ensures shape { IfOk result (λ upper. AreShaped node.new upper) }
     ensures told { OnOk result (is_some (S.pages space.new) ≡ is_some (S.pages space.old)) }
     ensures extents { OnOk result (S.extents space.new ≡ S.extents space.old) }
     ensures space { Spends S.room S.free (in_zone TREE_ZONE (NODE_BYTES * (level_of node.old - 1)))

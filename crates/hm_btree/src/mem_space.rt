@@ -1,10 +1,14 @@
 // A space of nodes in memory.
-ghost use Rattle.hm_btree.specs.MemSpace.{kept, room_of};
+ghost use Rattle.std.proofs.Props.{props};
+ghost use Rattle.hm_node.specs.Props.{HoldsNode-prop};
+ghost use Rattle.hm_node.specs.Shape.{HoldsNode};
+ghost use Rattle.hm_btree.specs.MemSpace.{kept, room_of, AllHoldNodes};
 
 use crate::space::{MOST_NODES, NODE_BYTES, NodeSpace};
 use hm_fields::{Page, Pages};
 use hm_key::HasRoom;
-use hm_types::{Counted, Fault, HOff, TREE_ZONE};
+use hm_node::NodePages;
+use hm_types::{BAD_LEVEL, Counted, Fault, HOff, TREE_ZONE};
 use std::alloc::Global;
 use std::collections::BTreeMap;
 
@@ -16,6 +20,7 @@ pub struct MemSpace {
     // How many nodes were made, which is where the next one stands, in pages.
     made: u64,
     room: u64,
+    ghost nodes: { AllHoldNodes pages } by { Prim.hlevel (HoldsNode-prop, props) },
 }
 
 impl MemSpace {
@@ -25,7 +30,7 @@ impl MemSpace {
 
     /// No page, and so many bytes of room in zone 8. It takes no memory.
     pub fn new(alloc: Global, room: u64) -> MemSpace
-        ensures pages { (at : ℕ) → kept result at ≡ None }
+        ensures pages { (at : ℕ) → kept result.pages at ≡ None }
         ensures room { ⟦<MemSpace as HasRoom>⟧.room result ≡ room_of room }
     {
         MemSpace {
@@ -48,12 +53,13 @@ impl MemSpace {
         self.room
     }
 
-    // Puts a page.
+    // Puts the page of a node.
     fn put(&mut self, at: HOff, with: &Page) -> Result<(), Fault>
-        ensures ok { OnOk result (HasPut at with.now (kept self.old) (kept self.new)) }
+        requires node { HoldsNode with.now }
+        ensures ok { OnOk result (HasPut at with.now (kept self.old.pages) (kept self.new.pages)) }
         ensures room { self.new.room ≡ self.old.room }
         ensures made { self.new.made ≡ self.old.made }
-        ensures cause { HasStoreCause (Some (kept self.old)) 0 0 result }
+        ensures cause { HasStoreCause (Some (kept self.old.pages)) 0 0 result }
     {
         let page = Box::new(self.alloc, *with)?;
         self.pages.insert(at, page)?;
@@ -82,7 +88,9 @@ impl HasRoom for MemSpace {
 impl Pages for MemSpace {
     ghost use Rattle.std.specs.Prelude.{ℕ, Some};
 
-    ghost pages = { λ m. Some (kept m) };
+    ghost pages = { λ m. Some (kept m.pages) };
+
+    ghost kept = { λ _ bytes. HoldsNode bytes };
 
     ghost Rest = { ℕ };
 
@@ -90,22 +98,34 @@ impl Pages for MemSpace {
 
     fn page(&mut self, at: HOff, into: &mut Page) -> Result<(), Fault> {
         match self.pages.get(&at) {
-            Some(page) => *into = **page,
-            None => *into = Page::zero(),
+            Some(page) => {
+                *into = **page;
+                Ok(())
+            }
+            None => Err(Fault::Damaged {
+                at,
+                kind: BAD_LEVEL,
+            }),
         }
-        Ok(())
     }
 
     fn change(&mut self, at: HOff, with: &Page) -> Result<(), Fault> {
+        if !self.pages.contains_key(&at) {
+            return Err(Fault::NoMemory);
+        }
         self.put(at, with)
     }
+}
+
+impl NodePages for MemSpace {
+    ghost kept_is_node = { λ at bytes spot node. node };
+
+    ghost node_is_kept = { λ at bytes spot node. node };
 }
 
 impl NodeSpace for MemSpace {
     ghost use Rattle.std.specs.Prelude.{refl};
     ghost use Rattle.std.proofs.Common.{ap};
-
-    ghost keeps_any = { λ at bytes. tt };
 
     ghost rests = { λ s t same. (ap room_of same, refl, refl) };
 

@@ -2,9 +2,11 @@
 ghost use Rattle.std.specs.Prelude.{◌≡◌, ◌≤◌, IfOk, OnOk};
 ghost use Rattle.hm_types.specs.Told.{BothTell};
 ghost use Rattle.hm_types.specs.Faults.{HasStoreCause};
+ghost use Rattle.hm_node.specs.Inner.{IsNodeOffset};
 ghost use Rattle.hm_node.specs.Node.{level_of};
 ghost use Rattle.hm_search.specs.Place.{mirror_of};
 ghost use Rattle.hm_types.specs.Space.{Spends, in_zone};
+ghost use Rattle.hm_btree.specs.Shape.{IsShaped};
 ghost use Rattle.hm_btree.specs.Space.{HasAdded, HasWritten, IsSpot};
 
 use crate::space::{NODE_BYTES, NodeSpace};
@@ -24,6 +26,8 @@ pub fn mirror(node: &Node) -> u64
 
 /// Writes a node to its page.
 pub fn write_node<S: NodeSpace>(space: &mut S, at: HOff, node: &Node) -> Result<(), Fault>
+    requires at { IsNodeOffset at }
+    requires node { IsShaped node.now }
     ensures ok { OnOk result
         (BothTell (S.pages space.old) (S.pages space.new) (HasWritten at node.now)) }
     ensures rest { S.rest space.new ≡ S.rest space.old }
@@ -39,7 +43,8 @@ pub fn write_node<S: NodeSpace>(space: &mut S, at: HOff, node: &Node) -> Result<
 
 /// Writes a node to a page of its own.
 pub fn add_node<S: NodeSpace>(space: &mut S, node: &Node) -> Result<HOff, Fault>
-    requires { NODE_BYTES ≤ S.room space.old TREE_ZONE }
+    requires node { IsShaped node.now }
+    requires room { NODE_BYTES ≤ S.room space.old TREE_ZONE }
     ensures ok { IfOk result (λ at.
         BothTell (S.pages space.old) (S.pages space.new) (HasAdded at node.now)) }
     ensures offset { IfOk result IsSpot }

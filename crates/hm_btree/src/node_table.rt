@@ -1,14 +1,25 @@
 // A space of nodes in a table.
+ghost use Rattle.std.proofs.Props.{props};
+ghost use Rattle.hm_node.specs.Props.{HoldsNode-prop};
+ghost use Rattle.hm_node.specs.Shape.{HoldsNode};
 ghost use Rattle.hm_btree.specs.MemSpace.{room_of};
 
 use crate::space::{MOST_NODES, NODE_BYTES, NodeSpace};
 use hm_fields::{Page, Pages};
 use hm_key::HasRoom;
-use hm_types::{Counted, Fault, HOff, TREE_ZONE};
+use hm_node::NodePages;
+use hm_types::{BAD_LEVEL, Counted, Fault, HOff, TREE_ZONE};
 use std::alloc::Global;
 
 // How many bytes of room a table begins with: more than memory has.
 const ROOM: u64 = 1 << 42;
+
+// The page of a node.
+#[derive(Drop)]
+struct Stored {
+    page: Box<Page>,
+    ghost node: { HoldsNode page.value } by { Prim.hlevel (HoldsNode-prop, props) },
+}
 
 /// Nodes in a table in memory, each at its place, which tells nothing of them, as the space of a
 /// volume on a device. It is there for tests, and for tools that measure. It counts how many nodes
@@ -16,7 +27,7 @@ const ROOM: u64 = 1 << 42;
 #[derive(Drop)]
 pub struct NodeTable {
     alloc: Global,
-    pages: Vec<Option<Box<Page>>>,
+    pages: Vec<Option<Stored>>,
     room: u64,
     reads: u64,
     writes: u64,
@@ -24,7 +35,7 @@ pub struct NodeTable {
 }
 
 impl NodeTable {
-    ghost use Rattle.std.specs.Prelude.{◌≡◌, ℕ, None};
+    ghost use Rattle.std.specs.Prelude.{◌≡◌, ℕ, None, IfSome};
     ghost use Rattle.hm_types.specs.Faults.{HasStoreCause};
 
     /// No node. It takes no memory.
@@ -89,10 +100,12 @@ impl NodeTable {
     }
 
     // The page at a place, if there is one.
-    fn at(&self, at: HOff) -> Option<&Page> {
+    fn at(&self, at: HOff) -> Option<&Page>
+        ensures { IfSome result (λ page. HoldsNode page.now) }
+    {
         let place = at.byte() / u64::from(NODE_BYTES);
         match self.pages.get(place as usize) {
-            Some(Some(page)) => Some(&**page),
+            Some(Some(stored)) => Some(&*stored.page),
             _ => None,
         }
     }
@@ -121,6 +134,8 @@ impl Pages for NodeTable {
 
     ghost pages = { λ _. None };
 
+    ghost kept = { λ _ bytes. HoldsNode bytes };
+
     ghost Rest = { ℕ };
 
     ghost rest = { λ t. t.room };
@@ -128,18 +143,23 @@ impl Pages for NodeTable {
     fn page(&mut self, at: HOff, into: &mut Page) -> Result<(), Fault> {
         self.reads = self.reads.saturating_add(1);
         match self.at(at) {
-            Some(page) => *into = *page,
-            None => *into = Page::zero(),
+            Some(page) => {
+                *into = *page;
+                Ok(())
+            }
+            None => Err(Fault::Damaged {
+                at,
+                kind: BAD_LEVEL,
+            }),
         }
-        Ok(())
     }
 
     fn change(&mut self, at: HOff, with: &Page) -> Result<(), Fault> {
         self.write()?;
         let place = at.byte() / u64::from(NODE_BYTES);
         match self.pages.get_mut(place as usize) {
-            Some(Some(page)) => {
-                **page = *with;
+            Some(Some(stored)) => {
+                *stored.page = *with;
                 Ok(())
             }
             _ => Err(Fault::NoMemory),
@@ -147,11 +167,15 @@ impl Pages for NodeTable {
     }
 }
 
+impl NodePages for NodeTable {
+    ghost kept_is_node = { λ at bytes spot node. node };
+
+    ghost node_is_kept = { λ at bytes spot node. node };
+}
+
 impl NodeSpace for NodeTable {
     ghost use Rattle.std.specs.Prelude.{refl};
     ghost use Rattle.std.proofs.Common.{ap};
-
-    ghost keeps_any = { λ at bytes. tt };
 
     ghost rests = { λ s t same. (ap room_of same, refl, refl) };
 
@@ -165,7 +189,7 @@ impl NodeSpace for NodeTable {
         };
         self.write()?;
         let page = Box::new(self.alloc, *with)?;
-        self.pages.push(Some(page))?;
+        self.pages.push(Some(Stored { page }))?;
         self.room -= u64::from(NODE_BYTES);
         Ok(at)
     }

@@ -5,9 +5,11 @@ ghost use Rattle.hm_types.specs.Faults.{HasStoreCause};
 ghost use Rattle.hm_key.specs.Elements.{removed};
 ghost use Rattle.hm_key.specs.Key.{key_of};
 ghost use Rattle.hm_types.specs.Space.{Spends, nothing};
-ghost use Rattle.hm_node.specs.Node.{HasLevel, IsNode, level_of};
+ghost use Rattle.hm_node.specs.Node.{IsNode, level_of};
 ghost use Rattle.hm_node.specs.declared.inner.Child.{Child as ChildOf};
+ghost use Rattle.hm_node.specs.declared.node.Node.TheVariants.{Inner as inner_node};
 ghost use Rattle.hm_btree.specs.Marking.{TakesOut};
+ghost use Rattle.hm_btree.specs.Shape.{IsShaped};
 ghost use Rattle.hm_btree.specs.Shrink.{Shrinks, HoldsElement, HasNeighbours, IsLevelBelow, IsPairJoined, IsJoinedAt, IsShrunk};
 
 use crate::change::has_element;
@@ -30,7 +32,8 @@ pub fn remove_below<S: NodeSpace>(space: &mut S, node: &mut Node, at: &Base) -> 
     requires told { IfSome (S.pages space.old) (HoldsElement (key_of at.now) node.old) }
     ensures ok { OnOk result (Shrinks (removed (key_of at.now)) (key_of at.now) TakesOut (λ o. IsSome o)
         (S.pages space.old) (S.pages space.new) node.old node.new) }
-    ensures level { OnOk result (HasLevel node.new × (level_of node.new ≡ level_of node.old)) }
+    ensures level { OnOk result (level_of node.new ≡ level_of node.old) }
+    ensures shape { OnOk result (IsShaped node.new) }
     ensures told { OnOk result (is_some (S.pages space.new) ≡ is_some (S.pages space.old)) }
     ensures extents { OnOk result (S.extents space.new ≡ S.extents space.old) }
     ensures space { Spends S.room S.free nothing space.old space.new }
@@ -69,6 +72,7 @@ fn rejoin<S: NodeSpace>(
     i: usize,
     child: Node,
 ) -> Result<(), Fault>
+    requires inner { IsShaped (inner_node inner.old) }
     requires within { i < array_vec_len inner.old.places }
     requires many { 2 ≤ array_vec_len inner.old.places }
     requires child { IsLevelBelow inner.old.level child }
@@ -76,6 +80,7 @@ fn rejoin<S: NodeSpace>(
     ensures ok { OnOk result (IfSome (S.pages space.old) (λ old. IfSome (S.pages space.new) (λ new.
         IsJoinedAt inner.old i child old new inner.new))) }
     ensures level { inner.new.level ≡ inner.old.level }
+    ensures shape { OnOk result (IsShaped (inner_node inner.new)) }
     ensures told { OnOk result (is_some (S.pages space.new) ≡ is_some (S.pages space.old)) }
     ensures extents { OnOk result (S.extents space.new ≡ S.extents space.old) }
     ensures space { Spends S.room S.free nothing space.old space.new }
@@ -102,6 +107,7 @@ fn join_at<S: NodeSpace>(
     mut left: Node,
     right: Node,
 ) -> Result<(), Fault>
+    requires inner { IsShaped (inner_node inner.old) }
     requires within { i + 1 < array_vec_len inner.old.places }
     requires left { IsLevelBelow inner.old.level left }
     requires right { IsLevelBelow inner.old.level right }
@@ -110,6 +116,7 @@ fn join_at<S: NodeSpace>(
     ensures ok { OnOk result (IfSome (S.pages space.old) (λ old. IfSome (S.pages space.new) (λ new.
         IsPairJoined inner.old i left right old new inner.new))) }
     ensures level { inner.new.level ≡ inner.old.level }
+    ensures shape { OnOk result (IsShaped (inner_node inner.new)) }
     ensures told { OnOk result (is_some (S.pages space.new) ≡ is_some (S.pages space.old)) }
     ensures extents { OnOk result (S.extents space.new ≡ S.extents space.old) }
     ensures space { Spends S.room S.free nothing space.old space.new }

@@ -7,9 +7,12 @@ ghost use Rattle.hm_key.specs.Element.{IsElement};
 ghost use Rattle.hm_key.specs.Elements.{element_at, inserted, last_id};
 ghost use Rattle.hm_key.specs.Key.{key_of};
 ghost use Rattle.hm_types.specs.Space.{Spends, in_zone};
+ghost use Rattle.hm_node.specs.Inner.{IsBound, IsNodeOffset};
+ghost use Rattle.hm_node.specs.Leaf.{IsPlaced};
 ghost use Rattle.hm_node.specs.Node.{level_of};
 ghost use Rattle.hm_btree.specs.Grow.{HasTop, top_of};
 ghost use Rattle.hm_btree.specs.Marking.{Writes};
+ghost use Rattle.hm_btree.specs.Shape.{IsShaped, IsShapedUpper};
 ghost use Rattle.hm_btree.specs.Space.{IsSpot};
 ghost use Rattle.hm_btree.specs.Tree.{ChangesTree, HasTreeCause};
 
@@ -30,7 +33,9 @@ pub fn insert_from<S: NodeSpace>(
     root: HOff,
     element: &Element,
 ) -> Result<HOff, Fault>
-    requires { INSERT_ROOM ≤ S.room space.old TREE_ZONE }
+    requires root { IsNodeOffset root }
+    requires element { IsPlaced element.now }
+    requires room { INSERT_ROOM ≤ S.room space.old TREE_ZONE }
     ensures ok { IfOk result (ChangesTree (inserted element.now) (key_of element.now.base)
         (Writes (last_id element.now)) (λ es. IsNone (element_at (key_of element.now.base) es))
         (IsElement element.now × IsOffset element.now.payload)
@@ -62,7 +67,10 @@ fn add_root<S: NodeSpace>(
     lower: &Node,
     upper: &Upper,
 ) -> Result<HOff, Fault>
-    requires { NODE_BYTES * 2 ≤ S.room space.old TREE_ZONE }
+    requires at { IsNodeOffset place.now.at }
+    requires bounds { IsBound place.now.left × IsBound place.now.right }
+    requires shape { IsShaped lower.now × IsShapedUpper upper.now }
+    requires room { NODE_BYTES * 2 ≤ S.room space.old TREE_ZONE }
     ensures ok { IfOk result (λ at. BothTell (S.pages space.old) (S.pages space.new)
         (HasTop place.now lower.now upper.now at)) }
     ensures offset { IfOk result IsSpot }

@@ -1,12 +1,14 @@
 // The pages of a tree, with room for more.
-ghost use Rattle.std.specs.Prelude.{◌≡◌, ℕ, List, ◌+◌, ◌≤◌, Option, IfSome, IsSome, IfOk, OnOk};
+ghost use Rattle.std.specs.Prelude.{◌≡◌, ℕ, ◌+◌, ◌≤◌, Option, IfSome, IsSome, IfOk, OnOk};
 ghost use Rattle.hm_types.specs.Told.{BothTell};
 ghost use Rattle.hm_types.specs.Faults.{HasStoreCause};
 ghost use Rattle.hm_types.specs.Space.{Spends, nothing, in_zone};
+ghost use Rattle.hm_node.specs.Shape.{HoldsNode};
 ghost use Rattle.hm_btree.specs.Space.{HasNew, HasLost, IsSpot};
 
-use hm_fields::{Page, Pages};
+use hm_fields::Page;
 use hm_key::HasRoom;
+use hm_node::NodePages;
 use hm_types::{Fault, HOff, TREE_ZONE};
 
 /// The room that a node takes, in bytes of zone 8.
@@ -18,11 +20,12 @@ pub const MOST_NODES: u64 = 2_147_483_648;
 /// Pages that hold the nodes of a tree alone, with room for more of them in zone 8.
 ///
 /// After an error of a call that writes, nothing is known of the pages.
-pub trait NodeSpace: Pages + HasRoom {
-    /// Puts a page at an offset that no page has, and answers the offset: a multiple of 4,096 below
-    /// 2^43 in zone 8, which must have room for it.
+pub trait NodeSpace: NodePages + HasRoom {
+    /// Puts a page that holds a node at an offset that no page has, and answers the offset: a
+    /// multiple of 4,096 below 2^43 in zone 8, which must have room for it.
     fn new_node(&mut self, with: &Page) -> Result<HOff, Fault>
-        requires { NODE_BYTES ≤ Self.room self.old TREE_ZONE }
+        requires node { HoldsNode with.now }
+        requires room { NODE_BYTES ≤ Self.room self.old TREE_ZONE }
         ensures ok { IfOk result (λ at.
             BothTell (Self.pages self.old) (Self.pages self.new) (HasNew at with.now)) }
         ensures offset { IfOk result IsSpot }
@@ -48,17 +51,12 @@ pub trait NodeSpace: Pages + HasRoom {
         ensures cause { HasStoreCause (Self.pages self.old)
             (Self.faults self.old) (Self.faults self.new) result };
 
-    /// Any page may be put: what a page that was read is known to be is not used by the tree yet.
-    ghost keeps_any: { (at : ℕ) (bytes : List ℕ) → Self.kept at bytes };
-
     /// The room, the free big-blocks and the extents are among what no call of `Pages` changes.
     ghost rests: { (s t : Self) → Self.rest t ≡ Self.rest s → (Self.room t ≡ Self.room s)
         × (Self.free t ≡ Self.free s) × (Self.extents t ≡ Self.extents s) };
 }
 
 impl<S: NodeSpace> NodeSpace for &mut S {
-    ghost keeps_any = { S.NodeSpace.keeps_any };
-
     ghost rests = { λ s t same. S.NodeSpace.rests s.now t.now same };
 
     fn new_node(&mut self, with: &Page) -> Result<HOff, Fault> {

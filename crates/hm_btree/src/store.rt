@@ -16,12 +16,14 @@ impl<S: NodeSpace> ElementStore for BTree<S> {
     ghost marked = { λ t. told_marked t.intact (S.pages t.space) t.root t.sound };
 
     fn first_at_or_after(&mut self, at: &Base) -> Result<Option<Element>, Fault> {
+        self.require_intact()?;
         first_at_or_after(&mut self.space, self.root, at)
     }
 
     fn insert(&mut self, e: &Element) -> Result<(), Fault> {
         known_offset(e.payload);
         self.require_intact()?;
+        self.require_root()?;
         self.intact = false;
         let root = insert_from(&mut self.space, self.root, e)?;
         self.root = root;
@@ -31,6 +33,7 @@ impl<S: NodeSpace> ElementStore for BTree<S> {
 
     fn set_delete(&mut self, at: &Base, delete: u64) -> Result<(), Fault> {
         self.require_intact()?;
+        self.require_root()?;
         self.intact = false;
         change_element(&mut self.space, self.root, at, Change::Close(delete))?;
         self.intact = true;
@@ -39,6 +42,7 @@ impl<S: NodeSpace> ElementStore for BTree<S> {
 
     fn remove(&mut self, at: &Base) -> Result<(), Fault> {
         self.require_intact()?;
+        self.require_root()?;
         self.intact = false;
         let root = remove_from(&mut self.space, self.root, at)?;
         self.root = root;
@@ -49,6 +53,7 @@ impl<S: NodeSpace> ElementStore for BTree<S> {
     fn readdress(&mut self, at: &Base, to: HOff) -> Result<(), Fault> {
         known_offset(to);
         self.require_intact()?;
+        self.require_root()?;
         self.intact = false;
         change_element(&mut self.space, self.root, at, Change::Move(to))?;
         self.intact = true;
@@ -56,6 +61,7 @@ impl<S: NodeSpace> ElementStore for BTree<S> {
     }
 
     fn unchanged_until(&mut self, at: &Base, since: Id) -> Result<Option<Base>, Fault> {
+        self.require_intact()?;
         unchanged_until(&mut self.space, self.root, at, since)
     }
 }

@@ -4,6 +4,7 @@ ghost use Rattle.hm_types.specs.Faults.{HasStoreCause};
 ghost use Rattle.hm_key.specs.Elements.{element_at, removed};
 ghost use Rattle.hm_key.specs.Key.{key_of};
 ghost use Rattle.hm_types.specs.Space.{Spends, nothing};
+ghost use Rattle.hm_node.specs.Inner.{IsNodeOffset};
 ghost use Rattle.hm_node.specs.Node.{IsNode};
 ghost use Rattle.hm_search.specs.Tree.{node_at, elements_of};
 ghost use Rattle.hm_btree.specs.Marking.{TakesOut};
@@ -21,6 +22,7 @@ use hm_types::{Counted, Fault, HOff};
 /// Removes the element at the key of `at` from the tree from a root on, and answers the root that it
 /// then has. Where the pages are told, they must be that tree, and have the element.
 pub fn remove_from<S: NodeSpace>(space: &mut S, root: HOff, at: &Base) -> Result<HOff, Fault>
+    requires root { IsNodeOffset root }
     requires tree { IfSome (S.pages space.old) (λ was. IsTreeSpace was root) }
     requires there { IfSome (S.pages space.old) (λ was.
         IsSome (element_at (key_of at.now) (elements_of was root))) }
@@ -53,11 +55,13 @@ pub fn remove_from<S: NodeSpace>(space: &mut S, root: HOff, at: &Base) -> Result
 // The lowest root of the same tree, and its node: a root with one child alone is not needed, and
 // its page goes.
 fn lowest<S: NodeSpace>(space: &mut S, root: HOff, node: Node) -> Result<(HOff, Node), Fault>
+    requires root { IsNodeOffset root }
     requires node { IsNode node }
     requires tree { IfSome (S.pages space.old) (λ was. IsTreeSpace was root) }
     requires here { IfSome (S.pages space.old) (λ was. node_at was root ≡ node) }
     ensures ok { IfOk result (λ found. IfSome (S.pages space.old) (λ was.
         IfSome (S.pages space.new) (λ is. IsLowered was is root found.0 found.1))) }
+    ensures root { IfOk result (λ found. IsNodeOffset found.0) }
     ensures node { IfOk result (λ found. IsNode found.1 × HasNeighbours found.1) }
     ensures told { OnOk result (is_some (S.pages space.new) ≡ is_some (S.pages space.old)) }
     ensures extents { OnOk result (S.extents space.new ≡ S.extents space.old) }

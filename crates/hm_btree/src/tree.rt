@@ -4,10 +4,14 @@ ghost use Rattle.hm_btree.specs.Tree.{IsIntact};
 
 use crate::space::NodeSpace;
 use hm_key::{HasElements, HasRoom};
+use hm_node::is_node_offset;
 use hm_types::{Counted, Fault, HOff};
 
 /// The B-tree of the elements, over a space of nodes. Once a call has failed in the middle of a
-/// change, each call that changes answers `NoMemory`, since the space may hold half of that change.
+/// change, each call answers `NoMemory`, since the space may hold half of that change.
+///
+/// A call that changes also answers `NoMemory` where no node may stand at the root: such a root can
+/// be handed in only where the space does not tell its pages.
 #[derive(Drop)]
 pub struct BTree<S: NodeSpace> {
     pub(crate) space: S,
@@ -46,6 +50,7 @@ impl<S: NodeSpace> HasElements for BTree<S> {
 impl<S: NodeSpace> BTree<S> {
     ghost use Rattle.std.specs.Prelude.{◌≡◌, IsTrue, OnOk, IfErr};
     ghost use Rattle.hm_types.specs.declared.fault.Fault.TheVariants.{NoMemory};
+    ghost use Rattle.hm_node.specs.Inner.{IsNodeOffset};
     ghost use Rattle.hm_btree.specs.Tree.{HoldsTree};
 
     /// The tree from a root on. Where the space tells its pages, they must be that tree.
@@ -97,6 +102,19 @@ impl<S: NodeSpace> BTree<S> {
         ensures err { IfErr result (λ fault. fault ≡ NoMemory) }
     {
         if self.intact {
+            Ok(())
+        } else {
+            Err(Fault::NoMemory)
+        }
+    }
+
+    /// Answers `NoMemory` where no node may stand at the root. The root of a sound tree that is told
+    /// always stands where one may.
+    pub(crate) fn require_root(&self) -> Result<(), Fault>
+        ensures ok { OnOk result (IsNodeOffset self.now.root) }
+        ensures err { IfErr result (λ fault. fault ≡ NoMemory) }
+    {
+        if is_node_offset(self.root) {
             Ok(())
         } else {
             Err(Fault::NoMemory)

@@ -4,18 +4,21 @@ use Rattle.std.proofs.lemmas.Result.{err_from_is_err_and}
 use Rattle.hm_types.specs.declared.fault.Fault.{Fault}
 use Rattle.hm_types.specs.Faults.{HasFaultCause}
 use Rattle.hm_key.specs.Key.{key_of}
-use Rattle.hm_node.specs.Node.{level_of}
+use Rattle.hm_node.specs.Node.{level_of, IsNode}
 use Rattle.hm_node.specs.declared.node.Node.{Node}
+use Rattle.hm_node.specs.declared.node.Node.TheVariants.{Leaf as leaf_node}
 use Rattle.hm_btree.specs.Below.{HasEditCause}
 use Rattle.hm_btree.specs.Change.{change_of, MayChange, with_change, marking_of}
+use Rattle.hm_btree.specs.Shape.{IsShaped}
 use Rattle.hm_btree.proofs.EditLemmas.{place_within, child_lower, cause_read, cause_below}
 use Rattle.hm_btree.proofs.LocalLemmas.{changed_local}
+use Rattle.hm_btree.proofs.ShapeLemmas.{node_shaped, child_offset, mirror_shaped, element_shaped}
 use Rattle.hm_btree.proofs.ToldLemmas.{inner_works, leaf_works, leaf_without}
 use Rattle.hm_btree.proofs.change.+change_in.Goals as goal
 use Rattle.hm_btree.proofs.change.+change_in.Goals.{then-has_element, else-has_element}
 
 pub child-place-requires : goal.child-place-requires
-child-place-requires g t c = place_within c.args.node.now c.in-Inner.inner (key_of c.args.at.now) c.child_place-i.result c.requires c.in-Inner.is c.child_place-i.ensures
+child-place-requires g t c = place_within c.args.node.now c.in-Inner.inner (key_of c.args.at.now) c.child_place-i.result c.requires.node c.in-Inner.is c.child_place-i.ensures
 
 pub returns-in_err-child-in-Inner-clause-cause : goal.returns-in_err-child-in-Inner-clause-cause
 returns-in_err-child-in-Inner-clause-cause g t c =
@@ -50,7 +53,7 @@ returns-in_err-change_in-in-Inner-clause-cause g t c =
     rw (p.1, p.2) whole
 
 pub set_mirror-requires : goal.set_mirror-requires
-set_mirror-requires g t c = place_within c.args.node.now c.in-Inner.inner (key_of c.args.at.now) c.child_place-i.result c.requires c.in-Inner.is c.child_place-i.ensures
+set_mirror-requires g t c = place_within c.args.node.now c.in-Inner.inner (key_of c.args.at.now) c.child_place-i.result c.requires.node c.in-Inner.is c.child_place-i.ensures
 
 pub returns-after-has_element-clause-ok : goal.returns-after-has_element-clause-ok
 returns-after-has_element-clause-ok g t c =
@@ -68,3 +71,20 @@ returns-in_ok-write_node-in-Inner-clause-ok g t c =
     (g.S.Pages.pages c.args.space.now) (g.S.Pages.pages c.read_node.new.pages) (g.S.Pages.pages c.change_in.new.space) (g.S.Pages.pages c.write_node.new.space)
     c.in-Inner.is c.child_place-i.ensures c.child-place.ensures c.read_node.ensures.same.pages c.in_ok-child-in-Inner.ensures.ok c.in_ok-change_in-in-Inner.ensures.ok c.in_ok-write_node-in-Inner.ensures.ok
     c.set_mirror.ensures.level c.set_mirror.ensures.mirror c.mirror.ensures c.set_mirror.ensures.items c.set_mirror.ensures.right
+
+pub write_node-requires-clause-at : goal.write_node-requires-clause-at
+write_node-requires-clause-at g t c = child_offset c.args.node.now c.in-Inner.inner c.child_place-i.result c.child-place.result (node_shaped c.args.node.now c.requires.node) c.in-Inner.is c.child-place.ensures
+
+pub returns-in_ok-write_node-in-Inner-clause-shape : goal.returns-in_ok-write_node-in-Inner-clause-shape
+returns-in_ok-write_node-in-Inner-clause-shape g t c =
+    mirror_shaped c.in-Inner.inner c.set_mirror.new.inner c.child_place-i.result c.mirror.result (subst (λ (n : Node). IsShaped n) c.in-Inner.is (node_shaped c.args.node.now c.requires.node))
+    c.set_mirror.ensures.level c.set_mirror.ensures.items c.set_mirror.ensures.right
+
+pub returns-after-has_element-clause-shape : goal.returns-after-has_element-clause-shape
+returns-after-has_element-clause-shape g t c =
+    let sound = subst (λ (n : Node). IsNode n) c.in-Leaf.is c.requires.node in
+    elim c.if-has_element.branch [
+      | then-has_element w ↦ rw w.node-is
+          (element_shaped (key_of c.args.at.now) c.args.change c.in-Leaf.leaf w.change_at.new.leaf c.leaf_place-place.result c.requires.may sound (sym c.has_element.ensures.value ∙ w.if-has_element.true) c.leaf_place-place.ensures w.change_at.ensures.items)
+      | else-has_element w ↦ rw w.node-is (node_shaped (leaf_node c.in-Leaf.leaf) sound)
+    ]

@@ -1,4 +1,4 @@
-use Rattle.std.proofs.Common.{◌∙◌, ◌<◌, ◌≤◌, ◌*◌, ◌-◌, ℕ, refl, subst, rules, Result, Err, arith}
+use Rattle.std.proofs.Common.{◌∙◌, ◌+◌, ◌<◌, ◌≤◌, ◌*◌, ◌-◌, ℕ, max, refl, subst, rules, Result, Err, arith}
 use Rattle.std.specs.Prelude.{Option, IsNone}
 use Rattle.std.proofs.lemmas.Result.{err_from_is_err_and}
 use Rattle.hm_types.specs.Offset.{IsOffset}
@@ -15,12 +15,14 @@ use Rattle.hm_btree.specs.Marking.{Writes}
 use Rattle.hm_btree.specs.Below.{HasEditCause}
 use Rattle.hm_btree.specs.Edits.{with_mirror}
 use Rattle.hm_btree.specs.Grow.{Grows}
+use Rattle.hm_btree.specs.Shape.{IsShaped, AreShaped}
 use Rattle.hm_btree.specs.declared.space.TheConstants.{NODE_BYTES}
 use Rattle.hm_btree.specs.declared.upper.Upper.{Upper}
 use Rattle.hm_btree.proofs.EditLemmas.{place_within, child_lower, cause_read, cause_below}
 use Rattle.hm_btree.proofs.GrowsLemmas.{leaf_grows, inner_grows}
 use Rattle.hm_btree.proofs.InsertLemmas.{next_within, two_levels, one_more, spends_add, spends_none, room_left}
 use Rattle.hm_btree.proofs.LocalLemmas.{inserted_local}
+use Rattle.hm_btree.proofs.ShapeLemmas.{node_shaped, child_offset, mirror_shaped, inserted_shaped, beside_shaped}
 use Rattle.hm_btree.proofs.ToldLemmas.{inner_works}
 use Rattle.hm_btree.proofs.insert.+insert_into.Goals as goal
 
@@ -89,8 +91,8 @@ returns-in_err-write_node-in-Inner-clause-space g t c =
 pub set_mirror-requires : goal.set_mirror-requires
 set_mirror-requires g t c = place_within c.args.node.now c.in-Inner.inner (key_of c.args.element.now.base) c.child_place-i.result c.requires.node c.in-Inner.is c.child_place-i.ensures
 
-pub add_node-requires : goal.add_node-requires
-add_node-requires g t c =
+pub add_node-requires-clause-room : goal.add_node-requires-clause-room
+add_node-requires-clause-room g t c =
     let same = g.met.S.NodeSpace.rests c.args.space.now c.read_node.new.pages c.read_node.ensures.same.rest in
     let kept = g.met.S.NodeSpace.rests c.insert_into.new.space c.write_node.new.space c.write_node.ensures.rest in
     let smaller = child_lower c.args.node.now c.in_ok-child-in-Inner.child c.in-Inner.inner c.child_place-i.result c.child-place.result c.in-Inner.is c.child-place.ensures c.in_ok-child-in-Inner.ensures.fits in
@@ -189,3 +191,31 @@ returns-in_ok-at-in-Some-clause-space g t c =
     (spends_none g.S.HasRoom.room g.S.HasRoom.free c.insert_into.new.space c.write_node.new.space 0 kept.0 kept.1) in
     spends_add g.S.HasRoom.room g.S.HasRoom.free c.args.space.now c.write_node.new.space c.add_node.new.space below NODE_BYTES (NODE_BYTES * (level_of c.args.node.now - 1))
     (one_more (level_of c.in_ok-child-in-Inner.child) (level_of c.args.node.now) smaller (two_levels c.args.node.now c.in-Inner.inner c.requires.node c.in-Inner.is)) second c.add_node.ensures.space
+
+pub write_node-requires-clause-at : goal.write_node-requires-clause-at
+write_node-requires-clause-at g t c = child_offset c.args.node.now c.in-Inner.inner c.child_place-i.result c.child-place.result (node_shaped c.args.node.now c.requires.node) c.in-Inner.is c.child-place.ensures
+
+pub add_node-requires-clause-node : goal.add_node-requires-clause-node
+add_node-requires-clause-node g t c = (subst (λ (o : Option Upper). AreShaped c.insert_into.new.node o) c.in-Some.is c.in_ok-upper-in-Inner.ensures.shape).above.node
+
+pub returns-in-Leaf-clause-shape : goal.returns-in-Leaf-clause-shape
+returns-in-Leaf-clause-shape g t c =
+    inserted_shaped c.args.node.now c.in-Leaf.leaf c.insert_in_leaf.new.leaf c.args.element.now (max c.in-Leaf.leaf.mirror (last_id c.args.element.now)) c.insert_in_leaf.result c.requires.node c.in-Leaf.is c.requires.element c.insert_in_leaf.ensures
+
+pub returns-in-None-clause-shape : goal.returns-in-None-clause-shape
+returns-in-None-clause-shape g t c =
+    record {
+      shape = mirror_shaped c.in-Inner.inner c.set_mirror.new.inner c.child_place-i.result c.mirror.result (subst (λ (n : Node). IsShaped n) c.in-Inner.is (node_shaped c.args.node.now c.requires.node))
+          c.set_mirror.ensures.level c.set_mirror.ensures.items c.set_mirror.ensures.right;
+      above = tt;
+    }
+
+pub returns-in_ok-at-in-Some-clause-shape : goal.returns-in_ok-at-in-Some-clause-shape
+returns-in_ok-at-in-Some-clause-shape g t c =
+    let upper = (subst (λ (o : Option Upper). AreShaped c.insert_into.new.node o) c.in-Some.is c.in_ok-upper-in-Inner.ensures.shape).above in
+    let shape = mirror_shaped c.in-Inner.inner c.set_mirror.new.inner c.child_place-i.result c.mirror.result (subst (λ (n : Node). IsShaped n) c.in-Inner.is (node_shaped c.args.node.now c.requires.node))
+    c.set_mirror.ensures.level c.set_mirror.ensures.items c.set_mirror.ensures.right in
+    let low = place_within c.args.node.now c.in-Inner.inner (key_of c.args.element.now.base) c.child_place-i.result c.requires.node c.in-Inner.is c.child_place-i.ensures in
+    let next = next_within (with_mirror c.mirror.result) (record { left = c.child-place.result.left; child = 0; mirror = 0 }) c.in-Inner.inner.places.items c.set_mirror.new.inner.places.items c.child_place-i.result c.set_mirror.ensures.items low in
+    beside_shaped (max c.set_mirror.new.inner.mirror c.mirror-in-Some.result) (c.child_place-i.result + 1) (record { left = c.in-Some.upper.left; child = c.in_ok-at-in-Some.at; mirror = c.mirror-in-Some.result }) c.set_mirror.new.inner c.insert_beside.new.inner c.insert_beside.result
+    shape (record { left = upper.left; child = c.in_ok-at-in-Some.ensures.offset.node }) next c.insert_beside.ensures

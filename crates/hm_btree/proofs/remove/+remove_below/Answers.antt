@@ -6,11 +6,13 @@ use Rattle.hm_key.specs.Elements.{removed}
 use Rattle.hm_key.specs.Key.{key_of}
 use Rattle.hm_node.specs.Node.{level_of, count_of}
 use Rattle.hm_node.specs.declared.node.Node.{Node}
+use Rattle.hm_btree.specs.Shape.{IsShaped}
 use Rattle.hm_btree.specs.Shrink.{HasNeighbours}
 use Rattle.hm_btree.proofs.EditLemmas.{place_within, child_lower}
 use Rattle.hm_btree.proofs.HoldsLemmas.{holds_below, holds_read, neighbours_below, shrunk_told}
 use Rattle.hm_btree.proofs.LocalLemmas.{removed_local}
 use Rattle.hm_btree.proofs.NeighbourLemmas.{level_below, stored_cause}
+use Rattle.hm_btree.proofs.ShapeLemmas.{node_shaped, child_offset, mirror_shaped, removed_leaf_shaped}
 use Rattle.hm_btree.proofs.ShrinksLemmas.{small_shrinks, large_shrinks, leaf_shrinks, leaf_has_none, level_kept, not_small}
 use Rattle.hm_btree.proofs.SpendLemmas.{spends_nothing, spends_both}
 use Rattle.hm_btree.proofs.remove.+remove_below.Goals as goal
@@ -55,7 +57,7 @@ rejoin-requires-clause-within g t c = place_within c.args.node.now c.in-Inner.in
 pub rejoin-requires-clause-child : goal.rejoin-requires-clause-child
 rejoin-requires-clause-child g t c =
     level_kept c.in-Inner.inner.level c.in_ok-child-in-Inner.child c.remove_below.new.node
-    (level_below c.in-Inner.inner c.child_place-i.result c.child-place.result c.in_ok-child-in-Inner.child c.child-place.ensures c.in_ok-child-in-Inner.ensures.sound c.in_ok-child-in-Inner.ensures.fits) c.in_ok-remove_below-in-Inner.ensures.level
+    (level_below c.in-Inner.inner c.child_place-i.result c.child-place.result c.in_ok-child-in-Inner.child c.child-place.ensures c.in_ok-child-in-Inner.ensures.sound c.in_ok-child-in-Inner.ensures.fits) c.in_ok-remove_below-in-Inner.ensures.level c.in_ok-remove_below-in-Inner.ensures.shape
 
 pub rejoin-requires-clause-told : goal.rejoin-requires-clause-told
 rejoin-requires-clause-told g t c =
@@ -124,3 +126,19 @@ returns-in_ok-write_node-in-Inner-clause-space g t c =
     let kept = g.met.S.NodeSpace.rests c.remove_below.new.space c.write_node.new.space c.write_node.ensures.rest in
     let first = spends_both g.S.HasRoom.room g.S.HasRoom.free c.args.space.now c.read_node.new.pages c.remove_below.new.space (spends_nothing g.S.HasRoom.room g.S.HasRoom.free c.args.space.now c.read_node.new.pages same.0 same.1) c.remove_below.ensures.space in
     spends_both g.S.HasRoom.room g.S.HasRoom.free c.args.space.now c.remove_below.new.space c.write_node.new.space first (spends_nothing g.S.HasRoom.room g.S.HasRoom.free c.remove_below.new.space c.write_node.new.space kept.0 kept.1)
+
+pub write_node-requires-clause-at : goal.write_node-requires-clause-at
+write_node-requires-clause-at g t c = child_offset c.args.node.now c.in-Inner.inner c.child_place-i.result c.child-place.result (node_shaped c.args.node.now c.requires.node) c.in-Inner.is c.child-place.ensures
+
+pub returns-after-has_element-clause-shape : goal.returns-after-has_element-clause-shape
+returns-after-has_element-clause-shape g t c =
+    let shape = subst (λ (n : Node). IsShaped n) c.in-Leaf.is (node_shaped c.args.node.now c.requires.node) in
+    elim c.if-has_element.branch [
+      | then-has_element w ↦ rw w.node-is (removed_leaf_shaped c.in-Leaf.leaf w.remove_element.new.leaf c.leaf_place-place.result (c.has_element.ensures.within w.if-has_element.true) shape w.remove_element.ensures)
+      | else-has_element w ↦ rw w.node-is shape
+    ]
+
+pub returns-in_ok-write_node-in-Inner-clause-shape : goal.returns-in_ok-write_node-in-Inner-clause-shape
+returns-in_ok-write_node-in-Inner-clause-shape g t c =
+    mirror_shaped c.in-Inner.inner c.set_mirror.new.inner c.child_place-i.result c.mirror.result (subst (λ (n : Node). IsShaped n) c.in-Inner.is (node_shaped c.args.node.now c.requires.node))
+    c.set_mirror.ensures.level c.set_mirror.ensures.items c.set_mirror.ensures.right

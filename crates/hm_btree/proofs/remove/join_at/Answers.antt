@@ -1,6 +1,8 @@
-use Rattle.std.proofs.Common.{◌∙◌, ◌+◌}
+use Rattle.std.proofs.Common.{◌∙◌, ◌+◌, Some, arith}
 use Rattle.std.specs.Prelude.{slice_index_or}
+use Rattle.hm_btree.specs.Edits.{with_mirror}
 use Rattle.hm_btree.proofs.JoinAtLemmas.{second_page, there_written, joined_one, joined_two}
+use Rattle.hm_btree.proofs.ShapeLemmas.{count_kept, joins_shaped, left_shaped, mirror_shaped, removed_child_shaped}
 use Rattle.hm_btree.proofs.SpendLemmas.{spends_nothing, spends_both}
 use Rattle.hm_btree.proofs.remove.join_at.Goals as goal
 use Rattle.hm_btree.proofs.remove.join_at.Goals.{in-None+in_ok-drop_node-in-None, in-Some+in_ok-write_node-in-Some}
@@ -67,4 +69,23 @@ returns-clause-space g c =
       | in-Some+in_ok-write_node-in-Some w ↦
           let more = g.met.S.NodeSpace.rests c.write_node.new.space w.write_node-in-Some.new.space w.write_node-in-Some.ensures.rest in
           rw w.space-is (spends_nothing g.S.HasRoom.room g.S.HasRoom.free c.args.space.now w.write_node-in-Some.new.space (more.0 ∙ kept.0) (more.1 ∙ kept.1))
+    ]
+
+pub write_node-requires-clause-node : goal.write_node-requires-clause-node
+write_node-requires-clause-node g c = (joins_shaped c.args.left c.args.right c.join-upper.new.left c.join-upper.result c.requires.left.0 c.requires.right.0 c.join-upper.ensures).shape
+
+pub write_node-requires-in-Some-clause-node : goal.write_node-requires-in-Some-clause-node
+write_node-requires-in-Some-clause-node g c = (joins_shaped c.args.left c.args.right c.join-upper.new.left (Some c.in-Some.upper) c.requires.left.0 c.requires.right.0 c.in-Some.ensures).above.node
+
+pub returns-clause-shape : goal.returns-clause-shape
+returns-clause-shape g c =
+    let shape = mirror_shaped c.args.inner.now c.set_mirror.new.inner c.args.i c.mirror.result c.requires.inner c.set_mirror.ensures.level c.set_mirror.ensures.items c.set_mirror.ensures.right in
+    let long = count_kept (with_mirror c.mirror.result) c.args.inner.now c.set_mirror.new.inner c.args.i c.set_mirror.ensures.items in
+    elim c.match-upper.branch [
+      | in-None+in_ok-drop_node-in-None w ↦
+          rw w.inner-is (removed_child_shaped c.set_mirror.new.inner w.remove_child.new.inner (c.args.i + 1) (omega (arith, long, c.requires.within)) (omega (arith, long, c.requires.within)) shape w.remove_child.ensures)
+      | in-Some+in_ok-write_node-in-Some w ↦
+          let upper = (joins_shaped c.args.left c.args.right c.join-upper.new.left (Some w.in-Some.upper) c.requires.left.0 c.requires.right.0 w.in-Some.ensures).above in
+          let next = mirror_shaped c.set_mirror.new.inner w.set_mirror-in-Some.new.inner (c.args.i + 1) w.mirror-in-Some.result shape w.set_mirror-in-Some.ensures.level w.set_mirror-in-Some.ensures.items w.set_mirror-in-Some.ensures.right in
+          rw w.inner-is (left_shaped w.set_mirror-in-Some.new.inner w.set_left.new.inner (c.args.i + 1) w.in-Some.upper.left upper.left next w.set_left.ensures.level w.set_left.ensures.items w.set_left.ensures.right)
     ]

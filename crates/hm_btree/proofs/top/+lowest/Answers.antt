@@ -3,12 +3,14 @@ use Rattle.std.specs.Prelude.{IfSome}
 use Rattle.std.proofs.lemmas.Result.{err_from_is_err_and, on_ok_weaker, IfOk-weaker}
 use Rattle.hm_types.specs.Faults.{HasFaultCause}
 use Rattle.hm_types.specs.declared.fault.Fault.{Fault}
+use Rattle.hm_node.specs.Inner.{IsNodeOffset}
 use Rattle.hm_node.specs.Node.{level_of}
 use Rattle.hm_node.specs.declared.node.Node.{Node}
 use Rattle.hm_btree.specs.Shrink.{IsLowered}
 use Rattle.hm_btree.proofs.EditLemmas.{child_lower}
 use Rattle.hm_btree.proofs.LowestLemmas.{lowered_told, lowered_tree, lowered_then, lowered_read}
 use Rattle.hm_btree.proofs.NeighbourLemmas.{stored_cause}
+use Rattle.hm_btree.proofs.ShapeLemmas.{node_shaped, child_offset}
 use Rattle.hm_btree.proofs.SpendLemmas.{spends_nothing, spends_both}
 use Rattle.hm_btree.proofs.top.+lowest.Goals as goal
 
@@ -44,6 +46,7 @@ lowest-requires g t c κs within =
     c.in-Inner.is c.read_node.ensures.same.pages c.in_ok-drop_node-in-Inner.ensures.ok lowered in
     let first = both.0 in
     let second = both.1 in
+    let below : IsNodeOffset c.child-below.result.at = child_offset c.args.node c.in-Inner.inner 0 c.child-below.result (node_shaped c.args.node c.requires.node) c.in-Inner.is c.child-below.ensures in
     search rules
 
 pub returns-in_ok-drop_node-in-Inner-clause-ok : goal.returns-in_ok-drop_node-in-Inner-clause-ok
