@@ -23,7 +23,7 @@ struct Stored {
 
 /// Nodes in a table in memory, each at its place, which tells nothing of them, as the space of a
 /// volume on a device. It is there for tests, and for tools that measure. It counts how many nodes
-/// are read and written.
+/// are read and written. Its frame is the write from which on it refuses.
 #[derive(Drop)]
 pub struct NodeTable {
     alloc: Global,
@@ -91,6 +91,7 @@ impl NodeTable {
     fn write(&mut self) -> Result<(), Fault>
         ensures cause { HasStoreCause {A = ℕ} None 0 0 result }
         ensures room { self.new.room ≡ self.old.room }
+        ensures frame { self.new.refused ≡ self.old.refused }
     {
         if self.writes >= self.refused {
             return Err(Fault::NoMemory);
@@ -112,11 +113,15 @@ impl NodeTable {
 }
 
 impl Counted for NodeTable {
+    ghost use Rattle.std.specs.Prelude.{ℕ};
+
     ghost faults = { λ _. 0 };
 
     ghost name = { λ _. 0 };
 
-    ghost frame = { λ _. tt };
+    ghost Frame = { ℕ };
+
+    ghost frame = { λ t. t.refused };
 }
 
 impl HasRoom for NodeTable {

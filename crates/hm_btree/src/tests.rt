@@ -7,7 +7,7 @@ ghost use Rattle.hm_key.specs.Key.{key_of};
 use crate::{BTree, MemSpace, NodeTable};
 use hm_fields::{Page, Pages};
 use hm_key::{Base, ELEMENT, Element, ElementStore, HasElements, HasRoom, OTHER_PART, SNAPSHOT};
-use hm_node::{Node, encode};
+use hm_node::{Node, broken_rule, encode};
 use hm_search::{Subtree, read_node};
 use hm_types::{BAD_LEVEL, BAD_MIRROR, Fault, HOff, INSERT_ROOM, Id, Obj, TREE_ZONE};
 use std::alloc::Global;
@@ -296,7 +296,7 @@ fn marred(alloc: Global, child: usize) -> Result<(BTree<NodeTable>, HOff), Fail>
         }
         Node::Inner(_) => return Err(Fail::from("the child is no leaf")),
     }
-    space.change(place.at, &page)?;
+    put(&mut space, place.at, &page)?;
     Ok((BTree::over(space, root), place.at))
 }
 
@@ -332,6 +332,16 @@ fn damage_below_the_root_is_told_where_it_is(rt: HostRuntime) -> Result<(), Fail
     Ok(())
 }
 
+// Puts a page that holds a sound node, if it does.
+#[tactic(auto, using(hm_node::proofs::LawLemmas::holds_node))]
+fn put(space: &mut NodeTable, at: HOff, page: &Page) -> Result<(), Fail> {
+    if broken_rule(page).is_some() {
+        return Err(Fail::from("the page holds no sound node"));
+    }
+    space.change(at, page)?;
+    Ok(())
+}
+
 // A tree of two levels whose first child is the root itself.
 fn looped(alloc: Global) -> Result<BTree<NodeTable>, Fail> {
     let mut tree = empty(alloc)?;
@@ -348,7 +358,7 @@ fn looped(alloc: Global) -> Result<BTree<NodeTable>, Fail> {
         }
         Node::Leaf(_) => return Err(Fail::from("the root is a leaf")),
     }
-    space.change(root, &page)?;
+    put(&mut space, root, &page)?;
     Ok(BTree::over(space, root))
 }
 
@@ -408,7 +418,33 @@ fn a_tree_whose_change_failed_is_changed_no_more(rt: HostRuntime) -> Result<(), 
             tree.readdress(&e.base, HOff::default()),
             Err(Fault::NoMemory)
         );
+        assert_eq!(rt; tree.first_at_or_after(&e.base), Err(Fault::NoMemory));
+        assert_eq!(rt; tree.unchanged_until(&e.base, Id(1)), Err(Fault::NoMemory));
     }
+    Ok(())
+}
+
+// A tree whose root is said to stand where no node may stand.
+fn astray(alloc: Global) -> BTree<NodeTable> {
+    BTree::over(NodeTable::new(alloc), HOff::default())
+}
+
+#[test]
+fn a_root_that_no_node_can_be_is_not_changed(rt: HostRuntime) -> Result<(), Fail> {
+    let mut tree = astray(rt.alloc());
+    let e = element(1, 1);
+    assert_eq!(rt; insert(&mut tree, &e), Err(Fault::NoMemory));
+    assert_eq!(rt; tree.remove(&e.base), Err(Fault::NoMemory));
+    assert_eq!(rt; tree.set_delete(&e.base, 9), Err(Fault::NoMemory));
+    assert_eq!(rt;
+        tree.readdress(&e.base, HOff::default()),
+        Err(Fault::NoMemory)
+    );
+    let absent = Fault::Damaged {
+        at: HOff::default(),
+        kind: BAD_LEVEL,
+    };
+    assert_eq!(rt; tree.first_at_or_after(&e.base), Err(absent));
     Ok(())
 }
 

@@ -1,11 +1,12 @@
 // The tree.
+ghost use Rattle.std.specs.Prelude.{◌↔◌, IsTrue};
 ghost use Rattle.hm_types.specs.Offset.{IsOffset};
+ghost use Rattle.hm_node.specs.Inner.{IsNodeOffset};
 ghost use Rattle.hm_btree.specs.Tree.{IsIntact};
 
 use crate::space::NodeSpace;
 use hm_key::{HasElements, HasRoom};
-use hm_node::is_node_offset;
-use hm_types::{Counted, Fault, HOff};
+use hm_types::{Counted, Fault, HOff, PAGE_BYTES, TREE_ZONE};
 
 /// The B-tree of the elements, over a space of nodes. Once a call has failed in the middle of a
 /// change, each call answers `NoMemory`, since the space may hold half of that change.
@@ -120,6 +121,13 @@ impl<S: NodeSpace> BTree<S> {
             Err(Fault::NoMemory)
         }
     }
+}
+
+// Whether a node may stand at an offset: a multiple of 4,096 in the zone of the B-tree.
+fn is_node_offset(at: HOff) -> bool
+    ensures { IsTrue result ↔ IsNodeOffset at }
+{
+    at.zone() == TREE_ZONE && at.byte() % PAGE_BYTES as u64 == 0
 }
 
 /// Does nothing, and says what the type of an offset tells of it.
