@@ -5,8 +5,8 @@ use crate::order::Order;
 use crate::shape::Shape;
 use crate::tally::Tally;
 use hm_btree::{BTree, NodeTable};
-use hm_key::{Element, ElementStore, INSERT_ROOM};
-use hm_types::Fault;
+use hm_key::{Element, ElementStore};
+use hm_types::{Fault, INSERT_ROOM};
 use std::alloc::Global;
 
 /// Which calls are counted.
