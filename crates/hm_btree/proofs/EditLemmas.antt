@@ -1,13 +1,14 @@
 -- A step of a call down to a child, and back.
-use Rattle.std.proofs.Common.{◌≡◌, ℕ, zero, suc, ◌+◌, ◌<◌, ◌≤◌, List, [], ◌∷◌, ◌++◌, length, take, drop, refl, sym, ap, subst, ◌∙◌, arith, max, Some, None, Err, length-append}
-use Rattle.std.specs.Prelude.{IsSome, Option, IfSome, All, slice_get, slice_set, slice_index_or}
+use Rattle.std.proofs.Common.{◌≡◌, true≢false, ℕ, zero, suc, ◌+◌, ◌<◌, ◌≤◌, List, [], ◌∷◌, ◌++◌, length, take, drop, refl, sym, ap, subst, ◌∙◌, arith, max, Some, None, Err, length-append}
+use Rattle.std.specs.Prelude.{IsSome, is_some, Option, IfSome, All, slice_get, slice_set, slice_index_or}
 use Rattle.std.specs.List.{AllByRecursion}
 use Rattle.std.proofs.lemmas.Grind.{flat_map-append}
 use Rattle.std.proofs.lemmas.List.Elements.{All-from_recursion, recursion_from_All}
 use Rattle.hm_types.specs.Elements.{Key}
-use Rattle.hm_types.specs.Faults.{HasFaultCause, IsUndamaged}
+use Rattle.hm_types.specs.Faults.{HasFaultCause, HasStoreCause, IsUndamaged}
 use Rattle.hm_types.specs.declared.fault.Fault.{Fault}
-use Rattle.hm_fields.specs.Pages.{PageMap, page_in}
+use Rattle.hm_types.specs.declared.fault.Fault.TheVariants.{Media, Damaged, NoMemory}
+use Rattle.hm_fields.specs.Pages.{PageMap}
 use Rattle.hm_key.specs.Key.{key_of, IsBefore, IsFrom}
 use Rattle.hm_key.specs.Elements.{element_key, element_at}
 use Rattle.hm_key.specs.declared.base.Base.{Base}
@@ -19,7 +20,7 @@ use Rattle.hm_node.specs.declared.inner.Child.{Child}
 use Rattle.hm_node.specs.declared.inner.Inner.{Inner}
 use Rattle.hm_node.specs.declared.node.Node.{Node}
 use Rattle.hm_node.specs.declared.node.Node.TheVariants.{Inner as inner_node}
-use Rattle.hm_search.specs.Descent.{StandsHere}
+use Rattle.hm_search.specs.Descent.{IsFaultBelow, StandsHere}
 use Rattle.hm_search.specs.Place.{IsInside, BeginsAt, Fits, FitsCount, TellsDamage, mirror_of}
 use Rattle.hm_search.specs.Search.{holder_place}
 use Rattle.hm_search.specs.Tree.{node_at, elements_in, next_left, child_place, children_of, IsTree, IsStoredTree}
@@ -27,6 +28,7 @@ use Rattle.hm_search.specs.declared.subtree.Parent.{Parent}
 use Rattle.hm_search.specs.declared.subtree.Subtree.{Subtree}
 use Rattle.hm_search.proofs.ChildLemmas.{holder_place_within, place_is}
 use Rattle.hm_search.proofs.DamageLemmas.{tells_undamaged, stored_here, caused_since}
+use Rattle.hm_search.proofs.DescentLemmas.{fault_below, fault_here, leads}
 use Rattle.hm_search.proofs.ListLemmas.{each_so, each_append, each_get}
 use Rattle.hm_btree.specs.Marking.{Marking}
 use Rattle.hm_btree.specs.Edits.{inner_of, with_mirror}
@@ -79,8 +81,13 @@ pub cause_read : (told : Option PageMap) (node : Node) (inner : Inner) (i : ℕ)
     → HasFaultCause {T = Node} old new (Err fault) → IfSome told (λ map. TellsDamage s (map s.at) fault) → HasEditCause {T = Unit {0}} told node old new (Err fault)
 cause_read told node inner i s old new fault is at counted damage = record {
   counted = record { never_falls = counted.never_falls; caused = counted.caused };
+  damage = below told damage;
   undamaged = if_told told damage;
 } where
+  below : (o : Option PageMap) → IfSome o (λ map. TellsDamage s (map s.at) fault) → IfSome o (λ map. (place : Subtree) → StandsHere map place node → IsFaultBelow map place fault)
+  below None damage = tt
+  below (Some map) damage = λ place here. fault_below map place s fault (leads map place inner i s (subst (λ (n : Node). StandsHere map place n) is here) at) (fault_here map s fault damage)
+
   if_told : (o : Option PageMap) → IfSome o (λ map. TellsDamage s (map s.at) fault) → IfSome o (λ map. (place : Subtree) (height : ℕ) → IsTree map height place node → IsUndamaged fault)
   if_told None damage = tt
   if_told (Some map) damage = λ place height tree.
@@ -91,14 +98,42 @@ pub cause_below : {T : Type 0} (told now : Option PageMap) (node child : Node) (
     → now ≡ told → old ≤ mid → IfSome told (λ map. StandsHere map s child) → HasEditCause {T = T} now child mid new (Err fault) → HasEditCause {T = T} told node old new (Err fault)
 cause_below told now node child inner i s old mid new fault is at same low here cause = record {
   counted = record { never_falls = omega (arith, cause.counted.never_falls); caused = caused_since old mid new fault low cause.counted.caused };
+  damage = below told here (subst (λ (o : Option PageMap). IfSome o (λ map. (place : Subtree) → StandsHere map place child → IsFaultBelow map place fault)) same cause.damage);
   undamaged = if_told told here (subst (λ (o : Option PageMap). IfSome o (λ map. (place : Subtree) (height : ℕ) → IsTree map height place child → IsUndamaged fault)) same cause.undamaged);
 } where
+  below : (o : Option PageMap) → IfSome o (λ map. StandsHere map s child) → IfSome o (λ map. (place : Subtree) → StandsHere map place child → IsFaultBelow map place fault)
+      → IfSome o (λ map. (place : Subtree) → StandsHere map place node → IsFaultBelow map place fault)
+  below None read more = tt
+  below (Some map) read more = λ place here. fault_below map place s fault (leads map place inner i s (subst (λ (n : Node). StandsHere map place n) is here) at) (more s read)
+
   if_told : (o : Option PageMap) → IfSome o (λ map. StandsHere map s child) → IfSome o (λ map. (place : Subtree) (height : ℕ) → IsTree map height place child → IsUndamaged fault)
       → IfSome o (λ map. (place : Subtree) (height : ℕ) → IsTree map height place node → IsUndamaged fault)
   if_told None here more = tt
   if_told (Some map) here more = λ place height tree.
       let below = stored_below map height place node inner i s tree is at in
       more s below.lower (tree_read map below.lower s child below.stored here)
+
+-- a fault that tells of no damage
+pub undamaged_below : (map : PageMap) (s : Subtree) (fault : Fault) → IsUndamaged fault → IsFaultBelow map s fault
+undamaged_below map s (Media before after) is = tt
+undamaged_below map s (Damaged at kind) is = absurd is
+undamaged_below map s NoMemory is = tt
+
+pub cause_write : {T U : Type 0} (told mid : Option PageMap) (node : Node) (old middle new : ℕ) (fault : Fault) → is_some mid ≡ is_some told → old ≤ middle → HasStoreCause {T = U} mid middle new (Err fault) → HasEditCause {T = T} told node old new (Err fault)
+cause_write told mid node old middle new fault same low cause = record {
+  counted = record { never_falls = omega (arith, low, cause.counted.never_falls); caused = caused_since old middle new fault low cause.counted.caused };
+  damage = below told mid same cause.undamaged;
+  undamaged = sound told mid same cause.undamaged;
+} where
+  below : (o p : Option PageMap) → is_some p ≡ is_some o → IfSome p (λ _. IsUndamaged fault) → IfSome o (λ map. (place : Subtree) → StandsHere map place node → IsFaultBelow map place fault)
+  below None p same is = tt
+  below (Some map) None same is = absurd (true≢false (sym same))
+  below (Some map) (Some other) same is = λ place here. undamaged_below map place fault is
+
+  sound : (o p : Option PageMap) → is_some p ≡ is_some o → IfSome p (λ _. IsUndamaged fault) → IfSome o (λ map. (place : Subtree) (height : ℕ) → IsTree map height place node → IsUndamaged fault)
+  sound None p same is = tt
+  sound (Some map) None same is = absurd (true≢false (sym same))
+  sound (Some map) (Some other) same is = λ place height tree. is
 
 -- a list at a place
 pub split_at : {A : Type 0} (xs : List A) (i : ℕ) (x : A) → slice_get xs i ≡ Some x → (xs ≡ take i xs ++ x ∷ drop (suc i) xs) × (length (take i xs) ≡ i)

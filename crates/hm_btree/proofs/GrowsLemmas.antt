@@ -4,7 +4,7 @@ use Rattle.std.specs.Prelude.{Option, IsNone, IfSome, slice_get}
 use Rattle.std.proofs.lemmas.List.Edits.{insert-append_right}
 use Rattle.hm_types.specs.Elements.{Key}
 use Rattle.hm_types.specs.Offset.{IsOffset}
-use Rattle.hm_fields.specs.Pages.{PageMap, page_in}
+use Rattle.hm_fields.specs.Pages.{PageMap}
 use Rattle.hm_types.specs.Told.{BothTell}
 use Rattle.hm_key.specs.Element.{IsElement}
 use Rattle.hm_key.specs.Elements.{element_key, element_at, inserted, last_id}

@@ -1,5 +1,5 @@
 -- Pages in memory of which each holds a node.
-use Rattle.std.proofs.Common.{◌≡◌, Bool, true, false, ℕ, List, sym, subst, Some, None, Result, Ok, Err}
+use Rattle.std.proofs.Common.{Bool, true, false, ℕ, List, sym, subst, Some, None, Result, Ok, Err}
 use Rattle.std.specs.Prelude.{Option, IfSome, OnOk, OnErr, Box, cond}
 use Rattle.std.specs.declared.alloc.Global.{Global}
 use Rattle.std.specs.Ordering.{nat_cmp}

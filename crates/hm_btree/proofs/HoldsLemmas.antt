@@ -2,7 +2,7 @@
 use Rattle.std.proofs.Common.{◌≡◌, true≢false, ℕ, zero, suc, List, ◌∷◌, ◌++◌, length, take, drop, refl, sym, ap, subst, ◌∙◌, arith, Some, None}
 use Rattle.std.specs.Prelude.{Option, IsSome, is_some, IfSome, slice_get}
 use Rattle.hm_types.specs.Elements.{Key}
-use Rattle.hm_fields.specs.Pages.{PageMap, page_in}
+use Rattle.hm_fields.specs.Pages.{PageMap}
 use Rattle.hm_key.specs.Elements.{element_at}
 use Rattle.hm_key.specs.declared.base.Base.{Base}
 use Rattle.hm_key.specs.declared.element.Element.{Element}

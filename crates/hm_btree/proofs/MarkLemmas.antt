@@ -9,7 +9,7 @@ use Rattle.hm_key.proofs.KeyLemmas.{key_before_from, key_from_before, key_not_be
 use Rattle.hm_search.specs.Place.{IsInside}
 use Rattle.hm_search.proofs.OrderLemmas.{before_is, from_is, from_not, from_trans, from_then_before}
 use Rattle.hm_btree.specs.Marking.{Marking, Writes, TakesOut, Leaves, MarksBy, MarksWithin}
-use Rattle.hm_key.specs.Marks.{AllTook, IsBetween, Marks, MarksJoin, MarksStay}
+use Rattle.hm_key.specs.Marks.{MarksStay, AllTook, IsBetween, Marks, MarksJoin}
 use Rattle.hm_btree.proofs.OrderLemmas.{before_before}
 
 -- a function of keys that is the same everywhere

@@ -1,10 +1,9 @@
 -- The neighbour of a child that lost places is as it was, and is read.
 use Rattle.std.proofs.Common.{◌≡◌, ℕ, suc, ◌+◌, ◌-◌, ◌<◌, ◌≤◌, inl, inr, List, ◌∷◌, ◌++◌, length, take, drop, sym, ap, subst, ◌∙◌, arith, Some, None, Err}
 use Rattle.std.specs.Prelude.{Option, IsSome, IfSome, slice_get}
-use Rattle.hm_types.specs.Faults.{HasFaultCause, HasStoreCause, IsUndamaged}
+use Rattle.hm_types.specs.Faults.{HasFaultCause, HasStoreCause}
 use Rattle.hm_types.specs.declared.fault.Fault.{Fault}
-use Rattle.hm_types.specs.declared.fault.Fault.TheVariants.{Media, Damaged, NoMemory}
-use Rattle.hm_fields.specs.Pages.{PageMap, page_in}
+use Rattle.hm_fields.specs.Pages.{PageMap}
 use Rattle.hm_key.specs.declared.base.Base.{Base}
 use Rattle.hm_node.specs.Node.{IsNode, level_of}
 use Rattle.hm_node.specs.declared.inner.Child.{Child}

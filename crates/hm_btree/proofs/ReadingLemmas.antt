@@ -39,7 +39,7 @@ quiet_in_store true (Some pages) root at since r sound quiet = ∥∥₁_elim so
 
 -- the cause of each fault
 search_cause : {T : Type 0} (told : Option PageMap) (root old new : ℕ) (r : Result T Fault) → HasSearchCause told (root_place root) old new r → HasTreeCause told root old new r
-search_cause told root old new r cause = record { counted = cause.counted; undamaged = by_told told cause.undamaged } where
+search_cause told root old new r cause = record { counted = cause.counted; damage = cause.damage; undamaged = by_told told cause.undamaged } where
   by_told : (o : Option PageMap) → IfSome o (λ map. (height : ℕ) → IsStoredTree map height (root_place root) → IfErr r IsUndamaged) → IfSome o (λ pages. IsSoundTree pages root → IfErr r IsUndamaged)
   by_told None undamaged = tt
   by_told (Some pages) undamaged = λ sound. undamaged (height_of (node_at pages root)) sound

@@ -1,8 +1,8 @@
 -- The root of a tree that changed.
-use Rattle.std.proofs.Common.{◌≡◌, Bool, true, false, true≢false, ◌||◌, ℕ, ◌≤◌, inl, inr, List, refl, sym, ap, subst, ◌∙◌, arith, nat_eq, eqb-true, eq-eqb, Some, None, Err}
-use Rattle.std.specs.Prelude.{Option, IsSome, IfSome}
+use Rattle.std.proofs.Common.{◌≡◌, Bool, true, false, true≢false, ◌||◌, ℕ, ◌≤◌, inl, inr, List, refl, sym, ap, subst, ◌∙◌, arith, nat_eq, eqb-true, eq-eqb, Some, None, Result, Ok, Err}
+use Rattle.std.specs.Prelude.{Option, IsSome, is_some, IfSome, ⊤}
 use Rattle.hm_types.specs.Elements.{Key}
-use Rattle.hm_types.specs.Faults.{HasFaultCause, IsUndamaged}
+use Rattle.hm_types.specs.Faults.{HasFaultCause, HasStoreCause, IsUndamaged}
 use Rattle.hm_types.specs.declared.fault.Fault.{Fault}
 use Rattle.hm_fields.specs.Pages.{PageMap, page_in}
 use Rattle.hm_types.specs.Told.{BothTell}
@@ -10,18 +10,20 @@ use Rattle.hm_key.specs.Elements.{element_key, element_at}
 use Rattle.hm_key.specs.declared.element.Element.{Element}
 use Rattle.hm_node.specs.Node.{node_in, Spells}
 use Rattle.hm_node.specs.declared.node.Node.{Node}
-use Rattle.hm_search.specs.Descent.{StandsHere}
+use Rattle.hm_search.specs.Descent.{IsFaultBelow, StandsHere}
 use Rattle.hm_search.specs.Place.{IsInside, TellsDamage}
 use Rattle.hm_search.specs.Tree.{node_at, elements_in, mark_in, reaches, height_of, root_place, IsTree, IsStoredTree, IsSoundTree, elements_of, mark_of}
 use Rattle.hm_search.specs.declared.subtree.Subtree.{Subtree}
 use Rattle.hm_search.proofs.ContentLemmas.{elements_inside}
-use Rattle.hm_search.proofs.DamageLemmas.{tells_undamaged, stored_here, caused_since}
+use Rattle.hm_search.proofs.DamageLemmas.{caused_since}
+use Rattle.hm_search.proofs.DescentLemmas.{fault_here, sound_undamaged}
 use Rattle.hm_search.proofs.FrameLemmas.{IsSameBelow, frame_elements, frame_mark, frame_reaches, frame_tree}
 use Rattle.hm_search.proofs.ReachLemmas.{not_below_itself}
 use Rattle.hm_btree.specs.Marking.{Marking, MarksBy}
 use Rattle.hm_btree.specs.Below.{Replaces, Changed, HasEditCause}
 use Rattle.hm_btree.specs.Space.{HasWritten, IsSpot}
 use Rattle.hm_btree.specs.Tree.{IsTreeSpace, TreeChanged, ChangesTree, HasTreeCause}
+use Rattle.hm_btree.proofs.EditLemmas.{undamaged_below}
 use Rattle.hm_btree.proofs.LocalLemmas.{element_each}
 use Rattle.hm_btree.proofs.MarkLemmas.{same_marks, marks_whole}
 use Rattle.hm_btree.proofs.NodeLemmas.{not_reached}
@@ -108,20 +110,43 @@ there_inside root key old tree there =
     (elements_inside old (height_of (node_at old root)) (root_place root) (node_at old root) tree.sound.tree) there in
     subst (λ (k : Key). IsInside (root_place root).left (root_place root).right k) some.1 some.2
 
--- the cause of a fault of the first read, and of one further down
-pub root_cause_read : (told : Option PageMap) (root old new : ℕ) (fault : Fault) → HasFaultCause {T = Node} old new (Err fault) → IfSome told (λ map. TellsDamage (root_place root) (map root) fault) → HasTreeCause {T = Unit {0}} told root old new (Err fault)
-root_cause_read told root old new fault counted damage = record { counted = record { never_falls = counted.never_falls; caused = counted.caused }; undamaged = if_told told damage } where
-  if_told : (o : Option PageMap) → IfSome o (λ map. TellsDamage (root_place root) (map root) fault) → IfSome o (λ map. IsSoundTree map root → IsUndamaged fault)
+-- the cause of each fault, where damage is told of what stands below the root alone
+root_cause : {T : Type 0} (told : Option PageMap) (root old new : ℕ) (fault : Fault) → HasFaultCause {T = T} old new (Err fault) → IfSome told (λ map. IsFaultBelow map (root_place root) fault) → HasTreeCause {T = T} told root old new (Err fault)
+root_cause told root old new fault counted damage = record { counted = counted; damage = damage; undamaged = if_told told damage } where
+  if_told : (o : Option PageMap) → IfSome o (λ map. IsFaultBelow map (root_place root) fault) → IfSome o (λ map. IsSoundTree map root → IsUndamaged fault)
   if_told None damage = tt
-  if_told (Some map) damage = λ sound. tells_undamaged (root_place root) (map root) (node_at map root) fault sound.there (stored_here map (height_of (node_at map root)) (root_place root) sound) damage
+  if_told (Some map) damage = λ sound. sound_undamaged map (height_of (node_at map root)) (root_place root) fault sound damage
 
-pub root_cause_below : {T U : Type 0} (told now : Option PageMap) (root old mid new : ℕ) (node : Node) (fault : Fault) → now ≡ told → old ≤ mid → IfSome told (λ map. StandsHere map (root_place root) node)
+-- of the first read, of one further down, and of a write
+pub root_cause_read : {T : Type 0} (told : Option PageMap) (root old new : ℕ) (s : Subtree) (fault : Fault) → s ≡ root_place root → HasFaultCause {T = Node} old new (Err fault) → IfSome told (λ map. TellsDamage s (map s.at) fault) → HasTreeCause {T = T} told root old new (Err fault)
+root_cause_read told root old new s fault is counted damage =
+    root_cause told root old new fault (record { never_falls = counted.never_falls; caused = counted.caused })
+    (if_told told (subst (λ (t : Subtree). IfSome told (λ map. TellsDamage t (map t.at) fault)) is damage)) where
+      if_told : (o : Option PageMap) → IfSome o (λ map. TellsDamage (root_place root) (map root) fault) → IfSome o (λ map. IsFaultBelow map (root_place root) fault)
+      if_told None damage = tt
+      if_told (Some map) damage = fault_here map (root_place root) fault damage
+
+pub root_cause_below : {T U : Type 0} (told now : Option PageMap) (root old mid new : ℕ) (s : Subtree) (node : Node) (fault : Fault) → s ≡ root_place root → now ≡ told → old ≤ mid → IfSome told (λ map. StandsHere map s node)
     → HasEditCause {T = T} now node mid new (Err fault) → HasTreeCause {T = U} told root old new (Err fault)
-root_cause_below told now root old mid new node fault same low here cause = record {
-  counted = record { never_falls = omega (arith, cause.counted.never_falls); caused = caused_since old mid new fault low cause.counted.caused };
-  undamaged = if_told told here (subst (λ (o : Option PageMap). IfSome o (λ map. (place : Subtree) (height : ℕ) → IsTree map height place node → IsUndamaged fault)) same cause.undamaged);
-} where
-  if_told : (o : Option PageMap) → IfSome o (λ map. StandsHere map (root_place root) node) → IfSome o (λ map. (place : Subtree) (height : ℕ) → IsTree map height place node → IsUndamaged fault)
-      → IfSome o (λ map. IsSoundTree map root → IsUndamaged fault)
-  if_told None here more = tt
-  if_told (Some map) here more = λ sound. more (root_place root) (height_of (node_at map root)) (subst (λ (n : Node). IsTree map (height_of (node_at map root)) (root_place root) n) (here.spelled sound.there).value sound.tree)
+root_cause_below told now root old mid new s node fault is same low here cause =
+    root_cause told root old new fault (record { never_falls = omega (arith, cause.counted.never_falls); caused = caused_since old mid new fault low cause.counted.caused })
+    (if_told told (subst (λ (t : Subtree). IfSome told (λ map. StandsHere map t node)) is here) (subst (λ (o : Option PageMap). IfSome o (λ map. (place : Subtree) → StandsHere map place node → IsFaultBelow map place fault)) same cause.damage)) where
+      if_told : (o : Option PageMap) → IfSome o (λ map. StandsHere map (root_place root) node) → IfSome o (λ map. (place : Subtree) → StandsHere map place node → IsFaultBelow map place fault) → IfSome o (λ map. IsFaultBelow map (root_place root) fault)
+      if_told None here more = tt
+      if_told (Some map) here more = more (root_place root) here
+
+pub root_cause_write : {T : Type 0} (told mid : Option PageMap) (root old middle new : ℕ) (result : Result T Fault) → is_some mid ≡ is_some told → old ≤ middle → HasStoreCause mid middle new result → HasTreeCause told root old new result
+root_cause_write told mid root old middle new (Ok x) same low cause = record { counted = record { never_falls = omega (arith, low, cause.counted.never_falls); caused = tt }; damage = none told; undamaged = sound told } where
+  none : (o : Option PageMap) → IfSome o (λ map. ⊤)
+  none None = tt
+  none (Some map) = tt
+
+  sound : (o : Option PageMap) → IfSome o (λ map. IsSoundTree map root → ⊤)
+  sound None = tt
+  sound (Some map) = λ is. tt
+root_cause_write {T = T} told mid root old middle new (Err fault) same low cause =
+    root_cause {T = T} told root old new fault (record { never_falls = omega (arith, low, cause.counted.never_falls); caused = caused_since old middle new fault low cause.counted.caused }) (if_told told mid same cause.undamaged) where
+      if_told : (o p : Option PageMap) → is_some p ≡ is_some o → IfSome p (λ _. IsUndamaged fault) → IfSome o (λ map. IsFaultBelow map (root_place root) fault)
+      if_told None p same is = tt
+      if_told (Some map) None same is = absurd (true≢false (sym same))
+      if_told (Some map) (Some other) same is = undamaged_below map (root_place root) fault is

@@ -1,6 +1,6 @@
 -- Each edit of a node keeps its shape, also over pages that are not told.
-use Rattle.std.proofs.Common.{◌≡◌, true≢false, ℕ, zero, suc, ◌+◌, ◌/◌, ◌<◌, ◌≤◌, List, [], ◌∷◌, ◌++◌, length, take, drop, insert, remove, refl, sym, ap, subst, ◌∙◌, arith, max, Some, None, length-take, length-drop, length-set, length-append}
-use Rattle.std.specs.Prelude.{Option, IfSome, IsSome, slice_get, slice_set, slice_index_or}
+use Rattle.std.proofs.Common.{◌≡◌, true≢false, ℕ, zero, suc, ◌+◌, ◌<◌, ◌≤◌, List, [], ◌∷◌, ◌++◌, length, take, drop, insert, remove, refl, sym, ap, subst, ◌∙◌, arith, max, Some, None, length-take, length-drop, length-set, length-append}
+use Rattle.std.specs.Prelude.{Option, IsSome, slice_get, slice_set, slice_index_or}
 use Rattle.std.specs.List.{AllByRecursion}
 use Rattle.std.specs.List.Sorted.{IsStrictlySortedBy}
 use Rattle.std.proofs.lemmas.List.Edits.{length-insert, length-remove}
@@ -9,7 +9,6 @@ use Rattle.hm_types.specs.Elements.{Key}
 use Rattle.hm_types.specs.Offset.{IsOffset}
 use Rattle.hm_key.specs.Element.{IsElement}
 use Rattle.hm_key.specs.Elements.{IsContent, element_at, element_cmp, inserted}
-use Rattle.hm_key.specs.Key.{key_of}
 use Rattle.hm_key.specs.Places.{leading, IsPlace}
 use Rattle.hm_key.specs.declared.base.Base.{Base}
 use Rattle.hm_key.specs.declared.element.Element.{Element}
@@ -17,7 +16,7 @@ use Rattle.hm_key.proofs.ElementLemmas.{each_changed, each_inserted, content_clo
 use Rattle.hm_key.proofs.PlaceLemmas.{changed-place}
 use Rattle.hm_node.specs.Inner.{IsBound, IsChild, IsNodeOffset}
 use Rattle.hm_node.specs.Leaf.{IsPlaced}
-use Rattle.hm_node.specs.Node.{HasLevel, HasFields, IsNode, level_of}
+use Rattle.hm_node.specs.Node.{HasLevel, IsNode, level_of}
 use Rattle.hm_node.specs.declared.inner.Child.{Child}
 use Rattle.hm_node.specs.declared.inner.Inner.{Inner}
 use Rattle.hm_node.specs.declared.leaf.Leaf.{Leaf}

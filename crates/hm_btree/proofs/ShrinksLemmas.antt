@@ -3,7 +3,7 @@ use Rattle.std.proofs.Common.{◌≡◌, Bool, true, false, true≢false, ℕ, z
 use Rattle.std.proofs.lemmas.Bool.{cases_lt}
 use Rattle.std.specs.Prelude.{◌↔◌, Option, IsTrue, IsSome, is_some, IfSome, slice_get}
 use Rattle.hm_types.specs.Elements.{Key}
-use Rattle.hm_fields.specs.Pages.{PageMap, page_in}
+use Rattle.hm_fields.specs.Pages.{PageMap}
 use Rattle.hm_types.specs.Told.{BothTell}
 use Rattle.hm_key.specs.Elements.{element_at, removed}
 use Rattle.hm_key.specs.Places.{leading}

@@ -1,8 +1,9 @@
-use Rattle.std.proofs.Common.{◌∙◌, ◌<◌, sym, subst, rules, Result}
-use Rattle.std.specs.Prelude.{IsSome}
+use Rattle.std.proofs.Common.{◌∙◌, ◌<◌, ap, sym, subst, rules, arith, Result}
+use Rattle.std.specs.Prelude.{Option, IsSome, is_some}
 use Rattle.std.proofs.lemmas.Result.{err_from_is_err_and}
 use Rattle.hm_types.specs.declared.fault.Fault.{Fault}
-use Rattle.hm_types.specs.Faults.{HasFaultCause}
+use Rattle.hm_types.specs.Faults.{HasFaultCause, HasStoreCause}
+use Rattle.hm_fields.specs.Pages.{PageMap}
 use Rattle.hm_key.specs.Key.{key_of}
 use Rattle.hm_node.specs.Node.{level_of, IsNode}
 use Rattle.hm_node.specs.declared.node.Node.{Node}
@@ -10,7 +11,7 @@ use Rattle.hm_node.specs.declared.node.Node.TheVariants.{Leaf as leaf_node}
 use Rattle.hm_btree.specs.Below.{HasEditCause}
 use Rattle.hm_btree.specs.Change.{change_of, MayChange, with_change, marking_of}
 use Rattle.hm_btree.specs.Shape.{IsShaped}
-use Rattle.hm_btree.proofs.EditLemmas.{place_within, child_lower, cause_read, cause_below}
+use Rattle.hm_btree.proofs.EditLemmas.{place_within, child_lower, cause_read, cause_below, cause_write}
 use Rattle.hm_btree.proofs.LocalLemmas.{changed_local}
 use Rattle.hm_btree.proofs.ShapeLemmas.{node_shaped, child_offset, mirror_shaped, element_shaped}
 use Rattle.hm_btree.proofs.ToldLemmas.{inner_works, leaf_works, leaf_without}
@@ -88,3 +89,16 @@ returns-after-has_element-clause-shape g t c =
           (element_shaped (key_of c.args.at.now) c.args.change c.in-Leaf.leaf w.change_at.new.leaf c.leaf_place-place.result c.requires.may sound (sym c.has_element.ensures.value ∙ w.if-has_element.true) c.leaf_place-place.ensures w.change_at.ensures.items)
       | else-has_element w ↦ rw w.node-is (node_shaped (leaf_node c.in-Leaf.leaf) sound)
     ]
+
+pub returns-in_err-write_node-in-Inner-clause-cause : goal.returns-in_err-write_node-in-Inner-clause-cause
+returns-in_err-write_node-in-Inner-clause-cause g t c =
+    let told = g.S.Pages.pages c.args.space.now in
+    let mid = g.S.Pages.pages c.change_in.new.space in
+    let old = g.S.Counted.faults c.args.space.now in
+    let middle = g.S.Counted.faults c.change_in.new.space in
+    let new = g.S.Counted.faults c.write_node.new.space in
+    let p = err_from_is_err_and c.from_residual-in_err-write_node-in-Inner.result c.from_residual-in_err-write_node-in-Inner.ensures.1 in
+    let whole = cause_write {T = Unit {0}} told mid c.args.node.now old middle new c.in_err-write_node-in-Inner.field-0.0 (c.in_ok-change_in-in-Inner.ensures.told ∙ ap (λ (o : Option PageMap). is_some o) c.read_node.ensures.same.pages)
+    (omega (arith, c.read_node.ensures.cause.never_falls, c.change_in.ensures.cause.counted.never_falls))
+    (subst (λ (r : Result (Unit {0}) Fault). HasStoreCause mid middle new r) c.in_err-write_node-in-Inner.was c.write_node.ensures.cause) in
+    rw (p.1, p.2) whole

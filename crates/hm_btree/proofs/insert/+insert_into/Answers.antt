@@ -1,9 +1,10 @@
-use Rattle.std.proofs.Common.{◌∙◌, ◌+◌, ◌<◌, ◌≤◌, ◌*◌, ◌-◌, ℕ, max, refl, subst, rules, Result, Err, arith}
-use Rattle.std.specs.Prelude.{Option, IsNone}
+use Rattle.std.proofs.Common.{◌∙◌, ◌+◌, ◌<◌, ◌≤◌, ◌*◌, ◌-◌, ℕ, ap, max, refl, subst, rules, Result, Err, arith}
+use Rattle.std.specs.Prelude.{Option, IsNone, is_some}
 use Rattle.std.proofs.lemmas.Result.{err_from_is_err_and}
 use Rattle.hm_types.specs.Offset.{IsOffset}
 use Rattle.hm_types.specs.declared.fault.Fault.{Fault}
-use Rattle.hm_types.specs.Faults.{HasFaultCause}
+use Rattle.hm_types.specs.Faults.{HasFaultCause, HasStoreCause}
+use Rattle.hm_fields.specs.Pages.{PageMap}
 use Rattle.hm_key.specs.Element.{IsElement}
 use Rattle.hm_key.specs.Elements.{inserted, last_id}
 use Rattle.hm_key.specs.Key.{key_of}
@@ -16,14 +17,15 @@ use Rattle.hm_btree.specs.Below.{HasEditCause}
 use Rattle.hm_btree.specs.Edits.{with_mirror}
 use Rattle.hm_btree.specs.Grow.{Grows}
 use Rattle.hm_btree.specs.Shape.{IsShaped, AreShaped}
+use Rattle.hm_btree.specs.Space.{HasWritten}
 use Rattle.hm_btree.specs.declared.space.TheConstants.{NODE_BYTES}
 use Rattle.hm_btree.specs.declared.upper.Upper.{Upper}
-use Rattle.hm_btree.proofs.EditLemmas.{place_within, child_lower, cause_read, cause_below}
+use Rattle.hm_btree.proofs.EditLemmas.{place_within, child_lower, cause_read, cause_below, cause_write}
 use Rattle.hm_btree.proofs.GrowsLemmas.{leaf_grows, inner_grows}
 use Rattle.hm_btree.proofs.InsertLemmas.{next_within, two_levels, one_more, spends_add, spends_none, room_left}
 use Rattle.hm_btree.proofs.LocalLemmas.{inserted_local}
 use Rattle.hm_btree.proofs.ShapeLemmas.{node_shaped, child_offset, mirror_shaped, inserted_shaped, beside_shaped}
-use Rattle.hm_btree.proofs.ToldLemmas.{inner_works}
+use Rattle.hm_btree.proofs.ToldLemmas.{inner_works, told_written}
 use Rattle.hm_btree.proofs.insert.+insert_into.Goals as goal
 
 pub child-place-requires : goal.child-place-requires
@@ -43,7 +45,7 @@ returns-in_err-child-in-Inner-clause-cause g t c =
     let p = err_from_is_err_and c.from_residual.result c.from_residual.ensures.1 in
     let whole = cause_read told c.args.node.now c.in-Inner.inner c.child_place-i.result c.child-place.result old new fault c.in-Inner.is c.child-place.ensures
     (subst (λ (r : Result Node Fault). HasFaultCause old new r) c.in_err-child-in-Inner.was c.read_node.ensures.cause) c.in_err-child-in-Inner.ensures.damage in
-    let other : HasEditCause {T = Option Upper} told c.args.node.now old new (Err fault) = record { counted = record { never_falls = whole.counted.never_falls; caused = whole.counted.caused }; undamaged = whole.undamaged } in
+    let other : HasEditCause {T = Option Upper} told c.args.node.now old new (Err fault) = record { counted = record { never_falls = whole.counted.never_falls; caused = whole.counted.caused }; damage = whole.damage; undamaged = whole.undamaged } in
     rw (p.1, p.2) other
 
 pub insert_into-requires : goal.insert_into-requires
@@ -219,3 +221,30 @@ returns-in_ok-at-in-Some-clause-shape g t c =
     let next = next_within (with_mirror c.mirror.result) (record { left = c.child-place.result.left; child = 0; mirror = 0 }) c.in-Inner.inner.places.items c.set_mirror.new.inner.places.items c.child_place-i.result c.set_mirror.ensures.items low in
     beside_shaped (max c.set_mirror.new.inner.mirror c.mirror-in-Some.result) (c.child_place-i.result + 1) (record { left = c.in-Some.upper.left; child = c.in_ok-at-in-Some.at; mirror = c.mirror-in-Some.result }) c.set_mirror.new.inner c.insert_beside.new.inner c.insert_beside.result
     shape (record { left = upper.left; child = c.in_ok-at-in-Some.ensures.offset.node }) next c.insert_beside.ensures
+
+pub returns-in_err-write_node-in-Inner-clause-cause : goal.returns-in_err-write_node-in-Inner-clause-cause
+returns-in_err-write_node-in-Inner-clause-cause g t c =
+    let told = g.S.Pages.pages c.args.space.now in
+    let mid = g.S.Pages.pages c.insert_into.new.space in
+    let old = g.S.Counted.faults c.args.space.now in
+    let middle = g.S.Counted.faults c.insert_into.new.space in
+    let new = g.S.Counted.faults c.write_node.new.space in
+    let p = err_from_is_err_and c.from_residual-in_err-write_node-in-Inner.result c.from_residual-in_err-write_node-in-Inner.ensures.1 in
+    let whole = cause_write {T = Option Upper} told mid c.args.node.now old middle new c.in_err-write_node-in-Inner.field-0.0 (c.in_ok-upper-in-Inner.ensures.told ∙ ap (λ (o : Option PageMap). is_some o) c.read_node.ensures.same.pages)
+    (omega (arith, c.read_node.ensures.cause.never_falls, c.insert_into.ensures.cause.counted.never_falls))
+    (subst (λ (r : Result (Unit {0}) Fault). HasStoreCause mid middle new r) c.in_err-write_node-in-Inner.was c.write_node.ensures.cause) in
+    rw (p.1, p.2) whole
+
+pub returns-in_err-at-in-Some-clause-cause : goal.returns-in_err-at-in-Some-clause-cause
+returns-in_err-at-in-Some-clause-cause g t c =
+    let told = g.S.Pages.pages c.args.space.now in
+    let mid = g.S.Pages.pages c.write_node.new.space in
+    let old = g.S.Counted.faults c.args.space.now in
+    let middle = g.S.Counted.faults c.write_node.new.space in
+    let new = g.S.Counted.faults c.add_node.new.space in
+    let p = err_from_is_err_and c.from_residual-in_err-at-in-Some.result c.from_residual-in_err-at-in-Some.ensures.1 in
+    let written = told_written (g.S.Pages.pages c.insert_into.new.space) mid (HasWritten c.child-place.result.at c.insert_into.new.node) c.in_ok-write_node-in-Inner.ensures.ok in
+    let whole = cause_write {T = Option Upper} told mid c.args.node.now old middle new c.in_err-at-in-Some.field-0.0 (written ∙ c.in_ok-upper-in-Inner.ensures.told ∙ ap (λ (o : Option PageMap). is_some o) c.read_node.ensures.same.pages)
+    (omega (arith, c.read_node.ensures.cause.never_falls, c.insert_into.ensures.cause.counted.never_falls, c.write_node.ensures.cause.counted.never_falls))
+    (subst (λ (r : Result ℕ Fault). HasStoreCause mid middle new r) c.in_err-at-in-Some.was c.add_node.ensures.cause) in
+    rw (p.1, p.2) whole

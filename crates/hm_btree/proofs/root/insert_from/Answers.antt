@@ -1,8 +1,14 @@
-use Rattle.std.proofs.Common.{◌∙◌, ◌*◌, ◌-◌, ℕ, subst, arith}
-use Rattle.std.specs.Prelude.{Option, IsNone, IfSome}
-use Rattle.std.proofs.lemmas.Result.{on_ok_weaker}
+use Rattle.std.proofs.Common.{◌∙◌, ◌*◌, ◌-◌, ℕ, ap, subst, arith, Result, Err}
+use Rattle.std.specs.Prelude.{Option, IsNone, IfSome, is_some}
+use Rattle.std.proofs.lemmas.Result.{err_from_is_err_and, on_ok_weaker}
+use Rattle.hm_types.specs.Faults.{HasFaultCause, HasStoreCause}
 use Rattle.hm_types.specs.Offset.{IsOffset}
-use Rattle.hm_fields.specs.Pages.{page_in}
+use Rattle.hm_types.specs.declared.fault.Fault.{Fault}
+use Rattle.hm_node.specs.declared.node.Node.{Node}
+use Rattle.hm_btree.specs.Below.{HasEditCause}
+use Rattle.hm_btree.specs.Space.{HasWritten}
+use Rattle.hm_btree.proofs.ToldLemmas.{told_written}
+use Rattle.hm_fields.specs.Pages.{PageMap}
 use Rattle.hm_key.specs.Element.{IsElement}
 use Rattle.hm_key.specs.Elements.{inserted, last_id}
 use Rattle.hm_key.specs.Key.{key_of}
@@ -16,7 +22,7 @@ use Rattle.hm_btree.specs.declared.space.TheConstants.{NODE_BYTES}
 use Rattle.hm_btree.specs.declared.upper.Upper.{Upper}
 use Rattle.hm_btree.proofs.EndLemmas.{element_inside}
 use Rattle.hm_btree.proofs.InsertLemmas.{spends_add, spends_none, level_room}
-use Rattle.hm_btree.proofs.RootLemmas.{root_works}
+use Rattle.hm_btree.proofs.RootLemmas.{root_cause_below, root_cause_read, root_cause_write, root_works}
 use Rattle.hm_btree.proofs.TopLemmas.{top_result}
 use Rattle.hm_btree.proofs.root.insert_from.Goals as goal
 
@@ -87,3 +93,43 @@ returns-in-Some-clause-space g c =
     let first = spends_add g.S.HasRoom.room g.S.HasRoom.free c.args.space.now c.read_node.new.pages c.insert_into.new.space 0 below below (omega arith) (spends_none g.S.HasRoom.room g.S.HasRoom.free c.args.space.now c.read_node.new.pages 0 same.0 same.1) c.insert_into.ensures.space in
     let second = spends_add g.S.HasRoom.room g.S.HasRoom.free c.args.space.now c.insert_into.new.space c.write_node.new.space below 0 below (omega arith) first (spends_none g.S.HasRoom.room g.S.HasRoom.free c.insert_into.new.space c.write_node.new.space 0 kept.0 kept.1) in
     spends_add g.S.HasRoom.room g.S.HasRoom.free c.args.space.now c.write_node.new.space c.add_root.new.space below (NODE_BYTES * 2) INSERT_ROOM (omega (arith, low)) second c.add_root.ensures.space
+
+pub returns-in_err-node-clause-cause : goal.returns-in_err-node-clause-cause
+returns-in_err-node-clause-cause g c =
+    let old = g.S.Counted.faults c.args.space.now in
+    let new = g.S.Counted.faults c.read_node.new.pages in
+    let p = err_from_is_err_and c.from_residual.result c.from_residual.ensures.1 in
+    let whole = root_cause_read {T = ℕ} (g.S.Pages.pages c.args.space.now) c.args.root old new c.root-place.result c.in_err-node.field-0.0 c.root-place.ensures
+    (subst (λ (r : Result Node Fault). HasFaultCause old new r) c.in_err-node.was c.read_node.ensures.cause) c.in_err-node.ensures.damage in
+    rw (p.1, p.2) whole
+
+pub returns-in_err-upper-clause-cause : goal.returns-in_err-upper-clause-cause
+returns-in_err-upper-clause-cause g c =
+    let told = g.S.Pages.pages c.args.space.now in
+    let now = g.S.Pages.pages c.read_node.new.pages in
+    let old = g.S.Counted.faults c.args.space.now in
+    let mid = g.S.Counted.faults c.read_node.new.pages in
+    let new = g.S.Counted.faults c.insert_into.new.space in
+    let p = err_from_is_err_and c.from_residual-in_err-upper.result c.from_residual-in_err-upper.ensures.1 in
+    let whole = root_cause_below {U = ℕ} told now c.args.root old mid new c.root-place.result c.in_ok-node.node c.in_err-upper.field-0.0 c.root-place.ensures c.read_node.ensures.same.pages c.read_node.ensures.cause.never_falls c.in_ok-node.ensures.ok
+    (subst (λ (r : Result (Option Upper) Fault). HasEditCause now c.in_ok-node.node mid new r) c.in_err-upper.was c.insert_into.ensures.cause) in
+    rw (p.1, p.2) whole
+
+pub returns-in_err-write_node-clause-cause : goal.returns-in_err-write_node-clause-cause
+returns-in_err-write_node-clause-cause g c =
+    let mid = g.S.Pages.pages c.insert_into.new.space in
+    let old = g.S.Counted.faults c.args.space.now in
+    let middle = g.S.Counted.faults c.insert_into.new.space in
+    let new = g.S.Counted.faults c.write_node.new.space in
+    let p = err_from_is_err_and c.from_residual-in_err-write_node.result c.from_residual-in_err-write_node.ensures.1 in
+    let cause = subst (λ (r : Result (Unit {0}) Fault). HasStoreCause mid middle new r) c.in_err-write_node.was c.write_node.ensures.cause in
+    let other : HasStoreCause {T = ℕ} mid middle new (Err c.in_err-write_node.field-0.0) = record { counted = record { never_falls = cause.counted.never_falls; caused = cause.counted.caused }; undamaged = cause.undamaged } in
+    let whole = root_cause_write {T = ℕ} (g.S.Pages.pages c.args.space.now) mid c.args.root old middle new (Err c.in_err-write_node.field-0.0)
+    (c.in_ok-upper.ensures.told ∙ ap (λ (o : Option PageMap). is_some o) c.read_node.ensures.same.pages) (omega (arith, c.read_node.ensures.cause.never_falls, c.insert_into.ensures.cause.counted.never_falls)) other in
+    rw (p.1, p.2) whole
+
+pub returns-in-Some-clause-cause : goal.returns-in-Some-clause-cause
+returns-in-Some-clause-cause g c =
+    let written = told_written (g.S.Pages.pages c.insert_into.new.space) (g.S.Pages.pages c.write_node.new.space) (HasWritten c.args.root c.insert_into.new.node) c.in_ok-write_node.ensures.ok in
+    root_cause_write (g.S.Pages.pages c.args.space.now) (g.S.Pages.pages c.write_node.new.space) c.args.root (g.S.Counted.faults c.args.space.now) (g.S.Counted.faults c.write_node.new.space) (g.S.Counted.faults c.add_root.new.space) c.add_root.result
+    (written ∙ c.in_ok-upper.ensures.told ∙ ap (λ (o : Option PageMap). is_some o) c.read_node.ensures.same.pages) (omega (arith, c.read_node.ensures.cause.never_falls, c.insert_into.ensures.cause.counted.never_falls, c.write_node.ensures.cause.counted.never_falls)) c.add_root.ensures.cause

@@ -20,7 +20,7 @@ returns-in_err-root-clause-cause g c =
     let new = g.S.Counted.faults c.insert_from.new.space in
     let fault = c.in_err-root.field-0.0 in
     let cause = subst (λ (r : Result ℕ Fault). HasTreeCause told c.args.self.now.root old new r) c.in_err-root.was c.insert_from.ensures.cause in
-    let other : HasTreeCause {T = Unit {0}} told c.args.self.now.root old new (Err fault) = record { counted = record { never_falls = cause.counted.never_falls; caused = cause.counted.caused }; undamaged = cause.undamaged } in
+    let other : HasTreeCause {T = Unit {0}} told c.args.self.now.root old new (Err fault) = record { counted = record { never_falls = cause.counted.never_falls; caused = cause.counted.caused }; damage = cause.damage; undamaged = cause.undamaged } in
     let whole = store_cause c.args.self.now.intact told c.args.self.now.root old new (Err fault) c.args.self.now.sound other in
     rw (p.1, p.2) whole
 
