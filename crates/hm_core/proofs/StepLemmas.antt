@@ -11,7 +11,7 @@ use Rattle.hm_model.specs.declared.entry.Entry.{Entry}
 use Rattle.hm_model.specs.declared.reply.Reply.{Reply}
 use Rattle.hm_model.specs.declared.reply.Reply.TheVariants.{Done, Listing, Exists, Future, NotRetained, NoSpace, NoMemory}
 use Rattle.hm_model.specs.declared.served.TheConstants.{MOST_DIRECTORIES}
-use Rattle.hm_model.specs.Tree.{has_name, entries_in, root_number, root_tree}
+use Rattle.hm_types.specs.Tree.{has_name, entries_in, root_number, root_tree}
 use Rattle.hm_model.specs.View.{When, Now, AsOf}
 use Rattle.hm_model.specs.Volume.{Volume, at, shown}
 use Rattle.hm_model.specs.Answer.{listing}

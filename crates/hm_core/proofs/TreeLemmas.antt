@@ -9,10 +9,10 @@ use Rattle.std.specs.Cmp.Lexicographic.{slice_cmp}
 use Rattle.std.specs.Map.{lookup}
 use Rattle.std.specs.BTreeMap.{is_at}
 use Rattle.hm_types.specs.declared.id.Id.{Id}
-use Rattle.hm_model.specs.declared.object.Object.{Object}
-use Rattle.hm_model.specs.declared.object.Triple.{Triple}
-use Rattle.hm_model.specs.declared.object.Kind.TheVariants.{Directory as IsDir}
-use Rattle.hm_model.specs.Tree.{FileTree, root_number, root_tree, directory_of, is_named, insert_by, is_object_before, is_triple_before, has_name, entries_in}
+use Rattle.hm_types.specs.declared.object.Object.{Object}
+use Rattle.hm_types.specs.declared.object.Triple.{Triple}
+use Rattle.hm_types.specs.declared.object.Kind.TheVariants.{Directory as IsDir}
+use Rattle.hm_types.specs.Tree.{FileTree, root_number, root_tree, directory_of, is_named, insert_by, is_object_before, is_triple_before, has_name, entries_in}
 use Rattle.hm_model.specs.Answer.{entry_kind, kind_number, listing}
 use Rattle.hm_core.specs.declared.directory.Directory.{Directory}
 use Rattle.hm_core.specs.Directories.{with_one}

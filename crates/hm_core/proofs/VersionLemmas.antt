@@ -13,7 +13,7 @@ use Rattle.std.proofs.lemmas.Bool.Decides.{nat_tests}
 use Rattle.std.specs.declared.cmp.Ordering.TheVariants.{Equal, Greater}
 use Rattle.std.proofs.Common.{None, Some, Ordering}
 use Rattle.hm_types.specs.declared.id.Id.{Id}
-use Rattle.hm_model.specs.Tree.{FileTree, no_tree, root_tree}
+use Rattle.hm_types.specs.Tree.{FileTree, no_tree, root_tree}
 use Rattle.hm_model.specs.Volume.{as_of, at, shown}
 use Rattle.hm_core.specs.declared.directory.Directory.{Directory}
 use Rattle.hm_core.specs.Directories.{versions_from, volume_of, with_one, id_of}

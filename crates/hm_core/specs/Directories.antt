@@ -6,7 +6,7 @@ use Rattle.std.specs.Ordering.{nat_cmp}
 use Rattle.std.specs.Str.{bytes_eq}
 use Rattle.hm_types.specs.Name.{IsName}
 use Rattle.hm_model.specs.declared.served.TheConstants.{MOST_DIRECTORIES}
-use Rattle.hm_model.specs.Tree.{FileTree, root_number, root_tree, directory_of, with_object}
+use Rattle.hm_types.specs.Tree.{FileTree, root_number, root_tree, directory_of, with_object}
 use Rattle.hm_model.specs.Volume.{Volume, new_master}
 use Rattle.hm_core.specs.declared.directory.Directory.{Directory}
 

@@ -8,7 +8,7 @@ use Rattle.hm_model.specs.Call.{Call, first_site, own_id, second_site}
 use Rattle.hm_model.specs.Change.{change, changed, changed_pfs, new_slave}
 use Rattle.hm_model.specs.Cut.{cut, greatest, pruned, single, within}
 use Rattle.hm_model.specs.Due.{is_tree_call, kept_ids, new_pfs}
-use Rattle.hm_model.specs.Tree.{FileTree, no_tree, root_tree}
+use Rattle.hm_types.specs.Tree.{FileTree, no_tree, root_tree}
 use Rattle.hm_model.specs.View.{Now}
 use Rattle.hm_model.specs.Volume.{Origin, Nowhere, Local, PseudoFileSystem, Volume, add_version, as_of, new_master, open_end, system_of}
 use Rattle.hm_model.proofs.ChangeLemmas.{new_cases, versioned}

@@ -8,7 +8,7 @@ use Rattle.hm_types.specs.declared.id.Obj.{Obj}
 use Rattle.hm_types.specs.declared.limits.TheConstants.{GREATEST_ID, MOST_INTERVALS}
 use Rattle.hm_model.specs.declared.command.Command.{Command}
 use Rattle.hm_model.specs.declared.command.Command.TheVariants.{Mkdir, Touch, Symlink, Snapshot, Ln, Mv, Write, Fill, Truncate, Rm, Rmdir, Ls, Cat, Readlink, Prune, PfsMaster, PfsSlave, PfsUpgrade, MirrorRead, MirrorWrite, MirrorCopy}
-use Rattle.hm_model.specs.declared.object.Object.{Object}
+use Rattle.hm_types.specs.declared.object.Object.{Object}
 use Rattle.hm_model.specs.declared.reply.Reply.{Reply}
 use Rattle.hm_model.specs.declared.reply.Reply.TheVariants.{BadPath, Busy, Exists, Future, HashFull, IdsSpent, NotMaster, NotSlave, ReadOnly, SharedDiffers, TooManyIntervals}
 use Rattle.hm_model.specs.Answer.{is_master}

@@ -5,7 +5,7 @@ use Rattle.std.specs.List.{AllByRecursion}
 use Rattle.std.specs.Option.{option_map_or}
 use Rattle.hm_types.specs.declared.id.Id.{Id}
 use Rattle.hm_path.specs.declared.part.Part.{Part}
-use Rattle.hm_model.specs.declared.object.Object.{Object}
+use Rattle.hm_types.specs.declared.object.Object.{Object}
 use Rattle.hm_model.specs.declared.reply.Reply.{Reply}
 use Rattle.hm_model.specs.declared.reply.Reply.TheVariants.{NotDir, NotFound, NotRetained}
 use Rattle.hm_model.specs.Call.{Call, each_located, located}

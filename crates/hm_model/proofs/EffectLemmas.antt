@@ -16,7 +16,7 @@ use Rattle.hm_model.specs.Foreign.{no_feed}
 use Rattle.hm_model.specs.Due.{is_tree_call, kept_ids}
 use Rattle.hm_model.specs.Laws.{IsUnfed, is_rewriter, rewrites, versions_of}
 use Rattle.hm_model.specs.Reply.{is_refusal}
-use Rattle.hm_model.specs.Tree.{FileTree}
+use Rattle.hm_types.specs.Tree.{FileTree}
 use Rattle.hm_model.specs.Volume.{Local, PseudoFileSystem, Role, Master, Slave, Volume, system_of}
 use Rattle.hm_model.proofs.ChangeLemmas.{Grows-change}
 use Rattle.hm_model.proofs.GrowthLemmas.{Grows, Grows-changed, Grows-same, KeepsNumber, found-other, versions_in}

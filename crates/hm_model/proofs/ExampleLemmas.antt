@@ -9,7 +9,7 @@ use Rattle.hm_model.specs.After.{Event, State}
 use Rattle.hm_model.specs.Caused.{Counts, HasNumbers, Known, takes_stream}
 use Rattle.hm_model.specs.Examples.{a_foreign_stream, a_pruned_end, a_stream_is_sent, a_stream_of_nobody, an_upgrade, by_id, by_name, fed_with, mirror_copies, of_new_volume, of_nobody, on_fresh, on_new, new_volume, reads_of_the_past, snapshots_and_prune, stream_end}
 use Rattle.hm_model.specs.Foreign.{ForeignMaster, StreamEnd}
-use Rattle.hm_model.specs.Hash.{name_hash}
+use Rattle.hm_types.specs.Hash.{name_hash}
 use Rattle.hm_model.specs.Laws.{AreRising, ShowsTrees, versions_of}
 use Rattle.hm_model.specs.Volume.{at}
 use Rattle.hm_model.specs.Legal.{IsLegal, IsUndamaged, NamesAdded}

@@ -5,7 +5,7 @@ use Rattle.std.specs.Option.{option_map_or}
 use Rattle.hm_model.specs.After.{Event, State, opening_state}
 use Rattle.hm_model.specs.Laws.{AreRising, BeginBy, FollowsMaster, IsMasterThroughout, IsSteadyMaster, retention_of, versions_of}
 use Rattle.hm_model.specs.Legal.{IsLegal, Setting, state_after}
-use Rattle.hm_model.specs.Tree.{no_tree}
+use Rattle.hm_types.specs.Tree.{no_tree}
 use Rattle.hm_model.specs.Volume.{Origin, Nowhere, Local, Foreign, Mixed, PseudoFileSystem, Slave, Volume, as_of, at, system_of}
 use Rattle.hm_model.proofs.GrowthLemmas.{at-versions, versions_in}
 use Rattle.hm_model.proofs.SourceLemmas.{Follows}

@@ -21,7 +21,7 @@ use Rattle.hm_model.specs.Foreign.{Feed, ForeignMaster, no_feed}
 use Rattle.hm_model.specs.Laws.{EndsPass, FollowsForeign, IsThere, Makes, ShowsTrees, merges, rewrites}
 use Rattle.hm_model.specs.Legal.{IsBrought, IsLegal, MayFollow, Setting, state_after}
 use Rattle.hm_model.specs.Reply.{is_refusal}
-use Rattle.hm_model.specs.Tree.{FileTree, no_tree}
+use Rattle.hm_types.specs.Tree.{FileTree, no_tree}
 use Rattle.hm_model.specs.Volume.{Origin, Nowhere, Local, Foreign, Mixed, PseudoFileSystem, Slave, Volume, as_of, at, system_of}
 use Rattle.hm_model.proofs.AgeLemmas.{Ages, AgesIn, ages_accepted}
 use Rattle.hm_model.proofs.EffectLemmas.{accepted_cases, effect_cases}

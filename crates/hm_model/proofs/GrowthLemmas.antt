@@ -7,7 +7,7 @@ use Rattle.std.specs.List.{AllByRecursion}
 use Rattle.std.specs.Option.{option_map_or}
 use Rattle.std.proofs.lemmas.Bool.Decides.{nat_tests}
 use Rattle.hm_model.specs.Laws.{versions_of}
-use Rattle.hm_model.specs.Tree.{FileTree, no_tree}
+use Rattle.hm_types.specs.Tree.{FileTree, no_tree}
 use Rattle.hm_model.specs.Volume.{PseudoFileSystem, Volume, as_of, at, system_of}
 
 -- the first PFS with a number among some, and its versions

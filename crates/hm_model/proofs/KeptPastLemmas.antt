@@ -16,7 +16,7 @@ use Rattle.hm_model.specs.Caused.{is_ending}
 use Rattle.hm_model.specs.Laws.{EndsPass, EndsUpgrade, merges}
 use Rattle.hm_model.specs.Legal.{MayFollow, Setting, begin_of, state_after}
 use Rattle.hm_model.specs.Reply.{is_refusal}
-use Rattle.hm_model.specs.Tree.{FileTree, no_tree}
+use Rattle.hm_types.specs.Tree.{FileTree, no_tree}
 use Rattle.hm_model.specs.Volume.{PseudoFileSystem, Volume, as_of, at, system_of}
 use Rattle.hm_model.proofs.EffectLemmas.{accepted_grows}
 use Rattle.hm_model.proofs.GrowthLemmas.{KeepsNumber, at-grown, at-versions, found-changed, found-other, same_or_not, versions_in}

@@ -4,7 +4,7 @@ use Rattle.std.specs.Prelude.{Bool, Option, Some, None, if◌then◌else◌}
 use Rattle.std.specs.Option.{option_map_or}
 use Rattle.hm_model.specs.declared.command.Command.{Command}
 use Rattle.hm_model.specs.declared.command.Command.TheVariants.{Ls, Cat, Stat, Readlink, Sync, Synctid, PfsMaster, PfsSlave, PfsStatus, PfsUpgrade, MirrorRead, MirrorWrite, MirrorCopy, Df, Progress}
-use Rattle.hm_model.specs.declared.object.Object.{Object}
+use Rattle.hm_types.specs.declared.object.Object.{Object}
 use Rattle.hm_model.specs.declared.reply.Reply.{Reply}
 use Rattle.hm_model.specs.declared.reply.Reply.TheVariants.{Content as Bytes, Done, Listing, MadePfs, Media, NoMemory, NoSpace, NotFound, Status, Target as Text}
 use Rattle.hm_model.specs.Answer.{answer, answer_at, file_bytes, kind_number, listing, record_of, size_of, target_of}
@@ -14,7 +14,7 @@ use Rattle.hm_model.specs.Due.{Check, accepted, early_checks, first_refusal, has
 use Rattle.hm_model.specs.Legal.{IsAccepted, IsDue, IsException, IsReply, IsSpace, IsSynced, Lands, NamesAdded}
 use Rattle.hm_model.specs.Reply.{is_refusal}
 use Rattle.hm_model.specs.Sites.{Site}
-use Rattle.hm_model.specs.Tree.{FileTree}
+use Rattle.hm_types.specs.Tree.{FileTree}
 use Rattle.hm_model.proofs.CheckLemmas.{no_first, no_rest, refusal_refuses}
 use Rattle.hm_model.proofs.DueLemmas.{of_option}
 

@@ -1,7 +1,7 @@
 -- Walks whose last part names a PFS link.
 use Rattle.std.proofs.Common.{◌≡◌, ℕ, List, [], ◌∷◌, ◌++◌, refl, ◌∙◌, ap, sym}
 use Rattle.std.specs.Prelude.{Some, None}
-use Rattle.hm_model.specs.declared.object.Object.{Object}
+use Rattle.hm_types.specs.declared.object.Object.{Object}
 use Rattle.hm_model.specs.Laws.{NamesLink}
 use Rattle.hm_model.specs.View.{Position, View, object_at}
 use Rattle.hm_model.specs.Volume.{Volume}

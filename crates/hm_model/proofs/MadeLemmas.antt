@@ -15,7 +15,7 @@ use Rattle.hm_model.specs.Due.{new_pfs}
 use Rattle.hm_model.specs.Laws.{AreRising, BeginBy, FollowsMaster, IsMasterFrom, IsSteadyMaster, IsThere, IsUnfed, Makes, events_to, rewrites, versions_of}
 use Rattle.hm_model.specs.Legal.{IsLegal, MayFollow, Setting, state_after}
 use Rattle.hm_model.specs.Reply.{is_refusal}
-use Rattle.hm_model.specs.Tree.{FileTree, root_tree}
+use Rattle.hm_types.specs.Tree.{FileTree, root_tree}
 use Rattle.hm_model.specs.Volume.{PseudoFileSystem, Volume, at, new_master, shown, system_of}
 use Rattle.hm_model.proofs.EffectLemmas.{Grows-event}
 use Rattle.hm_model.proofs.EventLemmas.{IdsFollow, IsLegal-beginning, after_events-push, ids_follow}

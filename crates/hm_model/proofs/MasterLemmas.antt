@@ -8,7 +8,7 @@ use Rattle.hm_model.specs.After.{Event, State, after_event, after_events, last_a
 use Rattle.hm_model.specs.Caused.{Known, known_after_entry, known_at}
 use Rattle.hm_model.specs.Laws.{BeginBy, IsMasterThroughout, IsSteadyMaster, IsUnfed, events_to, versions_of}
 use Rattle.hm_model.specs.Legal.{IsLegal, Setting, state_after}
-use Rattle.hm_model.specs.Tree.{FileTree, no_tree}
+use Rattle.hm_types.specs.Tree.{FileTree, no_tree}
 use Rattle.hm_model.specs.Volume.{as_of, at, shown}
 use Rattle.hm_model.proofs.EffectLemmas.{Grows-event}
 use Rattle.hm_model.proofs.EventLemmas.{IdsFollow, ids_follow}

@@ -9,7 +9,7 @@ use Rattle.hm_model.specs.declared.command.Command.TheVariants.{PfsMaster, PfsSl
 use Rattle.hm_model.specs.Call.{Call, own_id}
 use Rattle.hm_model.specs.Change.{change, changed, changed_pfs, new_slave, with_system}
 use Rattle.hm_model.specs.Due.{new_pfs}
-use Rattle.hm_model.specs.Tree.{FileTree, root_tree}
+use Rattle.hm_types.specs.Tree.{FileTree, root_tree}
 use Rattle.hm_model.specs.View.{Now}
 use Rattle.hm_model.specs.Volume.{PseudoFileSystem, Volume, add_version, new_master, system_of}
 use Rattle.hm_model.proofs.ChangeLemmas.{new_cases, versioned}

@@ -17,7 +17,7 @@ use Rattle.hm_model.specs.Cut.{cut, greatest, pruned, single, snapshot_ids, with
 use Rattle.hm_model.specs.Due.{is_tree_call, kept_ids, new_pfs}
 use Rattle.hm_model.specs.Laws.{IsMasterFrom, IsOpenEnded, IsSteadyMaster, IsUnfed, Makes, retention_of}
 use Rattle.hm_model.specs.Legal.{IsLegal, MayFollow, Setting, state_after}
-use Rattle.hm_model.specs.Tree.{FileTree, root_tree}
+use Rattle.hm_types.specs.Tree.{FileTree, root_tree}
 use Rattle.hm_model.specs.View.{Now}
 use Rattle.hm_model.specs.Volume.{Local, Master, PseudoFileSystem, Role, Slave, Volume, add_version, new_master, open_end, system_of}
 use Rattle.hm_model.proofs.ChangeLemmas.{new_cases, versioned}

@@ -7,7 +7,7 @@ use Rattle.hm_types.specs.declared.id.Obj.{Obj}
 use Rattle.hm_model.specs.declared.command.Command.{Command}
 use Rattle.hm_model.specs.declared.command.Command.TheVariants.{Mkdir, Touch, Symlink, Snapshot, Ln, Mv, Write, Fill, Truncate, Rm, Rmdir, Ls, Cat, Stat, Readlink}
 use Rattle.hm_model.specs.declared.reply.Reply.{Reply}
-use Rattle.hm_model.specs.Tree.{FileTree}
+use Rattle.hm_types.specs.Tree.{FileTree}
 use Rattle.hm_model.specs.Sites.{Parsed}
 use Rattle.hm_model.specs.Call.{first_site, second_site}
 use Rattle.hm_model.specs.Due.{Check, first_refusal, own_checks}

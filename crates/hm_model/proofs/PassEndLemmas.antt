@@ -14,7 +14,7 @@ use Rattle.hm_model.specs.Call.{Call}
 use Rattle.hm_model.specs.Laws.{AreRising, EndsPass, merges, versions_of}
 use Rattle.hm_model.specs.Legal.{IsAllowed, IsBrought, IsEnding, IsPassed, MayFollow, Setting, begin_of, call_after, enters_unclear, floor_after, state_after}
 use Rattle.hm_model.specs.Reply.{is_refusal}
-use Rattle.hm_model.specs.Tree.{no_tree}
+use Rattle.hm_types.specs.Tree.{no_tree}
 use Rattle.hm_model.specs.Volume.{PseudoFileSystem, Volume, as_of, at, system_of}
 use Rattle.hm_model.proofs.GrowthLemmas.{at-versions, changed_in, found-changed, found-other, found_in, versions_in}
 use Rattle.hm_model.proofs.PassLemmas.{given-versions, given_in-versions, passed-after, passed-before}

@@ -10,7 +10,7 @@ use Rattle.hm_model.specs.declared.command.Command.TheVariants.{MirrorWrite}
 use Rattle.hm_model.specs.After.{Given, OpenCall, given_by, given_by_stream, given_in, nothing_given, origin_of, passed_versions, versions_between, versions_to}
 use Rattle.hm_model.specs.Foreign.{ForeignMaster}
 use Rattle.hm_model.specs.Laws.{AreRising, RiseFrom}
-use Rattle.hm_model.specs.Tree.{FileTree, no_tree}
+use Rattle.hm_types.specs.Tree.{FileTree, no_tree}
 use Rattle.hm_model.specs.Volume.{PseudoFileSystem, Volume, as_of, at, system_of}
 use Rattle.hm_model.proofs.GrowthLemmas.{at-versions, versions_in}
 

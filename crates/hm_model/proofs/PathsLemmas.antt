@@ -10,7 +10,7 @@ use Rattle.hm_model.specs.declared.place.Place.{Place}
 use Rattle.hm_model.specs.declared.reply.Reply.{Reply}
 use Rattle.hm_model.specs.declared.stop.Stop.{Stop}
 use Rattle.hm_model.specs.declared.stop.Stop.TheVariants.{Refused, NoMemory}
-use Rattle.hm_model.specs.Tree.{FileTree}
+use Rattle.hm_types.specs.Tree.{FileTree}
 use Rattle.hm_model.specs.Volume.{fresh_with}
 use Rattle.hm_model.specs.Sites.{Use, MakesName, Parsed, Parts, IsParsed, Site, At, locate, no_site, uses_of}
 use Rattle.hm_model.specs.Call.{Call, all_located, each_located}

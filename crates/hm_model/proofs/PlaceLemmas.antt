@@ -9,7 +9,7 @@ use Rattle.hm_model.specs.declared.reply.Reply.TheVariants.{NotDir, BadPath}
 use Rattle.hm_model.specs.declared.stop.Stop.{Stop}
 use Rattle.hm_model.specs.declared.stop.Stop.TheVariants.{Refused, NoMemory}
 use Rattle.hm_model.specs.declared.walk.Walk.{Walk}
-use Rattle.hm_model.specs.Tree.{FileTree, object_in}
+use Rattle.hm_types.specs.Tree.{FileTree, object_in}
 use Rattle.hm_model.specs.View.{Position}
 use Rattle.hm_model.specs.Walk.{Walked, Reaches, Refuses, Stays, Follows, is_directory}
 use Rattle.hm_model.specs.Sites.{MakesName, TakesName, Walks, Parts, Located, At, Nowhere, at_end, front_of, in_directory, last_name, standing_name}

@@ -12,7 +12,7 @@ use Rattle.hm_model.specs.declared.command.Command.TheVariants.{Ls, Cat, Stat, R
 use Rattle.hm_model.specs.declared.place.Place.{Place}
 use Rattle.hm_model.specs.declared.reply.Reply.{Reply}
 use Rattle.hm_model.specs.declared.reply.Reply.TheVariants.{ReadOnly}
-use Rattle.hm_model.specs.Tree.{FileTree, no_tree}
+use Rattle.hm_types.specs.Tree.{FileTree, no_tree}
 use Rattle.hm_model.specs.Volume.{PseudoFileSystem, as_of, fresh_with, new_master, shown_id}
 use Rattle.hm_model.specs.View.{View, When, Now, AsOf, is_clear, own_tree, substituted, view_of}
 use Rattle.hm_model.specs.Sites.{Use, Parsed, Site, At, uses_of}

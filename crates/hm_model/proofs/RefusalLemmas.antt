@@ -12,7 +12,7 @@ use Rattle.hm_model.specs.After.{Event, OpenCall, State, accepted_effect, call_o
 use Rattle.hm_model.specs.Caused.{is_ending}
 use Rattle.hm_model.specs.Laws.{IsButOrigin}
 use Rattle.hm_model.specs.Reply.{is_refusal}
-use Rattle.hm_model.specs.Tree.{FileTree, no_tree}
+use Rattle.hm_types.specs.Tree.{FileTree, no_tree}
 use Rattle.hm_model.specs.Volume.{Origin, PseudoFileSystem, Volume, as_of}
 
 -- a call that is no ending goes the other way

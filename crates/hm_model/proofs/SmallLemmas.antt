@@ -20,12 +20,12 @@ use Rattle.hm_model.specs.Change.{change, changed, changed_pfs, new_slave}
 use Rattle.hm_model.specs.Cut.{cut, join, maximal, pruned, single, snapshot_ids, with_interval, within}
 use Rattle.hm_model.specs.Due.{intervals_left, is_tree_call, kept_ids, new_pfs, pruned_count, Check, refuse_if}
 use Rattle.hm_model.specs.Foreign.{no_feed}
-use Rattle.hm_model.specs.Hash.{name_hash}
+use Rattle.hm_types.specs.Hash.{name_hash}
 use Rattle.hm_model.specs.Laws.{AreSmall, EndsPass, merges}
 use Rattle.hm_model.specs.Legal.{IsLegal, IsPassed, MayFollow, Setting, begin_of, gained_count, joined_count, state_after}
 use Rattle.hm_model.specs.Reply.{is_refusal}
 use Rattle.hm_model.specs.Sites.{Site, uses_of}
-use Rattle.hm_model.specs.Tree.{FileTree, root_tree}
+use Rattle.hm_types.specs.Tree.{FileTree, root_tree}
 use Rattle.hm_model.specs.View.{Now}
 use Rattle.hm_model.specs.Volume.{Local, PseudoFileSystem, Volume, add_version, new_master, open_end, system_of}
 use Rattle.hm_model.specs.Walk.{holds}

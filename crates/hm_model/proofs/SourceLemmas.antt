@@ -9,7 +9,7 @@ use Rattle.hm_model.specs.declared.command.Command.TheVariants.{MirrorCopy, Mirr
 use Rattle.hm_model.specs.After.{fed_from, is_origin, stream_origin, with_origin}
 use Rattle.hm_model.specs.Due.{is_pass}
 use Rattle.hm_model.specs.Foreign.{Feed, ForeignMaster}
-use Rattle.hm_model.specs.Tree.{no_tree}
+use Rattle.hm_types.specs.Tree.{no_tree}
 use Rattle.hm_model.specs.Volume.{Origin, Nowhere, Local, Foreign, Mixed, PseudoFileSystem, Slave, as_of}
 use Rattle.hm_model.proofs.AgeLemmas.{Ages}
 

@@ -14,7 +14,7 @@ use Rattle.hm_model.specs.Change.{change}
 use Rattle.hm_model.specs.Cut.{pruned}
 use Rattle.hm_model.specs.Foreign.{no_feed}
 use Rattle.hm_model.specs.Due.{first_refusal, is_tree_call, kept_ids, record_checks}
-use Rattle.hm_model.specs.Hash.{name_hash}
+use Rattle.hm_types.specs.Hash.{name_hash}
 use Rattle.hm_model.specs.Laws.{IsMasterThroughout, IsSteadyMaster, IsUnfed, is_rewriter, rewrites}
 use Rattle.hm_model.specs.Legal.{IsLegal, MayFollow, Setting, state_after}
 use Rattle.hm_model.specs.Reply.{is_refusal}

@@ -15,7 +15,7 @@ use Rattle.hm_model.specs.After.{Given, OpenCall, State, after_pass, end_effect,
 use Rattle.hm_model.specs.Cut.{join, within}
 use Rattle.hm_model.specs.Laws.{AreRising, is_rewriter, merges, rewrites}
 use Rattle.hm_model.specs.Legal.{begin_of}
-use Rattle.hm_model.specs.Tree.{no_tree}
+use Rattle.hm_types.specs.Tree.{no_tree}
 use Rattle.hm_model.specs.Volume.{Origin, Nowhere, Local, Foreign, Mixed, PseudoFileSystem, Slave, Volume, as_of, system_of}
 use Rattle.hm_model.proofs.EffectLemmas.{apart}
 use Rattle.hm_model.proofs.GrowthLemmas.{KeepsNumber, at-versions, found-changed, found-other, same_or_not, versions_in}

@@ -12,7 +12,7 @@ use Rattle.hm_model.specs.Cut.{pruned}
 use Rattle.hm_model.specs.Due.{is_pass, is_tree_call, kept_ids}
 use Rattle.hm_model.specs.Foreign.{Feed, no_feed}
 use Rattle.hm_model.specs.Laws.{AreRising, BeginBy, RiseFrom, versions_of}
-use Rattle.hm_model.specs.Tree.{FileTree}
+use Rattle.hm_types.specs.Tree.{FileTree}
 use Rattle.hm_model.specs.Volume.{Origin, Nowhere, Local, PseudoFileSystem, Slave, Volume, system_of}
 use Rattle.hm_model.proofs.AgeLemmas.{Ages, AgesIn, ages_accepted}
 use Rattle.hm_model.proofs.EffectLemmas.{accepted_grows}

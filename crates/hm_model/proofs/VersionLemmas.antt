@@ -4,7 +4,7 @@ use Rattle.std.specs.Prelude.{if◌then◌else◌}
 use Rattle.std.specs.Bool.{nat_le}
 use Rattle.std.specs.List.{AllByRecursion}
 use Rattle.std.proofs.lemmas.Bool.Decides.{nat_tests}
-use Rattle.hm_model.specs.Tree.{FileTree}
+use Rattle.hm_types.specs.Tree.{FileTree}
 use Rattle.hm_model.specs.Volume.{as_of}
 
 -- the newest version is shown from its first id on

@@ -6,7 +6,7 @@ use Rattle.hm_model.specs.declared.reply.Reply.{Reply}
 use Rattle.hm_model.specs.declared.stop.Stop.{Stop}
 use Rattle.hm_model.specs.declared.stop.Stop.TheVariants.{Refused, NoMemory}
 use Rattle.hm_model.specs.declared.walk.Walk.{Walk}
-use Rattle.hm_model.specs.Tree.{FileTree}
+use Rattle.hm_types.specs.Tree.{FileTree}
 use Rattle.hm_model.specs.Volume.{Volume}
 use Rattle.hm_model.specs.View.{View, Position}
 use Rattle.hm_model.specs.Walk.{Follow, Follows, Walked, Reaches, Refuses, Passed, and_then, follow_before, start, step, walk_on}

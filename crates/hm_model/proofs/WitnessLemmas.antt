@@ -9,7 +9,7 @@ use Rattle.hm_model.specs.Foreign.{no_feed, no_foreigners}
 use Rattle.hm_model.specs.Change.{new_slave}
 use Rattle.hm_model.specs.Laws.{AreClear, AreRising, BeginBy, EndsPass, FollowsMaster, IsMasterThroughout, versions_of}
 use Rattle.hm_model.specs.Legal.{IsLegal, MayFollow, Setting, no_counts}
-use Rattle.hm_model.specs.Tree.{root_tree}
+use Rattle.hm_types.specs.Tree.{root_tree}
 use Rattle.hm_model.specs.Volume.{Local, Nowhere, PseudoFileSystem, Volume, new_master}
 use Rattle.hm_model.proofs.EventLemmas.{IsLegal-goes_on}
 use Rattle.hm_model.proofs.HistoryLemmas.{last_or_before, nothing_in_none}

@@ -9,7 +9,7 @@ use Rattle.hm_model.specs.declared.entry.Entry.{Entry}
 use Rattle.hm_model.specs.declared.reply.Reply.{Reply}
 use Rattle.hm_model.specs.declared.reply.Reply.TheVariants.{Passed, Finished, SharedDiffers, BeginDiffers, StreamBad, StreamShort}
 use Rattle.hm_model.specs.Reply.{is_refusal}
-use Rattle.hm_model.specs.Tree.{FileTree, no_tree}
+use Rattle.hm_types.specs.Tree.{FileTree, no_tree}
 use Rattle.hm_model.specs.Volume.{Volume, PseudoFileSystem, Role, Master, Slave, Origin, Nowhere, Local, Foreign, Mixed, at, open_end, system_of}
 use Rattle.hm_model.specs.View.{Substitute, view_of}
 use Rattle.hm_model.specs.Sites.{Parsed}

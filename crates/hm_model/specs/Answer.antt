@@ -7,14 +7,14 @@ use Rattle.hm_model.specs.declared.command.Command.{Command}
 use Rattle.hm_model.specs.declared.command.Command.TheVariants.{Ls, Cat, Stat, Readlink, PfsStatus}
 use Rattle.hm_model.specs.declared.reply.Reply.{Reply}
 use Rattle.hm_model.specs.declared.reply.Reply.TheVariants.{Done, Listing, Content as Bytes, Status, Target as Text, PfsIs, NotFound}
-use Rattle.hm_model.specs.declared.object.Object.{Object}
-use Rattle.hm_model.specs.declared.object.Kind.{Kind}
-use Rattle.hm_model.specs.declared.object.Kind.TheVariants.{Directory, File, Softlink, PfsLink}
-use Rattle.hm_model.specs.declared.object.Content.{Content}
-use Rattle.hm_model.specs.declared.object.Content.TheVariants.{Nothing, File as FileBytes, Target, Linked}
+use Rattle.hm_types.specs.declared.object.Object.{Object}
+use Rattle.hm_types.specs.declared.object.Kind.{Kind}
+use Rattle.hm_types.specs.declared.object.Kind.TheVariants.{Directory, File, Softlink, PfsLink}
+use Rattle.hm_types.specs.declared.object.Content.{Content}
+use Rattle.hm_types.specs.declared.object.Content.TheVariants.{Nothing, File as FileBytes, Target, Linked}
 use Rattle.hm_model.specs.Reply.{five_digits}
 use Rattle.hm_model.specs.Bytes.{read_at}
-use Rattle.hm_model.specs.Tree.{FileTree, entries_in, object_in}
+use Rattle.hm_types.specs.Tree.{FileTree, entries_in, object_in}
 use Rattle.hm_model.specs.Volume.{Volume, PseudoFileSystem, Role, Master, Slave, system_of}
 use Rattle.hm_model.specs.View.{Position}
 use Rattle.hm_model.specs.Sites.{Site}

@@ -3,8 +3,8 @@ use Rattle.std.specs.Prelude.{ℕ, ◌+◌, List, [], ◌∷◌, Option, Some, N
 use Rattle.std.specs.Option.{option_map_or}
 use Rattle.hm_types.specs.declared.id.Obj.{Obj}
 use Rattle.hm_model.specs.declared.command.Command.{Command}
-use Rattle.hm_model.specs.declared.object.Object.{Object}
-use Rattle.hm_model.specs.Tree.{FileTree, object_in, named_in}
+use Rattle.hm_types.specs.declared.object.Object.{Object}
+use Rattle.hm_types.specs.Tree.{FileTree, object_in, named_in}
 use Rattle.hm_model.specs.Volume.{Volume, PseudoFileSystem, system_of, shown_id}
 use Rattle.hm_model.specs.View.{View, Position, object_at}
 use Rattle.hm_model.specs.Sites.{Use, Parsed, Parts, BadAt, Site, Located, At, Nowhere, locate, no_site, uses_of}

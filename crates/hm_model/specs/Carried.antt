@@ -6,8 +6,8 @@ use Rattle.std.specs.Option.{option_map_or}
 use Rattle.hm_types.specs.Elements.{FullElement}
 use Rattle.hm_types.specs.Intervals.{Keeps}
 use Rattle.hm_model.specs.declared.entry.Entry.{Entry}
-use Rattle.hm_model.specs.declared.object.Object.{Object}
-use Rattle.hm_model.specs.Tree.{FileTree}
+use Rattle.hm_types.specs.declared.object.Object.{Object}
+use Rattle.hm_types.specs.Tree.{FileTree}
 use Rattle.hm_model.specs.Volume.{Foreign, Master, PseudoFileSystem, Volume, at, system_of}
 use Rattle.hm_model.specs.Foreign.{FedSlave, Feed, Foreigners, ForeignMaster, MasterList, StreamEnd}
 use Rattle.hm_model.specs.Streams.{AreFollowing, Begin, Follows, IsMasterList, IsStreamOver, Item, Pass, Rec, Skip, Term}

@@ -5,13 +5,13 @@ use Rattle.hm_types.specs.Id.{id_text}
 use Rattle.hm_types.specs.declared.id.Obj.{Obj}
 use Rattle.hm_model.specs.declared.command.Command.{Command}
 use Rattle.hm_model.specs.declared.command.Command.TheVariants.{Mkdir, Touch, Symlink, Snapshot, Ln, Mv, Write, Fill, Truncate, Rm, Rmdir, PfsMaster, PfsSlave, Ls, Cat, Stat, Readlink, Sync, Synctid, Prune, PruneAll, Reblock, PfsStatus, PfsUpgrade, MirrorRead, MirrorWrite, MirrorCopy, Df, Progress, End}
-use Rattle.hm_model.specs.declared.object.Object.{Object}
-use Rattle.hm_model.specs.declared.object.Kind.{Kind}
-use Rattle.hm_model.specs.declared.object.Kind.TheVariants.{Directory, File, Softlink, PfsLink}
-use Rattle.hm_model.specs.declared.object.Content.{Content}
-use Rattle.hm_model.specs.declared.object.Content.TheVariants.{Nothing, File as FileBytes, Target, Linked}
+use Rattle.hm_types.specs.declared.object.Object.{Object}
+use Rattle.hm_types.specs.declared.object.Kind.{Kind}
+use Rattle.hm_types.specs.declared.object.Kind.TheVariants.{Directory, File, Softlink, PfsLink}
+use Rattle.hm_types.specs.declared.object.Content.{Content}
+use Rattle.hm_types.specs.declared.object.Content.TheVariants.{Nothing, File as FileBytes, Target, Linked}
 use Rattle.hm_model.specs.Bytes.{resized, written}
-use Rattle.hm_model.specs.Tree.{FileTree, root_tree, with_object, with_name, without_name, without_object, without_entry, with_change, with_links, holding}
+use Rattle.hm_types.specs.Tree.{FileTree, root_tree, with_object, with_name, without_name, without_object, without_entry, with_change, with_links, holding}
 use Rattle.hm_model.specs.Volume.{Volume, PseudoFileSystem, Role, Master, Slave, Origin, Nowhere, new_master, with_version}
 use Rattle.hm_model.specs.Sites.{Site}
 use Rattle.hm_model.specs.View.{Now}

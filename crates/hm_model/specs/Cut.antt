@@ -5,12 +5,12 @@ use Rattle.std.specs.List.{filter_map, list_all, list_any, starts_with}
 use Rattle.std.specs.Option.{option_map_or}
 use Rattle.std.specs.Str.Parse.{digits_value}
 use Rattle.hex.specs.Hex.{is_hex_digit}
-use Rattle.hm_model.specs.declared.object.Content.{Content}
-use Rattle.hm_model.specs.declared.object.Content.TheVariants.{Target}
-use Rattle.hm_model.specs.declared.object.Object.{Object}
-use Rattle.hm_model.specs.declared.object.Triple.{Triple}
+use Rattle.hm_types.specs.declared.object.Content.{Content}
+use Rattle.hm_types.specs.declared.object.Content.TheVariants.{Target}
+use Rattle.hm_types.specs.declared.object.Object.{Object}
+use Rattle.hm_types.specs.declared.object.Triple.{Triple}
 use Rattle.hm_types.specs.declared.id.Obj.{Obj}
-use Rattle.hm_model.specs.Tree.{FileTree, entries_in, object_in}
+use Rattle.hm_types.specs.Tree.{FileTree, entries_in, object_in}
 use Rattle.hm_model.specs.Volume.{open_end}
 use Rattle.hm_model.specs.Walk.{holds}
 

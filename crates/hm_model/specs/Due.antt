@@ -11,11 +11,11 @@ use Rattle.hm_model.specs.declared.command.Command.{Command}
 use Rattle.hm_model.specs.declared.command.Command.TheVariants.{Mkdir, Touch, Symlink, Snapshot, Ln, Mv, Write, Fill, Truncate, Rm, Rmdir, Ls, Cat, Stat, Readlink, Prune, PruneAll, PfsMaster, PfsSlave, PfsStatus, PfsUpgrade, MirrorRead, MirrorWrite, MirrorCopy, Sync, Synctid, Reblock, Df, Progress, End}
 use Rattle.hm_model.specs.declared.reply.Reply.{Reply}
 use Rattle.hm_model.specs.declared.reply.Reply.TheVariants.{Done, MadePfs, Exists, NotFound, NotDir, IsDir, NotEmpty, BadPath, ReadOnly, Future, TooBig, CrossPfs, IntoItself, HashFull, PfsFull, NoSnapshots, TooManyIntervals, NotSlave, NotMaster, IdsSpent, SharedDiffers, Busy, NotLink, NotFile}
-use Rattle.hm_model.specs.declared.object.Object.{Object}
-use Rattle.hm_model.specs.declared.object.Triple.{Triple}
-use Rattle.hm_model.specs.declared.object.Kind.{Kind}
-use Rattle.hm_model.specs.declared.object.Kind.TheVariants.{Directory, File, Softlink, PfsLink}
-use Rattle.hm_model.specs.Tree.{FileTree, entries_in, named_in}
+use Rattle.hm_types.specs.declared.object.Object.{Object}
+use Rattle.hm_types.specs.declared.object.Triple.{Triple}
+use Rattle.hm_types.specs.declared.object.Kind.{Kind}
+use Rattle.hm_types.specs.declared.object.Kind.TheVariants.{Directory, File, Softlink, PfsLink}
+use Rattle.hm_types.specs.Tree.{FileTree, entries_in, named_in}
 use Rattle.hm_model.specs.Volume.{Volume, PseudoFileSystem}
 use Rattle.hm_model.specs.Sites.{Use, MakesName, TakesName, Walks, Parsed, Parts, BadAt, ReadsWords, Site, Located, At, Nowhere, uses_of, last_name}
 use Rattle.hm_model.specs.Cut.{pruned, snapshot_ids}

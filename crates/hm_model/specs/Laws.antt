@@ -11,12 +11,12 @@ use Rattle.hm_types.specs.declared.limits.TheConstants.{MOST_INTERVALS}
 use Rattle.hm_model.specs.declared.command.Command.{Command}
 use Rattle.hm_model.specs.declared.command.Command.TheVariants.{Cat, Df, End, Ls, MirrorCopy, MirrorWrite, PfsMaster, PfsSlave, PfsStatus, PfsUpgrade, Readlink, Stat, Sync, Synctid}
 use Rattle.hm_model.specs.declared.reply.Reply.TheVariants.{Finished, Passed}
-use Rattle.hm_model.specs.declared.object.Object.{Object}
+use Rattle.hm_types.specs.declared.object.Object.{Object}
 use Rattle.hm_model.specs.Reply.{is_refusal}
 use Rattle.hm_model.specs.Foreign.{Feed, ForeignMaster, StreamEnd}
 use Rattle.hm_model.specs.After.{Event, OpenCall, State, opened_with}
 use Rattle.hm_model.specs.Legal.{Setting, call_after, enters_unclear, state_after}
-use Rattle.hm_model.specs.Tree.{FileTree, named_in}
+use Rattle.hm_types.specs.Tree.{FileTree, named_in}
 use Rattle.hm_model.specs.View.{Position, View, object_at}
 use Rattle.hm_model.specs.Walk.{is_directory, linked_in}
 use Rattle.hm_model.specs.Volume.{PseudoFileSystem, Master, Slave, Nowhere, Foreign, Local, Volume, at, open_end, system_of}

@@ -17,7 +17,7 @@ use Rattle.hm_model.specs.Sites.{Located, passed_by}
 use Rattle.hm_model.specs.Call.{Call, all_located, own_id}
 use Rattle.hm_model.specs.Reply.{is_refusal}
 use Rattle.hm_model.specs.Due.{Check, accepted, first_refusal, intervals_left, new_pfs, record_checks, refusal, slaves_stay, walks}
-use Rattle.hm_model.specs.Hash.{name_hash}
+use Rattle.hm_types.specs.Hash.{name_hash}
 use Rattle.hm_model.specs.Cut.{join}
 use Rattle.hm_model.specs.Foreign.{Feed, Foreigners, StreamEnd}
 use Rattle.hm_model.specs.After.{Event, OpenCall, State, after, call_of, given_in, opened_with}

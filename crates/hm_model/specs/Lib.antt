@@ -1,6 +1,5 @@
 pub mod History
 pub mod Reply
-pub mod Tree
 pub mod Bytes
 pub mod Volume
 pub mod View
@@ -17,7 +16,6 @@ pub mod After
 pub mod Needs
 pub mod Caused
 pub mod Carried
-pub mod Hash
 pub mod Stop
 pub mod Plain
 pub mod PlainCall

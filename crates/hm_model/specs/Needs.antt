@@ -7,9 +7,9 @@ use Rattle.hm_types.specs.declared.zone.TheConstants.{TREE_ZONE, META_ZONE, LARG
 use Rattle.hm_model.specs.declared.command.Command.{Command}
 use Rattle.hm_model.specs.declared.command.Command.TheVariants.{Mkdir, Touch, Symlink, Snapshot, Ln, Mv, Write, Fill, Truncate, Rm, Prune, PruneAll, Reblock, PfsMaster, PfsSlave, PfsUpgrade, MirrorWrite, MirrorCopy, Rmdir, Ls, Cat, Stat, Readlink, Sync, Synctid, PfsStatus, MirrorRead, Df, Progress, End}
 use Rattle.hm_model.specs.declared.entry.Entry.{Entry}
-use Rattle.hm_model.specs.declared.object.Object.{Object}
-use Rattle.hm_model.specs.declared.object.Kind.{Kind}
-use Rattle.hm_model.specs.declared.object.Kind.TheVariants.{Directory, File, Softlink, PfsLink}
+use Rattle.hm_types.specs.declared.object.Object.{Object}
+use Rattle.hm_types.specs.declared.object.Kind.{Kind}
+use Rattle.hm_types.specs.declared.object.Kind.TheVariants.{Directory, File, Softlink, PfsLink}
 use Rattle.hm_model.specs.Reply.{is_refusal}
 use Rattle.hm_model.specs.Call.{Call, first_site, second_site, site_object, standing}
 use Rattle.hm_model.specs.Answer.{file_bytes}

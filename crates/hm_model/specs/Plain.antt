@@ -10,7 +10,7 @@ use Rattle.hm_model.specs.declared.stop.Stop.TheVariants.{Refused, NoMemory}
 use Rattle.hm_model.specs.declared.place.Place.{Place}
 use Rattle.hm_model.specs.declared.walk.Walk.{Walk}
 use Rattle.hm_model.specs.Reply.{is_refusal}
-use Rattle.hm_model.specs.Tree.{FileTree, no_tree}
+use Rattle.hm_types.specs.Tree.{FileTree, no_tree}
 use Rattle.hm_model.specs.Volume.{Volume, fresh_with}
 use Rattle.hm_model.specs.View.{View, Position, Now}
 use Rattle.hm_model.specs.Walk.{Follow, Stays, Follows, Walked, Reaches, Refuses, Passed, walk, step, find_name, find_object, enter}

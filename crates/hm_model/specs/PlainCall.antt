@@ -12,9 +12,9 @@ use Rattle.hm_model.specs.declared.place.Place.{Place}
 use Rattle.hm_model.specs.declared.reply.Reply.{Reply}
 use Rattle.hm_model.specs.declared.stop.Stop.{Stop}
 use Rattle.hm_model.specs.declared.stop.Stop.TheVariants.{Refused, NoMemory}
-use Rattle.hm_model.specs.Hash.{name_hash}
+use Rattle.hm_types.specs.Hash.{name_hash}
 use Rattle.hm_model.specs.Reply.{is_refusal}
-use Rattle.hm_model.specs.Tree.{FileTree}
+use Rattle.hm_types.specs.Tree.{FileTree}
 use Rattle.hm_model.specs.Volume.{at, fresh_with}
 use Rattle.hm_model.specs.View.{View, view_of}
 use Rattle.hm_model.specs.Sites.{Use, MakesName, TakesName, Walks, Parsed, IsParsed, Site, Located, At, uses_of}

@@ -3,11 +3,11 @@ use Rattle.std.specs.Prelude.{ℕ, List, [], Option, None, replicate}
 use Rattle.std.specs.Option.{option_map_or}
 use Rattle.hm_model.specs.declared.command.Command.{Command}
 use Rattle.hm_model.specs.declared.command.Command.TheVariants.{Mkdir, Touch, Symlink, Snapshot, Ln, Mv, Write, Fill, Truncate, Rm, Rmdir}
-use Rattle.hm_model.specs.declared.object.Kind.TheVariants.{Directory, File, Softlink}
-use Rattle.hm_model.specs.declared.object.Content.TheVariants.{Nothing, File as FileBytes, Target}
-use Rattle.hm_model.specs.declared.object.Object.{Object}
+use Rattle.hm_types.specs.declared.object.Kind.TheVariants.{Directory, File, Softlink}
+use Rattle.hm_types.specs.declared.object.Content.TheVariants.{Nothing, File as FileBytes, Target}
+use Rattle.hm_types.specs.declared.object.Object.{Object}
 use Rattle.hm_model.specs.Bytes.{resized, written}
-use Rattle.hm_model.specs.Tree.{FileTree, without_entry, without_name, without_object}
+use Rattle.hm_types.specs.Tree.{FileTree, without_entry, without_name, without_object}
 use Rattle.hm_model.specs.Sites.{Site}
 use Rattle.hm_model.specs.Call.{standing}
 use Rattle.hm_model.specs.Change.{linked, made, moved_over, of_object, renamed, snapshot_target, with_bytes, with_made}

@@ -3,11 +3,11 @@ use Rattle.std.specs.Prelude.{ℕ, ◌+◌, List, [], ◌∷◌, Bool, false, Op
 use Rattle.std.specs.Option.{option_map_or}
 use Rattle.hm_model.specs.declared.command.Command.{Command}
 use Rattle.hm_model.specs.declared.command.Command.TheVariants.{Mkdir, Touch, Symlink, Snapshot, Ln, Mv, Write, Fill, Truncate, Rm, Rmdir, Ls, Cat, Readlink, Sync}
-use Rattle.hm_model.specs.declared.object.Object.{Object}
+use Rattle.hm_types.specs.declared.object.Object.{Object}
 use Rattle.hm_model.specs.declared.reply.Reply.{Reply}
 use Rattle.hm_model.specs.declared.reply.Reply.TheVariants.{CrossPfs, Exists, IntoItself, HashFull, NotFound}
 use Rattle.hm_model.specs.Answer.{answer_at}
-use Rattle.hm_model.specs.Tree.{FileTree, named_in}
+use Rattle.hm_types.specs.Tree.{FileTree, named_in}
 use Rattle.hm_model.specs.Sites.{Site}
 use Rattle.hm_model.specs.Call.{Call, site_object, site_tree, standing}
 use Rattle.hm_model.specs.Due.{Check, a_dir, a_file, a_link, fits_file, gives_way, hash_is_full, is_empty, is_passed, links_left, name_is_new, no_dir, refuse_if}

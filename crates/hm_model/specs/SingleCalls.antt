@@ -2,15 +2,15 @@
 use Rattle.std.specs.Prelude.{ℕ, List, [], ◌∷◌, false, Some, None, codes}
 use Rattle.hm_path.specs.declared.part.Part.{Part}
 use Rattle.hm_model.specs.declared.command.Command.TheVariants.{Mkdir, Touch}
-use Rattle.hm_model.specs.declared.object.Kind.TheVariants.{PfsLink}
-use Rattle.hm_model.specs.declared.object.Content.TheVariants.{Linked}
+use Rattle.hm_types.specs.declared.object.Kind.TheVariants.{PfsLink}
+use Rattle.hm_types.specs.declared.object.Content.TheVariants.{Linked}
 use Rattle.hm_model.specs.declared.reply.Reply.TheVariants.{BadPath}
 use Rattle.hm_model.specs.After.{Event}
 use Rattle.hm_model.specs.Call.{Call}
 use Rattle.hm_model.specs.Change.{made}
-use Rattle.hm_model.specs.Hash.{name_hash}
+use Rattle.hm_types.specs.Hash.{name_hash}
 use Rattle.hm_model.specs.Sites.{BadAt, Parts}
-use Rattle.hm_model.specs.Tree.{FileTree, root_number, root_tree, with_object}
+use Rattle.hm_types.specs.Tree.{FileTree, root_number, root_tree, with_object}
 use Rattle.hm_model.specs.View.{Now, Substitute, view_of}
 use Rattle.hm_model.specs.Volume.{Mixed, Volume, new_master}
 

@@ -2,8 +2,8 @@
 use Rattle.std.specs.Prelude.{ℕ, ◌-◌, List, [], ◌∷◌, Bool, true, false, Option, Some, None, ◌==◌, ◌&&◌, if◌then◌else◌}
 use Rattle.std.specs.Option.{option_map_or}
 use Rattle.hm_types.specs.declared.id.Obj.{Obj}
-use Rattle.hm_model.specs.declared.object.Object.{Object}
-use Rattle.hm_model.specs.Tree.{FileTree, object_in}
+use Rattle.hm_types.specs.declared.object.Object.{Object}
+use Rattle.hm_types.specs.Tree.{FileTree, object_in}
 use Rattle.hm_model.specs.Volume.{Volume, PseudoFileSystem, system_of, at, shown}
 
 -- as of when a tree is seen: now, or as of an id

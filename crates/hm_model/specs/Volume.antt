@@ -2,7 +2,7 @@
 use Rattle.std.specs.Prelude.{ℕ, ◌-◌, ◌^◌, ◌++◌, List, [], ◌∷◌, Bool, true, Option, ◌==◌, if◌then◌else◌, map, find}
 use Rattle.std.specs.Bool.{nat_le}
 use Rattle.std.specs.Option.{option_map_or}
-use Rattle.hm_model.specs.Tree.{FileTree, root_tree, no_tree}
+use Rattle.hm_types.specs.Tree.{FileTree, root_tree, no_tree}
 
 -- a master changes by calls, a slave by mirroring alone
 pub data Role : Type 0 where

@@ -6,14 +6,14 @@ use Rattle.std.specs.Option.{option_map_or}
 use Rattle.hm_types.specs.declared.id.Id.{Id}
 use Rattle.hm_types.specs.declared.id.Obj.{Obj}
 use Rattle.hm_path.specs.declared.part.Part.{Part}
-use Rattle.hm_model.specs.declared.object.Object.{Object}
-use Rattle.hm_model.specs.declared.object.Kind.{Kind}
-use Rattle.hm_model.specs.declared.object.Kind.TheVariants.{Directory, File, Softlink, PfsLink}
-use Rattle.hm_model.specs.declared.object.Content.{Content}
-use Rattle.hm_model.specs.declared.object.Content.TheVariants.{Nothing, File as Bytes, Target, Linked}
+use Rattle.hm_types.specs.declared.object.Object.{Object}
+use Rattle.hm_types.specs.declared.object.Kind.{Kind}
+use Rattle.hm_types.specs.declared.object.Kind.TheVariants.{Directory, File, Softlink, PfsLink}
+use Rattle.hm_types.specs.declared.object.Content.{Content}
+use Rattle.hm_types.specs.declared.object.Content.TheVariants.{Nothing, File as Bytes, Target, Linked}
 use Rattle.hm_model.specs.declared.reply.Reply.{Reply}
 use Rattle.hm_model.specs.declared.reply.Reply.TheVariants.{NotFound, NotDir, NotRetained}
-use Rattle.hm_model.specs.Tree.{FileTree, root_number, named_in, object_in}
+use Rattle.hm_types.specs.Tree.{FileTree, root_number, named_in, object_in}
 use Rattle.hm_model.specs.Volume.{Volume, system_of}
 use Rattle.hm_model.specs.View.{View, When, Now, AsOf, Position, object_at}
 

@@ -6,11 +6,10 @@ ghost use Rattle.hm_model.specs.Plain.{plain_volume, site_of};
 ghost use Rattle.hm_model.specs.PlainChecks.{answered_at};
 
 use crate::command::Command;
-use crate::object::{Content, Kind, Object};
 use crate::place::Place;
 use crate::reply::Reply;
 use crate::tree::Tree;
-use hm_types::{Bytes, Names, NoMemory, Obj, Text};
+use hm_types::{Bytes, Content, Kind, Names, NoMemory, Obj, Object, Text};
 use std::alloc::Global;
 
 /// The answer of a call that looks at what stands at this place.

@@ -3,7 +3,7 @@ ghost use Rattle.std.specs.Prelude.{◌≡◌, ◌+◌, ◌==◌, IfSome, false,
 ghost use Rattle.std.specs.List.{list_any};
 ghost use Rattle.std.specs.Option.{option_copied, option_map_or};
 ghost use Rattle.hm_types.specs.declared.id.Obj.{Obj};
-ghost use Rattle.hm_model.specs.declared.object.Object.{Object};
+ghost use Rattle.hm_types.specs.declared.object.Object.{Object};
 ghost use Rattle.hm_model.specs.Call.{site_object, standing};
 ghost use Rattle.hm_model.specs.Due.{first_refusal, name_is_new, no_dir, a_dir, a_file, a_link};
 ghost use Rattle.hm_model.specs.Due.{is_empty, fits_file, links_left, gives_way};
@@ -12,11 +12,10 @@ ghost use Rattle.hm_model.specs.Plain.{site_of};
 ghost use Rattle.hm_model.specs.PlainChecks.{finds, own_at, not_into_itself_at, way_at};
 
 use crate::command::Command;
-use crate::object::{Kind, Object};
 use crate::place::Place;
 use crate::reply::Reply;
 use crate::tree::Tree;
-use hm_types::{MOST_FILE_BYTES, Obj};
+use hm_types::{Kind, MOST_FILE_BYTES, Obj, Object};
 
 /// The refusal of the first of a call's own checks that fails. Its paths lead to these places.
 pub(crate) fn own_refusal(tree: &Tree, call: &Command, a: &Place, b: &Place) -> Option<Reply>

@@ -11,14 +11,13 @@ use crate::answer::file_bytes;
 use crate::checks::standing;
 use crate::command::Command;
 use crate::file_bytes::{resized, written};
-use crate::object::{Content, Kind, Object};
 use crate::place::Place;
 use crate::tree::Tree;
 use crate::tree_edit::{
     copy_of, with_bytes, with_links, with_name, with_object, without_entry, without_name,
     without_object,
 };
-use hm_types::{Bytes, Id, NoMemory, Obj, Text};
+use hm_types::{Bytes, Content, Id, Kind, NoMemory, Obj, Object, Text};
 use std::alloc::Global;
 
 /// The tree after an accepted call with this id, whose paths lead to these places.

@@ -1,7 +1,7 @@
-// The hash of names.
+// The check that hashes of names are left.
 ghost use Rattle.std.specs.Prelude.{◌≡◌, ◌/◌, ◌^◌, count_by, IfSome, true};
-ghost use Rattle.hm_model.specs.Hash.{name_hash};
-ghost use Rattle.hm_model.specs.Tree.{entries_in};
+ghost use Rattle.hm_types.specs.Hash.{name_hash};
+ghost use Rattle.hm_types.specs.Tree.{entries_in};
 ghost use Rattle.hm_model.specs.Due.{same_hash};
 ghost use Rattle.hm_model.specs.Reply.{is_refusal};
 ghost use Rattle.hm_model.specs.Plain.{site_of};
@@ -11,12 +11,7 @@ use crate::command::Command;
 use crate::place::Place;
 use crate::reply::Reply;
 use crate::tree::Tree;
-use hm_types::{Name, Obj};
-
-// The value from which a 64-bit FNV-1a hash starts, and its factor.
-const BASIS: u64 = 0xcbf2_9ce4_8422_2325;
-
-const PRIME: u64 = 0x100_0000_01b3;
+use hm_types::{Name, Obj, name_hash};
 
 // How many names of a directory may have one upper part of their hashes: all bits but the lowest 17.
 const MOST_ALIKE: usize = 1_024;
@@ -69,16 +64,5 @@ fn count_alike(tree: &Tree, directory: Obj, name: &Name) -> usize
 fn upper_part(name: &Name) -> u64
     ensures { result ≡ name_hash name.now / 2 ^ 17 }
 {
-    name_hash(name) / LOWER_BITS
-}
-
-fn name_hash(name: &Name) -> u64
-    ensures { result ≡ name_hash name.now }
-{
-    let bytes = name.bytes();
-    let mut hash = BASIS;
-    for byte in bytes {
-        hash = (hash ^ u64::from(*byte)).wrapping_mul(PRIME);
-    }
-    hash
+    name_hash(name.bytes()) / LOWER_BITS
 }

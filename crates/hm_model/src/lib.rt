@@ -16,7 +16,6 @@ mod generator_tests;
 mod hash;
 mod laws;
 mod line;
-mod object;
 mod paths;
 mod place;
 mod plain;
@@ -55,7 +54,6 @@ pub use laws::{
     streams_join_what_their_end_brought, upgrades_leave_the_past, walks_find_what_is_kept,
 };
 pub use line::Line;
-pub use object::{Content, Kind, Object, Triple};
 pub use plain::{apply, look};
 pub use print::push_answer;
 pub use reply::Reply;

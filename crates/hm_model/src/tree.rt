@@ -1,9 +1,8 @@
 // A whole tree, as plain lists.
 ghost use Rattle.std.specs.Prelude.{◌≡◌};
-ghost use Rattle.hm_model.specs.Tree.{directory_of};
+ghost use Rattle.hm_types.specs.Tree.{directory_of};
 
-use crate::object::{Content, Kind, Object, Triple};
-use hm_types::{Name, NoMemory, Obj};
+use hm_types::{Content, Kind, Name, NoMemory, Obj, Object, Triple};
 use std::alloc::Global;
 use std::marker::Model;
 
@@ -16,7 +15,7 @@ pub struct Tree {
 }
 
 impl Model for Tree {
-    ghost use Rattle.hm_model.specs.Tree.{FileTree};
+    ghost use Rattle.hm_types.specs.Tree.{FileTree};
 
     ghost Value = { FileTree };
 
@@ -26,7 +25,7 @@ impl Model for Tree {
 impl Tree {
     ghost use Rattle.std.specs.Prelude.{◌≡◌, IfOk, false, length};
     ghost use Rattle.std.specs.Option.{option_copied, option_map_or};
-    ghost use Rattle.hm_model.specs.Tree.{root_tree, object_in, named_in, entries_in};
+    ghost use Rattle.hm_types.specs.Tree.{root_tree, object_in, named_in, entries_in};
     ghost use Rattle.hm_model.specs.Walk.{is_directory};
 
     /// The tree of a new volume: the root directory, with no entry.

@@ -1,11 +1,10 @@
 // Changes of a tree.
 ghost use Rattle.std.specs.Prelude.{◌≡◌, ◌≤◌, ◌==◌, IfOk, if◌then◌else◌, length, insert};
-ghost use Rattle.hm_model.specs.Tree.{insert_by, is_object_before, is_triple_before, with_object};
-ghost use Rattle.hm_model.specs.Tree.{with_name, without_name, without_object, with_change, with_links, holding, without_entry};
+ghost use Rattle.hm_types.specs.Tree.{insert_by, is_object_before, is_triple_before, with_object};
+ghost use Rattle.hm_types.specs.Tree.{with_name, without_name, without_object, with_change, with_links, holding, without_entry};
 
-use crate::object::{Content, Object, Triple};
 use crate::tree::Tree;
-use hm_types::{Bytes, Name, NoMemory, Obj};
+use hm_types::{Bytes, Content, Name, NoMemory, Obj, Object, Triple};
 use std::alloc::Global;
 
 pub(crate) fn copy_of(alloc: Global, tree: &Tree) -> Result<Tree, NoMemory>

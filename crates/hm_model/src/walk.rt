@@ -4,12 +4,11 @@ ghost use Rattle.hm_model.specs.Walk.{reach};
 ghost use Rattle.hm_model.specs.Plain.{IsRefusing, IsOfNow, EndsWalk, StopsWalk, pairs, place};
 ghost use Rattle.hm_model.specs.Plain.{walk_in, step_in, name_in, object_on, entered_in};
 
-use crate::object::Content;
 use crate::reply::Reply;
 use crate::stop::Stop;
 use crate::tree::Tree;
 use hm_path::Part;
-use hm_types::{Name, Obj, Pfs};
+use hm_types::{Content, Name, Obj, Pfs};
 use std::alloc::Global;
 
 /// The root directory of every tree.

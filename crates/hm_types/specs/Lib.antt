@@ -1,5 +1,6 @@
 pub mod Calls
 pub mod Faults
+pub mod Hash
 pub mod Id
 pub mod Intervals
 pub mod Elements
@@ -7,6 +8,8 @@ pub mod Layout
 pub mod Listing
 pub mod Name
 pub mod Offset
+pub mod References
 pub mod Space
 pub mod Told
+pub mod Tree
 pub mod Zones

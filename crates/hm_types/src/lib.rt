@@ -7,12 +7,14 @@ mod calls;
 mod counted;
 mod damage;
 mod fault;
+mod hash;
 mod id;
 mod ids;
 mod layout;
 mod limits;
 mod name;
 mod names;
+mod object;
 mod offset;
 mod space;
 #[cfg(test)]
@@ -29,6 +31,7 @@ pub use damage::{
     BAD_MIRROR, BAD_ORDER, BAD_OVERLAP, BAD_PAYLOAD, BAD_REFERENCES, BAD_UNDO,
 };
 pub use fault::{Failed, Fault, NoMemory, SpaceFault};
+pub use hash::name_hash;
 pub use id::{Id, Obj, Pfs};
 pub use ids::Ids;
 pub use layout::{first_pool, first_undo, is_layer2, is_pool, layer2_blocks};
@@ -41,6 +44,7 @@ pub use limits::{
 };
 pub use name::{Name, is_name};
 pub use names::Names;
+pub use object::{Content, Kind, Object, Triple};
 pub use offset::HOff;
 pub use space::{INSERT_ROOM, MOST_REFERENCES, PAYLOAD_RESERVE, TREE_RESERVE, rounded};
 pub use text::Text;

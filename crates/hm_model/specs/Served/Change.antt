@@ -2,7 +2,7 @@
 use Rattle.std.specs.Prelude.{ℕ}
 use Rattle.hm_model.specs.declared.command.Command.{Command}
 use Rattle.hm_model.specs.declared.command.Command.TheVariants.{Mkdir}
-use Rattle.hm_model.specs.Tree.{FileTree, directory_of, with_object}
+use Rattle.hm_types.specs.Tree.{FileTree, directory_of, with_object}
 use Rattle.hm_model.specs.Volume.{Volume, shown, with_version}
 use Rattle.hm_model.specs.Served.Walk.{Place, place_of}
 

@@ -6,7 +6,7 @@ use Rattle.hm_model.specs.declared.command.Command.TheVariants.{Mkdir, Ls}
 use Rattle.hm_model.specs.declared.reply.Reply.{Reply}
 use Rattle.hm_model.specs.declared.reply.Reply.TheVariants.{Done, Listing, Exists, Future, NotRetained, NoSpace}
 use Rattle.hm_model.specs.declared.served.TheConstants.{MOST_DIRECTORIES}
-use Rattle.hm_model.specs.Tree.{FileTree, entries_in, has_name, root_number}
+use Rattle.hm_types.specs.Tree.{FileTree, entries_in, has_name, root_number}
 use Rattle.hm_model.specs.Volume.{Volume, shown}
 use Rattle.hm_model.specs.View.{When, Now, AsOf, own_tree}
 use Rattle.hm_model.specs.Walk.{is_seen}

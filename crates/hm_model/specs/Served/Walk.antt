@@ -5,7 +5,7 @@ use Rattle.hm_types.specs.declared.id.Id.{Id}
 use Rattle.hm_types.specs.declared.id.Obj.{Obj}
 use Rattle.hm_types.specs.Name.{IsName}
 use Rattle.hm_path.specs.Component.{IsIdText, id_sign}
-use Rattle.hm_model.specs.Tree.{root_number}
+use Rattle.hm_types.specs.Tree.{root_number}
 use Rattle.hm_model.specs.View.{When, Now, AsOf}
 
 -- a path of one component under the root

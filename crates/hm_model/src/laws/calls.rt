@@ -20,7 +20,7 @@ ghost use Rattle.hm_model.specs.Call.{Call, own_id};
 ghost use Rattle.hm_model.specs.Change.{change, changed, changed_pfs, new_slave};
 ghost use Rattle.hm_model.specs.Due.{new_pfs};
 ghost use Rattle.hm_model.specs.Laws.{adds_pfs, only_looks};
-ghost use Rattle.hm_model.specs.Tree.{root_tree};
+ghost use Rattle.hm_types.specs.Tree.{root_tree};
 ghost use Rattle.hm_model.specs.View.{Now};
 ghost use Rattle.hm_model.specs.Volume.{
   PseudoFileSystem,

@@ -7,7 +7,7 @@ ghost use Rattle.hm_model.specs.After.{Event};
 ghost use Rattle.hm_model.specs.Due.{new_pfs};
 ghost use Rattle.hm_model.specs.Laws.{FollowsForeign, IsThere, Makes, ShowsTrees};
 ghost use Rattle.hm_model.specs.Legal.{IsLegal, Setting, state_after};
-ghost use Rattle.hm_model.specs.Tree.{FileTree};
+ghost use Rattle.hm_types.specs.Tree.{FileTree};
 
 /// A slave whose only source is one foreign master has, as of each id up to its sync end at which all
 /// streams from that source show one tree, this tree: if so in the volume at the start, then after every

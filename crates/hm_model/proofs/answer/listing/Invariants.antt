@@ -1,6 +1,6 @@
 use Rattle.std.proofs.Common.{◌≡◌, ◌++◌, drop, map, filter}
 use Rattle.std.specs.Prelude.{◌==◌}
-use Rattle.hm_model.specs.declared.object.Triple.{Triple}
+use Rattle.hm_types.specs.declared.object.Triple.{Triple}
 use Rattle.hm_model.specs.Answer.{entry_kind, listing}
 use Rattle.hm_model.proofs.answer.listing.Given as goal
 

@@ -1,5 +1,5 @@
 use Rattle.std.proofs.Common.{◌≡◌, ◌++◌, take, drop}
-use Rattle.hm_model.specs.Tree.{insert_by, is_triple_before}
+use Rattle.hm_types.specs.Tree.{insert_by, is_triple_before}
 use Rattle.hm_model.proofs.tree_edit.place_of_triple.Given as goal
 
 -- it goes past all that were looked at

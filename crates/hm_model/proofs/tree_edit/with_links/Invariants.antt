@@ -1,8 +1,8 @@
 use Rattle.std.proofs.Common.{◌≡◌, ◌++◌, drop, map}
 use Rattle.std.specs.Prelude.{◌==◌, if◌then◌else◌}
-use Rattle.hm_model.specs.declared.object.Content.TheVariants.{File}
-use Rattle.hm_model.specs.declared.object.Object.{Object}
-use Rattle.hm_model.specs.Tree.{holding, with_change, with_links}
+use Rattle.hm_types.specs.declared.object.Content.TheVariants.{File}
+use Rattle.hm_types.specs.declared.object.Object.{Object}
+use Rattle.hm_types.specs.Tree.{holding, with_change, with_links}
 use Rattle.hm_model.proofs.tree_edit.with_links.Given as goal
 
 -- the objects that are left come after those that were copied

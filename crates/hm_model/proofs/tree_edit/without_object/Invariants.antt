@@ -1,7 +1,7 @@
 use Rattle.std.proofs.Common.{◌≡◌, ◌++◌, drop}
 use Rattle.std.specs.Prelude.{◌==◌}
-use Rattle.hm_model.specs.declared.object.Object.{Object}
-use Rattle.hm_model.specs.Tree.{is_named, without, without_name, without_object}
+use Rattle.hm_types.specs.declared.object.Object.{Object}
+use Rattle.hm_types.specs.Tree.{is_named, without, without_name, without_object}
 use Rattle.hm_model.proofs.tree_edit.without_object.Given as goal
 
 -- those that are left and stay come after those that stayed

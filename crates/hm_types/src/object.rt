@@ -2,7 +2,10 @@
 
 ghost use Rattle.std.specs.Prelude.{◌≡◌};
 
-use hm_types::{Bytes, Name, Obj, Pfs, Text};
+use crate::bytes::Bytes;
+use crate::id::{Obj, Pfs};
+use crate::name::Name;
+use crate::text::Text;
 use std::alloc::AllocError;
 
 #[derive(Clone, Copy, Debug, PartialEq, Eq)]

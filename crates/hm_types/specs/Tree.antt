@@ -6,11 +6,11 @@ use Rattle.std.specs.Ordering.{nat_cmp, ordering_then, is_lt}
 use Rattle.std.specs.Cmp.Lexicographic.{slice_cmp}
 use Rattle.std.specs.Str.{bytes_eq}
 use Rattle.hm_types.specs.declared.id.Obj.{Obj}
-use Rattle.hm_model.specs.declared.object.Object.{Object}
-use Rattle.hm_model.specs.declared.object.Triple.{Triple}
-use Rattle.hm_model.specs.declared.object.Content.{Content}
-use Rattle.hm_model.specs.declared.object.Kind.TheVariants.{Directory}
-use Rattle.hm_model.specs.declared.object.Content.TheVariants.{Nothing}
+use Rattle.hm_types.specs.declared.object.Object.{Object}
+use Rattle.hm_types.specs.declared.object.Triple.{Triple}
+use Rattle.hm_types.specs.declared.object.Content.{Content}
+use Rattle.hm_types.specs.declared.object.Kind.TheVariants.{Directory}
+use Rattle.hm_types.specs.declared.object.Content.TheVariants.{Nothing}
 
 -- the objects rise by number, the triples by directory and then by the bytes of the name
 pub record FileTree : Type 0 where
