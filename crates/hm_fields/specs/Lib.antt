@@ -1,3 +1,4 @@
 pub mod Fields
 pub mod Pages
+pub mod States
 pub mod MemPages

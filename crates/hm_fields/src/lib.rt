@@ -6,6 +6,7 @@ mod laws;
 mod mem_pages;
 mod page;
 mod pages;
+mod states;
 #[cfg(test)]
 mod tests;
 
@@ -18,3 +19,4 @@ pub use laws::{
 pub use mem_pages::MemPages;
 pub use page::Page;
 pub use pages::Pages;
+pub use states::{State, States};
