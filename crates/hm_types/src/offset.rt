@@ -22,7 +22,7 @@ const VOLUME_SHIFT: u32 = 52;
 /// | UNDO | 3 | small data | 11 |
 /// | freemap | 4 | unavailable | 15 |
 /// | B-tree | 8 | | |
-#[derive(Clone, Copy, Debug, PartialEq, Eq, PartialOrd, Ord)]
+#[derive(Clone, Copy, Debug, PartialEq, Eq, PartialOrd, Ord, Hash)]
 pub struct HOff {
     raw: u64,
 }
