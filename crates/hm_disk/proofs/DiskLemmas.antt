@@ -1,7 +1,7 @@
 -- What is told before and after a call.
 use Rattle.std.proofs.Common.{Option, Some, None, IfSome}
+use Rattle.hm_types.specs.Told.{BothTell}
 use Rattle.hm_disk.specs.Crash.{Told}
-use Rattle.hm_disk.specs.Disk.{BothTell}
 
 -- before the first call
 pub BothTell-same : (told : Option Told) (P : Told → Told → Type 0) → IfSome told (λ t. P t t) → BothTell told told P

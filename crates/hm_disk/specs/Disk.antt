@@ -1,14 +1,7 @@
 -- What a call makes of what a disk tells.
-use Rattle.std.specs.Prelude.{◌≡◌, ◌⊎◌, ℕ, ◌+◌, ◌<◌, List, [], ◌∷◌, ◌++◌, length, take, drop, Option, Some, None, option_map}
+use Rattle.std.specs.Prelude.{◌≡◌, ◌⊎◌, ℕ, ◌+◌, ◌<◌, List, [], ◌∷◌, ◌++◌, length, take, drop, Option, option_map}
+pub use Rattle.hm_types.specs.Told.{BothTell}
 use Rattle.hm_disk.specs.Crash.{Told, MayLeave}
-
--- a disk that told this before a call and tells that after it: it told and tells, and the two are so
--- related, or it neither told nor tells
-abbrev pub BothTell : Option Told → Option Told → (Told → Told → Type 0) → Type 0
-BothTell None None Relation = Unit {0}
-BothTell (Some old) (Some new) Relation = Relation old new
-BothTell None (Some new) Relation = ⊥
-BothTell (Some old) None Relation = ⊥
 
 -- the moment, where it is told
 abbrev pub moment_of : Option Told → Option ℕ

@@ -1,9 +1,10 @@
 // The disk under a volume.
 ghost use Rattle.std.specs.Prelude.{◌≡◌, ℕ, ◌≤◌, ◌+◌, List, Option, IfSome, IfOk, OnOk, OnErr, length, slice_range};
 ghost use Rattle.hm_types.specs.Faults.{HasCause};
+ghost use Rattle.hm_types.specs.Told.{BothTell};
 ghost use Rattle.hm_disk.specs.declared.limits.TheConstants.{MOST_CALL_BYTES};
 ghost use Rattle.hm_disk.specs.Crash.{Told, MayLeave};
-ghost use Rattle.hm_disk.specs.Disk.{BothTell, Written, MayBeTorn, Synced, moment_of};
+ghost use Rattle.hm_disk.specs.Disk.{Written, MayBeTorn, Synced, moment_of};
 ghost use Rattle.hm_disk.specs.Moments.{CallElapses, SyncElapses, SameLeft};
 
 use hm_types::Failed;

@@ -1,7 +1,8 @@
 // Transfers of any length, in pieces that a disk takes.
 ghost use Rattle.std.specs.Prelude.{◌≡◌, ◌<◌, ◌≤◌, ◌+◌, ◌^◌, IfSome, OnOk, OnErr, length, slice_range};
 ghost use Rattle.hm_types.specs.Faults.{HasCause};
-ghost use Rattle.hm_disk.specs.Disk.{BothTell, moment_of};
+ghost use Rattle.hm_types.specs.Told.{BothTell};
+ghost use Rattle.hm_disk.specs.Disk.{moment_of};
 ghost use Rattle.hm_disk.specs.Moments.{WriteElapses, SameLeft};
 ghost use Rattle.hm_disk.specs.Transfer.{WrittenAll, TornAll, WrittenSynced};
 

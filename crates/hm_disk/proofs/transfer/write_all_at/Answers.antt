@@ -1,7 +1,8 @@
 use Rattle.std.proofs.Common.{◌≡◌, ℕ, ◌+◌, ◌≤◌, ◌∙◌, arith, length, slice_range, subst}
 use Rattle.std.proofs.lemmas.List.{places}
+use Rattle.hm_types.specs.Told.{BothTell}
 use Rattle.hm_disk.specs.Crash.{Told}
-use Rattle.hm_disk.specs.Disk.{BothTell, Written}
+use Rattle.hm_disk.specs.Disk.{Written}
 use Rattle.hm_disk.specs.Moments.{CallElapses}
 use Rattle.hm_disk.proofs.DiskLemmas.{BothTell-and, BothTell-then}
 use Rattle.hm_disk.proofs.TransferLemmas.{WrittenSoFar-more}

@@ -1,5 +1,6 @@
 use Rattle.std.proofs.Common.{◌≡◌, length, ◌-◌, ◌≤◌}
-use Rattle.hm_disk.specs.Disk.{BothTell, moment_of}
+use Rattle.hm_types.specs.Told.{BothTell}
+use Rattle.hm_disk.specs.Disk.{moment_of}
 use Rattle.hm_disk.proofs.TransferLemmas.{WrittenSoFar}
 use Rattle.hm_disk.proofs.transfer.write_all_at.Given as goal
 
