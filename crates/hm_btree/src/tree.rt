@@ -1,12 +1,11 @@
 // The tree.
-ghost use Rattle.std.specs.Prelude.{◌↔◌, IsTrue};
 ghost use Rattle.hm_types.specs.Offset.{IsOffset};
-ghost use Rattle.hm_node.specs.Inner.{IsNodeOffset};
 ghost use Rattle.hm_btree.specs.Tree.{IsIntact};
 
 use crate::space::NodeSpace;
 use hm_key::{HasElements, HasRoom};
-use hm_types::{Counted, Fault, HOff, PAGE_BYTES, TREE_ZONE};
+use hm_node::is_node_offset;
+use hm_types::{Counted, Fault, HOff};
 
 /// The B-tree of the elements, over a space of nodes. Once a call has failed in the middle of a
 /// change, each call answers `NoMemory`, since the space may hold half of that change.
@@ -49,10 +48,10 @@ impl<S: NodeSpace> HasElements for BTree<S> {
 }
 
 impl<S: NodeSpace> BTree<S> {
-    ghost use Rattle.std.specs.Prelude.{◌≡◌, IsTrue, OnOk, IfErr};
+    ghost use Rattle.std.specs.Prelude.{◌≡◌, IsOk, IsTrue, IfSome, OnOk, IfErr};
     ghost use Rattle.hm_types.specs.declared.fault.Fault.TheVariants.{NoMemory};
     ghost use Rattle.hm_node.specs.Inner.{IsNodeOffset};
-    ghost use Rattle.hm_btree.specs.Tree.{HoldsTree};
+    ghost use Rattle.hm_btree.specs.Tree.{HoldsTree, IsTreeSpace};
 
     /// The tree from a root on. Where the space tells its pages, they must be that tree.
     pub fn over(space: S, root: HOff) -> BTree<S>
@@ -114,6 +113,8 @@ impl<S: NodeSpace> BTree<S> {
     pub(crate) fn require_root(&self) -> Result<(), Fault>
         ensures ok { OnOk result (IsNodeOffset self.now.root) }
         ensures err { IfErr result (λ fault. fault ≡ NoMemory) }
+        ensures sound { IfSome (S.pages self.now.space) (λ pages.
+            IsTreeSpace pages self.now.root → IsOk result) }
     {
         if is_node_offset(self.root) {
             Ok(())
@@ -121,13 +122,6 @@ impl<S: NodeSpace> BTree<S> {
             Err(Fault::NoMemory)
         }
     }
-}
-
-// Whether a node may stand at an offset: a multiple of 4,096 in the zone of the B-tree.
-fn is_node_offset(at: HOff) -> bool
-    ensures { IsTrue result ↔ IsNodeOffset at }
-{
-    at.zone() == TREE_ZONE && at.byte() % PAGE_BYTES as u64 == 0
 }
 
 /// Does nothing, and says what the type of an offset tells of it.

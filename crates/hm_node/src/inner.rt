@@ -150,8 +150,8 @@ fn is_bound(base: &Base) -> bool
     base.delete == 0 && base.obj_type == 0 && base.btype == BOUNDARY
 }
 
-// Whether a node may stand at an offset.
-fn is_node_offset(at: HOff) -> bool
+/// Whether a node may stand at an offset: a multiple of 4,096 in the zone of the B-tree.
+pub fn is_node_offset(at: HOff) -> bool
     ensures { IsTrue result ↔ IsNodeOffset at }
 {
     at.zone() == TREE_ZONE && at.byte() % PAGE_BYTES as u64 == 0

@@ -18,7 +18,7 @@ mod tests;
 
 pub use base::read_base;
 pub use head::{Head, INNER, LEAF, LEAF_LEVEL};
-pub use inner::{Child, Inner, read_child};
+pub use inner::{Child, Inner, is_node_offset, read_child};
 pub use laws::{
     node_has_one_page, one_kind_is_the_lowest, page_spells_one_node, sound_page_holds_its_node,
     sound_page_spells_its_node, spelled_node_is_sound,
