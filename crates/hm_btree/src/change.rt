@@ -22,7 +22,7 @@ use crate::node_edit::{mirror, write_node};
 use crate::space::NodeSpace;
 use hm_key::Base;
 use hm_node::{Leaf, Node};
-use hm_search::{Subtree, child_place, leaf_place, read_node};
+use hm_search::{Subtree, holder_place, leaf_place, read_node};
 use hm_types::{Fault, HOff};
 use std::cmp::Ordering;
 
@@ -93,7 +93,7 @@ fn change_in<S: NodeSpace>(
             Ok(())
         }
         Node::Inner(inner) => {
-            let i = child_place(inner, at);
+            let i = holder_place(inner, at);
             let place = Subtree::child(inner, i);
             let mut child = read_node(space, &place)?;
             change_in(space, &mut child, at, change)?;

@@ -20,7 +20,7 @@ use crate::space::{NODE_BYTES, NodeSpace};
 use crate::upper::Upper;
 use hm_key::Element;
 use hm_node::{Child, Inner, Leaf, Node};
-use hm_search::{Subtree, child_place, leaf_place, read_node};
+use hm_search::{Subtree, holder_place, leaf_place, read_node};
 use hm_types::{Counted, Fault, TREE_ZONE};
 
 /// Inserts an element below a node, which is not written. Where the node becomes two, the upper one
@@ -50,7 +50,7 @@ pub fn insert_into<S: NodeSpace>(
     match node {
         Node::Leaf(leaf) => Ok(insert_in_leaf(leaf, element)),
         Node::Inner(inner) => {
-            let i = child_place(inner, &element.base);
+            let i = holder_place(inner, &element.base);
             let place = Subtree::child(inner, i);
             let mut child = read_node(space, &place)?;
             let upper = insert_into(space, &mut child, element)?;

@@ -20,7 +20,7 @@ use crate::node_edit::{mirror, write_node};
 use crate::space::NodeSpace;
 use hm_key::Base;
 use hm_node::{Inner, Node};
-use hm_search::{Subtree, child_place, leaf_place, read_node};
+use hm_search::{Subtree, holder_place, leaf_place, read_node};
 use hm_types::{Counted, Fault};
 
 /// Removes the element at the key of `at` below a node, which is not written and may be left with
@@ -51,7 +51,7 @@ pub fn remove_below<S: NodeSpace>(space: &mut S, node: &mut Node, at: &Base) -> 
             Ok(())
         }
         Node::Inner(inner) => {
-            let i = child_place(inner, at);
+            let i = holder_place(inner, at);
             let place = Subtree::child(inner, i);
             let mut child = read_node(space, &place)?;
             remove_below(space, &mut child, at)?;

@@ -7,7 +7,7 @@ use Rattle.hm_key.specs.declared.base.Base.{Base}
 use Rattle.hm_node.specs.Base.{base_in, base_cmp}
 use Rattle.hm_node.specs.Head.{head_in}
 use Rattle.hm_node.specs.Places.{place, first, bases_in, IsZero, IsZeroOutside}
-use Rattle.hm_node.specs.Inner.{child_in, children_in, inner_in, boundaries, IsBound, IsChild, AreChildPlaces, IsChildPlace}
+use Rattle.hm_node.specs.Inner.{child_in, first_children, inner_in, boundaries, IsBound, IsChild, AreChildPlaces, IsChildPlace}
 use Rattle.hm_node.specs.Node.{node_in, HasLevel, HasCount, HasOrder, HasFields, HasMirror, SaysLevel, HasZeros}
 use Rattle.hm_node.specs.Damage.{Keeps}
 use Rattle.hm_node.specs.declared.head.Head.{Head}
@@ -20,13 +20,13 @@ use Rattle.hm_node.proofs.FieldLemmas.{child_left}
 use Rattle.hm_node.proofs.PlaceLemmas.{first_length, first_map, first_same, first_all, all_first}
 
 -- the left boundaries of the children
-lefts_of_children : (page : List ℕ) (n : ℕ) → map (λ (c : Child). c.left) (children_in page n) ≡ bases_in page n
+lefts_of_children : (page : List ℕ) (n : ℕ) → map (λ (c : Child). c.left) (first_children page n) ≡ bases_in page n
 lefts_of_children page n =
     first_map (λ (c : Child). c.left) (λ i. child_in page (place i)) n
     ∙ first_same (λ i. (child_in page (place i)).left) (λ i. base_in page (place i)) n (λ i low. child_left page (place i))
 
 -- all boundaries
-all_boundaries : (page : List ℕ) (n : ℕ) → map (λ (c : Child). c.left) (children_in page n) ++ base_in page (place n) ∷ [] ≡ bases_in page (n + 1)
+all_boundaries : (page : List ℕ) (n : ℕ) → map (λ (c : Child). c.left) (first_children page n) ++ base_in page (place n) ∷ [] ≡ bases_in page (n + 1)
 unfolding first
 all_boundaries page n = let more : n + 1 ≡ suc n = omega arith in rw (more, lefts_of_children page n) refl
 
@@ -56,7 +56,7 @@ module _ {page : List ℕ} {level n mirror : ℕ} (h : InnerHead page level n mi
   to_inner : (P : Node → Type 0) → P (node_in page) → P (Inner (inner_in page))
   to_inner P = subst P inner_here
 
-  size : length (children_in page (head_in page).count) ≡ n
+  size : length (first_children page (head_in page).count) ≡ n
   size = first_length (λ i. child_in page (place i)) (head_in page).count ∙ sym h.count
 
   pub inner_level : ((2 ≤ level) × (level ≤ MOST_LEVELS)) ↔ Keeps page Level
@@ -96,12 +96,12 @@ module _ {page : List ℕ} {level n mirror : ℕ} (h : InnerHead page level n mi
             (rw counted fields.right, λ i low. record { child = children i (omega arith); zero = zeros.places i (omega arith) }, rw (← all) zeros.outside),
       )
 
-  pub inner_mirror : (cs : List Child) → cs ≡ children_in page n → All (λ c. c.mirror ≤ mirror) cs ↔ Keeps page Mirror
+  pub inner_mirror : (cs : List Child) → cs ≡ first_children page n → All (λ c. c.mirror ≤ mirror) cs ↔ Keeps page Mirror
   inner_mirror cs read =
-      let all : cs ≡ children_in page (head_in page).count = read ∙ ap (children_in page) h.count in
+      let all : cs ≡ first_children page (head_in page).count = read ∙ ap (first_children page) h.count in
       (λ each. of_inner HasMirror (rw (← h.latest, ← all) each), λ kept. rw (h.latest, all) (to_inner HasMirror kept))
 
   -- the inner node that was read
-  pub inner_read : (cs : List Child) (right : Base) → cs ≡ children_in page n → right ≡ base_in page (place n)
+  pub inner_read : (cs : List Child) (right : Base) → cs ≡ first_children page n → right ≡ base_in page (place n)
       → record { level = level; mirror = mirror; places = record { items = cs }; right = right } ≡ inner_in page
-  inner_read cs right read last = rw (read ∙ ap (children_in page) h.count, last ∙ ap (λ (k : ℕ). base_in page (place k)) h.count, h.high, h.latest) refl
+  inner_read cs right read last = rw (read ∙ ap (first_children page) h.count, last ∙ ap (λ (k : ℕ). base_in page (place k)) h.count, h.high, h.latest) refl

@@ -8,7 +8,7 @@ use Rattle.hm_key.specs.declared.element.Element.{Element}
 use Rattle.hm_node.specs.Base.{base_in, base_cmp}
 use Rattle.hm_node.specs.Head.{head_in}
 use Rattle.hm_node.specs.Places.{place, bases_in, IsZero, IsZeroOutside}
-use Rattle.hm_node.specs.Leaf.{element_in, elements_in, leaf_in, IsPlaced, IsUpTo, ArePlaces, IsElementPlace}
+use Rattle.hm_node.specs.Leaf.{element_in, first_elements, leaf_in, IsPlaced, IsUpTo, ArePlaces, IsElementPlace}
 use Rattle.hm_node.specs.Node.{node_in, HasLevel, HasCount, HasOrder, HasFields, HasMirror, SaysLevel, HasZeros}
 use Rattle.hm_node.specs.Damage.{Keeps}
 use Rattle.hm_node.specs.declared.head.Head.{Head}
@@ -20,7 +20,7 @@ use Rattle.hm_node.proofs.FieldLemmas.{element_base}
 use Rattle.hm_node.proofs.PlaceLemmas.{first_length, first_map, first_same, first_all, all_first, sorted_map, map_sorted}
 
 -- the bases of the elements
-bases_of_elements : (page : List ℕ) (n : ℕ) → map (λ (e : Element). e.base) (elements_in page n) ≡ bases_in page n
+bases_of_elements : (page : List ℕ) (n : ℕ) → map (λ (e : Element). e.base) (first_elements page n) ≡ bases_in page n
 bases_of_elements page n =
     first_map (λ (e : Element). e.base) (λ i. element_in page (place i)) n
     ∙ first_same (λ i. (element_in page (place i)).base) (λ i. base_in page (place i)) n (λ i low. element_base page (place i))
@@ -51,7 +51,7 @@ module _ {page : List ℕ} {n mirror : ℕ} (h : LeafHead page n mirror) where
   to_leaf : (P : Node → Type 0) → P (node_in page) → P (Leaf (leaf_in page))
   to_leaf P = subst P leaf_here
 
-  size : length (elements_in page (head_in page).count) ≡ n
+  size : length (first_elements page (head_in page).count) ≡ n
   size = first_length (λ i. element_in page (place i)) (head_in page).count ∙ sym h.count
 
   pub leaf_level : Keeps page Level
@@ -65,8 +65,8 @@ module _ {page : List ℕ} {n mirror : ℕ} (h : LeafHead page n mirror) where
   pub leaf_order : IsStrictlySortedBy base_cmp (bases_in page n) ↔ Keeps page Order
   leaf_order =
       let same = bases_of_elements page (head_in page).count ∙ ap (bases_in page) (sym h.count) in (
-        λ rising. of_leaf HasOrder (map_sorted base_cmp (λ (e : Element). e.base) (elements_in page (head_in page).count) (subst (IsStrictlySortedBy base_cmp) (sym same) rising)),
-        λ kept. subst (IsStrictlySortedBy base_cmp) same (sorted_map base_cmp (λ (e : Element). e.base) (elements_in page (head_in page).count) (to_leaf HasOrder kept)),
+        λ rising. of_leaf HasOrder (map_sorted base_cmp (λ (e : Element). e.base) (first_elements page (head_in page).count) (subst (IsStrictlySortedBy base_cmp) (sym same) rising)),
+        λ kept. subst (IsStrictlySortedBy base_cmp) same (sorted_map base_cmp (λ (e : Element). e.base) (first_elements page (head_in page).count) (to_leaf HasOrder kept)),
       )
 
   pub leaf_fields : (ArePlaces page n × IsZeroOutside page (place n)) ↔ Keeps page Fields
@@ -86,11 +86,11 @@ module _ {page : List ℕ} {n mirror : ℕ} (h : LeafHead page n mirror) where
             (λ i low. record { placed = fields i (omega arith); zero = zeros.places i (omega arith) }, rw (← all) zeros.outside),
       )
 
-  pub leaf_mirror : (es : List Element) → es ≡ elements_in page n → All (IsUpTo mirror) es ↔ Keeps page Mirror
+  pub leaf_mirror : (es : List Element) → es ≡ first_elements page n → All (IsUpTo mirror) es ↔ Keeps page Mirror
   leaf_mirror es read =
-      let all : es ≡ elements_in page (head_in page).count = read ∙ ap (elements_in page) h.count in
+      let all : es ≡ first_elements page (head_in page).count = read ∙ ap (first_elements page) h.count in
       (λ each. of_leaf HasMirror (rw (← h.latest, ← all) each), λ kept. rw (h.latest, all) (to_leaf HasMirror kept))
 
   -- the leaf that was read
-  pub leaf_read : (es : List Element) → es ≡ elements_in page n → record { mirror = mirror; places = record { items = es } } ≡ leaf_in page
-  leaf_read es read = rw (read ∙ ap (elements_in page) h.count, h.latest) refl
+  pub leaf_read : (es : List Element) → es ≡ first_elements page n → record { mirror = mirror; places = record { items = es } } ≡ leaf_in page
+  leaf_read es read = rw (read ∙ ap (first_elements page) h.count, h.latest) refl

@@ -11,8 +11,8 @@ use Rattle.hm_key.specs.declared.element.Element.{Element}
 use Rattle.hm_node.specs.Base.{base_in}
 use Rattle.hm_node.specs.Head.{head_in}
 use Rattle.hm_node.specs.Places.{place, first, IsZero}
-use Rattle.hm_node.specs.Leaf.{element_in, elements_in, leaf_in}
-use Rattle.hm_node.specs.Inner.{child_in, children_in, inner_in}
+use Rattle.hm_node.specs.Leaf.{element_in, first_elements, leaf_in}
+use Rattle.hm_node.specs.Inner.{child_in, first_children, inner_in}
 use Rattle.hm_node.specs.Node.{node_in, count_of, place_width, end_of, Spells, HasZeros}
 use Rattle.hm_node.specs.declared.head.Head.{Head}
 use Rattle.hm_node.specs.declared.leaf.Leaf.{Leaf}
@@ -116,8 +116,8 @@ same_leaf p q leaf bytes bytes' one other =
     let n = array_vec_len leaf.places in
     let l = leaf_there p leaf one in
     let l' = leaf_there q leaf other in
-    let read : elements_in p (head_in p).count ≡ leaf.places.items = ap (λ (x : Leaf). x.places.items) l in
-    let read' : elements_in q (head_in q).count ≡ leaf.places.items = ap (λ (x : Leaf). x.places.items) l' in
+    let read : first_elements p (head_in p).count ≡ leaf.places.items = ap (λ (x : Leaf). x.places.items) l in
+    let read' : first_elements q (head_in q).count ≡ leaf.places.items = ap (λ (x : Leaf). x.places.items) l' in
     let kind : (head_in p).kind ≡ (head_in q).kind = one.says.kind ∙ sym other.says.kind in
     let level : (head_in p).level ≡ (head_in q).level = one.says.level ∙ sym other.says.level in
     let count : (head_in p).count ≡ (head_in q).count = counted element_in p (head_in p).count leaf.places.items read ∙ sym (counted element_in q (head_in q).count leaf.places.items read') in
@@ -138,8 +138,8 @@ same_inner p q inner bytes bytes' one other =
     let n = array_vec_len inner.places in
     let l = inner_there p inner one in
     let l' = inner_there q inner other in
-    let read : children_in p (head_in p).count ≡ inner.places.items = ap (λ (x : Inner). x.places.items) l in
-    let read' : children_in q (head_in q).count ≡ inner.places.items = ap (λ (x : Inner). x.places.items) l' in
+    let read : first_children p (head_in p).count ≡ inner.places.items = ap (λ (x : Inner). x.places.items) l in
+    let read' : first_children q (head_in q).count ≡ inner.places.items = ap (λ (x : Inner). x.places.items) l' in
     let many : (head_in p).count ≡ n = counted child_in p (head_in p).count inner.places.items read in
     let many' : (head_in q).count ≡ n = counted child_in q (head_in q).count inner.places.items read' in
     let kind : (head_in p).kind ≡ (head_in q).kind = one.says.kind ∙ sym other.says.kind in

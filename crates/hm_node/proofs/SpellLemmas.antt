@@ -8,8 +8,8 @@ use Rattle.hm_key.specs.declared.base.Base.{Base}
 use Rattle.hm_node.specs.Base.{base_in}
 use Rattle.hm_node.specs.Head.{head_in}
 use Rattle.hm_node.specs.Places.{place, IsZero, IsZeroOutside, IsWritten}
-use Rattle.hm_node.specs.Leaf.{elements_in, element_in, leaf_in}
-use Rattle.hm_node.specs.Inner.{children_in, child_in, inner_in}
+use Rattle.hm_node.specs.Leaf.{first_elements, element_in, leaf_in}
+use Rattle.hm_node.specs.Inner.{first_children, child_in, inner_in}
 use Rattle.hm_node.specs.Node.{node_in, SaysLevel, HasZeros, Spells}
 use Rattle.hm_node.specs.declared.head.Head.{Head}
 use Rattle.hm_node.specs.declared.head.TheConstants.{LEAF, INNER, LEAF_LEVEL}
@@ -95,9 +95,9 @@ inner_spelled inner old page new alone written elsewhere right sized few =
     let level : (head_in new).level ≡ inner.level = ap (λ (h : Head). h.level) says in
     let count : (head_in new).count ≡ n = ap (λ (h : Head). h.count) says in
     let mirror : (head_in new).mirror ≡ inner.mirror = ap (λ (h : Head). h.mirror) says in
-    let kept : children_in new n ≡ children_in page n = first_same (λ i. child_in new (place i)) (λ i. child_in page (place i)) n
+    let kept : first_children new n ≡ first_children page n = first_same (λ i. child_in new (place i)) (λ i. child_in page (place i)) n
     (λ i low. same_child new page (place i) (record { each = λ at size a b. elsewhere.same at size (inr (omega arith)) })) in
-    let values : children_in new n ≡ inner.places.items = kept ∙ written.values in
+    let values : first_children new n ≡ inner.places.items = kept ∙ written.values in
     let read : inner_in new ≡ inner = rw (count, level, mirror, right, values) refl in
     record {
       sized = sized;

@@ -22,16 +22,16 @@ child_in page at = record {
   mirror = get page (at + 48) 8;
 }
 
--- the children of so many places
-abbrev pub children_in : List ℕ → ℕ → List Child
-children_in page n = first (λ i. child_in page (place i)) n
+-- the children of the first places, so many of them
+abbrev pub first_children : List ℕ → ℕ → List Child
+first_children page n = first (λ i. child_in page (place i)) n
 
 -- the inner node in a page that is one's: its right boundary stands in the place after its children
 abbrev pub inner_in : List ℕ → Inner
 inner_in page = record {
   level = (head_in page).level;
   mirror = (head_in page).mirror;
-  places = record { items = children_in page (head_in page).count };
+  places = record { items = first_children page (head_in page).count };
   right = base_in page (place (head_in page).count);
 }
 

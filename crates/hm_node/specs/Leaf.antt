@@ -21,15 +21,15 @@ element_in page at = record {
   len = get page (at + 48) 4;
 }
 
--- the elements of so many places
-abbrev pub elements_in : List ℕ → ℕ → List Element
-elements_in page n = first (λ i. element_in page (place i)) n
+-- the elements of the first places, so many of them
+abbrev pub first_elements : List ℕ → ℕ → List Element
+first_elements page n = first (λ i. element_in page (place i)) n
 
 -- the leaf in a page that is one's
 abbrev pub leaf_in : List ℕ → Leaf
 leaf_in page = record {
   mirror = (head_in page).mirror;
-  places = record { items = elements_in page (head_in page).count };
+  places = record { items = first_elements page (head_in page).count };
 }
 
 -- an element that may stand in a leaf, with an offset for its payload

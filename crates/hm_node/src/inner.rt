@@ -7,7 +7,7 @@ ghost use Rattle.hm_fields.specs.Fields.{Apart, get};
 ghost use Rattle.hm_key.specs.declared.base.Base.{Base};
 ghost use Rattle.hm_node.specs.Head.{head_in};
 ghost use Rattle.hm_node.specs.Places.{place, IsZero, IsWritten};
-ghost use Rattle.hm_node.specs.Inner.{child_in, children_in, inner_in};
+ghost use Rattle.hm_node.specs.Inner.{child_in, first_children, inner_in};
 ghost use Rattle.hm_node.specs.Inner.{IsBound, IsNodeOffset, IsChild, IsChildPlace, AreChildPlaces};
 ghost use Rattle.hm_node.specs.Node.{Spells, SaysLevel, HasLevel, node_in};
 ghost use Rattle.hm_node.specs.Damage.{Keeps, IsFirstBroken};
@@ -133,7 +133,7 @@ fn is_inner_count(count: usize) -> bool
 // Whether no child of so many places has a `mirror` above this one.
 fn are_up_to(page: &Page, count: usize, mirror: u64) -> bool
     requires { count ≤ 62 }
-    ensures { IsTrue result ↔ All (λ c. c.mirror ≤ mirror) (children_in page.now count) }
+    ensures { IsTrue result ↔ All (λ c. c.mirror ≤ mirror) (first_children page.now count) }
 {
     for i in 0..count {
         if mirror < get_u64(page, place(i) + 48) {
@@ -186,7 +186,7 @@ fn read_children(page: &Page, count: usize, into: &mut ArrayVec<Child, 62>)
     requires count { count ≤ 62 }
     requires places { AreChildPlaces page.now count }
     requires empty { into.old.items ≡ [] }
-    ensures { into.new.items ≡ children_in page.now count }
+    ensures { into.new.items ≡ first_children page.now count }
 {
     for i in 0..count {
         into.push(read_child(page, place(i)));

@@ -6,7 +6,7 @@ ghost use Rattle.hm_fields.specs.Fields.{Apart, get};
 ghost use Rattle.hm_key.specs.Element.{IsElement};
 ghost use Rattle.hm_node.specs.Head.{head_in};
 ghost use Rattle.hm_node.specs.Places.{IsZero, IsWritten};
-ghost use Rattle.hm_node.specs.Leaf.{element_in, elements_in, leaf_in, IsElementPlace, ArePlaces, IsUpTo};
+ghost use Rattle.hm_node.specs.Leaf.{element_in, first_elements, leaf_in, IsElementPlace, ArePlaces, IsUpTo};
 ghost use Rattle.hm_node.specs.Node.{Spells};
 ghost use Rattle.hm_node.specs.Damage.{Keeps, IsFirstBroken};
 ghost use Rattle.hm_node.specs.declared.head.TheConstants.{LEAF, LEAF_LEVEL};
@@ -92,7 +92,7 @@ impl Leaf {
 // Whether no element of so many places has an id above `mirror`.
 fn are_up_to(page: &Page, count: usize, mirror: u64) -> bool
     requires { count ≤ 63 }
-    ensures { IsTrue result ↔ All (IsUpTo mirror) (elements_in page.now count) }
+    ensures { IsTrue result ↔ All (IsUpTo mirror) (first_elements page.now count) }
 {
     for i in 0..count {
         if !is_up_to(page, place(i), mirror) {
@@ -140,7 +140,7 @@ fn read_elements(page: &Page, count: usize, into: &mut ArrayVec<Element, 63>)
     requires count { count ≤ 63 }
     requires places { ArePlaces page.now count }
     requires empty { into.old.items ≡ [] }
-    ensures { into.new.items ≡ elements_in page.now count }
+    ensures { into.new.items ≡ first_elements page.now count }
 {
     for i in 0..count {
         into.push(read_element(page, place(i)));

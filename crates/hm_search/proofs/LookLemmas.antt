@@ -13,8 +13,8 @@ use Rattle.hm_key.specs.declared.element.Element.{Element}
 use Rattle.hm_key.proofs.PlaceLemmas.{first_from-leading}
 use Rattle.hm_node.specs.Base.{base_in, base_cmp}
 use Rattle.hm_node.specs.Head.{head_in}
-use Rattle.hm_node.specs.Inner.{child_in, children_in, inner_in}
-use Rattle.hm_node.specs.Leaf.{element_in, elements_in}
+use Rattle.hm_node.specs.Inner.{child_in, first_children, inner_in}
+use Rattle.hm_node.specs.Leaf.{element_in, first_elements}
 use Rattle.hm_node.specs.Node.{node_in, HasCount, IsNode}
 use Rattle.hm_node.specs.Places.{place, first}
 use Rattle.hm_node.specs.declared.head.Head.{Head}
@@ -97,41 +97,41 @@ module _ (key : Key) (page : List ℕ) where
   inner_test k = refl
 
   -- the elements of a leaf
-  leaf_read : (n k : ℕ) (d : Element) → k < n → stands_before key (slice_index_or (elements_in page n) k d) ≡ is_by false key (base_in page (place k))
+  leaf_read : (n k : ℕ) (d : Element) → k < n → stands_before key (slice_index_or (first_elements page n) k d) ≡ is_by false key (base_in page (place k))
   leaf_read n k d low = ap (stands_before key) (first_at (λ i. element_in page (place i)) n k d low) ∙ leaf_test k
 
-  pub leaf_falls : (n : ℕ) → IsStrictlySortedBy element_cmp (elements_in page n) → Falls (λ i. is_by false key (base_in page (place i))) n
+  pub leaf_falls : (n : ℕ) → IsStrictlySortedBy element_cmp (first_elements page n) → Falls (λ i. is_by false key (base_in page (place i))) n
   leaf_falls n sorted i j le low is =
       let d = element_in page (place 0) in
-      sym (leaf_read n i d (omega arith)) ∙ leading_parted key (elements_in page n) sorted i j d le (omega (arith, first_length (λ i. element_in page (place i)) n)) (leaf_read n j d low ∙ is)
+      sym (leaf_read n i d (omega arith)) ∙ leading_parted key (first_elements page n) sorted i j d le (omega (arith, first_length (λ i. element_in page (place i)) n)) (leaf_read n j d low ∙ is)
 
-  pub leaf_rank : (n r : ℕ) → IsRank (λ i. is_by false key (base_in page (place i))) n r → r ≡ leading key (elements_in page n)
+  pub leaf_rank : (n r : ℕ) → IsRank (λ i. is_by false key (base_in page (place i))) n r → r ≡ leading key (first_elements page n)
   leaf_rank n r rank =
       let size = first_length (λ i. element_in page (place i)) n in
-      leading_point key (elements_in page n) r (omega (arith, size, rank.bound))
+      leading_point key (first_elements page n) r (omega (arith, size, rank.bound))
       (λ k d a b. leaf_read n k d (omega (arith, rank.bound)) ∙ rank.before k b)
       (λ k d a b. leaf_read n k d (omega (arith, size)) ∙ rank.after k a (omega (arith, size)))
 
-  pub leaf_first_at : (n r : ℕ) → IsRank (λ i. is_by false key (base_in page (place i))) n r → slice_get (elements_in page n) r ≡ first_from key (elements_in page n)
-  leaf_first_at n r rank = ap (slice_get (elements_in page n)) (leaf_rank n r rank) ∙ sym (first_from-leading key (elements_in page n))
+  pub leaf_first_at : (n r : ℕ) → IsRank (λ i. is_by false key (base_in page (place i))) n r → slice_get (first_elements page n) r ≡ first_from key (first_elements page n)
+  leaf_first_at n r rank = ap (slice_get (first_elements page n)) (leaf_rank n r rank) ∙ sym (first_from-leading key (first_elements page n))
 
   -- the children of an inner node
-  inner_test_at : (n k : ℕ) (d : Child) → k < n → begins_by key (slice_index_or (children_in page n) k d) ≡ is_by true key (base_in page (place k))
+  inner_test_at : (n k : ℕ) (d : Child) → k < n → begins_by key (slice_index_or (first_children page n) k d) ≡ is_by true key (base_in page (place k))
   inner_test_at n k d low = ap (begins_by key) (first_at (λ i. child_in page (place i)) n k d low) ∙ inner_test k
 
-  pub inner_falls : (n : ℕ) (right : Base) → IsStrictlySortedBy base_cmp (bounds right (children_in page n)) → Falls (λ i. is_by true key (base_in page (place i))) n
+  pub inner_falls : (n : ℕ) (right : Base) → IsStrictlySortedBy base_cmp (bounds right (first_children page n)) → Falls (λ i. is_by true key (base_in page (place i))) n
   inner_falls n right sorted i j le low is =
       let d = child_in page (place 0) in
-      sym (inner_test_at n i d (omega arith)) ∙ begun_parted key right (children_in page n) sorted i j d le (omega (arith, first_length (λ i. child_in page (place i)) n)) (inner_test_at n j d low ∙ is)
+      sym (inner_test_at n i d (omega arith)) ∙ begun_parted key right (first_children page n) sorted i j d le (omega (arith, first_length (λ i. child_in page (place i)) n)) (inner_test_at n j d low ∙ is)
 
-  pub inner_rank : (n r : ℕ) (right : Base) → IsStrictlySortedBy base_cmp (bounds right (children_in page n)) → IsRank (λ i. is_by true key (base_in page (place i))) n r → r - 1 ≡ holder_place key (children_in page n)
+  pub inner_rank : (n r : ℕ) (right : Base) → IsStrictlySortedBy base_cmp (bounds right (first_children page n)) → IsRank (λ i. is_by true key (base_in page (place i))) n r → r - 1 ≡ holder_place key (first_children page n)
   inner_rank n r right sorted rank =
       let size = first_length (λ i. child_in page (place i)) n in
-      let point : r ≡ begun key (children_in page n) =
-      begun_point key (children_in page n) r (omega (arith, size, rank.bound))
+      let point : r ≡ begun key (first_children page n) =
+      begun_point key (first_children page n) r (omega (arith, size, rank.bound))
       (λ k d a b. inner_test_at n k d (omega (arith, rank.bound)) ∙ rank.before k b)
       (λ k d a b. inner_test_at n k d (omega (arith, size)) ∙ rank.after k a (omega (arith, size))) in
-      ap (λ n. n - 1) point ∙ holder_from_begun key right (children_in page n) sorted
+      ap (λ n. n - 1) point ∙ holder_from_begun key right (first_children page n) sorted
 
 -- there is no place where there is no child
 places_none : (level : ℕ) (right : Base) (cs : List Child) (i : ℕ) → slice_get cs i ≡ None → slice_get (places_of level right cs) i ≡ None
@@ -145,13 +145,13 @@ module _ (page : List ℕ) where
   left_there k = refl
 
   -- the right boundary of a child stands in the place after it
-  right_there : (n i : ℕ) → i < n → next_left (base_in page (place n)) (drop (suc i) (children_in page n)) ≡ base_in page (place (suc i))
+  right_there : (n i : ℕ) → i < n → next_left (base_in page (place n)) (drop (suc i) (first_children page n)) ≡ base_in page (place (suc i))
   right_there n i low =
       elim (cases_lt (suc i) n) [
-        | inl more ↦ next_there (base_in page (place n)) (children_in page n) (suc i) (child_in page (place (suc i))) (first_get (λ k. child_in page (place k)) n (suc i) more) ∙ left_there (suc i)
+        | inl more ↦ next_there (base_in page (place n)) (first_children page n) (suc i) (child_in page (place (suc i))) (first_get (λ k. child_in page (place k)) n (suc i) more) ∙ left_there (suc i)
         | inr last ↦
             let is : n ≡ suc i = omega arith in
-            next_none (base_in page (place n)) (children_in page n) (suc i) (first_past (λ k. child_in page (place k)) n (suc i) (omega arith)) ∙ ap (λ (k : ℕ). base_in page (place k)) is
+            next_none (base_in page (place n)) (first_children page n) (suc i) (first_past (λ k. child_in page (place k)) n (suc i) (omega arith)) ∙ ap (λ (k : ℕ). base_in page (place k)) is
       ]
 
   -- what is below the child in a place
@@ -160,13 +160,13 @@ module _ (page : List ℕ) where
   child_below i level n child right high count low is next =
       let k = (head_in page).count in
       let after : i + 1 ≡ suc i = omega arith in
-      let bound : next_left (base_in page (place k)) (drop (suc i) (children_in page k)) ≡ right = right_there k i (omega (arith, count)) ∙ ap (λ (j : ℕ). base_in page (place j)) (sym after) ∙ sym next in
-      place_there (head_in page).level (base_in page (place k)) (children_in page k) i (child_in page (place i)) (first_get (λ k. child_in page (place k)) k i (omega (arith, count)))
+      let bound : next_left (base_in page (place k)) (drop (suc i) (first_children page k)) ≡ right = right_there k i (omega (arith, count)) ∙ ap (λ (j : ℕ). base_in page (place j)) (sym after) ∙ sym next in
+      place_there (head_in page).level (base_in page (place k)) (first_children page k) i (child_in page (place i)) (first_get (λ k. child_in page (place k)) k i (omega (arith, count)))
       ∙ rw (bound, high, is) refl
 
   -- none is below the place after the last
   pub none_below : (i n : ℕ) → n ≡ (head_in page).count → n ≤ i → slice_get (children_of (inner_in page)) i ≡ None
-  none_below i n count high = places_none (head_in page).level (base_in page (place (head_in page).count)) (children_in page (head_in page).count) i (first_past (λ k. child_in page (place k)) (head_in page).count i (omega (arith, count)))
+  none_below i n count high = places_none (head_in page).level (base_in page (place (head_in page).count)) (first_children page (head_in page).count) i (first_past (λ k. child_in page (place k)) (head_in page).count i (omega (arith, count)))
 
 -- an inner node has a child
 pub inner_some : (page : List ℕ) (head : Head) → head ≡ head_in page → head.kind ≢ LEAF → HasCount (node_in page) → 1 ≤ head.count

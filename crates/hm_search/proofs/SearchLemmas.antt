@@ -30,7 +30,7 @@ use Rattle.hm_node.specs.declared.node.Node.TheVariants.{Leaf as leaf_node, Inne
 use Rattle.hm_search.specs.Descent.{StandsHere, levels_below}
 use Rattle.hm_search.specs.Place.{Fits, FitsBounds, IsInside, SpellsHere, mirror_of}
 use Rattle.hm_search.specs.Search.{begun, holder_place, IsPlaceOf, IsEndBy}
-use Rattle.hm_search.specs.Tree.{node_at, elements_in, mark_in, leaf_in, starts_after, holder, at_holder, next_left, children_of, IsTree, IsStoredTree}
+use Rattle.hm_search.specs.Tree.{node_at, elements_in, mark_in, leaf_offset_in, starts_after, holder, at_holder, next_left, children_of, IsTree, IsStoredTree}
 use Rattle.hm_search.specs.declared.search.Found.{Found}
 use Rattle.hm_search.specs.declared.subtree.Subtree.{Subtree}
 use Rattle.hm_search.proofs.ChildLemmas.{bounds, later_sorted, next_by_right, place_is, at_holder_is, holder_place_within, holder_later}
@@ -68,8 +68,8 @@ pub mark_up : (map : PageMap) (height lower : ℕ) (s : Subtree) (inner : Inner)
 mark_up map height lower s inner key up is = ap (λ (n : Node). mark_in map height n key) is ∙ ap (λ (h : ℕ). mark_in map h (inner_node inner) key) up
 
 leaf_up : (map : PageMap) (height lower : ℕ) (s : Subtree) (inner : Inner) (key : Key) → height ≡ suc lower → node_at map s.at ≡ inner_node inner
-    → leaf_in map height s.at (node_at map s.at) key ≡ at_holder (λ (c : Child). leaf_in map lower c.child (node_at map c.child) key) key inner.places.items
-leaf_up map height lower s inner key up is = ap (λ (n : Node). leaf_in map height s.at n key) is ∙ ap (λ (h : ℕ). leaf_in map h s.at (inner_node inner) key) up
+    → leaf_offset_in map height s.at (node_at map s.at) key ≡ at_holder (λ (c : Child). leaf_offset_in map lower c.child (node_at map c.child) key) key inner.places.items
+leaf_up map height lower s inner key up is = ap (λ (n : Node). leaf_offset_in map height s.at n key) is ∙ ap (λ (h : ℕ). leaf_offset_in map h s.at (inner_node inner) key) up
 
 -- what a function gives at the child that holds a key, from its place
 pub at_child : (f : ℕ → ℕ) (key : Key) (inner : Inner) (place : ℕ) (child : Subtree) → place ≡ holder_place key inner.places.items → slice_get (children_of inner) place ≡ Some child
@@ -83,7 +83,7 @@ at_child f key inner place child at get =
 pub place_up : (map : PageMap) (height lower : ℕ) (s child : Subtree) (inner : Inner) (key : Key) (place : ℕ) (found : Found) → height ≡ suc lower → node_at map s.at ≡ inner_node inner
     → place ≡ holder_place key inner.places.items → slice_get (children_of inner) place ≡ Some child → IsPlaceOf map lower child key found → IsPlaceOf map height s key found
 place_up map height lower s child inner key place found up is at get below = record {
-  leaf = below.leaf ∙ sym (leaf_up map height lower s inner key up is ∙ at_child (λ a. leaf_in map lower a (node_at map a) key) key inner place child at get);
+  leaf = below.leaf ∙ sym (leaf_up map height lower s inner key up is ∙ at_child (λ a. leaf_offset_in map lower a (node_at map a) key) key inner place child at get);
   place = below.place;
 }
 

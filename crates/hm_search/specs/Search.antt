@@ -7,7 +7,7 @@ use Rattle.hm_key.specs.Places.{leading}
 use Rattle.hm_key.specs.Stores.{IsEnd}
 use Rattle.hm_key.specs.declared.base.Base.{Base}
 use Rattle.hm_node.specs.declared.inner.Child.{Child}
-use Rattle.hm_search.specs.Tree.{node_at, elements_in, leaf_in, starts_after}
+use Rattle.hm_search.specs.Tree.{node_at, elements_in, leaf_offset_in, starts_after}
 use Rattle.hm_search.specs.declared.search.Found.{Found}
 use Rattle.hm_search.specs.declared.subtree.Subtree.{Subtree}
 
@@ -25,7 +25,7 @@ holder_place key (c ∷ cs) = begun key cs
 -- leaf's elements stand before it
 pub record IsPlaceOf (map : PageMap) (height : ℕ) (subtree : Subtree) (key : Key) (found : Found)
     : Type 0 where
-  pub leaf : found.leaf ≡ leaf_in map height subtree.at (node_at map subtree.at) key
+  pub leaf : found.leaf ≡ leaf_offset_in map height subtree.at (node_at map subtree.at) key
   pub place : found.place ≡ leading key (elements_in map 0 (node_at map found.leaf))
 
 -- an end after the key that is not after a right boundary

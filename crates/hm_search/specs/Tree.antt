@@ -50,11 +50,11 @@ mark_in map (suc height) (inner_node inner) key =
     at_holder (λ c. mark_in map height (node_at map c.child) key) key inner.places.items
 
 -- the offset of the leaf whose boundaries hold the key, below a node at this offset
-abbrev pub leaf_in : PageMap → ℕ → ℕ → Node → Key → ℕ
-leaf_in map height at (Leaf leaf) key = at
-leaf_in map zero at (inner_node inner) key = at
-leaf_in map (suc height) at (inner_node inner) key =
-    at_holder (λ c. leaf_in map height c.child (node_at map c.child) key) key inner.places.items
+abbrev pub leaf_offset_in : PageMap → ℕ → ℕ → Node → Key → ℕ
+leaf_offset_in map height at (Leaf leaf) key = at
+leaf_offset_in map zero at (inner_node inner) key = at
+leaf_offset_in map (suc height) at (inner_node inner) key =
+    at_holder (λ c. leaf_offset_in map height c.child (node_at map c.child) key) key inner.places.items
 
 -- whether an offset is that of a node below this one
 abbrev pub reaches : PageMap → ℕ → Node → ℕ → Bool
@@ -155,12 +155,12 @@ IsWhole map root =
     (at : ℕ) → IsSome (map at)
     → IsTrue (nat_eq at root || reaches map (height_of (node_at map root)) (node_at map root) at)
 
--- the elements, the marks and the leaves of the tree from a root on
+-- the elements, the marks and the offsets of the leaves of the tree from a root on
 abbrev pub elements_of : PageMap → ℕ → List Element
 elements_of map root = elements_in map (height_of (node_at map root)) (node_at map root)
 
 abbrev pub mark_of : PageMap → ℕ → Key → ℕ
 mark_of map root = mark_in map (height_of (node_at map root)) (node_at map root)
 
-abbrev pub leaf_of : PageMap → ℕ → Key → ℕ
-leaf_of map root = leaf_in map (height_of (node_at map root)) root (node_at map root)
+abbrev pub leaf_offset_of : PageMap → ℕ → Key → ℕ
+leaf_offset_of map root = leaf_offset_in map (height_of (node_at map root)) root (node_at map root)

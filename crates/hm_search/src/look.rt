@@ -5,7 +5,7 @@ ghost use Rattle.hm_key.specs.Key.{key_of};
 ghost use Rattle.hm_node.specs.Base.{base_in};
 ghost use Rattle.hm_node.specs.Head.{head_in};
 ghost use Rattle.hm_node.specs.Inner.{inner_in, AreChildPlaces, HasInnerOrder};
-ghost use Rattle.hm_node.specs.Leaf.{leaf_in, elements_in, ArePlaces, HasLeafOrder};
+ghost use Rattle.hm_node.specs.Leaf.{leaf_in, first_elements, ArePlaces, HasLeafOrder};
 ghost use Rattle.hm_node.specs.Node.{node_in, IsNode, Spells};
 ghost use Rattle.hm_node.specs.Places.{place as place_at};
 ghost use Rattle.hm_search.specs.Descent.{Reads};
@@ -116,7 +116,7 @@ fn see_inner(page: &Page, head: &Head, at: &Base) -> SeenInner
 fn element_at(page: &Page, count: usize, i: usize) -> Option<Element>
     requires few { count ≤ 63 }
     requires places { ArePlaces page.now count }
-    ensures { slice_get (elements_in page.now count) i ≡ result }
+    ensures { slice_get (first_elements page.now count) i ≡ result }
 {
     if i < count {
         Some(read_element(page, place(i)))

@@ -20,7 +20,7 @@ pub fn leaf_place(leaf: &Leaf, at: &Base) -> usize
 
 /// The place of the child whose boundaries hold the key of `at`, by halving. What is before all
 /// children is held by the first.
-pub fn child_place(inner: &Inner, at: &Base) -> usize
+pub fn holder_place(inner: &Inner, at: &Base) -> usize
     requires { HasInnerOrder inner.now }
     ensures { result ≡ holder_place (key_of at.now) inner.now.places.items }
 {

@@ -7,7 +7,7 @@ ghost use Rattle.hm_key.specs.Elements.{element_key, element_cmp};
 ghost use Rattle.hm_node.specs.Base.{base_in};
 ghost use Rattle.hm_node.specs.Damage.{Keeps, number_of};
 ghost use Rattle.hm_node.specs.Head.{head_in};
-ghost use Rattle.hm_node.specs.Leaf.{elements_in};
+ghost use Rattle.hm_node.specs.Leaf.{first_elements};
 ghost use Rattle.hm_node.specs.Node.{node_in, SaysLevel, HasCount, HasOrder};
 ghost use Rattle.hm_node.specs.Places.{place as place_at};
 ghost use Rattle.hm_node.specs.declared.rule.Rule.{Rule as NodeRule};
@@ -154,9 +154,9 @@ impl Subtree {
     // last do.
     fn holds_all(&self, page: &Page, count: usize) -> bool
         requires few { count ≤ 63 }
-        requires order { IsStrictlySortedBy element_cmp (elements_in page.now count) }
+        requires order { IsStrictlySortedBy element_cmp (first_elements page.now count) }
         ensures { IsTrue result ↔ All (λ e. IsInside self.now.left self.now.right (element_key e))
-            (elements_in page.now count) }
+            (first_elements page.now count) }
     {
         if count == 0 {
             return true;

@@ -29,7 +29,7 @@ use Rattle.hm_btree.proofs.ToldLemmas.{inner_works, told_written}
 use Rattle.hm_btree.proofs.insert.+insert_into.Goals as goal
 
 pub child-place-requires : goal.child-place-requires
-child-place-requires g t c = place_within c.args.node.now c.in-Inner.inner (key_of c.args.element.now.base) c.child_place-i.result c.requires.node c.in-Inner.is c.child_place-i.ensures
+child-place-requires g t c = place_within c.args.node.now c.in-Inner.inner (key_of c.args.element.now.base) c.holder_place-i.result c.requires.node c.in-Inner.is c.holder_place-i.ensures
 
 pub returns-in_err-child-in-Inner-clause-space : goal.returns-in_err-child-in-Inner-clause-space
 returns-in_err-child-in-Inner-clause-space g t c =
@@ -43,7 +43,7 @@ returns-in_err-child-in-Inner-clause-cause g t c =
     let old = g.S.Counted.faults c.args.space.now in
     let new = g.S.Counted.faults c.read_node.new.pages in
     let p = err_from_is_err_and c.from_residual.result c.from_residual.ensures.1 in
-    let whole = cause_read told c.args.node.now c.in-Inner.inner c.child_place-i.result c.child-place.result old new fault c.in-Inner.is c.child-place.ensures
+    let whole = cause_read told c.args.node.now c.in-Inner.inner c.holder_place-i.result c.child-place.result old new fault c.in-Inner.is c.child-place.ensures
     (subst (λ (r : Result Node Fault). HasFaultCause old new r) c.in_err-child-in-Inner.was c.read_node.ensures.cause) c.in_err-child-in-Inner.ensures.damage in
     let other : HasEditCause {T = Option Upper} told c.args.node.now old new (Err fault) = record { counted = record { never_falls = whole.counted.never_falls; caused = whole.counted.caused }; damage = whole.damage; undamaged = whole.undamaged } in
     rw (p.1, p.2) other
@@ -52,7 +52,7 @@ pub insert_into-requires : goal.insert_into-requires
 insert_into-requires g t c κs within =
     let same = g.met.S.NodeSpace.rests c.args.space.now c.read_node.new.pages c.read_node.ensures.same.rest in
     let smaller : level_of c.in_ok-child-in-Inner.child < level_of c.args.node.now =
-    child_lower c.args.node.now c.in_ok-child-in-Inner.child c.in-Inner.inner c.child_place-i.result c.child-place.result c.in-Inner.is c.child-place.ensures c.in_ok-child-in-Inner.ensures.fits in
+    child_lower c.args.node.now c.in_ok-child-in-Inner.child c.in-Inner.inner c.holder_place-i.result c.child-place.result c.in-Inner.is c.child-place.ensures c.in_ok-child-in-Inner.ensures.fits in
     let less : NODE_BYTES * (level_of c.in_ok-child-in-Inner.child - 1) ≤ g.S.HasRoom.room c.read_node.new.pages TREE_ZONE =
     room_left g.S.HasRoom.room g.S.HasRoom.free c.args.space.now c.read_node.new.pages 0 (NODE_BYTES * (level_of c.in_ok-child-in-Inner.child - 1)) (NODE_BYTES * (level_of c.args.node.now - 1))
     (spends_none g.S.HasRoom.room g.S.HasRoom.free c.args.space.now c.read_node.new.pages 0 same.0 same.1) (omega (arith, smaller)) c.requires.room in
@@ -61,7 +61,7 @@ insert_into-requires g t c κs within =
 pub returns-in_err-upper-in-Inner-clause-space : goal.returns-in_err-upper-in-Inner-clause-space
 returns-in_err-upper-in-Inner-clause-space g t c =
     let same = g.met.S.NodeSpace.rests c.args.space.now c.read_node.new.pages c.read_node.ensures.same.rest in
-    let smaller = child_lower c.args.node.now c.in_ok-child-in-Inner.child c.in-Inner.inner c.child_place-i.result c.child-place.result c.in-Inner.is c.child-place.ensures c.in_ok-child-in-Inner.ensures.fits in
+    let smaller = child_lower c.args.node.now c.in_ok-child-in-Inner.child c.in-Inner.inner c.holder_place-i.result c.child-place.result c.in-Inner.is c.child-place.ensures c.in_ok-child-in-Inner.ensures.fits in
     spends_add g.S.HasRoom.room g.S.HasRoom.free c.args.space.now c.read_node.new.pages c.insert_into.new.space 0 (NODE_BYTES * (level_of c.in_ok-child-in-Inner.child - 1)) (NODE_BYTES * (level_of c.args.node.now - 1))
     (omega (arith, smaller)) (spends_none g.S.HasRoom.room g.S.HasRoom.free c.args.space.now c.read_node.new.pages 0 same.0 same.1) c.insert_into.ensures.space
 
@@ -74,7 +74,7 @@ returns-in_err-upper-in-Inner-clause-cause g t c =
     let mid = g.S.Counted.faults c.read_node.new.pages in
     let new = g.S.Counted.faults c.insert_into.new.space in
     let p = err_from_is_err_and c.from_residual-in_err-upper-in-Inner.result c.from_residual-in_err-upper-in-Inner.ensures.1 in
-    let whole = cause_below told now c.args.node.now c.in_ok-child-in-Inner.child c.in-Inner.inner c.child_place-i.result c.child-place.result old mid new fault c.in-Inner.is c.child-place.ensures
+    let whole = cause_below told now c.args.node.now c.in_ok-child-in-Inner.child c.in-Inner.inner c.holder_place-i.result c.child-place.result old mid new fault c.in-Inner.is c.child-place.ensures
     c.read_node.ensures.same.pages c.read_node.ensures.cause.never_falls c.in_ok-child-in-Inner.ensures.ok
     (subst (λ (r : Result (Option Upper) Fault). HasEditCause now c.in_ok-child-in-Inner.child mid new r) c.in_err-upper-in-Inner.was c.insert_into.ensures.cause) in
     rw (p.1, p.2) whole
@@ -83,7 +83,7 @@ pub returns-in_err-write_node-in-Inner-clause-space : goal.returns-in_err-write_
 returns-in_err-write_node-in-Inner-clause-space g t c =
     let same = g.met.S.NodeSpace.rests c.args.space.now c.read_node.new.pages c.read_node.ensures.same.rest in
     let kept = g.met.S.NodeSpace.rests c.insert_into.new.space c.write_node.new.space c.write_node.ensures.rest in
-    let smaller = child_lower c.args.node.now c.in_ok-child-in-Inner.child c.in-Inner.inner c.child_place-i.result c.child-place.result c.in-Inner.is c.child-place.ensures c.in_ok-child-in-Inner.ensures.fits in
+    let smaller = child_lower c.args.node.now c.in_ok-child-in-Inner.child c.in-Inner.inner c.holder_place-i.result c.child-place.result c.in-Inner.is c.child-place.ensures c.in_ok-child-in-Inner.ensures.fits in
     let below : ℕ = NODE_BYTES * (level_of c.in_ok-child-in-Inner.child - 1) in
     let first = spends_add g.S.HasRoom.room g.S.HasRoom.free c.args.space.now c.read_node.new.pages c.insert_into.new.space 0 below below (omega arith)
     (spends_none g.S.HasRoom.room g.S.HasRoom.free c.args.space.now c.read_node.new.pages 0 same.0 same.1) c.insert_into.ensures.space in
@@ -91,13 +91,13 @@ returns-in_err-write_node-in-Inner-clause-space g t c =
     (spends_none g.S.HasRoom.room g.S.HasRoom.free c.insert_into.new.space c.write_node.new.space 0 kept.0 kept.1)
 
 pub set_mirror-requires : goal.set_mirror-requires
-set_mirror-requires g t c = place_within c.args.node.now c.in-Inner.inner (key_of c.args.element.now.base) c.child_place-i.result c.requires.node c.in-Inner.is c.child_place-i.ensures
+set_mirror-requires g t c = place_within c.args.node.now c.in-Inner.inner (key_of c.args.element.now.base) c.holder_place-i.result c.requires.node c.in-Inner.is c.holder_place-i.ensures
 
 pub add_node-requires-clause-room : goal.add_node-requires-clause-room
 add_node-requires-clause-room g t c =
     let same = g.met.S.NodeSpace.rests c.args.space.now c.read_node.new.pages c.read_node.ensures.same.rest in
     let kept = g.met.S.NodeSpace.rests c.insert_into.new.space c.write_node.new.space c.write_node.ensures.rest in
-    let smaller = child_lower c.args.node.now c.in_ok-child-in-Inner.child c.in-Inner.inner c.child_place-i.result c.child-place.result c.in-Inner.is c.child-place.ensures c.in_ok-child-in-Inner.ensures.fits in
+    let smaller = child_lower c.args.node.now c.in_ok-child-in-Inner.child c.in-Inner.inner c.holder_place-i.result c.child-place.result c.in-Inner.is c.child-place.ensures c.in_ok-child-in-Inner.ensures.fits in
     let below : ℕ = NODE_BYTES * (level_of c.in_ok-child-in-Inner.child - 1) in
     let first = spends_add g.S.HasRoom.room g.S.HasRoom.free c.args.space.now c.read_node.new.pages c.insert_into.new.space 0 below below (omega arith)
     (spends_none g.S.HasRoom.room g.S.HasRoom.free c.args.space.now c.read_node.new.pages 0 same.0 same.1) c.insert_into.ensures.space in
@@ -110,7 +110,7 @@ pub returns-in_err-at-in-Some-clause-space : goal.returns-in_err-at-in-Some-clau
 returns-in_err-at-in-Some-clause-space g t c =
     let same = g.met.S.NodeSpace.rests c.args.space.now c.read_node.new.pages c.read_node.ensures.same.rest in
     let kept = g.met.S.NodeSpace.rests c.insert_into.new.space c.write_node.new.space c.write_node.ensures.rest in
-    let smaller = child_lower c.args.node.now c.in_ok-child-in-Inner.child c.in-Inner.inner c.child_place-i.result c.child-place.result c.in-Inner.is c.child-place.ensures c.in_ok-child-in-Inner.ensures.fits in
+    let smaller = child_lower c.args.node.now c.in_ok-child-in-Inner.child c.in-Inner.inner c.holder_place-i.result c.child-place.result c.in-Inner.is c.child-place.ensures c.in_ok-child-in-Inner.ensures.fits in
     let below : ℕ = NODE_BYTES * (level_of c.in_ok-child-in-Inner.child - 1) in
     let first = spends_add g.S.HasRoom.room g.S.HasRoom.free c.args.space.now c.read_node.new.pages c.insert_into.new.space 0 below below (omega arith)
     (spends_none g.S.HasRoom.room g.S.HasRoom.free c.args.space.now c.read_node.new.pages 0 same.0 same.1) c.insert_into.ensures.space in
@@ -121,14 +121,14 @@ returns-in_err-at-in-Some-clause-space g t c =
 
 pub overflow_add-i : goal.overflow_add-i
 overflow_add-i g t c =
-    let low = place_within c.args.node.now c.in-Inner.inner (key_of c.args.element.now.base) c.child_place-i.result c.requires.node c.in-Inner.is c.child_place-i.ensures in
+    let low = place_within c.args.node.now c.in-Inner.inner (key_of c.args.element.now.base) c.holder_place-i.result c.requires.node c.in-Inner.is c.holder_place-i.ensures in
     let few = (subst (λ (n : Node). IsNode n) c.in-Inner.is c.requires.node).count.1 in
     omega (arith, low, few)
 
 pub insert_beside-requires : goal.insert_beside-requires
 insert_beside-requires g t c =
-    let low = place_within c.args.node.now c.in-Inner.inner (key_of c.args.element.now.base) c.child_place-i.result c.requires.node c.in-Inner.is c.child_place-i.ensures in
-    next_within (with_mirror c.mirror.result) (record { left = c.child-place.result.left; child = 0; mirror = 0 }) c.in-Inner.inner.places.items c.set_mirror.new.inner.places.items c.child_place-i.result c.set_mirror.ensures.items low
+    let low = place_within c.args.node.now c.in-Inner.inner (key_of c.args.element.now.base) c.holder_place-i.result c.requires.node c.in-Inner.is c.holder_place-i.ensures in
+    next_within (with_mirror c.mirror.result) (record { left = c.child-place.result.left; child = 0; mirror = 0 }) c.in-Inner.inner.places.items c.set_mirror.new.inner.places.items c.holder_place-i.result c.set_mirror.ensures.items low
 
 pub returns-in-Leaf-clause-ok : goal.returns-in-Leaf-clause-ok
 returns-in-Leaf-clause-ok g t c =
@@ -141,9 +141,9 @@ returns-in-None-clause-ok g t c =
     let grows = subst (λ (o : Option Upper). Grows (inserted e) key (Writes (last_id e)) (λ x. IsNone x) (IsElement e × IsOffset e.payload) (g.S.Pages.pages c.read_node.new.pages) (g.S.Pages.pages c.insert_into.new.space) c.in_ok-child-in-Inner.child c.insert_into.new.node o)
     c.in-None.is c.in_ok-upper-in-Inner.ensures.ok in
     inner_works (inserted e) key (Writes (last_id e)) (λ x. IsNone x) (IsElement e × IsOffset e.payload) (inserted_local e) c.in-Inner.inner c.set_mirror.new.inner
-    c.child_place-i.result c.child-place.result c.in_ok-child-in-Inner.child c.insert_into.new.node c.mirror.result c.args.node.now
+    c.holder_place-i.result c.child-place.result c.in_ok-child-in-Inner.child c.insert_into.new.node c.mirror.result c.args.node.now
     (g.S.Pages.pages c.args.space.now) (g.S.Pages.pages c.read_node.new.pages) (g.S.Pages.pages c.insert_into.new.space) (g.S.Pages.pages c.write_node.new.space)
-    c.in-Inner.is c.child_place-i.ensures c.child-place.ensures c.read_node.ensures.same.pages c.in_ok-child-in-Inner.ensures.ok grows c.in_ok-write_node-in-Inner.ensures.ok
+    c.in-Inner.is c.holder_place-i.ensures c.child-place.ensures c.read_node.ensures.same.pages c.in_ok-child-in-Inner.ensures.ok grows c.in_ok-write_node-in-Inner.ensures.ok
     c.set_mirror.ensures.level c.set_mirror.ensures.mirror c.mirror.ensures c.set_mirror.ensures.items c.set_mirror.ensures.right
 
 pub returns-in-None-clause-extents : goal.returns-in-None-clause-extents
@@ -156,7 +156,7 @@ pub returns-in-None-clause-space : goal.returns-in-None-clause-space
 returns-in-None-clause-space g t c =
     let same = g.met.S.NodeSpace.rests c.args.space.now c.read_node.new.pages c.read_node.ensures.same.rest in
     let kept = g.met.S.NodeSpace.rests c.insert_into.new.space c.write_node.new.space c.write_node.ensures.rest in
-    let smaller = child_lower c.args.node.now c.in_ok-child-in-Inner.child c.in-Inner.inner c.child_place-i.result c.child-place.result c.in-Inner.is c.child-place.ensures c.in_ok-child-in-Inner.ensures.fits in
+    let smaller = child_lower c.args.node.now c.in_ok-child-in-Inner.child c.in-Inner.inner c.holder_place-i.result c.child-place.result c.in-Inner.is c.child-place.ensures c.in_ok-child-in-Inner.ensures.fits in
     let below : ℕ = NODE_BYTES * (level_of c.in_ok-child-in-Inner.child - 1) in
     let first = spends_add g.S.HasRoom.room g.S.HasRoom.free c.args.space.now c.read_node.new.pages c.insert_into.new.space 0 below below (omega arith)
     (spends_none g.S.HasRoom.room g.S.HasRoom.free c.args.space.now c.read_node.new.pages 0 same.0 same.1) c.insert_into.ensures.space in
@@ -170,9 +170,9 @@ returns-in_ok-at-in-Some-clause-ok g t c =
     let grows = subst (λ (o : Option Upper). Grows (inserted e) key (Writes (last_id e)) (λ x. IsNone x) (IsElement e × IsOffset e.payload) (g.S.Pages.pages c.read_node.new.pages) (g.S.Pages.pages c.insert_into.new.space) c.in_ok-child-in-Inner.child c.insert_into.new.node o)
     c.in-Some.is c.in_ok-upper-in-Inner.ensures.ok in
     inner_grows (inserted e) key (Writes (last_id e)) (λ x. IsNone x) (IsElement e × IsOffset e.payload) (inserted_local e) c.in-Inner.inner c.set_mirror.new.inner c.insert_beside.new.inner
-    c.child_place-i.result c.child-place.result c.in_ok-child-in-Inner.child c.insert_into.new.node c.mirror.result c.in-Some.upper c.in_ok-at-in-Some.at c.mirror-in-Some.result c.insert_beside.result c.args.node.now
+    c.holder_place-i.result c.child-place.result c.in_ok-child-in-Inner.child c.insert_into.new.node c.mirror.result c.in-Some.upper c.in_ok-at-in-Some.at c.mirror-in-Some.result c.insert_beside.result c.args.node.now
     (g.S.Pages.pages c.args.space.now) (g.S.Pages.pages c.read_node.new.pages) (g.S.Pages.pages c.insert_into.new.space) (g.S.Pages.pages c.write_node.new.space) (g.S.Pages.pages c.add_node.new.space)
-    c.in-Inner.is c.child_place-i.ensures c.child-place.ensures c.read_node.ensures.same.pages c.in_ok-child-in-Inner.ensures.ok grows c.in_ok-write_node-in-Inner.ensures.ok c.in_ok-at-in-Some.ensures.ok c.in_ok-at-in-Some.ensures.offset
+    c.in-Inner.is c.holder_place-i.ensures c.child-place.ensures c.read_node.ensures.same.pages c.in_ok-child-in-Inner.ensures.ok grows c.in_ok-write_node-in-Inner.ensures.ok c.in_ok-at-in-Some.ensures.ok c.in_ok-at-in-Some.ensures.offset
     c.set_mirror.ensures.level c.set_mirror.ensures.mirror c.mirror.ensures c.mirror-in-Some.ensures c.set_mirror.ensures.items c.set_mirror.ensures.right c.insert_beside.ensures
 
 pub returns-in_ok-at-in-Some-clause-extents : goal.returns-in_ok-at-in-Some-clause-extents
@@ -185,7 +185,7 @@ pub returns-in_ok-at-in-Some-clause-space : goal.returns-in_ok-at-in-Some-clause
 returns-in_ok-at-in-Some-clause-space g t c =
     let same = g.met.S.NodeSpace.rests c.args.space.now c.read_node.new.pages c.read_node.ensures.same.rest in
     let kept = g.met.S.NodeSpace.rests c.insert_into.new.space c.write_node.new.space c.write_node.ensures.rest in
-    let smaller = child_lower c.args.node.now c.in_ok-child-in-Inner.child c.in-Inner.inner c.child_place-i.result c.child-place.result c.in-Inner.is c.child-place.ensures c.in_ok-child-in-Inner.ensures.fits in
+    let smaller = child_lower c.args.node.now c.in_ok-child-in-Inner.child c.in-Inner.inner c.holder_place-i.result c.child-place.result c.in-Inner.is c.child-place.ensures c.in_ok-child-in-Inner.ensures.fits in
     let below : ℕ = NODE_BYTES * (level_of c.in_ok-child-in-Inner.child - 1) in
     let first = spends_add g.S.HasRoom.room g.S.HasRoom.free c.args.space.now c.read_node.new.pages c.insert_into.new.space 0 below below (omega arith)
     (spends_none g.S.HasRoom.room g.S.HasRoom.free c.args.space.now c.read_node.new.pages 0 same.0 same.1) c.insert_into.ensures.space in
@@ -195,7 +195,7 @@ returns-in_ok-at-in-Some-clause-space g t c =
     (one_more (level_of c.in_ok-child-in-Inner.child) (level_of c.args.node.now) smaller (two_levels c.args.node.now c.in-Inner.inner c.requires.node c.in-Inner.is)) second c.add_node.ensures.space
 
 pub write_node-requires-clause-at : goal.write_node-requires-clause-at
-write_node-requires-clause-at g t c = child_offset c.args.node.now c.in-Inner.inner c.child_place-i.result c.child-place.result (node_shaped c.args.node.now c.requires.node) c.in-Inner.is c.child-place.ensures
+write_node-requires-clause-at g t c = child_offset c.args.node.now c.in-Inner.inner c.holder_place-i.result c.child-place.result (node_shaped c.args.node.now c.requires.node) c.in-Inner.is c.child-place.ensures
 
 pub add_node-requires-clause-node : goal.add_node-requires-clause-node
 add_node-requires-clause-node g t c = (subst (λ (o : Option Upper). AreShaped c.insert_into.new.node o) c.in-Some.is c.in_ok-upper-in-Inner.ensures.shape).above.node
@@ -207,7 +207,7 @@ returns-in-Leaf-clause-shape g t c =
 pub returns-in-None-clause-shape : goal.returns-in-None-clause-shape
 returns-in-None-clause-shape g t c =
     record {
-      shape = mirror_shaped c.in-Inner.inner c.set_mirror.new.inner c.child_place-i.result c.mirror.result (subst (λ (n : Node). IsShaped n) c.in-Inner.is (node_shaped c.args.node.now c.requires.node))
+      shape = mirror_shaped c.in-Inner.inner c.set_mirror.new.inner c.holder_place-i.result c.mirror.result (subst (λ (n : Node). IsShaped n) c.in-Inner.is (node_shaped c.args.node.now c.requires.node))
           c.set_mirror.ensures.level c.set_mirror.ensures.items c.set_mirror.ensures.right;
       above = tt;
     }
@@ -215,11 +215,11 @@ returns-in-None-clause-shape g t c =
 pub returns-in_ok-at-in-Some-clause-shape : goal.returns-in_ok-at-in-Some-clause-shape
 returns-in_ok-at-in-Some-clause-shape g t c =
     let upper = (subst (λ (o : Option Upper). AreShaped c.insert_into.new.node o) c.in-Some.is c.in_ok-upper-in-Inner.ensures.shape).above in
-    let shape = mirror_shaped c.in-Inner.inner c.set_mirror.new.inner c.child_place-i.result c.mirror.result (subst (λ (n : Node). IsShaped n) c.in-Inner.is (node_shaped c.args.node.now c.requires.node))
+    let shape = mirror_shaped c.in-Inner.inner c.set_mirror.new.inner c.holder_place-i.result c.mirror.result (subst (λ (n : Node). IsShaped n) c.in-Inner.is (node_shaped c.args.node.now c.requires.node))
     c.set_mirror.ensures.level c.set_mirror.ensures.items c.set_mirror.ensures.right in
-    let low = place_within c.args.node.now c.in-Inner.inner (key_of c.args.element.now.base) c.child_place-i.result c.requires.node c.in-Inner.is c.child_place-i.ensures in
-    let next = next_within (with_mirror c.mirror.result) (record { left = c.child-place.result.left; child = 0; mirror = 0 }) c.in-Inner.inner.places.items c.set_mirror.new.inner.places.items c.child_place-i.result c.set_mirror.ensures.items low in
-    beside_shaped (max c.set_mirror.new.inner.mirror c.mirror-in-Some.result) (c.child_place-i.result + 1) (record { left = c.in-Some.upper.left; child = c.in_ok-at-in-Some.at; mirror = c.mirror-in-Some.result }) c.set_mirror.new.inner c.insert_beside.new.inner c.insert_beside.result
+    let low = place_within c.args.node.now c.in-Inner.inner (key_of c.args.element.now.base) c.holder_place-i.result c.requires.node c.in-Inner.is c.holder_place-i.ensures in
+    let next = next_within (with_mirror c.mirror.result) (record { left = c.child-place.result.left; child = 0; mirror = 0 }) c.in-Inner.inner.places.items c.set_mirror.new.inner.places.items c.holder_place-i.result c.set_mirror.ensures.items low in
+    beside_shaped (max c.set_mirror.new.inner.mirror c.mirror-in-Some.result) (c.holder_place-i.result + 1) (record { left = c.in-Some.upper.left; child = c.in_ok-at-in-Some.at; mirror = c.mirror-in-Some.result }) c.set_mirror.new.inner c.insert_beside.new.inner c.insert_beside.result
     shape (record { left = upper.left; child = c.in_ok-at-in-Some.ensures.offset.node }) next c.insert_beside.ensures
 
 pub returns-in_err-write_node-in-Inner-clause-cause : goal.returns-in_err-write_node-in-Inner-clause-cause

@@ -7,7 +7,7 @@ use Rattle.hm_node.specs.declared.inner.Child.{Child}
 use Rattle.hm_search.specs.Search.{holder_place}
 use Rattle.hm_search.proofs.ListLemmas.{begins_by, begun_point}
 use Rattle.hm_search.proofs.ChildLemmas.{bounds, begun_parted, holder_from_begun}
-use Rattle.hm_search.proofs.places.child_place.Goals as goal
+use Rattle.hm_search.proofs.places.holder_place.Goals as goal
 
 pub returns : goal.returns
 returns c =
