@@ -1,30 +1,18 @@
 -- A tree that is intact.
-use Rattle.std.proofs.Common.{Bool, true, false, true≢false, ℕ, ◌⊎◌, inl, inr, List, sym, ap, arith, Some, None, Err}
+use Rattle.std.proofs.Common.{Bool, true, false, true≢false, ℕ, List, sym, Some, None, Err}
 use Rattle.std.specs.Prelude.{Option, IfSome, IsTrue}
 use Rattle.std.proofs.Math.Logic.{∥∥₁_elim}
 use Rattle.std.proofs.Props.{props}
-use Rattle.hm_types.specs.Offset.{IsZone}
 use Rattle.hm_types.specs.declared.fault.Fault.{Fault}
 use Rattle.hm_types.specs.declared.fault.Fault.TheVariants.{Media, Damaged, NoMemory}
 use Rattle.hm_fields.specs.Pages.{PageMap}
 use Rattle.hm_types.specs.Faults.{HasStoreCause, IsUndamaged}
 use Rattle.hm_key.specs.declared.element.Element.{Element}
+use Rattle.hm_node.specs.Props.{IsZone-prop}
 use Rattle.hm_search.specs.Props.{IsSoundTree-prop, IsWhole-prop}
 use Rattle.hm_search.specs.Tree.{elements_of}
 use Rattle.hm_btree.specs.Space.{IsSpot}
 use Rattle.hm_btree.specs.Tree.{IsTreeSpace, IsIntact, told_elements}
-
--- one of two facts that exclude each other
-disjoint_prop : {A B : Type 0} → IsProp A → IsProp B → (A → B → ⊥) → IsProp (A ⊎ B)
-disjoint_prop a b apart (inl x) (inl y) = ap inl (a x y)
-disjoint_prop a b apart (inl x) (inr y) = absurd (apart x y)
-disjoint_prop a b apart (inr x) (inl y) = absurd (apart y x)
-disjoint_prop a b apart (inr x) (inr y) = ap inr (b x y)
-
-IsZone-prop : (zone : ℕ) → IsProp (IsZone zone)
-IsZone-prop zone =
-    disjoint_prop (hlevel props)
-    (disjoint_prop (hlevel props) (hlevel props) (λ is other. omega arith)) (λ is other. omega arith)
 
 IsSpot-prop : (at : ℕ) → IsProp (IsSpot at)
 IsSpot-prop at = hlevel (IsZone-prop, props)

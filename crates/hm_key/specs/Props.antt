@@ -14,7 +14,7 @@ use Rattle.hm_key.specs.Marks.{IsMarked}
 use Rattle.hm_key.specs.declared.element.Element.{Element}
 
 -- one of two facts that exclude each other
-disjoint_prop : {A B : Type 0} → IsProp A → IsProp B → (A → B → ⊥) → IsProp (A ⊎ B)
+pub disjoint_prop : {A B : Type 0} → IsProp A → IsProp B → (A → B → ⊥) → IsProp (A ⊎ B)
 disjoint_prop a b apart (inl x) (inl y) = ap inl (a x y)
 disjoint_prop a b apart (inl x) (inr y) = absurd (apart x y)
 disjoint_prop a b apart (inr x) (inl y) = absurd (apart y x)

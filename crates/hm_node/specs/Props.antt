@@ -1,23 +1,16 @@
 -- Facts of ghost fields have one proof at most.
-use Rattle.std.specs.Prelude.{◌⊎◌, ℕ, List}
+use Rattle.std.specs.Prelude.{ℕ, List}
 use Rattle.std.specs.List.Sorted.{IsStrictlySortedBy-prop}
-use Rattle.std.proofs.Common.{inl, inr, ap, arith}
+use Rattle.std.proofs.Common.{arith}
 use Rattle.std.proofs.Props.{props}
 use Rattle.hm_types.specs.Offset.{IsZone}
-use Rattle.hm_key.specs.Props.{IsElement-prop}
+use Rattle.hm_key.specs.Props.{IsElement-prop, disjoint_prop}
 use Rattle.hm_key.specs.declared.element.Element.{Element}
 use Rattle.hm_node.specs.Leaf.{IsPlaced}
 use Rattle.hm_node.specs.Node.{node_in, HasCount, HasFields, HasLevel, IsNode, Spells}
 use Rattle.hm_node.specs.Shape.{HoldsNode}
 use Rattle.hm_node.specs.declared.node.Node.{Node}
 use Rattle.hm_node.specs.declared.node.Node.TheVariants.{Leaf, Inner as inner_node}
-
--- one of two facts that exclude each other
-pub disjoint_prop : {A B : Type 0} → IsProp A → IsProp B → (A → B → ⊥) → IsProp (A ⊎ B)
-disjoint_prop a b apart (inl x) (inl y) = ap inl (a x y)
-disjoint_prop a b apart (inl x) (inr y) = absurd (apart x y)
-disjoint_prop a b apart (inr x) (inl y) = absurd (apart y x)
-disjoint_prop a b apart (inr x) (inr y) = ap inr (b x y)
 
 pub IsZone-prop : (zone : ℕ) → IsProp (IsZone zone)
 IsZone-prop zone =
