@@ -1,11 +1,13 @@
 -- What the parts of a store in memory stand for.
-use Rattle.std.specs.Prelude.{◌≡◌, ℕ, zero, suc, ◌+◌, ◌<◌, ◌≤◌, Bool, true, false, if◌then◌else◌, nat_eq, nat_le, ◌&&◌, List, [], ◌∷◌, length, map, ⊤}
+use Rattle.std.specs.Prelude.{◌≡◌, ℕ, zero, suc, ◌+◌, ◌<◌, ◌≤◌, Bool, true, false, if◌then◌else◌, nat_eq, nat_le, ◌&&◌, List, [], ◌∷◌, All, length, map, ⊤}
 use Rattle.std.specs.Ordering.{is_eq}
 use Rattle.hm_types.specs.Elements.{Key, key_cmp}
 use Rattle.hm_key.specs.Key.{key_of, IsBefore, IsFrom}
 use Rattle.hm_types.specs.Offset.{byte_of}
 use Rattle.hm_types.specs.declared.limits.TheConstants.{BIGBLOCK_BYTES}
 use Rattle.hm_key.specs.Extents.{Extent}
+use Rattle.hm_key.specs.Marks.{IsMarked}
+use Rattle.hm_key.specs.declared.element.Element.{Element}
 use Rattle.hm_key.specs.declared.held.Held.{Held}
 use Rattle.hm_key.specs.declared.mark_list.Mark.{Mark}
 use Rattle.hm_types.specs.declared.zone.TheConstants.{TREE_ZONE, META_ZONE, LARGE_ZONE, SMALL_ZONE}
@@ -23,6 +25,10 @@ marks_key at m = is_eq (key_cmp (mark_key m) at)
 abbrev pub mark_of : List Mark → Key → ℕ
 mark_of [] at = 0
 mark_of (m ∷ ms) at = if marks_key at m then m.id else mark_of ms at
+
+-- the mark of each element's key is at least its ids
+abbrev pub AreMarked : List Mark → List Element → Type 0
+AreMarked marks es = All (IsMarked (mark_of marks)) es
 
 -- the place of the mark of a key, or the number of marks where it has none
 abbrev pub mark_place : Key → List Mark → ℕ

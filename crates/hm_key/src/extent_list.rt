@@ -15,8 +15,8 @@ pub struct ExtentList {
     pub list: Vec<Held>,
     /// The byte of the volume at which the next extent begins.
     pub next: u64,
-    pub ghost live: { AreExtents (extents_of list.items) } by { AreExtents-prop (extents_of list.items) },
-    pub ghost below: { EndBy next (extents_of list.items) } by { EndBy-prop next (extents_of list.items) },
+    pub ghost live: { AreExtents (extents_of list.items) } by { AreExtents-prop _ },
+    pub ghost below: { EndBy next (extents_of list.items) } by { EndBy-prop next _ },
 }
 
 impl ExtentList {

@@ -1,8 +1,7 @@
 // A store in memory.
-ghost use Rattle.std.specs.Prelude.{All, refl};
-ghost use Rattle.hm_key.specs.Memory.{mark_of};
+ghost use Rattle.std.specs.Prelude.{refl};
+ghost use Rattle.hm_key.specs.Memory.{AreMarked};
 ghost use Rattle.hm_key.specs.Props.{AllMarked-prop};
-ghost use Rattle.hm_key.specs.Marks.{IsMarked};
 
 use crate::base::Base;
 use crate::element::Element;
@@ -29,7 +28,7 @@ pub struct MemStore {
     extents: ExtentList,
     rooms: Rooms,
     free: u32,
-    ghost marked: { All (IsMarked (mark_of marks.list.items)) elements.list.items } by { AllMarked-prop (mark_of marks.list.items) elements.list.items },
+    ghost marked: { AreMarked marks.list.items elements.list.items } by { AllMarked-prop _ _ },
 }
 
 impl Counted for MemStore {
