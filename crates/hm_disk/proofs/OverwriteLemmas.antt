@@ -1,5 +1,5 @@
 -- Bytes with a range of them overwritten.
-use Rattle.std.proofs.Common.{◌≡◌, ◌⊎◌, inl, inr, ⊎_elim, ℕ, ◌+◌, ◌-◌, ◌<◌, ◌≤◌, List, [], ◌∷◌, sym, ◌∙◌, arith, length, take, get_or, slice_range}
+use Rattle.std.proofs.Common.{◌≡◌, ◌⊎◌, inl, inr, ⊎_elim, ℕ, ◌+◌, ◌-◌, ◌<◌, ◌≤◌, List, [], sym, ◌∙◌, arith, length, take, get_or, slice_range}
 use Rattle.std.proofs.lemmas.List.{places, ext_get_or}
 use Rattle.std.proofs.lemmas.Bool.{cases_lt}
 use Rattle.hm_disk.specs.Disk.{overwritten}

@@ -1,11 +1,13 @@
 // A disk in memory.
-ghost use Rattle.std.specs.Prelude.{◌≡◌, ℕ, ◌≤◌, ◌+◌, ◌*◌, Some, IfOk, OnOk, OnErr, length, take, slice_range};
+ghost use Rattle.std.specs.Prelude.{◌≡◌, ◌≤◌, ◌+◌, ◌*◌, ℕ, length, take, slice_range};
+ghost use Rattle.std.specs.Prelude.{Some, IfOk, OnOk, OnErr};
 ghost use Rattle.hm_types.specs.declared.limits.TheConstants.{BIGBLOCK_BYTES};
 ghost use Rattle.hm_types.specs.Calls.{no_calls};
 ghost use Rattle.hm_types.specs.Faults.{HasCause};
 ghost use Rattle.hm_disk.specs.Disk.{Written, MayBeTorn, Synced};
 ghost use Rattle.hm_disk.specs.Moments.{CallElapses, SyncElapses, SameLeft};
-ghost use Rattle.hm_disk.specs.MemDisk.{told_of, told_after, left_of, blank, after_first, with_change, with_calls, FitsIn, OnlyCounts, Writes, Syncs};
+ghost use Rattle.hm_disk.specs.MemDisk.{told_of, told_after, left_of, blank, after_first, with_change, with_calls};
+ghost use Rattle.hm_disk.specs.MemDisk.{FitsIn, OnlyCounts, Writes, Syncs};
 ghost use Rattle.hm_disk.specs.declared.change.Change.TheVariants.{Write, Sync};
 
 use crate::change::Change;

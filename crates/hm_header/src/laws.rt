@@ -6,7 +6,8 @@ ghost use Rattle.hm_header.specs.declared.header.TheConstants.{BODY_BYTES, GATE_
 ghost use Rattle.hm_header.specs.Layout.{body_of};
 ghost use Rattle.hm_header.specs.Parts.{AreInRange, all_parts};
 ghost use Rattle.hm_header.specs.Range.{HasRoom, IsHeader};
-ghost use Rattle.hm_header.specs.Slots.{Counts, FirstCounts, Follows, IsChosen, IsClosed, IsFault, SecondCounts, Spells, TakesPart, slot_of};
+ghost use Rattle.hm_header.specs.Slots.{Counts, FirstCounts, SecondCounts, Follows, IsChosen, TakesPart};
+ghost use Rattle.hm_header.specs.Slots.{IsClosed, IsFault, Spells, slot_of};
 
 /// A body is that of one header in range at most.
 pub fn body_has_one_header()
