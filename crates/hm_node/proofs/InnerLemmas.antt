@@ -1,13 +1,13 @@
 -- The rules of a page that says that it holds an inner node.
-use Rattle.std.proofs.Common.{◌≡◌, ℕ, suc, ◌+◌, ◌<◌, ◌≤◌, List, [], ◌∷◌, ◌++◌, length, map, refl, sym, ap, subst, ◌∙◌, ◌↔◌, arith}
+use Rattle.std.proofs.Common.{◌≡◌, ℕ, suc, ◌+◌, ◌≤◌, List, [], ◌∷◌, ◌++◌, length, map, refl, sym, ap, subst, ◌∙◌, ◌↔◌, arith}
 use Rattle.std.specs.Prelude.{All}
 use Rattle.std.specs.List.Sorted.{IsStrictlySortedBy}
 use Rattle.hm_types.specs.declared.limits.TheConstants.{MOST_INNER_CHILDREN, MOST_LEVELS}
 use Rattle.hm_key.specs.declared.base.Base.{Base}
 use Rattle.hm_node.specs.Base.{base_in, base_cmp}
 use Rattle.hm_node.specs.Head.{head_in}
-use Rattle.hm_node.specs.Places.{place, first, bases_in, IsZero, IsZeroOutside}
-use Rattle.hm_node.specs.Inner.{child_in, first_children, inner_in, boundaries, IsBound, IsChild, AreChildPlaces, IsChildPlace}
+use Rattle.hm_node.specs.Places.{place, first, bases_in, IsZeroOutside}
+use Rattle.hm_node.specs.Inner.{child_in, first_children, inner_in, boundaries, IsBound, IsChild, AreChildPlaces}
 use Rattle.hm_node.specs.Node.{node_in, HasLevel, HasCount, HasOrder, HasFields, HasMirror, SaysLevel, HasZeros}
 use Rattle.hm_node.specs.Damage.{Keeps}
 use Rattle.hm_node.specs.declared.head.Head.{Head}

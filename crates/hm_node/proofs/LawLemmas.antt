@@ -1,20 +1,11 @@
 -- One node a page, one page a node, and one lowest kind.
-use Rattle.std.proofs.Common.{◌≡◌, ℕ, ◌+◌, ◌*◌, ◌/◌, ◌%◌, ◌<◌, ◌≤◌, inl, inr, List, length, refl, sym, ap, subst, ◌∙◌, arith}
+use Rattle.std.proofs.Common.{◌≡◌, ℕ, inl, inr, List, sym, subst, ◌∙◌, arith}
 use Rattle.std.proofs.lemmas.Bool.{cases_lt}
-use Rattle.hm_types.specs.declared.limits.TheConstants.{PAGE_BYTES}
-use Rattle.hm_fields.specs.Fields.{AreBytes, get}
-use Rattle.hm_fields.proofs.ByteLemmas.{same_bytes, same_page}
-use Rattle.hm_key.specs.declared.base.Base.{Base}
-use Rattle.hm_node.specs.Base.{base_in}
-use Rattle.hm_node.specs.Head.{head_in}
-use Rattle.hm_node.specs.Places.{place, first, IsZero}
-use Rattle.hm_node.specs.Leaf.{element_in, leaf_in}
-use Rattle.hm_node.specs.Inner.{child_in, inner_in}
-use Rattle.hm_node.specs.Node.{node_in, kind_of, count_of, place_width, end_of, HasCount, HasFields, HasLevel, HasZeros, IsNode, Spells}
+use Rattle.hm_node.specs.Places.{first}
+use Rattle.hm_node.specs.Node.{HasCount, HasFields, HasLevel, IsNode, Spells}
 use Rattle.hm_node.specs.Shape.{HoldsNode}
-use Rattle.hm_node.specs.Damage.{number_of, Keeps, IsFirstBroken, IsLowestKind}
+use Rattle.hm_node.specs.Damage.{number_of, IsLowestKind}
 use Rattle.hm_node.specs.declared.node.Node.{Node}
-use Rattle.hm_node.specs.declared.node.Node.TheVariants.{Leaf, Inner}
 
 pub page_spells_one_node : (page : List ℕ) (a b : Node) → Spells page a → Spells page b → a ≡ b
 page_spells_one_node page a b first second = sym first.value ∙ second.value

@@ -1,14 +1,13 @@
 -- The rules of a page that says that it holds a leaf.
-use Rattle.std.proofs.Common.{◌≡◌, ℕ, ◌+◌, ◌<◌, ◌≤◌, List, length, map, refl, sym, ap, subst, ◌∙◌, ◌↔◌, arith}
+use Rattle.std.proofs.Common.{◌≡◌, ℕ, ◌≤◌, List, length, map, refl, sym, ap, subst, ◌∙◌, ◌↔◌, arith}
 use Rattle.std.specs.Prelude.{All}
 use Rattle.std.specs.List.Sorted.{IsStrictlySortedBy}
 use Rattle.hm_types.specs.declared.limits.TheConstants.{MOST_LEAF_ELEMENTS}
-use Rattle.hm_key.specs.Elements.{element_cmp}
 use Rattle.hm_key.specs.declared.element.Element.{Element}
 use Rattle.hm_node.specs.Base.{base_in, base_cmp}
 use Rattle.hm_node.specs.Head.{head_in}
-use Rattle.hm_node.specs.Places.{place, bases_in, IsZero, IsZeroOutside}
-use Rattle.hm_node.specs.Leaf.{element_in, first_elements, leaf_in, IsPlaced, IsUpTo, ArePlaces, IsElementPlace}
+use Rattle.hm_node.specs.Places.{place, bases_in, IsZeroOutside}
+use Rattle.hm_node.specs.Leaf.{element_in, first_elements, leaf_in, IsPlaced, IsUpTo, ArePlaces}
 use Rattle.hm_node.specs.Node.{node_in, HasLevel, HasCount, HasOrder, HasFields, HasMirror, SaysLevel, HasZeros}
 use Rattle.hm_node.specs.Damage.{Keeps}
 use Rattle.hm_node.specs.declared.head.Head.{Head}

@@ -1,12 +1,12 @@
 -- Pages that break no rule, and nodes that are spelled.
-use Rattle.std.proofs.Common.{◌≡◌, ℕ, ◌+◌, ◌<◌, ◌≤◌, List, length, refl, sym, ap, subst, ◌∙◌, ◌↔◌, arith}
+use Rattle.std.proofs.Common.{◌≡◌, ℕ, List, length, refl, sym, subst}
 use Rattle.hm_types.specs.declared.limits.TheConstants.{PAGE_BYTES}
 use Rattle.hm_node.specs.Head.{head_in}
 use Rattle.hm_node.specs.Leaf.{leaf_in}
 use Rattle.hm_node.specs.Inner.{inner_in}
 use Rattle.hm_node.specs.Node.{node_in, HasLevel, HasCount, HasOrder, HasFields, HasMirror, SaysLevel, HasZeros, IsNode, Spells}
-use Rattle.hm_node.specs.Damage.{number_of, Keeps, IsFirstBroken, IsLowestKind}
-use Rattle.hm_node.specs.declared.head.TheConstants.{LEAF, INNER, LEAF_LEVEL}
+use Rattle.hm_node.specs.Damage.{Keeps}
+use Rattle.hm_node.specs.declared.head.TheConstants.{LEAF, INNER}
 use Rattle.hm_node.specs.declared.leaf.Leaf.{Leaf}
 use Rattle.hm_node.specs.declared.inner.Inner.{Inner}
 use Rattle.hm_node.specs.declared.node.Node.{Node}

@@ -1,5 +1,5 @@
 -- What was read from a place, and whether it may stand there.
-use Rattle.std.proofs.Common.{◌≡◌, Bool, true, false, ℕ, ◌+◌, List, refl, sym, ap, subst, ◌∙◌, ◌↔◌, IsTrue}
+use Rattle.std.proofs.Common.{◌≡◌, ℕ, ◌+◌, List, sym, subst, ◌∙◌}
 use Rattle.hm_types.specs.Offset.{IsOffset}
 use Rattle.hm_fields.specs.Fields.{get}
 use Rattle.hm_key.specs.Element.{IsElement}

@@ -1,5 +1,5 @@
 -- Two pages that spell one node have the same bytes.
-use Rattle.std.proofs.Common.{◌≡◌, ℕ, zero, suc, ◌+◌, ◌*◌, ◌<◌, ◌≤◌, inl, inr, List, length, refl, sym, ap, subst, ◌∙◌, arith}
+use Rattle.std.proofs.Common.{◌≡◌, ℕ, zero, suc, ◌+◌, ◌<◌, ◌≤◌, inl, inr, List, length, refl, sym, ap, subst, ◌∙◌, arith}
 use Rattle.std.specs.Prelude.{slice_index_or}
 use Rattle.std.proofs.lemmas.Bool.{cases_lt}
 use Rattle.arrayvec.specs.ArrayVec.{array_vec_len}
@@ -13,7 +13,7 @@ use Rattle.hm_node.specs.Head.{head_in}
 use Rattle.hm_node.specs.Places.{place, first, IsZero}
 use Rattle.hm_node.specs.Leaf.{element_in, first_elements, leaf_in}
 use Rattle.hm_node.specs.Inner.{child_in, first_children, inner_in}
-use Rattle.hm_node.specs.Node.{node_in, count_of, place_width, end_of, Spells, HasZeros}
+use Rattle.hm_node.specs.Node.{node_in, Spells, HasZeros}
 use Rattle.hm_node.specs.declared.head.Head.{Head}
 use Rattle.hm_node.specs.declared.leaf.Leaf.{Leaf}
 use Rattle.hm_node.specs.declared.inner.Child.{Child}

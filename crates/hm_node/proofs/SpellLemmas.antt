@@ -1,22 +1,21 @@
 -- Pages that were written as a whole.
-use Rattle.std.proofs.Common.{◌≡◌, ℕ, ◌+◌, ◌<◌, ◌≤◌, inl, inr, List, length, refl, sym, ap, subst, ◌∙◌, arith}
+use Rattle.std.proofs.Common.{◌≡◌, ℕ, ◌+◌, ◌≤◌, inl, inr, List, length, refl, ap, ◌∙◌, arith}
 use Rattle.arrayvec.specs.ArrayVec.{array_vec_len}
 use Rattle.hm_types.specs.declared.limits.TheConstants.{PAGE_BYTES}
 use Rattle.hm_fields.specs.Fields.{Apart, get, zero_page}
 use Rattle.hm_fields.proofs.FieldLemmas.{get_zero}
-use Rattle.hm_key.specs.declared.base.Base.{Base}
 use Rattle.hm_node.specs.Base.{base_in}
 use Rattle.hm_node.specs.Head.{head_in}
 use Rattle.hm_node.specs.Places.{place, IsZero, IsZeroOutside, IsWritten}
-use Rattle.hm_node.specs.Leaf.{first_elements, element_in, leaf_in}
+use Rattle.hm_node.specs.Leaf.{element_in, leaf_in}
 use Rattle.hm_node.specs.Inner.{first_children, child_in, inner_in}
-use Rattle.hm_node.specs.Node.{node_in, SaysLevel, HasZeros, Spells}
+use Rattle.hm_node.specs.Node.{Spells}
 use Rattle.hm_node.specs.declared.head.Head.{Head}
 use Rattle.hm_node.specs.declared.head.TheConstants.{LEAF, INNER, LEAF_LEVEL}
 use Rattle.hm_node.specs.declared.leaf.Leaf.{Leaf}
 use Rattle.hm_node.specs.declared.inner.Inner.{Inner}
 use Rattle.hm_node.specs.declared.node.Node.TheVariants.{Leaf as leaf_node, Inner as inner_node}
-use Rattle.hm_node.proofs.FieldLemmas.{AreSame, same_child}
+use Rattle.hm_node.proofs.FieldLemmas.{same_child}
 use Rattle.hm_node.proofs.PlaceLemmas.{first_same}
 use Rattle.hm_node.proofs.ZeroLemmas.{zero_part}
 use Rattle.hm_node.proofs.WriteLemmas.{Elsewhere, zero_elsewhere, zero_before}

@@ -7,7 +7,7 @@ use Rattle.hm_types.specs.Offset.{IsZone}
 use Rattle.hm_key.specs.Props.{IsElement-prop, disjoint_prop}
 use Rattle.hm_key.specs.declared.element.Element.{Element}
 use Rattle.hm_node.specs.Leaf.{IsPlaced}
-use Rattle.hm_node.specs.Node.{node_in, HasCount, HasFields, HasLevel, IsNode, Spells}
+use Rattle.hm_node.specs.Node.{HasCount, HasFields, HasLevel, IsNode, Spells}
 use Rattle.hm_node.specs.Shape.{HoldsNode}
 use Rattle.hm_node.specs.declared.node.Node.{Node}
 use Rattle.hm_node.specs.declared.node.Node.TheVariants.{Leaf, Inner as inner_node}

@@ -5,14 +5,14 @@ use Rattle.std.proofs.lemmas.Result.{IfErr-weaker}
 use Rattle.hm_types.specs.Faults.{HasFaultCause}
 use Rattle.hm_types.specs.declared.fault.Fault.{Fault}
 use Rattle.hm_types.specs.declared.fault.Fault.TheVariants.{Media, Damaged, NoMemory}
-use Rattle.hm_fields.specs.Pages.{PageMap, page_in}
+use Rattle.hm_fields.specs.Pages.{PageMap}
 use Rattle.hm_types.specs.Faults.{IsUndamaged}
 use Rattle.hm_node.specs.Node.{IsNode}
 use Rattle.hm_node.specs.declared.inner.Inner.{Inner}
 use Rattle.hm_node.specs.declared.node.Node.{Node}
 use Rattle.hm_node.specs.declared.node.Node.TheVariants.{Inner as inner_node}
 use Rattle.hm_search.specs.Descent.{StandsHere, levels_under, levels_below, LeadsTo, Descends, IsFaultBelow, HasSearchCause}
-use Rattle.hm_search.specs.Place.{Fits, FitsLevel, SpellsHere, TellsDamage}
+use Rattle.hm_search.specs.Place.{Fits, FitsLevel, TellsDamage}
 use Rattle.hm_search.specs.Tree.{node_at, children_of, IsTree, IsStoredTree}
 use Rattle.hm_search.specs.declared.subtree.Parent.{Parent}
 use Rattle.hm_search.specs.declared.subtree.Subtree.{Subtree}

@@ -5,7 +5,7 @@ use Rattle.std.specs.List.Sorted.{IsStrictlySortedBy}
 use Rattle.std.proofs.lemmas.Bool.{cases_lt}
 use Rattle.std.proofs.lemmas.Option.{slice_get_read, slice_get_past}
 use Rattle.hm_types.specs.Elements.{Key}
-use Rattle.hm_fields.specs.Pages.{PageMap, page_in}
+use Rattle.hm_fields.specs.Pages.{PageMap}
 use Rattle.hm_key.specs.Elements.{element_cmp, stands_before, first_from}
 use Rattle.hm_key.specs.Places.{leading}
 use Rattle.hm_key.specs.declared.base.Base.{Base}
@@ -27,7 +27,7 @@ use Rattle.hm_node.specs.declared.node.Node.TheVariants.{Leaf as leaf_node, Inne
 use Rattle.hm_node.proofs.PlaceLemmas.{first_length, first_at}
 use Rattle.hm_search.specs.Look.{is_by, Falls, IsRank, IsSeen, IsSeenLeaf, IsSeenInner, Sees, seen_mirror}
 use Rattle.hm_search.specs.Descent.{StandsHere}
-use Rattle.hm_search.specs.Place.{Fits, SpellsHere, mirror_of}
+use Rattle.hm_search.specs.Place.{Fits, mirror_of}
 use Rattle.hm_search.specs.Search.{begun, holder_place}
 use Rattle.hm_search.specs.Tree.{next_left, child_place, places_of, children_of}
 use Rattle.hm_search.specs.declared.look.Seen.{Seen}

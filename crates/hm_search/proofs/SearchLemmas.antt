@@ -8,7 +8,7 @@ use Rattle.std.proofs.lemmas.List.Elements.{All-from_recursion, recursion_from_A
 use Rattle.std.proofs.lemmas.Result.{IfOk-weaker}
 use Rattle.hm_types.specs.Elements.{Key}
 use Rattle.hm_types.specs.declared.fault.Fault.{Fault}
-use Rattle.hm_fields.specs.Pages.{PageMap, page_in}
+use Rattle.hm_fields.specs.Pages.{PageMap}
 use Rattle.hm_key.specs.Key.{key_of, IsBefore, IsFrom}
 use Rattle.hm_key.specs.Element.{IsElement}
 use Rattle.hm_key.specs.Elements.{element_key, first_from}
@@ -28,7 +28,7 @@ use Rattle.hm_node.specs.declared.leaf.Leaf.{Leaf}
 use Rattle.hm_node.specs.declared.node.Node.{Node}
 use Rattle.hm_node.specs.declared.node.Node.TheVariants.{Leaf as leaf_node, Inner as inner_node}
 use Rattle.hm_search.specs.Descent.{StandsHere, levels_below}
-use Rattle.hm_search.specs.Place.{Fits, FitsBounds, IsInside, SpellsHere, mirror_of}
+use Rattle.hm_search.specs.Place.{Fits, FitsBounds, IsInside, mirror_of}
 use Rattle.hm_search.specs.Search.{begun, holder_place, IsPlaceOf, IsEndBy}
 use Rattle.hm_search.specs.Tree.{node_at, elements_in, mark_in, leaf_offset_in, starts_after, holder, at_holder, next_left, children_of, IsTree, IsStoredTree}
 use Rattle.hm_search.specs.declared.search.Found.{Found}

@@ -1,4 +1,4 @@
-use Rattle.std.proofs.Common.{arith, take}
+use Rattle.std.proofs.Common.{arith}
 use Rattle.hm_node.specs.Leaf.{element_in}
 use Rattle.hm_node.proofs.FieldLemmas.{same_element}
 use Rattle.hm_node.proofs.WriteLemmas.{none_written, written_next, written_all}

@@ -1,5 +1,4 @@
 use Rattle.std.proofs.Common.{rules, ◌≡◌, arith, sym, ◌∙◌, ◌+◌, ◌*◌}
-use Rattle.hm_node.specs.Places.{IsZero}
 use Rattle.hm_fields.specs.Fields.{get}
 use Rattle.hm_node.proofs.ZeroLemmas.{zero_bytes, zero_field, zero_both, zero_part, zero_none}
 use Rattle.hm_node.proofs.places.are_zero.Goals as goal

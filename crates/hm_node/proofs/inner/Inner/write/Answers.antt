@@ -1,5 +1,4 @@
-use Rattle.std.proofs.Common.{◌≡◌, ◌≤◌, ℕ, List, ◌∙◌, subst, sym, ap, arith}
-use Rattle.arrayvec.specs.ArrayVec.{array_vec_len}
+use Rattle.std.proofs.Common.{◌≡◌, ◌≤◌, ℕ, List, ◌∙◌, subst, ap}
 use Rattle.hm_node.specs.Base.{base_in}
 use Rattle.hm_node.specs.Inner.{child_in}
 use Rattle.hm_node.specs.Places.{place, IsWritten}
