@@ -8,13 +8,15 @@ use Rattle.hm_model.specs.declared.command.Command.{Command}
 use Rattle.hm_model.specs.declared.command.Command.TheVariants.{Prune, PruneAll, Reblock, PfsUpgrade, MirrorRead, MirrorWrite, MirrorCopy, End}
 use Rattle.hm_model.specs.declared.reply.Reply.{Reply}
 use Rattle.hm_model.specs.declared.reply.Reply.TheVariants.{Finished, Passed}
-use Rattle.hm_model.specs.After.{Event, OpenCall, State, accepted_effect, after_event, after_pass, call_of, end_effect, end_of_pass, end_of_upgrade, end_of_write, ended, fed_from, feeding, given_in, later_streams, next_stream, no_hash, nothing_merged, of_pfs, on_volume, opened_with, origin_of, present_only, retaining, stream_origin, upgraded, with_opened, with_origin}
+use Rattle.hm_model.specs.After.{Event, OpenCall, State, accepted_effect, after_event, after_pass, call_of, end_effect, end_of_pass, end_of_upgrade, end_of_write, ended, fed_from, feeding, given_in, later_streams, next_stream, no_hash, nothing_merged, of_pfs, on_volume, opened_with, origin_of, present_only, retaining, stream_origin, upgraded, with_opened, with_origin, accepted_effect_of, end_effect_of}
+use Rattle.hm_types.specs.declared.id.Id.{Id}
 use Rattle.hm_model.specs.Call.{Call, first_site, own_id, second_site}
 use Rattle.hm_model.specs.Change.{change}
 use Rattle.hm_model.specs.Cut.{cut, pruned}
 use Rattle.hm_model.specs.Foreign.{no_feed}
 use Rattle.hm_model.specs.Due.{is_tree_call, kept_ids}
 use Rattle.hm_model.specs.Laws.{IsUnfed, is_rewriter, rewrites, versions_of}
+use Rattle.hm_model.specs.Command.{named_opening}
 use Rattle.hm_model.specs.Reply.{is_refusal}
 use Rattle.hm_types.specs.Tree.{FileTree}
 use Rattle.hm_model.specs.Volume.{Local, PseudoFileSystem, Role, Master, Slave, Volume, system_of}
@@ -28,21 +30,8 @@ pub accepted_cases : (P : State → Type 0) (state : State) (call : Call) (comma
     ((pfs : ℕ) → P (with_opened state call pfs pfs no_feed)) →
     P (record (feeding state call (first_site call).at.pfs (first_site call).at.pfs (stream_origin (next_stream state.streams)) (next_stream state.streams)) { streams = later_streams state.streams }) →
     P (feeding state call (second_site call).at.pfs (first_site call).at.pfs (Local (first_site call).at.pfs) no_feed) →
-    P (if is_tree_call call.command then on_volume state (change call) else state) →
-    P (elim command [
-      | Prune path ↦ on_volume (with_opened state call (first_site call).at.pfs (first_site call).at.pfs no_feed)
-          (of_pfs state.volume (first_site call).at.pfs (λ s. retaining (pruned s.retention (kept_ids call)) s))
-      | PruneAll path ↦ on_volume (with_opened state call (first_site call).at.pfs (first_site call).at.pfs no_feed) (of_pfs state.volume (first_site call).at.pfs (present_only (own_id call)))
-      | Reblock fill ↦ with_opened state call 0 0 no_feed
-      | PfsUpgrade path ↦ with_opened state call (first_site call).at.pfs (first_site call).at.pfs no_feed
-      | MirrorRead path begin ↦ with_opened state call (first_site call).at.pfs (first_site call).at.pfs no_feed
-      | MirrorWrite path ↦
-          record (feeding state call (first_site call).at.pfs (first_site call).at.pfs (stream_origin (next_stream state.streams)) (next_stream state.streams)) {
-            streams = later_streams state.streams;
-          }
-      | MirrorCopy master slave limit ↦ feeding state call (second_site call).at.pfs (first_site call).at.pfs (Local (first_site call).at.pfs) no_feed
-      | other ↦ if is_tree_call call.command then on_volume state (change call) else state
-    ])
+    P (if is_tree_call command then on_volume state (change call) else state) →
+    P (accepted_effect_of state call command)
 accepted_cases P state call (Prune path) prune all opens write copy tree = prune
 accepted_cases P state call (PruneAll path) prune all opens write copy tree = all
 accepted_cases P state call (Reblock fill) prune all opens write copy tree = opens 0
@@ -54,10 +43,7 @@ accepted_cases P state call other prune all opens write copy tree = tree
 
 -- what holds of a state, of what an ending and of what an accepted call makes of it holds after an event
 pub effect_cases : (P : State → Type 0) (state : State) (event : Event) (command : Command) → P state → ((opening : ℕ) → P (ended state opening event.entry.reply)) → P (accepted_effect state (call_of no_hash state event)) →
-    P (elim command [
-      | End opening ↦ ended state opening.0 event.entry.reply
-      | other ↦ if is_refusal event.entry.reply then state else accepted_effect state (call_of no_hash state event)
-    ])
+    P (option_map_or (λ (opening : Id). ended state opening.0 event.entry.reply) (named_opening command) (if is_refusal event.entry.reply then state else accepted_effect state (call_of no_hash state event)))
 effect_cases P state event (End opening) same ends accepts = ends opening.0
 effect_cases P state event other same ends accepts = by (is_refusal event.entry.reply)
   where
@@ -90,12 +76,7 @@ apart a b is = let no : eqb a b ≡ false = and_true (eqb a b) is in grind (arit
 
 -- at its end a call that does not rewrite a PFS leaves it
 ended_unfed : (volume : Volume) (reply : Reply) (o : OpenCall) (pfs : ℕ) (command : Command) → (eqb o.pfs pfs && rewrites command) ≡ false →
-    system_of (elim command [
-      | MirrorCopy master slave limit ↦ end_of_pass volume o reply
-      | MirrorWrite path ↦ end_of_write volume o reply
-      | PfsUpgrade path ↦ end_of_upgrade volume o reply
-      | other ↦ volume
-    ]) pfs ≡ system_of volume pfs
+    system_of (end_effect_of volume reply o command) pfs ≡ system_of volume pfs
 ended_unfed volume reply o pfs (MirrorCopy master slave limit) unfed = pass_other volume o reply pfs (apart o.pfs pfs unfed)
 ended_unfed volume reply o pfs (MirrorWrite path) unfed = write_other volume o reply pfs (apart o.pfs pfs unfed)
 ended_unfed volume reply o pfs (PfsUpgrade path) unfed = upgrade_other volume o reply pfs (apart o.pfs pfs unfed)

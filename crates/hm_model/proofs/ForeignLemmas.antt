@@ -11,7 +11,7 @@ use Rattle.hm_retain.proofs.SetLemmas.{less_or_not}
 use Rattle.hm_model.specs.declared.command.Command.{Command}
 use Rattle.hm_model.specs.declared.command.Command.TheVariants.{End, MirrorCopy, MirrorRead, MirrorWrite, PfsSlave, PfsUpgrade, Prune, PruneAll, Reblock}
 use Rattle.hm_model.specs.declared.reply.Reply.TheVariants.{Passed}
-use Rattle.hm_model.specs.After.{Event, OpenCall, State, accepted_effect, after_event, after_events, after_pass, call_of, effect, end_effect, end_id, end_of_pass, end_of_upgrade, ended, fed_from, feeding, given_in, is_origin, last_after, later_streams, next_stream, no_hash, nothing_merged, of_pfs, on_volume, opened_with, opening_state, origin_of, present_only, retaining, stream_origin, upgraded, with_opened, with_origin}
+use Rattle.hm_model.specs.After.{Event, OpenCall, State, accepted_effect, after_event, after_events, after_pass, call_of, effect, end_effect, end_id, end_of_pass, end_of_upgrade, ended, fed_from, feeding, given_in, is_origin, last_after, later_streams, next_stream, no_hash, nothing_merged, of_pfs, on_volume, opened_with, opening_state, origin_of, present_only, retaining, stream_origin, upgraded, with_opened, with_origin, accepted_effect_of}
 use Rattle.hm_model.specs.Call.{Call, first_site, own_id, second_site}
 use Rattle.hm_model.specs.Caused.{is_ending, known_after, known_at, possible_for}
 use Rattle.hm_model.specs.Change.{change, new_slave}
@@ -174,20 +174,7 @@ module _ (source : ℕ) (kept : ℕ → Bool) (trees : ℕ → FileTree) where
   by_command state s u before feed a b same is = subst (λ (c : Command). FedNew state s u before feed c) (sym same) is
 
   opened_as : (state : State) (call : Call) (command : Command) → call.command ≡ command →
-      OpenedAs state call (elim command [
-        | Prune path ↦ on_volume (with_opened state call (first_site call).at.pfs (first_site call).at.pfs no_feed)
-            (of_pfs state.volume (first_site call).at.pfs (λ s. retaining (pruned s.retention (kept_ids call)) s))
-        | PruneAll path ↦ on_volume (with_opened state call (first_site call).at.pfs (first_site call).at.pfs no_feed) (of_pfs state.volume (first_site call).at.pfs (present_only (own_id call)))
-        | Reblock fill ↦ with_opened state call 0 0 no_feed
-        | PfsUpgrade path ↦ with_opened state call (first_site call).at.pfs (first_site call).at.pfs no_feed
-        | MirrorRead path begin ↦ with_opened state call (first_site call).at.pfs (first_site call).at.pfs no_feed
-        | MirrorWrite path ↦
-            record (feeding state call (first_site call).at.pfs (first_site call).at.pfs (stream_origin (next_stream state.streams)) (next_stream state.streams)) {
-              streams = later_streams state.streams;
-            }
-        | MirrorCopy master slave limit ↦ feeding state call (second_site call).at.pfs (first_site call).at.pfs (Local (first_site call).at.pfs) no_feed
-        | other ↦ if is_tree_call call.command then on_volume state (change call) else state
-      ])
+      OpenedAs state call (accepted_effect_of state call command)
   opened_as state call (Prune path) is =
       inr (new_call state call (first_site call).at.pfs (first_site call).at.pfs no_feed, refl, refl, λ s u found after. by_command state s u (origin_of state.volume (first_site call).at.pfs) no_feed call.command (Prune path) is tt)
   opened_as state call (PruneAll path) is =
@@ -222,7 +209,7 @@ module _ (source : ℕ) (kept : ℕ → Bool) (trees : ℕ → FileTree) where
         λ s u found after.
             by_command state s u (origin_of state.volume b) no_feed call.command (MirrorCopy master slave limit) is (rw (fed_origin state.volume b (Local a) s u found after) (inside_new (origin_of state.volume b) a)),
       )
-  opened_as state call other is = by (is_tree_call call.command)
+  opened_as state call other is = by (is_tree_call other)
     where
       by : (test : Bool) → OpenedAs state call (if test then on_volume state (change call) else state)
       by true = inl refl

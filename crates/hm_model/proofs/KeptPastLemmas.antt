@@ -11,7 +11,7 @@ use Rattle.hm_model.specs.declared.command.Command.{Command}
 use Rattle.hm_model.specs.declared.command.Command.TheVariants.{End, MirrorCopy, MirrorWrite, PfsUpgrade}
 use Rattle.hm_model.specs.declared.reply.Reply.{Reply}
 use Rattle.hm_model.specs.declared.reply.Reply.TheVariants.{Cut, Finished}
-use Rattle.hm_model.specs.After.{Event, OpenCall, State, accepted_effect, after_event, after_pass, call_of, effect, end_effect, end_of_pass, end_of_upgrade, end_of_write, ended, given_in, no_hash, nothing_merged, of_pfs, opened_with, upgraded, versions_to, with_origin}
+use Rattle.hm_model.specs.After.{Event, OpenCall, State, accepted_effect, after_event, after_pass, call_of, effect, end_effect, end_of_pass, end_of_upgrade, end_of_write, ended, given_in, no_hash, nothing_merged, of_pfs, opened_with, upgraded, versions_to, with_origin, end_effect_of}
 use Rattle.hm_model.specs.Caused.{is_ending}
 use Rattle.hm_model.specs.Laws.{EndsPass, EndsUpgrade, merges}
 use Rattle.hm_model.specs.Legal.{MayFollow, Setting, begin_of, state_after}
@@ -51,12 +51,7 @@ at-changed volume pfs other id f keeps same = at-versions (of_pfs volume other f
 
 -- a cut pass does nothing at its end
 cut_leaves : (volume : Volume) (o : OpenCall) (items : ℕ) (command : Command) →
-    (elim command [
-      | MirrorCopy master slave limit ↦ end_of_pass volume o (Cut items)
-      | MirrorWrite path ↦ end_of_write volume o (Cut items)
-      | PfsUpgrade path ↦ end_of_upgrade volume o (Cut items)
-      | other ↦ volume
-    ]) ≡ volume
+    (end_effect_of volume (Cut items) o command) ≡ volume
 cut_leaves volume o items (MirrorCopy master slave limit) = refl
 cut_leaves volume o items (MirrorWrite path) = refl
 cut_leaves volume o items (PfsUpgrade path) = refl

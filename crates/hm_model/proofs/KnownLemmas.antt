@@ -8,7 +8,7 @@ use Rattle.hm_model.specs.declared.command.Command.TheVariants.{Prune, PruneAll,
 use Rattle.hm_model.specs.declared.entry.Entry.{Entry}
 use Rattle.hm_model.specs.declared.reply.Reply.{Reply}
 use Rattle.hm_model.specs.declared.reply.Reply.TheVariants.{Done, Listing, Content, Status, Target, Synced, MadePfs, PfsIs, Space, Finished, Passed, Cut, Busy}
-use Rattle.hm_model.specs.After.{Event, OpenCall, State, accepted_effect, after_event, call_of, effect, ended, feeding, later_streams, next_stream, no_hash, of_pfs, on_volume, present_only, retaining, stream_origin, with_opened}
+use Rattle.hm_model.specs.After.{Event, OpenCall, State, accepted_effect, after_event, call_of, effect, ended, feeding, later_streams, next_stream, no_hash, of_pfs, on_volume, present_only, retaining, stream_origin, with_opened, accepted_effect_of}
 use Rattle.hm_model.specs.Call.{Call, first_site, own_id, second_site}
 use Rattle.hm_model.specs.Caused.{IsFree, IsPossible, Known, early_refusal, is_ending, is_housekeeping, known_after_entry, known_busy, number_of, opens, still_open}
 use Rattle.hm_model.specs.Change.{change}
@@ -34,20 +34,7 @@ abbrev pub OpensIf : Bool → State → Call → State → Type 0
 OpensIf test state call after = pairs after.opened ≡ (if test then (own_id call, call.command) ∷ pairs state.opened else pairs state.opened)
 
 accepted_opens : (state : State) (call : Call) (command : Command) →
-    OpensIf (is_housekeeping command) state call (elim command [
-      | Prune path ↦ on_volume (with_opened state call (first_site call).at.pfs (first_site call).at.pfs no_feed)
-          (of_pfs state.volume (first_site call).at.pfs (λ s. retaining (pruned s.retention (kept_ids call)) s))
-      | PruneAll path ↦ on_volume (with_opened state call (first_site call).at.pfs (first_site call).at.pfs no_feed) (of_pfs state.volume (first_site call).at.pfs (present_only (own_id call)))
-      | Reblock fill ↦ with_opened state call 0 0 no_feed
-      | PfsUpgrade path ↦ with_opened state call (first_site call).at.pfs (first_site call).at.pfs no_feed
-      | MirrorRead path begin ↦ with_opened state call (first_site call).at.pfs (first_site call).at.pfs no_feed
-      | MirrorWrite path ↦
-          record (feeding state call (first_site call).at.pfs (first_site call).at.pfs (stream_origin (next_stream state.streams)) (next_stream state.streams)) {
-            streams = later_streams state.streams;
-          }
-      | MirrorCopy master slave limit ↦ feeding state call (second_site call).at.pfs (first_site call).at.pfs (Local (first_site call).at.pfs) no_feed
-      | other ↦ if is_tree_call call.command then on_volume state (change call) else state
-    ])
+    OpensIf (is_housekeeping command) state call (accepted_effect_of state call command)
 accepted_opens state call (Prune path) = refl
 accepted_opens state call (PruneAll path) = refl
 accepted_opens state call (Reblock fill) = refl
@@ -55,7 +42,7 @@ accepted_opens state call (PfsUpgrade path) = refl
 accepted_opens state call (MirrorRead path begin) = refl
 accepted_opens state call (MirrorWrite path) = refl
 accepted_opens state call (MirrorCopy master slave limit) = refl
-accepted_opens state call other = tree (is_tree_call call.command)
+accepted_opens state call other = tree (is_tree_call other)
   where
     tree : (test : Bool) → pairs (if test then on_volume state (change call) else state).opened ≡ pairs state.opened
     tree true = refl

@@ -127,7 +127,7 @@ accepted_names call other = tt
 
 -- the replies that tell a boundary or space name none either
 synced_names : (call : Call) (reply : Reply) → IsSynced reply → NamesAdded call reply
-synced_names call (MadePfs number) is = absurd is
+synced_names call (MadePfs number) is = absurd (cc)
 synced_names call reply is = tt
 
 space_names : (call : Call) (least : ℕ) (reply : Reply) → IsSpace least call.volume reply → NamesAdded call reply

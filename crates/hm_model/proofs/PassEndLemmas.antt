@@ -9,10 +9,11 @@ use Rattle.hm_model.specs.declared.reply.Reply.{Reply}
 use Rattle.hm_model.specs.declared.reply.Reply.TheVariants.{Passed}
 use Rattle.hm_types.specs.declared.text.Text.{Text}
 use Rattle.hm_model.specs.Foreign.{Feed, ForeignMaster, StreamEnd, brought}
-use Rattle.hm_model.specs.After.{Event, Given, OpenCall, State, accepted_effect, after_event, after_pass, call_of, end_effect, end_of_pass, end_of_upgrade, end_of_write, ended, given_by, given_in, no_hash, nothing_given, origin_of}
+use Rattle.hm_model.specs.After.{Event, Given, OpenCall, State, accepted_effect, after_event, after_pass, call_of, end_effect, end_of_pass, end_of_upgrade, end_of_write, ended, given_by, given_in, no_hash, nothing_given, origin_of, end_effect_of}
 use Rattle.hm_model.specs.Call.{Call}
 use Rattle.hm_model.specs.Laws.{AreRising, EndsPass, merges, versions_of}
 use Rattle.hm_model.specs.Legal.{IsAllowed, IsBrought, IsEnding, IsPassed, MayFollow, Setting, begin_of, call_after, enters_unclear, floor_after, state_after}
+use Rattle.hm_model.specs.Command.{named_opening}
 use Rattle.hm_model.specs.Reply.{is_refusal}
 use Rattle.hm_types.specs.Tree.{no_tree}
 use Rattle.hm_model.specs.Volume.{PseudoFileSystem, Volume, as_of, at, system_of}
@@ -20,16 +21,11 @@ use Rattle.hm_model.proofs.GrowthLemmas.{at-versions, changed_in, found-changed,
 use Rattle.hm_model.proofs.PassLemmas.{given-versions, given_in-versions, passed-after, passed-before}
 
 -- an ending is read as one
-pub ending_is : {X : Type 0} (ending : Id → X) (other : X) (call : Command) (opening : Id) → call ≡ End opening → (elim call [ End o ↦ ending o | other_call ↦ other ]) ≡ ending opening
+pub ending_is : {X : Type 0} (ending : Id → X) (other : X) (call : Command) (opening : Id) → call ≡ End opening → (option_map_or ending (named_opening call) other) ≡ ending opening
 ending_is ending other call opening is = rw is refl
 
 merge_is : (volume : Volume) (o : OpenCall) (begin end : Id) (command : Command) → merges command ≡ true →
-    (elim command [
-      | MirrorCopy master slave limit ↦ end_of_pass volume o (Passed begin end)
-      | MirrorWrite path ↦ end_of_write volume o (Passed begin end)
-      | PfsUpgrade path ↦ end_of_upgrade volume o (Passed begin end)
-      | other ↦ volume
-    ]) ≡ end_of_pass volume o (Passed begin end)
+    (end_effect_of volume (Passed begin end) o command) ≡ end_of_pass volume o (Passed begin end)
 merge_is volume o begin end (MirrorCopy master slave limit) is = refl
 merge_is volume o begin end (MirrorWrite path) is = refl
 merge_is volume o begin end command is = absurd (cc)

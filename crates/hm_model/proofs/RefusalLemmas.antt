@@ -8,15 +8,16 @@ use Rattle.hm_model.specs.declared.command.Command.{Command}
 use Rattle.hm_model.specs.declared.command.Command.TheVariants.{End, MirrorCopy, MirrorWrite, PfsUpgrade}
 use Rattle.hm_model.specs.declared.reply.Reply.{Reply}
 use Rattle.hm_model.specs.declared.reply.Reply.TheVariants.{Finished, Passed}
-use Rattle.hm_model.specs.After.{Event, OpenCall, State, accepted_effect, call_of, effect, end_effect, end_of_pass, end_of_upgrade, end_of_write, ended, no_hash, nothing_merged, opened_with, with_origin}
+use Rattle.hm_model.specs.After.{Event, OpenCall, State, accepted_effect, call_of, effect, end_effect, end_of_pass, end_of_upgrade, end_of_write, ended, no_hash, nothing_merged, opened_with, with_origin, end_effect_of}
 use Rattle.hm_model.specs.Caused.{is_ending}
 use Rattle.hm_model.specs.Laws.{IsButOrigin}
+use Rattle.hm_model.specs.Command.{named_opening}
 use Rattle.hm_model.specs.Reply.{is_refusal}
 use Rattle.hm_types.specs.Tree.{FileTree, no_tree}
 use Rattle.hm_model.specs.Volume.{Origin, PseudoFileSystem, Volume, as_of}
 
 -- a call that is no ending goes the other way
-pub not_ending : {X : Type 0} (ending : Id → X) (other : X) (call : Command) → is_ending call ≡ false → (elim call [ End opening ↦ ending opening | other_call ↦ other ]) ≡ other
+pub not_ending : {X : Type 0} (ending : Id → X) (other : X) (call : Command) → is_ending call ≡ false → (option_map_or ending (named_opening call) other) ≡ other
 not_ending ending other (End opening) is = absurd (cc)
 not_ending ending other call is = refl
 
@@ -51,12 +52,7 @@ upgrade_refused volume o reply refused = refl
 
 -- what holds of the volume and of what each kind of ending makes of it holds after the ending
 end_cases : (P : Volume → Type 0) (volume : Volume) (reply : Reply) (o : OpenCall) (command : Command) → P volume → P (end_of_pass volume o reply) → P (end_of_write volume o reply) → P (end_of_upgrade volume o reply) →
-    P (elim command [
-      | MirrorCopy master slave limit ↦ end_of_pass volume o reply
-      | MirrorWrite path ↦ end_of_write volume o reply
-      | PfsUpgrade path ↦ end_of_upgrade volume o reply
-      | other ↦ volume
-    ])
+    P (end_effect_of volume reply o command)
 end_cases P volume reply o (MirrorCopy master slave limit) same pass write upgrade = pass
 end_cases P volume reply o (MirrorWrite path) same pass write upgrade = write
 end_cases P volume reply o (PfsUpgrade path) same pass write upgrade = upgrade
@@ -66,7 +62,7 @@ opened_cases : (P : Volume → Type 0) (volume : Volume) (reply : Reply) (found 
 opened_cases P volume reply None same each = same
 opened_cases P volume reply (Some o) same each = each o
 
-ending_cases : (P : State → Type 0) (state : State) (reply : Reply) (call : Command) → is_ending call ≡ true → ((opening : Id) → P (ended state opening.0 reply)) → (other : State) → P (elim call [ End opening ↦ ended state opening.0 reply | other_call ↦ other ])
+ending_cases : (P : State → Type 0) (state : State) (reply : Reply) (call : Command) → is_ending call ≡ true → ((opening : Id) → P (ended state opening.0 reply)) → (other : State) → P (option_map_or (λ (opening : Id). ended state opening.0 reply) (named_opening call) other)
 ending_cases P state reply (End opening) is each other = each opening
 ending_cases P state reply call is each other = absurd (cc)
 

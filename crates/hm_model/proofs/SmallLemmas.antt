@@ -13,7 +13,7 @@ use Rattle.hm_model.specs.declared.command.Command.{Command}
 use Rattle.hm_model.specs.declared.command.Command.TheVariants.{End, Prune, PruneAll, Reblock, PfsUpgrade, MirrorRead, MirrorWrite, MirrorCopy}
 use Rattle.hm_model.specs.declared.reply.Reply.{Reply}
 use Rattle.hm_model.specs.declared.reply.Reply.TheVariants.{TooManyIntervals}
-use Rattle.hm_model.specs.After.{Event, OpenCall, State, accepted_effect, after_event, after_pass, call_of, effect, end_effect, end_of_pass, ended, fed_from, feeding, given_in, later_streams, next_stream, no_hash, nothing_merged, of_pfs, on_volume, opened_end, opened_with, opening_state, origin_of, present_only, retaining, stream_origin, upgraded, with_opened, with_origin}
+use Rattle.hm_model.specs.After.{Event, OpenCall, State, accepted_effect, after_event, after_pass, call_of, effect, end_effect, end_of_pass, ended, fed_from, feeding, given_in, later_streams, next_stream, no_hash, nothing_merged, of_pfs, on_volume, opened_end, opened_with, opening_state, origin_of, present_only, retaining, stream_origin, upgraded, with_opened, with_origin, accepted_effect_of}
 use Rattle.hm_model.specs.Call.{Call, call_shown, each_located, first_of, first_site, own_id, second_site, site_system, site_tree}
 use Rattle.hm_model.specs.Caused.{is_ending, writes_stream}
 use Rattle.hm_model.specs.Change.{change, changed, changed_pfs, new_slave}
@@ -192,20 +192,7 @@ IsSmallState s = AreSmall s.volume
 -- an accepted call
 small_accepted : (state : State) (event : Event) (command : Command) → event.entry.call ≡ command →
     intervals_left (call_of name_hash state event) ≡ None → AreSmall state.volume →
-    IsSmallState (elim command [
-      | Prune path ↦ on_volume (with_opened state (call_of no_hash state event) (first_site (call_of no_hash state event)).at.pfs (first_site (call_of no_hash state event)).at.pfs no_feed)
-          (of_pfs state.volume (first_site (call_of no_hash state event)).at.pfs (λ s. retaining (pruned s.retention (kept_ids (call_of no_hash state event))) s))
-      | PruneAll path ↦ on_volume (with_opened state (call_of no_hash state event) (first_site (call_of no_hash state event)).at.pfs (first_site (call_of no_hash state event)).at.pfs no_feed) (of_pfs state.volume (first_site (call_of no_hash state event)).at.pfs (present_only (own_id (call_of no_hash state event))))
-      | Reblock fill ↦ with_opened state (call_of no_hash state event) 0 0 no_feed
-      | PfsUpgrade path ↦ with_opened state (call_of no_hash state event) (first_site (call_of no_hash state event)).at.pfs (first_site (call_of no_hash state event)).at.pfs no_feed
-      | MirrorRead path begin ↦ with_opened state (call_of no_hash state event) (first_site (call_of no_hash state event)).at.pfs (first_site (call_of no_hash state event)).at.pfs no_feed
-      | MirrorWrite path ↦
-          record (feeding state (call_of no_hash state event) (first_site (call_of no_hash state event)).at.pfs (first_site (call_of no_hash state event)).at.pfs (stream_origin (next_stream state.streams)) (next_stream state.streams)) {
-            streams = later_streams state.streams;
-          }
-      | MirrorCopy master slave limit ↦ feeding state (call_of no_hash state event) (second_site (call_of no_hash state event)).at.pfs (first_site (call_of no_hash state event)).at.pfs (Local (first_site (call_of no_hash state event)).at.pfs) no_feed
-      | other ↦ if is_tree_call event.entry.call then on_volume state (change (call_of no_hash state event)) else state
-    ])
+    IsSmallState (accepted_effect_of state (call_of no_hash state event) command)
 small_accepted state event (Prune path) is fits small =
     let call : Call = call_of no_hash state event in
     let few : pruned_count call ≤ MOST_INTERVALS =
@@ -226,7 +213,7 @@ small_accepted state event (MirrorWrite path) is fits small =
 small_accepted state event (MirrorCopy master slave limit) is fits small =
     let pfs : ℕ = (second_site (call_of no_hash state event)).at.pfs in
     small_same state.volume pfs (with_origin (fed_from (origin_of state.volume pfs) (Local (first_site (call_of no_hash state event)).at.pfs))) (λ s. refl) (λ s. refl) small
-small_accepted state event command is fits small = by (is_tree_call event.entry.call)
+small_accepted state event command is fits small = by (is_tree_call command)
   where
     by : (test : Bool) → AreSmall (if test then on_volume state (change (call_of no_hash state event)) else state).volume
     by true = small_change (call_of no_hash state event) small

@@ -6,7 +6,7 @@ use Rattle.std.specs.List.{list_any}
 use Rattle.std.proofs.lemmas.Bool.Decides.{nat_tests}
 use Rattle.hm_model.specs.declared.command.Command.{Command}
 use Rattle.hm_model.specs.declared.command.Command.TheVariants.{Prune, PruneAll, Reblock, PfsUpgrade, MirrorRead, MirrorWrite, MirrorCopy, End}
-use Rattle.hm_model.specs.After.{Event, OpenCall, State, accepted_effect, after_event, call_of, effect, ended, feeding, last_after, later_streams, next_stream, no_hash, of_pfs, on_volume, opening_state, present_only, retaining, stream_origin, with_opened}
+use Rattle.hm_model.specs.After.{Event, OpenCall, State, accepted_effect, after_event, call_of, effect, ended, feeding, last_after, later_streams, next_stream, no_hash, of_pfs, on_volume, opening_state, present_only, retaining, stream_origin, with_opened, accepted_effect_of}
 use Rattle.hm_model.specs.Answer.{is_master}
 use Rattle.hm_model.specs.Call.{Call, each_located, first_of, first_site, own_id, second_of, second_site}
 use Rattle.hm_model.specs.Caused.{is_ending}
@@ -41,20 +41,7 @@ opens_other state after call pfs command is other opened =
     inr (new_call state call pfs pfs no_feed, opened, refl, λ writes. absurd (let no_way : rewrites call.command ≡ false = ap rewrites is ∙ other in cc))
 
 pub opened_at : (state : State) (call : Call) (command : Command) → call.command ≡ command →
-    OpenedAt state call (elim command [
-      | Prune path ↦ on_volume (with_opened state call (first_site call).at.pfs (first_site call).at.pfs no_feed)
-          (of_pfs state.volume (first_site call).at.pfs (λ s. retaining (pruned s.retention (kept_ids call)) s))
-      | PruneAll path ↦ on_volume (with_opened state call (first_site call).at.pfs (first_site call).at.pfs no_feed) (of_pfs state.volume (first_site call).at.pfs (present_only (own_id call)))
-      | Reblock fill ↦ with_opened state call 0 0 no_feed
-      | PfsUpgrade path ↦ with_opened state call (first_site call).at.pfs (first_site call).at.pfs no_feed
-      | MirrorRead path begin ↦ with_opened state call (first_site call).at.pfs (first_site call).at.pfs no_feed
-      | MirrorWrite path ↦
-          record (feeding state call (first_site call).at.pfs (first_site call).at.pfs (stream_origin (next_stream state.streams)) (next_stream state.streams)) {
-            streams = later_streams state.streams;
-          }
-      | MirrorCopy master slave limit ↦ feeding state call (second_site call).at.pfs (first_site call).at.pfs (Local (first_site call).at.pfs) no_feed
-      | other ↦ if is_tree_call call.command then on_volume state (change call) else state
-    ])
+    OpenedAt state call (accepted_effect_of state call command)
 opened_at state call (Prune path) is = opens_other state (on_volume (with_opened state call (first_site call).at.pfs (first_site call).at.pfs no_feed) (of_pfs state.volume (first_site call).at.pfs (λ s. retaining (pruned s.retention (kept_ids call)) s))) call (first_site call).at.pfs (Prune path) is refl refl
 opened_at state call (PruneAll path) is = opens_other state (on_volume (with_opened state call (first_site call).at.pfs (first_site call).at.pfs no_feed) (of_pfs state.volume (first_site call).at.pfs (present_only (own_id call)))) call (first_site call).at.pfs (PruneAll path) is refl refl
 opened_at state call (Reblock fill) is = opens_other state (with_opened state call 0 0 no_feed) call 0 (Reblock fill) is refl refl
@@ -65,7 +52,7 @@ opened_at state call (MirrorWrite path) is =
     inr (new_call state call (first_site call).at.pfs (first_site call).at.pfs (next_stream state.streams), refl, refl, λ writes. sym (ap (λ (c : Command). (written_site c (first_site call) (second_site call)).at.pfs) is))
 opened_at state call (MirrorCopy master slave limit) is =
     inr (new_call state call (second_site call).at.pfs (first_site call).at.pfs no_feed, refl, refl, λ writes. sym (ap (λ (c : Command). (written_site c (first_site call) (second_site call)).at.pfs) is))
-opened_at state call other is = by (is_tree_call call.command)
+opened_at state call other is = by (is_tree_call other)
   where
     by : (test : Bool) → OpenedAt state call (if test then on_volume state (change call) else state)
     by true = inl refl

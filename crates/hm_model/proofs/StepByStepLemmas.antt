@@ -17,15 +17,16 @@ use Rattle.hm_model.specs.Due.{Check, first_refusal, intervals_left, record_chec
 use Rattle.hm_types.specs.Hash.{name_hash}
 use Rattle.hm_model.specs.Legal.{HasFeed, IsEnding, IsLegal, IsReply, IsUndamaged, Lands, NamesAdded, Setting, enters_unclear, entries_of, state_after}
 use Rattle.hm_model.specs.Needs.{floor}
+use Rattle.hm_model.specs.Command.{named_opening}
 use Rattle.hm_model.specs.Reply.{is_refusal}
 use Rattle.hm_model.specs.Sites.{ReadsWords}
 
 -- the reply of an event on a state
 abbrev pub IsAllowedOn : ℕ → State → Event → Type 0
-IsAllowedOn least state event = elim event.entry.call [
-  | End opening ↦ (o : OpenCall) × (opened_with opening.0 state.opened ≡ Some o)
+IsAllowedOn least state event = elim (named_opening event.entry.call) [
+  | Some opening ↦ (o : OpenCall) × (opened_with opening.0 state.opened ≡ Some o)
       × IsEnding least state.volume o event.entry.id.0 event.entry.reply
-  | other ↦ IsReply least (call_of name_hash state event) event.entry.reply
+  | None ↦ IsReply least (call_of name_hash state event) event.entry.reply
 ]
 
 -- an event may follow where the run came to this

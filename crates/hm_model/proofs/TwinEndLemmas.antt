@@ -11,7 +11,7 @@ use Rattle.hm_model.specs.declared.command.Command.{Command}
 use Rattle.hm_model.specs.declared.command.Command.TheVariants.{MirrorCopy, MirrorWrite, PfsUpgrade}
 use Rattle.hm_model.specs.declared.reply.Reply.{Reply}
 use Rattle.hm_model.specs.declared.reply.Reply.TheVariants.{Finished, Passed}
-use Rattle.hm_model.specs.After.{Given, OpenCall, State, after_pass, end_effect, end_id, end_of_pass, end_of_upgrade, end_of_write, given_by, given_in, nothing_merged, of_pfs, upgraded, with_origin}
+use Rattle.hm_model.specs.After.{Given, OpenCall, State, after_pass, end_effect, end_id, end_of_pass, end_of_upgrade, end_of_write, given_by, given_in, nothing_merged, of_pfs, upgraded, with_origin, end_effect_of}
 use Rattle.hm_model.specs.Cut.{join, within}
 use Rattle.hm_model.specs.Laws.{AreRising, is_rewriter, merges, rewrites}
 use Rattle.hm_model.specs.Legal.{begin_of}
@@ -47,12 +47,7 @@ pub end_by : (P : Volume → Type 0) (volume : Volume) (reply : Reply) (o : Open
     ((from into : Text) (limit : Option ℕ) → o.command ≡ MirrorCopy from into limit → P (end_of_pass volume o reply)) →
     ((into : Text) → o.command ≡ MirrorWrite into → P (end_of_write volume o reply)) →
     ((path : Text) → o.command ≡ PfsUpgrade path → P (end_of_upgrade volume o reply)) →
-    P (elim command [
-      | MirrorCopy master slave limit ↦ end_of_pass volume o reply
-      | MirrorWrite path ↦ end_of_write volume o reply
-      | PfsUpgrade path ↦ end_of_upgrade volume o reply
-      | other ↦ volume
-    ])
+    P (end_effect_of volume reply o command)
 end_by P volume reply o (MirrorCopy from into limit) is same copy write upgrade = copy from into limit is
 end_by P volume reply o (MirrorWrite into) is same copy write upgrade = write into is
 end_by P volume reply o (PfsUpgrade path) is same copy write upgrade = upgrade path is

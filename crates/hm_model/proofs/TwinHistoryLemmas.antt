@@ -8,7 +8,7 @@ use Rattle.hm_types.specs.declared.id.Id.{Id}
 use Rattle.hm_model.specs.declared.command.Command.{Command}
 use Rattle.hm_model.specs.declared.command.Command.TheVariants.{End, MirrorCopy, MirrorWrite, PfsUpgrade}
 use Rattle.hm_model.specs.declared.reply.Reply.{Reply}
-use Rattle.hm_model.specs.After.{Event, OpenCall, State, accepted_effect, after_event, call_of, effect, end_effect, end_of_pass, end_of_upgrade, end_of_write, ended, last_after, no_hash, opened_with, opening_state}
+use Rattle.hm_model.specs.After.{Event, OpenCall, State, accepted_effect, after_event, call_of, effect, end_effect, end_of_pass, end_of_upgrade, end_of_write, ended, last_after, no_hash, opened_with, opening_state, end_effect_of}
 use Rattle.hm_model.specs.Caused.{IsPossible, Known, early_refusal, is_ending, known_after, known_after_entry, known_at, possible_for}
 use Rattle.hm_model.specs.Due.{is_pass}
 use Rattle.hm_model.specs.Laws.{EndsPass, IsMasterFrom, IsUnfed, is_rewriter}
@@ -32,12 +32,7 @@ none_fed slave m s t (o ∷ os) none = (λ is. fed_no_pass o.master m s t o.orig
 
 -- the end of a call that is no pass does nothing
 pub no_pass_same : (volume : Volume) (reply : Reply) (o : OpenCall) (command : Command) → is_pass command ≡ false →
-    (elim command [
-      | MirrorCopy master slave limit ↦ end_of_pass volume o reply
-      | MirrorWrite path ↦ end_of_write volume o reply
-      | PfsUpgrade path ↦ end_of_upgrade volume o reply
-      | other ↦ volume
-    ]) ≡ volume
+    (end_effect_of volume reply o command) ≡ volume
 no_pass_same volume reply o (MirrorCopy master slave limit) is = absurd (cc)
 no_pass_same volume reply o (MirrorWrite path) is = absurd (cc)
 no_pass_same volume reply o (PfsUpgrade path) is = absurd (cc)

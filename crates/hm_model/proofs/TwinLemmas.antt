@@ -5,7 +5,7 @@ use Rattle.std.specs.List.{AllByRecursion}
 use Rattle.std.specs.Option.{option_map_or}
 use Rattle.hm_model.specs.declared.command.Command.{Command}
 use Rattle.hm_model.specs.declared.command.Command.TheVariants.{Prune, PruneAll, Reblock, PfsUpgrade, MirrorRead, MirrorWrite, MirrorCopy}
-use Rattle.hm_model.specs.After.{OpenCall, State, accepted_effect, fed_from, feeding, later_streams, next_stream, of_pfs, on_volume, origin_of, present_only, retaining, stream_origin, with_opened, with_origin}
+use Rattle.hm_model.specs.After.{OpenCall, State, accepted_effect, fed_from, feeding, later_streams, next_stream, of_pfs, on_volume, origin_of, present_only, retaining, stream_origin, with_opened, with_origin, accepted_effect_of}
 use Rattle.hm_model.specs.Call.{Call, first_site, own_id, second_site}
 use Rattle.hm_model.specs.Change.{change}
 use Rattle.hm_model.specs.Cut.{pruned}
@@ -76,20 +76,7 @@ by_command n s u before a b same is = subst (λ (c : Command). FedNew n s u befo
 
 -- what an accepted call opens
 opened_as : (state : State) (call : Call) (command : Command) → call.command ≡ command →
-    OpenedAs state call (elim command [
-      | Prune path ↦ on_volume (with_opened state call (first_site call).at.pfs (first_site call).at.pfs no_feed)
-          (of_pfs state.volume (first_site call).at.pfs (λ s. retaining (pruned s.retention (kept_ids call)) s))
-      | PruneAll path ↦ on_volume (with_opened state call (first_site call).at.pfs (first_site call).at.pfs no_feed) (of_pfs state.volume (first_site call).at.pfs (present_only (own_id call)))
-      | Reblock fill ↦ with_opened state call 0 0 no_feed
-      | PfsUpgrade path ↦ with_opened state call (first_site call).at.pfs (first_site call).at.pfs no_feed
-      | MirrorRead path begin ↦ with_opened state call (first_site call).at.pfs (first_site call).at.pfs no_feed
-      | MirrorWrite path ↦
-          record (feeding state call (first_site call).at.pfs (first_site call).at.pfs (stream_origin (next_stream state.streams)) (next_stream state.streams)) {
-            streams = later_streams state.streams;
-          }
-      | MirrorCopy master slave limit ↦ feeding state call (second_site call).at.pfs (first_site call).at.pfs (Local (first_site call).at.pfs) no_feed
-      | other ↦ if is_tree_call call.command then on_volume state (change call) else state
-    ])
+    OpenedAs state call (accepted_effect_of state call command)
 opened_as state call (Prune path) is = inr (new_call state call (first_site call).at.pfs (first_site call).at.pfs no_feed, refl, refl, λ s u found after. by_command (first_site call).at.pfs s u (origin_of state.volume (first_site call).at.pfs) call.command (Prune path) is tt)
 opened_as state call (PruneAll path) is = inr (new_call state call (first_site call).at.pfs (first_site call).at.pfs no_feed, refl, refl, λ s u found after. by_command (first_site call).at.pfs s u (origin_of state.volume (first_site call).at.pfs) call.command (PruneAll path) is tt)
 opened_as state call (Reblock fill) is = inr (new_call state call 0 0 no_feed, refl, refl, λ s u found after. by_command 0 s u (origin_of state.volume 0) call.command (Reblock fill) is tt)
@@ -118,7 +105,7 @@ opened_as state call (MirrorCopy master slave limit) is =
       λ s u found after.
           by_command a s u (origin_of state.volume b) call.command (MirrorCopy master slave limit) is (rw (fed_origin state.volume b (Local a) s u found after) (source_new (origin_of state.volume b) a)),
     )
-opened_as state call other is = by (is_tree_call call.command)
+opened_as state call other is = by (is_tree_call other)
   where
     by : (test : Bool) → OpenedAs state call (if test then on_volume state (change call) else state)
     by true = inl refl

@@ -4,18 +4,19 @@ use Rattle.std.specs.Bool.{nat_le, nat_lt}
 use Rattle.std.specs.Option.{option_map_or}
 use Rattle.hm_types.specs.declared.id.Id.{Id}
 use Rattle.hm_model.specs.declared.command.Command.{Command}
-use Rattle.hm_model.specs.declared.command.Command.TheVariants.{Prune, PruneAll, PfsUpgrade, MirrorWrite, MirrorCopy, MirrorRead, Reblock, End}
+use Rattle.hm_model.specs.declared.command.Command.TheVariants.{Prune, PruneAll, PfsUpgrade, MirrorWrite, MirrorCopy, MirrorRead, Reblock, End, Mkdir, Touch, Symlink, Snapshot, Ln, Mv, Write, Fill, Truncate, Rm, Rmdir, Ls, Cat, Stat, Readlink, Sync, Synctid, PfsMaster, PfsSlave, PfsStatus, Df, Progress}
 use Rattle.hm_model.specs.declared.entry.Entry.{Entry}
 use Rattle.hm_model.specs.declared.reply.Reply.{Reply}
-use Rattle.hm_model.specs.declared.reply.Reply.TheVariants.{Passed, Finished, SharedDiffers, BeginDiffers, StreamBad, StreamShort}
-use Rattle.hm_model.specs.Reply.{is_refusal}
+use Rattle.hm_model.specs.declared.reply.Reply.TheVariants.{Passed, Finished, SharedDiffers, BeginDiffers, StreamBad, StreamShort, Done, Listing, Content, Status, Target, Synced, MadePfs, PfsIs, Space, Cut, Exists, NotFound, NotDir, IsDir, NotEmpty, BadPath, ReadOnly, NotRetained, Future, TooBig, CrossPfs, IntoItself, HashFull, PfsFull, NoSnapshots, TooManyIntervals, NotSlave, NotMaster, IdsSpent, NoSpace, Media, Damaged, NoMemory, StreamFault, EndPruned, Busy, NotLink, NotFile}
+use Rattle.hm_model.specs.Command.{named_opening}
+use Rattle.hm_model.specs.Reply.{is_refusal, passed_ids}
 use Rattle.hm_types.specs.Tree.{FileTree, no_tree}
 use Rattle.hm_model.specs.Volume.{Volume, PseudoFileSystem, Role, Master, Slave, Origin, Nowhere, Local, Foreign, Mixed, at, open_end, system_of}
 use Rattle.hm_model.specs.View.{Substitute, view_of}
 use Rattle.hm_model.specs.Sites.{Parsed}
 use Rattle.hm_model.specs.Cut.{cut, join, pruned}
 use Rattle.hm_model.specs.Call.{Call, first_site, second_site, own_id}
-use Rattle.hm_model.specs.Due.{is_pass, is_tree_call, kept_ids}
+use Rattle.hm_model.specs.Due.{is_pass, kept_ids}
 use Rattle.hm_model.specs.Change.{change}
 use Rattle.hm_model.specs.Foreign.{Feed, Foreigners, ForeignMaster, brought, no_feed}
 
@@ -173,7 +174,35 @@ given_by_stream feed =
 abbrev pub given_in : Volume → OpenCall → Given
 given_in volume o = elim o.command [
   | MirrorWrite path ↦ given_by_stream o.stream
-  | other ↦ given_by volume o.master
+  | Mkdir path ↦ given_by volume o.master
+  | Touch path ↦ given_by volume o.master
+  | Symlink target path ↦ given_by volume o.master
+  | Snapshot path ↦ given_by volume o.master
+  | Ln old new ↦ given_by volume o.master
+  | Mv old new ↦ given_by volume o.master
+  | Write path offset bytes ↦ given_by volume o.master
+  | Fill path offset count byte ↦ given_by volume o.master
+  | Truncate path size ↦ given_by volume o.master
+  | Rm path ↦ given_by volume o.master
+  | Rmdir path ↦ given_by volume o.master
+  | Ls path ↦ given_by volume o.master
+  | Cat path offset count ↦ given_by volume o.master
+  | Stat path ↦ given_by volume o.master
+  | Readlink path ↦ given_by volume o.master
+  | Sync ↦ given_by volume o.master
+  | Synctid ↦ given_by volume o.master
+  | Prune path ↦ given_by volume o.master
+  | PruneAll path ↦ given_by volume o.master
+  | Reblock fill ↦ given_by volume o.master
+  | PfsMaster path shared ↦ given_by volume o.master
+  | PfsSlave path shared ↦ given_by volume o.master
+  | PfsStatus path ↦ given_by volume o.master
+  | PfsUpgrade path ↦ given_by volume o.master
+  | MirrorRead path begin ↦ given_by volume o.master
+  | MirrorCopy master slave limit ↦ given_by volume o.master
+  | Df ↦ given_by volume o.master
+  | Progress ↦ given_by volume o.master
+  | End opening ↦ given_by volume o.master
 ]
 
 -- versions that begin by an id, and those that begin after one and by another
@@ -223,12 +252,52 @@ nothing_merged (SharedDiffers slave stream) = true
 nothing_merged (BeginDiffers slave stream) = true
 nothing_merged (StreamBad place) = nat_lt place 32
 nothing_merged (StreamShort taken) = nat_lt taken 32
-nothing_merged other = false
+nothing_merged Done = false
+nothing_merged (Listing names) = false
+nothing_merged (Content bytes) = false
+nothing_merged (Status kind obj size links) = false
+nothing_merged (Target text) = false
+nothing_merged (Synced boundary) = false
+nothing_merged (MadePfs number) = false
+nothing_merged (PfsIs master number shared intervals sync_end) = false
+nothing_merged (Space pool free) = false
+nothing_merged Finished = false
+nothing_merged (Passed begin end) = false
+nothing_merged (Cut items) = false
+nothing_merged Exists = false
+nothing_merged NotFound = false
+nothing_merged NotDir = false
+nothing_merged IsDir = false
+nothing_merged NotEmpty = false
+nothing_merged (BadPath place) = false
+nothing_merged ReadOnly = false
+nothing_merged NotRetained = false
+nothing_merged (Future last) = false
+nothing_merged TooBig = false
+nothing_merged CrossPfs = false
+nothing_merged IntoItself = false
+nothing_merged HashFull = false
+nothing_merged PfsFull = false
+nothing_merged NoSnapshots = false
+nothing_merged (TooManyIntervals count) = false
+nothing_merged NotSlave = false
+nothing_merged NotMaster = false
+nothing_merged IdsSpent = false
+nothing_merged (NoSpace free needed) = false
+nothing_merged (Media before after) = false
+nothing_merged (Damaged at kind) = false
+nothing_merged NoMemory = false
+nothing_merged (StreamFault before after) = false
+nothing_merged (EndPruned end first) = false
+nothing_merged (Busy opening) = false
+nothing_merged NotLink = false
+nothing_merged NotFile = false
 
 -- what the end of a mirror call does to its slave
 abbrev pub end_of_pass : Volume → OpenCall → Reply → Volume
-end_of_pass volume o (Passed begin end) = of_pfs volume o.pfs (after_pass (given_in volume o) begin.0 end.0)
-end_of_pass volume o reply = volume
+end_of_pass volume o reply =
+    option_map_or (λ (ids : Id × Id). of_pfs volume o.pfs (after_pass (given_in volume o) ids.0.0 ids.1.0))
+    (passed_ids reply) volume
 
 -- the same of `mirror-write`, which leaves the source as it was where nothing was merged
 abbrev pub end_of_write : Volume → OpenCall → Reply → Volume
@@ -238,16 +307,85 @@ end_of_write volume o reply =
 -- what the end of `pfs-upgrade` does
 abbrev pub end_of_upgrade : Volume → OpenCall → Reply → Volume
 end_of_upgrade volume o Finished = of_pfs volume o.pfs upgraded
-end_of_upgrade volume o reply = volume
+end_of_upgrade volume o Done = volume
+end_of_upgrade volume o (Listing names) = volume
+end_of_upgrade volume o (Content bytes) = volume
+end_of_upgrade volume o (Status kind obj size links) = volume
+end_of_upgrade volume o (Target text) = volume
+end_of_upgrade volume o (Synced boundary) = volume
+end_of_upgrade volume o (MadePfs number) = volume
+end_of_upgrade volume o (PfsIs master number shared intervals sync_end) = volume
+end_of_upgrade volume o (Space pool free) = volume
+end_of_upgrade volume o (Passed begin end) = volume
+end_of_upgrade volume o (Cut items) = volume
+end_of_upgrade volume o Exists = volume
+end_of_upgrade volume o NotFound = volume
+end_of_upgrade volume o NotDir = volume
+end_of_upgrade volume o IsDir = volume
+end_of_upgrade volume o NotEmpty = volume
+end_of_upgrade volume o (BadPath place) = volume
+end_of_upgrade volume o ReadOnly = volume
+end_of_upgrade volume o NotRetained = volume
+end_of_upgrade volume o (Future last) = volume
+end_of_upgrade volume o TooBig = volume
+end_of_upgrade volume o CrossPfs = volume
+end_of_upgrade volume o IntoItself = volume
+end_of_upgrade volume o HashFull = volume
+end_of_upgrade volume o PfsFull = volume
+end_of_upgrade volume o NoSnapshots = volume
+end_of_upgrade volume o (TooManyIntervals count) = volume
+end_of_upgrade volume o NotSlave = volume
+end_of_upgrade volume o NotMaster = volume
+end_of_upgrade volume o IdsSpent = volume
+end_of_upgrade volume o (NoSpace free needed) = volume
+end_of_upgrade volume o (Media before after) = volume
+end_of_upgrade volume o (Damaged at kind) = volume
+end_of_upgrade volume o NoMemory = volume
+end_of_upgrade volume o (SharedDiffers slave stream) = volume
+end_of_upgrade volume o (BeginDiffers slave stream) = volume
+end_of_upgrade volume o (StreamBad place) = volume
+end_of_upgrade volume o (StreamShort taken) = volume
+end_of_upgrade volume o (StreamFault before after) = volume
+end_of_upgrade volume o (EndPruned end first) = volume
+end_of_upgrade volume o (Busy opening) = volume
+end_of_upgrade volume o NotLink = volume
+end_of_upgrade volume o NotFile = volume
 
--- what the end of a housekeeping call does
+-- what the end of a housekeeping call does, by its command
+abbrev pub end_effect_of : Volume → Reply → OpenCall → Command → Volume
+end_effect_of volume reply o (MirrorCopy master slave limit) = end_of_pass volume o reply
+end_effect_of volume reply o (MirrorWrite path) = end_of_write volume o reply
+end_effect_of volume reply o (PfsUpgrade path) = end_of_upgrade volume o reply
+end_effect_of volume reply o (Mkdir path) = volume
+end_effect_of volume reply o (Touch path) = volume
+end_effect_of volume reply o (Symlink target path) = volume
+end_effect_of volume reply o (Snapshot path) = volume
+end_effect_of volume reply o (Ln old new) = volume
+end_effect_of volume reply o (Mv old new) = volume
+end_effect_of volume reply o (Write path offset bytes) = volume
+end_effect_of volume reply o (Fill path offset count byte) = volume
+end_effect_of volume reply o (Truncate path size) = volume
+end_effect_of volume reply o (Rm path) = volume
+end_effect_of volume reply o (Rmdir path) = volume
+end_effect_of volume reply o (Ls path) = volume
+end_effect_of volume reply o (Cat path offset count) = volume
+end_effect_of volume reply o (Stat path) = volume
+end_effect_of volume reply o (Readlink path) = volume
+end_effect_of volume reply o Sync = volume
+end_effect_of volume reply o Synctid = volume
+end_effect_of volume reply o (Prune path) = volume
+end_effect_of volume reply o (PruneAll path) = volume
+end_effect_of volume reply o (Reblock fill) = volume
+end_effect_of volume reply o (PfsMaster path shared) = volume
+end_effect_of volume reply o (PfsSlave path shared) = volume
+end_effect_of volume reply o (PfsStatus path) = volume
+end_effect_of volume reply o (MirrorRead path begin) = volume
+end_effect_of volume reply o Df = volume
+end_effect_of volume reply o Progress = volume
+end_effect_of volume reply o (End opening) = volume
+
 abbrev pub end_effect : Volume → Reply → OpenCall → Volume
-end_effect volume reply o = elim o.command [
-  | MirrorCopy master slave limit ↦ end_of_pass volume o reply
-  | MirrorWrite path ↦ end_of_write volume o reply
-  | PfsUpgrade path ↦ end_of_upgrade volume o reply
-  | other ↦ volume
-]
+end_effect volume reply o = end_effect_of volume reply o o.command
 
 -- the call that was opened with an id
 abbrev pub opened_with : ℕ → List OpenCall → Option OpenCall
@@ -260,37 +398,72 @@ ended state opening reply = record state {
   opened = filter (λ o. if o.opening == opening then false else true) state.opened;
 }
 
--- what an accepted call or opening does
+-- the PFS in which the first path of a call leads, and that of the second one
+abbrev pub first_pfs : Call → ℕ
+first_pfs call = (first_site call).at.pfs
+
+abbrev pub second_pfs : Call → ℕ
+second_pfs call = (second_site call).at.pfs
+
+-- the opening of a call that changes the one PFS it works on
+abbrev pub opened_with_change : State → Call → (PseudoFileSystem → PseudoFileSystem) → State
+opened_with_change state call change =
+    on_volume (with_opened state call (first_pfs call) (first_pfs call) no_feed) (of_pfs state.volume (first_pfs call) change)
+
+-- the opening of `mirror-write`, which takes the next stream
+abbrev pub opened_with_stream : State → Call → Feed → State
+opened_with_stream state call feed =
+    record (feeding state call (first_pfs call) (first_pfs call) (stream_origin feed) feed) {
+      streams = later_streams state.streams;
+    }
+
+-- what an accepted call or opening does, by its command
+abbrev pub accepted_effect_of : State → Call → Command → State
+accepted_effect_of state call (Mkdir path) = on_volume state (change call)
+accepted_effect_of state call (Touch path) = on_volume state (change call)
+accepted_effect_of state call (Symlink target path) = on_volume state (change call)
+accepted_effect_of state call (Snapshot path) = on_volume state (change call)
+accepted_effect_of state call (Ln old new) = on_volume state (change call)
+accepted_effect_of state call (Mv old new) = on_volume state (change call)
+accepted_effect_of state call (Write path offset bytes) = on_volume state (change call)
+accepted_effect_of state call (Fill path offset count byte) = on_volume state (change call)
+accepted_effect_of state call (Truncate path size) = on_volume state (change call)
+accepted_effect_of state call (Rm path) = on_volume state (change call)
+accepted_effect_of state call (Rmdir path) = on_volume state (change call)
+accepted_effect_of state call (PfsMaster path shared) = on_volume state (change call)
+accepted_effect_of state call (PfsSlave path shared) = on_volume state (change call)
+accepted_effect_of state call (Prune path) =
+    opened_with_change state call (λ s. retaining (pruned s.retention (kept_ids call)) s)
+accepted_effect_of state call (PruneAll path) = opened_with_change state call (present_only (own_id call))
+accepted_effect_of state call (Reblock fill) = with_opened state call 0 0 no_feed
+accepted_effect_of state call (PfsUpgrade path) = with_opened state call (first_pfs call) (first_pfs call) no_feed
+accepted_effect_of state call (MirrorRead path begin) = with_opened state call (first_pfs call) (first_pfs call) no_feed
+accepted_effect_of state call (MirrorWrite path) = opened_with_stream state call (next_stream state.streams)
+accepted_effect_of state call (MirrorCopy master slave limit) =
+    feeding state call (second_pfs call) (first_pfs call) (Local (first_pfs call)) no_feed
+accepted_effect_of state call (Ls path) = state
+accepted_effect_of state call (Cat path offset count) = state
+accepted_effect_of state call (Stat path) = state
+accepted_effect_of state call (Readlink path) = state
+accepted_effect_of state call Sync = state
+accepted_effect_of state call Synctid = state
+accepted_effect_of state call (PfsStatus path) = state
+accepted_effect_of state call Df = state
+accepted_effect_of state call Progress = state
+accepted_effect_of state call (End opening) = state
+
 abbrev pub accepted_effect : State → Call → State
-accepted_effect state call =
-    let a : ℕ = (first_site call).at.pfs in
-    let b : ℕ = (second_site call).at.pfs in
-    elim call.command [
-      | Prune path ↦ on_volume (with_opened state call a a no_feed)
-          (of_pfs state.volume a (λ s. retaining (pruned s.retention (kept_ids call)) s))
-      | PruneAll path ↦ on_volume (with_opened state call a a no_feed) (of_pfs state.volume a (present_only (own_id call)))
-      | Reblock fill ↦ with_opened state call 0 0 no_feed
-      | PfsUpgrade path ↦ with_opened state call a a no_feed
-      | MirrorRead path begin ↦ with_opened state call a a no_feed
-      | MirrorWrite path ↦
-          record (feeding state call a a (stream_origin (next_stream state.streams)) (next_stream state.streams)) {
-            streams = later_streams state.streams;
-          }
-      | MirrorCopy master slave limit ↦ feeding state call b a (Local a) no_feed
-      | other ↦ if is_tree_call call.command then on_volume state (change call) else state
-    ]
+accepted_effect state call = accepted_effect_of state call call.command
 
 -- what an event does beside drawing its id: a refused one that is no ending does nothing
 abbrev pub effect : State → Event → State
-effect state event = elim event.entry.call [
-  | End opening ↦ ended state opening.0 event.entry.reply
-  | other ↦ if is_refusal event.entry.reply then state else accepted_effect state (call_of no_hash state event)
-]
+effect state event =
+    option_map_or (λ (opening : Id). ended state opening.0 event.entry.reply) (named_opening event.entry.call)
+    (if is_refusal event.entry.reply then state else accepted_effect state (call_of no_hash state event))
 
 -- the end id that an ending tells
 abbrev pub end_id : Reply → ℕ
-end_id (Passed begin end) = end.0
-end_id other = 0
+end_id reply = option_map_or (λ (ids : Id × Id). ids.1.0) (passed_ids reply) 0
 
 -- the last id after an entry: its own, or the end id of a pass where that is greater
 abbrev pub last_after : Entry → ℕ

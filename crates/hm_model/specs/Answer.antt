@@ -4,7 +4,7 @@ use Rattle.std.specs.Option.{option_map_or}
 use Rattle.hm_types.specs.Id.{id_text}
 use Rattle.hm_types.specs.declared.id.Obj.{Obj}
 use Rattle.hm_model.specs.declared.command.Command.{Command}
-use Rattle.hm_model.specs.declared.command.Command.TheVariants.{Ls, Cat, Stat, Readlink, PfsStatus}
+use Rattle.hm_model.specs.declared.command.Command.TheVariants.{Ls, Cat, Stat, Readlink, PfsStatus, Mkdir, Touch, Symlink, Snapshot, Ln, Mv, Write, Fill, Truncate, Rm, Rmdir, Sync, Synctid, Prune, PruneAll, Reblock, PfsMaster, PfsSlave, PfsUpgrade, MirrorRead, MirrorWrite, MirrorCopy, Df, Progress, End}
 use Rattle.hm_model.specs.declared.reply.Reply.{Reply}
 use Rattle.hm_model.specs.declared.reply.Reply.TheVariants.{Done, Listing, Content as Bytes, Status, Target as Text, PfsIs, NotFound}
 use Rattle.hm_types.specs.declared.object.Object.{Object}
@@ -47,7 +47,9 @@ size_of tree object = elim object.content [
 -- the bytes of a file
 abbrev pub file_bytes : Content → List ℕ
 file_bytes (FileBytes bytes) = bytes
-file_bytes other = []
+file_bytes Nothing = []
+file_bytes (Target text) = []
+file_bytes (Linked pfs) = []
 
 -- the id that the text of a link to this PFS begins with: a slave's is its sync end
 abbrev pub link_id : PseudoFileSystem → List ℕ
@@ -62,7 +64,8 @@ link_text volume pfs =
 abbrev pub target_of : Volume → Content → List ℕ
 target_of volume (Target text) = text
 target_of volume (Linked pfs) = link_text volume pfs.0
-target_of volume other = []
+target_of volume Nothing = []
+target_of volume (FileBytes bytes) = []
 
 -- whether a PFS is a master
 abbrev pub is_master : PseudoFileSystem → Bool
@@ -79,13 +82,71 @@ answer_at call tree object = elim call.command [
   | Cat path offset count ↦ Bytes (read_at offset count (file_bytes object.content))
   | Stat path ↦ Status (kind_number object.kind) object.number (size_of tree object) object.links
   | Readlink path ↦ Text (target_of call.volume object.content)
-  | other ↦ Done
+  | Mkdir path ↦ Done
+  | Touch path ↦ Done
+  | Symlink target path ↦ Done
+  | Snapshot path ↦ Done
+  | Ln old new ↦ Done
+  | Mv old new ↦ Done
+  | Write path offset bytes ↦ Done
+  | Fill path offset count byte ↦ Done
+  | Truncate path size ↦ Done
+  | Rm path ↦ Done
+  | Rmdir path ↦ Done
+  | Sync ↦ Done
+  | Synctid ↦ Done
+  | Prune path ↦ Done
+  | PruneAll path ↦ Done
+  | Reblock fill ↦ Done
+  | PfsMaster path shared ↦ Done
+  | PfsSlave path shared ↦ Done
+  | PfsStatus path ↦ Done
+  | PfsUpgrade path ↦ Done
+  | MirrorRead path begin ↦ Done
+  | MirrorWrite path ↦ Done
+  | MirrorCopy master slave limit ↦ Done
+  | Df ↦ Done
+  | Progress ↦ Done
+  | End opening ↦ Done
 ]
+
+-- the answer of a call that looks at the object at the end of its walk
+abbrev pub answer_there : Call → Reply
+answer_there call =
+    option_map_or (answer_at call (call.view (first_site call).at.pfs (first_site call).at.when))
+    (site_object call (first_site call)) NotFound
 
 -- the answer of a call that looks at an object, or at a PFS
 abbrev pub answer : Call → Reply
 answer call = elim call.command [
   | PfsStatus path ↦ option_map_or record_of (site_system call (first_site call)) NotFound
-  | other ↦ option_map_or (answer_at call (call.view (first_site call).at.pfs (first_site call).at.when))
-      (site_object call (first_site call)) NotFound
+  | Mkdir path ↦ answer_there call
+  | Touch path ↦ answer_there call
+  | Symlink target path ↦ answer_there call
+  | Snapshot path ↦ answer_there call
+  | Ln old new ↦ answer_there call
+  | Mv old new ↦ answer_there call
+  | Write path offset bytes ↦ answer_there call
+  | Fill path offset count byte ↦ answer_there call
+  | Truncate path size ↦ answer_there call
+  | Rm path ↦ answer_there call
+  | Rmdir path ↦ answer_there call
+  | Ls path ↦ answer_there call
+  | Cat path offset count ↦ answer_there call
+  | Stat path ↦ answer_there call
+  | Readlink path ↦ answer_there call
+  | Sync ↦ answer_there call
+  | Synctid ↦ answer_there call
+  | Prune path ↦ answer_there call
+  | PruneAll path ↦ answer_there call
+  | Reblock fill ↦ answer_there call
+  | PfsMaster path shared ↦ answer_there call
+  | PfsSlave path shared ↦ answer_there call
+  | PfsUpgrade path ↦ answer_there call
+  | MirrorRead path begin ↦ answer_there call
+  | MirrorWrite path ↦ answer_there call
+  | MirrorCopy master slave limit ↦ answer_there call
+  | Df ↦ answer_there call
+  | Progress ↦ answer_there call
+  | End opening ↦ answer_there call
 ]

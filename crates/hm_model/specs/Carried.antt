@@ -31,7 +31,11 @@ term_of (Skip first next ∷ items) = term_of items
 abbrev pub end_of_stream : List Item → Option StreamEnd
 end_of_stream (Begin shared begin end ∷ items) =
     option_map_or (λ retention. Some (record { end = end; retention = retention })) (term_of items) None
-end_of_stream other = None
+end_of_stream [] = None
+end_of_stream (Rec s bytes ∷ items) = None
+end_of_stream (Pass s ∷ items) = None
+end_of_stream (Skip first next ∷ items) = None
+end_of_stream (Term retention ∷ items) = None
 
 -- no object of a version has a number above the version's first id
 abbrev pub AreNumbered : List (ℕ × FileTree) → Type 0

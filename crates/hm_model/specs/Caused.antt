@@ -4,13 +4,15 @@ use Rattle.std.specs.Bool.{nat_lt}
 use Rattle.std.specs.List.{Contains, list_any}
 use Rattle.std.specs.Option.{option_map_or}
 use Rattle.hm_types.specs.Faults.{IsMedia}
+use Rattle.hm_types.specs.declared.id.Id.{Id}
 use Rattle.hm_types.specs.declared.limits.TheConstants.{GREATEST_ID, MOST_FILE_BYTES}
 use Rattle.hm_model.specs.declared.command.Command.{Command}
 use Rattle.hm_model.specs.declared.command.Command.TheVariants.{Mkdir, Touch, Symlink, Snapshot, Ln, Mv, Write, Fill, Truncate, Rm, Rmdir, Ls, Cat, Stat, Readlink, Sync, Synctid, Prune, PruneAll, Reblock, PfsMaster, PfsSlave, PfsStatus, PfsUpgrade, MirrorRead, MirrorWrite, MirrorCopy, Df, Progress, End}
 use Rattle.hm_model.specs.declared.entry.Entry.{Entry}
 use Rattle.hm_model.specs.declared.reply.Reply.{Reply}
 use Rattle.hm_model.specs.declared.reply.Reply.TheVariants.{Done, Listing, Content, Status, Target, Synced, MadePfs, PfsIs, Space, Finished, Passed, Cut, Exists, NotFound, NotDir, IsDir, NotEmpty, BadPath, ReadOnly, NotRetained, Future, TooBig, CrossPfs, IntoItself, HashFull, PfsFull, NoSnapshots, TooManyIntervals, NotSlave, NotMaster, IdsSpent, NoSpace, Media, Damaged, NoMemory, SharedDiffers, BeginDiffers, StreamBad, StreamShort, StreamFault, EndPruned, Busy, NotLink, NotFile}
-use Rattle.hm_model.specs.Reply.{is_refusal}
+use Rattle.hm_model.specs.Command.{limit_in, named_opening}
+use Rattle.hm_model.specs.Reply.{is_refusal, told_boundary}
 use Rattle.hm_model.specs.Sites.{Parsed, ReadsWords}
 use Rattle.hm_model.specs.Due.{Check, early_checks, first_refusal, has_id, is_pass}
 use Rattle.hm_model.specs.After.{Event, last_after}
@@ -210,22 +212,49 @@ opens e = if is_housekeeping e.call then (if is_refusal e.reply then false else 
 
 -- the open calls without the one that an ending names
 abbrev pub still_open : Entry → List (ℕ × Command) → List (ℕ × Command)
-still_open e opened = elim e.call [
-  | End opening ↦ filter (λ o. if o.0 == opening.0 then false else true) opened
-  | other ↦ opened
-]
+still_open e opened =
+    option_map_or (λ (opening : Id). filter (λ (o : ℕ × Command). if o.0 == opening.0 then false else true) opened)
+    (named_opening e.call) opened
 
 -- the command of the open call that an ending names
 abbrev pub ended_command : List (ℕ × Command) → Command → Option Command
-ended_command opened (End opening) =
-    option_map_or (λ (o : ℕ × Command). Some o.1) (find (λ (o : ℕ × Command). o.0 == opening.0) opened) None
-ended_command opened other = None
+ended_command opened command =
+    option_map_or (λ (opening : Id). option_map_or (λ (o : ℕ × Command). Some o.1)
+    (find (λ (o : ℕ × Command). o.0 == opening.0) opened) None) (named_opening command) None
 
 -- whether an entry is the accepted opening of a call that takes from the stream that comes in
 abbrev pub takes_stream : Entry → Bool
 takes_stream e = elim e.call [
   | MirrorWrite path ↦ if is_refusal e.reply then false else true
-  | other ↦ false
+  | Mkdir path ↦ false
+  | Touch path ↦ false
+  | Symlink target path ↦ false
+  | Snapshot path ↦ false
+  | Ln old new ↦ false
+  | Mv old new ↦ false
+  | Write path offset bytes ↦ false
+  | Fill path offset count byte ↦ false
+  | Truncate path size ↦ false
+  | Rm path ↦ false
+  | Rmdir path ↦ false
+  | Ls path ↦ false
+  | Cat path offset count ↦ false
+  | Stat path ↦ false
+  | Readlink path ↦ false
+  | Sync ↦ false
+  | Synctid ↦ false
+  | Prune path ↦ false
+  | PruneAll path ↦ false
+  | Reblock fill ↦ false
+  | PfsMaster path shared ↦ false
+  | PfsSlave path shared ↦ false
+  | PfsStatus path ↦ false
+  | PfsUpgrade path ↦ false
+  | MirrorRead path begin ↦ false
+  | MirrorCopy master slave limit ↦ false
+  | Df ↦ false
+  | Progress ↦ false
+  | End opening ↦ false
 ]
 
 -- whether a command writes a stream; of the others one reads it
@@ -280,13 +309,53 @@ abbrev pub counts_after : Known → Entry → Counts
 counts_after known e = elim e.reply [
   | Media before after ↦ record known.counts { disk = max known.counts.disk after }
   | StreamFault before after ↦ stream_told (is_output known.opened e.call) after known.counts
-  | other ↦ known.counts
+  | Done ↦ known.counts
+  | Listing names ↦ known.counts
+  | Content bytes ↦ known.counts
+  | Status kind obj size links ↦ known.counts
+  | Target text ↦ known.counts
+  | Synced boundary ↦ known.counts
+  | MadePfs number ↦ known.counts
+  | PfsIs master number shared intervals sync_end ↦ known.counts
+  | Space pool free ↦ known.counts
+  | Finished ↦ known.counts
+  | Passed begin end ↦ known.counts
+  | Cut items ↦ known.counts
+  | Exists ↦ known.counts
+  | NotFound ↦ known.counts
+  | NotDir ↦ known.counts
+  | IsDir ↦ known.counts
+  | NotEmpty ↦ known.counts
+  | BadPath place ↦ known.counts
+  | ReadOnly ↦ known.counts
+  | NotRetained ↦ known.counts
+  | Future last ↦ known.counts
+  | TooBig ↦ known.counts
+  | CrossPfs ↦ known.counts
+  | IntoItself ↦ known.counts
+  | HashFull ↦ known.counts
+  | PfsFull ↦ known.counts
+  | NoSnapshots ↦ known.counts
+  | TooManyIntervals count ↦ known.counts
+  | NotSlave ↦ known.counts
+  | NotMaster ↦ known.counts
+  | IdsSpent ↦ known.counts
+  | NoSpace free needed ↦ known.counts
+  | Damaged at kind ↦ known.counts
+  | NoMemory ↦ known.counts
+  | SharedDiffers slave stream ↦ known.counts
+  | BeginDiffers slave stream ↦ known.counts
+  | StreamBad place ↦ known.counts
+  | StreamShort taken ↦ known.counts
+  | EndPruned end first ↦ known.counts
+  | Busy opening ↦ known.counts
+  | NotLink ↦ known.counts
+  | NotFile ↦ known.counts
 ]
 
 -- the boundary that a reply tells
 abbrev pub boundary_in : Reply → ℕ
-boundary_in (Synced boundary) = boundary.0
-boundary_in other = 0
+boundary_in reply = option_map_or (λ (boundary : Id). boundary.0) (told_boundary reply) 0
 
 -- what is known after one more entry
 abbrev pub known_after_entry : Known → Entry → Known
@@ -320,9 +389,13 @@ IsPossible (Some refusal) numbers reply = (reply ≡ refusal) ⊎ IsFree reply
 IsPossible None numbers reply = Contains numbers (number_of reply)
 
 -- a copy was cut after as many items as its limit says
+abbrev pub IsLimit : Option ℕ → ℕ → Type 0
+IsLimit (Some limit) items = items ≡ limit
+IsLimit None items = ⊥
+
 abbrev pub IsCutAt : Option Command → ℕ → Type 0
-IsCutAt (Some (MirrorCopy master slave (Some limit))) items = items ≡ limit
-IsCutAt other items = ⊥
+IsCutAt (Some command) items = IsLimit (limit_in command) items
+IsCutAt None items = ⊥
 
 -- a reply's own numbers have their cause: a boundary lies between those before it and the reply's own id, a
 -- count of faults rose from what it was known to be, and a cut is at its limit
@@ -334,13 +407,51 @@ HasNumbers now known e = elim e.reply [
       let output : Bool = is_output known.opened e.call in
       IsMedia (stream_count output known.counts) (stream_count output now) before after
   | Cut items ↦ IsCutAt (ended_command known.opened e.call) items
-  | other ↦ Unit {0}
+  | Done ↦ Unit {0}
+  | Listing names ↦ Unit {0}
+  | Content bytes ↦ Unit {0}
+  | Status kind obj size links ↦ Unit {0}
+  | Target text ↦ Unit {0}
+  | MadePfs number ↦ Unit {0}
+  | PfsIs master number shared intervals sync_end ↦ Unit {0}
+  | Space pool free ↦ Unit {0}
+  | Finished ↦ Unit {0}
+  | Passed begin end ↦ Unit {0}
+  | Exists ↦ Unit {0}
+  | NotFound ↦ Unit {0}
+  | NotDir ↦ Unit {0}
+  | IsDir ↦ Unit {0}
+  | NotEmpty ↦ Unit {0}
+  | BadPath place ↦ Unit {0}
+  | ReadOnly ↦ Unit {0}
+  | NotRetained ↦ Unit {0}
+  | Future last ↦ Unit {0}
+  | TooBig ↦ Unit {0}
+  | CrossPfs ↦ Unit {0}
+  | IntoItself ↦ Unit {0}
+  | HashFull ↦ Unit {0}
+  | PfsFull ↦ Unit {0}
+  | NoSnapshots ↦ Unit {0}
+  | TooManyIntervals count ↦ Unit {0}
+  | NotSlave ↦ Unit {0}
+  | NotMaster ↦ Unit {0}
+  | IdsSpent ↦ Unit {0}
+  | NoSpace free needed ↦ Unit {0}
+  | Damaged at kind ↦ Unit {0}
+  | NoMemory ↦ Unit {0}
+  | SharedDiffers slave stream ↦ Unit {0}
+  | BeginDiffers slave stream ↦ Unit {0}
+  | StreamBad place ↦ Unit {0}
+  | StreamShort taken ↦ Unit {0}
+  | EndPruned end first ↦ Unit {0}
+  | Busy opening ↦ Unit {0}
+  | NotLink ↦ Unit {0}
+  | NotFile ↦ Unit {0}
 ]
 
 -- whether an entry is the ending of a housekeeping call
 abbrev pub is_ending : Command → Bool
-is_ending (End opening) = true
-is_ending other = false
+is_ending command = option_map_or (λ (opening : Id). true) (named_opening command) false
 
 -- the numbers of the replies that an event may have where no early check fails: those of its call, or of the
 -- ending of the open call that it names

@@ -129,7 +129,34 @@ with_new_pfs call volume = elim call.command [
   | PfsMaster path shared ↦
       with_system volume (new_master (new_pfs call.volume) shared ((own_id call, root_tree) ∷ []))
   | PfsSlave path shared ↦ with_system volume (new_slave (new_pfs call.volume) shared)
-  | other ↦ volume
+  | Mkdir path ↦ volume
+  | Touch path ↦ volume
+  | Symlink target path ↦ volume
+  | Snapshot path ↦ volume
+  | Ln old new ↦ volume
+  | Mv old new ↦ volume
+  | Write path offset bytes ↦ volume
+  | Fill path offset count byte ↦ volume
+  | Truncate path size ↦ volume
+  | Rm path ↦ volume
+  | Rmdir path ↦ volume
+  | Ls path ↦ volume
+  | Cat path offset count ↦ volume
+  | Stat path ↦ volume
+  | Readlink path ↦ volume
+  | Sync ↦ volume
+  | Synctid ↦ volume
+  | Prune path ↦ volume
+  | PruneAll path ↦ volume
+  | Reblock fill ↦ volume
+  | PfsStatus path ↦ volume
+  | PfsUpgrade path ↦ volume
+  | MirrorRead path begin ↦ volume
+  | MirrorWrite path ↦ volume
+  | MirrorCopy master slave limit ↦ volume
+  | Df ↦ volume
+  | Progress ↦ volume
+  | End opening ↦ volume
 ]
 
 -- the PFS in which a call's walk ends, and which it changes: that of its last path
@@ -137,7 +164,34 @@ abbrev pub changed_pfs : Call → ℕ
 changed_pfs call = elim call.command [
   | Ln old new ↦ (second_site call).at.pfs
   | Mv old new ↦ (second_site call).at.pfs
-  | other ↦ (first_site call).at.pfs
+  | Mkdir path ↦ (first_site call).at.pfs
+  | Touch path ↦ (first_site call).at.pfs
+  | Symlink target path ↦ (first_site call).at.pfs
+  | Snapshot path ↦ (first_site call).at.pfs
+  | Write path offset bytes ↦ (first_site call).at.pfs
+  | Fill path offset count byte ↦ (first_site call).at.pfs
+  | Truncate path size ↦ (first_site call).at.pfs
+  | Rm path ↦ (first_site call).at.pfs
+  | Rmdir path ↦ (first_site call).at.pfs
+  | Ls path ↦ (first_site call).at.pfs
+  | Cat path offset count ↦ (first_site call).at.pfs
+  | Stat path ↦ (first_site call).at.pfs
+  | Readlink path ↦ (first_site call).at.pfs
+  | Sync ↦ (first_site call).at.pfs
+  | Synctid ↦ (first_site call).at.pfs
+  | Prune path ↦ (first_site call).at.pfs
+  | PruneAll path ↦ (first_site call).at.pfs
+  | Reblock fill ↦ (first_site call).at.pfs
+  | PfsMaster path shared ↦ (first_site call).at.pfs
+  | PfsSlave path shared ↦ (first_site call).at.pfs
+  | PfsStatus path ↦ (first_site call).at.pfs
+  | PfsUpgrade path ↦ (first_site call).at.pfs
+  | MirrorRead path begin ↦ (first_site call).at.pfs
+  | MirrorWrite path ↦ (first_site call).at.pfs
+  | MirrorCopy master slave limit ↦ (first_site call).at.pfs
+  | Df ↦ (first_site call).at.pfs
+  | Progress ↦ (first_site call).at.pfs
+  | End opening ↦ (first_site call).at.pfs
 ]
 
 -- the volume after an accepted tree call: that PFS has one more version, from the call's id on

@@ -6,7 +6,7 @@ use Rattle.std.specs.Option.{option_map_or}
 use Rattle.std.specs.Str.Parse.{digits_value}
 use Rattle.hex.specs.Hex.{is_hex_digit}
 use Rattle.hm_types.specs.declared.object.Content.{Content}
-use Rattle.hm_types.specs.declared.object.Content.TheVariants.{Target}
+use Rattle.hm_types.specs.declared.object.Content.TheVariants.{Target, Nothing, File, Linked}
 use Rattle.hm_types.specs.declared.object.Object.{Object}
 use Rattle.hm_types.specs.declared.object.Triple.{Triple}
 use Rattle.hm_types.specs.declared.id.Obj.{Obj}
@@ -71,7 +71,9 @@ named_id (b ∷ bs) = or_else (begins_with_id (b ∷ bs)) (named_id bs)
 -- the id that an object names: the first one in the target of a softlink
 abbrev pub id_in : Content → Option ℕ
 id_in (Target text) = named_id text
-id_in other = None
+id_in Nothing = None
+id_in (File bytes) = None
+id_in (Linked pfs) = None
 
 -- the id that an entry's object names
 abbrev pub entry_id : FileTree → Triple → Option ℕ

@@ -155,7 +155,35 @@ no_future last path = refuse_if (list_any (is_above last) (parts_in path)) (Futu
 -- nor does the begin id of a stream
 abbrev pub no_future_begin : ℕ → Command → Check
 no_future_begin last (MirrorRead path begin) = refuse_if (nat_lt last begin.0) (Future (record { 0 = last }))
-no_future_begin last other = None
+no_future_begin last (Mkdir path) = None
+no_future_begin last (Touch path) = None
+no_future_begin last (Symlink target path) = None
+no_future_begin last (Snapshot path) = None
+no_future_begin last (Ln old new) = None
+no_future_begin last (Mv old new) = None
+no_future_begin last (Write path offset bytes) = None
+no_future_begin last (Fill path offset count byte) = None
+no_future_begin last (Truncate path size) = None
+no_future_begin last (Rm path) = None
+no_future_begin last (Rmdir path) = None
+no_future_begin last (Ls path) = None
+no_future_begin last (Cat path offset count) = None
+no_future_begin last (Stat path) = None
+no_future_begin last (Readlink path) = None
+no_future_begin last Sync = None
+no_future_begin last Synctid = None
+no_future_begin last (Prune path) = None
+no_future_begin last (PruneAll path) = None
+no_future_begin last (Reblock fill) = None
+no_future_begin last (PfsMaster path shared) = None
+no_future_begin last (PfsSlave path shared) = None
+no_future_begin last (PfsStatus path) = None
+no_future_begin last (PfsUpgrade path) = None
+no_future_begin last (MirrorWrite path) = None
+no_future_begin last (MirrorCopy master slave limit) = None
+no_future_begin last Df = None
+no_future_begin last Progress = None
+no_future_begin last (End opening) = None
 
 -- whether a path has an id
 abbrev pub has_id : Parsed → Bool
@@ -395,7 +423,35 @@ abbrev pub intervals_left : Call → Check
 intervals_left call = elim call.command [
   | Prune path ↦
       refuse_if (nat_lt MOST_INTERVALS (pruned_count call)) (TooManyIntervals (min (pruned_count call) (2 ^ 32 - 1)))
-  | other ↦ None
+  | Mkdir path ↦ None
+  | Touch path ↦ None
+  | Symlink target path ↦ None
+  | Snapshot path ↦ None
+  | Ln old new ↦ None
+  | Mv old new ↦ None
+  | Write path offset bytes ↦ None
+  | Fill path offset count byte ↦ None
+  | Truncate path size ↦ None
+  | Rm path ↦ None
+  | Rmdir path ↦ None
+  | Ls path ↦ None
+  | Cat path offset count ↦ None
+  | Stat path ↦ None
+  | Readlink path ↦ None
+  | Sync ↦ None
+  | Synctid ↦ None
+  | PruneAll path ↦ None
+  | Reblock fill ↦ None
+  | PfsMaster path shared ↦ None
+  | PfsSlave path shared ↦ None
+  | PfsStatus path ↦ None
+  | PfsUpgrade path ↦ None
+  | MirrorRead path begin ↦ None
+  | MirrorWrite path ↦ None
+  | MirrorCopy master slave limit ↦ None
+  | Df ↦ None
+  | Progress ↦ None
+  | End opening ↦ None
 ]
 
 -- the checks that come before the walks; they ask nothing of trees

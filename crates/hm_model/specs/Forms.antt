@@ -25,7 +25,31 @@ IsInRange (Fill path offset count byte) = Between 1 MOST_WRITE_BYTES count
 IsInRange (Cat path offset count) = Between 1 MOST_CAT_BYTES count
 IsInRange (Reblock fill) = Between 1 100 fill
 IsInRange (MirrorCopy master slave (Some limit)) = Between 1 most_limit limit
-IsInRange other = Unit {0}
+IsInRange (MirrorCopy master slave None) = Unit {0}
+IsInRange (Mkdir path) = Unit {0}
+IsInRange (Touch path) = Unit {0}
+IsInRange (Snapshot path) = Unit {0}
+IsInRange (Ln old new) = Unit {0}
+IsInRange (Mv old new) = Unit {0}
+IsInRange (Truncate path size) = Unit {0}
+IsInRange (Rm path) = Unit {0}
+IsInRange (Rmdir path) = Unit {0}
+IsInRange (Ls path) = Unit {0}
+IsInRange (Stat path) = Unit {0}
+IsInRange (Readlink path) = Unit {0}
+IsInRange Sync = Unit {0}
+IsInRange Synctid = Unit {0}
+IsInRange (Prune path) = Unit {0}
+IsInRange (PruneAll path) = Unit {0}
+IsInRange (PfsMaster path shared) = Unit {0}
+IsInRange (PfsSlave path shared) = Unit {0}
+IsInRange (PfsStatus path) = Unit {0}
+IsInRange (PfsUpgrade path) = Unit {0}
+IsInRange (MirrorRead path begin) = Unit {0}
+IsInRange (MirrorWrite path) = Unit {0}
+IsInRange Df = Unit {0}
+IsInRange Progress = Unit {0}
+IsInRange (End opening) = Unit {0}
 
 -- a command of one path, by its name
 abbrev pub OfPath : List ℕ → List ℕ → List (List ℕ) → Type 0

@@ -9,7 +9,7 @@ use Rattle.hm_types.specs.Intervals.{Keeps}
 use Rattle.hm_retain.specs.Intervals.{IsIntervals}
 use Rattle.hm_types.specs.declared.limits.TheConstants.{MOST_INTERVALS}
 use Rattle.hm_model.specs.declared.command.Command.{Command}
-use Rattle.hm_model.specs.declared.command.Command.TheVariants.{Cat, Df, End, Ls, MirrorCopy, MirrorWrite, PfsMaster, PfsSlave, PfsStatus, PfsUpgrade, Readlink, Stat, Sync, Synctid}
+use Rattle.hm_model.specs.declared.command.Command.TheVariants.{Cat, Df, End, Ls, MirrorCopy, MirrorWrite, PfsMaster, PfsSlave, PfsStatus, PfsUpgrade, Readlink, Stat, Sync, Synctid, Mkdir, Touch, Symlink, Snapshot, Ln, Mv, Write, Fill, Truncate, Rm, Rmdir, Prune, PruneAll, Reblock, MirrorRead, Progress}
 use Rattle.hm_model.specs.declared.reply.Reply.TheVariants.{Finished, Passed}
 use Rattle.hm_types.specs.declared.object.Object.{Object}
 use Rattle.hm_model.specs.Reply.{is_refusal}
@@ -30,7 +30,33 @@ abbrev pub rewrites : Command → Bool
 rewrites (MirrorCopy master slave limit) = true
 rewrites (MirrorWrite path) = true
 rewrites (PfsUpgrade path) = true
-rewrites other = false
+rewrites (Mkdir path) = false
+rewrites (Touch path) = false
+rewrites (Symlink target path) = false
+rewrites (Snapshot path) = false
+rewrites (Ln old new) = false
+rewrites (Mv old new) = false
+rewrites (Write path offset bytes) = false
+rewrites (Fill path offset count byte) = false
+rewrites (Truncate path size) = false
+rewrites (Rm path) = false
+rewrites (Rmdir path) = false
+rewrites (Ls path) = false
+rewrites (Cat path offset count) = false
+rewrites (Stat path) = false
+rewrites (Readlink path) = false
+rewrites Sync = false
+rewrites Synctid = false
+rewrites (Prune path) = false
+rewrites (PruneAll path) = false
+rewrites (Reblock fill) = false
+rewrites (PfsMaster path shared) = false
+rewrites (PfsSlave path shared) = false
+rewrites (PfsStatus path) = false
+rewrites (MirrorRead path begin) = false
+rewrites Df = false
+rewrites Progress = false
+rewrites (End opening) = false
 
 -- whether an open call may rewrite the versions of this PFS
 abbrev pub is_rewriter : ℕ → OpenCall → Bool
@@ -65,7 +91,34 @@ pub record IsOpenEnded (retention : List (ℕ × ℕ)) : Type 0 where
 abbrev pub adds_pfs : Command → Bool
 adds_pfs (PfsMaster path shared) = true
 adds_pfs (PfsSlave path shared) = true
-adds_pfs other = false
+adds_pfs (Mkdir path) = false
+adds_pfs (Touch path) = false
+adds_pfs (Symlink target path) = false
+adds_pfs (Snapshot path) = false
+adds_pfs (Ln old new) = false
+adds_pfs (Mv old new) = false
+adds_pfs (Write path offset bytes) = false
+adds_pfs (Fill path offset count byte) = false
+adds_pfs (Truncate path size) = false
+adds_pfs (Rm path) = false
+adds_pfs (Rmdir path) = false
+adds_pfs (Ls path) = false
+adds_pfs (Cat path offset count) = false
+adds_pfs (Stat path) = false
+adds_pfs (Readlink path) = false
+adds_pfs Sync = false
+adds_pfs Synctid = false
+adds_pfs (Prune path) = false
+adds_pfs (PruneAll path) = false
+adds_pfs (Reblock fill) = false
+adds_pfs (PfsStatus path) = false
+adds_pfs (PfsUpgrade path) = false
+adds_pfs (MirrorRead path begin) = false
+adds_pfs (MirrorWrite path) = false
+adds_pfs (MirrorCopy master slave limit) = false
+adds_pfs Df = false
+adds_pfs Progress = false
+adds_pfs (End opening) = false
 
 -- a PFS is a master, with no pass into it open and no upgrade of it
 pub record IsSteadyMaster (state : State) (pfs : ℕ) : Type 0 where
@@ -99,7 +152,28 @@ only_looks (PfsStatus path) = true
 only_looks Sync = true
 only_looks Synctid = true
 only_looks Df = true
-only_looks other = false
+only_looks (Mkdir path) = false
+only_looks (Touch path) = false
+only_looks (Symlink target path) = false
+only_looks (Snapshot path) = false
+only_looks (Ln old new) = false
+only_looks (Mv old new) = false
+only_looks (Write path offset bytes) = false
+only_looks (Fill path offset count byte) = false
+only_looks (Truncate path size) = false
+only_looks (Rm path) = false
+only_looks (Rmdir path) = false
+only_looks (Prune path) = false
+only_looks (PruneAll path) = false
+only_looks (Reblock fill) = false
+only_looks (PfsMaster path shared) = false
+only_looks (PfsSlave path shared) = false
+only_looks (PfsUpgrade path) = false
+only_looks (MirrorRead path begin) = false
+only_looks (MirrorWrite path) = false
+only_looks (MirrorCopy master slave limit) = false
+only_looks Progress = false
+only_looks (End opening) = false
 
 -- no walk of a history enters a PFS whose trees are not certain
 abbrev pub AreClear : Setting → List Event → Type 0
@@ -119,7 +193,34 @@ BeginBy id versions = AllByRecursion (λ (v : ℕ × FileTree). v.0 ≤ id) vers
 abbrev pub merges : Command → Bool
 merges (MirrorCopy master slave limit) = true
 merges (MirrorWrite path) = true
-merges other = false
+merges (Mkdir path) = false
+merges (Touch path) = false
+merges (Symlink target path) = false
+merges (Snapshot path) = false
+merges (Ln old new) = false
+merges (Mv old new) = false
+merges (Write path offset bytes) = false
+merges (Fill path offset count byte) = false
+merges (Truncate path size) = false
+merges (Rm path) = false
+merges (Rmdir path) = false
+merges (Ls path) = false
+merges (Cat path offset count) = false
+merges (Stat path) = false
+merges (Readlink path) = false
+merges Sync = false
+merges Synctid = false
+merges (Prune path) = false
+merges (PruneAll path) = false
+merges (Reblock fill) = false
+merges (PfsMaster path shared) = false
+merges (PfsSlave path shared) = false
+merges (PfsStatus path) = false
+merges (PfsUpgrade path) = false
+merges (MirrorRead path begin) = false
+merges Df = false
+merges Progress = false
+merges (End opening) = false
 
 -- an event is the ending of this open call, a pass into a slave, which came to its end with these ids
 pub record EndsPass (state : State) (event : Event) (o : OpenCall) (begin end : Id) : Type 0 where

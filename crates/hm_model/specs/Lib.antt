@@ -1,4 +1,5 @@
 pub mod History
+pub mod Command
 pub mod Reply
 pub mod Bytes
 pub mod Volume

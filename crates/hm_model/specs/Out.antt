@@ -1,16 +1,15 @@
 -- What a run prints.
-use Rattle.std.specs.Prelude.{◌≡◌, ◌⊎◌, ℕ, ◌<◌, ◌≤◌, List, [], ◌∷◌, ◌++◌, Bool, true, false, ◌==◌, ◌&&◌, if◌then◌else◌, Contains, codes, filter}
+use Rattle.std.specs.Prelude.{◌≡◌, ◌⊎◌, ℕ, ◌<◌, ◌≤◌, List, [], ◌∷◌, ◌++◌, Bool, true, false, ◌==◌, ◌&&◌, if◌then◌else◌, Contains, codes, filter, IfSome}
 use Rattle.std.specs.List.{AllZip, flat_map}
 use Rattle.hm_types.specs.Id.{id_text}
 use Rattle.hm_types.specs.declared.id.Id.{Id}
 use Rattle.hm_types.specs.declared.limits.TheConstants.{GREATEST_ID}
 use Rattle.hm_model.specs.declared.command.Command.{Command}
-use Rattle.hm_model.specs.declared.command.Command.TheVariants.{End, Progress}
+use Rattle.hm_model.specs.declared.command.Command.TheVariants.{End, Progress, Mkdir, Touch, Symlink, Snapshot, Ln, Mv, Write, Fill, Truncate, Rm, Rmdir, Ls, Cat, Stat, Readlink, Sync, Synctid, Prune, PruneAll, Reblock, PfsMaster, PfsSlave, PfsStatus, PfsUpgrade, MirrorRead, MirrorWrite, MirrorCopy, Df}
 use Rattle.hm_model.specs.declared.entry.Entry.{Entry}
 use Rattle.hm_model.specs.declared.line.Line.{Line}
 use Rattle.hm_model.specs.declared.reply.Reply.{Reply}
-use Rattle.hm_model.specs.declared.reply.Reply.TheVariants.{Synced}
-use Rattle.hm_model.specs.Reply.{answer_text}
+use Rattle.hm_model.specs.Reply.{answer_text, told_boundary}
 use Rattle.hm_model.specs.Lines.{line_feed}
 use Rattle.hm_model.specs.Caused.{boundary_in, is_ending, opens}
 
@@ -109,8 +108,7 @@ pub record IsSpent (history : List Entry) (end : ℕ) (block : List Line) (line 
 
 -- a boundary that a line was told is at least the ids of earlier lines
 abbrev pub KeepsBoundary : List Entry → List Line → Line → Reply → Type 0
-KeepsBoundary history block line (Synced boundary) = IsAbove history block line boundary.0
-KeepsBoundary history block line other = Unit {0}
+KeepsBoundary history block line reply = IfSome (told_boundary reply) (λ boundary. IsAbove history block line boundary.0)
 
 -- The entries of a line: one for its call, and one for the ending of a housekeeping call that was accepted.
 -- Either may lack where no id was left.
@@ -133,7 +131,35 @@ pub record IsCallLine (history : List Entry) (end : ℕ) (block : List Line) (li
 abbrev pub IsLineText : List Entry → ℕ → List Line → Line → List ℕ → Type 0
 IsLineText history end block line text = elim line.command [
   | Progress ↦ IsProgress history end block line text × (openings_of history line ≡ []) × (endings_of history line ≡ [])
-  | other ↦ IsCallLine history end block line text
+  | Mkdir path ↦ IsCallLine history end block line text
+  | Touch path ↦ IsCallLine history end block line text
+  | Symlink target path ↦ IsCallLine history end block line text
+  | Snapshot path ↦ IsCallLine history end block line text
+  | Ln old new ↦ IsCallLine history end block line text
+  | Mv old new ↦ IsCallLine history end block line text
+  | Write path offset bytes ↦ IsCallLine history end block line text
+  | Fill path offset count byte ↦ IsCallLine history end block line text
+  | Truncate path size ↦ IsCallLine history end block line text
+  | Rm path ↦ IsCallLine history end block line text
+  | Rmdir path ↦ IsCallLine history end block line text
+  | Ls path ↦ IsCallLine history end block line text
+  | Cat path offset count ↦ IsCallLine history end block line text
+  | Stat path ↦ IsCallLine history end block line text
+  | Readlink path ↦ IsCallLine history end block line text
+  | Sync ↦ IsCallLine history end block line text
+  | Synctid ↦ IsCallLine history end block line text
+  | Prune path ↦ IsCallLine history end block line text
+  | PruneAll path ↦ IsCallLine history end block line text
+  | Reblock fill ↦ IsCallLine history end block line text
+  | PfsMaster path shared ↦ IsCallLine history end block line text
+  | PfsSlave path shared ↦ IsCallLine history end block line text
+  | PfsStatus path ↦ IsCallLine history end block line text
+  | PfsUpgrade path ↦ IsCallLine history end block line text
+  | MirrorRead path begin ↦ IsCallLine history end block line text
+  | MirrorWrite path ↦ IsCallLine history end block line text
+  | MirrorCopy master slave limit ↦ IsCallLine history end block line text
+  | Df ↦ IsCallLine history end block line text
+  | End opening ↦ IsCallLine history end block line text
 ]
 
 -- the texts of a block, one for each line

@@ -3,7 +3,7 @@ use Rattle.std.specs.Prelude.{◌≡◌, ◌<◌, ℕ, ◌-◌, List, [], ◌∷
 use Rattle.std.specs.List.{AllZip, list_any}
 use Rattle.hm_types.specs.declared.limits.TheConstants.{GREATEST_ID}
 use Rattle.hm_model.specs.declared.command.Command.{Command}
-use Rattle.hm_model.specs.declared.command.Command.TheVariants.{Mkdir, Touch, Symlink, Snapshot, Ln, Mv, Write, Fill, Truncate, Rm, Rmdir, Ls, Cat, Stat, Readlink}
+use Rattle.hm_model.specs.declared.command.Command.TheVariants.{Mkdir, Touch, Symlink, Snapshot, Ln, Mv, Write, Fill, Truncate, Rm, Rmdir, Ls, Cat, Stat, Readlink, Sync, Synctid, Prune, PruneAll, Reblock, PfsMaster, PfsSlave, PfsStatus, PfsUpgrade, MirrorRead, MirrorWrite, MirrorCopy, Df, Progress, End as EndOf}
 use Rattle.hm_model.specs.declared.paths.Paths.{Paths}
 use Rattle.hm_model.specs.declared.paths.Paths.TheVariants.{One, Two, Other}
 use Rattle.hm_model.specs.declared.paths.Use.{Use as Purpose}
@@ -23,27 +23,50 @@ use Rattle.hm_model.specs.Due.{Check, due, early_checks, first_refusal, has_id, 
 use Rattle.hm_model.specs.Change.{change}
 use Rattle.hm_model.specs.Plain.{follow_of, plain_view, site_of}
 
+-- a command looks at a tree; changes one, but makes no PFS; or is not answered on one tree
+pub data PlainClass : Type 0 where
+  Look : PlainClass
+  Edit : PlainClass
+  Unanswered : PlainClass
+
+abbrev pub plain_class : Command → PlainClass
+plain_class (Ls path) = Look
+plain_class (Cat path offset count) = Look
+plain_class (Stat path) = Look
+plain_class (Readlink path) = Look
+plain_class (Mkdir path) = Edit
+plain_class (Touch path) = Edit
+plain_class (Symlink target path) = Edit
+plain_class (Snapshot path) = Edit
+plain_class (Ln old new) = Edit
+plain_class (Mv old new) = Edit
+plain_class (Write path offset bytes) = Edit
+plain_class (Fill path offset count byte) = Edit
+plain_class (Truncate path size) = Edit
+plain_class (Rm path) = Edit
+plain_class (Rmdir path) = Edit
+plain_class Sync = Unanswered
+plain_class Synctid = Unanswered
+plain_class (Prune path) = Unanswered
+plain_class (PruneAll path) = Unanswered
+plain_class (Reblock fill) = Unanswered
+plain_class (PfsMaster path shared) = Unanswered
+plain_class (PfsSlave path shared) = Unanswered
+plain_class (PfsStatus path) = Unanswered
+plain_class (PfsUpgrade path) = Unanswered
+plain_class (MirrorRead path begin) = Unanswered
+plain_class (MirrorWrite path) = Unanswered
+plain_class (MirrorCopy master slave limit) = Unanswered
+plain_class Df = Unanswered
+plain_class Progress = Unanswered
+plain_class (EndOf opening) = Unanswered
+
 -- the commands that look at a tree, and those that change one but for those that make a PFS
 abbrev pub IsLook : Command → Type 0
-IsLook (Ls path) = Unit {0}
-IsLook (Cat path offset count) = Unit {0}
-IsLook (Stat path) = Unit {0}
-IsLook (Readlink path) = Unit {0}
-IsLook other = ⊥
+IsLook command = elim (plain_class command) [ Look ↦ Unit {0} | Edit ↦ ⊥ | Unanswered ↦ ⊥ ]
 
 abbrev pub IsEdit : Command → Type 0
-IsEdit (Mkdir path) = Unit {0}
-IsEdit (Touch path) = Unit {0}
-IsEdit (Symlink target path) = Unit {0}
-IsEdit (Snapshot path) = Unit {0}
-IsEdit (Ln old new) = Unit {0}
-IsEdit (Mv old new) = Unit {0}
-IsEdit (Write path offset bytes) = Unit {0}
-IsEdit (Fill path offset count byte) = Unit {0}
-IsEdit (Truncate path size) = Unit {0}
-IsEdit (Rm path) = Unit {0}
-IsEdit (Rmdir path) = Unit {0}
-IsEdit other = ⊥
+IsEdit command = elim (plain_class command) [ Look ↦ ⊥ | Edit ↦ Unit {0} | Unanswered ↦ ⊥ ]
 
 -- the path words of the command are read so, and none has an id
 pub record ReadsNow (command : Command) (paths : List Parsed) : Type 0 where
@@ -84,22 +107,7 @@ inner_call size last tree command paths = call_on size last tree (plain_view tre
 
 -- the commands that are answered on one tree
 abbrev pub IsServed : Command → Type 0
-IsServed (Mkdir path) = Unit {0}
-IsServed (Touch path) = Unit {0}
-IsServed (Symlink target path) = Unit {0}
-IsServed (Snapshot path) = Unit {0}
-IsServed (Ln old new) = Unit {0}
-IsServed (Mv old new) = Unit {0}
-IsServed (Write path offset bytes) = Unit {0}
-IsServed (Fill path offset count byte) = Unit {0}
-IsServed (Truncate path size) = Unit {0}
-IsServed (Rm path) = Unit {0}
-IsServed (Rmdir path) = Unit {0}
-IsServed (Ls path) = Unit {0}
-IsServed (Cat path offset count) = Unit {0}
-IsServed (Stat path) = Unit {0}
-IsServed (Readlink path) = Unit {0}
-IsServed other = ⊥
+IsServed command = elim (plain_class command) [ Look ↦ Unit {0} | Edit ↦ Unit {0} | Unanswered ↦ ⊥ ]
 
 -- what a call does with a path
 abbrev pub use_of : Purpose → Use

@@ -2,7 +2,7 @@
 use Rattle.std.specs.Prelude.{ℕ, List, [], Option, None, replicate}
 use Rattle.std.specs.Option.{option_map_or}
 use Rattle.hm_model.specs.declared.command.Command.{Command}
-use Rattle.hm_model.specs.declared.command.Command.TheVariants.{Mkdir, Touch, Symlink, Snapshot, Ln, Mv, Write, Fill, Truncate, Rm, Rmdir}
+use Rattle.hm_model.specs.declared.command.Command.TheVariants.{Mkdir, Touch, Symlink, Snapshot, Ln, Mv, Write, Fill, Truncate, Rm, Rmdir, Ls, Cat, Stat, Readlink, Sync, Synctid, Prune, PruneAll, Reblock, PfsMaster, PfsSlave, PfsStatus, PfsUpgrade, MirrorRead, MirrorWrite, MirrorCopy, Df, Progress, End}
 use Rattle.hm_types.specs.declared.object.Kind.TheVariants.{Directory, File, Softlink}
 use Rattle.hm_types.specs.declared.object.Content.TheVariants.{Nothing, File as FileBytes, Target}
 use Rattle.hm_types.specs.declared.object.Object.{Object}
@@ -32,5 +32,23 @@ changed_at tree command id a b = elim command [
   | Rm path ↦ of_object (finds tree) a tree (without_entry tree a.directory.object a.name)
   | Rmdir path ↦ without_object (without_name tree a.directory.object a.name) a.at.object
   | Mv old new ↦ of_object (finds tree) a tree (moved_at tree a b)
-  | other ↦ tree
+  | Ls path ↦ tree
+  | Cat path offset count ↦ tree
+  | Stat path ↦ tree
+  | Readlink path ↦ tree
+  | Sync ↦ tree
+  | Synctid ↦ tree
+  | Prune path ↦ tree
+  | PruneAll path ↦ tree
+  | Reblock fill ↦ tree
+  | PfsMaster path shared ↦ tree
+  | PfsSlave path shared ↦ tree
+  | PfsStatus path ↦ tree
+  | PfsUpgrade path ↦ tree
+  | MirrorRead path begin ↦ tree
+  | MirrorWrite path ↦ tree
+  | MirrorCopy master slave limit ↦ tree
+  | Df ↦ tree
+  | Progress ↦ tree
+  | End opening ↦ tree
 ]

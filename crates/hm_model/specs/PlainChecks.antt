@@ -2,7 +2,7 @@
 use Rattle.std.specs.Prelude.{ℕ, ◌+◌, List, [], ◌∷◌, Bool, false, Option, Some, None, ◌==◌, if◌then◌else◌, length}
 use Rattle.std.specs.Option.{option_map_or}
 use Rattle.hm_model.specs.declared.command.Command.{Command}
-use Rattle.hm_model.specs.declared.command.Command.TheVariants.{Mkdir, Touch, Symlink, Snapshot, Ln, Mv, Write, Fill, Truncate, Rm, Rmdir, Ls, Cat, Readlink, Sync}
+use Rattle.hm_model.specs.declared.command.Command.TheVariants.{Mkdir, Touch, Symlink, Snapshot, Ln, Mv, Write, Fill, Truncate, Rm, Rmdir, Ls, Cat, Readlink, Sync, Stat, Synctid, Prune, PruneAll, Reblock, PfsMaster, PfsSlave, PfsStatus, PfsUpgrade, MirrorRead, MirrorWrite, MirrorCopy, Df, Progress, End}
 use Rattle.hm_types.specs.declared.object.Object.{Object}
 use Rattle.hm_model.specs.declared.reply.Reply.{Reply}
 use Rattle.hm_model.specs.declared.reply.Reply.TheVariants.{CrossPfs, Exists, IntoItself, HashFull, NotFound}
@@ -53,7 +53,22 @@ own_at tree command a b = elim command [
   | Ls path ↦ a_dir (finds tree) a ∷ []
   | Cat path offset count ↦ no_dir (finds tree) a ∷ a_file (finds tree) a ∷ []
   | Readlink path ↦ a_link (finds tree) a ∷ []
-  | other ↦ []
+  | Stat path ↦ []
+  | Sync ↦ []
+  | Synctid ↦ []
+  | Prune path ↦ []
+  | PruneAll path ↦ []
+  | Reblock fill ↦ []
+  | PfsMaster path shared ↦ []
+  | PfsSlave path shared ↦ []
+  | PfsStatus path ↦ []
+  | PfsUpgrade path ↦ []
+  | MirrorRead path begin ↦ []
+  | MirrorWrite path ↦ []
+  | MirrorCopy master slave limit ↦ []
+  | Df ↦ []
+  | Progress ↦ []
+  | End opening ↦ []
 ]
 
 -- the check of the hashes of names where a new one is made at this place
@@ -69,7 +84,30 @@ new_hash_at tree command a b = elim command [
   | Snapshot path ↦ hash_at tree a
   | Ln old new ↦ hash_at tree b
   | Mv old new ↦ hash_at tree b
-  | other ↦ None
+  | Write path offset bytes ↦ None
+  | Fill path offset count byte ↦ None
+  | Truncate path size ↦ None
+  | Rm path ↦ None
+  | Rmdir path ↦ None
+  | Ls path ↦ None
+  | Cat path offset count ↦ None
+  | Stat path ↦ None
+  | Readlink path ↦ None
+  | Sync ↦ None
+  | Synctid ↦ None
+  | Prune path ↦ None
+  | PruneAll path ↦ None
+  | Reblock fill ↦ None
+  | PfsMaster path shared ↦ None
+  | PfsSlave path shared ↦ None
+  | PfsStatus path ↦ None
+  | PfsUpgrade path ↦ None
+  | MirrorRead path begin ↦ None
+  | MirrorWrite path ↦ None
+  | MirrorCopy master slave limit ↦ None
+  | Df ↦ None
+  | Progress ↦ None
+  | End opening ↦ None
 ]
 
 -- the answer of a call that looks at what stands at this place

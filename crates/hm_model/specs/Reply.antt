@@ -1,11 +1,13 @@
 -- Replies: which are refusals, and how they are printed.
-use Rattle.std.specs.Prelude.{ℕ, ◌-◌, ◌^◌, List, [], ◌∷◌, ◌++◌, Bool, true, false, ◌==◌, if◌then◌else◌, codes, decimal, length}
+use Rattle.std.specs.Prelude.{ℕ, ◌-◌, ◌^◌, List, [], ◌∷◌, ◌++◌, Bool, true, false, ◌==◌, if◌then◌else◌, codes, decimal, length, Option, Some, None}
 use Rattle.std.specs.Fmt.{digits, padded_integral, format_spec}
 use Rattle.std.specs.List.{flat_map}
 use Rattle.hex.specs.Hex.{encode_lower}
+use Rattle.std.specs.Option.{option_map_or}
 use Rattle.hm_types.specs.Id.{hex16, id_text}
+use Rattle.hm_types.specs.declared.id.Id.{Id}
 use Rattle.hm_model.specs.declared.command.Command.{Command}
-use Rattle.hm_model.specs.declared.command.Command.TheVariants.{Sync}
+use Rattle.hm_model.specs.declared.command.Command.TheVariants.{Sync, Mkdir, Touch, Symlink, Snapshot, Ln, Mv, Write, Fill, Truncate, Rm, Rmdir, Ls, Cat, Stat, Readlink, Synctid, Prune, PruneAll, Reblock, PfsMaster, PfsSlave, PfsStatus, PfsUpgrade, MirrorRead, MirrorWrite, MirrorCopy, Df, Progress, End}
 use Rattle.hm_model.specs.declared.reply.Reply.{Reply}
 use Rattle.hm_model.specs.declared.reply.Reply.TheVariants.{Done, Listing, Content, Status, Target, Synced, MadePfs, PfsIs, Space, Finished, Passed, Cut, Exists, NotFound, NotDir, IsDir, NotEmpty, BadPath, ReadOnly, NotRetained, Future, TooBig, CrossPfs, IntoItself, HashFull, PfsFull, NoSnapshots, TooManyIntervals, NotSlave, NotMaster, IdsSpent, NoSpace, Media, Damaged, NoMemory, SharedDiffers, BeginDiffers, StreamBad, StreamShort, StreamFault, EndPruned, Busy, NotLink, NotFile}
 
@@ -141,7 +143,129 @@ reply_text (Busy opening) = codes "busy " ++ id_text opening
 reply_text NotLink = codes "not a link"
 reply_text NotFile = codes "not a file"
 
+-- the boundary that a reply tells, if it tells one
+abbrev pub told_boundary : Reply → Option Id
+told_boundary (Synced boundary) = Some boundary
+told_boundary Done = None
+told_boundary (Listing names) = None
+told_boundary (Content bytes) = None
+told_boundary (Status kind obj size links) = None
+told_boundary (Target text) = None
+told_boundary (MadePfs number) = None
+told_boundary (PfsIs master number shared intervals sync_end) = None
+told_boundary (Space pool free) = None
+told_boundary Finished = None
+told_boundary (Passed begin end) = None
+told_boundary (Cut items) = None
+told_boundary Exists = None
+told_boundary NotFound = None
+told_boundary NotDir = None
+told_boundary IsDir = None
+told_boundary NotEmpty = None
+told_boundary (BadPath place) = None
+told_boundary ReadOnly = None
+told_boundary NotRetained = None
+told_boundary (Future last) = None
+told_boundary TooBig = None
+told_boundary CrossPfs = None
+told_boundary IntoItself = None
+told_boundary HashFull = None
+told_boundary PfsFull = None
+told_boundary NoSnapshots = None
+told_boundary (TooManyIntervals count) = None
+told_boundary NotSlave = None
+told_boundary NotMaster = None
+told_boundary IdsSpent = None
+told_boundary (NoSpace free needed) = None
+told_boundary (Media before after) = None
+told_boundary (Damaged at kind) = None
+told_boundary NoMemory = None
+told_boundary (SharedDiffers slave stream) = None
+told_boundary (BeginDiffers slave stream) = None
+told_boundary (StreamBad place) = None
+told_boundary (StreamShort taken) = None
+told_boundary (StreamFault before after) = None
+told_boundary (EndPruned end first) = None
+told_boundary (Busy opening) = None
+told_boundary NotLink = None
+told_boundary NotFile = None
+
+-- the begin and end ids of a pass that came to its end
+abbrev pub passed_ids : Reply → Option (Id × Id)
+passed_ids (Passed begin end) = Some (begin, end)
+passed_ids Done = None
+passed_ids (Listing names) = None
+passed_ids (Content bytes) = None
+passed_ids (Status kind obj size links) = None
+passed_ids (Target text) = None
+passed_ids (Synced boundary) = None
+passed_ids (MadePfs number) = None
+passed_ids (PfsIs master number shared intervals sync_end) = None
+passed_ids (Space pool free) = None
+passed_ids Finished = None
+passed_ids (Cut items) = None
+passed_ids Exists = None
+passed_ids NotFound = None
+passed_ids NotDir = None
+passed_ids IsDir = None
+passed_ids NotEmpty = None
+passed_ids (BadPath place) = None
+passed_ids ReadOnly = None
+passed_ids NotRetained = None
+passed_ids (Future last) = None
+passed_ids TooBig = None
+passed_ids CrossPfs = None
+passed_ids IntoItself = None
+passed_ids HashFull = None
+passed_ids PfsFull = None
+passed_ids NoSnapshots = None
+passed_ids (TooManyIntervals count) = None
+passed_ids NotSlave = None
+passed_ids NotMaster = None
+passed_ids IdsSpent = None
+passed_ids (NoSpace free needed) = None
+passed_ids (Media before after) = None
+passed_ids (Damaged at kind) = None
+passed_ids NoMemory = None
+passed_ids (SharedDiffers slave stream) = None
+passed_ids (BeginDiffers slave stream) = None
+passed_ids (StreamBad place) = None
+passed_ids (StreamShort taken) = None
+passed_ids (StreamFault before after) = None
+passed_ids (EndPruned end first) = None
+passed_ids (Busy opening) = None
+passed_ids NotLink = None
+passed_ids NotFile = None
+
 -- how the answer of a call is printed: `sync` does not tell its boundary
 abbrev pub answer_text : Command → Reply → List ℕ
-answer_text Sync (Synced boundary) = codes "ok"
-answer_text call reply = reply_text reply
+answer_text Sync reply = option_map_or (λ boundary. codes "ok") (told_boundary reply) (reply_text reply)
+answer_text (Mkdir path) reply = reply_text reply
+answer_text (Touch path) reply = reply_text reply
+answer_text (Symlink target path) reply = reply_text reply
+answer_text (Snapshot path) reply = reply_text reply
+answer_text (Ln old new) reply = reply_text reply
+answer_text (Mv old new) reply = reply_text reply
+answer_text (Write path offset bytes) reply = reply_text reply
+answer_text (Fill path offset count byte) reply = reply_text reply
+answer_text (Truncate path size) reply = reply_text reply
+answer_text (Rm path) reply = reply_text reply
+answer_text (Rmdir path) reply = reply_text reply
+answer_text (Ls path) reply = reply_text reply
+answer_text (Cat path offset count) reply = reply_text reply
+answer_text (Stat path) reply = reply_text reply
+answer_text (Readlink path) reply = reply_text reply
+answer_text Synctid reply = reply_text reply
+answer_text (Prune path) reply = reply_text reply
+answer_text (PruneAll path) reply = reply_text reply
+answer_text (Reblock fill) reply = reply_text reply
+answer_text (PfsMaster path shared) reply = reply_text reply
+answer_text (PfsSlave path shared) reply = reply_text reply
+answer_text (PfsStatus path) reply = reply_text reply
+answer_text (PfsUpgrade path) reply = reply_text reply
+answer_text (MirrorRead path begin) reply = reply_text reply
+answer_text (MirrorWrite path) reply = reply_text reply
+answer_text (MirrorCopy master slave limit) reply = reply_text reply
+answer_text Df reply = reply_text reply
+answer_text Progress reply = reply_text reply
+answer_text (End opening) reply = reply_text reply

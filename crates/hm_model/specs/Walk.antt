@@ -59,7 +59,9 @@ is_directory object = elim object.kind [ Directory ↦ true | File ↦ false | S
 -- the PFS that an object leads to, if it is a PFS link
 abbrev pub linked_in : Content → Option ℕ
 linked_in (Linked pfs) = Some pfs.0
-linked_in other = None
+linked_in Nothing = None
+linked_in (Bytes bytes) = None
+linked_in (Target text) = None
 
 -- the root of a PFS
 abbrev pub root_of : ℕ → When → Position
