@@ -39,6 +39,8 @@ pub mod LinkLemmas
 pub mod LookLemmas
 pub mod NewPfsLemmas
 pub mod KeptPastLemmas
+pub mod SyncEndLemmas
+pub mod LastingPastLemmas
 pub mod ReadingLemmas
 pub mod StepByStepLemmas
 pub mod ExampleLemmas

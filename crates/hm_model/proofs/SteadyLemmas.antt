@@ -34,11 +34,12 @@ abbrev pub OpenedAt : State → Call → State → Type 0
 OpenedAt state call after =
     (after.opened ≡ state.opened)
     ⊎ ((o : OpenCall) × (after.opened ≡ o ∷ state.opened) × (o.command ≡ call.command)
-    × (rewrites call.command ≡ true → o.pfs ≡ (written_site call.command (first_site call) (second_site call)).at.pfs))
+    × (rewrites call.command ≡ true → o.pfs ≡ (written_site call.command (first_site call) (second_site call)).at.pfs)
+    × (o.opening ≡ own_id call))
 
 opens_other : (state after : State) (call : Call) (pfs : ℕ) (command : Command) → call.command ≡ command → rewrites command ≡ false → after.opened ≡ new_call state call pfs pfs no_feed ∷ state.opened → OpenedAt state call after
 opens_other state after call pfs command is other opened =
-    inr (new_call state call pfs pfs no_feed, opened, refl, λ writes. absurd (let no_way : rewrites call.command ≡ false = ap rewrites is ∙ other in cc))
+    inr (new_call state call pfs pfs no_feed, opened, refl, λ writes. absurd (let no_way : rewrites call.command ≡ false = ap rewrites is ∙ other in cc), refl)
 
 pub opened_at : (state : State) (call : Call) (command : Command) → call.command ≡ command →
     OpenedAt state call (accepted_effect_of state call command)
@@ -47,11 +48,11 @@ opened_at state call (PruneAll path) is = opens_other state (on_volume (with_ope
 opened_at state call (Reblock fill) is = opens_other state (with_opened state call 0 0 no_feed) call 0 (Reblock fill) is refl refl
 opened_at state call (MirrorRead path begin) is = opens_other state (with_opened state call (first_site call).at.pfs (first_site call).at.pfs no_feed) call (first_site call).at.pfs (MirrorRead path begin) is refl refl
 opened_at state call (PfsUpgrade path) is =
-    inr (new_call state call (first_site call).at.pfs (first_site call).at.pfs no_feed, refl, refl, λ writes. sym (ap (λ (c : Command). (written_site c (first_site call) (second_site call)).at.pfs) is))
+    inr (new_call state call (first_site call).at.pfs (first_site call).at.pfs no_feed, refl, refl, λ writes. sym (ap (λ (c : Command). (written_site c (first_site call) (second_site call)).at.pfs) is), refl)
 opened_at state call (MirrorWrite path) is =
-    inr (new_call state call (first_site call).at.pfs (first_site call).at.pfs (next_stream state.streams), refl, refl, λ writes. sym (ap (λ (c : Command). (written_site c (first_site call) (second_site call)).at.pfs) is))
+    inr (new_call state call (first_site call).at.pfs (first_site call).at.pfs (next_stream state.streams), refl, refl, λ writes. sym (ap (λ (c : Command). (written_site c (first_site call) (second_site call)).at.pfs) is), refl)
 opened_at state call (MirrorCopy master slave limit) is =
-    inr (new_call state call (second_site call).at.pfs (first_site call).at.pfs no_feed, refl, refl, λ writes. sym (ap (λ (c : Command). (written_site c (first_site call) (second_site call)).at.pfs) is))
+    inr (new_call state call (second_site call).at.pfs (first_site call).at.pfs no_feed, refl, refl, λ writes. sym (ap (λ (c : Command). (written_site c (first_site call) (second_site call)).at.pfs) is), refl)
 opened_at state call other is = by (is_tree_call other)
   where
     by : (test : Bool) → OpenedAt state call (if test then on_volume state (change call) else state)

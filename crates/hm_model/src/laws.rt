@@ -25,7 +25,10 @@ pub use calls::{
     new_systems_begin_empty,
 };
 pub use causes::bad_paths_are_told_by_their_words;
-pub use endings::{cut_passes_change_nothing, slaves_keep_their_past, upgrades_leave_the_past};
+pub use endings::{
+    cut_passes_change_nothing, slaves_keep_their_past, slaves_keep_their_past_for_good,
+    upgrades_leave_the_past,
+};
 pub use examples::{
     examples_of_mirrors_are_legal, examples_of_streams_are_legal, examples_of_the_past_are_legal,
 };
