@@ -36,13 +36,16 @@ pub Grows-change : (call : Call) (pfs : ℕ) → Grows (own_id call) (versions_o
 Grows-change call pfs =
     let tree : FileTree = changed call (call.view (changed_pfs call) Now) in
     let once : Grows (own_id call) (versions_of call.volume pfs) (versions_of (versioned call) pfs) =
-    Grows-changed (own_id call) pfs (changed_pfs call) (add_version (own_id call) tree) call.volume.systems (λ s. refl) (λ s. record { more = (own_id call, tree) ∷ []; grown = refl; begin = (refl, tt) }) in
+    Grows-changed (own_id call) pfs (changed_pfs call) (add_version (own_id call) tree) call.volume.systems (λ s. refl)
+    (λ s. record { more = (own_id call, tree) ∷ []; grown = refl; begin = (refl, tt) }) in
     new_cases (λ (v : Volume). Grows (own_id call) (versions_of call.volume pfs) (versions_of v pfs)) call (versioned call) call.command once
-    (λ shared. Grows-pushed (own_id call) pfs (versions_of call.volume pfs) (versioned call).systems (new_master (new_pfs call.volume) shared ((own_id call, root_tree) ∷ [])) (refl, tt) once)
+    (λ shared. Grows-pushed (own_id call) pfs (versions_of call.volume pfs) (versioned call).systems
+    (new_master (new_pfs call.volume) shared ((own_id call, root_tree) ∷ [])) (refl, tt) once)
     (λ shared. Grows-pushed (own_id call) pfs (versions_of call.volume pfs) (versioned call).systems (new_slave (new_pfs call.volume) shared) tt once)
 
 -- one more PFS is not found under another number
-found-beside : (systems : List PseudoFileSystem) (new : PseudoFileSystem) (pfs : ℕ) → pfs ≢ new.number → found_in (systems ++ new ∷ []) pfs ≡ found_in systems pfs
+found-beside : (systems : List PseudoFileSystem) (new : PseudoFileSystem) (pfs : ℕ) → pfs ≢ new.number →
+    found_in (systems ++ new ∷ []) pfs ≡ found_in systems pfs
 found-beside systems new pfs differ =
     let no : eqb new.number pfs ≡ false = grind (arith, nat_tests, differ) in
     found-pushed systems new pfs ∙ rw no (by (found_in systems pfs))

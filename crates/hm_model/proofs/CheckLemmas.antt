@@ -30,7 +30,8 @@ unless_refuses true reply refuses = tt
 unless_refuses false reply refuses = refuses
 
 -- a check of a PFS
-system_refuses : (call : Call) (site : Site) (check : PseudoFileSystem → Check) → ((s : PseudoFileSystem) → CheckRefuses (check s)) → CheckRefuses (of_system call site check)
+system_refuses : (call : Call) (site : Site) (check : PseudoFileSystem → Check) → ((s : PseudoFileSystem) → CheckRefuses (check s)) →
+    CheckRefuses (of_system call site check)
 system_refuses call site check each = of_option CheckRefuses check (site_system call site) None each tt
 
 new_refuses : (call : Call) (site : Site) → CheckRefuses (name_is_new call site)
@@ -60,7 +61,9 @@ begin_refuses last (MirrorRead path begin) = if_refuses (nat_lt last begin.0) (F
 begin_refuses last other = tt
 
 open_refuses : (busy : Option ℕ) (command : Command) → CheckRefuses (none_open busy command)
-open_refuses busy command = of_test CheckRefuses (is_pass command) (option_map_or (λ opening. Some (Busy (record { 0 = opening }))) busy None) None (of_option CheckRefuses (λ opening. Some (Busy (record { 0 = opening }))) busy None (λ opening. refl) tt) tt
+open_refuses busy command =
+    of_test CheckRefuses (is_pass command) (option_map_or (λ opening. Some (Busy (record { 0 = opening }))) busy None) None
+    (of_option CheckRefuses (λ opening. Some (Busy (record { 0 = opening }))) busy None (λ opening. refl) tt) tt
 
 early_refuse : (last : ℕ) (busy : Option ℕ) (command : Command) (paths : List Parsed) → AllRefuse (early_checks last busy command paths)
 early_refuse last busy command paths = (
@@ -78,7 +81,8 @@ master_refuses call site = system_refuses call site (λ s. if is_master s then N
 
 shared_refuses : (call : Call) → CheckRefuses (one_shared call)
 shared_refuses call =
-    system_refuses call (first_site call) (λ m. of_system call (second_site call) (λ s. if s.shared == m.shared then None else Some (SharedDiffers s.shared m.shared)))
+    system_refuses call (first_site call) (λ m. of_system call (second_site call)
+    (λ s. if s.shared == m.shared then None else Some (SharedDiffers s.shared m.shared)))
     (λ m. system_refuses call (second_site call) (λ s. if s.shared == m.shared then None else Some (SharedDiffers s.shared m.shared))
     (λ s. unless_refuses (s.shared == m.shared) (SharedDiffers s.shared m.shared) refl))
 
@@ -129,7 +133,8 @@ all_refuse call =
             if_refuses (is_tree_call call.command && list_any (is_in_slave call) (all_located call)) ReadOnly refl,
             own_refuse call (first_site call) (second_site call) call.command,
           )) (
-            of_option CheckRefuses (λ site. refuse_if (hash_is_full call site) HashFull) (new_name (uses_of call.command) (all_located call)) None (λ site. if_refuses (hash_is_full call site) HashFull refl) tt,
+            of_option CheckRefuses (λ site. refuse_if (hash_is_full call site) HashFull) (new_name (uses_of call.command) (all_located call)) None
+                (λ site. if_refuses (hash_is_full call site) HashFull refl) tt,
             (intervals_refuse call call.command, tt),
           ),
     )
@@ -153,14 +158,17 @@ abbrev pub written_site : Command → Site → Site → Site
 written_site (MirrorCopy master slave limit) a b = b
 written_site other a b = a
 
-slave_checked : (call : Call) (a b : Site) (command : Command) → rewrites command ≡ true → first_refusal (record_checks_of call a b command) ≡ None → a_slave call (written_site command a b) ≡ None
+slave_checked : (call : Call) (a b : Site) (command : Command) → rewrites command ≡ true → first_refusal (record_checks_of call a b command) ≡ None →
+    a_slave call (written_site command a b) ≡ None
 slave_checked call a b (PfsUpgrade path) is none = (no_rest (a_slave call a) (was_passed call a ∷ []) none).0
 slave_checked call a b (MirrorWrite path) is none = (no_rest (a_slave call a) [] none).0
-slave_checked call a b (MirrorCopy master slave limit) is none = (no_rest (a_slave call b) (one_shared call ∷ []) (no_rest (a_master call a) (a_slave call b ∷ one_shared call ∷ []) none).1).0
+slave_checked call a b (MirrorCopy master slave limit) is none =
+    (no_rest (a_slave call b) (one_shared call ∷ []) (no_rest (a_master call a) (a_slave call b ∷ one_shared call ∷ []) none).1).0
 slave_checked call a b command is none = absurd (cc)
 
 -- a call that rewrites a PFS and lands works on no master
-pub written_slave : (call : Call) (s : PseudoFileSystem) → first_refusal (record_checks call) ≡ None → rewrites call.command ≡ true → system_of call.volume (written_site call.command (first_site call) (second_site call)).at.pfs ≡ Some s → is_master s ≡ false
+pub written_slave : (call : Call) (s : PseudoFileSystem) → first_refusal (record_checks call) ≡ None → rewrites call.command ≡ true →
+    system_of call.volume (written_site call.command (first_site call) (second_site call)).at.pfs ≡ Some s → is_master s ≡ false
 written_slave call s none writes found = by (is_master s) refl
   where
     checked : a_slave call (written_site call.command (first_site call) (second_site call)) ≡ None

@@ -25,10 +25,13 @@ use Rattle.hm_model.proofs.GrowthLemmas.{Grows, Grows-changed, Grows-same, Keeps
 
 -- what holds after each kind of call holds after an accepted one
 pub accepted_cases : (P : State → Type 0) (state : State) (call : Call) (command : Command) →
-    P (on_volume (with_opened state call (first_site call).at.pfs (first_site call).at.pfs no_feed) (of_pfs state.volume (first_site call).at.pfs (λ s. retaining (pruned s.retention (kept_ids call)) s))) →
-    P (on_volume (with_opened state call (first_site call).at.pfs (first_site call).at.pfs no_feed) (of_pfs state.volume (first_site call).at.pfs (present_only (own_id call)))) →
+    P (on_volume (with_opened state call (first_site call).at.pfs (first_site call).at.pfs no_feed)
+    (of_pfs state.volume (first_site call).at.pfs (λ s. retaining (pruned s.retention (kept_ids call)) s))) →
+    P (on_volume (with_opened state call (first_site call).at.pfs (first_site call).at.pfs no_feed)
+    (of_pfs state.volume (first_site call).at.pfs (present_only (own_id call)))) →
     ((pfs : ℕ) → P (with_opened state call pfs pfs no_feed)) →
-    P (record (feeding state call (first_site call).at.pfs (first_site call).at.pfs (stream_origin (next_stream state.streams)) (next_stream state.streams)) { streams = later_streams state.streams }) →
+    P (record (feeding state call (first_site call).at.pfs (first_site call).at.pfs (stream_origin (next_stream state.streams)) (next_stream state.streams))
+    { streams = later_streams state.streams }) →
     P (feeding state call (second_site call).at.pfs (first_site call).at.pfs (Local (first_site call).at.pfs) no_feed) →
     P (if is_tree_call command then on_volume state (change call) else state) →
     P (accepted_effect_of state call command)
@@ -42,8 +45,10 @@ accepted_cases P state call (MirrorCopy master slave limit) prune all opens writ
 accepted_cases P state call other prune all opens write copy tree = tree
 
 -- what holds of a state, of what an ending and of what an accepted call makes of it holds after an event
-pub effect_cases : (P : State → Type 0) (state : State) (event : Event) (command : Command) → P state → ((opening : ℕ) → P (ended state opening event.entry.reply)) → P (accepted_effect state (call_of no_hash state event)) →
-    P (option_map_or (λ (opening : Id). ended state opening.0 event.entry.reply) (named_opening command) (if is_refusal event.entry.reply then state else accepted_effect state (call_of no_hash state event)))
+pub effect_cases : (P : State → Type 0) (state : State) (event : Event) (command : Command) → P state →
+    ((opening : ℕ) → P (ended state opening event.entry.reply)) → P (accepted_effect state (call_of no_hash state event)) →
+    P (option_map_or (λ (opening : Id). ended state opening.0 event.entry.reply) (named_opening command)
+    (if is_refusal event.entry.reply then state else accepted_effect state (call_of no_hash state event)))
 effect_cases P state event (End opening) same ends accepts = ends opening.0
 effect_cases P state event other same ends accepts = by (is_refusal event.entry.reply)
   where
@@ -53,7 +58,8 @@ effect_cases P state event other same ends accepts = by (is_refusal event.entry.
 
 -- the end of a call changes the one PFS that it works on
 pass_other : (volume : Volume) (o : OpenCall) (reply : Reply) (pfs : ℕ) → o.pfs ≢ pfs → system_of (end_of_pass volume o reply) pfs ≡ system_of volume pfs
-pass_other volume o (Passed begin end) pfs differ = found-other pfs o.pfs (after_pass (given_in volume o) begin.0 end.0) volume.systems (λ s. refl) (λ same. differ (same))
+pass_other volume o (Passed begin end) pfs differ =
+    found-other pfs o.pfs (after_pass (given_in volume o) begin.0 end.0) volume.systems (λ s. refl) (λ same. differ (same))
 pass_other volume o reply pfs differ = refl
 
 write_other : (volume : Volume) (o : OpenCall) (reply : Reply) (pfs : ℕ) → o.pfs ≢ pfs → system_of (end_of_write volume o reply) pfs ≡ system_of volume pfs
@@ -95,18 +101,23 @@ found_fails test fails (x ∷ xs) o found none = by (test x) refl (found_fails t
     by true is rest = let same : Some x ≡ Some o = rw is at found in let one : x ≡ o = cc in rw (← one) (or_false (fails x) (list_any fails xs) none).0
     by false is rest = rest (rw is at found) (or_false (fails x) (list_any fails xs) none).1
 
-pub ended_system : (state : State) (opening : ℕ) (reply : Reply) (pfs : ℕ) → IsUnfed state pfs → system_of (ended state opening reply).volume pfs ≡ system_of state.volume pfs
+pub ended_system : (state : State) (opening : ℕ) (reply : Reply) (pfs : ℕ) → IsUnfed state pfs →
+    system_of (ended state opening reply).volume pfs ≡ system_of state.volume pfs
 ended_system state opening reply pfs unfed = by (opened_with opening state.opened) refl
   where
-    by : (found : Option OpenCall) → opened_with opening state.opened ≡ found → system_of (option_map_or (end_effect state.volume reply) found state.volume) pfs ≡ system_of state.volume pfs
+    by : (found : Option OpenCall) → opened_with opening state.opened ≡ found →
+        system_of (option_map_or (end_effect state.volume reply) found state.volume) pfs ≡ system_of state.volume pfs
     by None is = refl
-    by (Some o) is = ended_unfed state.volume reply o pfs o.command (found_fails (λ (x : OpenCall). eqb x.opening opening) (is_rewriter pfs) state.opened o is unfed)
+    by (Some o) is =
+        ended_unfed state.volume reply o pfs o.command (found_fails (λ (x : OpenCall). eqb x.opening opening) (is_rewriter pfs) state.opened o is unfed)
 
-ended_versions : (state : State) (opening : ℕ) (reply : Reply) (pfs : ℕ) → IsUnfed state pfs → versions_of (ended state opening reply).volume pfs ≡ versions_of state.volume pfs
+ended_versions : (state : State) (opening : ℕ) (reply : Reply) (pfs : ℕ) → IsUnfed state pfs →
+    versions_of (ended state opening reply).volume pfs ≡ versions_of state.volume pfs
 ended_versions state opening reply pfs unfed = ap versions_in (ended_system state opening reply pfs unfed)
 
 -- a change of one PFS that keeps versions
-kept_versions : (id pfs other : ℕ) (f : PseudoFileSystem → PseudoFileSystem) (volume : Volume) → KeepsNumber f → ((s : PseudoFileSystem) → (f s).versions ≡ s.versions) → Grows id (versions_of volume pfs) (versions_of (of_pfs volume other f) pfs)
+kept_versions : (id pfs other : ℕ) (f : PseudoFileSystem → PseudoFileSystem) (volume : Volume) → KeepsNumber f →
+    ((s : PseudoFileSystem) → (f s).versions ≡ s.versions) → Grows id (versions_of volume pfs) (versions_of (of_pfs volume other f) pfs)
 kept_versions id pfs other f volume number versions = Grows-changed id pfs other f volume.systems number (λ s. rw (versions s) (Grows-same id s.versions))
 
 pub by_role : {X : Type 0} (P : X → Type 0) (master slave : X) (role : Role) → P master → P slave → P (elim role [ Master ↦ master | Slave ↦ slave ])
@@ -119,7 +130,8 @@ present_keeps id s =
     (retaining (cut s.retention [] id) s) (retaining (cut s.retention (s.sync_end ∷ []) (2 ^ 64)) s) s.role (refl, refl) (refl, refl)
 
 -- an accepted call lets the versions of each PFS grow
-pub accepted_grows : (state : State) (call : Call) (pfs : ℕ) → call.volume ≡ state.volume → Grows (own_id call) (versions_of state.volume pfs) (versions_of (accepted_effect state call).volume pfs)
+pub accepted_grows : (state : State) (call : Call) (pfs : ℕ) → call.volume ≡ state.volume →
+    Grows (own_id call) (versions_of state.volume pfs) (versions_of (accepted_effect state call).volume pfs)
 accepted_grows state call pfs same =
     let id : ℕ = own_id call in
     let before : List (ℕ × FileTree) = versions_of state.volume pfs in
@@ -128,8 +140,11 @@ accepted_grows state call pfs same =
     (kept_versions id pfs (first_site call).at.pfs (λ s. retaining (pruned s.retention (kept_ids call)) s) state.volume (λ s. refl) (λ s. refl))
     (kept_versions id pfs (first_site call).at.pfs (present_only id) state.volume (λ s. (present_keeps id s).0) (λ s. (present_keeps id s).1))
     (λ other. as_before)
-    (kept_versions id pfs (first_site call).at.pfs (with_origin (fed_from (origin_of state.volume (first_site call).at.pfs) (stream_origin (next_stream state.streams)))) state.volume (λ s. refl) (λ s. refl))
-    (kept_versions id pfs (second_site call).at.pfs (with_origin (fed_from (origin_of state.volume (second_site call).at.pfs) (Local (first_site call).at.pfs))) state.volume (λ s. refl) (λ s. refl))
+    (kept_versions id pfs (first_site call).at.pfs
+    (with_origin (fed_from (origin_of state.volume (first_site call).at.pfs) (stream_origin (next_stream state.streams)))) state.volume (λ s. refl)
+    (λ s. refl))
+    (kept_versions id pfs (second_site call).at.pfs
+    (with_origin (fed_from (origin_of state.volume (second_site call).at.pfs) (Local (first_site call).at.pfs))) state.volume (λ s. refl) (λ s. refl))
     (by (is_tree_call call.command))
   where
     by : (test : Bool) → Grows (own_id call) (versions_of state.volume pfs) (versions_of (if test then on_volume state (change call) else state).volume pfs)
@@ -137,7 +152,8 @@ accepted_grows state call pfs same =
     by false = Grows-same (own_id call) (versions_of state.volume pfs)
 
 -- so does each event, where no pass into the PFS is open and no upgrade of it
-pub Grows-event : (state : State) (event : Event) (pfs : ℕ) → IsUnfed state pfs → Grows (state.volume.last + 1) (versions_of state.volume pfs) (versions_of (after_event state event).volume pfs)
+pub Grows-event : (state : State) (event : Event) (pfs : ℕ) → IsUnfed state pfs →
+    Grows (state.volume.last + 1) (versions_of state.volume pfs) (versions_of (after_event state event).volume pfs)
 Grows-event state event pfs unfed =
     let id : ℕ = state.volume.last + 1 in
     let before : List (ℕ × FileTree) = versions_of state.volume pfs in

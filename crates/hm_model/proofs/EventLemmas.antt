@@ -7,12 +7,14 @@ use Rattle.hm_model.specs.Legal.{IsLegal, MayFollow, Setting, entries_of}
 use Rattle.hm_model.proofs.HistoryLemmas.{last_or_before}
 
 -- the state after one more event is one step on
-pub after_events-push : (state : State) (events : List Event) (event : Event) → after_events state (events ++ event ∷ []) ≡ after_event (after_events state events) event
+pub after_events-push : (state : State) (events : List Event) (event : Event) →
+    after_events state (events ++ event ∷ []) ≡ after_event (after_events state events) event
 after_events-push state [] event = refl
 after_events-push state (e ∷ es) event = after_events-push (after_event state e) es event
 
 -- what is known after one more event is one step on
-pub known_after-push : (known : Known) (events : List Event) (event : Event) → known_after known (events ++ event ∷ []) ≡ known_after_entry (known_after known events) event.entry
+pub known_after-push : (known : Known) (events : List Event) (event : Event) →
+    known_after known (events ++ event ∷ []) ≡ known_after_entry (known_after known events) event.entry
 known_after-push known [] event = refl
 known_after-push known (e ∷ es) event = known_after-push (known_after_entry known e.entry) es event
 
@@ -22,7 +24,8 @@ IsLegal-beginning run events rest legal before event more is =
     legal before event (more ++ rest) (ap (λ es. es ++ rest) is ∙ append_assoc before (event ∷ more) rest)
 
 -- a legal history goes on by an event that may follow it
-pub IsLegal-goes_on : (run : Setting) (events : List Event) (event : Event) → IsLegal run events → MayFollow run events event → IsLegal run (events ++ event ∷ [])
+pub IsLegal-goes_on : (run : Setting) (events : List Event) (event : Event) → IsLegal run events → MayFollow run events event →
+    IsLegal run (events ++ event ∷ [])
 IsLegal-goes_on run events event legal follows before e rest is =
     elim (last_or_before events event before e rest is) [
       | inl both ↦ let P : List Event → Event → Type 0 = MayFollow run in rw (← both.0, ← both.1) follows
@@ -47,7 +50,8 @@ ids_follow run before (e ∷ es) legal = (
 )
 
 -- each id is above the one before
-rise : (known : Known) (events : List Event) (k : ℕ) → IdsFollow known events → suc k < length (ids_of (entries_of events)) → get_or (ids_of (entries_of events)) k 0 < get_or (ids_of (entries_of events)) (suc k) 0
+rise : (known : Known) (events : List Event) (k : ℕ) → IdsFollow known events → suc k < length (ids_of (entries_of events)) →
+    get_or (ids_of (entries_of events)) k 0 < get_or (ids_of (entries_of events)) (suc k) 0
 rise known [] k follow within = absurd (omega arith)
 rise known (e ∷ []) k follow within = absurd (omega arith)
 rise known (e ∷ f ∷ es) zero follow within = omega (arith, follow.1.0)

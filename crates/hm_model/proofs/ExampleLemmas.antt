@@ -19,8 +19,12 @@ use Rattle.hm_model.proofs.ReadingLemmas.{dated, named, path}
 use Rattle.hm_model.proofs.StepByStepLemmas.{CanFollow, IsAllowedOn, IsLegal-steps, by_tests, early_step, is_in_order}
 
 -- an event that takes no stream and tells nothing that needs a cause
-step : (now : Counts) (least : ℕ) (known : Known) (state : State) (event : Event) → event.entry.id.0 ≡ known.last + 1 → is_in_order known state event ≡ true → takes_stream event.entry ≡ false → ReadsWords event.entry.call event.paths → HasNumbers now known event.entry → IsAllowedOn least state event → NamesAdded (call_of name_hash state event) event.entry.reply → IsUndamaged event.entry.reply → CanFollow now least known state event
-step now least known state event id order takes read numbers allowed names undamaged = by_tests now least known state event id order read numbers allowed names (λ is. absurd (cc)) undamaged
+step : (now : Counts) (least : ℕ) (known : Known) (state : State) (event : Event) → event.entry.id.0 ≡ known.last + 1 →
+    is_in_order known state event ≡ true → takes_stream event.entry ≡ false → ReadsWords event.entry.call event.paths → HasNumbers now known event.entry →
+    IsAllowedOn least state event → NamesAdded (call_of name_hash state event) event.entry.reply → IsUndamaged event.entry.reply →
+    CanFollow now least known state event
+step now least known state event id order takes read numbers allowed names undamaged =
+    by_tests now least known state event id order read numbers allowed names (λ is. absurd (cc)) undamaged
 
 -- one number is at most another where a test says so
 within : {a b : ℕ} → nat_le a b ≡ true → a ≤ b
@@ -28,19 +32,29 @@ within {a} {b} is = grind (arith, nat_tests, is)
 
 -- the paths of the examples
 path_as_of_2_f : IsPath (codes "/@@0x0000000000000002/f") (by_id 2 ∷ by_name (codes "f") ∷ [])
-path_as_of_2_f = path (codes "/@@0x0000000000000002/f") (by_id 2 ∷ by_name (codes "f") ∷ []) refl refl refl (dated (codes "0000000000000002") refl refl, (named (codes "f") refl, tt))
+path_as_of_2_f =
+    path (codes "/@@0x0000000000000002/f") (by_id 2 ∷ by_name (codes "f") ∷ []) refl refl refl
+    (dated (codes "0000000000000002") refl refl, (named (codes "f") refl, tt))
 
 path_as_of_3_f : IsPath (codes "/@@0x0000000000000003/f") (by_id 3 ∷ by_name (codes "f") ∷ [])
-path_as_of_3_f = path (codes "/@@0x0000000000000003/f") (by_id 3 ∷ by_name (codes "f") ∷ []) refl refl refl (dated (codes "0000000000000003") refl refl, (named (codes "f") refl, tt))
+path_as_of_3_f =
+    path (codes "/@@0x0000000000000003/f") (by_id 3 ∷ by_name (codes "f") ∷ []) refl refl refl
+    (dated (codes "0000000000000003") refl refl, (named (codes "f") refl, tt))
 
 path_as_of_4_f : IsPath (codes "/@@0x0000000000000004/f") (by_id 4 ∷ by_name (codes "f") ∷ [])
-path_as_of_4_f = path (codes "/@@0x0000000000000004/f") (by_id 4 ∷ by_name (codes "f") ∷ []) refl refl refl (dated (codes "0000000000000004") refl refl, (named (codes "f") refl, tt))
+path_as_of_4_f =
+    path (codes "/@@0x0000000000000004/f") (by_id 4 ∷ by_name (codes "f") ∷ []) refl refl refl
+    (dated (codes "0000000000000004") refl refl, (named (codes "f") refl, tt))
 
 path_as_of_6_f : IsPath (codes "/@@0x0000000000000006/f") (by_id 6 ∷ by_name (codes "f") ∷ [])
-path_as_of_6_f = path (codes "/@@0x0000000000000006/f") (by_id 6 ∷ by_name (codes "f") ∷ []) refl refl refl (dated (codes "0000000000000006") refl refl, (named (codes "f") refl, tt))
+path_as_of_6_f =
+    path (codes "/@@0x0000000000000006/f") (by_id 6 ∷ by_name (codes "f") ∷ []) refl refl refl
+    (dated (codes "0000000000000006") refl refl, (named (codes "f") refl, tt))
 
 path_as_of_7_f : IsPath (codes "/@@0x0000000000000007/f") (by_id 7 ∷ by_name (codes "f") ∷ [])
-path_as_of_7_f = path (codes "/@@0x0000000000000007/f") (by_id 7 ∷ by_name (codes "f") ∷ []) refl refl refl (dated (codes "0000000000000007") refl refl, (named (codes "f") refl, tt))
+path_as_of_7_f =
+    path (codes "/@@0x0000000000000007/f") (by_id 7 ∷ by_name (codes "f") ∷ []) refl refl refl
+    (dated (codes "0000000000000007") refl refl, (named (codes "f") refl, tt))
 
 path_f : IsPath (codes "/f") (by_name (codes "f") ∷ [])
 path_f = path (codes "/f") (by_name (codes "f") ∷ []) refl refl refl (named (codes "f") refl, tt)
@@ -163,7 +177,12 @@ legal-mirror_copies = IsLegal-steps on_fresh mirror_copies (
         (
           step _ _ _ _ _ refl refl refl (path_m, (path_s, tt)) tt (inl refl) tt tt,
           (
-            step _ _ _ _ _ refl refl refl tt tt (_, refl, record { begins = refl; ends = (record { opened = omega arith; before = omega arith }, inl (omega arith, omega arith)); fits = within refl }) tt tt,
+            step _ _ _ _ _ refl refl refl tt tt (
+              _,
+              refl,
+              record
+                  { begins = refl; ends = (record { opened = omega arith; before = omega arith }, inl (omega arith, omega arith)); fits = within refl },
+            ) tt tt,
             (
               step _ _ _ _ _ refl refl refl (path_m_b, tt) tt (inl refl) tt tt,
               (
@@ -175,7 +194,16 @@ legal-mirror_copies = IsLegal-steps on_fresh mirror_copies (
                     (
                       step _ _ _ _ _ refl refl refl (path_m, (path_s, tt)) tt (inl refl) tt tt,
                       (
-                        step _ _ _ _ _ refl refl refl tt tt (_, refl, record { begins = refl; ends = (record { opened = omega arith; before = omega arith }, inl (omega arith, omega arith)); fits = within refl }) tt tt,
+                        step _ _ _ _ _ refl refl refl tt tt (
+                          _,
+                          refl,
+                          record {
+                            begins = refl;
+                            ends = (record { opened = omega arith; before = omega arith }, inl (omega arith, omega arith));
+                            fits =
+                                within refl;
+                          },
+                        ) tt tt,
                         (
                           step _ _ _ _ _ refl refl refl (path_s, tt) tt (inl refl) tt tt,
                           (
@@ -209,7 +237,12 @@ legal-an_upgrade = IsLegal-steps on_fresh an_upgrade (
       (
         step _ _ _ _ _ refl refl refl (path_m, (path_s, tt)) tt (inl refl) tt tt,
         (
-          step _ _ _ _ _ refl refl refl tt tt (_, refl, record { begins = refl; ends = (record { opened = omega arith; before = omega arith }, inl (omega arith, omega arith)); fits = within refl }) tt tt,
+          step _ _ _ _ _ refl refl refl tt tt (
+            _,
+            refl,
+            record
+                { begins = refl; ends = (record { opened = omega arith; before = omega arith }, inl (omega arith, omega arith)); fits = within refl },
+          ) tt tt,
           (
             step _ _ _ _ _ refl refl refl (path_m_b, tt) tt (inl refl) tt tt,
             (
@@ -245,7 +278,12 @@ pub legal-a_stream_is_sent : IsLegal (on_new 24) a_stream_is_sent
 legal-a_stream_is_sent = IsLegal-steps (on_new 24) a_stream_is_sent (
   step _ _ _ _ _ refl refl refl (path_root, tt) tt (inl refl) tt tt,
   (
-    step _ _ _ _ _ refl refl refl tt tt (_, refl, record { begins = refl; ends = (record { opened = omega arith; before = omega arith }, inl (omega arith, omega arith)); fits = within refl }) tt tt,
+    step _ _ _ _ _ refl refl refl tt tt (
+      _,
+      refl,
+      record
+          { begins = refl; ends = (record { opened = omega arith; before = omega arith }, inl (omega arith, omega arith)); fits = within refl },
+    ) tt tt,
     tt,
   ),
 )
@@ -262,7 +300,18 @@ legal-a_pruned_end = IsLegal-steps on_fresh a_pruned_end (
         (
           step _ _ _ _ _ refl refl refl tt tt (_, refl, tt) tt tt,
           (
-            step _ _ _ _ _ refl refl refl tt tt (_, refl, record { between = record { opened = omega arith; before = omega arith }; gone = λ kept. elim kept [ inl held ↦ omega (arith, held.0) | inr none ↦ absurd none ]; kept = inl (omega arith, omega arith); above = omega arith; least = λ t above kept. elim kept [ inl held ↦ held.0 | inr none ↦ absurd none ] }) tt tt,
+            step _ _ _ _ _ refl refl refl tt tt (
+              _,
+              refl,
+              record {
+                between = record { opened = omega arith; before = omega arith };
+                gone =
+                    λ kept. elim kept [ inl held ↦ omega (arith, held.0) | inr none ↦ absurd none ];
+                kept = inl (omega arith, omega arith);
+                above = omega arith;
+                least = λ t above kept. elim kept [ inl held ↦ held.0 | inr none ↦ absurd none ];
+              },
+            ) tt tt,
             tt,
           ),
         ),
@@ -277,7 +326,19 @@ legal-a_foreign_stream = IsLegal-steps (fed_with (of_new_volume ∷ [])) a_forei
   (
     by_tests _ _ _ _ _ refl refl (path_s, tt) tt (inl refl) tt (λ is. record { feed = _; later = _; left = refl }) tt,
     (
-      step _ _ _ _ _ refl refl refl tt tt (_, refl, record { begins = refl; ends = (record { term = stream_end; taken = refl; named = refl; kept = inl (omega arith, omega arith) }, omega arith, within refl); fits = within refl }) tt tt,
+      step _ _ _ _ _ refl refl refl tt tt (
+        _,
+        refl,
+        record {
+          begins = refl;
+          ends = (
+            record { term = stream_end; taken = refl; named = refl; kept = inl (omega arith, omega arith) },
+            omega arith,
+            within refl,
+          );
+          fits = within refl;
+        },
+      ) tt tt,
       (
         step _ _ _ _ _ refl refl refl (path_s, tt) tt (inl refl) tt tt,
         (
@@ -295,7 +356,19 @@ legal-a_stream_of_nobody = IsLegal-steps (fed_with (of_nobody ∷ [])) a_stream_
   (
     by_tests _ _ _ _ _ refl refl (path_s, tt) tt (inl refl) tt (λ is. record { feed = _; later = _; left = refl }) tt,
     (
-      step _ _ _ _ _ refl refl refl tt tt (_, refl, record { begins = refl; ends = (record { term = stream_end; taken = refl; named = refl; kept = inl (omega arith, omega arith) }, omega arith, within refl); fits = within refl }) tt tt,
+      step _ _ _ _ _ refl refl refl tt tt (
+        _,
+        refl,
+        record {
+          begins = refl;
+          ends = (
+            record { term = stream_end; taken = refl; named = refl; kept = inl (omega arith, omega arith) },
+            omega arith,
+            within refl,
+          );
+          fits = within refl;
+        },
+      ) tt tt,
       (
         step _ _ _ _ _ refl refl refl (path_s, tt) tt (inl refl) tt tt,
         (

@@ -19,7 +19,8 @@ pub retention_found : (volume : Volume) (pfs : ℕ) (s : PseudoFileSystem) → s
 retention_found volume pfs s found = ap (λ (x : Option PseudoFileSystem). option_map_or (λ (y : PseudoFileSystem). y.retention) x []) found
 
 -- at the start
-follows_origin : (volume : Volume) (slave m : ℕ) (t : PseudoFileSystem) (follows : FollowsMaster volume slave m) → system_of volume m ≡ Some t → follows.own.role ≡ Slave → (origin : Origin) → follows.own.origin ≡ origin → Follows m follows.own t origin
+follows_origin : (volume : Volume) (slave m : ℕ) (t : PseudoFileSystem) (follows : FollowsMaster volume slave m) → system_of volume m ≡ Some t →
+    follows.own.role ≡ Slave → (origin : Origin) → follows.own.origin ≡ origin → Follows m follows.own t origin
 follows_origin volume slave m t follows found role Nowhere is = follows.empty role is
 follows_origin volume slave m t follows found role (Local n) is = λ same id by kept also.
     sym (at_found volume slave id follows.own follows.found)
@@ -28,7 +29,8 @@ follows_origin volume slave m t follows found role (Local n) is = λ same id by 
 follows_origin volume slave m t follows found role (Foreign k) is = tt
 follows_origin volume slave m t follows found role Mixed is = tt
 
-twin_opening : (run : Setting) (slave m : ℕ) → IsSteadyMaster (opening_state run.opening run.foreigners) m → AreRising (versions_of run.opening m) → BeginBy run.opening.last (versions_of run.opening m) → FollowsMaster run.opening slave m → IsTwin (opening_state run.opening run.foreigners) slave m
+twin_opening : (run : Setting) (slave m : ℕ) → IsSteadyMaster (opening_state run.opening run.foreigners) m → AreRising (versions_of run.opening m) →
+    BeginBy run.opening.last (versions_of run.opening m) → FollowsMaster run.opening slave m → IsTwin (opening_state run.opening run.foreigners) slave m
 twin_opening run slave m steady rising begun follows =
     let versions : versions_of run.opening m ≡ steady.system.versions = ap versions_in steady.found in
     record {
@@ -57,7 +59,10 @@ twin_follows state slave m twin = record {
       ∙ sym (at_found state.volume m id twin.other twin.found_other));
 }
 
-pub FollowsMaster-legal : (run : Setting) (events : List Event) (slave m : ℕ) → IsLegal run events → IsMasterThroughout run events m → AreRising (versions_of run.opening m) → BeginBy run.opening.last (versions_of run.opening m) → FollowsMaster run.opening slave m → FollowsMaster (state_after run events).volume slave m
+pub FollowsMaster-legal : (run : Setting) (events : List Event) (slave m : ℕ) → IsLegal run events → IsMasterThroughout run events m →
+    AreRising (versions_of run.opening m) → BeginBy run.opening.last (versions_of run.opening m) → FollowsMaster run.opening slave m →
+    FollowsMaster (state_after run events).volume slave m
 FollowsMaster-legal run events slave m legal master rising begun follows =
     twin_follows (state_after run events) slave m
-    (Twin-history run [] events slave m legal master (record { last = refl; opened = refl }) (twin_opening run slave m (master [] events refl) rising begun follows))
+    (Twin-history run [] events slave m legal master (record { last = refl; opened = refl })
+    (twin_opening run slave m (master [] events refl) rising begun follows))

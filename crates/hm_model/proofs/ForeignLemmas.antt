@@ -125,9 +125,11 @@ module _ (source : ℕ) (kept : ℕ → Bool) (trees : ℕ → FileTree) where
       by : (found : Option ForeignMaster) → feed.master ≡ found →
           IsOf feed (fed_from old (option_map_or (λ (m : ForeignMaster). Foreign m.source) feed.master Mixed))
       by None is =
-          subst (λ (x : Option ForeignMaster). IsOf feed (fed_from old (option_map_or (λ (m : ForeignMaster). Foreign m.source) x Mixed))) (sym is) (unknown old)
+          subst (λ (x : Option ForeignMaster). IsOf feed (fed_from old (option_map_or (λ (m : ForeignMaster). Foreign m.source) x Mixed))) (sym is)
+          (unknown old)
       by (Some m) is =
-          subst (λ (x : Option ForeignMaster). IsOf feed (fed_from old (option_map_or (λ (m : ForeignMaster). Foreign m.source) x Mixed))) (sym is) (known m is old)
+          subst (λ (x : Option ForeignMaster). IsOf feed (fed_from old (option_map_or (λ (m : ForeignMaster). Foreign m.source) x Mixed))) (sym is)
+          (known m is old)
 
   -- what an open call says of the slave that it feeds
   abbrev pub FedAs : PseudoFileSystem → Origin → Feed → Command → Type 0
@@ -167,7 +169,8 @@ module _ (source : ℕ) (kept : ℕ → Bool) (trees : ℕ → FileTree) where
   OpenedAs state call after =
       (after.opened ≡ state.opened)
       ⊎ ((o : OpenCall) × (after.opened ≡ o ∷ state.opened) × (o.command ≡ call.command)
-      × ((s u : PseudoFileSystem) → system_of state.volume o.pfs ≡ Some s → system_of after.volume o.pfs ≡ Some u → FedNew state s u o.origin o.stream o.command))
+      × ((s u : PseudoFileSystem) → system_of state.volume o.pfs ≡ Some s → system_of after.volume o.pfs ≡ Some u →
+      FedNew state s u o.origin o.stream o.command))
 
   by_command : (state : State) (s u : PseudoFileSystem) (before : Origin) (feed : Feed) (a b : Command) → a ≡ b → FedNew state s u before feed b →
       FedNew state s u before feed a
@@ -176,15 +179,41 @@ module _ (source : ℕ) (kept : ℕ → Bool) (trees : ℕ → FileTree) where
   opened_as : (state : State) (call : Call) (command : Command) → call.command ≡ command →
       OpenedAs state call (accepted_effect_of state call command)
   opened_as state call (Prune path) is =
-      inr (new_call state call (first_site call).at.pfs (first_site call).at.pfs no_feed, refl, refl, λ s u found after. by_command state s u (origin_of state.volume (first_site call).at.pfs) no_feed call.command (Prune path) is tt)
+      inr (
+        new_call state call (first_site call).at.pfs (first_site call).at.pfs no_feed,
+        refl,
+        refl,
+        λ s u found after. by_command state s u (origin_of state.volume (first_site call).at.pfs) no_feed call.command (Prune path) is tt,
+      )
   opened_as state call (PruneAll path) is =
-      inr (new_call state call (first_site call).at.pfs (first_site call).at.pfs no_feed, refl, refl, λ s u found after. by_command state s u (origin_of state.volume (first_site call).at.pfs) no_feed call.command (PruneAll path) is tt)
+      inr (
+        new_call state call (first_site call).at.pfs (first_site call).at.pfs no_feed,
+        refl,
+        refl,
+        λ s u found after. by_command state s u (origin_of state.volume (first_site call).at.pfs) no_feed call.command (PruneAll path) is tt,
+      )
   opened_as state call (Reblock fill) is =
-      inr (new_call state call 0 0 no_feed, refl, refl, λ s u found after. by_command state s u (origin_of state.volume 0) no_feed call.command (Reblock fill) is tt)
+      inr (
+        new_call state call 0 0 no_feed,
+        refl,
+        refl,
+        λ s u found after. by_command state s u (origin_of state.volume 0) no_feed call.command
+            (Reblock fill) is tt,
+      )
   opened_as state call (PfsUpgrade path) is =
-      inr (new_call state call (first_site call).at.pfs (first_site call).at.pfs no_feed, refl, refl, λ s u found after. by_command state s u (origin_of state.volume (first_site call).at.pfs) no_feed call.command (PfsUpgrade path) is tt)
+      inr (
+        new_call state call (first_site call).at.pfs (first_site call).at.pfs no_feed,
+        refl,
+        refl,
+        λ s u found after. by_command state s u (origin_of state.volume (first_site call).at.pfs) no_feed call.command (PfsUpgrade path) is tt,
+      )
   opened_as state call (MirrorRead path begin) is =
-      inr (new_call state call (first_site call).at.pfs (first_site call).at.pfs no_feed, refl, refl, λ s u found after. by_command state s u (origin_of state.volume (first_site call).at.pfs) no_feed call.command (MirrorRead path begin) is tt)
+      inr (
+        new_call state call (first_site call).at.pfs (first_site call).at.pfs no_feed,
+        refl,
+        refl,
+        λ s u found after. by_command state s u (origin_of state.volume (first_site call).at.pfs) no_feed call.command (MirrorRead path begin) is tt,
+      )
   opened_as state call (MirrorWrite path) is =
       let a : ℕ = (first_site call).at.pfs in
       let feed : Feed = next_stream state.streams in
@@ -207,7 +236,8 @@ module _ (source : ℕ) (kept : ℕ → Bool) (trees : ℕ → FileTree) where
         refl,
         refl,
         λ s u found after.
-            by_command state s u (origin_of state.volume b) no_feed call.command (MirrorCopy master slave limit) is (rw (fed_origin state.volume b (Local a) s u found after) (inside_new (origin_of state.volume b) a)),
+            by_command state s u (origin_of state.volume b) no_feed call.command (MirrorCopy master slave limit) is
+            (rw (fed_origin state.volume b (Local a) s u found after) (inside_new (origin_of state.volume b) a)),
       )
   opened_as state call other is = by (is_tree_call other)
     where
@@ -237,7 +267,8 @@ module _ (source : ℕ) (kept : ℕ → Bool) (trees : ℕ → FileTree) where
   streams_accepted : (state : State) (call : Call) → AllByRecursion (ShowsTrees source kept trees) state.streams →
       AllByRecursion (ShowsTrees source kept trees) (accepted_effect state call).streams
   streams_accepted state call shown =
-      accepted_cases (λ (s : State). AllByRecursion (ShowsTrees source kept trees) s.streams) state call call.command shown shown (λ pfs. shown) (later_shown state.streams shown) shown (by (is_tree_call call.command))
+      accepted_cases (λ (s : State). AllByRecursion (ShowsTrees source kept trees) s.streams) state call call.command shown shown (λ pfs. shown)
+      (later_shown state.streams shown) shown (by (is_tree_call call.command))
     where
       by : (test : Bool) → AllByRecursion (ShowsTrees source kept trees) (if test then on_volume state (change call) else state).streams
       by true = shown
@@ -265,7 +296,10 @@ module _ (source : ℕ) (kept : ℕ → Bool) (trees : ℕ → FileTree) where
       let calls : AllByRecursion (FedBy slave u.0) after.opened × OnePass after.opened = elim (opened_as state call call.command refl) [
         | inl none ↦ rw none (still, is.one)
         | inr new ↦ rw new.1 (
-          (λ here. fed_new state is.own u.0 new.0.origin new.0.stream new.0.command is.shown (new.3 is.own u.0 (rw here is.found) (rw here u.1)) as_before, still),
+          (
+            λ here. fed_new state is.own u.0 new.0.origin new.0.stream new.0.command is.shown (new.3 is.own u.0 (rw here is.found) (rw here u.1)) as_before,
+            still,
+          ),
           (λ pass. alone (rw (← new.2) pass), is.one),
         )
       ] in
@@ -305,9 +339,16 @@ module _ (source : ℕ) (kept : ℕ → Bool) (trees : ℕ → FileTree) where
     | inl same ↦
         let after : system_of (of_pfs volume pfs f) slave ≡ Some (f s) =
         ap (λ (n : ℕ). system_of (of_pfs volume n f) slave) same
-        ∙ (found-changed slave f volume.systems keeps ∙ ap (λ (x : Option PseudoFileSystem). option_map_or (λ (y : PseudoFileSystem). Some (f y)) x None) found) in
+        ∙ (found-changed slave f volume.systems keeps ∙ ap (λ (x : Option PseudoFileSystem). option_map_or (λ (y : PseudoFileSystem). Some (f y)) x None)
+        found) in
         record { own = f s; found = after; drawn = (gives same).0; follows = (gives same).1 }
-    | inr differ ↦ record { own = before.own; found = found-other slave pfs f volume.systems keeps differ ∙ before.found; drawn = before.drawn; follows = before.follows }
+    | inr differ ↦ record {
+      own = before.own;
+      found = found-other slave pfs f volume.systems keeps differ ∙ before.found;
+      drawn = before.drawn;
+      follows =
+          before.follows;
+    }
   ]
 
   -- a stream that was read to its end brings the trees
@@ -323,7 +364,9 @@ module _ (source : ℕ) (kept : ℕ → Bool) (trees : ℕ → FileTree) where
             let state : State = state_after run before in
             let new : PseudoFileSystem = after_pass (given_in state.volume o) begin.0 end.0 s in
             let there : system_of (after_event state event).volume o.pfs ≡ Some new =
-            slave-pass state event o begin end ends ∙ ap (λ (x : Option PseudoFileSystem). option_map_or (λ (t : PseudoFileSystem). Some (after_pass (given_in state.volume o) begin.0 end.0 t)) x None) found in
+            slave-pass state event o begin end ends ∙ ap
+            (λ (x : Option PseudoFileSystem). option_map_or (λ (t : PseudoFileSystem). Some (after_pass (given_in state.volume o) begin.0 end.0 t)) x
+            None) found in
             let brought : IsBrought o.stream end.0 = brought_legal run before event o begin end into follows ends command in
             let low : brought.term.end ≤ is.0.end = shows.ends is.0 brought.term is.1 brought.taken in
             sym (at_found (after_event state event).volume o.pfs id new there)
@@ -338,7 +381,8 @@ module _ (source : ℕ) (kept : ℕ → Bool) (trees : ℕ → FileTree) where
   -- the end of an open call
   module _ (run : Setting) (before : List Event) (event : Event) (opening : Id) (o : OpenCall) (slave : ℕ) (s : PseudoFileSystem)
       (follow : MayFollow run before event) (call : event.entry.call ≡ End opening) (found : opened_with opening.0 (state_after run before).opened ≡ Some o)
-      (of_slave : system_of (state_after run before).volume slave ≡ Some s) (drawn : s.sync_end ≤ last_after event.entry) (follows : s.role ≡ Slave → Follows s s.origin)
+      (of_slave : system_of (state_after run before).volume slave ≡ Some s) (drawn : s.sync_end ≤ last_after event.entry)
+      (follows : s.role ≡ Slave → Follows s s.origin)
       (fed : FedBy slave s o) where
     abbrev Then : Volume → Type 0
     Then volume = EndedAs (last_after event.entry) volume slave
@@ -352,29 +396,42 @@ module _ (source : ℕ) (kept : ℕ → Bool) (trees : ℕ → FileTree) where
     copy : (from into : Text) (limit : Option ℕ) → o.command ≡ MirrorCopy from into limit →
         Then (end_of_pass (state_after run before).volume o event.entry.reply)
     copy from into limit is = pass_by Then (state_after run before).volume o event.entry.reply unchanged (λ begin end told.
-        ended_changed (last_after event.entry) (state_after run before).volume slave o.pfs (after_pass (given_in (state_after run before).volume o) begin.0 end.0) s of_slave (λ x. refl) unchanged (λ same.
-        (till begin end told, λ role. inside_follows (after_pass (given_in (state_after run before).volume o) begin.0 end.0 s) s.origin (subst (λ (c : Command). FedAs s o.origin o.stream c) is (fed same)))))
+        ended_changed (last_after event.entry) (state_after run before).volume slave o.pfs
+        (after_pass (given_in (state_after run before).volume o) begin.0 end.0) s of_slave (λ x. refl) unchanged (λ same. (
+          till begin end told,
+          λ role. inside_follows (after_pass (given_in (state_after run before).volume o) begin.0 end.0 s) s.origin
+              (subst (λ (c : Command). FedAs s o.origin o.stream c) is (fed same)),
+        )))
 
     write : (into : Text) → o.command ≡ MirrorWrite into → (test : Bool) →
-        Then (if test then of_pfs (state_after run before).volume o.pfs (with_origin o.origin) else end_of_pass (state_after run before).volume o event.entry.reply)
+        Then (if test then of_pfs (state_after run before).volume o.pfs (with_origin o.origin)
+        else end_of_pass (state_after run before).volume o event.entry.reply)
     write into is true =
         ended_changed (last_after event.entry) (state_after run before).volume slave o.pfs (with_origin o.origin) s of_slave (λ x. refl) unchanged (λ same.
         (drawn, λ role. follows_with s o.origin o.origin ((subst (λ (c : Command). FedAs s o.origin o.stream c) is (fed same)).0 role)))
     write into is false = pass_by Then (state_after run before).volume o event.entry.reply unchanged (λ begin end told.
-        ended_changed (last_after event.entry) (state_after run before).volume slave o.pfs (after_pass (given_in (state_after run before).volume o) begin.0 end.0) s of_slave (λ x. refl) unchanged (λ same.
+        ended_changed (last_after event.entry) (state_after run before).volume slave o.pfs
+        (after_pass (given_in (state_after run before).volume o) begin.0 end.0) s of_slave (λ x. refl) unchanged (λ same.
         let as_fed : (s.role ≡ Slave → Follows s o.origin) × ShowsTrees source kept trees o.stream × IsOf o.stream s.origin =
         subst (λ (c : Command). FedAs s o.origin o.stream c) is (fed same) in
         let there : system_of (state_after run before).volume o.pfs ≡ Some s = rw same of_slave in
-        let ends : EndsPass (state_after run before) event o begin end = record { opening = opening; call = call; reply = told; found = found; pass = ap merges is } in
-        let first : begin.0 ≡ s.sync_end = begin_legal run before event o begin end follow ends ∙ rw (is, there) refl in
-        (till begin end told, λ role. follows_streamed run before event o begin end into s follow ends is there first as_fed.1 s.origin as_fed.2 (follows role))))
+        let ends : EndsPass (state_after run before) event o begin end =
+        record { opening = opening; call = call; reply = told; found = found; pass = ap merges is } in
+        let first : begin.0 ≡ s.sync_end = begin_legal run before event o begin end follow ends ∙ rw (is, there) refl in (
+          till begin end told,
+          λ role. follows_streamed run before event o begin end into s follow ends is there first as_fed.1 s.origin as_fed.2
+              (follows role),
+        )))
 
     upgrade : Then (end_of_upgrade (state_after run before).volume o event.entry.reply)
     upgrade = upgrade_by Then (state_after run before).volume o event.entry.reply unchanged
-        (ended_changed (last_after event.entry) (state_after run before).volume slave o.pfs upgraded s of_slave (λ x. refl) unchanged (λ same. (omega arith, λ role. absurd (cc))))
+        (ended_changed (last_after event.entry) (state_after run before).volume slave o.pfs upgraded s of_slave (λ x. refl) unchanged
+        (λ same. (omega arith, λ role. absurd (cc))))
 
     pub fed-end : Then (end_effect (state_after run before).volume event.entry.reply o)
-    fed-end = end_by Then (state_after run before).volume event.entry.reply o o.command refl unchanged copy (λ into is. write into is (nothing_merged event.entry.reply)) (λ path is. upgrade)
+    fed-end =
+        end_by Then (state_after run before).volume event.entry.reply o o.command refl unchanged copy
+        (λ into is. write into is (nothing_merged event.entry.reply)) (λ path is. upgrade)
 
   none_fed : (slave : ℕ) (s : PseudoFileSystem) (os : List OpenCall) → NoPass os → AllByRecursion (FedBy slave s) os
   none_fed slave s [] none = tt
@@ -389,7 +446,8 @@ module _ (source : ℕ) (kept : ℕ → Bool) (trees : ℕ → FileTree) where
   fed_ended : (run : Setting) (before : List Event) (event : Event) (opening : Id) (slave : ℕ) → MayFollow run before event →
       event.entry.call ≡ End opening → (state_after run before).volume.last ≤ last_after event.entry →
       IsFed (state_after run before).volume.last (state_after run before).volume (state_after run before).opened (state_after run before).streams slave →
-      IsFed (last_after event.entry) (ended (state_after run before) opening.0 event.entry.reply).volume (ended (state_after run before) opening.0 event.entry.reply).opened (ended (state_after run before) opening.0 event.entry.reply).streams slave
+      IsFed (last_after event.entry) (ended (state_after run before) opening.0 event.entry.reply).volume
+      (ended (state_after run before) opening.0 event.entry.reply).opened (ended (state_after run before) opening.0 event.entry.reply).streams slave
   fed_ended run before event opening slave follow call later is = by (opened_with opening.0 (state_after run before).opened) refl
     where
       state : State
@@ -408,21 +466,37 @@ module _ (source : ℕ) (kept : ℕ → Bool) (trees : ℕ → FileTree) where
       one = OnePass-still opening.0 (state_after run before).opened is.one
 
       each : (o : OpenCall) → opened_with opening.0 (state_after run before).opened ≡ Some o → (test : Bool) → is_pass o.command ≡ test →
-          IsFed (last_after event.entry) (end_effect (state_after run before).volume event.entry.reply o) (filter (λ (x : OpenCall). if eqb x.opening opening.0 then false else true) (state_after run before).opened) (state_after run before).streams slave
+          IsFed (last_after event.entry) (end_effect (state_after run before).volume event.entry.reply o)
+          (filter (λ (x : OpenCall). if eqb x.opening opening.0 then false else true) (state_after run before).opened) (state_after run before).streams
+          slave
       each o found true pass =
           let end : EndedAs (last_after event.entry) (end_effect (state_after run before).volume event.entry.reply o) slave =
           fed-end run before event opening o slave is.own follow call found is.found (omega (arith, is.drawn, later)) is.follows
           (found_holds (FedBy slave is.own) (λ (x : OpenCall). eqb x.opening opening.0) (state_after run before).opened o found is.fed) in
           let none : NoPass (filter (λ (x : OpenCall). if eqb x.opening opening.0 then false else true) (state_after run before).opened) =
           none_still opening.0 (state_after run before).opened o is.one found pass in
-          record { own = end.own; found = end.found; drawn = end.drawn; follows = end.follows; fed = none_fed slave end.own (filter (λ (x : OpenCall). if eqb x.opening opening.0 then false else true) (state_after run before).opened) none; one = one; shown = is.shown }
+          record {
+            own = end.own;
+            found = end.found;
+            drawn = end.drawn;
+            follows = end.follows;
+            fed =
+                none_fed slave end.own (filter (λ (x : OpenCall). if eqb x.opening opening.0 then false else true) (state_after run before).opened) none;
+            one = one;
+            shown = is.shown;
+          }
       each o found false pass =
-          subst (λ (v : Volume). IsFed (last_after event.entry) v (filter (λ (x : OpenCall). if eqb x.opening opening.0 then false else true) (state_after run before).opened) (state_after run before).streams slave) (sym (no_pass_same (state_after run before).volume event.entry.reply o o.command pass))
+          subst (λ (v : Volume). IsFed (last_after event.entry) v
+          (filter (λ (x : OpenCall). if eqb x.opening opening.0 then false else true) (state_after run before).opened) (state_after run before).streams
+          slave) (sym (no_pass_same (state_after run before).volume event.entry.reply o o.command pass))
           (record { own = is.own; found = is.found; drawn = omega (arith, is.drawn, later); follows = is.follows; fed = still; one = one; shown = is.shown })
 
       by : (found : Option OpenCall) → opened_with opening.0 (state_after run before).opened ≡ found →
-          IsFed (last_after event.entry) (option_map_or (end_effect (state_after run before).volume event.entry.reply) found (state_after run before).volume) (filter (λ (x : OpenCall). if eqb x.opening opening.0 then false else true) (state_after run before).opened) (state_after run before).streams slave
-      by None none = record { own = is.own; found = is.found; drawn = omega (arith, is.drawn, later); follows = is.follows; fed = still; one = one; shown = is.shown }
+          IsFed (last_after event.entry) (option_map_or (end_effect (state_after run before).volume event.entry.reply) found
+          (state_after run before).volume) (filter (λ (x : OpenCall). if eqb x.opening opening.0 then false else true) (state_after run before).opened)
+          (state_after run before).streams slave
+      by None none =
+          record { own = is.own; found = is.found; drawn = omega (arith, is.drawn, later); follows = is.follows; fed = still; one = one; shown = is.shown }
       by (Some o) some = each o some (is_pass o.command) refl
 
   -- the same of a state
@@ -439,30 +513,54 @@ module _ (source : ℕ) (kept : ℕ → Bool) (trees : ℕ → FileTree) where
       own = follow.caused.id ∙ ap (λ (n : ℕ). n + 1) agrees.last
 
       whole :
-          IsFed (last_after event.entry) (effect (state_after run before) event).volume (effect (state_after run before) event).opened (effect (state_after run before) event).streams slave →
+          IsFed (last_after event.entry) (effect (state_after run before) event).volume (effect (state_after run before) event).opened
+          (effect (state_after run before) event).streams slave →
           IsFedIn (after_event (state_after run before) event) slave
       whole fed = record { own = fed.own; found = fed.found; drawn = fed.drawn; follows = fed.follows; fed = fed.fed; one = fed.one; shown = fed.shown }
 
       later : (n : ℕ) (s : State) → n ≤ last_after event.entry → IsFed n s.volume s.opened s.streams slave →
           IsFed (last_after event.entry) s.volume s.opened s.streams slave
-      later n s most fed = record { own = fed.own; found = fed.found; drawn = omega (arith, fed.drawn, most); follows = fed.follows; fed = fed.fed; one = fed.one; shown = fed.shown }
+      later n s most fed =
+          record {
+            own = fed.own;
+            found = fed.found;
+            drawn = omega (arith, fed.drawn, most);
+            follows = fed.follows;
+            fed = fed.fed;
+            one = fed.one;
+            shown =
+                fed.shown;
+          }
 
       call : (test : Bool) → is_refusal event.entry.reply ≡ test →
-          IsFed (last_after event.entry) (if test then state_after run before else accepted_effect (state_after run before) (call_of no_hash (state_after run before) event)).volume (if test then state_after run before else accepted_effect (state_after run before) (call_of no_hash (state_after run before) event)).opened (if test then state_after run before else accepted_effect (state_after run before) (call_of no_hash (state_after run before) event)).streams slave
+          IsFed (last_after event.entry) (if test then state_after run before
+          else accepted_effect (state_after run before) (call_of no_hash (state_after run before) event)).volume
+          (if test then state_after run before else accepted_effect (state_after run before) (call_of no_hash (state_after run before) event)).opened
+          (if test then state_after run before else accepted_effect (state_after run before) (call_of no_hash (state_after run before) event)).streams slave
       call true refused = later (state_after run before).volume.last (state_after run before) (omega (arith, own)) is
       call false accepted =
-          later ((state_after run before).volume.last + 1) (accepted_effect (state_after run before) (call_of no_hash (state_after run before) event)) (omega (arith, own))
+          later ((state_after run before).volume.last + 1) (accepted_effect (state_after run before) (call_of no_hash (state_after run before) event))
+          (omega (arith, own))
           (fed_accepted (state_after run before) (call_of no_hash (state_after run before) event) slave refl
-          (λ pass. none_busy (state_after run before).opened (rw agrees.opened at (accepted_alone (known_after (known_at run.opening.last run.start) before) event (possible_for (known_after (known_at run.opening.last run.start) before) event) follow.caused.possible accepted pass))) is)
+          (λ pass. none_busy (state_after run before).opened
+          (rw agrees.opened at (accepted_alone (known_after (known_at run.opening.last run.start) before) event
+          (possible_for (known_after (known_at run.opening.last run.start) before) event) follow.caused.possible accepted pass))) is)
 
       by : (test : Bool) → is_ending event.entry.call ≡ test →
-          IsFed (last_after event.entry) (effect (state_after run before) event).volume (effect (state_after run before) event).opened (effect (state_after run before) event).streams slave
+          IsFed (last_after event.entry) (effect (state_after run before) event).volume (effect (state_after run before) event).opened
+          (effect (state_after run before) event).streams slave
       by true ending =
           let named = opening_of event.entry.call ending in
-          subst (λ (s : State). IsFed (last_after event.entry) s.volume s.opened s.streams slave) (sym (effect-ending (state_after run before) event named.0 named.1)) (fed_ended run before event named.0 slave follow named.1 (omega (arith, own)) is)
+          subst (λ (s : State). IsFed (last_after event.entry) s.volume s.opened s.streams slave)
+          (sym (effect-ending (state_after run before) event named.0 named.1))
+          (fed_ended run before event named.0 slave follow named.1 (omega (arith, own)) is)
       by false ending =
-          let goes : effect (state_after run before) event ≡ (if is_refusal event.entry.reply then state_after run before else accepted_effect (state_after run before) (call_of no_hash (state_after run before) event)) =
-          not_ending (λ opening. ended (state_after run before) opening.0 event.entry.reply) (if is_refusal event.entry.reply then state_after run before else accepted_effect (state_after run before) (call_of no_hash (state_after run before) event)) event.entry.call ending in
+          let goes : effect (state_after run before) event
+          ≡ (if is_refusal event.entry.reply then state_after run before
+          else accepted_effect (state_after run before) (call_of no_hash (state_after run before) event)) =
+          not_ending (λ opening. ended (state_after run before) opening.0 event.entry.reply)
+          (if is_refusal event.entry.reply then state_after run before
+          else accepted_effect (state_after run before) (call_of no_hash (state_after run before) event)) event.entry.call ending in
           subst (λ (s : State). IsFed (last_after event.entry) s.volume s.opened s.streams slave) (sym goes) (call (is_refusal event.entry.reply) refl)
 
   fed_history : (run : Setting) (before es : List Event) (slave : ℕ) → IsThere run.opening 0 → IsLegal run (before ++ es) →
@@ -472,7 +570,8 @@ module _ (source : ℕ) (kept : ℕ → Bool) (trees : ℕ → FileTree) where
       let stands : StandsAfter run before = StandsAfter-legal run before root (IsLegal-beginning run before (e ∷ es) legal) in
       let next : IsFedIn (after_event (state_after run before) e) slave = fed_event run before e slave (legal before e es refl) stands.agrees is in
       let together : (before ++ e ∷ []) ++ es ≡ before ++ e ∷ es = append_assoc before (e ∷ []) es in
-      rw (← together) (fed_history run (before ++ e ∷ []) es slave root (rw together legal) (subst (λ (s : State). IsFedIn s slave) (sym (state_pushed run before e)) next))
+      rw (← together) (fed_history run (before ++ e ∷ []) es slave root (rw together legal)
+      (subst (λ (s : State). IsFedIn s slave) (sym (state_pushed run before e)) next))
 
   -- what it says at the end
   fed_follows : (state : State) (slave : ℕ) → IsFedIn state slave → FollowsForeign state.volume slave source kept trees
@@ -497,13 +596,23 @@ module _ (source : ℕ) (kept : ℕ → Bool) (trees : ℕ → FileTree) where
       FollowsForeign (state_after run events).volume slave source kept trees
   FollowsForeign-legal run events slave root legal shown f =
       fed_follows (state_after run events) slave (fed_history run [] events slave root legal
-      (record { own = f.own; found = f.found; drawn = f.drawn; follows = λ role. follows_origin run.opening slave f role f.own.origin refl; fed = tt; one = tt; shown = shown }))
+      (record {
+        own = f.own;
+        found = f.found;
+        drawn = f.drawn;
+        follows = λ role. follows_origin run.opening slave f role f.own.origin refl;
+        fed = tt;
+        one =
+            tt;
+        shown = shown;
+      }))
 
   -- the feeds that are to come are among those of the start
   shown_effect : (state : State) (event : Event) → AllByRecursion (ShowsTrees source kept trees) state.streams →
       AllByRecursion (ShowsTrees source kept trees) (effect state event).streams
   shown_effect state event shown =
-      effect_cases (λ (s : State). AllByRecursion (ShowsTrees source kept trees) s.streams) state event event.entry.call shown (λ opening. shown) (streams_accepted state (call_of no_hash state event) shown)
+      effect_cases (λ (s : State). AllByRecursion (ShowsTrees source kept trees) s.streams) state event event.entry.call shown (λ opening. shown)
+      (streams_accepted state (call_of no_hash state event) shown)
 
   shown_after : (state : State) (es : List Event) → AllByRecursion (ShowsTrees source kept trees) state.streams →
       AllByRecursion (ShowsTrees source kept trees) (after_events state es).streams
@@ -542,5 +651,6 @@ module _ (source : ℕ) (kept : ℕ → Bool) (trees : ℕ → FileTree) where
         shown = shown_effect state event (shown_after (opening_state run.opening run.foreigners) before shown);
       } in
       let later : IsFedIn (state_after run ((before ++ event ∷ []) ++ rest)) pfs =
-      fed_history run (before ++ event ∷ []) rest pfs root (one_more run before event rest legal) (subst (λ (s : State). IsFedIn s pfs) (sym (state_pushed run before event)) now) in
+      fed_history run (before ++ event ∷ []) rest pfs root (one_more run before event rest legal)
+      (subst (λ (s : State). IsFedIn s pfs) (sym (state_pushed run before event)) now) in
       fed_follows (state_after run (before ++ event ∷ rest)) pfs (rw append_assoc at later)

@@ -12,7 +12,8 @@ nothing_in_none [] x rest e = absurd (cc)
 nothing_in_none (b ∷ bs) x rest e = absurd (cc)
 
 -- an element of a list that goes on by one is the new one, or stood in it before
-pub last_or_before : {X : Type 0} (xs : List X) (x : X) (before : List X) (y : X) (rest : List X) → xs ++ x ∷ [] ≡ before ++ y ∷ rest → ((xs ≡ before) × (x ≡ y)) ⊎ ((more : List X) × (xs ≡ before ++ y ∷ more))
+pub last_or_before : {X : Type 0} (xs : List X) (x : X) (before : List X) (y : X) (rest : List X) → xs ++ x ∷ [] ≡ before ++ y ∷ rest →
+    ((xs ≡ before) × (x ≡ y)) ⊎ ((more : List X) × (xs ≡ before ++ y ∷ more))
 last_or_before [] x [] y rest e = inl (refl, cc)
 last_or_before [] x (b ∷ bs) y rest e = let tail : [] ≡ bs ++ y ∷ rest = cc in absurd (nothing_in_none bs y rest tail)
 last_or_before (z ∷ zs) x [] y rest e = inr (zs, ap (λ h. h ∷ zs) (cc))
@@ -29,7 +30,8 @@ pub IsLegal-none : (opening : Volume) → IsLegal opening []
 IsLegal-none opening before e rest is = absurd (nothing_in_none before e rest is)
 
 -- a legal history goes on by an entry that may follow it
-pub IsLegal-push : (opening : Volume) (history : List Entry) (e : Entry) → IsLegal opening history → MayFollow opening history e → IsLegal opening (history ++ e ∷ [])
+pub IsLegal-push : (opening : Volume) (history : List Entry) (e : Entry) → IsLegal opening history → MayFollow opening history e →
+    IsLegal opening (history ++ e ∷ [])
 IsLegal-push opening history e legal follows before f rest is =
     elim (last_or_before history e before f rest is) [
       | inl both ↦ let P : List Entry → Entry → Type 0 = MayFollow opening in rw (← both.0, ← both.1) follows

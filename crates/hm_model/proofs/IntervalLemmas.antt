@@ -70,7 +70,8 @@ joint new old id near close held = elim (less_or_not id new.0) [
   ]
 ]
 
-joint_keeps : (new old : ℕ × ℕ) (more list : List (ℕ × ℕ)) (id : ℕ) → old.0 ≤ new.1 + 1 → new.0 ≤ old.1 + 1 → (Keeps list id ↔ (Holds (min new.0 old.0, max new.1 old.1) id ⊎ Keeps more id)) → (Keeps list id ↔ (Holds new id ⊎ Keeps (old ∷ more) id))
+joint_keeps : (new old : ℕ × ℕ) (more list : List (ℕ × ℕ)) (id : ℕ) → old.0 ≤ new.1 + 1 → new.0 ≤ old.1 + 1 →
+    (Keeps list id ↔ (Holds (min new.0 old.0, max new.1 old.1) id ⊎ Keeps more id)) → (Keeps list id ↔ (Holds new id ⊎ Keeps (old ∷ more) id))
 joint_keeps new old more list id near close same = (
   λ kept. elim (same.0 kept) [
     | inl held ↦ elim (joint new old id near close held) [ inl in_new ↦ inl in_new | inr in_old ↦ inr (inl in_old) ]
@@ -82,7 +83,8 @@ joint_keeps new old more list id near close same = (
   ],
 )
 
-later_keeps : (new old : ℕ × ℕ) (more list : List (ℕ × ℕ)) (id : ℕ) → (Keeps list id ↔ (Holds new id ⊎ Keeps more id)) → (Keeps (old ∷ list) id ↔ (Holds new id ⊎ Keeps (old ∷ more) id))
+later_keeps : (new old : ℕ × ℕ) (more list : List (ℕ × ℕ)) (id : ℕ) → (Keeps list id ↔ (Holds new id ⊎ Keeps more id)) →
+    (Keeps (old ∷ list) id ↔ (Holds new id ⊎ Keeps (old ∷ more) id))
 later_keeps new old more list id same = (
   λ kept. elim kept [
     | inl held ↦ inr (inl held)
@@ -129,7 +131,13 @@ RiseFrom-with least new (old ∷ more) is rise = elim (less_or_not (new.1 + 1) o
     | inr close ↦
         let no : nat_lt (new.1 + 1) old.0 ≡ false = grind (arith, nat_tests, near) in
         let also : nat_lt (old.1 + 1) new.0 ≡ false = grind (arith, nat_tests, close) in
-        rw (no, also) (RiseFrom-with least (min new.0 old.0, max new.1 old.1) more (record { above = omega (arith, is.above, rise.0.above); ordered = omega (arith, is.ordered, rise.0.ordered); bounded = omega (arith, is.bounded, rise.0.bounded) }) (RiseFrom-lower least (old.1 + 2) more (omega (arith, rise.0.above, rise.0.ordered)) rise.1))
+        rw (no, also) (RiseFrom-with least (min new.0 old.0, max new.1 old.1) more
+        (record {
+          above = omega (arith, is.above, rise.0.above);
+          ordered = omega (arith, is.ordered, rise.0.ordered);
+          bounded =
+              omega (arith, is.bounded, rise.0.bounded);
+        }) (RiseFrom-lower least (old.1 + 2) more (omega (arith, rise.0.above, rise.0.ordered)) rise.1))
   ]
 ]
 
@@ -203,7 +211,8 @@ pub Keeps-single : (list : List (ℕ × ℕ)) (ids : List ℕ) (id : ℕ) → (K
 Keeps-single list [] id = (λ kept. absurd kept, λ both. absurd both.1)
 Keeps-single list (n ∷ ns) id = by (list_any (holds n) list) refl (Keeps-single list ns id)
   where
-    by : (test : Bool) → list_any (holds n) list ≡ test → (Keeps (single list ns) id ↔ (Keeps list id × IsAmong ns id)) → (Keeps (single list (n ∷ ns)) id ↔ (Keeps list id × IsAmong (n ∷ ns) id))
+    by : (test : Bool) → list_any (holds n) list ≡ test → (Keeps (single list ns) id ↔ (Keeps list id × IsAmong ns id)) →
+        (Keeps (single list (n ∷ ns)) id ↔ (Keeps list id × IsAmong (n ∷ ns) id))
     by true is rest = rw is (
       λ kept. elim kept [
         | inl held ↦ let same : n ≡ id = omega (arith, held.0, held.1) in (rw (← same) (held_is list n is), inl same)

@@ -65,7 +65,8 @@ cut_ends volume items (Some o) = cut_leaves volume o items o.command
 pub effect-ending : (state : State) (event : Event) (opening : Id) → event.entry.call ≡ End opening →
     effect state event ≡ ended state opening.0 event.entry.reply
 effect-ending state event opening is =
-    ending_is (λ o. ended state o.0 event.entry.reply) (if is_refusal event.entry.reply then state else accepted_effect state (call_of no_hash state event)) event.entry.call opening is
+    ending_is (λ o. ended state o.0 event.entry.reply) (if is_refusal event.entry.reply then state else accepted_effect state (call_of no_hash state event))
+    event.entry.call opening is
 
 pub systems-cut : (state : State) (event : Event) (items : ℕ) → is_ending event.entry.call ≡ true → event.entry.reply ≡ Cut items →
     (after_event state event).volume.systems ≡ state.volume.systems
@@ -77,7 +78,8 @@ systems-cut state event items ending reply =
 
 -- at the end of a call a PFS shows what it showed as of an id up to its sync end, where a pass begins there
 module _ (state : State) (event : Event) (opening : Id) (o : OpenCall) (slave id : ℕ) (s : PseudoFileSystem)
-    (call : event.entry.call ≡ End opening) (found : opened_with opening.0 state.opened ≡ Some o) (of_slave : system_of state.volume slave ≡ Some s) (by : id ≤ s.sync_end)
+    (call : event.entry.call ≡ End opening) (found : opened_with opening.0 state.opened ≡ Some o) (of_slave : system_of state.volume slave ≡ Some s)
+    (by : id ≤ s.sync_end)
     (begins : (begin end : Id) → EndsPass state event o begin end → begin.0 ≡ begin_of state.volume o) where
   own : (t : PseudoFileSystem) → system_of state.volume slave ≡ Some t → t ≡ s
   own t is = let same : Some t ≡ Some s = sym is ∙ of_slave in cc
@@ -103,14 +105,16 @@ module _ (state : State) (event : Event) (opening : Id) (o : OpenCall) (slave id
   write into is = each (nothing_merged event.entry.reply)
     where
       each : (test : Bool) →
-          at (if test then of_pfs state.volume o.pfs (with_origin o.origin) else end_of_pass state.volume o event.entry.reply) slave id ≡ at state.volume slave id
+          at (if test then of_pfs state.volume o.pfs (with_origin o.origin) else end_of_pass state.volume o event.entry.reply) slave id
+          ≡ at state.volume slave id
       each true = at-changed state.volume slave o.pfs id (with_origin o.origin) (λ x. refl) (λ t same found_t. refl)
       each false = pass (ap merges is) (begin_write into is)
 
   upgrade : at (end_of_upgrade state.volume o event.entry.reply) slave id ≡ at state.volume slave id
   upgrade = upgrade_by (λ (v : Volume). at v slave id ≡ at state.volume slave id) state.volume o event.entry.reply refl
       (at-changed state.volume slave o.pfs id upgraded (λ x. refl) (λ t same is.
-      as_of-to id t.sync_end no_tree t.versions (let one : s.sync_end ≡ t.sync_end = ap (λ (x : PseudoFileSystem). x.sync_end) (sym (own t is)) in omega (arith, by, one))))
+      as_of-to id t.sync_end no_tree t.versions
+      (let one : s.sync_end ≡ t.sync_end = ap (λ (x : PseudoFileSystem). x.sync_end) (sym (own t is)) in omega (arith, by, one))))
 
   pub at-end_call : at (end_effect state.volume event.entry.reply o) slave id ≡ at state.volume slave id
   at-end_call = end_by (λ (v : Volume). at v slave id ≡ at state.volume slave id) state.volume event.entry.reply o o.command refl refl
@@ -143,9 +147,12 @@ at-kept run before event slave id s follows found up drawn = each (is_ending eve
     each : (test : Bool) → is_ending event.entry.call ≡ test → at (effect state event).volume slave id ≡ at state.volume slave id
     each true is =
         let named = opening_of event.entry.call is in
-        ap (λ (x : State). at x.volume slave id) (effect-ending state event named.0 named.1) ∙ at-ending run before event named.0 slave id s follows named.1 found up
+        ap (λ (x : State). at x.volume slave id) (effect-ending state event named.0 named.1)
+        ∙ at-ending run before event named.0 slave id s follows named.1 found up
     each false is =
-        ap (λ (x : State). at x.volume slave id) (not_ending (λ o. ended state o.0 event.entry.reply) (if is_refusal event.entry.reply then state else accepted_effect state (call_of no_hash state event)) event.entry.call is)
+        ap (λ (x : State). at x.volume slave id)
+        (not_ending (λ o. ended state o.0 event.entry.reply)
+        (if is_refusal event.entry.reply then state else accepted_effect state (call_of no_hash state event)) event.entry.call is)
         ∙ call (is_refusal event.entry.reply)
       where
         call : (test : Bool) → at (if test then state else accepted_effect state (call_of no_hash state event)).volume slave id ≡ at state.volume slave id
@@ -165,7 +172,8 @@ system-upgrade state event o s ends found =
     ∙ (ap (λ (x : Option OpenCall). system_of (option_map_or (end_effect state.volume event.entry.reply) x state.volume) o.pfs) ends.found
     ∙ (ap (λ (r : Reply). system_of (end_effect state.volume r o) o.pfs) ends.reply
     ∙ (ap (λ (v : Volume). system_of v o.pfs) (upgrade_is state.volume o ends.path ends.upgrade)
-    ∙ (found-changed o.pfs upgraded state.volume.systems (λ x. refl) ∙ ap (λ (x : Option PseudoFileSystem). option_map_or (λ (y : PseudoFileSystem). Some (upgraded y)) x None) found))))
+    ∙ (found-changed o.pfs upgraded state.volume.systems (λ x. refl)
+    ∙ ap (λ (x : Option PseudoFileSystem). option_map_or (λ (y : PseudoFileSystem). Some (upgraded y)) x None) found))))
 
 -- versions that begin by an id show as of later ones what they show as of it
 as_of-least : (id end : ℕ) (tree : FileTree) (versions : List (ℕ × FileTree)) → as_of id tree (versions_to end versions) ≡ as_of (min id end) tree versions

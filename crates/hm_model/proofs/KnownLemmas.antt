@@ -48,19 +48,25 @@ accepted_opens state call other = tree (is_tree_call other)
     tree true = refl
     tree false = refl
 
-call_opens : (state after : State) (call : Call) (test refused : Bool) → OpensIf test state call after → pairs (if refused then state else after).opened ≡ (if (if test then (if refused then false else true) else false) then (own_id call, call.command) ∷ pairs state.opened else pairs state.opened)
+call_opens : (state after : State) (call : Call) (test refused : Bool) → OpensIf test state call after →
+    pairs (if refused then state else after).opened
+    ≡ (if (if test then (if refused then false else true) else false) then (own_id call, call.command) ∷ pairs state.opened else pairs state.opened)
 call_opens state after call true true opens = refl
 call_opens state after call true false opens = opens
 call_opens state after call false true opens = refl
 call_opens state after call false false opens = opens
 
-pairs-filter : (opening : ℕ) (os : List OpenCall) → filter (λ (o : ℕ × Command). if eqb o.0 opening then false else true) (pairs os) ≡ pairs (filter (λ (o : OpenCall). if eqb o.opening opening then false else true) os)
+pairs-filter : (opening : ℕ) (os : List OpenCall) → filter (λ (o : ℕ × Command). if eqb o.0 opening then false else true) (pairs os) ≡ pairs
+    (filter (λ (o : OpenCall). if eqb o.opening opening then false else true) os)
 pairs-filter opening [] = refl
 pairs-filter opening (o ∷ os) = by (if eqb o.opening opening then false else true) (pairs-filter opening os)
   where
-    by : (test : Bool) → filter (λ (x : ℕ × Command). if eqb x.0 opening then false else true) (pairs os) ≡ pairs (filter (λ (x : OpenCall). if eqb x.opening opening then false else true) os) →
-        (if test then (o.opening, o.command) ∷ filter (λ (x : ℕ × Command). if eqb x.0 opening then false else true) (pairs os) else filter (λ (x : ℕ × Command). if eqb x.0 opening then false else true) (pairs os))
-        ≡ pairs (if test then o ∷ filter (λ (x : OpenCall). if eqb x.opening opening then false else true) os else filter (λ (x : OpenCall). if eqb x.opening opening then false else true) os)
+    by : (test : Bool) → filter (λ (x : ℕ × Command). if eqb x.0 opening then false else true) (pairs os)
+        ≡ pairs (filter (λ (x : OpenCall). if eqb x.opening opening then false else true) os) →
+        (if test then (o.opening, o.command) ∷ filter (λ (x : ℕ × Command). if eqb x.0 opening then false else true) (pairs os)
+        else filter (λ (x : ℕ × Command). if eqb x.0 opening then false else true) (pairs os))
+        ≡ pairs (if test then o ∷ filter (λ (x : OpenCall). if eqb x.opening opening then false else true) os
+        else filter (λ (x : OpenCall). if eqb x.opening opening then false else true) os)
     by true rest = ap (λ (xs : List (ℕ × Command)). (o.opening, o.command) ∷ xs) rest
     by false rest = rest
 
@@ -70,7 +76,8 @@ opening_of (End opening) is = (opening, refl)
 opening_of call is = absurd (cc)
 
 -- what is known after an event agrees with the state after it
-pub Agrees-event : (known : Known) (state : State) (event : Event) → Agrees known state → event.entry.id.0 ≡ known.last + 1 → Agrees (known_after_entry known event.entry) (after_event state event)
+pub Agrees-event : (known : Known) (state : State) (event : Event) → Agrees known state → event.entry.id.0 ≡ known.last + 1 →
+    Agrees (known_after_entry known event.entry) (after_event state event)
 Agrees-event known state event agrees id = record { last = refl; opened = by (is_ending event.entry.call) refl }
   where
     call : Call
@@ -80,8 +87,10 @@ Agrees-event known state event agrees id = record { last = refl; opened = by (is
     by true is = let named = opening_of event.entry.call is in rw (named.1, agrees.opened) (pairs-filter named.0.0 state.opened)
     by false is =
         let e : Entry = event.entry in
-        let stays : still_open e known.opened ≡ known.opened = not_ending (λ opening. filter (λ (o : ℕ × Command). if eqb o.0 opening.0 then false else true) known.opened) known.opened e.call is in
-        let goes : effect state event ≡ (if is_refusal e.reply then state else accepted_effect state call) = not_ending (λ opening. ended state opening.0 e.reply) (if is_refusal e.reply then state else accepted_effect state call) e.call is in
+        let stays : still_open e known.opened ≡ known.opened =
+        not_ending (λ opening. filter (λ (o : ℕ × Command). if eqb o.0 opening.0 then false else true) known.opened) known.opened e.call is in
+        let goes : effect state event ≡ (if is_refusal e.reply then state else accepted_effect state call) =
+        not_ending (λ opening. ended state opening.0 e.reply) (if is_refusal e.reply then state else accepted_effect state call) e.call is in
         let own : e.id.0 ≡ own_id call = id ∙ ap (λ (n : ℕ). n + 1) agrees.last in
         ap (λ (xs : List (ℕ × Command)). if opens e then (e.id.0, e.call) ∷ known.opened else xs) stays
         ∙ (ap (λ (n : ℕ). if opens e then (n, e.call) ∷ known.opened else known.opened) own
@@ -111,11 +120,14 @@ none_busy (o ∷ os) none = by (is_pass o.command) refl (none_busy os)
 pub still : (opening : ℕ) (os : List OpenCall) → List OpenCall
 still opening os = filter (λ (o : OpenCall). if eqb o.opening opening then false else true) os
 
-pub All-still : (P : OpenCall → Type 0) (opening : ℕ) (os : List OpenCall) → AllByRecursion P os → AllByRecursion P (filter (λ (o : OpenCall). if eqb o.opening opening then false else true) os)
+pub All-still : (P : OpenCall → Type 0) (opening : ℕ) (os : List OpenCall) → AllByRecursion P os →
+    AllByRecursion P (filter (λ (o : OpenCall). if eqb o.opening opening then false else true) os)
 All-still P opening [] all = tt
 All-still P opening (o ∷ os) all = by (eqb o.opening opening) (All-still P opening os all.1)
   where
-    by : (test : Bool) → AllByRecursion P (filter (λ (x : OpenCall). if eqb x.opening opening then false else true) os) → AllByRecursion P (if (if test then false else true) then o ∷ filter (λ (x : OpenCall). if eqb x.opening opening then false else true) os else filter (λ (x : OpenCall). if eqb x.opening opening then false else true) os)
+    by : (test : Bool) → AllByRecursion P (filter (λ (x : OpenCall). if eqb x.opening opening then false else true) os) →
+        AllByRecursion P (if (if test then false else true) then o ∷ filter (λ (x : OpenCall). if eqb x.opening opening then false else true) os
+        else filter (λ (x : OpenCall). if eqb x.opening opening then false else true) os)
     by true rest = rest
     by false rest = (all.0, rest)
 
@@ -123,7 +135,9 @@ pub OnePass-still : (opening : ℕ) (os : List OpenCall) → OnePass os → OneP
 OnePass-still opening [] one = tt
 OnePass-still opening (o ∷ os) one = by (eqb o.opening opening) (OnePass-still opening os one.1)
   where
-    by : (test : Bool) → OnePass (filter (λ (x : OpenCall). if eqb x.opening opening then false else true) os) → OnePass (if (if test then false else true) then o ∷ filter (λ (x : OpenCall). if eqb x.opening opening then false else true) os else filter (λ (x : OpenCall). if eqb x.opening opening then false else true) os)
+    by : (test : Bool) → OnePass (filter (λ (x : OpenCall). if eqb x.opening opening then false else true) os) →
+        OnePass (if (if test then false else true) then o ∷ filter (λ (x : OpenCall). if eqb x.opening opening then false else true) os
+        else filter (λ (x : OpenCall). if eqb x.opening opening then false else true) os)
     by true rest = rest
     by false rest = (λ is. All-still (λ (x : OpenCall). is_pass x.command ≡ false) opening os (one.0 is), rest)
 
@@ -137,7 +151,8 @@ found_none test (x ∷ xs) o none found = by (test x) refl (found_none test xs o
     by false is rest = rest (rw is at found)
 
 -- with the one pass ended, none is open
-pub none_still : (opening : ℕ) (os : List OpenCall) (o : OpenCall) → OnePass os → find (λ (x : OpenCall). eqb x.opening opening) os ≡ Some o → is_pass o.command ≡ true → NoPass (filter (λ (x : OpenCall). if eqb x.opening opening then false else true) os)
+pub none_still : (opening : ℕ) (os : List OpenCall) (o : OpenCall) → OnePass os → find (λ (x : OpenCall). eqb x.opening opening) os ≡ Some o →
+    is_pass o.command ≡ true → NoPass (filter (λ (x : OpenCall). if eqb x.opening opening then false else true) os)
 none_still opening [] o one found pass = tt
 none_still opening (x ∷ xs) o one found pass = by (eqb x.opening opening) refl (none_still opening xs o one.1)
   where
@@ -145,7 +160,10 @@ none_still opening (x ∷ xs) o one found pass = by (eqb x.opening opening) refl
     not_first true is later = absurd (let no : is_pass o.command ≡ false = found_none (λ (y : OpenCall). eqb y.opening opening) xs o (one.0 is) later in cc)
     not_first false is later = is
 
-    by : (test : Bool) → eqb x.opening opening ≡ test → (find (λ (y : OpenCall). eqb y.opening opening) xs ≡ Some o → is_pass o.command ≡ true → NoPass (filter (λ (y : OpenCall). if eqb y.opening opening then false else true) xs)) → NoPass (filter (λ (y : OpenCall). if eqb y.opening opening then false else true) (x ∷ xs))
+    by : (test : Bool) → eqb x.opening opening ≡ test →
+        (find (λ (y : OpenCall). eqb y.opening opening) xs ≡ Some o → is_pass o.command ≡ true →
+        NoPass (filter (λ (y : OpenCall). if eqb y.opening opening then false else true) xs)) →
+        NoPass (filter (λ (y : OpenCall). if eqb y.opening opening then false else true) (x ∷ xs))
     by true is rest =
         let same : Some x ≡ Some o = rw is at found in
         let own : x ≡ o = cc in
@@ -177,20 +195,26 @@ free_refuses (Passed begin end) le = absurd (omega (arith, le))
 free_refuses (Cut items) le = absurd (omega (arith, le))
 free_refuses reply le = refl
 
-busy_first : (busy : Option ℕ) (command : Command) (opening : ℕ) (rest : List Check) → is_pass command ≡ true → busy ≡ Some opening → first_refusal (none_open busy command ∷ rest) ≡ Some (Busy (record { 0 = opening }))
+busy_first : (busy : Option ℕ) (command : Command) (opening : ℕ) (rest : List Check) → is_pass command ≡ true → busy ≡ Some opening →
+    first_refusal (none_open busy command ∷ rest) ≡ Some (Busy (record { 0 = opening }))
 busy_first busy command opening rest pass is = rw (pass, is) refl
 
 -- a pass is accepted only where no other is known to be open
-pub accepted_alone : (known : Known) (event : Event) (numbers : List ℕ) → IsPossible (early_refusal known event) numbers event.entry.reply → is_refusal event.entry.reply ≡ false → is_pass event.entry.call ≡ true → known_busy known.opened ≡ None
+pub accepted_alone : (known : Known) (event : Event) (numbers : List ℕ) → IsPossible (early_refusal known event) numbers event.entry.reply →
+    is_refusal event.entry.reply ≡ false → is_pass event.entry.call ≡ true → known_busy known.opened ≡ None
 accepted_alone known event numbers early accepted pass = by (known_busy known.opened) refl
   where
     by : (found : Option ℕ) → known_busy known.opened ≡ found → known_busy known.opened ≡ None
     by None is = is
     by (Some opening) is =
         let uses : List (Use × List ℕ) = uses_of event.entry.call in
-        let rest : List Check = good_paths uses event.paths ++ map (no_future known.last) event.paths ++ no_future_begin known.last event.entry.call ∷ past_stays event.entry.call event.paths ∷ [] in
-        let first : early_refusal known event ≡ Some (Busy (record { 0 = opening })) = busy_first (known_busy known.opened) event.entry.call opening rest pass is in
-        let either : (event.entry.reply ≡ Busy (record { 0 = opening })) ⊎ IsFree event.entry.reply = subst (λ (check : Check). IsPossible check numbers event.entry.reply) first early in
+        let rest : List Check =
+        good_paths uses event.paths ++ map (no_future known.last) event.paths ++ no_future_begin known.last event.entry.call
+        ∷ past_stays event.entry.call event.paths ∷ [] in
+        let first : early_refusal known event ≡ Some (Busy (record { 0 = opening })) =
+        busy_first (known_busy known.opened) event.entry.call opening rest pass is in
+        let either : (event.entry.reply ≡ Busy (record { 0 = opening })) ⊎ IsFree event.entry.reply =
+        subst (λ (check : Check). IsPossible check numbers event.entry.reply) first early in
         let refused : is_refusal event.entry.reply ≡ true = elim either [
           | inl busy ↦ ap is_refusal busy
           | inr free ↦ free_refuses event.entry.reply (low (number_of event.entry.reply) free.0 free.1 free.2)

@@ -65,7 +65,8 @@ passes call none =
     }
 
 -- those of records pass with a command's own ones
-records_pass : (call : Call) (a b : Site) (command : Command) → first_refusal (own_checks_of call a b command) ≡ None → first_refusal (record_checks_of call a b command) ≡ None
+records_pass : (call : Call) (a b : Site) (command : Command) → first_refusal (own_checks_of call a b command) ≡ None →
+    first_refusal (record_checks_of call a b command) ≡ None
 records_pass call a b (PfsMaster path shared) none = (no_rest (name_is_new call a) (pfs_left call ∷ []) none).1
 records_pass call a b (PfsSlave path shared) none = (no_rest (name_is_new call a) (pfs_left call ∷ []) none).1
 records_pass call a b (PfsUpgrade path) none = none
@@ -94,7 +95,8 @@ looked_names call tree object = by call.command
 answer_names : (call : Call) → NamesAdded call (answer call)
 answer_names call = by call.command
   where
-    seen : NamesAdded call (option_map_or (answer_at call (call.view (first_site call).at.pfs (first_site call).at.when)) (site_object call (first_site call)) NotFound)
+    seen : NamesAdded call (option_map_or (answer_at call (call.view (first_site call).at.pfs (first_site call).at.when))
+        (site_object call (first_site call)) NotFound)
     seen =
         let tree : FileTree = call.view (first_site call).at.pfs (first_site call).at.when in
         of_option (NamesAdded call) (answer_at call tree) (site_object call (first_site call)) NotFound (looked_names call tree) tt
@@ -148,7 +150,8 @@ reply_names least call reply Progress is = absurd is
 reply_names least call reply other is = subst (NamesAdded call) (sym is) (accepted_names call call.command)
 
 -- a reply that accepts a call where no check refuses is the one that is due
-accepted_reply : (least : ℕ) (call : Call) (reply : Reply) → IsReply least call reply → is_refusal reply ≡ false → refusal call ≡ None → IsAccepted least call reply
+accepted_reply : (least : ℕ) (call : Call) (reply : Reply) → IsReply least call reply → is_refusal reply ≡ false → refusal call ≡ None →
+    IsAccepted least call reply
 accepted_reply least call reply is accepted none = elim is [
   | inl due ↦ subst (λ (x : Check). IsDue least call x reply) none due
   | inr exception ↦ absurd (let no_way : is_refusal reply ≡ true = exception_refuses least call reply exception in cc)

@@ -8,7 +8,8 @@ texts_of-other : (b : ℕ) (bs : List ℕ) → b ≢ line_feed → texts_of (b �
 texts_of-other b bs other = let no : eqb b line_feed ≡ false = grind (arith, nat_tests) in rw no refl
 
 -- the first line ends at the first line feed
-pub texts_of-line : (s : List ℕ) (i : ℕ) → i < length s → get_or s i 0 ≡ line_feed → ((k : ℕ) → k < i → get_or s k 0 ≢ line_feed) → texts_of s ≡ take i s ∷ texts_of (drop (suc i) s)
+pub texts_of-line : (s : List ℕ) (i : ℕ) → i < length s → get_or s i 0 ≡ line_feed → ((k : ℕ) → k < i → get_or s k 0 ≢ line_feed) →
+    texts_of s ≡ take i s ∷ texts_of (drop (suc i) s)
 texts_of-line [] i within here before = absurd (omega arith)
 texts_of-line (b ∷ bs) zero within here before = let yes : eqb b line_feed ≡ true = grind (arith, nat_tests) in rw yes refl
 texts_of-line (b ∷ bs) (suc i) within here before =

@@ -10,7 +10,8 @@ use Rattle.hm_model.specs.Walk.{Follow, Passed, Reaches, Walked, and_then, find_
 -- the object at a link's number is the link
 link_found : (volume : Volume) (view : View) (mode : Follow) (link : Position) (object : Object) (pfs : ℕ) (passed : Passed) →
     object_at view link ≡ Some object →
-    (from_found volume view mode object link (passed ++ (link.pfs, link.object.0) ∷ []) ≡ over_link volume view mode pfs link (passed ++ (link.pfs, link.object.0) ∷ [])) →
+    (from_found volume view mode object link (passed ++ (link.pfs, link.object.0) ∷ [])
+    ≡ over_link volume view mode pfs link (passed ++ (link.pfs, link.object.0) ∷ [])) →
     find_object volume view mode link passed ≡ over_link volume view mode pfs link (passed ++ (link.pfs, link.object.0) ∷ [])
 link_found volume view mode link object pfs passed found linked = rw found linked
 
@@ -21,5 +22,6 @@ pub ends-link : (volume : Volume) (view : View) (mode : Follow) (here link : Pos
 ends-link volume view mode here link name pfs passed names =
     let at : Position = record here { object = link.object } in
     let found : find_object volume view mode at passed ≡ over_link volume view mode pfs link (passed ++ (link.pfs, link.object.0) ∷ []) =
-    ap (λ (p : Position). find_object volume view mode p passed) (sym names.beside) ∙ link_found volume view mode link names.object pfs passed names.found (rw names.linked refl) in
+    ap (λ (p : Position). find_object volume view mode p passed) (sym names.beside)
+    ∙ link_found volume view mode link names.object pfs passed names.found (rw names.linked refl) in
     rw (names.directory, names.named) (ap (λ (w : Walked). and_then w (λ there more. Reaches there more)) found)

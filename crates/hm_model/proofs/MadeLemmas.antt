@@ -43,28 +43,35 @@ with_call event call = record event { entry = record event.entry { call = call }
 
 -- what a call that makes a PFS does
 does_master : (state : State) (event : Event) (path : Text) (shared : ℕ) (command : Command) → command ≡ PfsMaster path shared →
-    effect state (with_call event command) ≡ (if is_refusal event.entry.reply then state else on_volume state (change (call_of no_hash state (with_call event command))))
+    effect state (with_call event command) ≡ (if is_refusal event.entry.reply then state
+    else on_volume state (change (call_of no_hash state (with_call event command))))
 does_master state event path shared command is =
-    subst (λ (c : Command). effect state (with_call event c) ≡ (if is_refusal event.entry.reply then state else on_volume state (change (call_of no_hash state (with_call event c))))) (sym is) refl
+    subst (λ (c : Command). effect state (with_call event c)
+    ≡ (if is_refusal event.entry.reply then state else on_volume state (change (call_of no_hash state (with_call event c))))) (sym is) refl
 
 does_slave : (state : State) (event : Event) (path : Text) (shared : ℕ) (command : Command) → command ≡ PfsSlave path shared →
-    effect state (with_call event command) ≡ (if is_refusal event.entry.reply then state else on_volume state (change (call_of no_hash state (with_call event command))))
+    effect state (with_call event command) ≡ (if is_refusal event.entry.reply then state
+    else on_volume state (change (call_of no_hash state (with_call event command))))
 does_slave state event path shared command is =
-    subst (λ (c : Command). effect state (with_call event c) ≡ (if is_refusal event.entry.reply then state else on_volume state (change (call_of no_hash state (with_call event c))))) (sym is) refl
+    subst (λ (c : Command). effect state (with_call event c)
+    ≡ (if is_refusal event.entry.reply then state else on_volume state (change (call_of no_hash state (with_call event c))))) (sym is) refl
 
 effect_master : (state : State) (event : Event) (path : Text) (shared : ℕ) → Makes event (PfsMaster path shared) →
     effect state event ≡ on_volume state (change (call_of no_hash state event))
 effect_master state event path shared makes =
-    does_master state event path shared event.entry.call makes.call ∙ ap (λ (test : Bool). if test then state else on_volume state (change (call_of no_hash state event))) makes.accepted
+    does_master state event path shared event.entry.call makes.call
+    ∙ ap (λ (test : Bool). if test then state else on_volume state (change (call_of no_hash state event))) makes.accepted
 
 pub effect_slave : (state : State) (event : Event) (path : Text) (shared : ℕ) → Makes event (PfsSlave path shared) →
     effect state event ≡ on_volume state (change (call_of no_hash state event))
 effect_slave state event path shared makes =
-    does_slave state event path shared event.entry.call makes.call ∙ ap (λ (test : Bool). if test then state else on_volume state (change (call_of no_hash state event))) makes.accepted
+    does_slave state event path shared event.entry.call makes.call
+    ∙ ap (λ (test : Bool). if test then state else on_volume state (change (call_of no_hash state event))) makes.accepted
 
 -- the PFS after it
 pub made_master : (state : State) (event : Event) (path : Text) (shared : ℕ) → Makes event (PfsMaster path shared) →
-    system_of (after_event state event).volume (new_pfs state.volume) ≡ Some (new_master (new_pfs state.volume) shared ((state.volume.last + 1, root_tree) ∷ []))
+    system_of (after_event state event).volume (new_pfs state.volume)
+    ≡ Some (new_master (new_pfs state.volume) shared ((state.volume.last + 1, root_tree) ∷ []))
 made_master state event path shared makes =
     ap (λ (s : State). system_of s.volume (new_pfs state.volume)) (effect_master state event path shared makes)
     ∙ system-new_master (call_of no_hash state event) path shared makes.call
@@ -81,7 +88,12 @@ steady_made : (state : State) (event : Event) (path : Text) (shared : ℕ) → A
 steady_made state event path shared named makes =
     let opened : (after_event state event).opened ≡ state.opened = ap (λ (s : State). s.opened) (effect_master state event path shared makes) in
     let unfed : IsUnfed state (new_pfs state.volume) = none_unfed state.volume (new_pfs state.volume) state.opened (none-new state.volume) named in
-    record { system = new_master (new_pfs state.volume) shared ((state.volume.last + 1, root_tree) ∷ []); found = made_master state event path shared makes; master = refl; unfed = rw opened unfed }
+    record {
+      system = new_master (new_pfs state.volume) shared ((state.volume.last + 1, root_tree) ∷ []);
+      found = made_master state event path shared makes;
+      master = refl;
+      unfed = rw opened unfed;
+    }
 
 -- a history that goes on by one event
 pub one_more : (run : Setting) (before : List Event) (event : Event) (rest : List Event) → IsLegal run (before ++ event ∷ rest) →
@@ -102,7 +114,8 @@ master_made run before event rest path shared root legal makes =
     let state : State = state_after run before in
     let steady : IsSteadyMaster (after_event state event) (new_pfs state.volume) =
     steady_made state event path shared (stands_before run before event rest root legal).orderly.named makes in
-    steady_from run (before ++ event ∷ []) rest (new_pfs state.volume) (one_more run before event rest legal) (subst (λ (s : State). IsSteadyMaster s (new_pfs state.volume)) (sym (state_pushed run before event)) steady)
+    steady_from run (before ++ event ∷ []) rest (new_pfs state.volume) (one_more run before event rest legal)
+    (subst (λ (s : State). IsSteadyMaster s (new_pfs state.volume)) (sym (state_pushed run before event)) steady)
 
 -- its versions
 last_drawn : (run : Setting) (before : List Event) (event : Event) → MayFollow run before event → StandsAfter run before →
@@ -123,7 +136,9 @@ order_event state event pfs unfed later order =
     let grows : Grows id old (versions_of (after_event state event).volume pfs) = Grows-event state event pfs unfed in
     record {
       rising = rw grows.grown (rise_grown 0 state.volume.last id old grows.more order.rising order.begun (omega arith) (omega arith) grows.begin);
-      begun = rw grows.grown (begin_grown (last_after event.entry) id old grows.more later (by_later state.volume.last (last_after event.entry) old order.begun (omega (arith, later))) grows.begin);
+      begun =
+          rw grows.grown (begin_grown (last_after event.entry) id old grows.more later
+          (by_later state.volume.last (last_after event.entry) old order.begun (omega (arith, later))) grows.begin);
     }
 
 order_history : (state : State) (known : Known) (es : List Event) (pfs : ℕ) → known.last ≡ state.volume.last → IdsFollow known es →
@@ -153,7 +168,9 @@ pub order_later : (run : Setting) (before rest : List Event) (pfs : ℕ) → IsL
 order_later run before rest pfs legal master order =
     let known : Known = known_after (known_at run.opening.last run.start) before in
     rw (after_both (opening_state run.opening run.foreigners) before rest)
-    (order_history (state_after run before) known rest pfs (last_known (known_at run.opening.last run.start) (opening_state run.opening run.foreigners) before refl) (ids_follow run before rest legal) (steady_is run before rest pfs master) order)
+    (order_history (state_after run before) known rest pfs
+    (last_known (known_at run.opening.last run.start) (opening_state run.opening run.foreigners) before refl) (ids_follow run before rest legal)
+    (steady_is run before rest pfs master) order)
 
 pub order_made : (run : Setting) (before : List Event) (event : Event) (path : Text) (shared : ℕ) → IsLegal run (before ++ event ∷ []) →
     Makes event (PfsMaster path shared) → AreInOrder (state_after run (before ++ event ∷ [])).volume (new_pfs (state_after run before).volume)
@@ -165,7 +182,8 @@ order_made run before event path shared legal makes =
     let versions : versions_of (after_event state event).volume (new_pfs state.volume) ≡ (state.volume.last + 1, root_tree) ∷ [] =
     ap versions_in (made_master state event path shared makes) in
     let drawn : state.volume.last + 1 ≤ last_after event.entry = omega (arith, follows.caused.id, same) in
-    let order : AreInOrder (after_event state event).volume (new_pfs state.volume) = record { rising = rw versions (omega arith, tt); begun = rw versions (drawn, tt) } in
+    let order : AreInOrder (after_event state event).volume (new_pfs state.volume) =
+    record { rising = rw versions (omega arith, tt); begun = rw versions (drawn, tt) } in
     subst (λ (s : State). AreInOrder s.volume (new_pfs state.volume)) (sym (state_pushed run before event)) order
 
 -- all events have ids up to a later one
@@ -196,7 +214,8 @@ events_append id (x ∷ xs) ys = by (nat_le x.entry.id.0 id) (events_append id x
 -- what a made master has as of an id
 pub shown_made : (run : Setting) (before : List Event) (event : Event) (rest : List Event) (path : Text) (shared id : ℕ) → IsThere run.opening 0 →
     IsLegal run (before ++ event ∷ rest) → Makes event (PfsMaster path shared) → event.entry.id.0 ≤ id →
-    at (state_after run (before ++ event ∷ rest)).volume (new_pfs (state_after run before).volume) id ≡ shown (state_after run (events_to id (before ++ event ∷ rest))).volume (new_pfs (state_after run before).volume)
+    at (state_after run (before ++ event ∷ rest)).volume (new_pfs (state_after run before).volume) id
+    ≡ shown (state_after run (events_to id (before ++ event ∷ rest))).volume (new_pfs (state_after run before).volume)
 shown_made run before event rest path shared id root legal makes from =
     let opening : State = opening_state run.opening run.foreigners in
     let state : State = state_after run before in
@@ -217,10 +236,12 @@ shown_made run before event rest path shared id root legal makes from =
     let all : events_to id before ≡ before = all_to first before id front (omega (arith, follow.0, from)) in
     let yes : nat_le event.entry.id.0 id ≡ true = grind (arith, nat_tests, from) in
     let events : events_to id (before ++ event ∷ rest) ≡ before ++ event ∷ events_to id rest =
-    events_append id before (event ∷ rest) ∙ (ap (λ (xs : List Event). xs ++ events_to id (event ∷ rest)) all ∙ ap (λ (test : Bool). before ++ (if test then event ∷ events_to id rest else events_to id rest)) yes) in
+    events_append id before (event ∷ rest) ∙ (ap (λ (xs : List Event). xs ++ events_to id (event ∷ rest)) all
+    ∙ ap (λ (test : Bool). before ++ (if test then event ∷ events_to id rest else events_to id rest)) yes) in
     ap (λ (s : State). at s.volume pfs id) (after_both opening before (event ∷ rest))
     ∙ (shown_then (after_event state event) (known_after_entry known event.entry) rest pfs id refl follow.1 steady by_last by_id
-    ∙ sym (ap (λ (xs : List Event). shown (state_after run xs).volume pfs) events ∙ ap (λ (s : State). shown s.volume pfs) (after_both opening before (event ∷ events_to id rest))))
+    ∙ sym (ap (λ (xs : List Event). shown (state_after run xs).volume pfs) events
+    ∙ ap (λ (s : State). shown s.volume pfs) (after_both opening before (event ∷ events_to id rest))))
 
 -- calls that name PFS that are there feed no new one
 pub absent : (volume : Volume) (slave : ℕ) (o : OpenCall) → system_of volume slave ≡ None → NamesThere volume o → o.pfs ≡ slave → rewrites o.command

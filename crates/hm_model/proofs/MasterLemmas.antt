@@ -16,21 +16,26 @@ use Rattle.hm_model.proofs.GrowthLemmas.{Grows, at-grown}
 use Rattle.hm_model.proofs.VersionLemmas.{as_of-later, by_later}
 
 -- the trees as of ids that were drawn stay
-pub at-event : (state : State) (event : Event) (pfs id : ℕ) → IsUnfed state pfs → id ≤ state.volume.last → at (after_event state event).volume pfs id ≡ at state.volume pfs id
-at-event state event pfs id unfed drawn = at-grown state.volume (after_event state event).volume pfs id (state.volume.last + 1) (omega arith) (Grows-event state event pfs unfed)
+pub at-event : (state : State) (event : Event) (pfs id : ℕ) → IsUnfed state pfs → id ≤ state.volume.last →
+    at (after_event state event).volume pfs id ≡ at state.volume pfs id
+at-event state event pfs id unfed drawn =
+    at-grown state.volume (after_event state event).volume pfs id (state.volume.last + 1) (omega arith) (Grows-event state event pfs unfed)
 
 -- versions that grow begin by an id still
 begin_more : (bound id : ℕ) (more : List (ℕ × FileTree)) → id ≤ bound → AllByRecursion (λ (v : ℕ × FileTree). v.0 ≡ id) more → BeginBy bound more
 begin_more bound id [] le all = tt
 begin_more bound id (v ∷ vs) le all = (omega (arith, all.0), begin_more bound id vs le all.1)
 
-pub begin_grown : (bound id : ℕ) (old more : List (ℕ × FileTree)) → id ≤ bound → BeginBy bound old → AllByRecursion (λ (v : ℕ × FileTree). v.0 ≡ id) more → BeginBy bound (old ++ more)
+pub begin_grown : (bound id : ℕ) (old more : List (ℕ × FileTree)) → id ≤ bound → BeginBy bound old → AllByRecursion (λ (v : ℕ × FileTree). v.0 ≡ id) more →
+    BeginBy bound (old ++ more)
 begin_grown bound id [] more le begin all = begin_more bound id more le all
 begin_grown bound id (v ∷ vs) more le begin all = (begin.0, begin_grown bound id vs more le begin.1 all)
 
-begin_event : (state : State) (event : Event) (pfs bound : ℕ) → IsUnfed state pfs → state.volume.last + 1 ≤ bound → BeginBy bound (versions_of state.volume pfs) → BeginBy bound (versions_of (after_event state event).volume pfs)
+begin_event : (state : State) (event : Event) (pfs bound : ℕ) → IsUnfed state pfs → state.volume.last + 1 ≤ bound →
+    BeginBy bound (versions_of state.volume pfs) → BeginBy bound (versions_of (after_event state event).volume pfs)
 begin_event state event pfs bound unfed le begin =
-    let grows : Grows (state.volume.last + 1) (versions_of state.volume pfs) (versions_of (after_event state event).volume pfs) = Grows-event state event pfs unfed in
+    let grows : Grows (state.volume.last + 1) (versions_of state.volume pfs) (versions_of (after_event state event).volume pfs) =
+    Grows-event state event pfs unfed in
     rw grows.grown (begin_grown bound (state.volume.last + 1) (versions_of state.volume pfs) grows.more le begin grows.begin)
 
 -- from the last version on the same tree is shown
@@ -38,7 +43,8 @@ settled : (t u : ℕ) (versions : List (ℕ × FileTree)) → BeginBy t versions
 settled t u versions by_t by_u = sym (as_of-later t (max t u) no_tree versions by_t (omega arith)) ∙ as_of-later u (max t u) no_tree versions by_u (omega arith)
 
 -- a master shows its last version
-shown_now : (state : State) (pfs id : ℕ) → IsSteadyMaster state pfs → BeginBy state.volume.last (versions_of state.volume pfs) → BeginBy id (versions_of state.volume pfs) → at state.volume pfs id ≡ shown state.volume pfs
+shown_now : (state : State) (pfs id : ℕ) → IsSteadyMaster state pfs → BeginBy state.volume.last (versions_of state.volume pfs) →
+    BeginBy id (versions_of state.volume pfs) → at state.volume pfs id ≡ shown state.volume pfs
 shown_now state pfs id steady by_last by_id =
     let begin : BeginBy state.volume.last steady.system.versions = rw steady.found at by_last in
     let also : BeginBy id steady.system.versions = rw steady.found at by_id in
@@ -52,7 +58,8 @@ later : (state : State) (e : Event) (es : List Event) (pfs : ℕ) → IsSteady s
 later state e es pfs steady before rest is = steady (e ∷ before) rest (ap (λ (xs : List Event). e ∷ xs) is)
 
 -- the past stays over a history
-past_stays : (state : State) (known : Known) (es : List Event) (pfs id : ℕ) → known.last ≡ state.volume.last → IdsFollow known es → IsSteady state es pfs → id ≤ state.volume.last → at (after_events state es).volume pfs id ≡ at state.volume pfs id
+past_stays : (state : State) (known : Known) (es : List Event) (pfs id : ℕ) → known.last ≡ state.volume.last → IdsFollow known es → IsSteady state es pfs →
+    id ≤ state.volume.last → at (after_events state es).volume pfs id ≡ at state.volume pfs id
 past_stays state known [] pfs id same follow steady drawn = refl
 past_stays state known (e ∷ es) pfs id same follow steady drawn =
     past_stays (after_event state e) (known_after_entry known e.entry) es pfs id refl follow.1 (later state e es pfs steady) (omega (arith, follow.0))
@@ -66,20 +73,27 @@ none_to known (e ∷ es) id follow drawn =
     rw no (none_to (known_after_entry known e.entry) es id follow.1 (omega (arith, follow.0)))
 
 -- the tree as of an id is the one shown after the events up to it
-pub shown_then : (state : State) (known : Known) (es : List Event) (pfs id : ℕ) → known.last ≡ state.volume.last → IdsFollow known es → IsSteady state es pfs → BeginBy state.volume.last (versions_of state.volume pfs) → BeginBy id (versions_of state.volume pfs) → at (after_events state es).volume pfs id ≡ shown (after_events state (events_to id es)).volume pfs
+pub shown_then : (state : State) (known : Known) (es : List Event) (pfs id : ℕ) → known.last ≡ state.volume.last → IdsFollow known es →
+    IsSteady state es pfs → BeginBy state.volume.last (versions_of state.volume pfs) → BeginBy id (versions_of state.volume pfs) →
+    at (after_events state es).volume pfs id ≡ shown (after_events state (events_to id es)).volume pfs
 shown_then state known [] pfs id same follow steady by_last by_id = shown_now state pfs id (steady [] [] refl) by_last by_id
 shown_then state known (e ∷ es) pfs id same follow steady by_last by_id = elim (less_or_not id e.entry.id.0) [
   | inl less ↦
       let none : events_to id (e ∷ es) ≡ [] = none_to known (e ∷ es) id follow (omega (arith, follow.0)) in
-      rw none (past_stays state known (e ∷ es) pfs id same follow steady (omega (arith, follow.0)) ∙ shown_now state pfs id (steady [] (e ∷ es) refl) by_last by_id)
+      rw none (past_stays state known (e ∷ es) pfs id same follow steady (omega (arith, follow.0))
+      ∙ shown_now state pfs id (steady [] (e ∷ es) refl) by_last by_id)
   | inr from ↦
       let yes : nat_le e.entry.id.0 id ≡ true = grind (arith, nat_tests, from) in
       let unfed : IsUnfed state pfs = (steady [] (e ∷ es) refl).unfed in
       rw yes (shown_then (after_event state e) (known_after_entry known e.entry) es pfs id refl follow.1 (later state e es pfs steady)
-      (begin_event state e pfs (last_after e.entry) unfed (omega (arith, follow.0)) (by_later state.volume.last (last_after e.entry) (versions_of state.volume pfs) by_last (omega (arith, follow.0))))
+      (begin_event state e pfs (last_after e.entry) unfed (omega (arith, follow.0))
+      (by_later state.volume.last (last_after e.entry) (versions_of state.volume pfs) by_last (omega (arith, follow.0))))
       (begin_event state e pfs id unfed (omega (arith, follow.0, from)) by_id))
 ]
 
-pub shown-legal : (run : Setting) (events : List Event) (pfs id : ℕ) → IsLegal run events → IsMasterThroughout run events pfs → BeginBy run.opening.last (versions_of run.opening pfs) → run.opening.last ≤ id → at (state_after run events).volume pfs id ≡ shown (state_after run (events_to id events)).volume pfs
+pub shown-legal : (run : Setting) (events : List Event) (pfs id : ℕ) → IsLegal run events → IsMasterThroughout run events pfs →
+    BeginBy run.opening.last (versions_of run.opening pfs) → run.opening.last ≤ id →
+    at (state_after run events).volume pfs id ≡ shown (state_after run (events_to id events)).volume pfs
 shown-legal run events pfs id legal master begin from =
-    shown_then (opening_state run.opening run.foreigners) (known_at run.opening.last run.start) events pfs id refl (ids_follow run [] events legal) master begin (by_later run.opening.last id (versions_of run.opening pfs) begin from)
+    shown_then (opening_state run.opening run.foreigners) (known_at run.opening.last run.start) events pfs id refl (ids_follow run [] events legal) master
+    begin (by_later run.opening.last id (versions_of run.opening pfs) begin from)

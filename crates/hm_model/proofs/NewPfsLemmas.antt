@@ -39,7 +39,8 @@ system-changed call s found =
 none_changed : (pfs other : ℕ) (f : PseudoFileSystem → PseudoFileSystem) (systems : List PseudoFileSystem) → KeepsNumber f →
     found_in systems pfs ≡ None → found_in (changed_in other f systems) pfs ≡ None
 none_changed pfs other f systems keeps none = elim (same_or_not other pfs) [
-  | inl same ↦ rw same (found-changed pfs f systems keeps ∙ ap (λ (x : Option PseudoFileSystem). option_map_or (λ (y : PseudoFileSystem). Some (f y)) x None) none)
+  | inl same ↦ rw same (found-changed pfs f systems keeps ∙ ap
+      (λ (x : Option PseudoFileSystem). option_map_or (λ (y : PseudoFileSystem). Some (f y)) x None) none)
   | inr differ ↦ found-other pfs other f systems keeps differ ∙ none
 ]
 
@@ -48,14 +49,16 @@ found-new : (systems : List PseudoFileSystem) (new : PseudoFileSystem) (pfs : �
     found_in (systems ++ new ∷ []) pfs ≡ Some new
 found-new systems new pfs number none =
     let yes : eqb new.number pfs ≡ true = grind (arith, nat_tests, number) in
-    found-pushed systems new pfs ∙ (ap (λ (x : Option PseudoFileSystem). option_map_or (λ (y : PseudoFileSystem). Some y) x (found_in (new ∷ []) pfs)) none ∙ rw yes refl)
+    found-pushed systems new pfs ∙ (ap (λ (x : Option PseudoFileSystem). option_map_or (λ (y : PseudoFileSystem). Some y) x (found_in (new ∷ []) pfs)) none
+    ∙ rw yes refl)
 
 pub none-new : (volume : Volume) → system_of volume (new_pfs volume) ≡ None
 none-new volume = unused_none volume.systems (new_pfs volume) (least_unused-is (numbers_in volume.systems)).0
 
 none_new_pfs : (call : Call) → system_of (versioned call) (new_pfs call.volume) ≡ None
 none_new_pfs call =
-    none_changed (new_pfs call.volume) (changed_pfs call) (add_version (own_id call) (changed call (call.view (changed_pfs call) Now))) call.volume.systems (λ s. refl)
+    none_changed (new_pfs call.volume) (changed_pfs call) (add_version (own_id call) (changed call (call.view (changed_pfs call) Now))) call.volume.systems
+    (λ s. refl)
     (none-new call.volume)
 
 -- which PFS a command adds
@@ -79,7 +82,8 @@ pub system-new_master : (call : Call) (path : Text) (shared : ℕ) → call.comm
     system_of (change call) (new_pfs call.volume) ≡ Some (new_master (new_pfs call.volume) shared ((own_id call, root_tree) ∷ []))
 system-new_master call path shared is =
     ap (λ (v : Volume). system_of v (new_pfs call.volume)) (added_master call (versioned call) call.command path shared is)
-    ∙ found-new (versioned call).systems (new_master (new_pfs call.volume) shared ((own_id call, root_tree) ∷ [])) (new_pfs call.volume) refl (none_new_pfs call)
+    ∙ found-new (versioned call).systems (new_master (new_pfs call.volume) shared ((own_id call, root_tree) ∷ [])) (new_pfs call.volume) refl
+    (none_new_pfs call)
 
 pub system-new_slave : (call : Call) (path : Text) (shared : ℕ) → call.command ≡ PfsSlave path shared →
     system_of (change call) (new_pfs call.volume) ≡ Some (new_slave (new_pfs call.volume) shared)

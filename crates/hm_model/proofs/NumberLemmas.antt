@@ -21,7 +21,8 @@ least_from : (test : ℕ → Bool) (first : ℕ) (xs : List ℕ) → ((k : ℕ) 
     ⊎ ((k : ℕ) → k ≤ first + length xs → test k ≡ false)
 least_from test first [] before = by (test first) refl
   where
-    by : (here : Bool) → test first ≡ here → ((n : ℕ) × (find test (first ∷ []) ≡ Some n) × (test n ≡ true) × ((k : ℕ) → k < n → test k ≡ false)) ⊎ ((k : ℕ) → k ≤ first + 0 → test k ≡ false)
+    by : (here : Bool) → test first ≡ here → ((n : ℕ) × (find test (first ∷ []) ≡ Some n) × (test n ≡ true) × ((k : ℕ) → k < n → test k ≡ false))
+        ⊎ ((k : ℕ) → k ≤ first + 0 → test k ≡ false)
     by true is = inl (first, rw is refl, is, before)
     by false is = inr (λ k most. elim (less_or_not k first) [
       | inl less ↦ before k less
@@ -52,7 +53,8 @@ rest_le : (n : ℕ) (used : List ℕ) → length (rest_of n used) ≤ length use
 rest_le n [] = omega arith
 rest_le n (x ∷ xs) = by (eqb x n) (rest_le n xs)
   where
-    by : (here : Bool) → length (rest_of n xs) ≤ length xs → length (if (if here then false else true) then x ∷ rest_of n xs else rest_of n xs) ≤ length (x ∷ xs)
+    by : (here : Bool) → length (rest_of n xs) ≤ length xs → length (if (if here then false else true) then x ∷ rest_of n xs else rest_of n xs) ≤ length
+        (x ∷ xs)
     by true le = omega (arith, le)
     by false le = omega (arith, le)
 
@@ -124,19 +126,24 @@ abbrev pub numbers_in : List PseudoFileSystem → List ℕ
 numbers_in systems = map (λ (s : PseudoFileSystem). s.number) systems
 
 -- no PFS has an unused number
-pub unused_none : (systems : List PseudoFileSystem) (n : ℕ) → is_used (numbers_in systems) n ≡ false → find (λ (s : PseudoFileSystem). eqb s.number n) systems ≡ None
+pub unused_none : (systems : List PseudoFileSystem) (n : ℕ) → is_used (numbers_in systems) n ≡ false →
+    find (λ (s : PseudoFileSystem). eqb s.number n) systems ≡ None
 unused_none [] n none = refl
 unused_none (s ∷ ss) n none = by (eqb s.number n) refl (unused_none ss n)
   where
-    by : (test : Bool) → eqb s.number n ≡ test → (is_used (numbers_in ss) n ≡ false → find (λ (u : PseudoFileSystem). eqb u.number n) ss ≡ None) → find (λ (u : PseudoFileSystem). eqb u.number n) (s ∷ ss) ≡ None
+    by : (test : Bool) → eqb s.number n ≡ test → (is_used (numbers_in ss) n ≡ false → find (λ (u : PseudoFileSystem). eqb u.number n) ss ≡ None) →
+        find (λ (u : PseudoFileSystem). eqb u.number n) (s ∷ ss) ≡ None
     by true is rest = absurd (let taken : is_used (numbers_in (s ∷ ss)) n ≡ true = rw is refl in cc)
     by false is rest = rw is (rest (rw is at none))
 
 -- a PFS has each used number
-pub used_some : (systems : List PseudoFileSystem) (n : ℕ) → is_used (numbers_in systems) n ≡ true → (s : PseudoFileSystem) × (find (λ (u : PseudoFileSystem). eqb u.number n) systems ≡ Some s)
+pub used_some : (systems : List PseudoFileSystem) (n : ℕ) → is_used (numbers_in systems) n ≡ true → (s : PseudoFileSystem)
+    × (find (λ (u : PseudoFileSystem). eqb u.number n) systems ≡ Some s)
 used_some [] n is = absurd (cc)
 used_some (s ∷ ss) n used = by (eqb s.number n) refl (used_some ss n)
   where
-    by : (test : Bool) → eqb s.number n ≡ test → (is_used (numbers_in ss) n ≡ true → (t : PseudoFileSystem) × (find (λ (u : PseudoFileSystem). eqb u.number n) ss ≡ Some t)) → (t : PseudoFileSystem) × (find (λ (u : PseudoFileSystem). eqb u.number n) (s ∷ ss) ≡ Some t)
+    by : (test : Bool) → eqb s.number n ≡ test →
+        (is_used (numbers_in ss) n ≡ true → (t : PseudoFileSystem) × (find (λ (u : PseudoFileSystem). eqb u.number n) ss ≡ Some t)) → (t : PseudoFileSystem)
+        × (find (λ (u : PseudoFileSystem). eqb u.number n) (s ∷ ss) ≡ Some t)
     by true is rest = (s, rw is refl)
     by false other rest = let found = rest (rw other at used) in (found.0, rw other found.1)

@@ -51,7 +51,8 @@ open_cut : (retention : List (ℕ × ℕ)) (ids : List ℕ) (from : ℕ) → fro
 open_cut retention ids from low endless = record {
   intervals = IsIntervals-cut retention ids from endless.intervals;
   kept = (Keeps-maximal (single retention ids ++ within from open_end retention) open_end).1
-      ((Keeps-append (single retention ids) (within from open_end retention) open_end).1 (inr ((Keeps-within from open_end retention open_end).1 (endless.kept, low, omega arith))));
+      ((Keeps-append (single retention ids) (within from open_end retention) open_end).1
+      (inr ((Keeps-within from open_end retention open_end).1 (endless.kept, low, omega arith))));
 }
 
 -- no id that a prune keeps is above the shown one
@@ -78,7 +79,8 @@ open_changed volume pfs other f keeps has gives = elim (same_or_not other pfs) [
   | inl same ↦
       let found : system_of (of_pfs volume other f) pfs ≡ Some (f has.system) =
       ap (λ (n : ℕ). system_of (of_pfs volume n f) pfs) same
-      ∙ (found-changed pfs f volume.systems keeps ∙ ap (λ (x : Option PseudoFileSystem). option_map_or (λ (y : PseudoFileSystem). Some (f y)) x None) has.found) in
+      ∙ (found-changed pfs f volume.systems keeps ∙ ap (λ (x : Option PseudoFileSystem). option_map_or (λ (y : PseudoFileSystem). Some (f y)) x None)
+      has.found) in
       record { system = f has.system; found = found; role = (gives same).0; endless = (gives same).1 }
   | inr differ ↦ record { system = has.system; found = found-other pfs other f volume.systems keeps differ ∙ has.found; role = has.role; endless = has.endless }
 ]
@@ -88,7 +90,8 @@ kept_low : (call : Call) (s : PseudoFileSystem) → system_of call.volume (first
     greatest (kept_ids call) ≤ own_id call
 kept_low call s found role =
     let ids : kept_ids call ≡ snapshot_ids (site_tree call (first_site call)) (first_site call).at.object (call_shown call s) =
-    ap (λ (x : Option PseudoFileSystem). option_map_or (λ (t : PseudoFileSystem). snapshot_ids (site_tree call (first_site call)) (first_site call).at.object (call_shown call t)) x []) found in
+    ap (λ (x : Option PseudoFileSystem). option_map_or
+    (λ (t : PseudoFileSystem). snapshot_ids (site_tree call (first_site call)) (first_site call).at.object (call_shown call t)) x []) found in
     let shown : call_shown call s ≡ own_id call = ap (λ (r : Role). elim r [ Master ↦ own_id call | Slave ↦ s.sync_end ]) role in
     let low : greatest (kept_ids call) ≤ call_shown call s = rw ids (greatest_to (call_shown call s) _) in
     omega (arith, low, shown)
@@ -99,8 +102,20 @@ open_tree call pfs has =
     let once : HasOpen (versioned call) pfs =
     open_changed call.volume pfs (changed_pfs call) (add_version (own_id call) tree) (λ s. refl) has (λ same. (has.role, has.endless)) in
     new_cases (λ (v : Volume). HasOpen v pfs) call (versioned call) call.command once
-    (λ shared. record { system = once.system; found = still_found (versioned call).systems (new_master (new_pfs call.volume) shared ((own_id call, root_tree) ∷ [])) once.system pfs once.found; role = once.role; endless = once.endless })
-    (λ shared. record { system = once.system; found = still_found (versioned call).systems (new_slave (new_pfs call.volume) shared) once.system pfs once.found; role = once.role; endless = once.endless })
+    (λ shared. record {
+      system = once.system;
+      found = still_found (versioned call).systems
+          (new_master (new_pfs call.volume) shared ((own_id call, root_tree) ∷ [])) once.system pfs once.found;
+      role = once.role;
+      endless = once.endless;
+    })
+    (λ shared. record {
+      system = once.system;
+      found = still_found (versioned call).systems (new_slave (new_pfs call.volume) shared) once.system pfs
+          once.found;
+      role = once.role;
+      endless = once.endless;
+    })
 
 -- over an accepted call
 open_accepted : (state : State) (event : Event) (pfs : ℕ) → state.volume.last + 1 ≤ open_end → HasOpen state.volume pfs →
@@ -115,12 +130,15 @@ open_accepted state event pfs drawn has =
     let low : greatest (kept_ids call) ≤ own_id call = kept_low call has.system found has.role in
     (has.role, open_cut has.system.retention (kept_ids call) (greatest (kept_ids call)) (omega (arith, low, drawn)) has.endless)))
     (open_changed state.volume pfs a (present_only (own_id call))
-    (λ s. by_role (λ (t : PseudoFileSystem). t.number ≡ s.number) (retaining (cut s.retention [] (own_id call)) s) (retaining (cut s.retention (s.sync_end ∷ []) (2 ^ 64)) s) s.role refl refl)
+    (λ s. by_role (λ (t : PseudoFileSystem). t.number ≡ s.number) (retaining (cut s.retention [] (own_id call)) s)
+    (retaining (cut s.retention (s.sync_end ∷ []) (2 ^ 64)) s) s.role refl refl)
     has (λ same.
     let is : present_only (own_id call) has.system ≡ retaining (cut has.system.retention [] (own_id call)) has.system = rw has.role refl in
-    subst (λ (t : PseudoFileSystem). (t.role ≡ Master) × IsOpenEnded t.retention) (sym is) (has.role, open_cut has.system.retention [] (own_id call) drawn has.endless)))
+    subst (λ (t : PseudoFileSystem). (t.role ≡ Master) × IsOpenEnded t.retention) (sym is)
+    (has.role, open_cut has.system.retention [] (own_id call) drawn has.endless)))
     (λ other. has)
-    (open_changed state.volume pfs a (with_origin (fed_from (origin_of state.volume a) (stream_origin (next_stream state.streams)))) (λ s. refl) has (λ same. (has.role, has.endless)))
+    (open_changed state.volume pfs a (with_origin (fed_from (origin_of state.volume a) (stream_origin (next_stream state.streams)))) (λ s. refl) has
+    (λ same. (has.role, has.endless)))
     (open_changed state.volume pfs b (with_origin (fed_from (origin_of state.volume b) (Local a))) (λ s. refl) has (λ same. (has.role, has.endless)))
     (by (is_tree_call call.command))
   where
@@ -133,7 +151,13 @@ open_event : (state : State) (event : Event) (pfs : ℕ) → IsUnfed state pfs �
     HasOpen (after_event state event).volume pfs
 open_event state event pfs unfed drawn has =
     let whole : HasOpen (effect state event).volume pfs = effect_cases (λ (s : State). HasOpen s.volume pfs) state event event.entry.call has
-    (λ opening. record { system = has.system; found = ended_system state opening event.entry.reply pfs unfed ∙ has.found; role = has.role; endless = has.endless })
+    (λ opening. record {
+      system = has.system;
+      found = ended_system state opening event.entry.reply pfs unfed ∙ has.found;
+      role = has.role;
+      endless =
+          has.endless;
+    })
     (open_accepted state event pfs drawn has) in
     record { system = whole.system; found = whole.found; role = whole.role; endless = whole.endless }
 
@@ -149,13 +173,21 @@ open_history run before (e ∷ es) pfs legal master has =
     let next : HasOpen (after_event state e).volume pfs = open_event state e pfs unfed drawn has in
     let pushed : state_after run (before ++ e ∷ []) ≡ after_event state e = after_events-push (opening_state run.opening run.foreigners) before e in
     let together : (before ++ e ∷ []) ++ es ≡ before ++ e ∷ es = append_assoc before (e ∷ []) es in
-    rw (← together) (open_history run (before ++ e ∷ []) es pfs (rw together legal) (master_later run before e es pfs master) (subst (λ (s : State). HasOpen s.volume pfs) (sym pushed) next))
+    rw (← together) (open_history run (before ++ e ∷ []) es pfs (rw together legal) (master_later run before e es pfs master)
+    (subst (λ (s : State). HasOpen s.volume pfs) (sym pushed) next))
 
 pub open-later : (run : Setting) (before rest : List Event) (pfs : ℕ) → IsLegal run (before ++ rest) → IsMasterFrom run before rest pfs →
     IsOpenEnded (retention_of (state_after run before).volume pfs) → IsOpenEnded (retention_of (state_after run (before ++ rest)).volume pfs)
 open-later run before rest pfs legal master endless =
     let steady : IsSteadyMaster (state_after run before) pfs = rw append-nil at (master [] rest refl) in
-    let has : HasOpen (state_after run before).volume pfs = record { system = steady.system; found = steady.found; role = steady.master; endless = rw (retention_found (state_after run before).volume pfs steady.system steady.found) at endless } in
+    let has : HasOpen (state_after run before).volume pfs =
+    record {
+      system = steady.system;
+      found = steady.found;
+      role = steady.master;
+      endless =
+          rw (retention_found (state_after run before).volume pfs steady.system steady.found) at endless;
+    } in
     let later : HasOpen (state_after run (before ++ rest)).volume pfs = open_history run before rest pfs legal master has in
     rw (retention_found (state_after run (before ++ rest)).volume pfs later.system later.found) later.endless
 
@@ -164,7 +196,9 @@ pub open-made : (run : Setting) (before : List Event) (event : Event) (path : Te
 open-made run before event path shared makes =
     let state : State = state_after run before in
     let pfs : ℕ = new_pfs state.volume in
-    let all : IsOpenEnded ((1, open_end) ∷ []) = record { intervals = (record { above = omega arith; ordered = omega arith; bounded = omega arith }, tt); kept = inl (omega arith, omega arith) } in
+    let all : IsOpenEnded ((1, open_end) ∷ []) =
+    record { intervals = (record { above = omega arith; ordered = omega arith; bounded = omega arith }, tt); kept = inl (omega arith, omega arith) } in
     let found : retention_of (after_event state event).volume pfs ≡ (1, open_end) ∷ [] =
-    retention_found (after_event state event).volume pfs (new_master pfs shared ((state.volume.last + 1, root_tree) ∷ [])) (made_master state event path shared makes) in
+    retention_found (after_event state event).volume pfs (new_master pfs shared ((state.volume.last + 1, root_tree) ∷ []))
+    (made_master state event path shared makes) in
     subst (λ (s : State). IsOpenEnded (retention_of s.volume pfs)) (sym (state_pushed run before event)) (rw found all)

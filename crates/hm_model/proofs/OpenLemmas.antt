@@ -48,16 +48,22 @@ there_accepted state call pfs same there =
 there_changed : (volume : Volume) (pfs other : ℕ) (f : PseudoFileSystem → PseudoFileSystem) → KeepsNumber f → IsThere volume pfs →
     IsThere (of_pfs volume other f) pfs
 there_changed volume pfs other f keeps there = elim (same_or_not other pfs) [
-  | inl same ↦ (f there.0, rw same (found-changed pfs f volume.systems keeps ∙ ap (λ (x : Option PseudoFileSystem). option_map_or (λ (y : PseudoFileSystem). Some (f y)) x None) there.1))
+  | inl same ↦ (
+    f there.0,
+    rw same (found-changed pfs f volume.systems keeps
+        ∙ ap (λ (x : Option PseudoFileSystem). option_map_or (λ (y : PseudoFileSystem). Some (f y)) x None) there.1),
+  )
   | inr differ ↦ (there.0, found-other pfs other f volume.systems keeps differ ∙ there.1)
 ]
 
 there_end : (volume : Volume) (reply : Reply) (o : OpenCall) (pfs : ℕ) → IsThere volume pfs → IsThere (end_effect volume reply o) pfs
 there_end volume reply o pfs there =
-    end_by (λ (v : Volume). IsThere v pfs) volume reply o o.command refl there (λ from into limit is. pass) (λ into is. write (nothing_merged reply)) (λ path is. upgrade_by (λ (v : Volume). IsThere v pfs) volume o reply there (there_changed volume pfs o.pfs upgraded (λ x. refl) there))
+    end_by (λ (v : Volume). IsThere v pfs) volume reply o o.command refl there (λ from into limit is. pass) (λ into is. write (nothing_merged reply))
+    (λ path is. upgrade_by (λ (v : Volume). IsThere v pfs) volume o reply there (there_changed volume pfs o.pfs upgraded (λ x. refl) there))
   where
     pass : IsThere (end_of_pass volume o reply) pfs
-    pass = pass_by (λ (v : Volume). IsThere v pfs) volume o reply there (λ begin end told. there_changed volume pfs o.pfs (after_pass (given_in volume o) begin.0 end.0) (λ x. refl) there)
+    pass = pass_by (λ (v : Volume). IsThere v pfs) volume o reply there
+        (λ begin end told. there_changed volume pfs o.pfs (after_pass (given_in volume o) begin.0 end.0) (λ x. refl) there)
 
     write : (test : Bool) → IsThere (if test then of_pfs volume o.pfs (with_origin o.origin) else end_of_pass volume o reply) pfs
     write true = there_changed volume pfs o.pfs (with_origin o.origin) (λ x. refl) there
@@ -87,7 +93,8 @@ orderly_accepted state call same alone orderly =
           λ writes.
               let also : rewrites call.command ≡ true = rw (← new.2) writes in
               let here : IsThere state.volume new.0.pfs =
-              rw (new.3 also) (subst (λ (v : Volume). IsThere v (written_site call.command (first_site call) (second_site call)).at.pfs) same (written_there call call.command also (subst (λ (v : Volume). IsThere v 0) (sym same) orderly.root))) in
+              rw (new.3 also) (subst (λ (v : Volume). IsThere v (written_site call.command (first_site call) (second_site call)).at.pfs) same
+              (written_there call call.command also (subst (λ (v : Volume). IsThere v 0) (sym same) orderly.root))) in
               stays new.0.pfs here,
           still,
         ),
@@ -117,18 +124,22 @@ orderly_event known state event numbers agrees early orderly =
     record { root = whole.root; named = whole.named; one = whole.one }
   where
     call : (test : Bool) → is_refusal event.entry.reply ≡ test →
-        IsOrderly (if test then state else accepted_effect state (call_of no_hash state event)).volume (if test then state else accepted_effect state (call_of no_hash state event)).opened
+        IsOrderly (if test then state else accepted_effect state (call_of no_hash state event)).volume
+        (if test then state else accepted_effect state (call_of no_hash state event)).opened
     call true is = orderly
     call false is =
-        orderly_accepted state (call_of no_hash state event) refl (λ pass. none_busy state.opened (rw agrees.opened at (accepted_alone known event numbers early is pass))) orderly
+        orderly_accepted state (call_of no_hash state event) refl
+        (λ pass. none_busy state.opened (rw agrees.opened at (accepted_alone known event numbers early is pass))) orderly
 
     by : (test : Bool) → is_ending event.entry.call ≡ test → IsOrderly (effect state event).volume (effect state event).opened
     by true is =
         let named = opening_of event.entry.call is in
-        subst (λ (s : State). IsOrderly s.volume s.opened) (sym (effect-ending state event named.0 named.1)) (orderly_ended state named.0.0 event.entry.reply orderly)
+        subst (λ (s : State). IsOrderly s.volume s.opened) (sym (effect-ending state event named.0 named.1))
+        (orderly_ended state named.0.0 event.entry.reply orderly)
     by false is =
         let goes : effect state event ≡ (if is_refusal event.entry.reply then state else accepted_effect state (call_of no_hash state event)) =
-        not_ending (λ opening. ended state opening.0 event.entry.reply) (if is_refusal event.entry.reply then state else accepted_effect state (call_of no_hash state event)) event.entry.call is in
+        not_ending (λ opening. ended state opening.0 event.entry.reply)
+        (if is_refusal event.entry.reply then state else accepted_effect state (call_of no_hash state event)) event.entry.call is in
         subst (λ (s : State). IsOrderly s.volume s.opened) (sym goes) (call (is_refusal event.entry.reply) refl)
 
 -- what holds after a beginning of a legal history: what is known agrees, and the open calls are orderly

@@ -22,7 +22,8 @@ abbrev pub AreBelow : ℕ → List Line → Type 0
 AreBelow number lines = (line : Line) → Contains lines line → line.number < number
 
 -- one more text, which is a remark
-pub ReadsFrom-remark : (n : ℕ) (texts : List (List ℕ)) (lines : List Line) (text : List ℕ) → ReadsFrom n texts lines → IsTrue (is_remark text) → ReadsFrom n (texts ++ text ∷ []) lines
+pub ReadsFrom-remark : (n : ℕ) (texts : List (List ℕ)) (lines : List Line) (text : List ℕ) → ReadsFrom n texts lines → IsTrue (is_remark text) →
+    ReadsFrom n (texts ++ text ∷ []) lines
 ReadsFrom-remark n [] [] text read remark = (remark, tt)
 ReadsFrom-remark n [] (l ∷ ls) text read remark = absurd read
 ReadsFrom-remark n (t ∷ ts) [] text read remark =
@@ -36,7 +37,8 @@ next_number : (n : ℕ) (t : List ℕ) (ts : List (List ℕ)) → n + length (t 
 next_number n t ts = omega arith
 
 -- one more text, which is a line
-pub ReadsFrom-line : (n : ℕ) (texts : List (List ℕ)) (lines : List Line) (text : List ℕ) (line : Line) → ReadsFrom n texts lines → Reads (n + length texts) text (Some line) → ReadsFrom n (texts ++ text ∷ []) (lines ++ line ∷ [])
+pub ReadsFrom-line : (n : ℕ) (texts : List (List ℕ)) (lines : List Line) (text : List ℕ) (line : Line) → ReadsFrom n texts lines →
+    Reads (n + length texts) text (Some line) → ReadsFrom n (texts ++ text ∷ []) (lines ++ line ∷ [])
 ReadsFrom-line n [] [] text line read here =
     let same : n + length (let none : List (List ℕ) = [] in none) ≡ n = omega arith in
     inr (rw same at here, tt)
@@ -87,22 +89,27 @@ none_of n (e ∷ es) below =
     let no : eqb e.line n ≡ false = grind (arith, nat_tests, below.0) in rw no (none_of n es below.1)
 
 -- the entries have the numbers of their lines
-entries_below : (opening : Volume) (lines : List Line) (history : List Entry) (n : ℕ) → Answers opening lines history → AreBelow n lines → (e : Entry) → Contains history e → e.line < n
+entries_below : (opening : Volume) (lines : List Line) (history : List Entry) (n : ℕ) → Answers opening lines history → AreBelow n lines → (e : Entry) →
+    Contains history e → e.line < n
 entries_below opening lines history n so_far below e has =
     let owner = so_far.owned e has in omega (arith, below owner.0 owner.1, owner.2.number)
 
 -- a new line has no entry yet
-none_yet : (opening : Volume) (lines : List Line) (history : List Entry) (n : ℕ) → Answers opening lines history → AreBelow n lines → filter (answers n) history ≡ []
+none_yet : (opening : Volume) (lines : List Line) (history : List Entry) (n : ℕ) → Answers opening lines history → AreBelow n lines →
+    filter (answers n) history ≡ []
 none_yet opening lines history n so_far below =
     let P : Entry → Type 0 = λ e. e.line < n in
-    none_of n history (recursion_from_All P history (λ k d within. entries_below opening lines history n so_far below _ (All-contains_itself history k d within)))
+    none_of n history (recursion_from_All P history
+    (λ k d within. entries_below opening lines history n so_far below _ (All-contains_itself history k d within)))
 
 -- the one entry of a new line
-own_entry : (opening : Volume) (lines : List Line) (history : List Entry) (e : Entry) → Answers opening lines history → AreBelow e.line lines → filter (answers e.line) (history ++ e ∷ []) ≡ e ∷ []
+own_entry : (opening : Volume) (lines : List Line) (history : List Entry) (e : Entry) → Answers opening lines history → AreBelow e.line lines →
+    filter (answers e.line) (history ++ e ∷ []) ≡ e ∷ []
 own_entry opening lines history e so_far below =
     let own : eqb e.line e.line ≡ true = grind (arith, nat_tests) in
     let one : filter (answers e.line) (e ∷ []) ≡ e ∷ [] = rw own refl in
-    filter-append (answers e.line) history (e ∷ []) ∙ (ap (λ es. es ++ filter (answers e.line) (e ∷ [])) (none_yet opening lines history e.line so_far below) ∙ one)
+    filter-append (answers e.line) history (e ∷ [])
+    ∙ (ap (λ es. es ++ filter (answers e.line) (e ∷ [])) (none_yet opening lines history e.line so_far below) ∙ one)
 
 -- the last id does not fall
 last_rises : (volume : Volume) (es : List Entry) → Steps volume es → volume.last ≤ (after volume es).last
@@ -132,7 +139,9 @@ Answers-none opening = record {
 }
 
 -- the ids stay in order
-in_order-entered : (opening : Volume) (lines : List Line) (history : List Entry) (e : Entry) → Answers opening lines history → IsLegal opening history → MayFollow opening history e → AreBelow e.line lines → (a b : Entry) → Contains (history ++ e ∷ []) a → Contains (history ++ e ∷ []) b → a.line < b.line → a.id.0 < b.id.0
+in_order-entered : (opening : Volume) (lines : List Line) (history : List Entry) (e : Entry) → Answers opening lines history → IsLegal opening history →
+    MayFollow opening history e → AreBelow e.line lines → (a b : Entry) → Contains (history ++ e ∷ []) a → Contains (history ++ e ∷ []) b →
+    a.line < b.line → a.id.0 < b.id.0
 in_order-entered opening lines history e so_far legal follows below a b has_a has_b before =
     elim (Contains-append_cases history (e ∷ []) a has_a) [
       | inl old_a ↦ elim (Contains-append_cases history (e ∷ []) b has_b) [
@@ -146,14 +155,16 @@ in_order-entered opening lines history e so_far legal follows below a b has_a ha
           ]
     ]
 
-each_entered : (opening : Volume) (history : List Entry) (e : Entry) → MayFollow opening history e → (line : Line) → HasEntry history line ⊎ IsSpent opening history line → line.number < e.line → HasEntry (history ++ e ∷ []) line ⊎ IsSpent opening (history ++ e ∷ []) line
+each_entered : (opening : Volume) (history : List Entry) (e : Entry) → MayFollow opening history e → (line : Line) → HasEntry history line
+    ⊎ IsSpent opening history line → line.number < e.line → HasEntry (history ++ e ∷ []) line ⊎ IsSpent opening (history ++ e ∷ []) line
 each_entered opening history e follows line (inl has) below =
     inl (record { entry = has.entry; only = answers_other line.number history e (λ is. absurd (omega (arith, is, below))) ∙ has.only; own = has.own })
 each_entered opening history e follows line (inr spent) below = absurd (omega (arith, spent.greatest, follows.left))
 
 -- A line more was answered: its entry may follow the history, and its number comes after those of all
 -- lines before it.
-pub Answers-entered : (opening : Volume) (lines : List Line) (history : List Entry) (e : Entry) → Answers opening lines history → IsLegal opening history → MayFollow opening history e → AreBelow e.line lines → Answers opening (lines ++ line_of e ∷ []) (history ++ e ∷ [])
+pub Answers-entered : (opening : Volume) (lines : List Line) (history : List Entry) (e : Entry) → Answers opening lines history → IsLegal opening history →
+    MayFollow opening history e → AreBelow e.line lines → Answers opening (lines ++ line_of e ∷ []) (history ++ e ∷ [])
 Answers-entered opening lines history e so_far legal follows below =
     let P : Line → Type 0 = λ line. HasEntry (history ++ e ∷ []) line ⊎ IsSpent opening (history ++ e ∷ []) line in
     record {
@@ -176,7 +187,8 @@ Answers-entered opening lines history e so_far legal follows below =
     }
 
 -- a line more found no id left
-pub Answers-spent : (opening : Volume) (lines : List Line) (history : List Entry) (line : Line) → Answers opening lines history → (after opening history).last ≡ GREATEST_ID → AreBelow line.number lines → Answers opening (lines ++ line ∷ []) history
+pub Answers-spent : (opening : Volume) (lines : List Line) (history : List Entry) (line : Line) → Answers opening lines history →
+    (after opening history).last ≡ GREATEST_ID → AreBelow line.number lines → Answers opening (lines ++ line ∷ []) history
 Answers-spent opening lines history line so_far greatest below =
     let P : Line → Type 0 = λ l. HasEntry history l ⊎ IsSpent opening history l in
     record {
@@ -189,24 +201,28 @@ Answers-spent opening lines history line so_far greatest below =
       in_order = so_far.in_order;
     }
 
-other_texts : (lines : List Line) (history : List Entry) (e : Entry) → AllByRecursion (λ l. l.number < e.line) lines → out_text lines (history ++ e ∷ []) ≡ out_text lines history
+other_texts : (lines : List Line) (history : List Entry) (e : Entry) → AllByRecursion (λ l. l.number < e.line) lines →
+    out_text lines (history ++ e ∷ []) ≡ out_text lines history
 other_texts [] history e below = refl
 other_texts (l ∷ ls) history e below =
     rw (answers_other l.number history e (λ is. absurd (omega (arith, is, below.0))), other_texts ls history e below.1) refl
 
 -- what the lines before print stays the same
-pub out_text-before : (lines : List Line) (history : List Entry) (e : Entry) → AreBelow e.line lines → out_text lines (history ++ e ∷ []) ≡ out_text lines history
+pub out_text-before : (lines : List Line) (history : List Entry) (e : Entry) → AreBelow e.line lines →
+    out_text lines (history ++ e ∷ []) ≡ out_text lines history
 out_text-before lines history e below =
     let P : Line → Type 0 = λ l. l.number < e.line in
     other_texts lines history e (recursion_from_All P lines (λ k d within. below _ (All-contains_itself lines k d within)))
 
 -- and the line prints its entry
-pub out_text-entered : (opening : Volume) (lines : List Line) (history : List Entry) (e : Entry) → Answers opening lines history → AreBelow e.line lines → out_text (line_of e ∷ []) (history ++ e ∷ []) ≡ entry_text e
+pub out_text-entered : (opening : Volume) (lines : List Line) (history : List Entry) (e : Entry) → Answers opening lines history → AreBelow e.line lines →
+    out_text (line_of e ∷ []) (history ++ e ∷ []) ≡ entry_text e
 out_text-entered opening lines history e so_far below =
     ap (λ es. answer_lines es ++ []) (own_entry opening lines history e so_far below) ∙ (append-none (answer_lines (e ∷ [])) ∙ append-none (entry_text e))
 
 -- a line that found no id left prints so
-pub out_text-spent : (opening : Volume) (lines : List Line) (history : List Entry) (line : Line) → Answers opening lines history → AreBelow line.number lines → out_text (line ∷ []) history ≡ spent_words ++ line_feed ∷ []
+pub out_text-spent : (opening : Volume) (lines : List Line) (history : List Entry) (line : Line) → Answers opening lines history →
+    AreBelow line.number lines → out_text (line ∷ []) history ≡ spent_words ++ line_feed ∷ []
 out_text-spent opening lines history line so_far below =
     rw (none_yet opening lines history line.number so_far below, append-none (spent_words ++ line_feed ∷ [])) refl
 

@@ -16,7 +16,9 @@ use Rattle.hm_model.specs.PlainCall.{IsServed, inner_call}
 use Rattle.hm_model.specs.PlainChecks.{own_at}
 
 -- they are the same whatever the volume's size and last id
-pub own_same : (size last : ℕ) (tree : FileTree) (command : Command) (paths : List Parsed) → IsServed command → own_checks (inner_call size last tree command paths) ≡ own_at tree command (first_site (inner_call size last tree command paths)) (second_site (inner_call size last tree command paths))
+pub own_same : (size last : ℕ) (tree : FileTree) (command : Command) (paths : List Parsed) → IsServed command →
+    own_checks (inner_call size last tree command paths) ≡ own_at tree command (first_site (inner_call size last tree command paths))
+    (second_site (inner_call size last tree command paths))
 own_same size last tree (Mkdir path) paths served = refl
 own_same size last tree (Touch path) paths served = refl
 own_same size last tree (Symlink target path) paths served = refl
@@ -59,7 +61,8 @@ four_checks None None None (Some w) = refl
 four_checks None None None None = refl
 
 -- an object that was passed
-pub passed_pairs : (objects : List Obj) (number : ℕ) → list_any (λ (p : ℕ × ℕ). (p.0 == 0) && (p.1 == number)) (pairs objects) ≡ list_any (λ (o : Obj). o.0 == number) objects
+pub passed_pairs : (objects : List Obj) (number : ℕ) → list_any (λ (p : ℕ × ℕ). (p.0 == 0) && (p.1 == number)) (pairs objects) ≡ list_any
+    (λ (o : Obj). o.0 == number) objects
 passed_pairs [] number = refl
 passed_pairs (o ∷ os) number = ap (λ rest. (o.0 == number) || rest) (passed_pairs os number)
 

@@ -55,15 +55,18 @@ as_of-between t first last tree (v ∷ vs) before = elim (less_or_not v.0 first)
             rw (above, also) (as_of-between t first last tree vs before)
         | inr kept ↦
             let within : nat_le v.0 last ≡ true = grind (arith, nat_tests, kept) in
-            rw (above, within) (ap (λ (test : Bool). as_of t (if test then v.1 else tree) (versions_between first last vs)) hidden ∙ as_of-between t first last tree vs before)
+            rw (above, within) (ap (λ (test : Bool). as_of t (if test then v.1 else tree) (versions_between first last vs)) hidden
+            ∙ as_of-between t first last tree vs before)
       ]
 ]
 
 -- of versions that begin after an id, those by a later one show as all do
-as_of-up_to : (t first last : ℕ) (tree : FileTree) (versions : List (ℕ × FileTree)) → RiseFrom first versions → t ≤ last → as_of t tree (versions_between first last versions) ≡ as_of t tree versions
+as_of-up_to : (t first last : ℕ) (tree : FileTree) (versions : List (ℕ × FileTree)) → RiseFrom first versions → t ≤ last →
+    as_of t tree (versions_between first last versions) ≡ as_of t tree versions
 as_of-up_to t first last tree versions rise by = go first tree versions rise (omega arith)
   where
-    go : (least : ℕ) (tree : FileTree) (versions : List (ℕ × FileTree)) → RiseFrom least versions → first ≤ least → as_of t tree (versions_between first last versions) ≡ as_of t tree versions
+    go : (least : ℕ) (tree : FileTree) (versions : List (ℕ × FileTree)) → RiseFrom least versions → first ≤ least →
+        as_of t tree (versions_between first last versions) ≡ as_of t tree versions
     go least tree [] rise from = refl
     go least tree (v ∷ vs) rise from = elim (less_or_not last v.0) [
       | inl later ↦
@@ -78,7 +81,8 @@ as_of-up_to t first last tree versions rise by = go first tree versions rise (om
     ]
 
 -- the tree as of an id and the versions that begin after it show as all versions do
-as_of-from : (t begin first last least : ℕ) (tree : FileTree) (versions : List (ℕ × FileTree)) → RiseFrom least versions → first ≡ begin + 1 → begin ≤ t → t ≤ last → as_of t (as_of begin tree versions) (versions_between first last versions) ≡ as_of t tree versions
+as_of-from : (t begin first last least : ℕ) (tree : FileTree) (versions : List (ℕ × FileTree)) → RiseFrom least versions → first ≡ begin + 1 → begin ≤ t →
+    t ≤ last → as_of t (as_of begin tree versions) (versions_between first last versions) ≡ as_of t tree versions
 as_of-from t begin first last least tree [] rise next from by = refl
 as_of-from t begin first last least tree (v ∷ vs) rise next from by = elim (less_or_not begin v.0) [
   | inl later ↦
@@ -97,15 +101,19 @@ pub given-versions : (volume : Volume) (m id : ℕ) → (given_by volume m).tree
 given-versions volume m id = by (system_of volume m) (at-versions volume m id)
   where
     by : (found : Option PseudoFileSystem) → at volume m id ≡ as_of id no_tree (versions_in found) →
-        (option_map_or (λ (s : PseudoFileSystem). record { versions = s.versions; retention = s.retention; clear = s.clear; tree = at volume m }) found nothing_given).tree id
-        ≡ as_of id no_tree (option_map_or (λ (s : PseudoFileSystem). record { versions = s.versions; retention = s.retention; clear = s.clear; tree = at volume m }) found nothing_given).versions
+        (option_map_or (λ (s : PseudoFileSystem). record { versions = s.versions; retention = s.retention; clear = s.clear; tree = at volume m }) found
+        nothing_given).tree id
+        ≡ as_of id no_tree (option_map_or (λ (s : PseudoFileSystem).
+        record { versions = s.versions; retention = s.retention; clear = s.clear; tree = at volume m }) found nothing_given).versions
     by None is = refl
     by (Some s) is = is
 
 pub given_in-versions : (volume : Volume) (o : OpenCall) (id : ℕ) → (given_in volume o).tree id ≡ as_of id no_tree (given_in volume o).versions
-given_in-versions volume o id = by (λ (g : Given). g.tree id ≡ as_of id no_tree g.versions) o.command (from_stream o.stream.master) (given-versions volume o.master id)
+given_in-versions volume o id =
+    by (λ (g : Given). g.tree id ≡ as_of id no_tree g.versions) o.command (from_stream o.stream.master) (given-versions volume o.master id)
   where
-    from_stream : (master : Option ForeignMaster) → (option_map_or (λ (m : ForeignMaster). given_by m.volume m.master) master nothing_given).tree id ≡ as_of id no_tree (option_map_or (λ (m : ForeignMaster). given_by m.volume m.master) master nothing_given).versions
+    from_stream : (master : Option ForeignMaster) → (option_map_or (λ (m : ForeignMaster). given_by m.volume m.master) master nothing_given).tree id ≡ as_of
+        id no_tree (option_map_or (λ (m : ForeignMaster). given_by m.volume m.master) master nothing_given).versions
     from_stream None = refl
     from_stream (Some f) = given-versions f.volume f.master id
 
@@ -115,7 +123,8 @@ given_in-versions volume o id = by (λ (g : Given). g.tree id ≡ as_of id no_tr
     by P command write other = other
 
 -- a pass shows up to its begin id what the slave showed
-pub passed-before : (versions : List (ℕ × FileTree)) (given : Given) (begin end id : ℕ) → id ≤ begin → as_of id no_tree (passed_versions versions given begin end) ≡ as_of id no_tree versions
+pub passed-before : (versions : List (ℕ × FileTree)) (given : Given) (begin end id : ℕ) → id ≤ begin →
+    as_of id no_tree (passed_versions versions given begin end) ≡ as_of id no_tree versions
 passed-before versions given begin end id by =
     let shown : FileTree = as_of id no_tree (versions_to begin versions) in
     let hidden : nat_le (begin + 1) id ≡ false = grind (arith, nat_tests, by) in
@@ -125,7 +134,8 @@ passed-before versions given begin end id by =
     ∙ as_of-to id begin no_tree versions by))
 
 -- and from then on what its master has
-pub passed-after : (versions : List (ℕ × FileTree)) (given : Given) (begin end id : ℕ) → ((t : ℕ) → given.tree t ≡ as_of t no_tree given.versions) → AreRising given.versions → begin < id → id ≤ end → as_of id no_tree (passed_versions versions given begin end) ≡ given.tree id
+pub passed-after : (versions : List (ℕ × FileTree)) (given : Given) (begin end id : ℕ) → ((t : ℕ) → given.tree t ≡ as_of t no_tree given.versions) →
+    AreRising given.versions → begin < id → id ≤ end → as_of id no_tree (passed_versions versions given begin end) ≡ given.tree id
 passed-after versions given begin end id one rise after by =
     let before : FileTree = as_of id no_tree (versions_to begin versions) in
     let shown : nat_le (begin + 1) id ≡ true = grind (arith, nat_tests, after) in

@@ -42,41 +42,61 @@ front-split : (parts front : List Part) (last : Part) → parts ≡ front ++ las
 front-split parts front last split = rw split (front_of-split front last)
 
 -- the place of a new name
-pub new_at : (tree : FileTree) (parts front : List Part) (last : Part) (name : List ℕ) (w : Walk) → parts ≡ front ++ last ∷ [] → last.name ≡ Some name → EndsWalk (walk_in tree true front) w → option_map_or is_directory (object_in tree w.here) false ≡ true → locate_in tree MakesName parts ≡ At (record { at = place w.here; directory = place w.here; name = name; passed = pairs w.passed.items })
+pub new_at : (tree : FileTree) (parts front : List Part) (last : Part) (name : List ℕ) (w : Walk) → parts ≡ front ++ last ∷ [] → last.name ≡ Some name →
+    EndsWalk (walk_in tree true front) w → option_map_or is_directory (object_in tree w.here) false ≡ true →
+    locate_in tree MakesName parts ≡ At (record { at = place w.here; directory = place w.here; name = name; passed = pairs w.passed.items })
 new_at tree parts front last name w split named ends is = rw (named-split parts front last name split named, front-split parts front last split, ends, is) refl
 
-pub new_not_in : (tree : FileTree) (parts front : List Part) (last : Part) (name : List ℕ) (w : Walk) → parts ≡ front ++ last ∷ [] → last.name ≡ Some name → EndsWalk (walk_in tree true front) w → option_map_or is_directory (object_in tree w.here) false ≡ false → walks (locate_in tree MakesName parts) ≡ Some NotDir
-new_not_in tree parts front last name w split named ends is = rw (named-split parts front last name split named, front-split parts front last split, ends, is) refl
+pub new_not_in : (tree : FileTree) (parts front : List Part) (last : Part) (name : List ℕ) (w : Walk) → parts ≡ front ++ last ∷ [] → last.name ≡ Some name →
+    EndsWalk (walk_in tree true front) w → option_map_or is_directory (object_in tree w.here) false ≡ false →
+    walks (locate_in tree MakesName parts) ≡ Some NotDir
+new_not_in tree parts front last name w split named ends is =
+    rw (named-split parts front last name split named, front-split parts front last split, ends, is) refl
 
-in_directory-stops : (tree : FileTree) (name : List ℕ) (walked : Walked) (stop : Stop) → StopsWalk walked stop → LeadsNowhere (in_directory (plain_view tree) (Some name) walked) stop
+in_directory-stops : (tree : FileTree) (name : List ℕ) (walked : Walked) (stop : Stop) → StopsWalk walked stop →
+    LeadsNowhere (in_directory (plain_view tree) (Some name) walked) stop
 in_directory-stops tree name (Reaches here passed) (Refused reply) stops = absurd (cc)
 in_directory-stops tree name (Refuses other passed) (Refused reply) stops = stops
 in_directory-stops tree name walked NoMemory stops = tt
 
-pub new_stops : (tree : FileTree) (parts front : List Part) (last : Part) (name : List ℕ) (stop : Stop) → parts ≡ front ++ last ∷ [] → last.name ≡ Some name → StopsWalk (walk_in tree true front) stop → LeadsNowhere (locate_in tree MakesName parts) stop
+pub new_stops : (tree : FileTree) (parts front : List Part) (last : Part) (name : List ℕ) (stop : Stop) → parts ≡ front ++ last ∷ [] →
+    last.name ≡ Some name → StopsWalk (walk_in tree true front) stop → LeadsNowhere (locate_in tree MakesName parts) stop
 new_stops tree parts front last name stop split named stops =
     rw (named-split parts front last name split named, front-split parts front last split) (in_directory-stops tree name (walk_in tree true front) stop stops)
 
 -- the place of a name that stands there
-pub name_at : (tree : FileTree) (parts front : List Part) (last : Part) (name : List ℕ) (before whole : Walk) → parts ≡ front ++ last ∷ [] → last.name ≡ Some name → EndsWalk (walk_in tree true front) before → EndsWalk (step_in tree false last before) whole → locate_in tree TakesName parts ≡ At (record { at = place whole.here; directory = place before.here; name = name; passed = pairs before.passed.items })
+pub name_at : (tree : FileTree) (parts front : List Part) (last : Part) (name : List ℕ) (before whole : Walk) → parts ≡ front ++ last ∷ [] →
+    last.name ≡ Some name → EndsWalk (walk_in tree true front) before → EndsWalk (step_in tree false last before) whole →
+    locate_in tree TakesName parts ≡ At (record { at = place whole.here; directory = place before.here; name = name; passed = pairs before.passed.items })
 name_at tree parts front last name before whole split named ends steps =
-    rw (named-split parts front last name split named, front-split parts front last split, ends, walk_in-last tree false parts front last before split ends, steps) refl
+    rw (
+      named-split parts front last name split named,
+      front-split parts front last split,
+      ends,
+      walk_in-last tree false parts front last before split ends,
+      steps,
+    ) refl
 
 standing-stops : (name : List ℕ) (walked whole : Walked) (stop : Stop) → StopsWalk walked stop → LeadsNowhere (standing_name (Some name) walked whole) stop
 standing-stops name (Reaches here passed) whole (Refused reply) stops = absurd (cc)
 standing-stops name (Refuses other passed) whole (Refused reply) stops = stops
 standing-stops name walked whole NoMemory stops = tt
 
-pub name_stops : (tree : FileTree) (parts front : List Part) (last : Part) (name : List ℕ) (stop : Stop) → parts ≡ front ++ last ∷ [] → last.name ≡ Some name → StopsWalk (walk_in tree true front) stop → LeadsNowhere (locate_in tree TakesName parts) stop
+pub name_stops : (tree : FileTree) (parts front : List Part) (last : Part) (name : List ℕ) (stop : Stop) → parts ≡ front ++ last ∷ [] →
+    last.name ≡ Some name → StopsWalk (walk_in tree true front) stop → LeadsNowhere (locate_in tree TakesName parts) stop
 name_stops tree parts front last name stop split named stops =
-    rw (named-split parts front last name split named, front-split parts front last split) (standing-stops name (walk_in tree true front) (walk_in tree false parts) stop stops)
+    rw (named-split parts front last name split named, front-split parts front last split)
+    (standing-stops name (walk_in tree true front) (walk_in tree false parts) stop stops)
 
-standing-ends : (name : List ℕ) (here : Position) (passed : List (ℕ × ℕ)) (whole : Walked) (stop : Stop) → StopsWalk whole stop → LeadsNowhere (standing_name (Some name) (Reaches here passed) whole) stop
+standing-ends : (name : List ℕ) (here : Position) (passed : List (ℕ × ℕ)) (whole : Walked) (stop : Stop) → StopsWalk whole stop →
+    LeadsNowhere (standing_name (Some name) (Reaches here passed) whole) stop
 standing-ends name here passed (Reaches there more) (Refused reply) stops = absurd (cc)
 standing-ends name here passed (Refuses other more) (Refused reply) stops = stops
 standing-ends name here passed whole NoMemory stops = tt
 
-pub name_ends : (tree : FileTree) (parts front : List Part) (last : Part) (name : List ℕ) (before : Walk) (stop : Stop) → parts ≡ front ++ last ∷ [] → last.name ≡ Some name → EndsWalk (walk_in tree true front) before → StopsWalk (step_in tree false last before) stop → LeadsNowhere (locate_in tree TakesName parts) stop
+pub name_ends : (tree : FileTree) (parts front : List Part) (last : Part) (name : List ℕ) (before : Walk) (stop : Stop) → parts ≡ front ++ last ∷ [] →
+    last.name ≡ Some name → EndsWalk (walk_in tree true front) before → StopsWalk (step_in tree false last before) stop →
+    LeadsNowhere (locate_in tree TakesName parts) stop
 name_ends tree parts front last name before stop split named ends stops =
     rw (named-split parts front last name split named, front-split parts front last split, ends, walk_in-last tree false parts front last before split ends)
     (standing-ends name (place before.here) (pairs before.passed.items) (step_in tree false last before) stop stops)

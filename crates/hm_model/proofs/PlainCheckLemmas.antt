@@ -49,10 +49,12 @@ pub or_false : (a b : Bool) → (a || b) ≡ false → (a ≡ false) × (b ≡ f
 or_false false b none = (refl, none)
 or_false true b none = absurd (cc)
 
-parts_above : (last : ℕ) (parts : List Part) → list_any (λ (part : Part). option_map_or (λ (i : Id). true) part.as_of false) parts ≡ false → list_any (is_above last) parts ≡ false
+parts_above : (last : ℕ) (parts : List Part) → list_any (λ (part : Part). option_map_or (λ (i : Id). true) part.as_of false) parts ≡ false →
+    list_any (is_above last) parts ≡ false
 parts_above last [] none = refl
 parts_above last (part ∷ parts) none =
-    let both = or_false (option_map_or (λ (i : Id). true) part.as_of false) (list_any (λ (p : Part). option_map_or (λ (i : Id). true) p.as_of false) parts) none in
+    let both = or_false (option_map_or (λ (i : Id). true) part.as_of false) (list_any (λ (p : Part). option_map_or (λ (i : Id). true) p.as_of false) parts)
+    none in
     rw (any_above last part.as_of both.0, parts_above last parts both.1) refl
 
 no_future_now : (last : ℕ) (path : Parsed) → has_id path ≡ false → no_future last path ≡ None
@@ -77,7 +79,9 @@ past_is_new : (command : Command) (paths : List Parsed) → list_any has_id path
 past_is_new command paths none = rw (none, and_false (is_tree_call command || is_pfs_call command)) refl
 
 -- all checks before the walks pass where the paths are good
-pub early_pass : (size last : ℕ) (tree : FileTree) (command : Command) (paths : List Parsed) → IsServed command → last < GREATEST_ID → list_any has_id paths ≡ false → first_refusal (good_paths (uses_of command) paths) ≡ None → first_refusal (ids_left (inner_call size last tree command paths) ∷ early_checks last None command paths) ≡ None
+pub early_pass : (size last : ℕ) (tree : FileTree) (command : Command) (paths : List Parsed) → IsServed command → last < GREATEST_ID →
+    list_any has_id paths ≡ false → first_refusal (good_paths (uses_of command) paths) ≡ None →
+    first_refusal (ids_left (inner_call size last tree command paths) ∷ early_checks last None command paths) ≡ None
 early_pass size last tree command paths served less none good =
     rw (ids_are_left last less, none_is_open command)
     (first_none (good_paths (uses_of command) paths ++ map (no_future last) paths) (no_future_begin last command ∷ past_stays command paths ∷ [])
@@ -85,7 +89,9 @@ early_pass size last tree command paths served less none good =
     ∙ (rw (no_begin last command served, past_is_new command paths none) refl))
 
 -- and the first bad path is told where one is bad
-pub early_fail : (size last : ℕ) (tree : FileTree) (command : Command) (paths : List Parsed) (reply : Reply) → last < GREATEST_ID → first_refusal (good_paths (uses_of command) paths) ≡ Some reply → first_refusal (ids_left (inner_call size last tree command paths) ∷ early_checks last None command paths) ≡ Some reply
+pub early_fail : (size last : ℕ) (tree : FileTree) (command : Command) (paths : List Parsed) (reply : Reply) → last < GREATEST_ID →
+    first_refusal (good_paths (uses_of command) paths) ≡ Some reply →
+    first_refusal (ids_left (inner_call size last tree command paths) ∷ early_checks last None command paths) ≡ Some reply
 early_fail size last tree command paths reply less bad =
     rw (ids_are_left last less, none_is_open command)
     (first_some (good_paths (uses_of command) paths ++ map (no_future last) paths) (no_future_begin last command ∷ past_stays command paths ∷ []) reply

@@ -55,7 +55,8 @@ with_le new (old ∷ more) = elim (less_or_not (new.1 + 1) old.0) [
     | inr close ↦
         let no : nat_lt (new.1 + 1) old.0 ≡ false = grind (arith, nat_tests, near) in
         let also : nat_lt (old.1 + 1) new.0 ≡ false = grind (arith, nat_tests, close) in
-        rw (no, also) (let rest : length (with_interval (min new.0 old.0, max new.1 old.1) more) ≤ length more + 1 = with_le (min new.0 old.0, max new.1 old.1) more in omega (arith, rest))
+        rw (no, also) (let rest : length (with_interval (min new.0 old.0, max new.1 old.1) more) ≤ length more + 1 =
+        with_le (min new.0 old.0, max new.1 old.1) more in omega (arith, rest))
   ]
 ]
 
@@ -95,7 +96,8 @@ single_one list id = by (list_any (holds id) list) refl
 -- what `prune-everything` leaves is small
 present_small : (id : ℕ) (s : PseudoFileSystem) → length s.retention ≤ MOST_INTERVALS → length (present_only id s).retention ≤ MOST_INTERVALS
 present_small id s small =
-    by_role (λ (t : PseudoFileSystem). length t.retention ≤ MOST_INTERVALS) (retaining (cut s.retention [] id) s) (retaining (cut s.retention (s.sync_end ∷ []) (2 ^ 64)) s) s.role
+    by_role (λ (t : PseudoFileSystem). length t.retention ≤ MOST_INTERVALS) (retaining (cut s.retention [] id) s)
+    (retaining (cut s.retention (s.sync_end ∷ []) (2 ^ 64)) s) s.role
     (let a : length (cut s.retention [] id) ≤ length (within id open_end s.retention) = maximal_le (within id open_end s.retention) in
     let b : length (within id open_end s.retention) ≤ length s.retention = within_le id open_end s.retention in
     omega (arith, a, b, small))
@@ -198,11 +200,13 @@ small_accepted state event (Prune path) is fits small =
     let few : pruned_count call ≤ MOST_INTERVALS =
     rw (sym (same_count call name_hash)) (prune_passes event.entry.call path (call_of name_hash state event) is fits) in
     small_changed state.volume (first_site call).at.pfs (λ s. retaining (pruned s.retention (kept_ids call)) s) (λ s. refl) small (λ s found.
-    subst (λ (n : ℕ). n ≤ MOST_INTERVALS) (ap (λ (x : Option PseudoFileSystem). option_map_or (λ (t : PseudoFileSystem). length (pruned t.retention (kept_ids call))) x 0) found) few)
+    subst (λ (n : ℕ). n ≤ MOST_INTERVALS) (ap
+    (λ (x : Option PseudoFileSystem). option_map_or (λ (t : PseudoFileSystem). length (pruned t.retention (kept_ids call))) x 0) found) few)
 small_accepted state event (PruneAll path) is fits small =
     let call : Call = call_of no_hash state event in
     small_changed state.volume (first_site call).at.pfs (present_only (own_id call))
-    (λ s. by_role (λ (t : PseudoFileSystem). t.number ≡ s.number) (retaining (cut s.retention [] (own_id call)) s) (retaining (cut s.retention (s.sync_end ∷ []) (2 ^ 64)) s) s.role refl refl)
+    (λ s. by_role (λ (t : PseudoFileSystem). t.number ≡ s.number) (retaining (cut s.retention [] (own_id call)) s)
+    (retaining (cut s.retention (s.sync_end ∷ []) (2 ^ 64)) s) s.role refl refl)
     small (λ s found. present_small (own_id call) s (small (first_site call).at.pfs s found))
 small_accepted state event (Reblock fill) is fits small = small
 small_accepted state event (PfsUpgrade path) is fits small = small
@@ -212,7 +216,8 @@ small_accepted state event (MirrorWrite path) is fits small =
     small_same state.volume pfs (with_origin (fed_from (origin_of state.volume pfs) (stream_origin (next_stream state.streams)))) (λ s. refl) (λ s. refl) small
 small_accepted state event (MirrorCopy master slave limit) is fits small =
     let pfs : ℕ = (second_site (call_of no_hash state event)).at.pfs in
-    small_same state.volume pfs (with_origin (fed_from (origin_of state.volume pfs) (Local (first_site (call_of no_hash state event)).at.pfs))) (λ s. refl) (λ s. refl) small
+    small_same state.volume pfs (with_origin (fed_from (origin_of state.volume pfs) (Local (first_site (call_of no_hash state event)).at.pfs))) (λ s. refl)
+    (λ s. refl) small
 small_accepted state event command is fits small = by (is_tree_call command)
   where
     by : (test : Bool) → AreSmall (if test then on_volume state (change (call_of no_hash state event)) else state).volume
@@ -232,7 +237,8 @@ join_small volume o ending begin end s merging passed found =
     let count : gained_count volume o end ≡ joined_count volume o end =
     ap (λ (test : Bool). if test then 0 else joined_count volume o end) (merges_not o.command merging) in
     let some : joined_count volume o end ≡ length (join s.retention (given_in volume o).retention (begin_of volume o) end) =
-    ap (λ (x : Option PseudoFileSystem). option_map_or (λ (t : PseudoFileSystem). length (join t.retention (given_in volume o).retention (begin_of volume o) end)) x 0) found in
+    ap (λ (x : Option PseudoFileSystem). option_map_or
+    (λ (t : PseudoFileSystem). length (join t.retention (given_in volume o).retention (begin_of volume o) end)) x 0) found in
     let few : length (join s.retention (given_in volume o).retention (begin_of volume o) end) ≤ MOST_INTERVALS = omega (arith, passed.fits, count, some) in
     subst (λ (b : ℕ). length (join s.retention (given_in volume o).retention b end) ≤ MOST_INTERVALS) (sym passed.begins) few
 
@@ -241,7 +247,9 @@ small_end : (run : Setting) (before : List Event) (event : Event) (opening : Id)
     AreSmall (end_effect (state_after run before).volume event.entry.reply o)
 small_end run before event opening o follows call found small =
     end_by AreSmall volume reply o o.command refl small (λ from into limit is. pass (ap merges is)) (λ into is. write (ap merges is) (nothing_merged reply))
-    (λ path is. upgrade_by AreSmall volume o reply small (small_changed volume o.pfs upgraded (λ s. refl) small (λ s there. subst (λ (n : ℕ). n ≤ MOST_INTERVALS) (sym (opened_length s.retention)) (small o.pfs s there))))
+    (λ path is. upgrade_by AreSmall volume o reply small
+    (small_changed volume o.pfs upgraded (λ s. refl) small
+    (λ s there. subst (λ (n : ℕ). n ≤ MOST_INTERVALS) (sym (opened_length s.retention)) (small o.pfs s there))))
   where
     volume : Volume
     volume = (state_after run before).volume
@@ -251,12 +259,15 @@ small_end run before event opening o follows call found small =
 
     pass : merges o.command ≡ true → AreSmall (end_of_pass (state_after run before).volume o event.entry.reply)
     pass merging = pass_by AreSmall (state_after run before).volume o event.entry.reply small (λ begin end told.
-        small_changed (state_after run before).volume o.pfs (after_pass (given_in (state_after run before).volume o) begin.0 end.0) (λ s. refl) small (λ s there.
-        let ends : EndsPass (state_after run before) event o begin end = record { opening = opening; call = call; reply = told; found = found; pass = merging } in
+        small_changed (state_after run before).volume o.pfs (after_pass (given_in (state_after run before).volume o) begin.0 end.0) (λ s. refl) small
+        (λ s there.
+        let ends : EndsPass (state_after run before) event o begin end =
+        record { opening = opening; call = call; reply = told; found = found; pass = merging } in
         join_small (state_after run before).volume o event.entry.id.0 begin.0 end.0 s merging (passed_legal run before event o begin end follows ends) there))
 
     write : merges o.command ≡ true → (test : Bool) →
-        AreSmall (if test then of_pfs (state_after run before).volume o.pfs (with_origin o.origin) else end_of_pass (state_after run before).volume o event.entry.reply)
+        AreSmall (if test then of_pfs (state_after run before).volume o.pfs (with_origin o.origin)
+        else end_of_pass (state_after run before).volume o event.entry.reply)
     write merging true = small_same (state_after run before).volume o.pfs (with_origin o.origin) (λ s. refl) (λ s. refl) small
     write merging false = pass merging
 
@@ -285,10 +296,15 @@ small_event run before event follows small = by (is_ending event.entry.call) ref
     by : (test : Bool) → is_ending event.entry.call ≡ test → AreSmall (effect (state_after run before) event).volume
     by true is =
         let named = opening_of event.entry.call is in
-        subst (λ (s : State). AreSmall s.volume) (sym (effect-ending (state_after run before) event named.0 named.1)) (small_ended run before event named.0 follows named.1 small)
+        subst (λ (s : State). AreSmall s.volume) (sym (effect-ending (state_after run before) event named.0 named.1))
+        (small_ended run before event named.0 follows named.1 small)
     by false is =
-        let goes : effect (state_after run before) event ≡ (if is_refusal event.entry.reply then state_after run before else accepted_effect (state_after run before) (call_of no_hash (state_after run before) event)) =
-        not_ending (λ opening. ended (state_after run before) opening.0 event.entry.reply) (if is_refusal event.entry.reply then state_after run before else accepted_effect (state_after run before) (call_of no_hash (state_after run before) event)) event.entry.call is in
+        let goes : effect (state_after run before) event
+        ≡ (if is_refusal event.entry.reply then state_after run before
+        else accepted_effect (state_after run before) (call_of no_hash (state_after run before) event)) =
+        not_ending (λ opening. ended (state_after run before) opening.0 event.entry.reply)
+        (if is_refusal event.entry.reply then state_after run before
+        else accepted_effect (state_after run before) (call_of no_hash (state_after run before) event)) event.entry.call is in
         subst (λ (s : State). AreSmall s.volume) (sym goes) (call (is_refusal event.entry.reply) refl)
 
 small_history : (run : Setting) (before es : List Event) → IsLegal run (before ++ es) → AreSmall (state_after run before).volume →

@@ -25,10 +25,12 @@ Follows m s t (Foreign k) = Unit {0}
 Follows m s t Mixed = Unit {0}
 
 -- it still says so later
-pub follows_later : (last m : ℕ) (s u t v : PseudoFileSystem) → Ages last s u → Ages last t v → s.sync_end ≤ last → (origin : Origin) → Follows m s t origin → Follows m u v origin
+pub follows_later : (last m : ℕ) (s u t v : PseudoFileSystem) → Ages last s u → Ages last t v → s.sync_end ≤ last → (origin : Origin) →
+    Follows m s t origin → Follows m u v origin
 follows_later last m s u t v slave master drawn Nowhere follows = λ id kept. follows id (slave.keeps id kept)
 follows_later last m s u t v slave master drawn (Local n) follows = λ same id by kept also.
-    slave.trees id (omega (arith, slave.sync, by)) ∙ (follows same id (omega (arith, slave.sync, by)) (slave.keeps id kept) (master.keeps id also) ∙ sym (master.trees id (omega (arith, slave.sync, by))))
+    slave.trees id (omega (arith, slave.sync, by))
+    ∙ (follows same id (omega (arith, slave.sync, by)) (slave.keeps id kept) (master.keeps id also) ∙ sym (master.trees id (omega (arith, slave.sync, by))))
 follows_later last m s u t v slave master drawn (Foreign k) follows = tt
 follows_later last m s u t v slave master drawn Mixed follows = tt
 
@@ -147,8 +149,10 @@ aged_source P last s u ages fed same = elim ages.source [
 ]
 
 -- it says the same after another call
-pub fed_later : (a last m : ℕ) (s u t v : PseudoFileSystem) (before : Origin) (command : Command) → Ages last s u → Ages last t v → s.sync_end ≤ last → FedAs a m s t before command → FedAs a m u v before command
-fed_later a last m s u t v before (MirrorCopy from into limit) slave master drawn is = aged_source (IsSource a) last s u slave (λ fed. source_fed a s.origin fed is) is
+pub fed_later : (a last m : ℕ) (s u t v : PseudoFileSystem) (before : Origin) (command : Command) → Ages last s u → Ages last t v → s.sync_end ≤ last →
+    FedAs a m s t before command → FedAs a m u v before command
+fed_later a last m s u t v before (MirrorCopy from into limit) slave master drawn is =
+    aged_source (IsSource a) last s u slave (λ fed. source_fed a s.origin fed is) is
 fed_later a last m s u t v before (MirrorWrite into) slave master drawn is = (
   λ role. follows_later last m s u t v slave master drawn before (is.0 (sym slave.role ∙ role)),
   aged_source IsOutside last s u slave (λ fed. outside_fed s.origin fed is.1) is.1,
@@ -161,7 +165,8 @@ FedNew a s u before (MirrorCopy from into limit) = IsSource a u.origin
 FedNew a s u before (MirrorWrite into) = (before ≡ s.origin) × IsOutside u.origin
 FedNew a s u before other = Unit {0}
 
-pub fed_new : (a m : ℕ) (s u v : PseudoFileSystem) (before : Origin) (command : Command) → FedNew a s u before command → (u.role ≡ Slave → Follows m u v s.origin) → FedAs a m u v before command
+pub fed_new : (a m : ℕ) (s u v : PseudoFileSystem) (before : Origin) (command : Command) → FedNew a s u before command →
+    (u.role ≡ Slave → Follows m u v s.origin) → FedAs a m u v before command
 fed_new a m s u v before (MirrorCopy from into limit) is follows = is
 fed_new a m s u v before (MirrorWrite into) is follows = (λ role. rw is.0 (follows role), is.1)
 fed_new a m s u v before command is follows = tt

@@ -37,22 +37,48 @@ OpenedAt state call after =
     × (rewrites call.command ≡ true → o.pfs ≡ (written_site call.command (first_site call) (second_site call)).at.pfs)
     × (o.opening ≡ own_id call))
 
-opens_other : (state after : State) (call : Call) (pfs : ℕ) (command : Command) → call.command ≡ command → rewrites command ≡ false → after.opened ≡ new_call state call pfs pfs no_feed ∷ state.opened → OpenedAt state call after
+opens_other : (state after : State) (call : Call) (pfs : ℕ) (command : Command) → call.command ≡ command → rewrites command ≡ false →
+    after.opened ≡ new_call state call pfs pfs no_feed ∷ state.opened → OpenedAt state call after
 opens_other state after call pfs command is other opened =
     inr (new_call state call pfs pfs no_feed, opened, refl, λ writes. absurd (let no_way : rewrites call.command ≡ false = ap rewrites is ∙ other in cc), refl)
 
 pub opened_at : (state : State) (call : Call) (command : Command) → call.command ≡ command →
     OpenedAt state call (accepted_effect_of state call command)
-opened_at state call (Prune path) is = opens_other state (on_volume (with_opened state call (first_site call).at.pfs (first_site call).at.pfs no_feed) (of_pfs state.volume (first_site call).at.pfs (λ s. retaining (pruned s.retention (kept_ids call)) s))) call (first_site call).at.pfs (Prune path) is refl refl
-opened_at state call (PruneAll path) is = opens_other state (on_volume (with_opened state call (first_site call).at.pfs (first_site call).at.pfs no_feed) (of_pfs state.volume (first_site call).at.pfs (present_only (own_id call)))) call (first_site call).at.pfs (PruneAll path) is refl refl
+opened_at state call (Prune path) is =
+    opens_other state (on_volume (with_opened state call (first_site call).at.pfs (first_site call).at.pfs no_feed)
+    (of_pfs state.volume (first_site call).at.pfs (λ s. retaining (pruned s.retention (kept_ids call)) s))) call (first_site call).at.pfs (Prune path) is
+    refl refl
+opened_at state call (PruneAll path) is =
+    opens_other state (on_volume (with_opened state call (first_site call).at.pfs (first_site call).at.pfs no_feed)
+    (of_pfs state.volume (first_site call).at.pfs (present_only (own_id call)))) call (first_site call).at.pfs (PruneAll path) is refl refl
 opened_at state call (Reblock fill) is = opens_other state (with_opened state call 0 0 no_feed) call 0 (Reblock fill) is refl refl
-opened_at state call (MirrorRead path begin) is = opens_other state (with_opened state call (first_site call).at.pfs (first_site call).at.pfs no_feed) call (first_site call).at.pfs (MirrorRead path begin) is refl refl
+opened_at state call (MirrorRead path begin) is =
+    opens_other state (with_opened state call (first_site call).at.pfs (first_site call).at.pfs no_feed) call (first_site call).at.pfs
+    (MirrorRead path begin) is refl refl
 opened_at state call (PfsUpgrade path) is =
-    inr (new_call state call (first_site call).at.pfs (first_site call).at.pfs no_feed, refl, refl, λ writes. sym (ap (λ (c : Command). (written_site c (first_site call) (second_site call)).at.pfs) is), refl)
+    inr (
+      new_call state call (first_site call).at.pfs (first_site call).at.pfs no_feed,
+      refl,
+      refl,
+      λ writes. sym (ap (λ (c : Command). (written_site c (first_site call) (second_site call)).at.pfs) is),
+      refl,
+    )
 opened_at state call (MirrorWrite path) is =
-    inr (new_call state call (first_site call).at.pfs (first_site call).at.pfs (next_stream state.streams), refl, refl, λ writes. sym (ap (λ (c : Command). (written_site c (first_site call) (second_site call)).at.pfs) is), refl)
+    inr (
+      new_call state call (first_site call).at.pfs (first_site call).at.pfs (next_stream state.streams),
+      refl,
+      refl,
+      λ writes. sym (ap (λ (c : Command). (written_site c (first_site call) (second_site call)).at.pfs) is),
+      refl,
+    )
 opened_at state call (MirrorCopy master slave limit) is =
-    inr (new_call state call (second_site call).at.pfs (first_site call).at.pfs no_feed, refl, refl, λ writes. sym (ap (λ (c : Command). (written_site c (first_site call) (second_site call)).at.pfs) is), refl)
+    inr (
+      new_call state call (second_site call).at.pfs (first_site call).at.pfs no_feed,
+      refl,
+      refl,
+      λ writes. sym (ap (λ (c : Command). (written_site c (first_site call) (second_site call)).at.pfs) is),
+      refl,
+    )
 opened_at state call other is = by (is_tree_call other)
   where
     by : (test : Bool) → OpenedAt state call (if test then on_volume state (change call) else state)
@@ -60,20 +86,25 @@ opened_at state call other is = by (is_tree_call other)
     by false = inl refl
 
 -- where paths lead does not hang on the hash of names
-pub same_sites : (call : Call) (hash : List ℕ → ℕ) (uses : List (Use × List ℕ)) (paths : List Parsed) → each_located (record call { hash = hash }) uses paths ≡ each_located call uses paths
+pub same_sites : (call : Call) (hash : List ℕ → ℕ) (uses : List (Use × List ℕ)) (paths : List Parsed) →
+    each_located (record call { hash = hash }) uses paths ≡ each_located call uses paths
 same_sites call hash [] paths = refl
 same_sites call hash (u ∷ uses) [] = refl
 same_sites call hash (u ∷ uses) (Parts parts ∷ paths) = rw (same_sites call hash uses paths) refl
 same_sites call hash (u ∷ uses) (BadAt place ∷ paths) = rw (same_sites call hash uses paths) refl
 
 -- open calls of which none rewrites a PFS, with one fewer
-unfed_still : (pfs opening : ℕ) (os : List OpenCall) → list_any (is_rewriter pfs) os ≡ false → list_any (is_rewriter pfs) (filter (λ (o : OpenCall). if eqb o.opening opening then false else true) os) ≡ false
+unfed_still : (pfs opening : ℕ) (os : List OpenCall) → list_any (is_rewriter pfs) os ≡ false →
+    list_any (is_rewriter pfs) (filter (λ (o : OpenCall). if eqb o.opening opening then false else true) os) ≡ false
 unfed_still pfs opening [] none = refl
 unfed_still pfs opening (o ∷ os) none =
     let both = or_false (is_rewriter pfs o) (list_any (is_rewriter pfs) os) none in
     by (eqb o.opening opening) both.0 (unfed_still pfs opening os both.1)
   where
-    by : (test : Bool) → is_rewriter pfs o ≡ false → list_any (is_rewriter pfs) (filter (λ (x : OpenCall). if eqb x.opening opening then false else true) os) ≡ false → list_any (is_rewriter pfs) (if (if test then false else true) then o ∷ filter (λ (x : OpenCall). if eqb x.opening opening then false else true) os else filter (λ (x : OpenCall). if eqb x.opening opening then false else true) os) ≡ false
+    by : (test : Bool) → is_rewriter pfs o ≡ false → list_any (is_rewriter pfs)
+        (filter (λ (x : OpenCall). if eqb x.opening opening then false else true) os) ≡ false →
+        list_any (is_rewriter pfs) (if (if test then false else true) then o ∷ filter (λ (x : OpenCall). if eqb x.opening opening then false else true) os
+        else filter (λ (x : OpenCall). if eqb x.opening opening then false else true) os) ≡ false
     by true first rest = rest
     by false first rest = rw (first, rest) refl
 
@@ -83,14 +114,16 @@ not_both true false both = refl
 not_both false b both = refl
 
 -- over an accepted call
-steady_accepted : (state : State) (event : Event) (pfs : ℕ) → first_refusal (record_checks (call_of name_hash state event)) ≡ None → IsSteadyMaster state pfs → IsSteadyMaster (accepted_effect state (call_of no_hash state event)) pfs
+steady_accepted : (state : State) (event : Event) (pfs : ℕ) → first_refusal (record_checks (call_of name_hash state event)) ≡ None →
+    IsSteadyMaster state pfs → IsSteadyMaster (accepted_effect state (call_of no_hash state event)) pfs
 steady_accepted state event pfs none steady =
     let call : Call = call_of no_hash state event in
     let named : Call = call_of name_hash state event in
     let after : State = accepted_effect state call in
     let aged : AgesIn state.volume.last (Some steady.system) (system_of after.volume pfs) = rw steady.found at (ages_accepted state call pfs refl) in
     let u = aged_some state.volume.last steady.system (system_of after.volume pfs) aged in
-    let located : each_located named (uses_of call.command) call.paths ≡ each_located call (uses_of call.command) call.paths = same_sites call name_hash (uses_of call.command) call.paths in
+    let located : each_located named (uses_of call.command) call.paths ≡ each_located call (uses_of call.command) call.paths =
+    same_sites call name_hash (uses_of call.command) call.paths in
     let first : first_site named ≡ first_site call = ap first_of located in
     let second : second_site named ≡ second_site call = ap second_of located in
     let unfed : IsUnfed after pfs = elim (opened_at state call call.command refl) [
@@ -99,9 +132,12 @@ steady_accepted state event pfs none steady =
           let head : is_rewriter pfs new.0 ≡ false = not_both (eqb new.0.pfs pfs) (rewrites new.0.command) (λ here writes.
           let same : new.0.pfs ≡ pfs = grind (arith, nat_tests, here) in
           let also : rewrites call.command ≡ true = subst (λ (c : Command). rewrites c ≡ true) new.2 writes in
-          let site : pfs ≡ (written_site call.command (first_site named) (second_site named)).at.pfs = sym same ∙ (new.3 also ∙ sym (ap (λ (s : Site). (written_site call.command s (second_site call)).at.pfs) first ∙ ap (λ (s : Site). (written_site call.command (first_site call) s).at.pfs) second)) in
+          let site : pfs ≡ (written_site call.command (first_site named) (second_site named)).at.pfs =
+          sym same ∙ (new.3 also ∙ sym (ap (λ (s : Site). (written_site call.command s (second_site call)).at.pfs) first
+          ∙ ap (λ (s : Site). (written_site call.command (first_site call) s).at.pfs) second)) in
           let site_other : pfs ≡ (written_site call.command (first_site named) (second_site named)).at.pfs = site in
-          let found : system_of state.volume (written_site call.command (first_site named) (second_site named)).at.pfs ≡ Some steady.system = subst (λ (p : ℕ). system_of state.volume p ≡ Some steady.system) site_other steady.found in
+          let found : system_of state.volume (written_site call.command (first_site named) (second_site named)).at.pfs ≡ Some steady.system =
+          subst (λ (p : ℕ). system_of state.volume p ≡ Some steady.system) site_other steady.found in
           let slave : is_master steady.system ≡ false = written_slave named steady.system none also found in
           let master : is_master steady.system ≡ true = ap (λ (role : Role). elim role [ Master ↦ true | Slave ↦ false ]) steady.master in
           let wrong : true ≡ false = sym master ∙ slave in
@@ -111,7 +147,8 @@ steady_accepted state event pfs none steady =
     record { system = u.0; found = u.1; master = u.2.role ∙ steady.master; unfed = unfed }
 
 -- over an event
-pub steady_event : (run : Setting) (before : List Event) (event : Event) (pfs : ℕ) → MayFollow run before event → IsSteadyMaster (state_after run before) pfs → IsSteadyMaster (after_event (state_after run before) event) pfs
+pub steady_event : (run : Setting) (before : List Event) (event : Event) (pfs : ℕ) → MayFollow run before event →
+    IsSteadyMaster (state_after run before) pfs → IsSteadyMaster (after_event (state_after run before) event) pfs
 steady_event run before event pfs follows steady = last (effect (state_after run before) event) (by (is_ending event.entry.call) refl)
   where
     state : State
@@ -120,14 +157,17 @@ steady_event run before event pfs follows steady = last (effect (state_after run
     last : (s : State) → IsSteadyMaster s pfs → IsSteadyMaster (on_volume s (record s.volume { last = last_after event.entry })) pfs
     last s is = record { system = is.system; found = is.found; master = is.master; unfed = is.unfed }
 
-    call_by : is_ending event.entry.call ≡ false → (test : Bool) → is_refusal event.entry.reply ≡ test → IsSteadyMaster (if test then state else accepted_effect state (call_of no_hash state event)) pfs
+    call_by : is_ending event.entry.call ≡ false → (test : Bool) → is_refusal event.entry.reply ≡ test →
+        IsSteadyMaster (if test then state else accepted_effect state (call_of no_hash state event)) pfs
     call_by call true is = steady
     call_by call false is = steady_accepted state event pfs (follows.lands is).records steady
 
     by : (test : Bool) → is_ending event.entry.call ≡ test → IsSteadyMaster (effect state event) pfs
     by true is =
         let named = opening_of event.entry.call is in
-        let goes : effect state event ≡ ended state named.0.0 event.entry.reply = ending_is (λ opening. ended state opening.0 event.entry.reply) (if is_refusal event.entry.reply then state else accepted_effect state (call_of no_hash state event)) event.entry.call named.0 named.1 in
+        let goes : effect state event ≡ ended state named.0.0 event.entry.reply =
+        ending_is (λ opening. ended state opening.0 event.entry.reply)
+        (if is_refusal event.entry.reply then state else accepted_effect state (call_of no_hash state event)) event.entry.call named.0 named.1 in
         let end : IsSteadyMaster (ended state named.0.0 event.entry.reply) pfs = record {
           system = steady.system;
           found = ended_system state named.0.0 event.entry.reply pfs steady.unfed ∙ steady.found;
@@ -136,20 +176,25 @@ steady_event run before event pfs follows steady = last (effect (state_after run
         } in
         subst (λ (s : State). IsSteadyMaster s pfs) (sym goes) end
     by false is =
-        let goes : effect state event ≡ (if is_refusal event.entry.reply then state else accepted_effect state (call_of no_hash state event)) = not_ending (λ opening. ended state opening.0 event.entry.reply) (if is_refusal event.entry.reply then state else accepted_effect state (call_of no_hash state event)) event.entry.call is in
+        let goes : effect state event ≡ (if is_refusal event.entry.reply then state else accepted_effect state (call_of no_hash state event)) =
+        not_ending (λ opening. ended state opening.0 event.entry.reply)
+        (if is_refusal event.entry.reply then state else accepted_effect state (call_of no_hash state event)) event.entry.call is in
         subst (λ (s : State). IsSteadyMaster s pfs) (sym goes) (call_by is (is_refusal event.entry.reply) refl)
 
 -- over a history
-pub steady_history : (run : Setting) (before es : List Event) (pfs : ℕ) → IsLegal run (before ++ es) → IsSteadyMaster (state_after run before) pfs → IsSteadyMaster (state_after run (before ++ es)) pfs
+pub steady_history : (run : Setting) (before es : List Event) (pfs : ℕ) → IsLegal run (before ++ es) → IsSteadyMaster (state_after run before) pfs →
+    IsSteadyMaster (state_after run (before ++ es)) pfs
 steady_history run before [] pfs legal steady = rw append-nil steady
 steady_history run before (e ∷ es) pfs legal steady =
     let follows : MayFollow run before e = legal before e es refl in
     let next : IsSteadyMaster (after_event (state_after run before) e) pfs = steady_event run before e pfs follows steady in
-    let pushed : state_after run (before ++ e ∷ []) ≡ after_event (state_after run before) e = after_events-push (opening_state run.opening run.foreigners) before e in
+    let pushed : state_after run (before ++ e ∷ []) ≡ after_event (state_after run before) e =
+    after_events-push (opening_state run.opening run.foreigners) before e in
     let together : (before ++ e ∷ []) ++ es ≡ before ++ e ∷ es = append_assoc before (e ∷ []) es in
     rw (← together) (steady_history run (before ++ e ∷ []) es pfs (rw together legal) (subst (λ (s : State). IsSteadyMaster s pfs) (sym pushed) next))
 
-pub master_throughout : (run : Setting) (events : List Event) (pfs : ℕ) (s : PseudoFileSystem) → IsLegal run events → system_of run.opening pfs ≡ Some s → s.role ≡ Master → IsMasterThroughout run events pfs
+pub master_throughout : (run : Setting) (events : List Event) (pfs : ℕ) (s : PseudoFileSystem) → IsLegal run events → system_of run.opening pfs ≡ Some s →
+    s.role ≡ Master → IsMasterThroughout run events pfs
 master_throughout run events pfs s legal found master before rest is =
     steady_history run [] before pfs
     (λ xs x more same. legal xs x (more ++ rest) (is ∙ (ap (λ (es : List Event). es ++ rest) same ∙ append_assoc xs (x ∷ more) rest)))

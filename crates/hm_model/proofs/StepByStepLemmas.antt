@@ -50,7 +50,8 @@ follows_at : (now : Counts) (free : ℕ) (done : List Entry) (known : Known) (st
     CanFollow now (floor free (done ++ entries_of before)) (known_after known before) (after_events state before) event
 follows_at now free done known state [] event rest all = rw append-nil all.0
 follows_at now free done known state (b ∷ bs) event rest all =
-    let later : CanFollow now (floor free ((done ++ b.entry ∷ []) ++ entries_of bs)) (known_after (known_after_entry known b.entry) bs) (after_events (after_event state b) bs) event =
+    let later : CanFollow now (floor free ((done ++ b.entry ∷ []) ++ entries_of bs)) (known_after (known_after_entry known b.entry) bs)
+    (after_events (after_event state b) bs) event =
     follows_at now free (done ++ b.entry ∷ []) (known_after_entry known b.entry) (after_event state b) bs event rest all.1 in
     rw append_assoc at later
 
@@ -59,7 +60,8 @@ pub IsLegal-steps : (run : Setting) (events : List Event) →
 IsLegal-steps run events all before event rest is =
     let whole : AllFollow run.now run.free [] (known_at run.opening.last run.start) (opening_state run.opening run.foreigners) (before ++ event ∷ rest) =
     rw is at all in
-    let step : CanFollow run.now (floor run.free (entries_of before)) (known_after (known_at run.opening.last run.start) before) (state_after run before) event =
+    let step : CanFollow run.now (floor run.free (entries_of before)) (known_after (known_at run.opening.last run.start) before) (state_after run before)
+    event =
     follows_at run.now run.free [] (known_at run.opening.last run.start) (opening_state run.opening run.foreigners) before event rest whole in
     record { caused = step.caused; allowed = step.allowed; lands = step.lands; fed = step.fed; undamaged = step.undamaged }
 
@@ -96,7 +98,8 @@ same_number a b is = grind (arith, nat_tests, is)
 lands_so : (call : Call) (reply : Reply) → lands_well call ≡ true → NamesAdded call reply → Lands call reply
 lands_so call reply well named =
     let a =
-    both_true (passes (first_refusal (map walks (all_located call)))) (passes (slaves_stay call) && (passes (first_refusal (record_checks call)) && passes (intervals_left call))) well in
+    both_true (passes (first_refusal (map walks (all_located call))))
+    (passes (slaves_stay call) && (passes (first_refusal (record_checks call)) && passes (intervals_left call))) well in
     let b = both_true (passes (slaves_stay call)) (passes (first_refusal (record_checks call)) && passes (intervals_left call)) a.1 in
     let c = both_true (passes (first_refusal (record_checks call))) (passes (intervals_left call)) b.1 in
     record {
@@ -117,7 +120,8 @@ by_tests now least known state event id order read numbers allowed named fed und
     let call : Call = call_of name_hash state event in
     let landing : Bool = if is_refusal event.entry.reply then true else lands_well call in
     let a =
-    both_true (nat_le event.entry.id.0 GREATEST_ID) (passes (early_refusal known event) && (list_any (λ n. number_of event.entry.reply == n) (possible_for known event) && landing)) order in
+    both_true (nat_le event.entry.id.0 GREATEST_ID)
+    (passes (early_refusal known event) && (list_any (λ n. number_of event.entry.reply == n) (possible_for known event) && landing)) order in
     let b = both_true (passes (early_refusal known event)) (list_any (λ n. number_of event.entry.reply == n) (possible_for known event) && landing) a.1 in
     let c = both_true (list_any (λ n. number_of event.entry.reply == n) (possible_for known event)) landing b.1 in
     let drawn : event.entry.id.0 ≤ GREATEST_ID = grind (arith, nat_tests, a.0) in

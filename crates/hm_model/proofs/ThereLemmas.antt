@@ -40,17 +40,22 @@ id_there : (volume : Volume) (view : View) (as_of : Option Id) (here : Position)
     EndsThere volume (by_id volume view as_of here passed)
 id_there volume view None here passed there = there
 id_there volume view (Some id) here passed there =
-    if_there volume (is_kept volume here.pfs id.0) (option_map_or (λ _. Reaches (record here { when = AsOf id.0 }) passed) (object_at view (record here { when = AsOf id.0 })) (Refuses NotFound passed)) (Refuses NotRetained passed)
-    (some_there volume (λ (o : Object). Reaches (record here { when = AsOf id.0 }) passed) (object_at view (record here { when = AsOf id.0 })) (Refuses NotFound passed) (λ o found. there) tt) tt
+    if_there volume (is_kept volume here.pfs id.0)
+    (option_map_or (λ _. Reaches (record here { when = AsOf id.0 }) passed) (object_at view (record here { when = AsOf id.0 }))
+    (Refuses NotFound passed)) (Refuses NotRetained passed)
+    (some_there volume (λ (o : Object). Reaches (record here { when = AsOf id.0 }) passed) (object_at view (record here { when = AsOf id.0 }))
+    (Refuses NotFound passed) (λ o found. there) tt) tt
 
 -- into a PFS
 enter_there : (volume : Volume) (view : View) (pfs : ℕ) (when : When) (passed : Passed) → EndsThere volume (enter volume view pfs when passed)
 enter_there volume view pfs when passed =
-    some_there volume (λ (s : PseudoFileSystem). and_then (reach (root_of pfs when) passed) (look_at_root volume view)) (system_of volume pfs) (Refuses NotFound passed)
+    some_there volume (λ (s : PseudoFileSystem). and_then (reach (root_of pfs when) passed) (look_at_root volume view)) (system_of volume pfs)
+    (Refuses NotFound passed)
     (λ s found.
     then_there volume (reach (root_of pfs when) passed) (look_at_root volume view) (s, found)
     (λ here more there.
-    if_there volume (is_seen volume here.pfs here.when) (option_map_or (λ _. Reaches here more) (object_at view here) (Refuses NotFound more)) (Refuses NotRetained more)
+    if_there volume (is_seen volume here.pfs here.when) (option_map_or (λ _. Reaches here more) (object_at view here) (Refuses NotFound more))
+    (Refuses NotRetained more)
     (some_there volume (λ (o : Object). Reaches here more) (object_at view here) (Refuses NotFound more) (λ o found_o. there) tt) tt)) tt
 
 take_there : (volume : Volume) (pfs : ℕ) (when : When) (passed : Passed) → EndsThere volume (take_pfs volume pfs when passed)
@@ -70,7 +75,8 @@ object_there volume view mode here passed there =
     some_there volume (λ (o : Object). and_then (reach here passed) (from_found volume view mode o)) (object_at view here) (Refuses NotFound passed)
     (λ o found.
     then_there volume (reach here passed) (from_found volume view mode o) there
-    (λ at more at_there. some_there volume (λ (pfs : ℕ). over_link volume view mode pfs at more) (linked_in o.content) (Reaches at more) (λ pfs linked. link_there volume view mode pfs at more at_there) at_there)) tt
+    (λ at more at_there. some_there volume (λ (pfs : ℕ). over_link volume view mode pfs at more) (linked_in o.content) (Reaches at more)
+    (λ pfs linked. link_there volume view mode pfs at more at_there) at_there)) tt
 
 name_there : (volume : Volume) (view : View) (mode : Follow) (name : Option (List ℕ)) (here : Position) (passed : Passed) → IsThere volume here.pfs →
     EndsThere volume (by_name volume view mode name here passed)
@@ -85,7 +91,8 @@ walk_there : (volume : Volume) (view : View) (mode : Follow) (parts : List Part)
 walk_there volume view mode [] here passed there = there
 walk_there volume view mode (part ∷ parts) here passed there =
     then_there volume (step volume view (follow_before mode parts) part here passed) (λ at more. walk_on volume view mode parts at more)
-    (then_there volume (by_id volume view part.as_of here passed) (by_name volume view (follow_before mode parts) part.name) (id_there volume view part.as_of here passed there)
+    (then_there volume (by_id volume view part.as_of here passed) (by_name volume view (follow_before mode parts) part.name)
+    (id_there volume view part.as_of here passed there)
     (λ at more at_there. name_there volume view (follow_before mode parts) part.name at more at_there))
     (λ at more at_there. walk_there volume view mode parts at more at_there)
 
@@ -111,7 +118,8 @@ two_there call mode a b (path ∷ paths) root = one_there call mode b paths root
 
 -- so a call that rewrites a PFS works on one that is there
 pub written_there : (call : Call) (command : Command) → rewrites command ≡ true → IsThere call.volume 0 →
-    IsThere call.volume (written_site command (first_of (each_located call (uses_of command) call.paths)) (second_of (each_located call (uses_of command) call.paths))).at.pfs
+    IsThere call.volume (written_site command (first_of (each_located call (uses_of command) call.paths))
+    (second_of (each_located call (uses_of command) call.paths))).at.pfs
 written_there call (PfsUpgrade path) writes root = one_there call TakesPfs path call.paths root
 written_there call (MirrorWrite path) writes root = one_there call TakesPfs path call.paths root
 written_there call (MirrorCopy master slave limit) writes root = two_there call TakesPfs master slave call.paths root

@@ -54,23 +54,27 @@ end_by P volume reply o (PfsUpgrade path) is same copy write upgrade = upgrade p
 end_by P volume reply o command is same copy write upgrade = same
 
 -- by its reply, what the end of a pass does
-pub pass_by : (P : Volume → Type 0) (volume : Volume) (o : OpenCall) (reply : Reply) → P volume → ((begin end : Id) → reply ≡ Passed begin end → P (of_pfs volume o.pfs (after_pass (given_in volume o) begin.0 end.0))) → P (end_of_pass volume o reply)
+pub pass_by : (P : Volume → Type 0) (volume : Volume) (o : OpenCall) (reply : Reply) → P volume →
+    ((begin end : Id) → reply ≡ Passed begin end → P (of_pfs volume o.pfs (after_pass (given_in volume o) begin.0 end.0))) → P (end_of_pass volume o reply)
 pass_by P volume o (Passed begin end) same passed = passed begin end refl
 pass_by P volume o reply same passed = same
 
-pub upgrade_by : (P : Volume → Type 0) (volume : Volume) (o : OpenCall) (reply : Reply) → P volume → P (of_pfs volume o.pfs upgraded) → P (end_of_upgrade volume o reply)
+pub upgrade_by : (P : Volume → Type 0) (volume : Volume) (o : OpenCall) (reply : Reply) → P volume → P (of_pfs volume o.pfs upgraded) →
+    P (end_of_upgrade volume o reply)
 upgrade_by P volume o Finished same finished = finished
 upgrade_by P volume o reply same finished = same
 
 -- a join keeps up to the begin id what the retention keeps
 join_before : (retention other : List (ℕ × ℕ)) (begin end id : ℕ) → id ≤ begin → Keeps (join retention other begin end) id → Keeps retention id
-join_before retention other begin end id by kept = elim ((Keeps-append (within (begin + 1) end other) retention id).0 ((Keeps-maximal (within (begin + 1) end other ++ retention) id).0 kept)) [
-  | inl new ↦ let both = (Keeps-within (begin + 1) end other id).0 new in absurd (omega (arith, both.1, by))
-  | inr old ↦ old
-]
+join_before retention other begin end id by kept =
+    elim ((Keeps-append (within (begin + 1) end other) retention id).0 ((Keeps-maximal (within (begin + 1) end other ++ retention) id).0 kept)) [
+      | inl new ↦ let both = (Keeps-within (begin + 1) end other id).0 new in absurd (omega (arith, both.1, by))
+      | inr old ↦ old
+    ]
 
 -- a slave that a copy fed shows its master's trees up to the end id
-same_passed : (volume : Volume) (o : OpenCall) (begin end : ℕ) (m : ℕ) (s t : PseudoFileSystem) → given_in volume o ≡ given_by volume m → system_of volume m ≡ Some t → AreRising t.versions → begin ≡ s.sync_end → HaveSame s t → HaveSame (after_pass (given_in volume o) begin end s) t
+same_passed : (volume : Volume) (o : OpenCall) (begin end : ℕ) (m : ℕ) (s t : PseudoFileSystem) → given_in volume o ≡ given_by volume m →
+    system_of volume m ≡ Some t → AreRising t.versions → begin ≡ s.sync_end → HaveSame s t → HaveSame (after_pass (given_in volume o) begin end s) t
 same_passed volume o begin end m s t given found rising from same id by kept also = elim (less_or_not begin id) [
   | inl after ↦
       let rise : AreRising (given_in volume o).versions = rw (given, versions_given volume m, found) rising in
@@ -83,18 +87,25 @@ same_passed volume o begin end m s t given found rising from same id by kept als
 ]
 
 -- the same, whatever the source, if it is not missing
-follows_passed : (volume : Volume) (o : OpenCall) (begin end : ℕ) (m : ℕ) (s t : PseudoFileSystem) (origin : Origin) → s.origin ≡ origin → (origin ≡ Nowhere → ⊥) → ((n : ℕ) → origin ≡ Local n → given_in volume o ≡ given_by volume n) → system_of volume m ≡ Some t → AreRising t.versions → begin ≡ s.sync_end → Follows m s t origin → Follows m (after_pass (given_in volume o) begin end s) t origin
+follows_passed : (volume : Volume) (o : OpenCall) (begin end : ℕ) (m : ℕ) (s t : PseudoFileSystem) (origin : Origin) → s.origin ≡ origin →
+    (origin ≡ Nowhere → ⊥) → ((n : ℕ) → origin ≡ Local n → given_in volume o ≡ given_by volume n) → system_of volume m ≡ Some t → AreRising t.versions →
+    begin ≡ s.sync_end → Follows m s t origin → Follows m (after_pass (given_in volume o) begin end s) t origin
 follows_passed volume o begin end m s t Nowhere is some given found rising from follows = absurd (some refl)
-follows_passed volume o begin end m s t (Local n) is some given found rising from follows = λ same. same_passed volume o begin end m s t (given n refl ∙ ap (given_by volume) same) found rising from (follows same)
+follows_passed volume o begin end m s t (Local n) is some given found rising from follows =
+    λ same. same_passed volume o begin end m s t (given n refl ∙ ap (given_by volume) same) found rising from (follows same)
 follows_passed volume o begin end m s t (Foreign k) is some given found rising from follows = tt
 follows_passed volume o begin end m s t Mixed is some given found rising from follows = tt
 
 -- a change of the PFS that an open call works on
-ended_changed : (last now : ℕ) (volume : Volume) (opened : List OpenCall) (slave m pfs : ℕ) (f : PseudoFileSystem → PseudoFileSystem) (twin : Twin last volume opened slave m) → last ≤ now → KeepsNumber f → pfs ≢ m → (pfs ≡ slave → ((f twin.own).sync_end ≤ now) × ((f twin.own).role ≡ Slave → Follows m (f twin.own) twin.other (f twin.own).origin)) → Ended now (of_pfs volume pfs f) slave m twin.other
+ended_changed : (last now : ℕ) (volume : Volume) (opened : List OpenCall) (slave m pfs : ℕ) (f : PseudoFileSystem → PseudoFileSystem)
+    (twin : Twin last volume opened slave m) → last ≤ now → KeepsNumber f → pfs ≢ m →
+    (pfs ≡ slave → ((f twin.own).sync_end ≤ now) × ((f twin.own).role ≡ Slave → Follows m (f twin.own) twin.other (f twin.own).origin)) →
+    Ended now (of_pfs volume pfs f) slave m twin.other
 ended_changed last now volume opened slave m pfs f twin later keeps differ gives = elim (same_or_not pfs slave) [
   | inl same ↦ record {
     own = f twin.own;
-    found = rw same (found-changed slave f volume.systems keeps ∙ ap (λ (x : Option PseudoFileSystem). option_map_or (λ (y : PseudoFileSystem). Some (f y)) x None) twin.found);
+    found = rw same (found-changed slave f volume.systems keeps ∙ ap
+        (λ (x : Option PseudoFileSystem). option_map_or (λ (y : PseudoFileSystem). Some (f y)) x None) twin.found);
     found_other = found-other m pfs f volume.systems keeps differ ∙ twin.found_other;
     drawn = (gives same).0;
     follows = (gives same).1;
@@ -109,14 +120,17 @@ ended_changed last now volume opened slave m pfs f twin later keeps differ gives
 ]
 
 -- the end of one open call
-module _ (now : ℕ) (state : State) (reply : Reply) (o : OpenCall) (slave m : ℕ) (twin : Twin state.volume.last state.volume state.opened slave m) (later : state.volume.last ≤ now) (ending : end_id reply ≤ now) (fed : FedBy slave m twin.own twin.other o) (unfed : is_rewriter m o ≡ false) (begins : (begin end : Id) → reply ≡ Passed begin end → merges o.command ≡ true → begin.0 ≡ begin_of state.volume o) where
+module _ (now : ℕ) (state : State) (reply : Reply) (o : OpenCall) (slave m : ℕ) (twin : Twin state.volume.last state.volume state.opened slave m)
+    (later : state.volume.last ≤ now) (ending : end_id reply ≤ now) (fed : FedBy slave m twin.own twin.other o) (unfed : is_rewriter m o ≡ false)
+    (begins : (begin end : Id) → reply ≡ Passed begin end → merges o.command ≡ true → begin.0 ≡ begin_of state.volume o) where
   unchanged : Ended now state.volume slave m twin.other
   unchanged = record { own = twin.own; found = twin.found; found_other = twin.found_other; drawn = omega (arith, twin.drawn, later); follows = twin.follows }
 
   by_end : (begin end : Id) → reply ≡ Passed begin end → end.0 ≤ now
   by_end begin end is = let told : end_id reply ≡ end.0 = ap end_id is in omega (arith, told, ending)
 
-  begun_copy : (from into : Text) (limit : Option ℕ) → o.command ≡ MirrorCopy from into limit → system_of state.volume o.pfs ≡ Some twin.own → begin_of state.volume o ≡ twin.own.sync_end
+  begun_copy : (from into : Text) (limit : Option ℕ) → o.command ≡ MirrorCopy from into limit → system_of state.volume o.pfs ≡ Some twin.own →
+      begin_of state.volume o ≡ twin.own.sync_end
   begun_copy from into limit is found = rw (is, found) refl
 
   begun_write : (into : Text) → o.command ≡ MirrorWrite into → system_of state.volume o.pfs ≡ Some twin.own → begin_of state.volume o ≡ twin.own.sync_end
@@ -152,7 +166,8 @@ module _ (now : ℕ) (state : State) (reply : Reply) (o : OpenCall) (slave m : �
           (λ same. (omega (arith, twin.drawn, later), λ role. follows_with m twin.own twin.other o.origin o.origin ((as_fed same).0 role)))
       by false =
           pass_by (λ (v : Volume). Ended now v slave m twin.other) state.volume o reply unchanged (λ begin end told.
-          ended_changed state.volume.last now state.volume state.opened slave m o.pfs (after_pass (given_in state.volume o) begin.0 end.0) twin later (λ s. refl) not_master
+          ended_changed state.volume.last now state.volume state.opened slave m o.pfs (after_pass (given_in state.volume o) begin.0 end.0) twin later
+          (λ s. refl) not_master
           (λ same.
           let found : system_of state.volume o.pfs ≡ Some twin.own = rw same twin.found in
           let outside : IsOutside twin.own.origin = (as_fed same).1 in

@@ -39,7 +39,8 @@ no_pass_same volume reply o (PfsUpgrade path) is = absurd (cc)
 no_pass_same volume reply o command is = refl
 
 -- more ids were drawn, and fewer calls are open
-twin_still : (last now opening : ℕ) (volume : Volume) (opened : List OpenCall) (slave m : ℕ) → last ≤ now → Twin last volume opened slave m → Twin now volume (filter (λ (o : OpenCall). if eqb o.opening opening then false else true) opened) slave m
+twin_still : (last now opening : ℕ) (volume : Volume) (opened : List OpenCall) (slave m : ℕ) → last ≤ now → Twin last volume opened slave m →
+    Twin now volume (filter (λ (o : OpenCall). if eqb o.opening opening then false else true) opened) slave m
 twin_still last now opening volume opened slave m later twin = record {
   own = twin.own;
   other = twin.other;
@@ -54,7 +55,8 @@ twin_still last now opening volume opened slave m later twin = record {
 }
 
 -- more ids were drawn
-twin_drawn : (last now n : ℕ) (volume : Volume) (opened : List OpenCall) (slave m : ℕ) → last ≤ now → Twin last volume opened slave m → Twin now (record volume { last = n }) opened slave m
+twin_drawn : (last now n : ℕ) (volume : Volume) (opened : List OpenCall) (slave m : ℕ) → last ≤ now → Twin last volume opened slave m →
+    Twin now (record volume { last = n }) opened slave m
 twin_drawn last now n volume opened slave m later twin = record {
   own = twin.own;
   other = twin.other;
@@ -69,7 +71,10 @@ twin_drawn last now n volume opened slave m later twin = record {
 }
 
 -- over an ending
-twin_ended : (state : State) (event : Event) (opening : Id) (slave m : ℕ) → event.entry.call ≡ End opening → event.entry.id.0 ≡ state.volume.last + 1 → IsUnfed state m → ((o : OpenCall) (begin end : Id) → EndsPass state event o begin end → begin.0 ≡ begin_of state.volume o) → Twin state.volume.last state.volume state.opened slave m → Twin (last_after event.entry) (ended state opening.0 event.entry.reply).volume (ended state opening.0 event.entry.reply).opened slave m
+twin_ended : (state : State) (event : Event) (opening : Id) (slave m : ℕ) → event.entry.call ≡ End opening → event.entry.id.0 ≡ state.volume.last + 1 →
+    IsUnfed state m → ((o : OpenCall) (begin end : Id) → EndsPass state event o begin end → begin.0 ≡ begin_of state.volume o) →
+    Twin state.volume.last state.volume state.opened slave m → Twin (last_after event.entry) (ended state opening.0 event.entry.reply).volume
+    (ended state opening.0 event.entry.reply).opened slave m
 twin_ended state event opening slave m call id unfed begins twin = by (opened_with opening.0 state.opened) refl
   where
     now : ℕ
@@ -81,7 +86,8 @@ twin_ended state event opening slave m call id unfed begins twin = by (opened_wi
     rest : List OpenCall
     rest = filter (λ (o : OpenCall). if eqb o.opening opening.0 then false else true) state.opened
 
-    each : (o : OpenCall) → opened_with opening.0 state.opened ≡ Some o → (test : Bool) → is_pass o.command ≡ test → Twin now (end_effect state.volume reply o) rest slave m
+    each : (o : OpenCall) → opened_with opening.0 state.opened ≡ Some o → (test : Bool) → is_pass o.command ≡ test →
+        Twin now (end_effect state.volume reply o) rest slave m
     each o found true is =
         let end : Ended now (end_effect state.volume reply o) slave m twin.other =
         end_call now state reply o slave m twin (omega (arith, id)) (omega arith)
@@ -102,14 +108,20 @@ twin_ended state event opening slave m call id unfed begins twin = by (opened_wi
           begun = by_later state.volume.last now twin.other.versions twin.begun (omega (arith, id));
         }
     each o found false is =
-        subst (λ (v : Volume). Twin now v rest slave m) (sym (no_pass_same state.volume reply o o.command is)) (twin_still state.volume.last now opening.0 state.volume state.opened slave m (omega (arith, id)) twin)
+        subst (λ (v : Volume). Twin now v rest slave m) (sym (no_pass_same state.volume reply o o.command is))
+        (twin_still state.volume.last now opening.0 state.volume state.opened slave m (omega (arith, id)) twin)
 
-    by : (found : Option OpenCall) → opened_with opening.0 state.opened ≡ found → Twin now (option_map_or (end_effect state.volume reply) found state.volume) rest slave m
+    by : (found : Option OpenCall) → opened_with opening.0 state.opened ≡ found →
+        Twin now (option_map_or (end_effect state.volume reply) found state.volume) rest slave m
     by None is = twin_still state.volume.last now opening.0 state.volume state.opened slave m (omega (arith, id)) twin
     by (Some o) is = each o is (is_pass o.command) refl
 
 -- over an event
-pub Twin-event : (known : Known) (state : State) (event : Event) (numbers : List ℕ) (slave m : ℕ) → Agrees known state → event.entry.id.0 ≡ known.last + 1 → IsPossible (early_refusal known event) numbers event.entry.reply → IsUnfed state m → ((o : OpenCall) (begin end : Id) → EndsPass state event o begin end → begin.0 ≡ begin_of state.volume o) → Twin state.volume.last state.volume state.opened slave m → Twin (last_after event.entry) (after_event state event).volume (after_event state event).opened slave m
+pub Twin-event : (known : Known) (state : State) (event : Event) (numbers : List ℕ) (slave m : ℕ) → Agrees known state → event.entry.id.0 ≡ known.last + 1 →
+    IsPossible (early_refusal known event) numbers event.entry.reply → IsUnfed state m →
+    ((o : OpenCall) (begin end : Id) → EndsPass state event o begin end → begin.0 ≡ begin_of state.volume o) →
+    Twin state.volume.last state.volume state.opened slave m → Twin (last_after event.entry) (after_event state event).volume
+    (after_event state event).opened slave m
 Twin-event known state event numbers slave m agrees id early unfed begins twin =
     let now : ℕ = last_after event.entry in
     twin_drawn now now now (effect state event).volume (effect state event).opened slave m (omega arith) (by (is_ending event.entry.call) refl)
@@ -117,10 +129,13 @@ Twin-event known state event numbers slave m agrees id early unfed begins twin =
     own : event.entry.id.0 ≡ state.volume.last + 1
     own = id ∙ ap (λ (n : ℕ). n + 1) agrees.last
 
-    drawn : {last : ℕ} (s : State) → last ≤ last_after event.entry → Twin last s.volume s.opened slave m → Twin (last_after event.entry) s.volume s.opened slave m
+    drawn : {last : ℕ} (s : State) → last ≤ last_after event.entry → Twin last s.volume s.opened slave m →
+        Twin (last_after event.entry) s.volume s.opened slave m
     drawn {last} s later t = twin_drawn last (last_after event.entry) s.volume.last s.volume s.opened slave m later t
 
-    call : (test : Bool) → is_refusal event.entry.reply ≡ test → Twin (last_after event.entry) (if test then state else accepted_effect state (call_of no_hash state event)).volume (if test then state else accepted_effect state (call_of no_hash state event)).opened slave m
+    call : (test : Bool) → is_refusal event.entry.reply ≡ test →
+        Twin (last_after event.entry) (if test then state else accepted_effect state (call_of no_hash state event)).volume
+        (if test then state else accepted_effect state (call_of no_hash state event)).opened slave m
     call true is = drawn state (omega (arith, own)) twin
     call false is =
         drawn (accepted_effect state (call_of no_hash state event)) (omega (arith, own))
@@ -130,10 +145,15 @@ Twin-event known state event numbers slave m agrees id early unfed begins twin =
     by : (test : Bool) → is_ending event.entry.call ≡ test → Twin (last_after event.entry) (effect state event).volume (effect state event).opened slave m
     by true is =
         let named = opening_of event.entry.call is in
-        let goes : effect state event ≡ ended state named.0.0 event.entry.reply = ending_is (λ opening. ended state opening.0 event.entry.reply) (if is_refusal event.entry.reply then state else accepted_effect state (call_of no_hash state event)) event.entry.call named.0 named.1 in
-        subst (λ (s : State). Twin (last_after event.entry) s.volume s.opened slave m) (sym goes) (twin_ended state event named.0 slave m named.1 own unfed begins twin)
+        let goes : effect state event ≡ ended state named.0.0 event.entry.reply =
+        ending_is (λ opening. ended state opening.0 event.entry.reply)
+        (if is_refusal event.entry.reply then state else accepted_effect state (call_of no_hash state event)) event.entry.call named.0 named.1 in
+        subst (λ (s : State). Twin (last_after event.entry) s.volume s.opened slave m) (sym goes)
+        (twin_ended state event named.0 slave m named.1 own unfed begins twin)
     by false is =
-        let goes : effect state event ≡ (if is_refusal event.entry.reply then state else accepted_effect state (call_of no_hash state event)) = not_ending (λ opening. ended state opening.0 event.entry.reply) (if is_refusal event.entry.reply then state else accepted_effect state (call_of no_hash state event)) event.entry.call is in
+        let goes : effect state event ≡ (if is_refusal event.entry.reply then state else accepted_effect state (call_of no_hash state event)) =
+        not_ending (λ opening. ended state opening.0 event.entry.reply)
+        (if is_refusal event.entry.reply then state else accepted_effect state (call_of no_hash state event)) event.entry.call is in
         subst (λ (s : State). Twin (last_after event.entry) s.volume s.opened slave m) (sym goes) (call (is_refusal event.entry.reply) refl)
 
 -- the twin of a state
@@ -141,21 +161,27 @@ abbrev pub IsTwin : State → ℕ → ℕ → Type 0
 IsTwin state slave m = Twin state.volume.last state.volume state.opened slave m
 
 -- a master later on
-pub master_later : (run : Setting) (before : List Event) (e : Event) (es : List Event) (m : ℕ) → IsMasterFrom run before (e ∷ es) m → IsMasterFrom run (before ++ e ∷ []) es m
+pub master_later : (run : Setting) (before : List Event) (e : Event) (es : List Event) (m : ℕ) → IsMasterFrom run before (e ∷ es) m →
+    IsMasterFrom run (before ++ e ∷ []) es m
 master_later run before e es m master some rest is = rw append_assoc (master (e ∷ some) rest (ap (λ (xs : List Event). e ∷ xs) is))
 
 -- over a history, from the end of a beginning of it on
-pub Twin-history : (run : Setting) (before es : List Event) (slave m : ℕ) → IsLegal run (before ++ es) → IsMasterFrom run before es m → Agrees (known_after (known_at run.opening.last run.start) before) (state_after run before) → IsTwin (state_after run before) slave m → IsTwin (state_after run (before ++ es)) slave m
+pub Twin-history : (run : Setting) (before es : List Event) (slave m : ℕ) → IsLegal run (before ++ es) → IsMasterFrom run before es m →
+    Agrees (known_after (known_at run.opening.last run.start) before) (state_after run before) → IsTwin (state_after run before) slave m →
+    IsTwin (state_after run (before ++ es)) slave m
 Twin-history run before [] slave m legal master agrees twin = rw append-nil twin
 Twin-history run before (e ∷ es) slave m legal master agrees twin =
     let known : Known = known_after (known_at run.opening.last run.start) before in
     let state : State = state_after run before in
     let follows : MayFollow run before e = legal before e es refl in
     let unfed : IsUnfed state m = (rw append-nil at (master [] (e ∷ es) refl)).unfed in
-    let next : Twin (last_after e.entry) (after_event state e).volume (after_event state e).opened slave m = Twin-event known state e (possible_for known e) slave m agrees follows.caused.id follows.caused.possible unfed (λ o begin end ends. begin_legal run before e o begin end follows ends) twin in
+    let next : Twin (last_after e.entry) (after_event state e).volume (after_event state e).opened slave m =
+    Twin-event known state e (possible_for known e) slave m agrees follows.caused.id follows.caused.possible unfed
+    (λ o begin end ends. begin_legal run before e o begin end follows ends) twin in
     let also : Agrees (known_after_entry known e.entry) (after_event state e) = Agrees-event known state e agrees follows.caused.id in
     let pushed : state_after run (before ++ e ∷ []) ≡ after_event state e = after_events-push (opening_state run.opening run.foreigners) before e in
-    let known_pushed : known_after (known_at run.opening.last run.start) (before ++ e ∷ []) ≡ known_after_entry known e.entry = known_after-push (known_at run.opening.last run.start) before e in
+    let known_pushed : known_after (known_at run.opening.last run.start) (before ++ e ∷ []) ≡ known_after_entry known e.entry =
+    known_after-push (known_at run.opening.last run.start) before e in
     let together : (before ++ e ∷ []) ++ es ≡ before ++ e ∷ es = append_assoc before (e ∷ []) es in
     rw (← together) (Twin-history run (before ++ e ∷ []) es slave m (rw together legal) (master_later run before e es m master)
     (rw (pushed, known_pushed) also) (subst (λ (s : State). IsTwin s slave m) (sym pushed) next))

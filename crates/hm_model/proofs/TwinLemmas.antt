@@ -47,7 +47,8 @@ OpenedAs state call after =
     × ((s u : PseudoFileSystem) → system_of state.volume o.pfs ≡ Some s → system_of after.volume o.pfs ≡ Some u → FedNew o.master s u o.origin o.command))
 
 -- the source of a slave that is fed from here on
-pub fed_origin : (volume : Volume) (pfs : ℕ) (fed : Origin) (s u : PseudoFileSystem) → system_of volume pfs ≡ Some s → system_of (of_pfs volume pfs (with_origin (fed_from (origin_of volume pfs) fed))) pfs ≡ Some u → u.origin ≡ fed_from (origin_of volume pfs) fed
+pub fed_origin : (volume : Volume) (pfs : ℕ) (fed : Origin) (s u : PseudoFileSystem) → system_of volume pfs ≡ Some s →
+    system_of (of_pfs volume pfs (with_origin (fed_from (origin_of volume pfs) fed))) pfs ≡ Some u → u.origin ≡ fed_from (origin_of volume pfs) fed
 fed_origin volume pfs fed s u found after =
     let new : PseudoFileSystem = with_origin (fed_from (origin_of volume pfs) fed) s in
     let is : system_of (of_pfs volume pfs (with_origin (fed_from (origin_of volume pfs) fed))) pfs ≡ Some new =
@@ -77,11 +78,36 @@ by_command n s u before a b same is = subst (λ (c : Command). FedNew n s u befo
 -- what an accepted call opens
 opened_as : (state : State) (call : Call) (command : Command) → call.command ≡ command →
     OpenedAs state call (accepted_effect_of state call command)
-opened_as state call (Prune path) is = inr (new_call state call (first_site call).at.pfs (first_site call).at.pfs no_feed, refl, refl, λ s u found after. by_command (first_site call).at.pfs s u (origin_of state.volume (first_site call).at.pfs) call.command (Prune path) is tt)
-opened_as state call (PruneAll path) is = inr (new_call state call (first_site call).at.pfs (first_site call).at.pfs no_feed, refl, refl, λ s u found after. by_command (first_site call).at.pfs s u (origin_of state.volume (first_site call).at.pfs) call.command (PruneAll path) is tt)
-opened_as state call (Reblock fill) is = inr (new_call state call 0 0 no_feed, refl, refl, λ s u found after. by_command 0 s u (origin_of state.volume 0) call.command (Reblock fill) is tt)
-opened_as state call (PfsUpgrade path) is = inr (new_call state call (first_site call).at.pfs (first_site call).at.pfs no_feed, refl, refl, λ s u found after. by_command (first_site call).at.pfs s u (origin_of state.volume (first_site call).at.pfs) call.command (PfsUpgrade path) is tt)
-opened_as state call (MirrorRead path begin) is = inr (new_call state call (first_site call).at.pfs (first_site call).at.pfs no_feed, refl, refl, λ s u found after. by_command (first_site call).at.pfs s u (origin_of state.volume (first_site call).at.pfs) call.command (MirrorRead path begin) is tt)
+opened_as state call (Prune path) is =
+    inr (
+      new_call state call (first_site call).at.pfs (first_site call).at.pfs no_feed,
+      refl,
+      refl,
+      λ s u found after. by_command (first_site call).at.pfs s u (origin_of state.volume (first_site call).at.pfs) call.command (Prune path) is tt,
+    )
+opened_as state call (PruneAll path) is =
+    inr (
+      new_call state call (first_site call).at.pfs (first_site call).at.pfs no_feed,
+      refl,
+      refl,
+      λ s u found after. by_command (first_site call).at.pfs s u (origin_of state.volume (first_site call).at.pfs) call.command (PruneAll path) is tt,
+    )
+opened_as state call (Reblock fill) is =
+    inr (new_call state call 0 0 no_feed, refl, refl, λ s u found after. by_command 0 s u (origin_of state.volume 0) call.command (Reblock fill) is tt)
+opened_as state call (PfsUpgrade path) is =
+    inr (
+      new_call state call (first_site call).at.pfs (first_site call).at.pfs no_feed,
+      refl,
+      refl,
+      λ s u found after. by_command (first_site call).at.pfs s u (origin_of state.volume (first_site call).at.pfs) call.command (PfsUpgrade path) is tt,
+    )
+opened_as state call (MirrorRead path begin) is =
+    inr (
+      new_call state call (first_site call).at.pfs (first_site call).at.pfs no_feed,
+      refl,
+      refl,
+      λ s u found after. by_command (first_site call).at.pfs s u (origin_of state.volume (first_site call).at.pfs) call.command (MirrorRead path begin) is tt,
+    )
 opened_as state call (MirrorWrite path) is =
     let a : ℕ = (first_site call).at.pfs in
     let stream : Feed = next_stream state.streams in
@@ -103,7 +129,8 @@ opened_as state call (MirrorCopy master slave limit) is =
       refl,
       refl,
       λ s u found after.
-          by_command a s u (origin_of state.volume b) call.command (MirrorCopy master slave limit) is (rw (fed_origin state.volume b (Local a) s u found after) (source_new (origin_of state.volume b) a)),
+          by_command a s u (origin_of state.volume b) call.command (MirrorCopy master slave limit) is
+          (rw (fed_origin state.volume b (Local a) s u found after) (source_new (origin_of state.volume b) a)),
     )
 opened_as state call other is = by (is_tree_call other)
   where
@@ -112,22 +139,28 @@ opened_as state call other is = by (is_tree_call other)
     by false = inl refl
 
 -- a PFS that was there is there still
-pub aged_some : (last : ℕ) (s : PseudoFileSystem) (found : Option PseudoFileSystem) → AgesIn last (Some s) found → (u : PseudoFileSystem) × (found ≡ Some u) × Ages last s u
+pub aged_some : (last : ℕ) (s : PseudoFileSystem) (found : Option PseudoFileSystem) → AgesIn last (Some s) found → (u : PseudoFileSystem) × (found ≡ Some u)
+    × Ages last s u
 aged_some last s None ages = absurd ages
 aged_some last s (Some u) ages = (u, refl, ages)
 
 -- versions that begin at a later id go on rising
-pub rise_grown : (least bound id : ℕ) (old more : List (ℕ × FileTree)) → RiseFrom least old → BeginBy bound old → bound ≤ id → least ≤ id → AllByRecursion (λ (v : ℕ × FileTree). v.0 ≡ id) more → RiseFrom least (old ++ more)
+pub rise_grown : (least bound id : ℕ) (old more : List (ℕ × FileTree)) → RiseFrom least old → BeginBy bound old → bound ≤ id → least ≤ id →
+    AllByRecursion (λ (v : ℕ × FileTree). v.0 ≡ id) more → RiseFrom least (old ++ more)
 rise_grown least bound id [] [] rise begin by from all = tt
 rise_grown least bound id [] (v ∷ vs) rise begin by from all = (omega (arith, all.0), rise_grown v.0 bound id [] vs tt tt by (omega (arith, all.0)) all.1)
 rise_grown least bound id (v ∷ vs) more rise begin by from all = (rise.0, rise_grown v.0 bound id vs more rise.1 begin.1 by (omega (arith, begin.0)) all)
 
-each_fed : (slave m last : ℕ) (s u t v : PseudoFileSystem) (os : List OpenCall) → Ages last s u → Ages last t v → s.sync_end ≤ last → AllByRecursion (FedBy slave m s t) os → AllByRecursion (FedBy slave m u v) os
+each_fed : (slave m last : ℕ) (s u t v : PseudoFileSystem) (os : List OpenCall) → Ages last s u → Ages last t v → s.sync_end ≤ last →
+    AllByRecursion (FedBy slave m s t) os → AllByRecursion (FedBy slave m u v) os
 each_fed slave m last s u t v [] ages also drawn fed = tt
-each_fed slave m last s u t v (o ∷ os) ages also drawn fed = (λ is. fed_later o.master last m s u t v o.origin o.command ages also drawn (fed.0 is), each_fed slave m last s u t v os ages also drawn fed.1)
+each_fed slave m last s u t v (o ∷ os) ages also drawn fed =
+    (λ is. fed_later o.master last m s u t v o.origin o.command ages also drawn (fed.0 is), each_fed slave m last s u t v os ages also drawn fed.1)
 
 -- over an accepted call
-pub Twin-accepted : (state : State) (call : Call) (slave m : ℕ) → call.volume ≡ state.volume → (is_pass call.command ≡ true → NoPass state.opened) → Twin state.volume.last state.volume state.opened slave m → Twin (state.volume.last + 1) (accepted_effect state call).volume (accepted_effect state call).opened slave m
+pub Twin-accepted : (state : State) (call : Call) (slave m : ℕ) → call.volume ≡ state.volume → (is_pass call.command ≡ true → NoPass state.opened) →
+    Twin state.volume.last state.volume state.opened slave m → Twin (state.volume.last + 1) (accepted_effect state call).volume
+    (accepted_effect state call).opened slave m
 Twin-accepted state call slave m same alone twin =
     let last : ℕ = state.volume.last in
     let after : State = accepted_effect state call in
@@ -141,12 +174,18 @@ Twin-accepted state call slave m same alone twin =
     let new : versions_of after.volume m ≡ v.0.versions = ap versions_in v.1 in
     let grown : v.0.versions ≡ twin.other.versions ++ grows.more = sym new ∙ (grows.grown ∙ ap (λ (vs : List (ℕ × FileTree)). vs ++ grows.more) old) in
     let begin : AllByRecursion (λ (w : ℕ × FileTree). w.0 ≡ last + 1) grows.more = rw id at grows.begin in
-    let still : AllByRecursion (FedBy slave m u.0 v.0) state.opened = each_fed slave m last twin.own u.0 twin.other v.0 state.opened u.2 v.2 twin.drawn twin.fed in
-    let as_before : u.0.role ≡ Slave → Follows m u.0 v.0 twin.own.origin = λ role. follows_later last m twin.own u.0 twin.other v.0 u.2 v.2 twin.drawn twin.own.origin (twin.follows (sym u.2.role ∙ role)) in
+    let still : AllByRecursion (FedBy slave m u.0 v.0) state.opened =
+    each_fed slave m last twin.own u.0 twin.other v.0 state.opened u.2 v.2 twin.drawn twin.fed in
+    let as_before : u.0.role ≡ Slave → Follows m u.0 v.0 twin.own.origin =
+    λ role. follows_later last m twin.own u.0 twin.other v.0 u.2 v.2 twin.drawn twin.own.origin (twin.follows (sym u.2.role ∙ role)) in
     let calls : AllByRecursion (FedBy slave m u.0 v.0) after.opened × OnePass after.opened = elim (opened_as state call call.command refl) [
       | inl is ↦ rw is (still, twin.one)
       | inr new_one ↦ rw new_one.1 (
-        (λ is_slave. fed_new new_one.0.master m twin.own u.0 v.0 new_one.0.origin new_one.0.command (new_one.3 twin.own u.0 (rw is_slave twin.found) (rw is_slave u.1)) as_before, still),
+        (
+          λ is_slave. fed_new new_one.0.master m twin.own u.0 v.0 new_one.0.origin new_one.0.command
+              (new_one.3 twin.own u.0 (rw is_slave twin.found) (rw is_slave u.1)) as_before,
+          still,
+        ),
         (λ is. alone (rw (← new_one.2) is), twin.one),
       )
     ] in
@@ -160,5 +199,7 @@ Twin-accepted state call slave m same alone twin =
       fed = calls.0;
       one = calls.1;
       rising = rw grown (rise_grown 0 last (last + 1) twin.other.versions grows.more twin.rising twin.begun (omega arith) (omega arith) begin);
-      begun = rw grown (begin_grown (last + 1) (last + 1) twin.other.versions grows.more (omega arith) (by_later last (last + 1) twin.other.versions twin.begun (omega arith)) begin);
+      begun =
+          rw grown (begin_grown (last + 1) (last + 1) twin.other.versions grows.more (omega arith)
+          (by_later last (last + 1) twin.other.versions twin.begun (omega arith)) begin);
     }

@@ -7,5 +7,6 @@ use Rattle.hm_model.proofs.answer.listing.Given as goal
 -- the entries that are left come after those that were found
 abbrev pub invariant-loop-triple : goal.invariant-loop-triple
 invariant-loop-triple l =
-    l.names.items ++ map (λ (t : Triple). (entry_kind l.tree t.object, t.name)) (filter (λ (t : Triple). t.directory.0 == l.directory.0) (drop l.triple-index l.tree.triples))
+    l.names.items ++ map (λ (t : Triple). (entry_kind l.tree t.object, t.name))
+    (filter (λ (t : Triple). t.directory.0 == l.directory.0) (drop l.triple-index l.tree.triples))
     ≡ listing l.tree l.directory

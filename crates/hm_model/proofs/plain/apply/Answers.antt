@@ -13,19 +13,24 @@ returns-in-Err c =
     let P : Stop → Type 0 = StopsCall c.args.tree.now c.args.call.now in
     let Q : Stop → Type 0 = IsRefusing in
     apply_refused c.args.tree.now c.args.call.now c.args.id.0 c.in_ok-refusal_of-in-Err.field-0 c.in_ok-copy_of-in-Err.field-0 c.requires.0 c.requires.1
-    (subst P c.in_ok-refusal_of-in-Err.ensures c.in-Err.ensures.err) (subst Q c.in_ok-refusal_of-in-Err.ensures c.in-Err.ensures.refuses) c.in_ok-copy_of-in-Err.ensures
+    (subst P c.in_ok-refusal_of-in-Err.ensures c.in-Err.ensures.err) (subst Q c.in_ok-refusal_of-in-Err.ensures c.in-Err.ensures.refuses)
+    c.in_ok-copy_of-in-Err.ensures
 
 pub returns-in-Some : goal.returns-in-Some
 returns-in-Some c =
     apply_refused c.args.tree.now c.args.call.now c.args.id.0 c.in-Some.refusal c.in_ok-copy_of.field-0 c.requires.0 c.requires.1
-    (own_refuses c.args.tree.now c.args.call.now c.in-Ok.places.0 c.in-Ok.places.1 c.in-Some.refusal c.in-Ok.ensures.ok (sym c.in-Some.ensures.check)) c.in-Some.ensures.refuses c.in_ok-copy_of.ensures
+    (own_refuses c.args.tree.now c.args.call.now c.in-Ok.places.0 c.in-Ok.places.1 c.in-Some.refusal c.in-Ok.ensures.ok (sym c.in-Some.ensures.check))
+    c.in-Some.ensures.refuses c.in_ok-copy_of.ensures
 
 pub returns-in-Some-hash_refusal : goal.returns-in-Some-hash_refusal
 returns-in-Some-hash_refusal c =
-    hash_refuses c.args.tree.now c.args.call.now c.args.id.0 c.in-Ok.places.0 c.in-Ok.places.1 c.in-Some-hash_refusal.refusal c.in_ok-copy_of-2.field-0 c.requires.0 c.requires.1
-    c.in-Ok.ensures.ok (sym c.own_refusal.ensures.check ∙ c.in_default.is) (sym c.in-Some-hash_refusal.ensures.check) c.in-Some-hash_refusal.ensures.refuses c.in_ok-copy_of-2.ensures
+    hash_refuses c.args.tree.now c.args.call.now c.args.id.0 c.in-Ok.places.0 c.in-Ok.places.1 c.in-Some-hash_refusal.refusal c.in_ok-copy_of-2.field-0
+    c.requires.0 c.requires.1
+    c.in-Ok.ensures.ok (sym c.own_refusal.ensures.check ∙ c.in_default.is) (sym c.in-Some-hash_refusal.ensures.check) c.in-Some-hash_refusal.ensures.refuses
+    c.in_ok-copy_of-2.ensures
 
 pub returns : goal.returns
 returns c =
     apply_done c.args.tree.now c.args.call.now c.args.id.0 c.in-Ok.places.0 c.in-Ok.places.1 c.in_ok-edit.field-0 c.requires.0 c.requires.1
-    c.in-Ok.ensures.ok (sym c.own_refusal.ensures.check ∙ c.in_default.is) (sym c.hash_refusal.ensures.check ∙ c.in_default-hash_refusal.is) c.in_ok-edit.ensures
+    c.in-Ok.ensures.ok (sym c.own_refusal.ensures.check ∙ c.in_default.is) (sym c.hash_refusal.ensures.check ∙ c.in_default-hash_refusal.is)
+    c.in_ok-edit.ensures

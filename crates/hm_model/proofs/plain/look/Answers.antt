@@ -23,6 +23,9 @@ returns-in-Some c =
 
 pub returns : goal.returns
 returns c =
-    IfOk-weaker c.answer.result (λ (r : Reply). r ≡ answered_at c.args.tree.now c.args.call.now (site_of c.in-Ok.places.0)) (IsLooked c.args.tree.now c.args.call.now)
-    (λ (r : Reply) (same : r ≡ answered_at c.args.tree.now c.args.call.now (site_of c.in-Ok.places.0)). look_answered c.args.tree.now c.args.call.now c.in-Ok.places.0 c.in-Ok.places.1 r c.in-Ok.ensures.ok (sym c.own_refusal.ensures.check ∙ c.in_default.is) same)
+    IfOk-weaker c.answer.result (λ (r : Reply). r ≡ answered_at c.args.tree.now c.args.call.now (site_of c.in-Ok.places.0))
+    (IsLooked c.args.tree.now c.args.call.now)
+    (λ (r : Reply) (same : r ≡ answered_at c.args.tree.now c.args.call.now (site_of c.in-Ok.places.0)).
+    look_answered c.args.tree.now c.args.call.now c.in-Ok.places.0 c.in-Ok.places.1 r c.in-Ok.ensures.ok
+    (sym c.own_refusal.ensures.check ∙ c.in_default.is) same)
     c.answer.ensures

@@ -11,8 +11,10 @@ returns-in_err-path-clause-err c =
 
 pub returns-then-carries_id-clause-err : goal.returns-then-carries_id-clause-err
 returns-then-carries_id-clause-err c =
-    read_with_id c.args.named c.args.word.now c.in_ok-path.path ReadOnly (rw c.bytes.ensures at c.in_ok-path.ensures.ok) (rw c.parts.ensures at (sym c.if-carries_id.ensures))
+    read_with_id c.args.named c.args.word.now c.in_ok-path.path ReadOnly (rw c.bytes.ensures at c.in_ok-path.ensures.ok)
+    (rw c.parts.ensures at (sym c.if-carries_id.ensures))
 
 pub returns-then-not-has_last_name-clause-err : goal.returns-then-not-has_last_name-clause-err
 returns-then-not-has_last_name-clause-err c =
-    rw c.if-named.true (read_without_name c.args.word.now c.in_ok-path.path (rw c.bytes.ensures at c.in_ok-path.ensures.ok) (rw c.parts-then-named.ensures at (sym c.if-not-has_last_name.ensures)))
+    rw c.if-named.true (read_without_name c.args.word.now c.in_ok-path.path (rw c.bytes.ensures at c.in_ok-path.ensures.ok)
+    (rw c.parts-then-named.ensures at (sym c.if-not-has_last_name.ensures)))

@@ -10,7 +10,8 @@ pub returns : goal.returns
 returns c state event o begin end slave ends found = (
   after_pass (given_in state.volume o) begin.0 end.0 slave,
   slave-pass state event o begin end ends
-      ∙ ap (λ (s : Option PseudoFileSystem). option_map_or (λ (t : PseudoFileSystem). Some (after_pass (given_in state.volume o) begin.0 end.0 t)) s None) found,
+      ∙ ap (λ (s : Option PseudoFileSystem). option_map_or (λ (t : PseudoFileSystem). Some (after_pass (given_in state.volume o) begin.0 end.0 t)) s None)
+      found,
   refl,
   refl,
 )

@@ -17,6 +17,7 @@ returns c run before event o begin end into slave follows ends command found =
       stream.taken,
       stream.named,
       slave-pass state event o begin end ends
-          ∙ ap (λ (s : Option PseudoFileSystem). option_map_or (λ (t : PseudoFileSystem). Some (after_pass (given_in state.volume o) begin.0 end.0 t)) s None) found,
+          ∙ ap (λ (s : Option PseudoFileSystem). option_map_or (λ (t : PseudoFileSystem). Some (after_pass (given_in state.volume o) begin.0 end.0 t)) s
+          None) found,
       ap (λ (r : List (ℕ × ℕ)). join slave.retention r begin.0 end.0) (retention_brought state.volume o into stream.term command stream.taken),
     )

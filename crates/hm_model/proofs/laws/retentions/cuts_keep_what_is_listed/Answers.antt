@@ -14,4 +14,5 @@ returns-clause-intervals c = IsIntervals-cut
 
 pub returns-clause-alone : goal.returns-clause-alone
 returns-clause-alone c retention ids from list rise rise_list is =
-    alone (λ (id : ℕ). Keeps retention id × (IsListed ids id ⊎ (from ≤ id))) list (cut retention (numbers ids) from) rise_list (IsIntervals-cut retention (numbers ids) from rise) is (IsCut-cut retention ids from)
+    alone (λ (id : ℕ). Keeps retention id × (IsListed ids id ⊎ (from ≤ id))) list (cut retention (numbers ids) from) rise_list
+    (IsIntervals-cut retention (numbers ids) from rise) is (IsCut-cut retention ids from)

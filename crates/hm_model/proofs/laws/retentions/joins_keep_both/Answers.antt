@@ -13,4 +13,5 @@ returns-clause-intervals c = IsIntervals-join
 
 pub returns-clause-alone : goal.returns-clause-alone
 returns-clause-alone c retention other begin end list rise rise_other rise_list is =
-    alone (λ (id : ℕ). Keeps retention id ⊎ (Keeps other id × (begin < id) × (id ≤ end))) list (join retention other begin end) rise_list (IsIntervals-join retention other begin end rise rise_other) is (IsJoin-join retention other begin end)
+    alone (λ (id : ℕ). Keeps retention id ⊎ (Keeps other id × (begin < id) × (id ≤ end))) list (join retention other begin end) rise_list
+    (IsIntervals-join retention other begin end rise rise_other) is (IsJoin-join retention other begin end)
