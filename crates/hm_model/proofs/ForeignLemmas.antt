@@ -11,12 +11,11 @@ use Rattle.hm_retain.proofs.SetLemmas.{less_or_not}
 use Rattle.hm_model.specs.declared.command.Command.{Command}
 use Rattle.hm_model.specs.declared.command.Command.TheVariants.{End, MirrorCopy, MirrorRead, MirrorWrite, PfsSlave, PfsUpgrade, Prune, PruneAll, Reblock}
 use Rattle.hm_model.specs.declared.reply.Reply.TheVariants.{Passed}
-use Rattle.hm_model.specs.After.{Event, OpenCall, State, accepted_effect, after_event, after_events, after_pass, call_of, effect, end_effect, end_id, end_of_pass, end_of_upgrade, ended, fed_from, feeding, given_in, is_origin, last_after, later_streams, next_stream, no_hash, nothing_merged, of_pfs, on_volume, opened_with, opening_state, origin_of, present_only, retaining, stream_origin, upgraded, with_opened, with_origin, accepted_effect_of}
-use Rattle.hm_model.specs.Call.{Call, first_site, own_id, second_site}
+use Rattle.hm_model.specs.After.{Event, OpenCall, State, accepted_effect, after_event, after_events, after_pass, call_of, effect, end_effect, end_id, end_of_pass, end_of_upgrade, ended, fed_from, given_in, is_origin, last_after, later_streams, next_stream, no_hash, nothing_merged, of_pfs, on_volume, opened_with, opening_state, origin_of, stream_origin, upgraded, with_origin, accepted_effect_of}
+use Rattle.hm_model.specs.Call.{Call, first_site, second_site}
 use Rattle.hm_model.specs.Caused.{is_ending, known_after, known_at, possible_for}
 use Rattle.hm_model.specs.Change.{change, new_slave}
-use Rattle.hm_model.specs.Cut.{pruned}
-use Rattle.hm_model.specs.Due.{is_pass, is_tree_call, kept_ids, new_pfs}
+use Rattle.hm_model.specs.Due.{is_pass, is_tree_call, new_pfs}
 use Rattle.hm_model.specs.Foreign.{Feed, ForeignMaster, no_feed}
 use Rattle.hm_model.specs.Laws.{EndsPass, FollowsForeign, IsThere, Makes, ShowsTrees, merges, rewrites}
 use Rattle.hm_model.specs.Legal.{IsBrought, IsLegal, MayFollow, Setting, state_after}

@@ -8,16 +8,13 @@ use Rattle.hm_model.specs.declared.command.Command.TheVariants.{Prune, PruneAll,
 use Rattle.hm_model.specs.declared.entry.Entry.{Entry}
 use Rattle.hm_model.specs.declared.reply.Reply.{Reply}
 use Rattle.hm_model.specs.declared.reply.Reply.TheVariants.{Done, Listing, Content, Status, Target, Synced, MadePfs, PfsIs, Space, Finished, Passed, Cut, Busy}
-use Rattle.hm_model.specs.After.{Event, OpenCall, State, accepted_effect, after_event, call_of, effect, ended, feeding, later_streams, next_stream, no_hash, of_pfs, on_volume, present_only, retaining, stream_origin, with_opened, accepted_effect_of}
-use Rattle.hm_model.specs.Call.{Call, first_site, own_id, second_site}
+use Rattle.hm_model.specs.After.{Event, OpenCall, State, accepted_effect, after_event, call_of, effect, ended, no_hash, on_volume, accepted_effect_of}
+use Rattle.hm_model.specs.Call.{Call, own_id}
 use Rattle.hm_model.specs.Caused.{IsFree, IsPossible, Known, early_refusal, is_ending, is_housekeeping, known_after_entry, known_busy, number_of, opens, still_open}
 use Rattle.hm_model.specs.Change.{change}
-use Rattle.hm_model.specs.Cut.{pruned}
-use Rattle.hm_model.specs.Foreign.{no_feed}
-use Rattle.hm_model.specs.Due.{Check, first_refusal, good_paths, is_pass, is_tree_call, kept_ids, no_future, no_future_begin, none_open, past_stays}
+use Rattle.hm_model.specs.Due.{Check, first_refusal, good_paths, is_pass, is_tree_call, no_future, no_future_begin, none_open, past_stays}
 use Rattle.hm_model.specs.Sites.{Use, uses_of}
 use Rattle.hm_model.specs.Reply.{is_refusal}
-use Rattle.hm_model.specs.Volume.{Local}
 use Rattle.hm_model.proofs.RefusalLemmas.{not_ending}
 
 -- the open calls, each with its opening id, as they are known

@@ -4,12 +4,12 @@ use Rattle.std.specs.Prelude.{Option, Some, None, if◌then◌else◌}
 use Rattle.std.specs.Option.{option_map_or}
 use Rattle.hm_types.specs.declared.id.Id.{Id}
 use Rattle.hm_model.specs.declared.command.Command.{Command}
-use Rattle.hm_model.specs.declared.command.Command.TheVariants.{End, MirrorCopy, MirrorWrite, PfsUpgrade}
+use Rattle.hm_model.specs.declared.command.Command.TheVariants.{End, MirrorCopy, MirrorWrite}
 use Rattle.hm_model.specs.declared.reply.Reply.{Reply}
 use Rattle.hm_model.specs.declared.reply.Reply.TheVariants.{Passed}
 use Rattle.hm_types.specs.declared.text.Text.{Text}
 use Rattle.hm_model.specs.Foreign.{Feed, ForeignMaster, StreamEnd, brought}
-use Rattle.hm_model.specs.After.{Event, Given, OpenCall, State, accepted_effect, after_event, after_pass, call_of, end_effect, end_of_pass, end_of_upgrade, end_of_write, ended, given_by, given_in, no_hash, nothing_given, origin_of, end_effect_of}
+use Rattle.hm_model.specs.After.{Event, Given, OpenCall, State, accepted_effect, after_event, after_pass, call_of, end_effect, end_of_pass, ended, given_by, given_in, no_hash, nothing_given, origin_of, end_effect_of}
 use Rattle.hm_model.specs.Call.{Call}
 use Rattle.hm_model.specs.Laws.{AreRising, EndsPass, merges, versions_of}
 use Rattle.hm_model.specs.Legal.{IsAllowed, IsBrought, IsEnding, IsPassed, MayFollow, Setting, begin_of, call_after, enters_unclear, floor_after, state_after}

@@ -13,13 +13,12 @@ use Rattle.hm_model.specs.declared.command.Command.{Command}
 use Rattle.hm_model.specs.declared.command.Command.TheVariants.{End, Prune, PruneAll, Reblock, PfsUpgrade, MirrorRead, MirrorWrite, MirrorCopy}
 use Rattle.hm_model.specs.declared.reply.Reply.{Reply}
 use Rattle.hm_model.specs.declared.reply.Reply.TheVariants.{TooManyIntervals}
-use Rattle.hm_model.specs.After.{Event, OpenCall, State, accepted_effect, after_event, after_pass, call_of, effect, end_effect, end_of_pass, ended, fed_from, feeding, given_in, later_streams, next_stream, no_hash, nothing_merged, of_pfs, on_volume, opened_end, opened_with, opening_state, origin_of, present_only, retaining, stream_origin, upgraded, with_opened, with_origin, accepted_effect_of}
+use Rattle.hm_model.specs.After.{Event, OpenCall, State, accepted_effect, after_event, after_pass, call_of, effect, end_effect, end_of_pass, ended, fed_from, given_in, next_stream, no_hash, nothing_merged, of_pfs, on_volume, opened_end, opened_with, opening_state, origin_of, present_only, retaining, stream_origin, upgraded, with_origin, accepted_effect_of}
 use Rattle.hm_model.specs.Call.{Call, call_shown, each_located, first_of, first_site, own_id, second_site, site_system, site_tree}
 use Rattle.hm_model.specs.Caused.{is_ending, writes_stream}
 use Rattle.hm_model.specs.Change.{change, changed, changed_pfs, new_slave}
 use Rattle.hm_model.specs.Cut.{cut, join, maximal, pruned, single, snapshot_ids, with_interval, within}
 use Rattle.hm_model.specs.Due.{intervals_left, is_tree_call, kept_ids, new_pfs, pruned_count, Check, refuse_if}
-use Rattle.hm_model.specs.Foreign.{no_feed}
 use Rattle.hm_types.specs.Hash.{name_hash}
 use Rattle.hm_model.specs.Laws.{AreSmall, EndsPass, merges}
 use Rattle.hm_model.specs.Legal.{IsLegal, IsPassed, MayFollow, Setting, begin_of, gained_count, joined_count, state_after}

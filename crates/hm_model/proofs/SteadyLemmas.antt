@@ -6,7 +6,7 @@ use Rattle.std.specs.List.{list_any}
 use Rattle.std.proofs.lemmas.Bool.Decides.{nat_tests}
 use Rattle.hm_model.specs.declared.command.Command.{Command}
 use Rattle.hm_model.specs.declared.command.Command.TheVariants.{Prune, PruneAll, Reblock, PfsUpgrade, MirrorRead, MirrorWrite, MirrorCopy, End}
-use Rattle.hm_model.specs.After.{Event, OpenCall, State, accepted_effect, after_event, call_of, effect, ended, feeding, last_after, later_streams, next_stream, no_hash, of_pfs, on_volume, opening_state, present_only, retaining, stream_origin, with_opened, accepted_effect_of}
+use Rattle.hm_model.specs.After.{Event, OpenCall, State, accepted_effect, after_event, call_of, effect, ended, last_after, next_stream, no_hash, of_pfs, on_volume, opening_state, present_only, retaining, with_opened, accepted_effect_of}
 use Rattle.hm_model.specs.Answer.{is_master}
 use Rattle.hm_model.specs.Call.{Call, each_located, first_of, first_site, own_id, second_of, second_site}
 use Rattle.hm_model.specs.Caused.{is_ending}
@@ -19,7 +19,7 @@ use Rattle.hm_model.specs.Laws.{IsMasterThroughout, IsSteadyMaster, IsUnfed, is_
 use Rattle.hm_model.specs.Legal.{IsLegal, MayFollow, Setting, state_after}
 use Rattle.hm_model.specs.Reply.{is_refusal}
 use Rattle.hm_model.specs.Sites.{Parsed, BadAt, Parts, Site, Use, uses_of}
-use Rattle.hm_model.specs.Volume.{Local, PseudoFileSystem, Role, Master, Slave, system_of}
+use Rattle.hm_model.specs.Volume.{PseudoFileSystem, Role, Master, Slave, system_of}
 use Rattle.hm_model.proofs.AgeLemmas.{AgesIn, ages_accepted}
 use Rattle.hm_model.proofs.CheckLemmas.{written_site, written_slave}
 use Rattle.hm_model.proofs.EffectLemmas.{ended_system, or_false}

@@ -7,7 +7,6 @@ use Rattle.std.specs.List.{Contains, list_any}
 use Rattle.std.proofs.lemmas.Bool.Decides.{nat_tests}
 use Rattle.std.proofs.lemmas.Map.Views.{Contains-from_any}
 use Rattle.hm_types.specs.declared.limits.TheConstants.{GREATEST_ID}
-use Rattle.hm_model.specs.declared.command.Command.TheVariants.{End}
 use Rattle.hm_model.specs.declared.entry.Entry.{Entry}
 use Rattle.hm_model.specs.declared.reply.Reply.{Reply}
 use Rattle.hm_model.specs.After.{Event, OpenCall, State, after_event, after_events, call_of, opened_with, opening_state}

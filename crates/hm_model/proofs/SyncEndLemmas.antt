@@ -5,7 +5,6 @@ use Rattle.std.specs.Prelude.{Bool, Option, Some, None, if◌then◌else◌}
 use Rattle.std.specs.List.{AllByRecursion}
 use Rattle.std.specs.Option.{option_map_or}
 use Rattle.hm_types.specs.declared.id.Id.{Id}
-use Rattle.hm_model.specs.declared.command.Command.TheVariants.{End}
 use Rattle.hm_model.specs.declared.reply.Reply.{Reply}
 use Rattle.hm_model.specs.declared.reply.Reply.TheVariants.{Passed}
 use Rattle.hm_model.specs.After.{Event, OpenCall, State, accepted_effect, after_event, after_pass, call_of, effect, end_effect, end_of_pass, end_of_upgrade, ended, fed_from, given_in, last_after, next_stream, no_hash, nothing_merged, of_pfs, on_volume, opened_with, opening_state, origin_of, present_only, retaining, stream_origin, upgraded, with_origin}
@@ -17,7 +16,7 @@ use Rattle.hm_model.specs.Due.{is_pass, is_tree_call, kept_ids, new_pfs}
 use Rattle.hm_model.specs.Legal.{IsLegal, MayFollow, Setting, state_after, sync_end_of}
 use Rattle.hm_model.specs.Reply.{is_refusal}
 use Rattle.hm_model.specs.View.{Now}
-use Rattle.hm_model.specs.Volume.{Local, PseudoFileSystem, Volume, add_version, new_master, system_of}
+use Rattle.hm_model.specs.Volume.{Local, PseudoFileSystem, Volume, add_version, new_master}
 use Rattle.hm_types.specs.Tree.{FileTree, root_tree}
 use Rattle.hm_model.proofs.ChangeLemmas.{new_cases, versioned}
 use Rattle.hm_model.proofs.EffectLemmas.{accepted_cases, by_role}

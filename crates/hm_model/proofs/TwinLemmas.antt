@@ -5,11 +5,10 @@ use Rattle.std.specs.List.{AllByRecursion}
 use Rattle.std.specs.Option.{option_map_or}
 use Rattle.hm_model.specs.declared.command.Command.{Command}
 use Rattle.hm_model.specs.declared.command.Command.TheVariants.{Prune, PruneAll, Reblock, PfsUpgrade, MirrorRead, MirrorWrite, MirrorCopy}
-use Rattle.hm_model.specs.After.{OpenCall, State, accepted_effect, fed_from, feeding, later_streams, next_stream, of_pfs, on_volume, origin_of, present_only, retaining, stream_origin, with_opened, with_origin, accepted_effect_of}
+use Rattle.hm_model.specs.After.{OpenCall, State, accepted_effect, fed_from, next_stream, of_pfs, on_volume, origin_of, stream_origin, with_origin, accepted_effect_of}
 use Rattle.hm_model.specs.Call.{Call, first_site, own_id, second_site}
 use Rattle.hm_model.specs.Change.{change}
-use Rattle.hm_model.specs.Cut.{pruned}
-use Rattle.hm_model.specs.Due.{is_pass, is_tree_call, kept_ids}
+use Rattle.hm_model.specs.Due.{is_pass, is_tree_call}
 use Rattle.hm_model.specs.Foreign.{Feed, no_feed}
 use Rattle.hm_model.specs.Laws.{AreRising, BeginBy, RiseFrom, versions_of}
 use Rattle.hm_types.specs.Tree.{FileTree}

@@ -398,7 +398,7 @@ ended state opening reply = record state {
   opened = filter (λ o. if o.opening == opening then false else true) state.opened;
 }
 
--- the PFS in which the first path of a call leads, and that of the second one
+-- the PFS to which the first path of a call leads, and that of the second one
 abbrev pub first_pfs : Call → ℕ
 first_pfs call = (first_site call).at.pfs
 
