@@ -2,6 +2,8 @@
 #![tactic(auto)]
 
 mod change;
+#[cfg(test)]
+mod damage_tests;
 mod empty;
 mod inner_edit;
 mod insert;

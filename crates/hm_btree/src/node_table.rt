@@ -7,7 +7,7 @@ ghost use Rattle.hm_btree.specs.MemSpace.{room_of};
 use crate::space::{MOST_NODES, NODE_BYTES, NodeSpace};
 use hm_fields::{Page, Pages};
 use hm_key::HasRoom;
-use hm_node::NodePages;
+use hm_node::{NodePages, Rule};
 use hm_types::{BAD_LEVEL, Counted, Fault, HOff, TREE_ZONE};
 use std::alloc::Global;
 
@@ -21,13 +21,24 @@ struct Stored {
     ghost node: { HoldsNode page.value } by { Prim.hlevel (HoldsNode-prop, props) },
 }
 
+// A place of the table.
+#[derive(Drop)]
+enum Slot {
+    // No page stands there.
+    Free,
+    // The page of a node does.
+    Node(Stored),
+    // A page does that breaks a rule by itself.
+    Broken(Rule),
+}
+
 /// Nodes in a table in memory, each at its place, which tells nothing of them, as the space of a
 /// volume on a device. It is there for tests, and for tools that measure. It counts how many nodes
 /// are read and written. Its frame is the write from which on it refuses.
 #[derive(Drop)]
 pub struct NodeTable {
     alloc: Global,
-    pages: Vec<Option<Stored>>,
+    pages: Vec<Slot>,
     room: u64,
     reads: u64,
     writes: u64,
@@ -35,7 +46,7 @@ pub struct NodeTable {
 }
 
 impl NodeTable {
-    ghost use Rattle.std.specs.Prelude.{◌≡◌, ℕ, None, IfSome};
+    ghost use Rattle.std.specs.Prelude.{◌≡◌, ℕ, None, IfOk};
     ghost use Rattle.hm_types.specs.Faults.{HasStoreCause};
 
     /// No node. It takes no memory.
@@ -66,7 +77,7 @@ impl NodeTable {
     pub fn len(&self) -> usize {
         let mut nodes: usize = 0;
         for page in self.pages.iter() {
-            if page.is_some() {
+            if !matches!(page, Slot::Free) {
                 nodes = nodes.saturating_add(1);
             }
         }
@@ -78,6 +89,18 @@ impl NodeTable {
         ensures { result ≡ self.now.room }
     {
         self.room
+    }
+
+    /// A page stands at `at` that breaks this rule by itself: each read of it tells that damage, as a
+    /// space over a device does, until another is put there. Does nothing where no page stands.
+    pub fn spoil(&mut self, at: HOff, rule: Rule)
+        ensures room { self.new.room ≡ self.old.room }
+        ensures frame { self.new.refused ≡ self.old.refused }
+    {
+        let place = at.byte() / u64::from(NODE_BYTES);
+        if let Some(slot) = self.pages.get_mut(place as usize) {
+            *slot = Slot::Broken(rule);
+        }
     }
 
     /// From this write on, counted from 0, each is refused for want of memory.
@@ -100,14 +123,15 @@ impl NodeTable {
         Ok(())
     }
 
-    // The page at a place, if there is one.
-    fn at(&self, at: HOff) -> Option<&Page>
-        ensures { IfSome result (λ page. HoldsNode page.now) }
+    // The page at a place, or what it is damaged by.
+    fn at(&self, at: HOff) -> Result<&Page, u8>
+        ensures { IfOk result (λ page. HoldsNode page.now) }
     {
         let place = at.byte() / u64::from(NODE_BYTES);
         match self.pages.get(place as usize) {
-            Some(Some(stored)) => Some(&*stored.page),
-            _ => None,
+            Some(Slot::Node(stored)) => Ok(&*stored.page),
+            Some(Slot::Broken(rule)) => Err(rule.kind()),
+            _ => Err(BAD_LEVEL),
         }
     }
 }
@@ -148,14 +172,11 @@ impl Pages for NodeTable {
     fn page(&mut self, at: HOff, into: &mut Page) -> Result<(), Fault> {
         self.reads = self.reads.saturating_add(1);
         match self.at(at) {
-            Some(page) => {
+            Ok(page) => {
                 *into = *page;
                 Ok(())
             }
-            None => Err(Fault::Damaged {
-                at,
-                kind: BAD_LEVEL,
-            }),
+            Err(kind) => Err(Fault::Damaged { at, kind }),
         }
     }
 
@@ -163,11 +184,16 @@ impl Pages for NodeTable {
         self.write()?;
         let place = at.byte() / u64::from(NODE_BYTES);
         match self.pages.get_mut(place as usize) {
-            Some(Some(stored)) => {
+            Some(Slot::Node(stored)) => {
                 *stored.page = *with;
                 Ok(())
             }
-            _ => Err(Fault::NoMemory),
+            None | Some(Slot::Free) => Err(Fault::NoMemory),
+            Some(slot) => {
+                let page = Box::new(self.alloc, *with)?;
+                *slot = Slot::Node(Stored { page });
+                Ok(())
+            }
         }
     }
 }
@@ -194,7 +220,7 @@ impl NodeSpace for NodeTable {
         };
         self.write()?;
         let page = Box::new(self.alloc, *with)?;
-        self.pages.push(Some(Stored { page }))?;
+        self.pages.push(Slot::Node(Stored { page }))?;
         self.room -= u64::from(NODE_BYTES);
         Ok(at)
     }
@@ -202,8 +228,8 @@ impl NodeSpace for NodeTable {
     fn drop_node(&mut self, at: HOff) -> Result<(), Fault> {
         let place = at.byte() / u64::from(NODE_BYTES);
         match self.pages.get_mut(place as usize) {
-            Some(page) => {
-                *page = None;
+            Some(slot) => {
+                *slot = Slot::Free;
                 Ok(())
             }
             None => Err(Fault::NoMemory),

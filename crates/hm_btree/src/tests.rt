@@ -9,7 +9,7 @@ use hm_fields::{Page, Pages};
 use hm_key::{Base, ELEMENT, Element, ElementStore, HasElements, HasRoom, OTHER_PART, SNAPSHOT};
 use hm_node::{Node, broken_rule, encode};
 use hm_search::{Subtree, read_node};
-use hm_types::{BAD_LEVEL, BAD_MIRROR, Fault, HOff, INSERT_ROOM, Id, Obj, TREE_ZONE};
+use hm_types::{BAD_LEVEL, Fault, HOff, INSERT_ROOM, Id, Obj, TREE_ZONE};
 use std::alloc::Global;
 use std::cmp::Ordering;
 use std::collections::BTreeMap;
@@ -22,7 +22,7 @@ fn key(before: u64) -> u64 {
 }
 
 // An element with this key, made by this id.
-fn element(key: u64, create: u64) -> Element
+pub(crate) fn element(key: u64, create: u64) -> Element
     requires { 0 < create }
     ensures element { IsElement result }
     ensures create { result.base.create ≡ create }
@@ -44,7 +44,7 @@ fn element(key: u64, create: u64) -> Element
 }
 
 // A tree without elements.
-fn empty(alloc: Global) -> Result<BTree<NodeTable>, Fail> {
+pub(crate) fn empty(alloc: Global) -> Result<BTree<NodeTable>, Fail> {
     match BTree::empty(NodeTable::new(alloc)) {
         Ok(tree) => Ok(tree),
         Err(_) => Err(Fail::from("the root is refused")),
@@ -52,7 +52,7 @@ fn empty(alloc: Global) -> Result<BTree<NodeTable>, Fail> {
 }
 
 // Inserts an element, where there is room.
-fn insert(tree: &mut BTree<NodeTable>, e: &Element) -> Result<(), Fault>
+pub(crate) fn insert(tree: &mut BTree<NodeTable>, e: &Element) -> Result<(), Fault>
     requires { IsElement e.now }
 {
     if tree.space().room() < u64::from(INSERT_ROOM) {
@@ -226,7 +226,7 @@ fn marked(alloc: Global) -> Result<BTree<NodeTable>, Fail> {
 }
 
 // The boundary at the element with this key.
-fn boundary(key: u64) -> Base {
+pub(crate) fn boundary(key: u64) -> Base {
     element(key, 1).base.boundary()
 }
 
@@ -276,65 +276,9 @@ fn an_insertion_has_room_for_ten_nodes(rt: HostRuntime) -> Result<(), Fail> {
     Ok(())
 }
 
-// A tree of the keys below 192 whose leaves begin at 0, 32 and so on. In one of these the `mirror` is
-// greater than the one that the root has for it. With where that leaf stands.
-fn marred(alloc: Global, child: usize) -> Result<(BTree<NodeTable>, HOff), Fail> {
-    let mut tree = empty(alloc)?;
-    for i in 0..192u64 {
-        insert(&mut tree, &element(i, 1))?;
-    }
-    let (mut space, root) = tree.into_parts();
-    let place = match read_node(&mut space, &Subtree::root(root))? {
-        Node::Inner(inner) if child < inner.places.len() => Subtree::child(&inner, child),
-        _ => return Err(Fail::from("the root has no such child")),
-    };
-    let mut page = Page::zero();
-    match read_node(&mut space, &place)? {
-        Node::Leaf(mut leaf) => {
-            leaf.mirror = 2;
-            encode(&Node::Leaf(leaf), &mut page);
-        }
-        Node::Inner(_) => return Err(Fail::from("the child is no leaf")),
-    }
-    put(&mut space, place.at, &page)?;
-    Ok((BTree::over(space, root), place.at))
-}
-
-// What that leaf is damaged by.
-fn other_mirror(at: HOff) -> Fault {
-    Fault::Damaged {
-        at,
-        kind: BAD_MIRROR,
-    }
-}
-
-#[test]
-fn damage_below_the_root_is_told_where_it_is(rt: HostRuntime) -> Result<(), Fail> {
-    let alloc = rt.alloc();
-    for child in 0..6usize {
-        let key = 32 * child as u64 + 7;
-        let at = element(key, 1).base;
-        let (mut tree, place) = marred(alloc, child)?;
-        assert_eq!(rt;
-            insert(&mut tree, &element(key, 2)),
-            Err(other_mirror(place))
-        );
-        let (mut tree, place) = marred(alloc, child)?;
-        assert_eq!(rt; tree.set_delete(&at, 9), Err(other_mirror(place)));
-        let (mut tree, place) = marred(alloc, child)?;
-        assert_eq!(rt;
-            tree.readdress(&at, HOff::default()),
-            Err(other_mirror(place))
-        );
-        let (mut tree, place) = marred(alloc, child)?;
-        assert_eq!(rt; tree.remove(&at), Err(other_mirror(place)));
-    }
-    Ok(())
-}
-
 // Puts a page that holds a sound node, if it does.
 #[tactic(auto, using(hm_node::proofs::LawLemmas::holds_node))]
-fn put(space: &mut NodeTable, at: HOff, page: &Page) -> Result<(), Fail> {
+pub(crate) fn put(space: &mut NodeTable, at: HOff, page: &Page) -> Result<(), Fail> {
     if broken_rule(page).is_some() {
         return Err(Fail::from("the page holds no sound node"));
     }
