@@ -33,7 +33,8 @@ use Rattle.hm_btree.proofs.PutLemmas.{same_test, test_other}
 use Rattle.hm_btree.proofs.UnderLemmas.{or_false, or_false_left, or_false_right, reached_there, first_apart, replaces_same, replaces_front, replaces_back}
 
 -- a sound node stands so at a place without a parent, where the boundaries are the same
-pub loosened : (map : PageMap) (height : ℕ) (place : Subtree) (node : Node) → IsTree map height place node → IsTree map height (between place.left place.right) node
+pub loosened : (map : PageMap) (height : ℕ) (place : Subtree) (node : Node) → IsTree map height place node → IsTree map height
+    (between place.left place.right) node
 loosened map height place node tree = record {
   sound = tree.sound;
   level = tree.level;
@@ -50,12 +51,15 @@ pub record Stays (old mid : PageMap) (height : ℕ) (s : Subtree) : Type 0 where
   pub pages : (x : ℕ) → reaches mid height (node_at mid s.at) x ≡ reaches old height (node_at old s.at) x
 
 -- a change below a node leaves a place that is apart from it, and the node's own page
-module _ (old mid : PageMap) (height : ℕ) (was is : Node) (replaces : Replaces (reaches old height was) (reaches mid height is) old mid) (s : Subtree) (stored : IsStoredTree old height s) where
+module _ (old mid : PageMap) (height : ℕ) (was is : Node) (replaces : Replaces (reaches old height was) (reaches mid height is)
+    old mid) (s : Subtree) (stored : IsStoredTree old height s) where
   pub stays : ((x : ℕ) → (nat_eq s.at x || reaches old height (node_at old s.at) x) ≡ true → reaches old height was x ≡ false) → Stays old mid height s
   stays apart =
-      let page : mid s.at ≡ old s.at = replaces.kept s.at (apart s.at (or_left (nat_eq s.at s.at) (reaches old height (node_at old s.at) s.at) (same_test s.at))) stored.there in
+      let page : mid s.at ≡ old s.at = replaces.kept s.at
+      (apart s.at (or_left (nat_eq s.at s.at) (reaches old height (node_at old s.at) s.at) (same_test s.at))) stored.there in
       let below : IsSameBelow old mid height (node_at old s.at) = record {
-        same = λ x reached. replaces.kept x (apart x (or_right (nat_eq s.at x) (reaches old height (node_at old s.at) x) reached)) (reached_there old height s (node_at old s.at) x stored.tree reached);
+        same = λ x reached. replaces.kept x (apart x (or_right (nat_eq s.at x) (reaches old height (node_at old s.at) x) reached))
+            (reached_there old height s (node_at old s.at) x stored.tree reached);
       } in
       let here : node_at mid s.at ≡ node_at old s.at = ap (λ (o : Option (List ℕ)). node_in (page_in o)) page in
       record {
@@ -67,13 +71,15 @@ module _ (old mid : PageMap) (height : ℕ) (was is : Node) (replaces : Replaces
       }
 
   pub own_stays : was ≡ node_at old s.at → mid s.at ≡ old s.at
-  own_stays same = replaces.kept s.at (not_below_itself old height s was s.at (subst (λ (n : Node). IsTree old height s n) (sym same) stored.tree) (sym same)) stored.there
+  own_stays same = replaces.kept s.at (not_below_itself old height s was s.at (subst (λ (n : Node). IsTree old height s n)
+      (sym same) stored.tree) (sym same)) stored.there
 
   pub own_there : was ≡ node_at old s.at → IsSome (mid s.at)
   own_there same = subst (λ (o : Option (List ℕ)). IsSome o) (sym (own_stays same)) stored.there
 
 -- two neighbours
-module _ (old : PageMap) (height level : ℕ) (next : Base) (a b : Child) (rising : AreRising next (a ∷ b ∷ [])) (stored : AreStored old height level next (a ∷ b ∷ [])) where
+module _ (old : PageMap) (height level : ℕ) (next : Base) (a b : Child) (rising : AreRising next (a ∷ b ∷ []))
+    (stored : AreStored old height level next (a ∷ b ∷ [])) where
   abbrev pub lower_was : Node
   lower_was = node_at old a.child
 
@@ -105,7 +111,8 @@ module _ (old : PageMap) (height level : ℕ) (next : Base) (a b : Child) (risin
       (not_below_itself old height (child_place level next b) upper_was b.child stored.1.0.tree refl)
 
   pub not_same : a.child ≢ b.child
-  not_same same = test_other b.child a.child (or_false_left (nat_eq b.child a.child) (reaches old height upper_was a.child) (lower_apart a.child at_lower)) (sym same)
+  not_same same = test_other b.child a.child (or_false_left (nat_eq b.child a.child) (reaches old height upper_was a.child)
+      (lower_apart a.child at_lower)) (sym same)
 
   module _ (f : List Element → List Element) (key : Key) (marking : Marking) (mid : PageMap) (local : IsLocal f key) (child : IsChild b) where
     -- the lower one changed
@@ -118,7 +125,8 @@ module _ (old : PageMap) (height level : ℕ) (next : Base) (a b : Child) (risin
       lower_there = own_there old mid height lower_was lower change.pages (child_place level b.left a) stored.0 refl
 
       pub beside_lower : IsBefore key (key_of b.left)
-          → Beside key marking height old mid (below_both old height a b) (f (elements_under old height (a ∷ b ∷ []))) (mark_under old height (a ∷ b ∷ [])) a.left next lower (node_at mid b.child) b.left
+          → Beside key marking height old mid (below_both old height a b) (f (elements_under old height (a ∷ b ∷ [])))
+          (mark_under old height (a ∷ b ∷ [])) a.left next lower (node_at mid b.child) b.left
       beside_lower before =
           let firsts : List Element = elements_in old height lower_was in
           let others : List Element = elements_in old height upper_was in
@@ -129,12 +137,16 @@ module _ (old : PageMap) (height level : ℕ) (next : Base) (a b : Child) (risin
           record {
             lower_tree = loosened mid height (loose (child_place level b.left a)) lower change.tree;
             upper_tree = loosened mid height (child_place level next b) (node_at mid b.child) upper_stays.stored.tree;
-            elements = ap (λ (l : List Element). l ++ elements_in mid height (node_at mid b.child)) change.elements ∙ ap (λ (l : List Element). f firsts ++ l) upper_stays.elements
+            elements = ap (λ (l : List Element). l ++ elements_in mid height (node_at mid b.child)) change.elements
+                ∙ ap (λ (l : List Element). f firsts ++ l) upper_stays.elements
                 ∙ sym (local.back firsts others ends) ∙ ap (λ (l : List Element). f (firsts ++ l)) (sym (append-nil others));
-            mark = as_marks (MarksWithin marking key a.left next) (both_sides b.left (mark_in old height lower_was) (mark_in old height upper_was)) (mark_under old height (a ∷ b ∷ []))
-                (both_sides b.left (mark_in mid height lower) (mark_in old height upper_was)) (both_sides b.left (mark_in mid height lower) (mark_in mid height (node_at mid b.child)))
+            mark = as_marks (MarksWithin marking key a.left next) (both_sides b.left (mark_in old height lower_was)
+                (mark_in old height upper_was)) (mark_under old height (a ∷ b ∷ []))
+                (both_sides b.left (mark_in mid height lower) (mark_in old height upper_was))
+                (both_sides b.left (mark_in mid height lower) (mark_in mid height (node_at mid b.child)))
                 (λ k. mark_cons old height k a b []) (λ k. ap (λ (n : ℕ). if starts_after k b then mark_in mid height lower k else n) (upper_stays.mark k))
-                (marks_low b.left (mark_in old height lower_was) (mark_in mid height lower) (mark_in old height upper_was) key before marking a.left next (rising_next next b [] (rising_rest next a (b ∷ []) rising)) change.mark);
+                (marks_low b.left (mark_in old height lower_was) (mark_in mid height lower) (mark_in old height upper_was) key
+                before marking a.left next (rising_next next b [] (rising_rest next a (b ∷ []) rising)) change.mark);
             pages = replaces_same old mid (below_both old height a b) (λ x. reaches mid height lower x || reaches old height upper_was x)
                 (below_both old height a b) (λ x. reaches mid height lower x || reaches mid height (node_at mid b.child) x)
                 (λ x. refl) (λ x. ap (λ (t : Bool). reaches mid height lower x || t) (upper_stays.pages x))
@@ -154,7 +166,8 @@ module _ (old : PageMap) (height level : ℕ) (next : Base) (a b : Child) (risin
       upper_there = own_there old mid height upper_was upper change.pages (child_place level next b) stored.1.0 refl
 
       pub beside_upper : IsFrom (key_of b.left) key
-          → Beside key marking height old mid (below_both old height a b) (f (elements_under old height (a ∷ b ∷ []))) (mark_under old height (a ∷ b ∷ [])) a.left next (node_at mid a.child) upper b.left
+          → Beside key marking height old mid (below_both old height a b) (f (elements_under old height (a ∷ b ∷ [])))
+          (mark_under old height (a ∷ b ∷ [])) a.left next (node_at mid a.child) upper b.left
       beside_upper from =
           let firsts : List Element = elements_in old height lower_was in
           let others : List Element = elements_in old height upper_was in
@@ -165,12 +178,16 @@ module _ (old : PageMap) (height level : ℕ) (next : Base) (a b : Child) (risin
           record {
             lower_tree = loosened mid height (child_place level b.left a) (node_at mid a.child) lower_stays.stored.tree;
             upper_tree = loosened mid height (loose (child_place level next b)) upper change.tree;
-            elements = ap (λ (l : List Element). l ++ elements_in mid height upper) lower_stays.elements ∙ ap (λ (l : List Element). firsts ++ l) change.elements
+            elements = ap (λ (l : List Element). l ++ elements_in mid height upper) lower_stays.elements
+                ∙ ap (λ (l : List Element). firsts ++ l) change.elements
                 ∙ sym (local.front firsts others begins) ∙ ap (λ (l : List Element). f (firsts ++ l)) (sym (append-nil others));
-            mark = as_marks (MarksWithin marking key a.left next) (both_sides b.left (mark_in old height lower_was) (mark_in old height upper_was)) (mark_under old height (a ∷ b ∷ []))
-                (both_sides b.left (mark_in old height lower_was) (mark_in mid height upper)) (both_sides b.left (mark_in mid height (node_at mid a.child)) (mark_in mid height upper))
+            mark = as_marks (MarksWithin marking key a.left next) (both_sides b.left (mark_in old height lower_was)
+                (mark_in old height upper_was)) (mark_under old height (a ∷ b ∷ []))
+                (both_sides b.left (mark_in old height lower_was) (mark_in mid height upper))
+                (both_sides b.left (mark_in mid height (node_at mid a.child)) (mark_in mid height upper))
                 (λ k. mark_cons old height k a b []) (λ k. ap (λ (n : ℕ). if starts_after k b then n else mark_in mid height upper k) (lower_stays.mark k))
-                (marks_high b.left (mark_in old height lower_was) (mark_in old height upper_was) (mark_in mid height upper) key from marking a.left next (rising_next next a (b ∷ []) rising) change.mark);
+                (marks_high b.left (mark_in old height lower_was) (mark_in old height upper_was) (mark_in mid height upper) key
+                from marking a.left next (rising_next next a (b ∷ []) rising) change.mark);
             pages = replaces_same old mid (below_both old height a b) (λ x. reaches old height lower_was x || reaches mid height upper x)
                 (below_both old height a b) (λ x. reaches mid height (node_at mid a.child) x || reaches mid height upper x)
                 (λ x. refl) (λ x. ap (λ (t : Bool). t || reaches mid height upper x) (lower_stays.pages x))
@@ -182,7 +199,8 @@ module _ (old : PageMap) (height level : ℕ) (next : Base) (a b : Child) (risin
 
   -- where leaves lose an element, and their marks stay
   module _ (f : List Element → List Element) (key : Key) (mid : PageMap) (local : IsLocal f key) (child : IsChild b) where
-    leaf_had : (s : Subtree) (was : Node) (is : Leaf) → IsTree old height s was → level_of (leaf_node is) ≡ suc height → MarksJoin key (mark_in old height was) (mark_in mid height (leaf_node is)) → (k : Key) → mark_in old height was k ≡ is.mirror
+    leaf_had : (s : Subtree) (was : Node) (is : Leaf) → IsTree old height s was → level_of (leaf_node is) ≡ suc height
+        → MarksJoin key (mark_in old height was) (mark_in mid height (leaf_node is)) → (k : Key) → mark_in old height was k ≡ is.mirror
     leaf_had s (leaf_node was) is tree level marks k = sym (takes_same key was.mirror is.mirror marks)
     leaf_had s (inner_node was) is tree level marks k = absurd (omega (arith, tree.level, tree.sound.level.0, level))
 
@@ -194,8 +212,10 @@ module _ (old : PageMap) (height level : ℕ) (next : Base) (a b : Child) (risin
             let change' : Changed f key TakesOut (loose (child_place level b.left a)) height old mid lower_was (leaf_node x) =
             subst (λ (n : Node). Changed f key TakesOut (loose (child_place level b.left a)) height old mid lower_was n) first change in
             mark_cons old height k a b []
-            ∙ ap (λ (n : ℕ). if starts_after k b then n else mark_in old height upper_was k) (leaf_had (child_place level b.left a) lower_was x stored.0.tree change'.tree.level change'.mark.joins k)
-            ∙ ap (λ (n : ℕ). if starts_after k b then x.mirror else n) (sym ((upper_stays f key TakesOut mid local child lower change).mark k) ∙ ap (λ (n : Node). mark_in mid height n k) second)
+            ∙ ap (λ (n : ℕ). if starts_after k b then n else mark_in old height upper_was k)
+            (leaf_had (child_place level b.left a) lower_was x stored.0.tree change'.tree.level change'.mark.joins k)
+            ∙ ap (λ (n : ℕ). if starts_after k b then x.mirror else n)
+            (sym ((upper_stays f key TakesOut mid local child lower change).mark k) ∙ ap (λ (n : Node). mark_in mid height n k) second)
         by_nodes (leaf_node x) (inner_node y) first second = tt
         by_nodes (inner_node x) y first second = tt
 
@@ -207,7 +227,9 @@ module _ (old : PageMap) (height level : ℕ) (next : Base) (a b : Child) (risin
             let change' : Changed f key TakesOut (loose (child_place level next b)) height old mid upper_was (leaf_node y) =
             subst (λ (n : Node). Changed f key TakesOut (loose (child_place level next b)) height old mid upper_was n) second change in
             mark_cons old height k a b []
-            ∙ ap (λ (n : ℕ). if starts_after k b then n else mark_in old height upper_was k) (sym ((lower_stays f key TakesOut mid local child upper change).mark k) ∙ ap (λ (n : Node). mark_in mid height n k) first)
-            ∙ ap (λ (n : ℕ). if starts_after k b then x.mirror else n) (leaf_had (child_place level next b) upper_was y stored.1.0.tree change'.tree.level change'.mark.joins k)
+            ∙ ap (λ (n : ℕ). if starts_after k b then n else mark_in old height upper_was k)
+            (sym ((lower_stays f key TakesOut mid local child upper change).mark k) ∙ ap (λ (n : Node). mark_in mid height n k) first)
+            ∙ ap (λ (n : ℕ). if starts_after k b then x.mirror else n) (leaf_had (child_place level next b) upper_was y
+            stored.1.0.tree change'.tree.level change'.mark.joins k)
         by_nodes (leaf_node x) (inner_node y) first second = tt
         by_nodes (inner_node x) y first second = tt

@@ -39,7 +39,8 @@ module _ {A : Type 0} (P : A → Type 0) (n : ℕ) (xs : List A) (each : AllByRe
   each_drop = each_back P (take n xs) (drop n xs) parted
 
 -- the greater number holds for both lists, and a part of one list alone keeps that list's
-module _ {A : Type 0} (P : ℕ → A → Type 0) (rise : (m n : ℕ) (x : A) → m ≤ n → P m x → P n x) (m n : ℕ) (xs ys : List A) (first : AllByRecursion (P m) xs) (second : AllByRecursion (P n) ys) where
+module _ {A : Type 0} (P : ℕ → A → Type 0) (rise : (m n : ℕ) (x : A) → m ≤ n → P m x → P n x) (m n : ℕ) (xs ys : List A)
+    (first : AllByRecursion (P m) xs) (second : AllByRecursion (P n) ys) where
   pub each_most : AllByRecursion (P (max m n)) (xs ++ ys)
   each_most =
       each_append (P (max m n)) xs ys (each_so (P m) (P (max m n)) xs (λ x is. rise m (max m n) x (omega arith) is) first)
@@ -49,7 +50,8 @@ module _ {A : Type 0} (P : ℕ → A → Type 0) (rise : (m n : ℕ) (x : A) →
   cut_low count = by_test (nat_lt (length xs) count) refl where
     by_test : (b : Bool) → nat_lt (length xs) count ≡ b → AllByRecursion (P (low_of b m n)) (take count (xs ++ ys))
     by_test true is = each_take (P (max m n)) count (xs ++ ys) each_most
-    by_test false is = subst (λ (l : List A). AllByRecursion (P m) l) (sym (take-append-le count xs ys (ltb-false (length xs) count is))) (each_take (P m) count xs first)
+    by_test false is = subst (λ (l : List A). AllByRecursion (P m) l)
+        (sym (take-append-le count xs ys (ltb-false (length xs) count is))) (each_take (P m) count xs first)
 
   pub cut_high : (count : ℕ) → AllByRecursion (P (high_of (nat_lt (length xs) count) m n)) (drop count (xs ++ ys))
   cut_high count = by_test (nat_lt (length xs) count) refl where

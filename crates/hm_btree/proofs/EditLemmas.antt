@@ -1,5 +1,6 @@
 -- A step of a call down to a child, and back.
-use Rattle.std.proofs.Common.{◌≡◌, true≢false, ℕ, zero, suc, ◌+◌, ◌<◌, ◌≤◌, List, [], ◌∷◌, ◌++◌, length, take, drop, refl, sym, ap, subst, ◌∙◌, arith, max, Some, None, Err, length-append}
+use Rattle.std.proofs.Common.{◌≡◌, true≢false, ℕ, zero, suc, ◌+◌, ◌<◌, ◌≤◌, List, [], ◌∷◌, ◌++◌, length, take, drop, refl, sym, ap, subst}
+use Rattle.std.proofs.Common.{◌∙◌, arith, max, Some, None, Err, length-append}
 use Rattle.std.specs.Prelude.{IsSome, is_some, Option, IfSome, All, slice_get, slice_set, slice_index_or}
 use Rattle.std.specs.List.{AllByRecursion}
 use Rattle.std.proofs.lemmas.Grind.{flat_map-append}
@@ -41,13 +42,15 @@ use Rattle.hm_btree.proofs.OrderLemmas.{each_front, each_back, rising_back, risi
 use Rattle.hm_btree.proofs.UnderLemmas.{stored_front, stored_back}
 
 -- the child that holds a key is one of the node's
-pub place_within : (node : Node) (inner : Inner) (key : Key) (i : ℕ) → IsNode node → node ≡ inner_node inner → i ≡ holder_place key inner.places.items → i < length inner.places.items
+pub place_within : (node : Node) (inner : Inner) (key : Key) (i : ℕ) → IsNode node → node ≡ inner_node inner
+    → i ≡ holder_place key inner.places.items → i < length inner.places.items
 place_within node inner key i sound is at =
     let some = (subst (λ (n : Node). IsNode n) is sound).count.0 in
     subst (λ (n : ℕ). n < length inner.places.items) (sym at) (holder_place_within key inner.places.items some)
 
 -- a child that was read is one level lower
-pub child_lower : (node child : Node) (inner : Inner) (i : ℕ) (s : Subtree) → node ≡ inner_node inner → slice_get (children_of inner) i ≡ Some s → Fits s child → level_of child < level_of node
+pub child_lower : (node child : Node) (inner : Inner) (i : ℕ) (s : Subtree) → node ≡ inner_node inner
+    → slice_get (children_of inner) i ≡ Some s → Fits s child → level_of child < level_of node
 child_lower node child inner i s is at fits =
     let there = place_is inner.level inner.right inner.places.items i s at in
     let level : level_of child + 1 ≡ inner.level = by_place s there.place fits in
@@ -62,7 +65,8 @@ pub record IsStoredBelow (map : PageMap) (height : ℕ) (s : Subtree) : Type 0 w
   pub is : height ≡ suc lower
   pub stored : IsStoredTree map lower s
 
-pub stored_below : (map : PageMap) (height : ℕ) (place : Subtree) (node : Node) (inner : Inner) (i : ℕ) (s : Subtree) → IsTree map height place node → node ≡ inner_node inner → slice_get (children_of inner) i ≡ Some s → IsStoredBelow map height s
+pub stored_below : (map : PageMap) (height : ℕ) (place : Subtree) (node : Node) (inner : Inner) (i : ℕ) (s : Subtree)
+    → IsTree map height place node → node ≡ inner_node inner → slice_get (children_of inner) i ≡ Some s → IsStoredBelow map height s
 stored_below map height place node inner i s tree is at = by_height height (subst (λ (n : Node). IsTree map height place n) is tree) where
   by_height : (h : ℕ) → IsTree map h place (inner_node inner) → IsStoredBelow map h s
   by_height zero tree = absurd (omega (arith, tree.level, tree.sound.level.0))
@@ -77,36 +81,48 @@ pub read_there : (map : PageMap) (s : Subtree) (at : ℕ) (child : Node) → s.a
 read_there map s at child same there here = ap (node_at map) (sym same) ∙ (here.spelled (subst (λ (x : ℕ). IsSome (map x)) (sym same) there)).value
 
 -- the cause of a fault of the read, and of one further down
-pub cause_read : (told : Option PageMap) (node : Node) (inner : Inner) (i : ℕ) (s : Subtree) (old new : ℕ) (fault : Fault) → node ≡ inner_node inner → slice_get (children_of inner) i ≡ Some s
-    → HasFaultCause {T = Node} old new (Err fault) → IfSome told (λ map. TellsDamage s (map s.at) fault) → HasEditCause {T = Unit {0}} told node old new (Err fault)
+pub cause_read : (told : Option PageMap) (node : Node) (inner : Inner) (i : ℕ) (s : Subtree) (old new : ℕ) (fault : Fault)
+    → node ≡ inner_node inner → slice_get (children_of inner) i ≡ Some s
+    → HasFaultCause {T = Node} old new (Err fault) → IfSome told (λ map. TellsDamage s (map s.at) fault)
+    → HasEditCause {T = Unit {0}} told node old new (Err fault)
 cause_read told node inner i s old new fault is at counted damage = record {
   counted = record { never_falls = counted.never_falls; caused = counted.caused };
   damage = below told damage;
   undamaged = if_told told damage;
 } where
-  below : (o : Option PageMap) → IfSome o (λ map. TellsDamage s (map s.at) fault) → IfSome o (λ map. (place : Subtree) → StandsHere map place node → IsFaultBelow map place fault)
+  below : (o : Option PageMap) → IfSome o (λ map. TellsDamage s (map s.at) fault) → IfSome o (λ map. (place : Subtree)
+      → StandsHere map place node → IsFaultBelow map place fault)
   below None damage = tt
-  below (Some map) damage = λ place here. fault_below map place s fault (leads map place inner i s (subst (λ (n : Node). StandsHere map place n) is here) at) (fault_here map s fault damage)
+  below (Some map) damage = λ place here. fault_below map place s fault
+      (leads map place inner i s (subst (λ (n : Node). StandsHere map place n) is here) at) (fault_here map s fault damage)
 
-  if_told : (o : Option PageMap) → IfSome o (λ map. TellsDamage s (map s.at) fault) → IfSome o (λ map. (place : Subtree) (height : ℕ) → IsTree map height place node → IsUndamaged fault)
+  if_told : (o : Option PageMap) → IfSome o (λ map. TellsDamage s (map s.at) fault)
+      → IfSome o (λ map. (place : Subtree) (height : ℕ) → IsTree map height place node → IsUndamaged fault)
   if_told None damage = tt
   if_told (Some map) damage = λ place height tree.
       let below = stored_below map height place node inner i s tree is at in
       tells_undamaged s (map s.at) (node_at map s.at) fault below.stored.there (stored_here map below.lower s below.stored) damage
 
-pub cause_below : {T : Type 0} (told now : Option PageMap) (node child : Node) (inner : Inner) (i : ℕ) (s : Subtree) (old mid new : ℕ) (fault : Fault) → node ≡ inner_node inner → slice_get (children_of inner) i ≡ Some s
-    → now ≡ told → old ≤ mid → IfSome told (λ map. StandsHere map s child) → HasEditCause {T = T} now child mid new (Err fault) → HasEditCause {T = T} told node old new (Err fault)
+pub cause_below : {T : Type 0} (told now : Option PageMap) (node child : Node) (inner : Inner) (i : ℕ) (s : Subtree)
+    (old mid new : ℕ) (fault : Fault) → node ≡ inner_node inner → slice_get (children_of inner) i ≡ Some s
+    → now ≡ told → old ≤ mid → IfSome told (λ map. StandsHere map s child) → HasEditCause {T = T} now child mid new (Err fault)
+    → HasEditCause {T = T} told node old new (Err fault)
 cause_below told now node child inner i s old mid new fault is at same low here cause = record {
   counted = record { never_falls = omega (arith, cause.counted.never_falls); caused = caused_since old mid new fault low cause.counted.caused };
-  damage = below told here (subst (λ (o : Option PageMap). IfSome o (λ map. (place : Subtree) → StandsHere map place child → IsFaultBelow map place fault)) same cause.damage);
-  undamaged = if_told told here (subst (λ (o : Option PageMap). IfSome o (λ map. (place : Subtree) (height : ℕ) → IsTree map height place child → IsUndamaged fault)) same cause.undamaged);
+  damage = below told here (subst (λ (o : Option PageMap). IfSome o (λ map. (place : Subtree) → StandsHere map place child
+      → IsFaultBelow map place fault)) same cause.damage);
+  undamaged = if_told told here (subst (λ (o : Option PageMap). IfSome o (λ map. (place : Subtree) (height : ℕ)
+      → IsTree map height place child → IsUndamaged fault)) same cause.undamaged);
 } where
-  below : (o : Option PageMap) → IfSome o (λ map. StandsHere map s child) → IfSome o (λ map. (place : Subtree) → StandsHere map place child → IsFaultBelow map place fault)
+  below : (o : Option PageMap) → IfSome o (λ map. StandsHere map s child) → IfSome o (λ map. (place : Subtree)
+      → StandsHere map place child → IsFaultBelow map place fault)
       → IfSome o (λ map. (place : Subtree) → StandsHere map place node → IsFaultBelow map place fault)
   below None read more = tt
-  below (Some map) read more = λ place here. fault_below map place s fault (leads map place inner i s (subst (λ (n : Node). StandsHere map place n) is here) at) (more s read)
+  below (Some map) read more = λ place here. fault_below map place s fault
+      (leads map place inner i s (subst (λ (n : Node). StandsHere map place n) is here) at) (more s read)
 
-  if_told : (o : Option PageMap) → IfSome o (λ map. StandsHere map s child) → IfSome o (λ map. (place : Subtree) (height : ℕ) → IsTree map height place child → IsUndamaged fault)
+  if_told : (o : Option PageMap) → IfSome o (λ map. StandsHere map s child) → IfSome o (λ map. (place : Subtree) (height : ℕ)
+      → IsTree map height place child → IsUndamaged fault)
       → IfSome o (λ map. (place : Subtree) (height : ℕ) → IsTree map height place node → IsUndamaged fault)
   if_told None here more = tt
   if_told (Some map) here more = λ place height tree.
@@ -119,18 +135,21 @@ undamaged_below map s (Media before after) is = tt
 undamaged_below map s (Damaged at kind) is = absurd is
 undamaged_below map s NoMemory is = tt
 
-pub cause_write : {T U : Type 0} (told mid : Option PageMap) (node : Node) (old middle new : ℕ) (fault : Fault) → is_some mid ≡ is_some told → old ≤ middle → HasStoreCause {T = U} mid middle new (Err fault) → HasEditCause {T = T} told node old new (Err fault)
+pub cause_write : {T U : Type 0} (told mid : Option PageMap) (node : Node) (old middle new : ℕ) (fault : Fault)
+    → is_some mid ≡ is_some told → old ≤ middle → HasStoreCause {T = U} mid middle new (Err fault) → HasEditCause {T = T} told node old new (Err fault)
 cause_write told mid node old middle new fault same low cause = record {
   counted = record { never_falls = omega (arith, low, cause.counted.never_falls); caused = caused_since old middle new fault low cause.counted.caused };
   damage = below told mid same cause.undamaged;
   undamaged = sound told mid same cause.undamaged;
 } where
-  below : (o p : Option PageMap) → is_some p ≡ is_some o → IfSome p (λ _. IsUndamaged fault) → IfSome o (λ map. (place : Subtree) → StandsHere map place node → IsFaultBelow map place fault)
+  below : (o p : Option PageMap) → is_some p ≡ is_some o → IfSome p (λ _. IsUndamaged fault) → IfSome o (λ map. (place : Subtree)
+      → StandsHere map place node → IsFaultBelow map place fault)
   below None p same is = tt
   below (Some map) None same is = absurd (true≢false (sym same))
   below (Some map) (Some other) same is = λ place here. undamaged_below map place fault is
 
-  sound : (o p : Option PageMap) → is_some p ≡ is_some o → IfSome p (λ _. IsUndamaged fault) → IfSome o (λ map. (place : Subtree) (height : ℕ) → IsTree map height place node → IsUndamaged fault)
+  sound : (o p : Option PageMap) → is_some p ≡ is_some o → IfSome p (λ _. IsUndamaged fault)
+      → IfSome o (λ map. (place : Subtree) (height : ℕ) → IsTree map height place node → IsUndamaged fault)
   sound None p same is = tt
   sound (Some map) None same is = absurd (true≢false (sym same))
   sound (Some map) (Some other) same is = λ place height tree. is
@@ -141,7 +160,8 @@ split_at [] i x is = absurd (cc)
 split_at (y ∷ ys) zero x is = let same : y ≡ x = cc in (ap (λ z. z ∷ ys) same, refl)
 split_at (y ∷ ys) (suc i) x is = let more = split_at ys i x is in (ap (λ l. y ∷ l) more.0, ap suc more.1)
 
-pub set_at_place : {A : Type 0} (change : A → A) (xs : List A) (i : ℕ) (x : A) → slice_get xs i ≡ Some x → slice_set xs i (change (slice_index_or xs i x)) ≡ take i xs ++ change x ∷ drop (suc i) xs
+pub set_at_place : {A : Type 0} (change : A → A) (xs : List A) (i : ℕ) (x : A) → slice_get xs i ≡ Some x → slice_set xs i
+    (change (slice_index_or xs i x)) ≡ take i xs ++ change x ∷ drop (suc i) xs
 set_at_place change [] i x is = absurd (cc)
 set_at_place change (y ∷ ys) zero x is = let same : y ≡ x = cc in ap (λ z. change z ∷ ys) same
 set_at_place change (y ∷ ys) (suc i) x is = ap (λ l. y ∷ l) (set_at_place change ys i x is)
@@ -164,7 +184,8 @@ module _ (key : Key) (place : Subtree) (height level mirror : ℕ) (right : Base
   abbrev pub whole : Node
   whole = inner_node (inner_of level mirror (pre ++ c ∷ post) right)
 
-  module _ (tree : IsTree old (suc height) place whole) (here : length pre ≡ holder_place key (pre ++ c ∷ post)) (inside : IsInside place.left place.right key) where
+  module _ (tree : IsTree old (suc height) place whole) (here : length pre ≡ holder_place key (pre ++ c ∷ post))
+      (inside : IsInside place.left place.right key) where
     first_left : IsFrom (key_of (next_left right (pre ++ c ∷ post))) key
     first_left = by_list (pre ++ c ∷ post) tree.fits.bounds.0 where
       by_list : (cs : List Child) → BeginsAt place.left cs → IsFrom (key_of (next_left right cs)) key
@@ -183,27 +204,36 @@ module _ (key : Key) (place : Subtree) (height level mirror : ℕ) (right : Base
         let before : AllByRecursion (λ e. IsBefore (element_key e) key) (elements_under old height pre) =
         each_so (λ e. IsInside (next_left c.left pre) c.left (element_key e)) (λ e. IsBefore (element_key e) key) (elements_under old height pre)
         (λ e is. key_before_from (element_key e) (key_of c.left) key is.before child_inside.from)
-        (inside_under old height level c.left pre (rising_front right pre (c ∷ post) tree.sound.order) (stored_front old height level right pre (c ∷ post) tree.below)) in
+        (inside_under old height level c.left pre (rising_front right pre (c ∷ post) tree.sound.order)
+        (stored_front old height level right pre (c ∷ post) tree.below)) in
         let after : AllByRecursion (λ e. IsBefore key (element_key e)) (elements_under old height post) =
         each_so (λ e. IsInside (next_left right post) right (element_key e)) (λ e. IsBefore key (element_key e)) (elements_under old height post)
         (λ e is. key_before_from key (key_of (next_left right post)) (element_key e) child_inside.before is.from)
-        (inside_under old height level right post (rising_back right (c ∷ []) post (rising_back right pre (c ∷ post) tree.sound.order)) (stored_back old height level right (c ∷ []) post (stored_back old height level right pre (c ∷ post) tree.below))) in
+        (inside_under old height level right post (rising_back right (c ∷ []) post
+        (rising_back right pre (c ∷ post) tree.sound.order)) (stored_back old height level right (c ∷ []) post
+        (stored_back old height level right pre (c ∷ post) tree.below))) in
         ap (element_at key) (flat_map-append els pre (c ∷ post)) ∙ at_front key (elements_under old height pre) (elements_under old height (c ∷ post)) before
         ∙ at_back key (elements_in old height (node_at old c.child)) (elements_under old height post) after
 
     -- that child changed and was written
-    pub changed_parent : (f : List Element → List Element) (marking : Marking) (mid new : PageMap) (after : Node) → IsLocal f key → Changed f key marking (child_place level (next_left right post) c) height old mid (node_at old c.child) after
+    pub changed_parent : (f : List Element → List Element) (marking : Marking) (mid new : PageMap) (after : Node) → IsLocal f key
+        → Changed f key marking (child_place level (next_left right post) c) height old mid (node_at old c.child) after
         → HasWritten c.child after mid new
-        → Changed f key marking place (suc height) old new whole (inner_node (inner_of level (max mirror (mirror_of after)) (pre ++ with_mirror (mirror_of after) c ∷ post) right))
+        → Changed f key marking place (suc height) old new whole
+        (inner_node (inner_of level (max mirror (mirror_of after)) (pre ++ with_mirror (mirror_of after) c ∷ post) right))
     changed_parent f marking mid new after local change (page, spells, put) =
         let children = recursion_from_All IsChild (pre ++ c ∷ post) tree.sound.fields.children in
         let one = (each_back IsChild pre (c ∷ post) children).0 in
         let next = rising_next right c post (rising_back right pre (c ∷ post) tree.sound.order) in
         let segment = changed_written f key marking level (next_left right post) height old mid new c after page one next child_tree change spells put in
-        let all = changed_within f key marking level right height old new local c (with_mirror (mirror_of after) c) [] [] post pre children tree.sound.order tree.below child_inside.from child_inside.before segment in
-        let long : length (pre ++ with_mirror (mirror_of after) c ∷ post) ≡ length (pre ++ c ∷ post) = length-append pre (with_mirror (mirror_of after) c ∷ post) ∙ sym (length-append pre (c ∷ post)) in
-        changed_above f key marking place height old new level mirror (max mirror (mirror_of after)) right (pre ++ c ∷ post) (pre ++ with_mirror (mirror_of after) c ∷ post) tree all
-        (mirrors after) (omega (arith, long, tree.sound.count.0)) (omega (arith, long, tree.sound.count.1)) (counts place.parent after long tree.fits.count) where
+        let all = changed_within f key marking level right height old new local c (with_mirror (mirror_of after) c) [] [] post pre
+        children tree.sound.order tree.below child_inside.from child_inside.before segment in
+        let long : length (pre ++ with_mirror (mirror_of after) c ∷ post) ≡ length (pre ++ c ∷ post) = length-append pre
+        (with_mirror (mirror_of after) c ∷ post) ∙ sym (length-append pre (c ∷ post)) in
+        changed_above f key marking place height old new level mirror (max mirror (mirror_of after)) right (pre ++ c ∷ post)
+        (pre ++ with_mirror (mirror_of after) c ∷ post) tree all
+        (mirrors after) (omega (arith, long, tree.sound.count.0)) (omega (arith, long, tree.sound.count.1))
+        (counts place.parent after long tree.fits.count) where
           up : (m : ℕ) (cs : List Child) → AllByRecursion (λ d. d.mirror ≤ mirror) cs → AllByRecursion (λ d. d.mirror ≤ max mirror m) cs
           up m cs each = each_so (λ d. d.mirror ≤ mirror) (λ d. d.mirror ≤ max mirror m) cs (λ d le. omega (arith, le)) each
 
@@ -211,7 +241,8 @@ module _ (key : Key) (place : Subtree) (height level mirror : ℕ) (right : Base
           mirrors after =
               let each = recursion_from_All (λ d. d.mirror ≤ mirror) (pre ++ c ∷ post) tree.sound.mirror in
               All-from_recursion (λ d. d.mirror ≤ max mirror (mirror_of after)) (pre ++ with_mirror (mirror_of after) c ∷ post)
-              (each_append (λ d. d.mirror ≤ max mirror (mirror_of after)) pre (with_mirror (mirror_of after) c ∷ post) (up (mirror_of after) pre (each_front (λ d. d.mirror ≤ mirror) pre (c ∷ post) each))
+              (each_append (λ d. d.mirror ≤ max mirror (mirror_of after)) pre (with_mirror (mirror_of after) c ∷ post)
+              (up (mirror_of after) pre (each_front (λ d. d.mirror ≤ mirror) pre (c ∷ post) each))
               (omega arith, up (mirror_of after) post (each_back (λ d. d.mirror ≤ mirror) pre (c ∷ post) each).1))
 
           counts : (p : Option Parent) (after : Node) → length (pre ++ with_mirror (mirror_of after) c ∷ post) ≡ length (pre ++ c ∷ post) → FitsCount p whole

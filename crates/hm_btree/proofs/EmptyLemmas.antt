@@ -15,7 +15,7 @@ use Rattle.hm_search.specs.Place.{IsInside}
 use Rattle.hm_search.specs.Tree.{node_at, elements_in, elements_of, mark_in, mark_of, root_place, height_of, reaches, IsTree, IsStoredTree}
 use Rattle.hm_btree.specs.Edits.{leaf_of}
 use Rattle.hm_btree.specs.Space.{HasAdded, IsSpot}
-use Rattle.hm_btree.specs.Tree.{HasNoPage, HoldsTree, IsTreeSpace, told_elements, told_mark}
+use Rattle.hm_btree.specs.Tree.{HasNoPage, HasNothing, HoldsTree, IsTreeSpace, told_elements, told_mark}
 use Rattle.hm_btree.proofs.PutLemmas.{put_at, put_other, test_other}
 
 no_order : IsStrictlySortedBy element_cmp []
@@ -32,16 +32,30 @@ module _ (root : ℕ) (old new : PageMap) (none : HasNoPage old) (spot : IsSpot 
       let there : new root ≡ Some page = put_at root page old new come.put in
       let here : node_at new root ≡ no_elements = ap (λ (o : Option (List ℕ)). node_in (page_in o)) there ∙ spells.value in
       let tree : IsTree new 0 (root_place root) no_elements = record {
-        sound = record { level = tt; count = omega arith; order = no_order; fields = All-from_recursion IsPlaced [] tt; mirror = All-from_recursion (IsUpTo 0) [] tt };
+        sound = record {
+          level = tt;
+          count = omega arith;
+          order = no_order;
+          fields = All-from_recursion IsPlaced [] tt;
+          mirror =
+              All-from_recursion (IsUpTo 0) [] tt;
+        };
         level = refl;
-        fits = record { level = tt; count = tt; bounds = All-from_recursion (λ e. IsInside (root_place root).left (root_place root).right (element_key e)) [] tt; mirror = tt };
+        fits = record {
+          level = tt;
+          count = tt;
+          bounds = All-from_recursion (λ e. IsInside (root_place root).left
+              (root_place root).right (element_key e)) [] tt;
+          mirror = tt;
+        };
         below = tt;
       } in
       let one : (at : ℕ) → IsSome (new at) → at ≡ root = λ at some. by_test at some (nat_eq at root) refl in (
         record {
           sound = subst (λ (n : Node). IsStoredTree new (height_of n) (root_place root)) (sym here) (record {
             there = rw there refl;
-            spelled = subst (λ (o : Option (List ℕ)). Spells (page_in o) (node_in (page_in o))) (sym there) (subst (λ (n : Node). Spells page n) (sym spells.value) spells);
+            spelled = subst (λ (o : Option (List ℕ)). Spells (page_in o) (node_in (page_in o))) (sym there)
+                (subst (λ (n : Node). Spells page n) (sym spells.value) spells);
             tree = subst (λ (n : Node). IsTree new 0 (root_place root) n) (sym here) tree;
           });
           whole = λ at some. ap (λ (b : Bool). b || reaches new (height_of (node_at new root)) (node_at new root) at) (eq-eqb at root (one at some));
@@ -64,12 +78,21 @@ empty_holds root None (Some new) none spot added = absurd added
 empty_holds root (Some old) None none spot added = absurd added
 empty_holds root (Some old) (Some new) none spot added = ∣ (empty_tree root old new none spot added).0 ∣₁
 
-pub empty_told : (root : ℕ) (intact : Bool) (p q : Option PageMap) → IsTrue intact → IfSome p HasNoPage → IsSpot root → BothTell p q (HasAdded root no_elements) → IfSome p (λ _. told_elements intact q root ≡ Some [])
+pub empty_told : (root : ℕ) (intact : Bool) (p q : Option PageMap) → IsTrue intact → IfSome p HasNoPage → IsSpot root
+    → BothTell p q (HasAdded root no_elements) → IfSome p (λ _. told_elements intact q root ≡ Some [])
 empty_told root intact None q whole none spot added = tt
 empty_told root intact (Some old) None whole none spot added = absurd added
 empty_told root intact (Some old) (Some new) whole none spot added = rw whole (ap Some (empty_tree root old new none spot added).1)
 
-pub empty_marks : (root : ℕ) (p q : Option PageMap) → IfSome p HasNoPage → IsSpot root → BothTell p q (HasAdded root no_elements) → IfSome p (λ _. (key : Key) → told_mark q root key ≡ 0)
+pub empty_marks : (root : ℕ) (p q : Option PageMap) → IfSome p HasNoPage → IsSpot root → BothTell p q (HasAdded root no_elements)
+    → IfSome p (λ _. (key : Key) → told_mark q root key ≡ 0)
 empty_marks root None q none spot added = tt
 empty_marks root (Some old) None none spot added = absurd added
 empty_marks root (Some old) (Some new) none spot added = (empty_tree root old new none spot added).2
+
+-- both facts of a tree without elements
+pub has_nothing : (was told : Option PageMap) (intact : Bool) (root : ℕ)
+    → IfSome was (λ _. told_elements intact told root ≡ Some []) → IfSome was (λ _. (key : Key) → told_mark told root key ≡ 0)
+    → IfSome was (λ _. HasNothing intact told root)
+has_nothing None told intact root elements marks = tt
+has_nothing (Some pages) told intact root elements marks = record { elements = elements; marks = marks }

@@ -22,9 +22,14 @@ less_then m n rest less = by_order (nat_cmp m n) refl where
   by_order Greater is = let more : n < m = rw is at (ranked m n (nat_cmp m n) refl) in absurd (omega arith)
 
 part_low : (e : Element) → IsElement e → part_of e.base.localization ≤ 2
-part_low e is = elim (cases_eq e.base.rec_type INODE) [ inl same ↦ omega (arith, is.fits.inode_part same) | inr other ↦ omega (arith, is.fits.other_part other) ]
+part_low e is = elim (cases_eq e.base.rec_type INODE) [
+  | inl same ↦ omega (arith, is.fits.inode_part same)
+  | inr other ↦
+      omega (arith, is.fits.other_part other)
+]
 
-pub element_inside : (root : ℕ) (e : Element) → IsElement e → e.base.localization < 2 ^ 32 → IsInside (root_place root).left (root_place root).right (element_key e)
+pub element_inside : (root : ℕ) (e : Element) → IsElement e → e.base.localization < 2 ^ 32 → IsInside (root_place root).left
+    (root_place root).right (element_key e)
 element_inside root e is wide =
     let low = part_low e is in
     let less : e.base.localization < 2 ^ 32 - 1 = omega arith in

@@ -31,14 +31,15 @@ use Rattle.hm_btree.proofs.EditLemmas.{read_there, split_at, set_at_place, child
 use Rattle.hm_btree.proofs.GrowLemmas.{grown_leaf, grown_parent}
 
 -- a leaf got an element
-pub leaf_grows : (e : Element) (node after : Node) (leaf leaf' : Leaf) (p : Option PageMap) (o : Option Upper) → node ≡ leaf_node leaf → after ≡ leaf_node leaf' → LeafBecomes (max leaf.mirror (last_id e)) (inserted e leaf.places.items) leaf' o
-    → Grows (inserted e) (element_key e) (Writes (last_id e)) (λ x. IsNone x) (IsElement e × IsOffset e.payload) p p node after o
-leaf_grows e node after leaf leaf' None o is now becomes = tt
-leaf_grows e node after leaf leaf' (Some old) o is now becomes = λ place height tree inside lacks more.
+pub leaf_grows : (e : Element) (node after : Node) (leaf leaf' : Leaf) (p : Option PageMap) (o : Option Upper) → IsElement e
+    × IsOffset e.payload → node ≡ leaf_node leaf → after ≡ leaf_node leaf' → LeafBecomes (max leaf.mirror (last_id e)) (inserted e leaf.places.items) leaf' o
+    → Grows (inserted e) (element_key e) (Writes (last_id e)) (λ x. IsNone x) p p node after o
+leaf_grows e node after leaf leaf' None o placed is now becomes = tt
+leaf_grows e node after leaf leaf' (Some old) o placed is now becomes = λ place height tree inside lacks.
     subst (λ (n : Node). GrownTo (inserted e) (element_key e) (Writes (last_id e)) place height old old n after o) (sym is)
     (subst (λ (n : Node). GrownTo (inserted e) (element_key e) (Writes (last_id e)) place height old old (leaf_node leaf) n o) (sym now)
     (grown_leaf e place height old leaf leaf' (subst (λ (n : Node). IsTree old height place n) is tree) inside
-    (subst (λ (n : Node). IsNone (element_at (element_key e) (elements_in old height n))) is lacks) more o becomes))
+    (subst (λ (n : Node). IsNone (element_at (element_key e) (elements_in old height n))) is lacks) placed o becomes))
 
 -- a child after the one that holds the key
 pub insert_next : (pre post : List Child) (c d : Child) (i : ℕ) → length pre ≡ i → insert (pre ++ c ∷ post) (i + 1) d ≡ pre ++ c ∷ d ∷ post
@@ -46,18 +47,26 @@ insert_next pre post c d i is =
     let one : i + 1 - i ≡ 1 = omega arith in
     insert-append_right pre (c ∷ post) i (i + 1) d is (omega arith) ∙ ap (λ (n : ℕ). pre ++ insert (c ∷ post) n d) one
 
-becomes_same : (l l' m m' : ℕ) (cs cs' : List Child) (r r' : Base) (x : Inner) (o : Option Upper) → l ≡ l' → m ≡ m' → cs ≡ cs' → r ≡ r' → InnerBecomes l m cs r x o → InnerBecomes l' m' cs' r' x o
+becomes_same : (l l' m m' : ℕ) (cs cs' : List Child) (r r' : Base) (x : Inner) (o : Option Upper) → l ≡ l' → m ≡ m' → cs ≡ cs'
+    → r ≡ r' → InnerBecomes l m cs r x o → InnerBecomes l' m' cs' r' x o
 becomes_same l l' m m' cs cs' r r' x o a b c d becomes =
     subst (λ (n : ℕ). InnerBecomes n m' cs' r' x o) a (subst (λ (n : ℕ). InnerBecomes l n cs' r' x o) b
     (subst (λ (n : List Child). InnerBecomes l m n r' x o) c (subst (λ (n : Base). InnerBecomes l m cs n x o) d becomes)))
 
-module _ (f : List Element → List Element) (key : Key) (marking : Marking) (Needs : Option Element → Type 0) (More : Type 0) (local : IsLocal f key) (inner inner1 inner2 : Inner) (i : ℕ) (s : Subtree) (child after : Node) (m : ℕ) (upper : Upper) (at : ℕ) (mu : ℕ) (o : Option Upper) where
-  parent_grown : (old mid new1 new2 : PageMap) (lower : ℕ) (place : Subtree) → IsTree old (suc lower) place (inner_node inner) → IsInside place.left place.right key → i ≡ holder_place key inner.places.items
-      → IsChildAt inner.level inner.right inner.places.items i s → StandsHere old s child → HasWritten s.at after mid new1 → HasAdded at upper.node new1 new2 → IsSpot at
-      → ((place : Subtree) (height : ℕ) → IsTree old height place child → IsInside place.left place.right key → Needs (element_at key (elements_in old height child)) → Split f key marking place height old mid child after upper.node upper.left)
+module _ (f : List Element → List Element) (key : Key) (marking : Marking) (Needs : Option Element → Type 0)
+    (local : IsLocal f key) (inner inner1 inner2 : Inner) (i : ℕ) (s : Subtree) (child after : Node) (m : ℕ) (upper : Upper)
+    (at : ℕ) (mu : ℕ) (o : Option Upper) where
+  parent_grown : (old mid new1 new2 : PageMap) (lower : ℕ) (place : Subtree) → IsTree old (suc lower) place (inner_node inner)
+      → IsInside place.left place.right key → i ≡ holder_place key inner.places.items
+      → IsChildAt inner.level inner.right inner.places.items i s → StandsHere old s child → HasWritten s.at after mid new1
+      → HasAdded at upper.node new1 new2 → IsSpot at
+      → ((place : Subtree) (height : ℕ) → IsTree old height place child → IsInside place.left place.right key
+      → Needs (element_at key (elements_in old height child)) → Split f key marking place height old mid child after upper.node upper.left)
       → Needs (element_at key (elements_in old (suc lower) (inner_node inner)))
-      → inner1.level ≡ inner.level → inner1.mirror ≡ max inner.mirror m → m ≡ mirror_of after → mu ≡ mirror_of upper.node → ChildChange (with_mirror m) inner.places.items i inner1.places.items → inner1.right ≡ inner.right
-      → InnerBecomes inner1.level (max inner1.mirror mu) (insert inner1.places.items (i + 1) (record { left = upper.left; child = at; mirror = mu })) inner1.right inner2 o
+      → inner1.level ≡ inner.level → inner1.mirror ≡ max inner.mirror m → m ≡ mirror_of after → mu ≡ mirror_of upper.node
+      → ChildChange (with_mirror m) inner.places.items i inner1.places.items → inner1.right ≡ inner.right
+      → InnerBecomes inner1.level (max inner1.mirror mu) (insert inner1.places.items (i + 1)
+      (record { left = upper.left; child = at; mirror = mu })) inner1.right inner2 o
       → GrownTo f key marking place (suc lower) old new2 (inner_node inner) (inner_node inner2) o
   parent_grown old mid new1 new2 lower place tree inside at_holder there here written added spot rec needs level mirror is is_up items right becomes =
       let cs : List Child = inner.places.items in
@@ -68,7 +77,8 @@ module _ (f : List Element → List Element) (key : Key) (marking : Marking) (Ne
       let tree' : IsTree old (suc lower) place (inner_node (inner_of inner.level inner.mirror (pre ++ c ∷ post) inner.right)) =
       subst (λ (l : List Child). IsTree old (suc lower) place (inner_node (inner_of inner.level inner.mirror l inner.right))) split.0 tree in
       let needs' : Needs (element_at key (elements_in old (suc lower) (inner_node (inner_of inner.level inner.mirror (pre ++ c ∷ post) inner.right)))) =
-      subst (λ (l : List Child). Needs (element_at key (elements_in old (suc lower) (inner_node (inner_of inner.level inner.mirror l inner.right))))) split.0 needs in
+      subst (λ (l : List Child). Needs
+      (element_at key (elements_in old (suc lower) (inner_node (inner_of inner.level inner.mirror l inner.right))))) split.0 needs in
       let held : length pre ≡ holder_place key (pre ++ c ∷ post) = split.1 ∙ at_holder ∙ ap (holder_place key) split.0 in
       let where_is : s.at ≡ c.child = ap (λ (t : Subtree). t.at) there.place in
       let spot_of : Subtree = child_place inner.level (next_left inner.right post) c in
@@ -81,38 +91,56 @@ module _ (f : List Element → List Element) (key : Key) (marking : Marking) (Ne
       (subst Needs (child_element key place lower inner.level inner.mirror inner.right old pre c post tree' held inside) needs')) in
       let changed : inner1.places.items ≡ pre ++ with_mirror (mirror_of after) c ∷ post =
       items c ∙ set_at_place (with_mirror m) cs i c there.is ∙ ap (λ (n : ℕ). pre ++ with_mirror n c ∷ post) is in
-      let list : insert inner1.places.items (i + 1) (record { left = upper.left; child = at; mirror = mu }) ≡ pre ++ with_mirror (mirror_of after) c ∷ record { left = upper.left; child = at; mirror = mirror_of upper.node } ∷ post =
+      let list : insert inner1.places.items (i + 1) (record { left = upper.left; child = at; mirror = mu }) ≡ pre ++ with_mirror
+      (mirror_of after) c ∷ record { left = upper.left; child = at; mirror = mirror_of upper.node } ∷ post =
       ap (λ (l : List Child). insert l (i + 1) (record { left = upper.left; child = at; mirror = mu })) changed
       ∙ insert_next pre post (with_mirror (mirror_of after) c) (record { left = upper.left; child = at; mirror = mu }) i split.1
       ∙ ap (λ (n : ℕ). pre ++ with_mirror (mirror_of after) c ∷ record { left = upper.left; child = at; mirror = n } ∷ post) is_up in
-      let end = becomes_same inner1.level inner.level (max inner1.mirror mu) (max (max inner.mirror (mirror_of after)) (mirror_of upper.node)) (insert inner1.places.items (i + 1) (record { left = upper.left; child = at; mirror = mu }))
-      (pre ++ with_mirror (mirror_of after) c ∷ record { left = upper.left; child = at; mirror = mirror_of upper.node } ∷ post) inner1.right inner.right inner2 o level
+      let end = becomes_same inner1.level inner.level (max inner1.mirror mu) (max (max inner.mirror (mirror_of after))
+      (mirror_of upper.node)) (insert inner1.places.items (i + 1) (record { left = upper.left; child = at; mirror = mu }))
+      (pre ++ with_mirror (mirror_of after) c ∷ record { left = upper.left; child = at; mirror = mirror_of upper.node } ∷ post)
+      inner1.right inner.right inner2 o level
       (ap (λ (n : ℕ). max n mu) (mirror ∙ ap (max inner.mirror) is) ∙ ap (max (max inner.mirror (mirror_of after))) is_up) list right becomes in
-      subst (λ (l : List Child). GrownTo f key marking place (suc lower) old new2 (inner_node (inner_of inner.level inner.mirror l inner.right)) (inner_node inner2) o) (sym split.0)
-      (grown_parent key place lower inner.level inner.mirror inner.right old pre c post tree' held inside f marking mid new1 new2 after upper.node upper.left at inner2 o local
-      (subst (λ (n : Node). Split f key marking spot_of lower old mid n after upper.node upper.left) (sym read) below) (subst (λ (a : ℕ). HasWritten a after mid new1) where_is written) added spot end)
+      subst (λ (l : List Child). GrownTo f key marking place (suc lower) old new2
+      (inner_node (inner_of inner.level inner.mirror l inner.right)) (inner_node inner2) o) (sym split.0)
+      (grown_parent key place lower inner.level inner.mirror inner.right old pre c post tree' held inside f marking mid new1 new2
+      after upper.node upper.left at inner2 o local
+      (subst (λ (n : Node). Split f key marking spot_of lower old mid n after upper.node upper.left) (sym read) below)
+      (subst (λ (a : ℕ). HasWritten a after mid new1) where_is written) added spot end)
 
-  pub inner_grows : (node : Node) (p0 p1 p2 p3 p4 : Option PageMap) → node ≡ inner_node inner → i ≡ holder_place key inner.places.items → slice_get (children_of inner) i ≡ Some s → p1 ≡ p0 → IfSome p0 (λ map. StandsHere map s child)
-      → Grows f key marking Needs More p1 p2 child after (Some upper) → BothTell p2 p3 (HasWritten s.at after) → BothTell p3 p4 (HasAdded at upper.node) → IsSpot at
-      → inner1.level ≡ inner.level → inner1.mirror ≡ max inner.mirror m → m ≡ mirror_of after → mu ≡ mirror_of upper.node → ChildChange (with_mirror m) inner.places.items i inner1.places.items → inner1.right ≡ inner.right
-      → InnerBecomes inner1.level (max inner1.mirror mu) (insert inner1.places.items (i + 1) (record { left = upper.left; child = at; mirror = mu })) inner1.right inner2 o
-      → Grows f key marking Needs More p0 p4 node (inner_node inner2) o
+  pub inner_grows : (node : Node) (p0 p1 p2 p3 p4 : Option PageMap) → node ≡ inner_node inner
+      → i ≡ holder_place key inner.places.items → slice_get (children_of inner) i ≡ Some s → p1 ≡ p0 → IfSome p0 (λ map. StandsHere map s child)
+      → Grows f key marking Needs p1 p2 child after (Some upper) → BothTell p2 p3 (HasWritten s.at after) → BothTell p3 p4 (HasAdded at upper.node) → IsSpot at
+      → inner1.level ≡ inner.level → inner1.mirror ≡ max inner.mirror m → m ≡ mirror_of after → mu ≡ mirror_of upper.node
+      → ChildChange (with_mirror m) inner.places.items i inner1.places.items → inner1.right ≡ inner.right
+      → InnerBecomes inner1.level (max inner1.mirror mu) (insert inner1.places.items (i + 1)
+      (record { left = upper.left; child = at; mirror = mu })) inner1.right inner2 o
+      → Grows f key marking Needs p0 p4 node (inner_node inner2) o
   inner_grows node None p1 p2 p3 p4 is at_holder there same here rec written added spot level mirror m_is mu_is items right becomes = tt
   inner_grows node (Some old) p1 p2 p3 p4 is at_holder there same here rec written added spot level mirror m_is mu_is items right becomes =
-      let told : Grows f key marking Needs More (Some old) p2 child after (Some upper) = subst (λ (p : Option PageMap). Grows f key marking Needs More p p2 child after (Some upper)) same rec in
-      λ place height tree inside needs more.
+      let told : Grows f key marking Needs (Some old) p2 child after (Some upper) =
+      subst (λ (p : Option PageMap). Grows f key marking Needs p p2 child after (Some upper)) same rec in
+      λ place height tree inside needs.
       subst (λ (n : Node). IfSome p4 (λ new. GrownTo f key marking place height old new n (inner_node inner2) o)) (sym is)
-      (by_pages p2 p3 p4 told written added height place (subst (λ (n : Node). IsTree old height place n) is tree) inside (subst (λ (n : Node). Needs (element_at key (elements_in old height n))) is needs) more) where
-        by_height : (mid new1 new2 : PageMap) → Grows f key marking Needs More (Some old) (Some mid) child after (Some upper) → HasWritten s.at after mid new1 → HasAdded at upper.node new1 new2 → (height : ℕ) (place : Subtree) → IsTree old height place (inner_node inner)
-            → IsInside place.left place.right key → Needs (element_at key (elements_in old height (inner_node inner))) → More → GrownTo f key marking place height old new2 (inner_node inner) (inner_node inner2) o
-        by_height mid new1 new2 told written added zero place tree inside needs more = absurd (omega (arith, tree.level, tree.sound.level.0))
-        by_height mid new1 new2 told written added (suc lower) place tree inside needs more =
-            parent_grown old mid new1 new2 lower place tree inside at_holder (place_is inner.level inner.right inner.places.items i s there) here written added spot
-            (λ p h t within n. told p h t within n more) needs level mirror m_is mu_is items right becomes
+      (by_pages p2 p3 p4 told written added height place (subst (λ (n : Node). IsTree old height place n) is tree) inside
+      (subst (λ (n : Node). Needs (element_at key (elements_in old height n))) is needs)) where
+        by_height : (mid new1 new2 : PageMap) → Grows f key marking Needs (Some old) (Some mid) child after (Some upper)
+            → HasWritten s.at after mid new1 → HasAdded at upper.node new1 new2 → (height : ℕ) (place : Subtree) → IsTree old height place (inner_node inner)
+            → IsInside place.left place.right key → Needs (element_at key (elements_in old height (inner_node inner)))
+            → GrownTo f key marking place height old new2 (inner_node inner) (inner_node inner2) o
+        by_height mid new1 new2 told written added zero place tree inside needs = absurd (omega (arith, tree.level, tree.sound.level.0))
+        by_height mid new1 new2 told written added (suc lower) place tree inside needs =
+            parent_grown old mid new1 new2 lower place tree inside at_holder (place_is inner.level inner.right inner.places.items
+            i s there) here written added spot
+            told needs level mirror m_is mu_is items right becomes
 
-        by_pages : (p2 p3 p4 : Option PageMap) → Grows f key marking Needs More (Some old) p2 child after (Some upper) → BothTell p2 p3 (HasWritten s.at after) → BothTell p3 p4 (HasAdded at upper.node) → (height : ℕ) (place : Subtree)
-            → IsTree old height place (inner_node inner) → IsInside place.left place.right key → Needs (element_at key (elements_in old height (inner_node inner))) → More → IfSome p4 (λ new. GrownTo f key marking place height old new (inner_node inner) (inner_node inner2) o)
-        by_pages p2 p3 None told written added height place tree inside needs more = tt
-        by_pages p2 None (Some new2) told written added height place tree inside needs more = absurd added
-        by_pages None (Some new1) (Some new2) told written added height place tree inside needs more = absurd written
-        by_pages (Some mid) (Some new1) (Some new2) told written added height place tree inside needs more = by_height mid new1 new2 told written added height place tree inside needs more
+        by_pages : (p2 p3 p4 : Option PageMap) → Grows f key marking Needs (Some old) p2 child after (Some upper) → BothTell p2 p3
+            (HasWritten s.at after) → BothTell p3 p4 (HasAdded at upper.node) → (height : ℕ) (place : Subtree)
+            → IsTree old height place (inner_node inner) → IsInside place.left place.right key
+            → Needs (element_at key (elements_in old height (inner_node inner)))
+            → IfSome p4 (λ new. GrownTo f key marking place height old new (inner_node inner) (inner_node inner2) o)
+        by_pages p2 p3 None told written added height place tree inside needs = tt
+        by_pages p2 None (Some new2) told written added height place tree inside needs = absurd added
+        by_pages None (Some new1) (Some new2) told written added height place tree inside needs = absurd written
+        by_pages (Some mid) (Some new1) (Some new2) told written added height place tree inside needs =
+            by_height mid new1 new2 told written added height place tree inside needs

@@ -34,8 +34,10 @@ pub record IsHolderBelow (map : PageMap) (height : ℕ) (key : Key) (inner : Inn
   pub inside : IsInside one.left (next_left inner.right (drop (suc i) inner.places.items)) key
   pub same : element_at key (elements_in map height (inner_node inner)) ≡ element_at key (elements_in map lower child)
 
-module _ (key : Key) (inner : Inner) (i : ℕ) (s : Subtree) (child : Node) (holder : i ≡ holder_place key inner.places.items) (at : slice_get (children_of inner) i ≡ Some s) where
-  pub holder_below : (map : PageMap) (height : ℕ) (place : Subtree) → IsTree map height place (inner_node inner) → IsInside place.left place.right key → StandsHere map s child → IsHolderBelow map height key inner i s child
+module _ (key : Key) (inner : Inner) (i : ℕ) (s : Subtree) (child : Node) (holder : i ≡ holder_place key inner.places.items)
+    (at : slice_get (children_of inner) i ≡ Some s) where
+  pub holder_below : (map : PageMap) (height : ℕ) (place : Subtree) → IsTree map height place (inner_node inner)
+      → IsInside place.left place.right key → StandsHere map s child → IsHolderBelow map height key inner i s child
   holder_below map zero place tree inside here = absurd (omega (arith, tree.level, tree.sound.level.0))
   holder_below map (suc lower) place tree inside here =
       let there = place_is inner.level inner.right inner.places.items i s at in
@@ -48,7 +50,8 @@ module _ (key : Key) (inner : Inner) (i : ℕ) (s : Subtree) (child : Node) (hol
       subst (λ (l : List Child). IsTree map (suc lower) place (inner_node (inner_of inner.level inner.mirror l inner.right))) split.0 tree in
       let held : length pre ≡ holder_place key (pre ++ c ∷ post) = split.1 ∙ holder ∙ ap (holder_place key) split.0 in
       let where_is : s.at ≡ c.child = ap (λ (t : Subtree). t.at) there.place in
-      let stored : IsStoredTree map lower (child_place inner.level (next_left inner.right post) c) = child_tree key place lower inner.level inner.mirror inner.right map pre c post tree' held inside in
+      let stored : IsStoredTree map lower (child_place inner.level (next_left inner.right post) c) = child_tree key place lower
+      inner.level inner.mirror inner.right map pre c post tree' held inside in
       let read : node_at map c.child ≡ child = read_there map s c.child child where_is stored.there here in
       record {
         lower = lower;
@@ -60,7 +63,8 @@ module _ (key : Key) (inner : Inner) (i : ℕ) (s : Subtree) (child : Node) (hol
         read = read;
         inside = child_inside key place lower inner.level inner.mirror inner.right map pre c post tree' held inside;
         same = ap (λ (l : List Child). element_at key (elements_in map (suc lower) (inner_node (inner_of inner.level inner.mirror l inner.right)))) split.0
-            ∙ child_element key place lower inner.level inner.mirror inner.right map pre c post tree' held inside ∙ ap (λ (n : Node). element_at key (elements_in map lower n)) read;
+            ∙ child_element key place lower inner.level inner.mirror inner.right map pre c post tree' held inside
+            ∙ ap (λ (n : Node). element_at key (elements_in map lower n)) read;
       }
 
   -- where the pages are told
@@ -82,37 +86,43 @@ module _ (key : Key) (inner : Inner) (i : ℕ) (s : Subtree) (child : Node) (hol
           }
 
     -- and the child lost places
-    pub shrunk_told : (f : List Element → List Element) (p2 : Option PageMap) (after : Node) → IsLocal f key → IfSome p0 (HoldsElement key node) → IfSome p0 (λ map. StandsHere map s child)
+    pub shrunk_told : (f : List Element → List Element) (p2 : Option PageMap) (after : Node) → IsLocal f key
+        → IfSome p0 (HoldsElement key node) → IfSome p0 (λ map. StandsHere map s child)
         → Shrinks f key TakesOut (λ o. IsSome o) p1 p2 child after → is_some p2 ≡ is_some p1 → IfSome p2 (IsShrunk inner i after)
-    shrunk_told f p2 after local holds here shrinks told = by_told p0 p2 holds here (subst (λ (p : Option PageMap). Shrinks f key TakesOut (λ o. IsSome o) p p2 child after) same shrinks) (told ∙ ap is_some same) where
-      by_told : (p q : Option PageMap) → IfSome p (HoldsElement key node) → IfSome p (λ map. StandsHere map s child) → Shrinks f key TakesOut (λ o. IsSome o) p q child after → is_some q ≡ is_some p → IfSome q (IsShrunk inner i after)
-      by_told p None holds here shrinks told = tt
-      by_told None (Some mid) holds here shrinks told = absurd (true≢false told)
-      by_told (Some map) (Some mid) holds here shrinks told =
-          let tree : IsTree map holds.height holds.place (inner_node inner) = subst (λ (n : Node). IsTree map holds.height holds.place n) is holds.tree in
-          let below = holder_below map holds.height holds.place tree holds.inside here in
-          let spot : Subtree = child_place inner.level (next_left inner.right (drop (suc i) inner.places.items)) below.one in
-          let there : IsSome (element_at key (elements_in map below.lower child)) = subst (λ (o : Option Element). IsSome o) (ap (λ (n : Node). element_at key (elements_in map holds.height n)) is ∙ below.same) holds.there in
-          let change = shrinks spot below.lower (subst (λ (n : Node). IsTree map below.lower spot n) below.read below.stored.tree) below.inside there in
-          record {
-            f = f;
-            key = key;
-            local = local;
-            old = map;
-            place = holds.place;
-            height = below.lower;
-            tree = subst (λ (n : ℕ). IsTree map n holds.place (inner_node inner)) below.high tree;
-            inside = holds.inside;
-            holder = holder;
-            child = below.one;
-            at = below.at;
-            change = subst (λ (n : Node). Changed f key TakesOut (loose spot) below.lower map mid n after) (sym below.read) change;
-          }
+    shrunk_told f p2 after local holds here shrinks told = by_told p0 p2 holds here
+        (subst (λ (p : Option PageMap). Shrinks f key TakesOut (λ o. IsSome o) p p2 child after) same shrinks) (told ∙ ap is_some same) where
+          by_told : (p q : Option PageMap) → IfSome p (HoldsElement key node) → IfSome p (λ map. StandsHere map s child)
+              → Shrinks f key TakesOut (λ o. IsSome o) p q child after → is_some q ≡ is_some p → IfSome q (IsShrunk inner i after)
+          by_told p None holds here shrinks told = tt
+          by_told None (Some mid) holds here shrinks told = absurd (true≢false told)
+          by_told (Some map) (Some mid) holds here shrinks told =
+              let tree : IsTree map holds.height holds.place (inner_node inner) = subst (λ (n : Node). IsTree map holds.height holds.place n) is holds.tree in
+              let below = holder_below map holds.height holds.place tree holds.inside here in
+              let spot : Subtree = child_place inner.level (next_left inner.right (drop (suc i) inner.places.items)) below.one in
+              let there : IsSome (element_at key (elements_in map below.lower child)) = subst (λ (o : Option Element). IsSome o)
+              (ap (λ (n : Node). element_at key (elements_in map holds.height n)) is ∙ below.same) holds.there in
+              let change = shrinks spot below.lower (subst (λ (n : Node). IsTree map below.lower spot n) below.read below.stored.tree) below.inside there in
+              record {
+                f = f;
+                key = key;
+                local = local;
+                old = map;
+                place = holds.place;
+                height = below.lower;
+                tree = subst (λ (n : ℕ). IsTree map n holds.place (inner_node inner)) below.high tree;
+                inside = holds.inside;
+                holder = holder;
+                child = below.one;
+                at = below.at;
+                change = subst (λ (n : Node). Changed f key TakesOut (loose spot) below.lower map mid n after) (sym below.read) change;
+              }
 
 -- the child that is read is stored
-pub holds_read : (key : Key) (inner : Inner) (i : ℕ) (s : Subtree) (node : Node) (p : Option PageMap) → node ≡ inner_node inner → slice_get (children_of inner) i ≡ Some s → IfSome p (HoldsElement key node) → IfSome p (λ map. (height : ℕ) × IsStoredTree map height s)
+pub holds_read : (key : Key) (inner : Inner) (i : ℕ) (s : Subtree) (node : Node) (p : Option PageMap) → node ≡ inner_node inner
+    → slice_get (children_of inner) i ≡ Some s → IfSome p (HoldsElement key node) → IfSome p (λ map. (height : ℕ) × IsStoredTree map height s)
 holds_read key inner i s node None is at holds = tt
-holds_read key inner i s node (Some map) is at holds = let below = stored_below map holds.height holds.place node inner i s holds.tree is at in (below.lower, below.stored)
+holds_read key inner i s node (Some map) is at holds = let below = stored_below map holds.height holds.place node inner i s
+    holds.tree is at in (below.lower, below.stored)
 
 -- below an inner node each inner node has two children at least
 pub neighbours_below : (inner : Inner) (i : ℕ) (s : Subtree) (child : Node) → slice_get (children_of inner) i ≡ Some s → Fits s child → HasNeighbours child

@@ -1,5 +1,6 @@
 -- Two neighbouring inner nodes that become one, or share their children out.
-use Rattle.std.proofs.Common.{◌≡◌, Bool, ◌||◌, ℕ, zero, suc, ◌-◌, ◌≤◌, ◌⊎◌, inl, inr, List, [], ◌∷◌, ◌++◌, length, take, refl, sym, ap, subst, ◌∙◌, arith, max, length-append, length-drop, take-append-drop}
+use Rattle.std.proofs.Common.{◌≡◌, Bool, ◌||◌, ℕ, zero, suc, ◌-◌, ◌≤◌, ◌⊎◌, inl, inr, List, [], ◌∷◌, ◌++◌, length, take, refl, sym, ap}
+use Rattle.std.proofs.Common.{subst, ◌∙◌, arith, max, length-append, length-drop, take-append-drop}
 use Rattle.std.specs.Prelude.{if◌then◌else◌}
 use Rattle.std.specs.List.{AllByRecursion}
 use Rattle.std.specs.List.Sorted.{IsStrictlySortedBy}
@@ -94,7 +95,9 @@ begins_before left right (c ∷ cs) begins rising = subst (λ (k : Key). IsBefor
 mirror_rise : (m n : ℕ) (c : Child) → m ≤ n → c.mirror ≤ m → c.mirror ≤ n
 mirror_rise m n c le up = omega (arith, le, up)
 
-module _ (key : Key) (marking : Marking) (height : ℕ) (old mid : PageMap) (olds : ℕ → Bool) (want : List Element) (were : Key → ℕ) (left right : Base) (a b : Inner) (at : Base) (beside : Beside key marking (suc height) old mid olds want were left right (inner_node a) (inner_node b) at) where
+module _ (key : Key) (marking : Marking) (height : ℕ) (old mid : PageMap) (olds : ℕ → Bool) (want : List Element) (were : Key → ℕ)
+    (left right : Base) (a b : Inner) (at : Base) (beside : Beside key marking (suc height) old mid olds want were left right
+    (inner_node a) (inner_node b) at) where
   abbrev all : List Child
   all = a.places.items ++ b.places.items
 
@@ -114,15 +117,19 @@ module _ (key : Key) (marking : Marking) (height : ℕ) (old mid : PageMap) (old
   level_same = omega (arith, beside.lower_tree.level, beside.upper_tree.level)
 
   all_rising : AreRising b.right all
-  all_rising = rising_append b.right a.places.items b.places.items (rising_to a.right next end_key a.places.items beside.lower_tree.sound.order) beside.upper_tree.sound.order
+  all_rising = rising_append b.right a.places.items b.places.items (rising_to a.right next end_key a.places.items
+      beside.lower_tree.sound.order) beside.upper_tree.sound.order
 
   all_stored : AreStored mid height a.level b.right all
   all_stored =
-      stored_append mid height a.level b.right a.places.items b.places.items (stored_to a.right next end_key mid height a.level a.places.items beside.lower_tree.below)
+      stored_append mid height a.level b.right a.places.items b.places.items (stored_to a.right next end_key mid height a.level
+      a.places.items beside.lower_tree.below)
       (subst (λ (l : ℕ). AreStored mid height l b.right b.places.items) level_same beside.upper_tree.below)
 
   all_children : AllByRecursion IsChild all
-  all_children = each_append IsChild a.places.items b.places.items (recursion_from_All IsChild a.places.items beside.lower_tree.sound.fields.children) (recursion_from_All IsChild b.places.items beside.upper_tree.sound.fields.children)
+  all_children = each_append IsChild a.places.items b.places.items
+      (recursion_from_All IsChild a.places.items beside.lower_tree.sound.fields.children)
+      (recursion_from_All IsChild b.places.items beside.upper_tree.sound.fields.children)
 
   lower_mirrors : AllByRecursion (both_mirrors a.mirror) a.places.items
   lower_mirrors = recursion_from_All (both_mirrors a.mirror) a.places.items beside.lower_tree.sound.mirror
@@ -133,13 +140,16 @@ module _ (key : Key) (marking : Marking) (height : ℕ) (old mid : PageMap) (old
   all_elements : elements_under mid height all ≡ want
   all_elements = flat_map-append (λ (c : Child). elements_in mid height (node_at mid c.child)) a.places.items b.places.items ∙ beside.elements
 
-  all_marks : (k : Key) → mark_under mid height all k ≡ (if is_lt (key_cmp k (key_of at)) then mark_under mid height a.places.items k else mark_under mid height b.places.items k)
+  all_marks : (k : Key) → mark_under mid height all k ≡ (if is_lt (key_cmp k (key_of at)) then mark_under mid height
+      a.places.items k else mark_under mid height b.places.items k)
   all_marks k = by_list b.places.items beside.upper_tree.fits.bounds.0 all_rising where
     by_list : (ds : List Child) → BeginsAt at ds → AreRising b.right (a.places.items ++ ds)
-        → mark_under mid height (a.places.items ++ ds) k ≡ (if is_lt (key_cmp k (key_of at)) then mark_under mid height a.places.items k else mark_under mid height ds k)
+        → mark_under mid height (a.places.items ++ ds) k ≡ (if is_lt (key_cmp k (key_of at)) then mark_under mid height
+        a.places.items k else mark_under mid height ds k)
     by_list [] begins rising = absurd begins
     by_list (d ∷ ds) begins rising =
-        subst (λ (j : Key). mark_under mid height (a.places.items ++ d ∷ ds) k ≡ (if is_lt (key_cmp k j) then mark_under mid height a.places.items k else mark_under mid height (d ∷ ds) k)) begins
+        subst (λ (j : Key). mark_under mid height (a.places.items ++ d ∷ ds) k ≡ (if is_lt (key_cmp k j) then mark_under mid
+        height a.places.items k else mark_under mid height (d ∷ ds) k)) begins
         (mark_cut mid height b.right k a.places.items d ds beside.lower_tree.sound.count.0 rising)
 
   -- one node has the children of both
@@ -152,15 +162,23 @@ module _ (key : Key) (marking : Marking) (height : ℕ) (old mid : PageMap) (old
         count = (omega (arith, many), few);
         order = all_rising;
         fields = record { children = All-from_recursion IsChild all all_children; right = beside.upper_tree.sound.fields.right };
-        mirror = All-from_recursion (both_mirrors (max a.mirror b.mirror)) all (each_most both_mirrors mirror_rise a.mirror b.mirror a.places.items b.places.items lower_mirrors upper_mirrors);
+        mirror = All-from_recursion (both_mirrors (max a.mirror b.mirror)) all (each_most both_mirrors mirror_rise a.mirror
+            b.mirror a.places.items b.places.items lower_mirrors upper_mirrors);
       };
       level = beside.lower_tree.level;
-      fits = record { level = tt; count = tt; bounds = (begins_append left a.places.items b.places.items beside.lower_tree.fits.bounds.0, beside.upper_tree.fits.bounds.1); mirror = tt };
+      fits = record {
+        level = tt;
+        count = tt;
+        bounds =
+            (begins_append left a.places.items b.places.items beside.lower_tree.fits.bounds.0, beside.upper_tree.fits.bounds.1);
+        mirror = tt;
+      };
       below = all_stored;
     };
     many = many;
     elements = all_elements;
-    mark = same_marks (MarksWithin marking key left right were) (both_sides at (mark_under mid height a.places.items) (mark_under mid height b.places.items)) (mark_under mid height all) all_marks beside.mark;
+    mark = same_marks (MarksWithin marking key left right were) (both_sides at (mark_under mid height a.places.items)
+        (mark_under mid height b.places.items)) (mark_under mid height all) all_marks beside.mark;
     pages = replaces_same old mid olds (λ x. has_under mid height a.places.items x || has_under mid height b.places.items x) olds (has_under mid height all)
         (λ x. refl) (λ x. under_append mid height x a.places.items b.places.items) beside.pages;
   } where
@@ -220,7 +238,8 @@ module _ (key : Key) (marking : Marking) (height : ℕ) (old mid : PageMap) (old
     upper_children = subst (λ (l : List Child). AllByRecursion IsChild l) cut (each_drop IsChild count all all_children)
 
     lower_begins : BeginsAt left lo
-    lower_begins = begins_take left count all (omega (arith, long, length-append a.places.items b.places.items)) (begins_append left a.places.items b.places.items beside.lower_tree.fits.bounds.0)
+    lower_begins = begins_take left count all (omega (arith, long, length-append a.places.items b.places.items))
+        (begins_append left a.places.items b.places.items beside.lower_tree.fits.bounds.0)
 
     lower_sound : IsTree mid (suc height) (between left c.left) (inner_node (inner_of a.level low lo c.left))
     lower_sound = record {
@@ -229,7 +248,8 @@ module _ (key : Key) (marking : Marking) (height : ℕ) (old mid : PageMap) (old
         count = (omega (arith, lower_count.0), lower_count.1);
         order = rising_front b.right lo (c ∷ hi) rising;
         fields = record { children = All-from_recursion IsChild lo lower_children; right = upper_children.0.left };
-        mirror = All-from_recursion (both_mirrors low) lo (cut_low both_mirrors mirror_rise a.mirror b.mirror a.places.items b.places.items lower_mirrors upper_mirrors count);
+        mirror = All-from_recursion (both_mirrors low) lo (cut_low both_mirrors mirror_rise a.mirror b.mirror a.places.items
+            b.places.items lower_mirrors upper_mirrors count);
       };
       level = beside.lower_tree.level;
       fits = record { level = tt; count = tt; bounds = (lower_begins, refl); mirror = tt };
@@ -244,7 +264,8 @@ module _ (key : Key) (marking : Marking) (height : ℕ) (old mid : PageMap) (old
         order = rising_back b.right lo (c ∷ hi) rising;
         fields = record { children = All-from_recursion IsChild (c ∷ hi) upper_children; right = beside.upper_tree.sound.fields.right };
         mirror = All-from_recursion (both_mirrors high) (c ∷ hi)
-            (subst (λ (l : List Child). AllByRecursion (both_mirrors high) l) cut (cut_high both_mirrors mirror_rise a.mirror b.mirror a.places.items b.places.items lower_mirrors upper_mirrors count));
+            (subst (λ (l : List Child). AllByRecursion (both_mirrors high) l) cut
+            (cut_high both_mirrors mirror_rise a.mirror b.mirror a.places.items b.places.items lower_mirrors upper_mirrors count));
       };
       level = beside.upper_tree.level;
       fits = record { level = tt; count = tt; bounds = (refl, beside.upper_tree.fits.bounds.1); mirror = tt };
@@ -253,22 +274,29 @@ module _ (key : Key) (marking : Marking) (height : ℕ) (old mid : PageMap) (old
 
     marks : (k : Key) → (if is_lt (key_cmp k (key_of at)) then mark_under mid height a.places.items k else mark_under mid height b.places.items k)
         ≡ (if is_lt (key_cmp k (key_of c.left)) then mark_under mid height lo k else mark_under mid height (c ∷ hi) k)
-    marks k = sym (all_marks k) ∙ ap (λ (l : List Child). mark_under mid height l k) (sym both) ∙ mark_cut mid height b.right k lo c hi (omega (arith, lower_count.0)) rising
+    marks k = sym (all_marks k) ∙ ap (λ (l : List Child). mark_under mid height l k) (sym both) ∙ mark_cut mid height b.right k lo
+        c hi (omega (arith, lower_count.0)) rising
 
     -- two nodes have about as many children each
-    pub shared_inners : Shared key marking (suc height) old mid olds want were left right (inner_node (inner_of a.level low lo c.left)) (inner_node (inner_of b.level high (c ∷ hi) b.right)) c.left
+    pub shared_inners : Shared key marking (suc height) old mid olds want were left right
+        (inner_node (inner_of a.level low lo c.left)) (inner_node (inner_of b.level high (c ∷ hi) b.right)) c.left
     shared_inners = record {
       beside = record {
         lower_tree = lower_sound;
         upper_tree = upper_sound;
-        elements = sym (flat_map-append (λ (d : Child). elements_in mid height (node_at mid d.child)) lo (c ∷ hi)) ∙ ap (elements_under mid height) both ∙ all_elements;
-        mark = same_marks (MarksWithin marking key left right were) (both_sides at (mark_under mid height a.places.items) (mark_under mid height b.places.items)) (both_sides c.left (mark_under mid height lo) (mark_under mid height (c ∷ hi)))
+        elements = sym (flat_map-append (λ (d : Child). elements_in mid height (node_at mid d.child)) lo (c ∷ hi))
+            ∙ ap (elements_under mid height) both ∙ all_elements;
+        mark = same_marks (MarksWithin marking key left right were) (both_sides at (mark_under mid height a.places.items)
+            (mark_under mid height b.places.items)) (both_sides c.left (mark_under mid height lo) (mark_under mid height (c ∷ hi)))
             (λ k. sym (marks k)) beside.mark;
-        pages = replaces_same old mid olds (λ x. has_under mid height a.places.items x || has_under mid height b.places.items x) olds (λ x. has_under mid height lo x || has_under mid height (c ∷ hi) x)
-            (λ x. refl) (λ x. sym (under_append mid height x lo (c ∷ hi)) ∙ ap (λ (l : List Child). has_under mid height l x) both ∙ under_append mid height x a.places.items b.places.items) beside.pages;
+        pages = replaces_same old mid olds (λ x. has_under mid height a.places.items x || has_under mid height b.places.items x)
+            olds (λ x. has_under mid height lo x || has_under mid height (c ∷ hi) x)
+            (λ x. refl) (λ x. sym (under_append mid height x lo (c ∷ hi)) ∙ ap (λ (l : List Child). has_under mid height l x) both
+            ∙ under_append mid height x a.places.items b.places.items) beside.pages;
         bound = upper_children.0.left;
         from = begins_before left c.left lo lower_begins (rising_front b.right lo (c ∷ hi) rising);
-        to = subst (λ (k : Key). IsBefore (key_of c.left) k) beside.upper_tree.fits.bounds.1 (ends_after b.right c hi (rising_back b.right lo (c ∷ hi) rising));
+        to = subst (λ (k : Key). IsBefore (key_of c.left) k) beside.upper_tree.fits.bounds.1
+            (ends_after b.right c hi (rising_back b.right lo (c ∷ hi) rising));
       };
       lower_many = lower_count.0;
       upper_many = upper_count.0;

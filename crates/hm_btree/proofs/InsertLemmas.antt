@@ -1,5 +1,6 @@
 -- What an insertion finds and spends.
-use Rattle.std.proofs.Common.{◌≡◌, Bool, true, false, ℕ, ◌+◌, ◌-◌, ◌*◌, ◌<◌, ◌≤◌, List, [], ◌∷◌, length, drop, insert, get_or, ap, subst, ◌∙◌, arith, max, nat_eq, Some, None, length-drop, length-set}
+use Rattle.std.proofs.Common.{◌≡◌, Bool, true, false, ℕ, ◌+◌, ◌-◌, ◌*◌, ◌<◌, ◌≤◌, List, [], ◌∷◌, length, drop, insert, get_or, ap, subst}
+use Rattle.std.proofs.Common.{◌∙◌, arith, max, nat_eq, Some, None, length-drop, length-set}
 use Rattle.std.specs.Prelude.{if◌then◌else◌, slice_index_or}
 use Rattle.hm_key.specs.Key.{key_of, IsBoundary}
 use Rattle.hm_key.specs.Elements.{element_key, inserted, last_id}
@@ -7,6 +8,7 @@ use Rattle.hm_key.specs.Places.{leading}
 use Rattle.hm_types.specs.Space.{Spends, in_zone}
 use Rattle.hm_key.specs.declared.base.Base.{Base}
 use Rattle.hm_key.specs.declared.element.Element.{Element}
+use Rattle.hm_key.specs.declared.room.HasRoom.{Ghosts as Rooms}
 use Rattle.hm_types.specs.declared.zone.TheConstants.{TREE_ZONE}
 use Rattle.hm_types.specs.declared.space.TheConstants.{INSERT_ROOM}
 use Rattle.hm_key.proofs.PlaceLemmas.{inserted_here}
@@ -19,6 +21,7 @@ use Rattle.hm_node.specs.declared.node.Node.TheVariants.{Leaf as leaf_node, Inne
 use Rattle.hm_btree.specs.Edits.{LeafGrown, ChildChange}
 use Rattle.hm_btree.specs.Grow.{FirstAt, LeafBecomes}
 use Rattle.hm_btree.specs.declared.space.TheConstants.{NODE_BYTES}
+use Rattle.hm_btree.proofs.SpendLemmas.{SameRoom}
 
 -- the first of some elements
 pub first_at : (l : List Element) (x : Element) (b : Base) → 0 < length l → x ≡ get_or l 0 x → IsBoundary b (key_of x.base) → FirstAt l b
@@ -29,19 +32,27 @@ module _ (e : Element) (leaf after : Leaf) (i : ℕ) (at : i ≡ leading (elemen
   list_is : insert leaf.places.items i e ≡ inserted e leaf.places.items
   list_is = inserted_here e leaf.places.items i at
 
-  pub becomes_one : LeafGrown (max leaf.mirror (last_id e)) (insert leaf.places.items i e) after None → LeafBecomes (max leaf.mirror (last_id e)) (inserted e leaf.places.items) after None
+  pub becomes_one : LeafGrown (max leaf.mirror (last_id e)) (insert leaf.places.items i e) after None → LeafBecomes
+      (max leaf.mirror (last_id e)) (inserted e leaf.places.items) after None
   becomes_one grown = subst (λ (l : List Element). LeafGrown (max leaf.mirror (last_id e)) l after None) list_is grown
 
-  pub becomes_two : (upper : Leaf) (x : Element) (b : Base) (xs : List Element) → LeafGrown (max leaf.mirror (last_id e)) (insert leaf.places.items i e) after (Some upper) → xs ≡ upper.places.items → x ≡ get_or xs 0 x → IsBoundary b (key_of x.base)
+  pub becomes_two : (upper : Leaf) (x : Element) (b : Base) (xs : List Element) → LeafGrown (max leaf.mirror (last_id e))
+      (insert leaf.places.items i e) after (Some upper) → xs ≡ upper.places.items → x ≡ get_or xs 0 x → IsBoundary b (key_of x.base)
       → LeafBecomes (max leaf.mirror (last_id e)) (inserted e leaf.places.items) after (Some (record { left = b; node = leaf_node upper }))
   becomes_two upper x b xs grown same is bound =
       let told = subst (λ (l : List Element). LeafGrown (max leaf.mirror (last_id e)) l after (Some upper)) list_is grown in
       let places : upper.places.items ≡ drop 32 (inserted e leaf.places.items) = ap (λ (l : Leaf). l.places.items) told.1 in
       let long : length (drop 32 (inserted e leaf.places.items)) ≡ 32 = length-drop 32 (inserted e leaf.places.items) ∙ omega (arith, told.2) in
-      let whole : xs ≡ drop 32 (inserted e leaf.places.items) = same ∙ places in
-      (told.0, ap leaf_node told.1, first_at (drop 32 (inserted e leaf.places.items)) x b (omega (arith, long)) (subst (λ (l : List Element). x ≡ get_or l 0 x) whole is) bound, told.2)
+      let whole : xs ≡ drop 32 (inserted e leaf.places.items) = same ∙ places in (
+        told.0,
+        ap leaf_node told.1,
+        first_at (drop 32 (inserted e leaf.places.items)) x b (omega (arith, long))
+            (subst (λ (l : List Element). x ≡ get_or l 0 x) whole is) bound,
+        told.2,
+      )
 
-  pub some_upper : (upper : Leaf) (xs : List Element) → LeafGrown (max leaf.mirror (last_id e)) (insert leaf.places.items i e) after (Some upper) → xs ≡ upper.places.items → 0 < length xs
+  pub some_upper : (upper : Leaf) (xs : List Element) → LeafGrown (max leaf.mirror (last_id e)) (insert leaf.places.items i e)
+      after (Some upper) → xs ≡ upper.places.items → 0 < length xs
   some_upper upper xs grown same =
       let places : upper.places.items ≡ drop 32 (insert leaf.places.items i e) = ap (λ (l : Leaf). l.places.items) grown.1 in
       let long : length xs ≡ 32 = ap length (same ∙ places) ∙ length-drop 32 (insert leaf.places.items i e) ∙ omega (arith, grown.2) in
@@ -66,24 +77,25 @@ zones_add zone n k m le = by_test (nat_eq zone TREE_ZONE) where
   by_test true = le
   by_test false = omega arith
 
-module _ {S : Type 0} (room_of : S → ℕ → ℕ) (free_of : S → ℕ) where
+module _ {S : Type 0} (g : Rooms S) where
   -- a call after another
-  pub spends_add : (a b c : S) (n k m : ℕ) → n + k ≤ m → Spends room_of free_of (in_zone TREE_ZONE n) a b → Spends room_of free_of (in_zone TREE_ZONE k) b c → Spends room_of free_of (in_zone TREE_ZONE m) a c
+  pub spends_add : (a b c : S) (n k m : ℕ) → n + k ≤ m → Spends g.room g.free (in_zone TREE_ZONE n) a b → Spends g.room g.free (in_zone TREE_ZONE k) b c
+      → Spends g.room g.free (in_zone TREE_ZONE m) a c
   spends_add a b c n k m le first second = record {
     room = λ zone. omega (arith, first.room zone, second.room zone, zones_add zone n k m le);
     free = omega (arith, first.free, second.free);
   }
 
   -- a call that spends nothing
-  pub spends_none : (a b : S) (n : ℕ) → room_of b ≡ room_of a → free_of b ≡ free_of a → Spends room_of free_of (in_zone TREE_ZONE n) a b
-  spends_none a b n rooms frees = record {
-    room = λ zone. omega (arith, ap (λ (f : ℕ → ℕ). f zone) rooms);
-    free = omega (arith, frees);
+  pub spends_none : (a b : S) (n : ℕ) → SameRoom g a b → Spends g.room g.free (in_zone TREE_ZONE n) a b
+  spends_none a b n same = record {
+    room = λ zone. omega (arith, ap (λ (f : ℕ → ℕ). f zone) same.0);
+    free = omega (arith, same.1);
   }
 
   -- the room that is left
-  pub room_left : (a b : S) (n k m : ℕ) → Spends room_of free_of (in_zone TREE_ZONE n) a b → n + k ≤ m → m ≤ room_of a TREE_ZONE → k ≤ room_of b TREE_ZONE
-  room_left a b n k m spent le room = let zone : room_of a TREE_ZONE ≤ room_of b TREE_ZONE + n = spent.room TREE_ZONE in omega arith
+  pub room_left : (a b : S) (n k m : ℕ) → Spends g.room g.free (in_zone TREE_ZONE n) a b → n + k ≤ m → m ≤ g.room a TREE_ZONE → k ≤ g.room b TREE_ZONE
+  room_left a b n k m spent le room = let zone : g.room a TREE_ZONE ≤ g.room b TREE_ZONE + n = spent.room TREE_ZONE in omega arith
 
 -- what all levels below a root take
 pub level_room : (node : Node) → IsNode node → NODE_BYTES * (level_of node - 1) + NODE_BYTES * 2 ≤ INSERT_ROOM

@@ -1,5 +1,6 @@
 -- Two neighbours of an inner node are joined and written.
-use Rattle.std.proofs.Common.{◌≡◌, Bool, true, false, ℕ, zero, suc, ◌+◌, ◌<◌, List, [], ◌∷◌, ◌++◌, length, take, drop, remove, refl, sym, ap, subst, ◌∙◌, arith, max, Some, None}
+use Rattle.std.proofs.Common.{◌≡◌, Bool, true, false, ℕ, zero, suc, ◌+◌, ◌<◌, List, [], ◌∷◌, ◌++◌, length, take, drop, remove, refl, sym}
+use Rattle.std.proofs.Common.{ap, subst, ◌∙◌, arith, max, Some, None}
 use Rattle.std.specs.Prelude.{Option, IsSome, IfSome, slice_get, slice_set, slice_index_or, ◌==◌, if◌then◌else◌}
 use Rattle.hm_fields.specs.Pages.{PageMap}
 use Rattle.hm_types.specs.Told.{BothTell}
@@ -14,7 +15,8 @@ use Rattle.hm_btree.specs.declared.upper.Upper.{Upper}
 use Rattle.hm_btree.proofs.ToldLemmas.{inner_is}
 
 -- a list at two places in turn
-pair_at : {A : Type 0} (xs : List A) (i : ℕ) (a b : A) → slice_get xs i ≡ Some a → slice_get xs (suc i) ≡ Some b → (xs ≡ take i xs ++ a ∷ b ∷ drop (suc (suc i)) xs) × (length (take i xs) ≡ i)
+pair_at : {A : Type 0} (xs : List A) (i : ℕ) (a b : A) → slice_get xs i ≡ Some a → slice_get xs (suc i) ≡ Some b
+    → (xs ≡ take i xs ++ a ∷ b ∷ drop (suc (suc i)) xs) × (length (take i xs) ≡ i)
 pair_at [] i a b first second = absurd (cc)
 pair_at (x ∷ []) zero a b first second = absurd (cc)
 pair_at (x ∷ y ∷ ys) zero a b first second =
@@ -23,7 +25,8 @@ pair_at (x ∷ y ∷ ys) zero a b first second =
     (rw (one, two) refl, refl)
 pair_at (x ∷ xs) (suc i) a b first second = let more = pair_at xs i a b first second in (ap (λ l. x ∷ l) more.0, ap suc more.1)
 
-pub split_pair : {A : Type 0} (xs : List A) (i : ℕ) (a b : A) → slice_get xs i ≡ Some a → slice_get xs (i + 1) ≡ Some b → (xs ≡ take i xs ++ a ∷ b ∷ drop (i + 2) xs) × (length (take i xs) ≡ i)
+pub split_pair : {A : Type 0} (xs : List A) (i : ℕ) (a b : A) → slice_get xs i ≡ Some a → slice_get xs (i + 1) ≡ Some b
+    → (xs ≡ take i xs ++ a ∷ b ∷ drop (i + 2) xs) × (length (take i xs) ≡ i)
 split_pair xs i a b first second =
     let one : suc i ≡ i + 1 = omega arith in
     let two : suc (suc i) ≡ i + 2 = omega arith in
@@ -77,25 +80,30 @@ module _ {A : Type 0} (x y : A) (ys : List A) where
     pub second_gone : remove (xs ++ x ∷ y ∷ ys) (i + 1) ≡ xs ++ x ∷ ys
     second_gone = subst (λ (n : ℕ). remove (xs ++ x ∷ y ∷ ys) n ≡ xs ++ x ∷ ys) place_is (next_gone xs)
 
-    pub second_changed : (d : A) (change : A → A) → slice_set (xs ++ x ∷ y ∷ ys) (i + 1) (change (slice_index_or (xs ++ x ∷ y ∷ ys) (i + 1) d)) ≡ xs ++ x ∷ change y ∷ ys
+    pub second_changed : (d : A) (change : A → A) → slice_set (xs ++ x ∷ y ∷ ys) (i + 1)
+        (change (slice_index_or (xs ++ x ∷ y ∷ ys) (i + 1) d)) ≡ xs ++ x ∷ change y ∷ ys
     second_changed d change =
         ap (λ (w : A). slice_set (xs ++ x ∷ y ∷ ys) (i + 1) (change w)) (at_place (xs ++ x ∷ y ∷ ys) (i + 1) d y second_there)
         ∙ subst (λ (n : ℕ). slice_set (xs ++ x ∷ y ∷ ys) n (change y) ≡ xs ++ x ∷ change y ∷ ys) place_is (next_set xs (change y))
 
 -- the value before it
-pub first_changed : {A : Type 0} (xs : List A) (i : ℕ) (a b d : A) (change : A → A) → slice_get xs i ≡ Some a → slice_get xs (i + 1) ≡ Some b → slice_set xs i (change (slice_index_or xs i d)) ≡ take i xs ++ change a ∷ b ∷ drop (i + 2) xs
+pub first_changed : {A : Type 0} (xs : List A) (i : ℕ) (a b d : A) (change : A → A) → slice_get xs i ≡ Some a → slice_get xs
+    (i + 1) ≡ Some b → slice_set xs i (change (slice_index_or xs i d)) ≡ take i xs ++ change a ∷ b ∷ drop (i + 2) xs
 first_changed {A = A} xs i a b d change first second =
     let one : suc i ≡ i + 1 = omega arith in
     let two : suc (suc i) ≡ i + 2 = omega arith in
-    ap (λ (w : A). slice_set xs i (change w)) (at_place xs i d a first) ∙ by_list xs i (change a) first (subst (λ (n : ℕ). slice_get xs n ≡ Some b) (sym one) second) ∙ ap (λ (n : ℕ). take i xs ++ change a ∷ b ∷ drop n xs) two where
-      by_list : (l : List A) (i : ℕ) (w : A) → slice_get l i ≡ Some a → slice_get l (suc i) ≡ Some b → slice_set l i w ≡ take i l ++ w ∷ b ∷ drop (suc (suc i)) l
+    ap (λ (w : A). slice_set xs i (change w)) (at_place xs i d a first) ∙ by_list xs i (change a) first
+    (subst (λ (n : ℕ). slice_get xs n ≡ Some b) (sym one) second) ∙ ap (λ (n : ℕ). take i xs ++ change a ∷ b ∷ drop n xs) two where
+      by_list : (l : List A) (i : ℕ) (w : A) → slice_get l i ≡ Some a → slice_get l (suc i) ≡ Some b → slice_set l i w ≡ take i l
+          ++ w ∷ b ∷ drop (suc (suc i)) l
       by_list [] i w first second = absurd (cc)
       by_list (x ∷ []) zero w first second = absurd (cc)
       by_list (x ∷ y ∷ ys) zero w first second = let same : y ≡ b = cc in ap (λ z. w ∷ z ∷ ys) same
       by_list (x ∷ xs) (suc i) w first second = ap (λ l. x ∷ l) (by_list xs i w first second)
 
 -- a page that is there stays when one is written
-pub there_written : (p0 p1 : Option PageMap) (at x : ℕ) (node : Node) → IfSome p0 (λ map. IsSome (map x)) → BothTell p0 p1 (HasWritten at node) → IfSome p1 (λ map. IsSome (map x))
+pub there_written : (p0 p1 : Option PageMap) (at x : ℕ) (node : Node) → IfSome p0 (λ map. IsSome (map x)) → BothTell p0 p1
+    (HasWritten at node) → IfSome p1 (λ map. IsSome (map x))
 there_written p0 None at x node there both = tt
 there_written None (Some new) at x node there both = absurd both
 there_written (Some old) (Some new) at x node there (page, spells, put) = by_test (x == at) (put x) where
@@ -104,7 +112,9 @@ there_written (Some old) (Some new) at x node there (page, spells, put) = by_tes
   by_test false is = rw is there
 
 module _ (before one : Inner) (i m : ℕ) (left right lower : Node) (d e : Child) (xs ys : List Child) (xs_is : xs ≡ before.places.items)
-    (level : one.level ≡ before.level) (mirror : one.mirror ≡ max before.mirror m) (items : ChildChange (with_mirror m) before.places.items i one.places.items) (end : one.right ≡ before.right) (m_is : m ≡ mirror_of lower) (ys_is : ys ≡ one.places.items) where
+    (level : one.level ≡ before.level) (mirror : one.mirror ≡ max before.mirror m)
+    (items : ChildChange (with_mirror m) before.places.items i one.places.items) (end : one.right ≡ before.right)
+    (m_is : m ≡ mirror_of lower) (ys_is : ys ≡ one.places.items) where
   -- the children of which they are the nodes, as they are read
   abbrev pub first : Child
   first = slice_index_or xs i d
@@ -132,10 +142,12 @@ module _ (before one : Inner) (i m : ℕ) (left right lower : Node) (d e : Child
     first_child = ap (λ (l : List Child). slice_index_or l i d) xs_is ∙ at_place before.places.items i d a a_at
 
     second_child : second ≡ b
-    second_child = ap (λ (l : List Child). slice_index_or l (i + 1) e) (ys_is ∙ one_items) ∙ at_place (front ++ joined ∷ b ∷ back) (i + 1) e b (second_there joined b back front i long)
+    second_child = ap (λ (l : List Child). slice_index_or l (i + 1) e) (ys_is ∙ one_items) ∙ at_place (front ++ joined ∷ b ∷ back)
+        (i + 1) e b (second_there joined b back front i long)
 
   -- the page of the second one is there
-  pub second_page : (p : Option PageMap) → i + 1 < length before.places.items → IfSome p (λ map. (c : Child) → slice_get before.places.items (i + 1) ≡ Some c → IsSome (map c.child)) → IfSome p (λ map. IsSome (map second.child))
+  pub second_page : (p : Option PageMap) → i + 1 < length before.places.items
+      → IfSome p (λ map. (c : Child) → slice_get before.places.items (i + 1) ≡ Some c → IsSome (map c.child)) → IfSome p (λ map. IsSome (map second.child))
   second_page None low there = tt
   second_page (Some map) low there =
       let a = got_place before.places.items i (omega arith) in
@@ -143,8 +155,10 @@ module _ (before one : Inner) (i m : ℕ) (left right lower : Node) (d e : Child
       subst (λ (c : Child). IsSome (map c.child)) (sym (second_child a.0 b.0 a.1 b.1)) (there b.0 b.1)
 
   -- they are one node
-  pub joined_one : (after : Inner) (p0 p1 p2 : Option PageMap) → Joins left right lower None → BothTell p0 p1 (HasWritten first.child lower) → BothTell p1 p2 (HasLost second.child)
-      → after ≡ inner_of one.level one.mirror (remove one.places.items (i + 1)) one.right → IfSome p0 (λ old. IfSome p2 (λ new. IsPairJoined before i left right old new after))
+  pub joined_one : (after : Inner) (p0 p1 p2 : Option PageMap) → Joins left right lower None → BothTell p0 p1
+      (HasWritten first.child lower) → BothTell p1 p2 (HasLost second.child)
+      → after ≡ inner_of one.level one.mirror (remove one.places.items (i + 1)) one.right
+      → IfSome p0 (λ old. IfSome p2 (λ new. IsPairJoined before i left right old new after))
   joined_one after None p1 p2 joins written lost is = tt
   joined_one after (Some old) p1 None joins written lost is = tt
   joined_one after (Some old) None (Some new) joins written lost is = absurd written
@@ -164,14 +178,18 @@ module _ (before one : Inner) (i m : ℕ) (left right lower : Node) (d e : Child
             subst (λ (x : Child). HasLost x.child mid new) (second_child a b a_at b_at) lost,
           ),
           inner_is after before.level (max before.mirror (mirror_of lower)) (pre ++ c ∷ post) before.right
-              (ap (λ (x : Inner). x.level) is ∙ level) (ap (λ (x : Inner). x.mirror) is ∙ mirror ∙ ap (max before.mirror) m_is) (ap (λ (x : Inner). x.places.items) is ∙ list) (ap (λ (x : Inner). x.right) is ∙ end),
+              (ap (λ (x : Inner). x.level) is ∙ level) (ap (λ (x : Inner). x.mirror) is ∙ mirror ∙ ap (max before.mirror) m_is)
+              (ap (λ (x : Inner). x.places.items) is ∙ list) (ap (λ (x : Inner). x.right) is ∙ end),
         );
   }
 
   -- they are two
-  pub joined_two : (two after : Inner) (n : ℕ) (upper : Upper) (p0 p1 p2 : Option PageMap) → Joins left right lower (Some upper) → BothTell p0 p1 (HasWritten first.child lower) → BothTell p1 p2 (HasWritten second.child upper.node)
-      → n ≡ mirror_of upper.node → two.level ≡ one.level → two.mirror ≡ max one.mirror n → ChildChange (with_mirror n) one.places.items (i + 1) two.places.items → two.right ≡ one.right
-      → after.level ≡ two.level → after.mirror ≡ two.mirror → ChildChange (with_left upper.left) two.places.items (i + 1) after.places.items → after.right ≡ two.right
+  pub joined_two : (two after : Inner) (n : ℕ) (upper : Upper) (p0 p1 p2 : Option PageMap) → Joins left right lower (Some upper)
+      → BothTell p0 p1 (HasWritten first.child lower) → BothTell p1 p2 (HasWritten second.child upper.node)
+      → n ≡ mirror_of upper.node → two.level ≡ one.level → two.mirror ≡ max one.mirror n → ChildChange (with_mirror n)
+      one.places.items (i + 1) two.places.items → two.right ≡ one.right
+      → after.level ≡ two.level → after.mirror ≡ two.mirror → ChildChange (with_left upper.left) two.places.items
+      (i + 1) after.places.items → after.right ≡ two.right
       → IfSome p0 (λ old. IfSome p2 (λ new. IsPairJoined before i left right old new after))
   joined_two two after n upper None p1 p2 joins written more n_is level2 mirror2 items2 end2 level3 mirror3 items3 end3 = tt
   joined_two two after n upper (Some old) p1 None joins written more n_is level2 mirror2 items2 end2 level3 mirror3 items3 end3 = tt
@@ -186,16 +204,20 @@ module _ (before one : Inner) (i m : ℕ) (left right lower : Node) (d e : Child
         let c : Child = with_mirror (mirror_of lower) a in
         let b1 : Child = with_mirror n b in
         let list1 : two.places.items ≡ pre ++ c ∷ b1 ∷ post =
-        items2 b ∙ ap (λ (l : List Child). slice_set l (i + 1) (with_mirror n (slice_index_or l (i + 1) b))) (one_items a b a_at b_at) ∙ second_changed c b post pre i (long a b a_at b_at) b (with_mirror n) in
+        items2 b ∙ ap (λ (l : List Child). slice_set l (i + 1) (with_mirror n (slice_index_or l (i + 1) b)))
+        (one_items a b a_at b_at) ∙ second_changed c b post pre i (long a b a_at b_at) b (with_mirror n) in
         let list : after.places.items ≡ pre ++ c ∷ record { left = upper.left; child = b.child; mirror = mirror_of upper.node } ∷ post =
-        items3 b ∙ ap (λ (l : List Child). slice_set l (i + 1) (with_left upper.left (slice_index_or l (i + 1) b))) list1 ∙ second_changed c b1 post pre i (long a b a_at b_at) b (with_left upper.left)
+        items3 b ∙ ap (λ (l : List Child). slice_set l (i + 1) (with_left upper.left (slice_index_or l (i + 1) b))) list1
+        ∙ second_changed c b1 post pre i (long a b a_at b_at) b (with_left upper.left)
         ∙ ap (λ (k : ℕ). pre ++ c ∷ record { left = upper.left; child = b.child; mirror = k } ∷ post) n_is in (
           (
             mid,
             subst (λ (x : Child). HasWritten x.child lower old mid) (first_child a b a_at b_at) written,
             subst (λ (x : Child). HasWritten x.child upper.node mid new) (second_child a b a_at b_at) more,
           ),
-          inner_is after before.level (max (max before.mirror (mirror_of lower)) (mirror_of upper.node)) (pre ++ c ∷ record { left = upper.left; child = b.child; mirror = mirror_of upper.node } ∷ post) before.right
-              (level3 ∙ level2 ∙ level) (mirror3 ∙ mirror2 ∙ ap (max one.mirror) n_is ∙ ap (λ (k : ℕ). max k (mirror_of upper.node)) (mirror ∙ ap (max before.mirror) m_is)) list (end3 ∙ end2 ∙ end),
+          inner_is after before.level (max (max before.mirror (mirror_of lower)) (mirror_of upper.node))
+              (pre ++ c ∷ record { left = upper.left; child = b.child; mirror = mirror_of upper.node } ∷ post) before.right
+              (level3 ∙ level2 ∙ level) (mirror3 ∙ mirror2 ∙ ap (max one.mirror) n_is
+              ∙ ap (λ (k : ℕ). max k (mirror_of upper.node)) (mirror ∙ ap (max before.mirror) m_is)) list (end3 ∙ end2 ∙ end),
         );
   }

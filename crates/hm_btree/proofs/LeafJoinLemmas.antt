@@ -1,5 +1,6 @@
 -- Two neighbouring leaves that become one, or share their elements out.
-use Rattle.std.proofs.Common.{◌≡◌, Bool, true, false, ℕ, ◌-◌, ◌<◌, ◌≤◌, ◌⊎◌, inl, inr, List, [], ◌∷◌, ◌++◌, length, drop, refl, sym, ap, subst, ◌∙◌, arith, max, ltb-true, ltb-false, length-append, length-drop, take-append-drop}
+use Rattle.std.proofs.Common.{◌≡◌, Bool, true, false, ℕ, ◌-◌, ◌<◌, ◌≤◌, ◌⊎◌, inl, inr, List, [], ◌∷◌, ◌++◌, length, drop, refl, sym, ap}
+use Rattle.std.proofs.Common.{subst, ◌∙◌, arith, max, ltb-true, ltb-false, length-append, length-drop, take-append-drop}
 use Rattle.std.specs.Prelude.{if◌then◌else◌}
 use Rattle.std.specs.List.{AllByRecursion}
 use Rattle.std.specs.List.Sorted.{IsStrictlySortedBy}
@@ -38,16 +39,25 @@ upto_rise m n e le up = record { create = omega (arith, up.create); delete = ome
 
 -- a leaf with another `mirror` that its elements keep
 module _ (map : PageMap) (height : ℕ) (left right : Base) (es : List Element) where
-  mirrored : (m n : ℕ) → IsTree map height (between left right) (leaf_node (leaf_of m es)) → AllByRecursion (IsUpTo n) es → IsTree map height (between left right) (leaf_node (leaf_of n es))
+  mirrored : (m n : ℕ) → IsTree map height (between left right) (leaf_node (leaf_of m es)) → AllByRecursion (IsUpTo n) es
+      → IsTree map height (between left right) (leaf_node (leaf_of n es))
   mirrored m n tree up = record {
-    sound = record { level = tt; count = tree.sound.count; order = tree.sound.order; fields = tree.sound.fields; mirror = All-from_recursion (IsUpTo n) es up };
+    sound = record {
+      level = tt;
+      count = tree.sound.count;
+      order = tree.sound.order;
+      fields = tree.sound.fields;
+      mirror =
+          All-from_recursion (IsUpTo n) es up;
+    };
     level = tree.level;
     fits = record { level = tt; count = tt; bounds = tree.fits.bounds; mirror = tt };
     below = below_leaf map height (leaf_of m es) (leaf_of n es) tree.below;
   }
 
 -- a leaf with no element
-no_element : (map : PageMap) (height : ℕ) (place left right : Base) (leaf : Leaf) → IsTree map height (between place left) (leaf_node leaf) → IsTree map height (between place right) (leaf_node (leaf_of 0 []))
+no_element : (map : PageMap) (height : ℕ) (place left right : Base) (leaf : Leaf) → IsTree map height (between place left)
+    (leaf_node leaf) → IsTree map height (between place right) (leaf_node (leaf_of 0 []))
 unfolding IsStrictlySortedBy
 no_element map height place left right leaf tree = record {
   sound = record { level = tt; count = omega arith; order = tt; fields = All-from_recursion IsPlaced [] tt; mirror = All-from_recursion (IsUpTo 0) [] tt };
@@ -56,7 +66,8 @@ no_element map height place left right leaf tree = record {
   below = below_leaf map height leaf (leaf_of 0 []) tree.below;
 }
 
-module _ (key : Key) (height : ℕ) (old mid : PageMap) (olds : ℕ → Bool) (want : List Element) (were : Key → ℕ) (left right : Base) (a b : Leaf) (at : Base) (beside : Beside key TakesOut height old mid olds want were left right (leaf_node a) (leaf_node b) at)
+module _ (key : Key) (height : ℕ) (old mid : PageMap) (olds : ℕ → Bool) (want : List Element) (were : Key → ℕ) (left right : Base)
+    (a b : Leaf) (at : Base) (beside : Beside key TakesOut height old mid olds want were left right (leaf_node a) (leaf_node b) at)
     (stay : (k : Key) → were k ≡ (if is_lt (key_cmp k (key_of at)) then a.mirror else b.mirror)) where
   abbrev all : List Element
   all = a.places.items ++ b.places.items
@@ -79,7 +90,11 @@ module _ (key : Key) (height : ℕ) (old mid : PageMap) (olds : ℕ → Bool) (w
       (each_so (λ e. IsInside left at (element_key e)) (λ e. IsInside left right (element_key e)) a.places.items
       (λ e is. record { from = is.from; before = before_before (element_key e) (key_of at) (key_of right) is.before beside.to }) lower_inside)
       (each_so (λ e. IsInside at right (element_key e)) (λ e. IsInside left right (element_key e)) b.places.items
-      (λ e is. record { from = from_trans (key_of left) (key_of at) (element_key e) (key_from_before (key_of left) (key_of at) beside.from) is.from; before = is.before }) upper_inside)
+      (λ e is. record {
+        from = from_trans (key_of left) (key_of at) (element_key e)
+            (key_from_before (key_of left) (key_of at) beside.from) is.from;
+        before = is.before;
+      }) upper_inside)
 
   all_content : IsContent all
   all_content = record {
@@ -91,7 +106,8 @@ module _ (key : Key) (height : ℕ) (old mid : PageMap) (olds : ℕ → Bool) (w
   }
 
   all_offsets : AllByRecursion (λ e. IsOffset e.payload) all
-  all_offsets = each_append (λ e. IsOffset e.payload) a.places.items b.places.items (leaf_offsets mid height (between left at) a beside.lower_tree) (leaf_offsets mid height (between at right) b beside.upper_tree)
+  all_offsets = each_append (λ e. IsOffset e.payload) a.places.items b.places.items (leaf_offsets mid height (between left at) a
+      beside.lower_tree) (leaf_offsets mid height (between at right) b beside.upper_tree)
 
   lower_upto : AllByRecursion (IsUpTo a.mirror) a.places.items
   lower_upto = recursion_from_All (IsUpTo a.mirror) a.places.items beside.lower_tree.sound.mirror
@@ -104,15 +120,18 @@ module _ (key : Key) (height : ℕ) (old mid : PageMap) (olds : ℕ → Bool) (w
 
   -- one leaf has the elements of both
   pub joined_leaves : length all ≤ 63 → (1 ≤ length a.places.items) ⊎ (1 ≤ length b.places.items)
-      → IsBefore key (key_of at) ⊎ IsFrom (key_of at) key → Joined key TakesOut height old mid olds want were left right (leaf_node (leaf_of (max a.mirror b.mirror) all))
+      → IsBefore key (key_of at) ⊎ IsFrom (key_of at) key → Joined key TakesOut height old mid olds want were left right
+      (leaf_node (leaf_of (max a.mirror b.mirror) all))
   joined_leaves few some side = record {
-    tree = leaf_sound (between left at) height mid a (leaf_of (max a.mirror b.mirror) all) left right beside.lower_tree all_content all_offsets all_inside all_upto few tt;
+    tree = leaf_sound (between left at) height mid a (leaf_of (max a.mirror b.mirror) all) left right beside.lower_tree
+        all_content all_offsets all_inside all_upto few tt;
     many = elim some [
       | inl first ↦ omega (arith, length-append a.places.items b.places.items, first)
       | inr second ↦ omega (arith, length-append a.places.items b.places.items, second)
     ];
     elements = beside.elements;
-    mark = same_marks (λ (o : Key → ℕ). MarksWithin TakesOut key left right o (λ _. max a.mirror b.mirror)) (both_sides at (λ _. a.mirror) (λ _. b.mirror)) were stay
+    mark = same_marks (λ (o : Key → ℕ). MarksWithin TakesOut key left right o (λ _. max a.mirror b.mirror))
+        (both_sides at (λ _. a.mirror) (λ _. b.mirror)) were stay
         (marks_joined at left right key a.mirror b.mirror beside.from beside.to side);
     pages = beside.pages;
   }
@@ -129,7 +148,9 @@ module _ (key : Key) (height : ℕ) (old mid : PageMap) (olds : ℕ → Bool) (w
   abbrev high : ℕ
   high = high_of gains a.mirror b.mirror
 
-  module _ (e : Element) (hi : List Element) (now : Base) (cut : high_part a.places.items b.places.items ≡ e ∷ hi) (bound : IsBoundary now (element_key e)) (long : 64 ≤ length all) (small : (IsBefore key (key_of at) × (length a.places.items < 16)) ⊎ (IsFrom (key_of at) key × (length b.places.items < 16))) where
+  module _ (e : Element) (hi : List Element) (now : Base) (cut : high_part a.places.items b.places.items ≡ e ∷ hi)
+      (bound : IsBoundary now (element_key e)) (long : 64 ≤ length all)
+      (small : (IsBefore key (key_of at) × (length a.places.items < 16)) ⊎ (IsFrom (key_of at) key × (length b.places.items < 16))) where
     abbrev lo : List Element
     lo = low_part a.places.items b.places.items
 
@@ -137,7 +158,8 @@ module _ (key : Key) (height : ℕ) (old mid : PageMap) (olds : ℕ → Bool) (w
     moved_up : gains ≡ true → IsFrom (key_of at) (key_of now)
     moved_up is =
         let below = ltb-true (length a.places.items) count is in
-        let items : drop (count - length a.places.items) b.places.items ≡ e ∷ hi = sym (drop_past count a.places.items b.places.items (omega (arith, below))) ∙ cut in
+        let items : drop (count - length a.places.items) b.places.items ≡ e ∷ hi =
+        sym (drop_past count a.places.items b.places.items (omega (arith, below))) ∙ cut in
         let each = subst (λ (l : List Element). AllByRecursion (λ x. IsFrom (key_of at) (element_key x)) l) items
         (each_drop (λ x. IsFrom (key_of at) (element_key x)) (count - length a.places.items) b.places.items upper_from) in
         subst (λ (k : Key). IsFrom (key_of at) k) (sym bound.key) each.0
@@ -153,7 +175,8 @@ module _ (key : Key) (height : ℕ) (old mid : PageMap) (olds : ℕ → Bool) (w
         (by_list (drop count a.places.items) (omega (arith, length-drop count a.places.items))
         (each_drop (λ x. IsBefore (element_key x) (key_of at)) count a.places.items lower_before)
         (sym (drop-append-le count a.places.items b.places.items (omega (arith, above))) ∙ cut)) where
-          by_list : (es : List Element) → 1 ≤ length es → AllByRecursion (λ x. IsBefore (element_key x) (key_of at)) es → es ++ b.places.items ≡ e ∷ hi → IsBefore (element_key e) (key_of at)
+          by_list : (es : List Element) → 1 ≤ length es → AllByRecursion (λ x. IsBefore (element_key x) (key_of at)) es → es
+              ++ b.places.items ≡ e ∷ hi → IsBefore (element_key e) (key_of at)
           by_list [] some each same = absurd (omega arith)
           by_list (x ∷ es) some each same = let first : x ≡ e = cc in subst (λ (y : Element). IsBefore (element_key y) (key_of at)) first each.0
 
@@ -163,18 +186,22 @@ module _ (key : Key) (height : ℕ) (old mid : PageMap) (olds : ℕ → Bool) (w
       by_test : (t : Bool) → gains ≡ t → IsBefore key (key_of at) × (gains ≡ true) ⊎ IsFrom (key_of at) key × (gains ≡ false)
       by_test true is = elim small [
         | inl first ↦ inl (first.0, is)
-        | inr second ↦ let below = ltb-true (length a.places.items) count is in absurd (omega (arith, below, second.1, long, length-append a.places.items b.places.items))
+        | inr second ↦ let below = ltb-true (length a.places.items) count is in
+            absurd (omega (arith, below, second.1, long, length-append a.places.items b.places.items))
       ]
       by_test false is = elim small [
-        | inl first ↦ let above = ltb-false (length a.places.items) count is in absurd (omega (arith, above, first.1, long, length-append a.places.items b.places.items))
+        | inl first ↦ let above = ltb-false (length a.places.items) count is in
+            absurd (omega (arith, above, first.1, long, length-append a.places.items b.places.items))
         | inr second ↦ inr (second.0, is)
       ]
 
     marks : MarksWithin TakesOut key left right (both_sides at (λ _. a.mirror) (λ _. b.mirror)) (both_sides now (λ _. low) (λ _. high))
     marks = elim side_of [
-      | inl up ↦ subst (λ (t : Bool). MarksWithin TakesOut key left right (both_sides at (λ _. a.mirror) (λ _. b.mirror)) (both_sides now (λ _. low_of t a.mirror b.mirror) (λ _. high_of t a.mirror b.mirror))) (sym up.1)
+      | inl up ↦ subst (λ (t : Bool). MarksWithin TakesOut key left right (both_sides at (λ _. a.mirror) (λ _. b.mirror))
+          (both_sides now (λ _. low_of t a.mirror b.mirror) (λ _. high_of t a.mirror b.mirror))) (sym up.1)
           (marks_gain_low at left right key a.mirror b.mirror beside.from beside.to now up.0 (moved_up up.1))
-      | inr down ↦ subst (λ (t : Bool). MarksWithin TakesOut key left right (both_sides at (λ _. a.mirror) (λ _. b.mirror)) (both_sides now (λ _. low_of t a.mirror b.mirror) (λ _. high_of t a.mirror b.mirror))) (sym down.1)
+      | inr down ↦ subst (λ (t : Bool). MarksWithin TakesOut key left right (both_sides at (λ _. a.mirror) (λ _. b.mirror))
+          (both_sides now (λ _. low_of t a.mirror b.mirror) (λ _. high_of t a.mirror b.mirror))) (sym down.1)
           (marks_gain_high at left right key a.mirror b.mirror beside.from beside.to now down.0 (moved_down down.1))
     ]
 
@@ -187,8 +214,10 @@ module _ (key : Key) (height : ℕ) (old mid : PageMap) (olds : ℕ → Bool) (w
     upper_length : length (e ∷ hi) ≡ length all - count
     upper_length = ap length (sym cut) ∙ length-drop count all
 
-    split : Split (λ _. all) key (Writes (max a.mirror b.mirror)) (between left right) height mid mid (leaf_node (leaf_of 0 [])) (leaf_node (leaf_of (max a.mirror b.mirror) lo)) (leaf_node (leaf_of (max a.mirror b.mirror) (e ∷ hi))) now
-    split = split_leaf (λ _. all) key (Writes (max a.mirror b.mirror)) (between left right) height mid (leaf_of 0 []) (max a.mirror b.mirror) lo e hi now (no_element mid height left at right a beside.lower_tree) both
+    split : Split (λ _. all) key (Writes (max a.mirror b.mirror)) (between left right) height mid mid (leaf_node (leaf_of 0 []))
+        (leaf_node (leaf_of (max a.mirror b.mirror) lo)) (leaf_node (leaf_of (max a.mirror b.mirror) (e ∷ hi))) now
+    split = split_leaf (λ _. all) key (Writes (max a.mirror b.mirror)) (between left right) height mid (leaf_of 0 [])
+        (max a.mirror b.mirror) lo e hi now (no_element mid height left at right a beside.lower_tree) both
         (subst IsContent (sym both) all_content)
         (subst (λ (l : List Element). AllByRecursion (λ x. IsOffset x.payload) l) (sym both) all_offsets)
         (subst (λ (l : List Element). AllByRecursion (λ x. IsInside left right (element_key x)) l) (sym both) all_inside)
@@ -202,11 +231,14 @@ module _ (key : Key) (height : ℕ) (old mid : PageMap) (olds : ℕ → Bool) (w
     pub shared_leaves : Shared key TakesOut height old mid olds want were left right (leaf_node (leaf_of low lo)) (leaf_node (leaf_of high (e ∷ hi))) now
     shared_leaves = record {
       beside = record {
-        lower_tree = mirrored mid height left now lo (max a.mirror b.mirror) low split.lower_tree (cut_low IsUpTo upto_rise a.mirror b.mirror a.places.items b.places.items lower_upto upper_upto count);
+        lower_tree = mirrored mid height left now lo (max a.mirror b.mirror) low split.lower_tree
+            (cut_low IsUpTo upto_rise a.mirror b.mirror a.places.items b.places.items lower_upto upper_upto count);
         upper_tree = mirrored mid height now right (e ∷ hi) (max a.mirror b.mirror) high split.upper_tree
-            (subst (λ (l : List Element). AllByRecursion (IsUpTo high) l) cut (cut_high IsUpTo upto_rise a.mirror b.mirror a.places.items b.places.items lower_upto upper_upto count));
+            (subst (λ (l : List Element). AllByRecursion (IsUpTo high) l) cut (cut_high IsUpTo upto_rise a.mirror b.mirror
+            a.places.items b.places.items lower_upto upper_upto count));
         elements = both ∙ beside.elements;
-        mark = same_marks (λ (o : Key → ℕ). MarksWithin TakesOut key left right o (both_sides now (λ _. low) (λ _. high))) (both_sides at (λ _. a.mirror) (λ _. b.mirror)) were stay marks;
+        mark = same_marks (λ (o : Key → ℕ). MarksWithin TakesOut key left right o (both_sides now (λ _. low) (λ _. high)))
+            (both_sides at (λ _. a.mirror) (λ _. b.mirror)) were stay marks;
         pages = beside.pages;
         bound = split.bound;
         from = split.from;

@@ -41,7 +41,8 @@ below_leaf map (suc height) before after below = below
 module _ (place : Subtree) (height : ℕ) (map : PageMap) (before after : Leaf) (left right : Base) where
   pub leaf_sound : IsTree map height place (leaf_node before) → IsContent after.places.items → AllByRecursion (λ e. IsOffset e.payload) after.places.items
       → AllByRecursion (λ e. IsInside left right (element_key e)) after.places.items → AllByRecursion (IsUpTo after.mirror) after.places.items
-      → length after.places.items ≤ 63 → FitsCount place.parent (leaf_node after) → IsTree map height (placed (leaf_node after) (record place { left = left; right = right })) (leaf_node after)
+      → length after.places.items ≤ 63 → FitsCount place.parent (leaf_node after) → IsTree map height
+      (placed (leaf_node after) (record place { left = left; right = right })) (leaf_node after)
   leaf_sound tree content offsets inside upto few count = record {
     sound = record {
       level = tt;
@@ -64,9 +65,11 @@ module _ (place : Subtree) (height : ℕ) (map : PageMap) (before after : Leaf) 
 
 -- a leaf whose elements changed, where they may stand there
 module _ (f : List Element → List Element) (key : Key) (marking : Marking) (place : Subtree) (height : ℕ) (map : PageMap) (before after : Leaf) where
-  pub changed_leaf : IsTree map height place (leaf_node before) → after.places.items ≡ f before.places.items → IsContent after.places.items → AllByRecursion (λ e. IsOffset e.payload) after.places.items
+  pub changed_leaf : IsTree map height place (leaf_node before) → after.places.items ≡ f before.places.items
+      → IsContent after.places.items → AllByRecursion (λ e. IsOffset e.payload) after.places.items
       → AllByRecursion (λ e. IsInside place.left place.right (element_key e)) after.places.items → AllByRecursion (IsUpTo after.mirror) after.places.items
-      → length after.places.items ≤ 63 → FitsCount place.parent (leaf_node after) → MarksWithin marking key place.left place.right (λ _. before.mirror) (λ _. after.mirror) → Changed f key marking place height map map (leaf_node before) (leaf_node after)
+      → length after.places.items ≤ 63 → FitsCount place.parent (leaf_node after) → MarksWithin marking key place.left place.right
+      (λ _. before.mirror) (λ _. after.mirror) → Changed f key marking place height map map (leaf_node before) (leaf_node after)
   changed_leaf tree items content offsets inside upto few count marks = record {
     tree = leaf_sound place height map before after place.left place.right tree content offsets inside upto few count;
     elements = items;
@@ -81,8 +84,10 @@ leaf_content map height place leaf tree = record {
   each = All-weaker IsPlaced IsElement (λ e is. is.element) leaf.places.items tree.sound.fields;
 }
 
-pub leaf_offsets : (map : PageMap) (height : ℕ) (place : Subtree) (leaf : Leaf) → IsTree map height place (leaf_node leaf) → AllByRecursion (λ e. IsOffset e.payload) leaf.places.items
-leaf_offsets map height place leaf tree = each_so IsPlaced (λ e. IsOffset e.payload) leaf.places.items (λ e is. is.payload) (recursion_from_All IsPlaced leaf.places.items tree.sound.fields)
+pub leaf_offsets : (map : PageMap) (height : ℕ) (place : Subtree) (leaf : Leaf) → IsTree map height place (leaf_node leaf)
+    → AllByRecursion (λ e. IsOffset e.payload) leaf.places.items
+leaf_offsets map height place leaf tree = each_so IsPlaced (λ e. IsOffset e.payload) leaf.places.items (λ e is. is.payload)
+    (recursion_from_All IsPlaced leaf.places.items tree.sound.fields)
 
 -- the element at a key changes where it stands
 module _ (place : Subtree) (height : ℕ) (map : PageMap) (key : Key) (change : Change) (before after : Leaf) where
@@ -107,32 +112,42 @@ module _ (place : Subtree) (height : ℕ) (map : PageMap) (key : Key) (change : 
   length_after : (d : Element) (i : ℕ) (es fs : List Element) → fs ≡ slice_set es i (change_of change (slice_index_or es i d)) → length fs ≡ length es
   length_after d i es fs is = ap length is ∙ length-set es i (change_of change (slice_index_or es i d))
 
-  pub element_changed : (d : Element) (i : ℕ) → IsTree map height place (leaf_node before) → MayChange key change → IsSome (element_at key before.places.items) → i ≡ leading key before.places.items
+  pub element_changed : (d : Element) (i : ℕ) → IsTree map height place (leaf_node before) → MayChange key change
+      → IsSome (element_at key before.places.items) → i ≡ leading key before.places.items
       → ElementChange (change_of change) before.places.items i after.places.items → after.mirror ≡ max before.mirror (id_of change)
       → Changed (with_change key change) key (marking_of change) place height map map (leaf_node before) (leaf_node after)
   element_changed d i tree may there at changes mirror =
-      let is : IsPlace key before.places.items i = subst (λ (n : ℕ). IsPlace key before.places.items n) (sym at) (leading_place key before.places.items tree.sound.order there) in
-      let items : after.places.items ≡ with_change key change before.places.items = changes d ∙ sym (changed-place key (change_of change) d before.places.items i is) in
+      let is : IsPlace key before.places.items i = subst (λ (n : ℕ). IsPlace key before.places.items n) (sym at)
+      (leading_place key before.places.items tree.sound.order there) in
+      let items : after.places.items ≡ with_change key change before.places.items = changes d
+      ∙ sym (changed-place key (change_of change) d before.places.items i is) in
       let long : length after.places.items ≡ length before.places.items = length_after d i before.places.items after.places.items (changes d) in
       changed_leaf (with_change key change) key (marking_of change) place height map before after tree items
       (subst (λ (es : List Element). IsContent es) (sym items) (content_after may (leaf_content map height place before tree)))
       (subst (λ (es : List Element). AllByRecursion (λ e. IsOffset e.payload) es) (sym items)
-      (each_changed (λ e. IsOffset e.payload) key (change_of change) before.places.items (λ e stands is. offset_after change e may is) (leaf_offsets map height place before tree)))
+      (each_changed (λ e. IsOffset e.payload) key (change_of change) before.places.items
+      (λ e stands is. offset_after change e may is) (leaf_offsets map height place before tree)))
       (subst (λ (es : List Element). AllByRecursion (λ e. IsInside place.left place.right (element_key e)) es) (sym items)
-      (each_changed (λ e. IsInside place.left place.right (element_key e)) key (change_of change) before.places.items (λ e stands inside. inside_after change e inside)
+      (each_changed (λ e. IsInside place.left place.right (element_key e)) key (change_of change) before.places.items
+      (λ e stands inside. inside_after change e inside)
       (recursion_from_All (λ e. IsInside place.left place.right (element_key e)) before.places.items tree.fits.bounds)))
       (subst (λ (es : List Element). AllByRecursion (IsUpTo after.mirror) es) (sym items)
-      (subst (λ (m : ℕ). AllByRecursion (IsUpTo m) (with_change key change before.places.items)) (sym mirror) (ups before.places.items (recursion_from_All (IsUpTo before.mirror) before.places.items tree.sound.mirror))))
+      (subst (λ (m : ℕ). AllByRecursion (IsUpTo m) (with_change key change before.places.items)) (sym mirror)
+      (ups before.places.items (recursion_from_All (IsUpTo before.mirror) before.places.items tree.sound.mirror))))
       (omega (arith, long, tree.sound.count)) (counts place.parent long tree.fits.count) (marks change mirror) where
-        marks : (c : Change) → after.mirror ≡ max before.mirror (id_of c) → MarksWithin (marking_of c) key place.left place.right (λ _. before.mirror) (λ _. after.mirror)
+        marks : (c : Change) → after.mirror ≡ max before.mirror (id_of c) → MarksWithin (marking_of c) key place.left place.right
+            (λ _. before.mirror) (λ _. after.mirror)
         marks (Close delete) is = writes_leaf key delete before.mirror after.mirror is
         marks (Move to) is = λ k. omega (arith, is)
 
-        ups : (es : List Element) → AllByRecursion (IsUpTo before.mirror) es → AllByRecursion (IsUpTo (max before.mirror (id_of change))) (with_change key change es)
+        ups : (es : List Element) → AllByRecursion (IsUpTo before.mirror) es → AllByRecursion
+            (IsUpTo (max before.mirror (id_of change))) (with_change key change es)
         ups es up = each_changed (IsUpTo (max before.mirror (id_of change))) key (change_of change) es
-            (λ e stands is. again e is) (each_so (IsUpTo before.mirror) (IsUpTo (max before.mirror (id_of change))) es (λ e is. record { create = omega (arith, is.create); delete = omega (arith, is.delete) }) up) where
+            (λ e stands is. again e is) (each_so (IsUpTo before.mirror) (IsUpTo (max before.mirror (id_of change))) es
+            (λ e is. record { create = omega (arith, is.create); delete = omega (arith, is.delete) }) up) where
               again : (e : Element) → IsUpTo (max before.mirror (id_of change)) e → IsUpTo (max before.mirror (id_of change)) (change_of change e)
-              again e is = let more = upto_after change e (max before.mirror (id_of change)) is in record { create = omega (arith, more.create); delete = omega (arith, more.delete) }
+              again e is = let more = upto_after change e (max before.mirror (id_of change)) is in
+                  record { create = omega (arith, more.create); delete = omega (arith, more.delete) }
 
         counts : (p : Option Parent) → length after.places.items ≡ length before.places.items → FitsCount p (leaf_node before) → FitsCount p (leaf_node after)
         counts None long count = tt

@@ -14,6 +14,7 @@ pub mod InsertLemmas
 pub mod IntactLemmas
 pub mod JoinAtLemmas
 pub mod JoinLemmas
+pub mod KeptLemmas
 pub mod LeafJoinLemmas
 pub mod LeafLemmas
 pub mod ListLemmas

@@ -27,7 +27,8 @@ before_stands at e before = ap is_lt before
 pub after_not_at : (at : Key) (e : Element) → IsBefore at (element_key e) → stands_at at e ≡ false
 after_not_at at e after = by_test (stands_at at e) refl where
   by_test : (b : Bool) → stands_at at e ≡ b → b ≡ false
-  by_test true is = absurd (key_not_before at (subst (λ (k : Key). IsBefore at k) (key_same (element_key e) at ((Equal-is (key_cmp (element_key e) at)).0 is)) after))
+  by_test true is = absurd (key_not_before at (subst (λ (k : Key). IsBefore at k)
+      (key_same (element_key e) at ((Equal-is (key_cmp (element_key e) at)).0 is)) after))
   by_test false is = refl
 
 pub after_not_before : (at : Key) (e : Element) → IsBefore at (element_key e) → stands_before at e ≡ false
@@ -49,7 +50,8 @@ module _ (at : Key) (change : Element → Element) where
   changed_back : (xs ys : List Element) → AllByRecursion (λ e. IsBefore at (element_key e)) ys → changed at change (xs ++ ys) ≡ changed at change xs ++ ys
   changed_back [] ys after = changed_none ys after
   changed_back (x ∷ xs) ys after = by_test (stands_at at x) (changed_back xs ys after) where
-    by_test : (b : Bool) → changed at change (xs ++ ys) ≡ changed at change xs ++ ys → (if b then change x ∷ (xs ++ ys) else x ∷ changed at change (xs ++ ys)) ≡ (if b then change x ∷ xs else x ∷ changed at change xs) ++ ys
+    by_test : (b : Bool) → changed at change (xs ++ ys) ≡ changed at change xs ++ ys
+        → (if b then change x ∷ (xs ++ ys) else x ∷ changed at change (xs ++ ys)) ≡ (if b then change x ∷ xs else x ∷ changed at change xs) ++ ys
     by_test true more = refl
     by_test false more = ap (λ (l : List Element). x ∷ l) more
 
@@ -69,7 +71,8 @@ module _ (at : Key) where
   removed_back : (xs ys : List Element) → AllByRecursion (λ e. IsBefore at (element_key e)) ys → removed at (xs ++ ys) ≡ removed at xs ++ ys
   removed_back [] ys after = removed_none ys after
   removed_back (x ∷ xs) ys after = by_test (stands_at at x) (removed_back xs ys after) where
-    by_test : (b : Bool) → removed at (xs ++ ys) ≡ removed at xs ++ ys → (if b then xs ++ ys else x ∷ removed at (xs ++ ys)) ≡ (if b then xs else x ∷ removed at xs) ++ ys
+    by_test : (b : Bool) → removed at (xs ++ ys) ≡ removed at xs ++ ys → (if b then xs ++ ys else x ∷ removed at (xs ++ ys)) ≡ (if
+        b then xs else x ∷ removed at xs) ++ ys
     by_test true more = refl
     by_test false more = ap (λ (l : List Element). x ∷ l) more
 
@@ -78,7 +81,8 @@ module _ (at : Key) where
   removed_local = record { front = removed_front; back = removed_back }
 
 module _ (new : Element) where
-  inserted_front : (xs ys : List Element) → AllByRecursion (λ e. IsBefore (element_key e) (element_key new)) xs → inserted new (xs ++ ys) ≡ xs ++ inserted new ys
+  inserted_front : (xs ys : List Element) → AllByRecursion (λ e. IsBefore (element_key e) (element_key new)) xs → inserted new
+      (xs ++ ys) ≡ xs ++ inserted new ys
   inserted_front [] ys before = refl
   inserted_front (x ∷ xs) ys before = rw (before_stands (element_key new) x before.0) (ap (λ (l : List Element). x ∷ l) (inserted_front xs ys before.1))
 
@@ -86,10 +90,12 @@ module _ (new : Element) where
   inserted_first [] after = refl
   inserted_first (y ∷ ys) after = rw (after_not_before (element_key new) y after.0) refl
 
-  inserted_back : (xs ys : List Element) → AllByRecursion (λ e. IsBefore (element_key new) (element_key e)) ys → inserted new (xs ++ ys) ≡ inserted new xs ++ ys
+  inserted_back : (xs ys : List Element) → AllByRecursion (λ e. IsBefore (element_key new) (element_key e)) ys → inserted new
+      (xs ++ ys) ≡ inserted new xs ++ ys
   inserted_back [] ys after = inserted_first ys after
   inserted_back (x ∷ xs) ys after = by_test (stands_before (element_key new) x) (inserted_back xs ys after) where
-    by_test : (b : Bool) → inserted new (xs ++ ys) ≡ inserted new xs ++ ys → (if b then x ∷ inserted new (xs ++ ys) else new ∷ x ∷ (xs ++ ys)) ≡ (if b then x ∷ inserted new xs else new ∷ x ∷ xs) ++ ys
+    by_test : (b : Bool) → inserted new (xs ++ ys) ≡ inserted new xs ++ ys
+        → (if b then x ∷ inserted new (xs ++ ys) else new ∷ x ∷ (xs ++ ys)) ≡ (if b then x ∷ inserted new xs else new ∷ x ∷ xs) ++ ys
     by_test true more = ap (λ (l : List Element). x ∷ l) more
     by_test false more = refl
 
@@ -101,17 +107,21 @@ module _ (new : Element) where
 pub leading_place : (at : Key) (es : List Element) → IsStrictlySortedBy element_cmp es → IsSome (element_at at es) → IsPlace at es (leading at es)
 unfolding IsStrictlySortedBy
 leading_place at [] rising there = absurd (true≢false (sym there))
-leading_place at (e ∷ es) rising there = by_order (key_cmp (element_key e) at) refl there (λ some. leading_place at es rising.1 some) (element_at-first at (e ∷ es) rising) where
-  by_order : (o : Ordering) → key_cmp (element_key e) at ≡ o → IsSome (if is_eq o then Some e else element_at at es) → (IsSome (element_at at es) → IsPlace at es (leading at es))
-      → element_at at (e ∷ es) ≡ if_at at (first_from at (e ∷ es)) → IsPlace at (e ∷ es) (if is_lt o then suc (leading at es) else 0)
-  by_order Less is some more first = (ap is_eq is, more some)
-  by_order Equal is some more first = ap is_eq is
-  by_order Greater is some more first = absurd (true≢false (sym some ∙ ap is_some (rw is at (rw is at first))))
+leading_place at (e ∷ es) rising there = by_order (key_cmp (element_key e) at) refl there
+    (λ some. leading_place at es rising.1 some) (element_at-first at (e ∷ es) rising) where
+      by_order : (o : Ordering) → key_cmp (element_key e) at ≡ o → IsSome (if is_eq o then Some e else element_at at es)
+          → (IsSome (element_at at es) → IsPlace at es (leading at es))
+          → element_at at (e ∷ es) ≡ if_at at (first_from at (e ∷ es)) → IsPlace at (e ∷ es) (if is_lt o then suc (leading at es) else 0)
+      by_order Less is some more first = (ap is_eq is, more some)
+      by_order Equal is some more first = ap is_eq is
+      by_order Greater is some more first = absurd (true≢false (sym some ∙ ap is_some (rw is at (rw is at first))))
 
 -- the element that stands at a key, and what all keep
-pub element_each : (P : Element → Type 0) (at : Key) (es : List Element) → AllByRecursion P es → IsSome (element_at at es) → (e : Element) × (element_key e ≡ at) × P e
+pub element_each : (P : Element → Type 0) (at : Key) (es : List Element) → AllByRecursion P es → IsSome (element_at at es)
+    → (e : Element) × (element_key e ≡ at) × P e
 element_each P at [] each there = absurd (true≢false (sym there))
 element_each P at (e ∷ es) each there = by_test (stands_at at e) refl there (λ some. element_each P at es each.1 some) where
-  by_test : (b : Bool) → stands_at at e ≡ b → IsSome (if b then Some e else element_at at es) → (IsSome (element_at at es) → (x : Element) × (element_key x ≡ at) × P x) → (x : Element) × (element_key x ≡ at) × P x
+  by_test : (b : Bool) → stands_at at e ≡ b → IsSome (if b then Some e else element_at at es)
+      → (IsSome (element_at at es) → (x : Element) × (element_key x ≡ at) × P x) → (x : Element) × (element_key x ≡ at) × P x
   by_test true is some more = (e, key_same (element_key e) at ((Equal-is (key_cmp (element_key e) at)).0 is), each.0)
   by_test false is some more = more some

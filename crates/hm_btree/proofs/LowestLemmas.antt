@@ -1,5 +1,6 @@
 -- A tree without a root that had one child alone.
-use Rattle.std.proofs.Common.{◌≡◌, ◌≢◌, Bool, true, false, true≢false, ◌||◌, ℕ, zero, suc, List, [], ◌∷◌, length, refl, sym, ap, subst, ◌∙◌, arith, nat_eq, Some, None, append-nil}
+use Rattle.std.proofs.Common.{◌≡◌, ◌≢◌, Bool, true, false, true≢false, ◌||◌, ℕ, zero, suc, List, [], ◌∷◌, length, refl, sym, ap, subst}
+use Rattle.std.proofs.Common.{◌∙◌, arith, nat_eq, Some, None, append-nil}
 use Rattle.std.specs.Prelude.{Option, IsSome, IfSome, slice_get}
 use Rattle.std.proofs.lemmas.List.Elements.{All-from_recursion, recursion_from_All}
 use Rattle.hm_types.specs.Elements.{Key}
@@ -14,7 +15,8 @@ use Rattle.hm_node.specs.declared.node.Node.{Node}
 use Rattle.hm_node.specs.declared.node.Node.TheVariants.{Leaf as leaf_node, Inner as inner_node}
 use Rattle.hm_search.specs.Descent.{StandsHere}
 use Rattle.hm_search.specs.Place.{IsInside, BeginsAt, FitsBounds}
-use Rattle.hm_search.specs.Tree.{node_at, elements_in, mark_in, reaches, height_of, root_place, children_of, IsTree, IsStoredTree, IsSoundTree, elements_of, mark_of}
+use Rattle.hm_search.specs.Tree.{node_at, elements_in, mark_in, reaches, height_of, root_place, children_of, IsTree, IsStoredTree}
+use Rattle.hm_search.specs.Tree.{IsSoundTree, elements_of, mark_of}
 use Rattle.hm_search.specs.declared.subtree.Subtree.{Subtree}
 use Rattle.hm_search.proofs.ChildLemmas.{place_is}
 use Rattle.hm_search.proofs.FrameLemmas.{IsSameBelow, frame_elements, frame_mark, frame_reaches, frame_stored}
@@ -36,7 +38,11 @@ bounds_same : (l r left right : Base) (node : Node) → key_of l ≡ key_of left
 bounds_same l r left right (leaf_node leaf) first last fits =
     All-from_recursion (λ e. IsInside left right (element_key e)) leaf.places.items
     (each_so (λ e. IsInside l r (element_key e)) (λ e. IsInside left right (element_key e)) leaf.places.items
-    (λ e is. record { from = subst (λ (k : Key). IsFrom k (element_key e)) first is.from; before = subst (λ (k : Key). IsBefore (element_key e) k) last is.before })
+    (λ e is. record {
+      from = subst (λ (k : Key). IsFrom k (element_key e)) first is.from;
+      before =
+          subst (λ (k : Key). IsBefore (element_key e) k) last is.before;
+    })
     (recursion_from_All (λ e. IsInside l r (element_key e)) leaf.places.items fits))
 bounds_same l r left right (inner_node inner) first last fits = (begins inner.places.items fits.0, fits.1 ∙ last) where
   begins : (cs : List Child) → BeginsAt l cs → BeginsAt left cs
@@ -48,7 +54,8 @@ or_nil true = refl
 or_nil false = refl
 
 -- the tree below the one child of a root, whose page goes
-module _ (map new : PageMap) (h root level mirror : ℕ) (c : Child) (right : Base) (tree : IsTree map (suc h) (root_place root) (inner_node (inner_of level mirror (c ∷ []) right)))
+module _ (map new : PageMap) (h root level mirror : ℕ) (c : Child) (right : Base) (tree : IsTree map (suc h) (root_place root)
+    (inner_node (inner_of level mirror (c ∷ []) right)))
     (apart : reaches map (suc h) (inner_node (inner_of level mirror (c ∷ []) right)) root ≡ false) (lost : HasLost root map new) where
   abbrev top : Node
   top = inner_node (inner_of level mirror (c ∷ []) right)
@@ -60,14 +67,16 @@ module _ (map new : PageMap) (h root level mirror : ℕ) (c : Child) (right : Ba
   one = or_false_left (nat_eq c.child root || reaches map h child root) false apart
 
   other : c.child ≢ root
-  other same = true≢false (sym (same_test root) ∙ ap (λ (x : ℕ). nat_eq x root) (sym same) ∙ or_false_left (nat_eq c.child root) (reaches map h child root) one)
+  other same = true≢false (sym (same_test root) ∙ ap (λ (x : ℕ). nat_eq x root) (sym same) ∙ or_false_left (nat_eq c.child root)
+      (reaches map h child root) one)
 
   same_page : new c.child ≡ map c.child
   same_page = lost_other root map new lost c.child other
 
   same_below : IsSameBelow map new h child
   same_below = record {
-    same = λ x is. lost_other root map new lost x (λ at. true≢false (sym is ∙ ap (reaches map h child) at ∙ or_false_right (nat_eq c.child root) (reaches map h child root) one));
+    same = λ x is. lost_other root map new lost x (λ at. true≢false (sym is ∙ ap (reaches map h child) at ∙ or_false_right
+        (nat_eq c.child root) (reaches map h child root) one));
   }
 
   pub only_here : node_at new c.child ≡ child
@@ -88,7 +97,8 @@ module _ (map new : PageMap) (h root level mirror : ℕ) (c : Child) (right : Ba
           fits = record {
             level = tt;
             count = tt;
-            bounds = bounds_same c.left right (root_place c.child).left (root_place c.child).right child tree.fits.bounds.0 tree.fits.bounds.1 was.tree.fits.bounds;
+            bounds = bounds_same c.left right (root_place c.child).left (root_place c.child).right child tree.fits.bounds.0
+                tree.fits.bounds.1 was.tree.fits.bounds;
             mirror = tt;
           };
           below = was.tree.below;
@@ -96,26 +106,34 @@ module _ (map new : PageMap) (h root level mirror : ℕ) (c : Child) (right : Ba
       }))
 
   pub only_elements : elements_of new c.child ≡ elements_in map (suc h) top
-  only_elements = ap (λ (n : ℕ). elements_in new n (node_at new c.child)) only_high ∙ ap (elements_in new h) only_here ∙ frame_elements map new h child same_below ∙ sym (append-nil (elements_in map h child))
+  only_elements = ap (λ (n : ℕ). elements_in new n (node_at new c.child)) only_high ∙ ap (elements_in new h) only_here
+      ∙ frame_elements map new h child same_below ∙ sym (append-nil (elements_in map h child))
 
   pub only_mark : (key : Key) → mark_of new c.child key ≡ mark_in map (suc h) top key
-  only_mark key = ap (λ (n : ℕ). mark_in new n (node_at new c.child) key) only_high ∙ ap (λ (n : Node). mark_in new h n key) only_here ∙ frame_mark map new key h child same_below
+  only_mark key = ap (λ (n : ℕ). mark_in new n (node_at new c.child) key) only_high ∙ ap (λ (n : Node). mark_in new h n key)
+      only_here ∙ frame_mark map new key h child same_below
 
   -- all that it reaches is the tree below the child
-  pub only_reached : (x : ℕ) → reaches map (suc h) top x ≡ true → (nat_eq x c.child || reaches new (height_of (node_at new c.child)) (node_at new c.child) x) ≡ true
+  pub only_reached : (x : ℕ) → reaches map (suc h) top x ≡ true
+      → (nat_eq x c.child || reaches new (height_of (node_at new c.child)) (node_at new c.child) x) ≡ true
   only_reached x is =
       ap (λ (b : Bool). b || reaches new (height_of (node_at new c.child)) (node_at new c.child) x) (turned x c.child)
-      ∙ ap (λ (b : Bool). nat_eq c.child x || b) (ap (λ (n : ℕ). reaches new n (node_at new c.child) x) only_high ∙ ap (λ (n : Node). reaches new h n x) only_here ∙ frame_reaches map new x h child same_below)
+      ∙ ap (λ (b : Bool). nat_eq c.child x || b) (ap (λ (n : ℕ). reaches new n (node_at new c.child) x) only_high
+      ∙ ap (λ (n : Node). reaches new h n x) only_here ∙ frame_reaches map new x h child same_below)
       ∙ sym (or_nil (nat_eq c.child x || reaches map h child x)) ∙ is
 
 -- the root that had it goes
 module _ (was is : PageMap) (root : ℕ) (inner : Inner) (c : Child) where
-  pub lowered : IsTreeSpace was root → node_at was root ≡ inner_node inner → inner.places.items ≡ c ∷ [] → HasLost root was is → IsLowered was is root c.child (node_at was c.child)
+  pub lowered : IsTreeSpace was root → node_at was root ≡ inner_node inner → inner.places.items ≡ c ∷ [] → HasLost root was is
+      → IsLowered was is root c.child (node_at was c.child)
   lowered tree here only lost =
       let top : Node = inner_node (inner_of inner.level inner.mirror (c ∷ []) inner.right) in
       let found : node_at was root ≡ top = here ∙ ap inner_node (inner_is inner inner.level inner.mirror (c ∷ []) inner.right refl refl only refl) in
-      by_height (height_of (node_at was root)) refl (subst (λ (n : Node). IsTree was (height_of (node_at was root)) (root_place root) n) found tree.sound.tree) found where
-        by_height : (h : ℕ) → height_of (node_at was root) ≡ h → IsTree was h (root_place root) (inner_node (inner_of inner.level inner.mirror (c ∷ []) inner.right)) → node_at was root ≡ inner_node (inner_of inner.level inner.mirror (c ∷ []) inner.right)
+      by_height (height_of (node_at was root)) refl (subst (λ (n : Node). IsTree was (height_of (node_at was root))
+      (root_place root) n) found tree.sound.tree) found where
+        by_height : (h : ℕ) → height_of (node_at was root) ≡ h → IsTree was h (root_place root)
+            (inner_node (inner_of inner.level inner.mirror (c ∷ []) inner.right)) → node_at was root ≡ inner_node
+            (inner_of inner.level inner.mirror (c ∷ []) inner.right)
             → IsLowered was is root c.child (node_at was c.child)
         by_height zero high whole found = absurd (omega (arith, whole.level, whole.sound.level.0))
         by_height (suc h) high whole found =
@@ -123,22 +141,28 @@ module _ (was is : PageMap) (root : ℕ) (inner : Inner) (c : Child) where
             let apart : reaches was (suc h) top root ≡ false = not_below_itself was (suc h) (root_place root) top root whole found in
             let olds : ℕ → Bool = reaches was (suc h) top in
             let all : (x : ℕ) → IsSome (was x) → (nat_eq root x || olds x) ≡ true = λ x there.
-            ap (λ (b : Bool). b || olds x) (turned root x) ∙ ap (λ (n : Node). nat_eq x root || reaches was (suc h) n x) (sym found) ∙ ap (λ (n : ℕ). nat_eq x root || reaches was n (node_at was root) x) (sym high) ∙ tree.whole x there in
+            ap (λ (b : Bool). b || olds x) (turned root x) ∙ ap (λ (n : Node). nat_eq x root || reaches was (suc h) n x)
+            (sym found) ∙ ap (λ (n : ℕ). nat_eq x root || reaches was n (node_at was root) x) (sym high) ∙ tree.whole x there in
             let replaces : Replaces (λ x. nat_eq root x || olds x) olds was is =
-            replaces_lost root olds olds was was is lost (replaces_none olds was (λ x reached. reached_there was (suc h) (root_place root) top x whole reached)) in
+            replaces_lost root olds olds was was is lost (replaces_none olds was (λ x reached. reached_there was (suc h)
+            (root_place root) top x whole reached)) in
             record {
               tree = record {
                 sound = only_sound was is h root inner.level inner.mirror c inner.right whole apart lost;
-                whole = λ x there. only_reached was is h root inner.level inner.mirror c inner.right whole apart lost x (whole_after (λ y. nat_eq root y || olds y) olds was is replaces all x there);
+                whole = λ x there. only_reached was is h root inner.level inner.mirror c inner.right whole apart lost x
+                    (whole_after (λ y. nat_eq root y || olds y) olds was is replaces all x there);
                 spots = spots_after (λ y. nat_eq root y || olds y) olds was is replaces tree.spots;
               };
               here = only_here was is h root inner.level inner.mirror c inner.right whole apart lost;
-              elements = only_elements was is h root inner.level inner.mirror c inner.right whole apart lost ∙ ap (elements_in was (suc h)) (sym found) ∙ ap (λ (n : ℕ). elements_in was n (node_at was root)) (sym high);
-              mark = λ key. only_mark was is h root inner.level inner.mirror c inner.right whole apart lost key ∙ ap (λ (n : Node). mark_in was (suc h) n key) (sym found) ∙ ap (λ (n : ℕ). mark_in was n (node_at was root) key) (sym high);
+              elements = only_elements was is h root inner.level inner.mirror c inner.right whole apart lost
+                  ∙ ap (elements_in was (suc h)) (sym found) ∙ ap (λ (n : ℕ). elements_in was n (node_at was root)) (sym high);
+              mark = λ key. only_mark was is h root inner.level inner.mirror c inner.right whole apart lost key
+                  ∙ ap (λ (n : Node). mark_in was (suc h) n key) (sym found) ∙ ap (λ (n : ℕ). mark_in was n (node_at was root) key) (sym high);
             }
 
 -- one after another
-pub lowered_on : (a b c : PageMap) (root next last : ℕ) (first second : Node) → IsLowered a b root next first → IsLowered b c next last second → IsLowered a c root last second
+pub lowered_on : (a b c : PageMap) (root next last : ℕ) (first second : Node) → IsLowered a b root next first
+    → IsLowered b c next last second → IsLowered a c root last second
 lowered_on a b c root next last first second one two = record {
   tree = two.tree;
   here = two.here;
@@ -151,7 +175,8 @@ pub lowered_none : (map : PageMap) (root : ℕ) (node : Node) → IsTreeSpace ma
 lowered_none map root node tree here = record { tree = tree; here = here; elements = refl; mark = λ key. refl }
 
 -- the child that a node has alone
-pub one_child : (inner : Inner) (s : Subtree) → length inner.places.items ≡ 1 → slice_get (children_of inner) 0 ≡ Some s → (c : Child) × (inner.places.items ≡ c ∷ []) × (s.at ≡ c.child)
+pub one_child : (inner : Inner) (s : Subtree) → length inner.places.items ≡ 1 → slice_get (children_of inner) 0 ≡ Some s
+    → (c : Child) × (inner.places.items ≡ c ∷ []) × (s.at ≡ c.child)
 one_child inner s long at =
     let there = place_is inner.level inner.right inner.places.items 0 s at in
     (there.child, by_list inner.places.items there.child there.is long, ap (λ (t : Subtree). t.at) there.place) where
@@ -160,12 +185,15 @@ one_child inner s long at =
       by_list (d ∷ []) c is long = let same : d ≡ c = cc in ap (λ (x : Child). x ∷ []) same
       by_list (d ∷ e ∷ ds) c is long = absurd (omega (arith, long))
 
-module _ (p0 p1 p2 : Option PageMap) (root : ℕ) (node child : Node) (inner : Inner) (s : Subtree) (is : node ≡ inner_node inner) (same : p1 ≡ p0) (lost : BothTell p1 p2 (HasLost root)) where
+module _ (p0 p1 p2 : Option PageMap) (root : ℕ) (node child : Node) (inner : Inner) (s : Subtree) (is : node ≡ inner_node inner)
+    (same : p1 ≡ p0) (lost : BothTell p1 p2 (HasLost root)) where
   -- where the pages are told
-  pub lowered_told : length inner.places.items ≡ 1 → slice_get (children_of inner) 0 ≡ Some s → IfSome p0 (λ was. IsTreeSpace was root) → IfSome p0 (λ was. node_at was root ≡ node) → IfSome p0 (λ map. StandsHere map s child)
+  pub lowered_told : length inner.places.items ≡ 1 → slice_get (children_of inner) 0 ≡ Some s
+      → IfSome p0 (λ was. IsTreeSpace was root) → IfSome p0 (λ was. node_at was root ≡ node) → IfSome p0 (λ map. StandsHere map s child)
       → IfSome p0 (λ was. IfSome p2 (λ map. IsLowered was map root s.at child))
   lowered_told long at tree here read = by_pages p0 p2 tree here read (subst (λ (p : Option PageMap). BothTell p p2 (HasLost root)) same lost) where
-    by_pages : (p q : Option PageMap) → IfSome p (λ was. IsTreeSpace was root) → IfSome p (λ was. node_at was root ≡ node) → IfSome p (λ map. StandsHere map s child) → BothTell p q (HasLost root)
+    by_pages : (p q : Option PageMap) → IfSome p (λ was. IsTreeSpace was root) → IfSome p (λ was. node_at was root ≡ node)
+        → IfSome p (λ map. StandsHere map s child) → BothTell p q (HasLost root)
         → IfSome p (λ was. IfSome q (λ map. IsLowered was map root s.at child))
     by_pages None q tree here read lost = tt
     by_pages (Some old) None tree here read lost = tt
@@ -174,26 +202,34 @@ module _ (p0 p1 p2 : Option PageMap) (root : ℕ) (node child : Node) (inner : I
         let place : s.at ≡ one.0.child = one.2 in
         let below = stored_below old (height_of (node_at old root)) (root_place root) (node_at old root) inner 0 s tree.sound.tree (here ∙ is) at in
         subst (λ (x : ℕ). IsLowered old new root x child) (sym place)
-        (subst (λ (n : Node). IsLowered old new root one.0.child n) (ap (node_at old) (sym place) ∙ (read.spelled below.stored.there).value) (lowered old new root inner one.0 tree (here ∙ is) one.1 lost))
+        (subst (λ (n : Node). IsLowered old new root one.0.child n) (ap (node_at old) (sym place)
+        ∙ (read.spelled below.stored.there).value) (lowered old new root inner one.0 tree (here ∙ is) one.1 lost))
 
-  pub lowered_tree : IfSome p0 (λ was. IfSome p2 (λ map. IsLowered was map root s.at child)) → IfSome p2 (λ map. IsTreeSpace map s.at) × IfSome p2 (λ map. node_at map s.at ≡ child)
+  pub lowered_tree : IfSome p0 (λ was. IfSome p2 (λ map. IsLowered was map root s.at child))
+      → IfSome p2 (λ map. IsTreeSpace map s.at) × IfSome p2 (λ map. node_at map s.at ≡ child)
   lowered_tree lowered = by_pages p0 p2 (subst (λ (p : Option PageMap). BothTell p p2 (HasLost root)) same lost) lowered where
-    by_pages : (p q : Option PageMap) → BothTell p q (HasLost root) → IfSome p (λ was. IfSome q (λ map. IsLowered was map root s.at child)) → IfSome q (λ map. IsTreeSpace map s.at) × IfSome q (λ map. node_at map s.at ≡ child)
+    by_pages : (p q : Option PageMap) → BothTell p q (HasLost root)
+        → IfSome p (λ was. IfSome q (λ map. IsLowered was map root s.at child)) → IfSome q (λ map. IsTreeSpace map s.at)
+        × IfSome q (λ map. node_at map s.at ≡ child)
     by_pages p None lost lowered = (tt, tt)
     by_pages None (Some new) lost lowered = absurd lost
     by_pages (Some old) (Some new) lost lowered = (lowered.tree, lowered.here)
 
-  pub lowered_then : (p3 : Option PageMap) (last : ℕ) (below : Node) → IfSome p0 (λ was. IfSome p2 (λ map. IsLowered was map root s.at child)) → IfSome p2 (λ map. IfSome p3 (λ new. IsLowered map new s.at last below))
+  pub lowered_then : (p3 : Option PageMap) (last : ℕ) (below : Node)
+      → IfSome p0 (λ was. IfSome p2 (λ map. IsLowered was map root s.at child)) → IfSome p2 (λ map. IfSome p3 (λ new. IsLowered map new s.at last below))
       → IfSome p0 (λ was. IfSome p3 (λ new. IsLowered was new root last below))
   lowered_then p3 last below first second = by_pages p0 p2 p3 (subst (λ (p : Option PageMap). BothTell p p2 (HasLost root)) same lost) first second where
-    by_pages : (p q r : Option PageMap) → BothTell p q (HasLost root) → IfSome p (λ was. IfSome q (λ map. IsLowered was map root s.at child)) → IfSome q (λ map. IfSome r (λ new. IsLowered map new s.at last below)) → IfSome p (λ was. IfSome r (λ new. IsLowered was new root last below))
+    by_pages : (p q r : Option PageMap) → BothTell p q (HasLost root)
+        → IfSome p (λ was. IfSome q (λ map. IsLowered was map root s.at child))
+        → IfSome q (λ map. IfSome r (λ new. IsLowered map new s.at last below)) → IfSome p (λ was. IfSome r (λ new. IsLowered was new root last below))
     by_pages None q r lost first second = tt
     by_pages (Some old) q None lost first second = tt
     by_pages (Some old) None (Some new) lost first second = absurd lost
     by_pages (Some old) (Some map) (Some new) lost first second = lowered_on old map new root s.at last child below first second
 
 -- the child that is read is sound
-pub lowered_read : (p0 : Option PageMap) (root : ℕ) (node : Node) (inner : Inner) (s : Subtree) → node ≡ inner_node inner → slice_get (children_of inner) 0 ≡ Some s → IfSome p0 (λ was. IsTreeSpace was root) → IfSome p0 (λ was. node_at was root ≡ node)
+pub lowered_read : (p0 : Option PageMap) (root : ℕ) (node : Node) (inner : Inner) (s : Subtree) → node ≡ inner_node inner
+    → slice_get (children_of inner) 0 ≡ Some s → IfSome p0 (λ was. IsTreeSpace was root) → IfSome p0 (λ was. node_at was root ≡ node)
     → IfSome p0 (λ map. (height : ℕ) × IsStoredTree map height s)
 lowered_read None root node inner s is at tree here = tt
 lowered_read (Some map) root node inner s is at tree here =

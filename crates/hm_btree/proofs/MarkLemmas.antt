@@ -262,7 +262,8 @@ module _ (at left right : Base) (key : Key) (a b : ℕ) (from : IsBefore (key_of
             → ((if t then a else max a b) ≡ two_marks k)
             ⊎ AllTook (λ mark. (mark ≡ two_marks key) ⊎ (mark ≡ two_marks (key_of left))) (max (two_marks key) (two_marks (key_of left)))
             k key two_marks (both_sides now (λ _. a) (λ _. max a b))
-        by_test k true is here above = inl (sym (side_low at (λ _. a) (λ _. b) k (before_before k (key_of now) (key_of at) (before_is k (key_of now) is) down)))
+        by_test k true is here above =
+            inl (sym (side_low at (λ _. a) (λ _. b) k (before_before k (key_of now) (key_of at) (before_is k (key_of now) is) down)))
         by_test k false is here above = inr (λ other within. (
           turned (one_of (two_marks (key_of left)) (two_marks key) in_low here other),
           side_high now (λ _. a) (λ _. max a b) other (between_from k key (key_of now) other (from_is k (key_of now) is) above within)

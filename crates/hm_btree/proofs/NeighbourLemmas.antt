@@ -33,18 +33,24 @@ module _ (inner : Inner) (i : ℕ) (node : Node) (mid : PageMap) (shrunk : IsShr
   pair_tree : (j : ℕ) (a b : Child) → slice_get cs j ≡ Some a → slice_get cs (j + 1) ≡ Some b
       → IsTree shrunk.old (suc shrunk.height) shrunk.place (inner_node (inner_of inner.level inner.mirror (take j cs ++ a ∷ b ∷ drop (j + 2) cs) inner.right))
   pair_tree j a b first second =
-      subst (λ (l : List Child). IsTree shrunk.old (suc shrunk.height) shrunk.place (inner_node (inner_of inner.level inner.mirror l inner.right))) (split_pair cs j a b first second).0 shrunk.tree
+      subst (λ (l : List Child). IsTree shrunk.old (suc shrunk.height) shrunk.place
+      (inner_node (inner_of inner.level inner.mirror l inner.right))) (split_pair cs j a b first second).0 shrunk.tree
 
   -- the child after it
-  after_stored : (b : Child) → slice_get cs (i + 1) ≡ Some b → IsStoredTree mid shrunk.height (child_place inner.level (next_left inner.right (drop (i + 2) cs)) b)
+  after_stored : (b : Child) → slice_get cs (i + 1) ≡ Some b → IsStoredTree mid shrunk.height
+      (child_place inner.level (next_left inner.right (drop (i + 2) cs)) b)
   after_stored b is =
       let c = shrunk.child in
       let pre = take i cs in
       let post = drop (i + 2) cs in
       let whole = pair_tree i c b shrunk.at is in
-      let change : Changed shrunk.f shrunk.key TakesOut (loose (child_place inner.level b.left c)) shrunk.height shrunk.old mid (node_at shrunk.old c.child) node =
-      subst (λ (l : List Child). Changed shrunk.f shrunk.key TakesOut (loose (child_place inner.level (next_left inner.right l) c)) shrunk.height shrunk.old mid (node_at shrunk.old c.child) node) (rest_pair cs i c b shrunk.at is) shrunk.change in
-      (upper_stays shrunk.old shrunk.height inner.level (next_left inner.right post) c b (pair_rising shrunk.place shrunk.height inner.level inner.mirror inner.right shrunk.old pre c b post whole)
+      let change : Changed shrunk.f shrunk.key TakesOut (loose (child_place inner.level b.left c)) shrunk.height shrunk.old mid
+      (node_at shrunk.old c.child) node =
+      subst (λ (l : List Child). Changed shrunk.f shrunk.key TakesOut
+      (loose (child_place inner.level (next_left inner.right l) c)) shrunk.height shrunk.old mid (node_at shrunk.old c.child)
+      node) (rest_pair cs i c b shrunk.at is) shrunk.change in
+      (upper_stays shrunk.old shrunk.height inner.level (next_left inner.right post) c b
+      (pair_rising shrunk.place shrunk.height inner.level inner.mirror inner.right shrunk.old pre c b post whole)
       (pair_stored shrunk.place shrunk.height inner.level inner.mirror inner.right shrunk.old pre c b post whole) shrunk.f shrunk.key TakesOut mid shrunk.local
       (upper_child shrunk.place shrunk.height inner.level inner.mirror inner.right shrunk.old pre c b post whole) node change).stored
 
@@ -52,7 +58,8 @@ module _ (inner : Inner) (i : ℕ) (node : Node) (mid : PageMap) (shrunk : IsShr
   right_stored s at =
       let there = place_is inner.level inner.right cs (i + 1) s at in
       let next : i + 2 ≡ suc (i + 1) = omega arith in
-      let place : child_place inner.level (next_left inner.right (drop (i + 2) cs)) there.child ≡ s = ap (λ (n : ℕ). child_place inner.level (next_left inner.right (drop n cs)) there.child) next ∙ sym there.place in
+      let place : child_place inner.level (next_left inner.right (drop (i + 2) cs)) there.child ≡ s =
+      ap (λ (n : ℕ). child_place inner.level (next_left inner.right (drop n cs)) there.child) next ∙ sym there.place in
       subst (λ (t : Subtree). IsStoredTree mid shrunk.height t) place (after_stored there.child there.is)
 
   pub right_there : (c : Child) → slice_get cs (i + 1) ≡ Some c → IsSome (mid c.child)
@@ -63,26 +70,33 @@ module _ (inner : Inner) (i : ℕ) (node : Node) (mid : PageMap) (shrunk : IsShr
     here : slice_get cs (j + 1) ≡ Some shrunk.child
     here = subst (λ (n : ℕ). slice_get cs n ≡ Some shrunk.child) (sym next) shrunk.at
 
-    before_stored : (a : Child) → slice_get cs j ≡ Some a → IsStoredTree mid shrunk.height (child_place inner.level shrunk.child.left a) × IsSome (mid shrunk.child.child)
+    before_stored : (a : Child) → slice_get cs j ≡ Some a → IsStoredTree mid shrunk.height
+        (child_place inner.level shrunk.child.left a) × IsSome (mid shrunk.child.child)
     before_stored a is =
         let c = shrunk.child in
         let pre = take j cs in
         let post = drop (j + 2) cs in
         let whole = pair_tree j a c is here in
         let two : suc i ≡ j + 2 = omega (arith, next) in
-        let change : Changed shrunk.f shrunk.key TakesOut (loose (child_place inner.level (next_left inner.right post) c)) shrunk.height shrunk.old mid (node_at shrunk.old c.child) node =
-        subst (λ (n : ℕ). Changed shrunk.f shrunk.key TakesOut (loose (child_place inner.level (next_left inner.right (drop n cs)) c)) shrunk.height shrunk.old mid (node_at shrunk.old c.child) node) two shrunk.change in
+        let change : Changed shrunk.f shrunk.key TakesOut (loose (child_place inner.level (next_left inner.right post) c))
+        shrunk.height shrunk.old mid (node_at shrunk.old c.child) node =
+        subst (λ (n : ℕ). Changed shrunk.f shrunk.key TakesOut
+        (loose (child_place inner.level (next_left inner.right (drop n cs)) c)) shrunk.height shrunk.old mid
+        (node_at shrunk.old c.child) node) two shrunk.change in
         let rising = pair_rising shrunk.place shrunk.height inner.level inner.mirror inner.right shrunk.old pre a c post whole in
         let stored = pair_stored shrunk.place shrunk.height inner.level inner.mirror inner.right shrunk.old pre a c post whole in
         let child = upper_child shrunk.place shrunk.height inner.level inner.mirror inner.right shrunk.old pre a c post whole in (
-          (lower_stays shrunk.old shrunk.height inner.level (next_left inner.right post) a c rising stored shrunk.f shrunk.key TakesOut mid shrunk.local child node change).stored,
-          upper_there shrunk.old shrunk.height inner.level (next_left inner.right post) a c rising stored shrunk.f shrunk.key TakesOut mid shrunk.local child node change,
+          (lower_stays shrunk.old shrunk.height inner.level (next_left inner.right post) a c rising stored shrunk.f shrunk.key
+              TakesOut mid shrunk.local child node change).stored,
+          upper_there shrunk.old shrunk.height inner.level (next_left inner.right post) a c rising stored shrunk.f shrunk.key
+              TakesOut mid shrunk.local child node change,
         )
 
     pub left_stored : (s : Subtree) → slice_get (children_of inner) j ≡ Some s → IsStoredTree mid shrunk.height s
     left_stored s at =
         let there = place_is inner.level inner.right cs j s at in
-        let place : child_place inner.level shrunk.child.left there.child ≡ s = ap (λ (l : List Child). child_place inner.level (next_left inner.right l) there.child) (sym (rest_pair cs j there.child shrunk.child there.is here)) ∙ sym there.place in
+        let place : child_place inner.level shrunk.child.left there.child ≡ s = ap (λ (l : List Child). child_place inner.level
+        (next_left inner.right l) there.child) (sym (rest_pair cs j there.child shrunk.child there.is here)) ∙ sym there.place in
         subst (λ (t : Subtree). IsStoredTree mid shrunk.height t) place (before_stored there.child there.is).0
 
     pub own_page : (a c : Child) → slice_get cs j ≡ Some a → slice_get cs (j + 1) ≡ Some c → IsSome (mid c.child)
@@ -97,7 +111,8 @@ pub before_last : (i count n : ℕ) → count ≤ i + 1 → count ≡ n → 2 �
 before_last i count n last is many = omega arith
 
 -- a node that was read below an inner node
-pub level_below : (inner : Inner) (i : ℕ) (s : Subtree) (child : Node) → slice_get (children_of inner) i ≡ Some s → IsNode child → Fits s child → IsLevelBelow inner.level child
+pub level_below : (inner : Inner) (i : ℕ) (s : Subtree) (child : Node) → slice_get (children_of inner) i ≡ Some s → IsNode child
+    → Fits s child → IsLevelBelow inner.level child
 level_below inner i s child at sound fits =
     let there = place_is inner.level inner.right inner.places.items i s at in
     (node_shaped child sound, by_place s there.place fits) where
@@ -105,16 +120,25 @@ level_below inner i s child at sound fits =
       by_place s {b = b} {c = c} same fits = (subst (λ (t : Subtree). Fits t child) same fits).level
 
 -- no damage is told of it
-pub stored_cause : {T : Type 0} (told : Option PageMap) (s : Subtree) (old new : ℕ) (fault : Fault) → IfSome told (λ map. (height : ℕ) × IsStoredTree map height s) → HasFaultCause {T = Node} old new (Err fault) → IfSome told (λ map. TellsDamage s (map s.at) fault)
+pub stored_cause : {T : Type 0} (told : Option PageMap) (s : Subtree) (old new : ℕ) (fault : Fault) → IfSome told
+    (λ map. (height : ℕ) × IsStoredTree map height s) → HasFaultCause {T = Node} old new (Err fault) → IfSome told (λ map. TellsDamage s (map s.at) fault)
     → HasStoreCause {T = T} told old new (Err fault)
-stored_cause None s old new fault stored counted damage = record { counted = record { never_falls = counted.never_falls; caused = counted.caused }; undamaged = tt }
+stored_cause None s old new fault stored counted damage = record {
+  counted = record {
+    never_falls = counted.never_falls;
+    caused =
+        counted.caused;
+  };
+  undamaged = tt;
+}
 stored_cause (Some map) s old new fault (height, stored) counted damage = record {
   counted = record { never_falls = counted.never_falls; caused = counted.caused };
   undamaged = tells_undamaged s (map s.at) (node_at map s.at) fault stored.there (stored_here map height s stored) damage;
 }
 
 -- the node that was read is the child's
-pub read_child : (map : PageMap) (inner : Inner) (i : ℕ) (s : Subtree) (node : Node) → slice_get (children_of inner) i ≡ Some s → IsSome (map s.at) → StandsHere map s node → IsChildNode inner i map node
+pub read_child : (map : PageMap) (inner : Inner) (i : ℕ) (s : Subtree) (node : Node) → slice_get (children_of inner) i ≡ Some s
+    → IsSome (map s.at) → StandsHere map s node → IsChildNode inner i map node
 read_child map inner i s node at page here c is =
     let there = place_is inner.level inner.right inner.places.items i s at in
     let same : c ≡ there.child = by_option (sym is ∙ there.is) in
@@ -124,42 +148,62 @@ read_child map inner i s node at page here c is =
 
 module _ (inner after : Inner) (i : ℕ) (child other : Node) (s : Subtree) (p0 p1 p2 : Option PageMap) (same : p1 ≡ p0) where
   -- where the pages are told
-  pub right_read : IfSome p0 (IsShrunk inner i child) → slice_get (children_of inner) (i + 1) ≡ Some s → IfSome p0 (λ map. (height : ℕ) × IsStoredTree map height s)
+  pub right_read : IfSome p0 (IsShrunk inner i child) → slice_get (children_of inner) (i + 1) ≡ Some s
+      → IfSome p0 (λ map. (height : ℕ) × IsStoredTree map height s)
   right_read shrunk at = by_told p0 shrunk where
     by_told : (p : Option PageMap) → IfSome p (IsShrunk inner i child) → IfSome p (λ map. (height : ℕ) × IsStoredTree map height s)
     by_told None shrunk = tt
     by_told (Some map) shrunk = (shrunk.height, right_stored inner i child map shrunk s at)
 
-  pub left_read : (j : ℕ) → j + 1 ≡ i → IfSome p0 (IsShrunk inner i child) → slice_get (children_of inner) j ≡ Some s → IfSome p0 (λ map. (height : ℕ) × IsStoredTree map height s)
+  pub left_read : (j : ℕ) → j + 1 ≡ i → IfSome p0 (IsShrunk inner i child) → slice_get (children_of inner) j ≡ Some s
+      → IfSome p0 (λ map. (height : ℕ) × IsStoredTree map height s)
   left_read j next shrunk at = by_told p0 shrunk where
     by_told : (p : Option PageMap) → IfSome p (IsShrunk inner i child) → IfSome p (λ map. (height : ℕ) × IsStoredTree map height s)
     by_told None shrunk = tt
     by_told (Some map) shrunk = (shrunk.height, left_stored inner i child map shrunk j next s at)
 
   pub right_page : IfSome p0 (IsShrunk inner i child) → IfSome p1 (λ map. (c : Child) → slice_get inner.places.items (i + 1) ≡ Some c → IsSome (map c.child))
-  right_page shrunk = subst (λ (p : Option PageMap). IfSome p (λ map. (c : Child) → slice_get inner.places.items (i + 1) ≡ Some c → IsSome (map c.child))) (sym same) (by_told p0 shrunk) where
-    by_told : (p : Option PageMap) → IfSome p (IsShrunk inner i child) → IfSome p (λ map. (c : Child) → slice_get inner.places.items (i + 1) ≡ Some c → IsSome (map c.child))
-    by_told None shrunk = tt
-    by_told (Some map) shrunk = right_there inner i child map shrunk
+  right_page shrunk = subst (λ (p : Option PageMap). IfSome p (λ map. (c : Child) → slice_get inner.places.items (i + 1) ≡ Some c
+      → IsSome (map c.child))) (sym same) (by_told p0 shrunk) where
+        by_told : (p : Option PageMap) → IfSome p (IsShrunk inner i child)
+            → IfSome p (λ map. (c : Child) → slice_get inner.places.items (i + 1) ≡ Some c → IsSome (map c.child))
+        by_told None shrunk = tt
+        by_told (Some map) shrunk = right_there inner i child map shrunk
 
-  pub left_page : (j : ℕ) → j + 1 ≡ i → slice_get (children_of inner) j ≡ Some s → IfSome p0 (IsShrunk inner i child) → IfSome p1 (λ map. (c : Child) → slice_get inner.places.items (j + 1) ≡ Some c → IsSome (map c.child))
-  left_page j next at shrunk = subst (λ (p : Option PageMap). IfSome p (λ map. (c : Child) → slice_get inner.places.items (j + 1) ≡ Some c → IsSome (map c.child))) (sym same) (by_told p0 shrunk) where
-    by_told : (p : Option PageMap) → IfSome p (IsShrunk inner i child) → IfSome p (λ map. (c : Child) → slice_get inner.places.items (j + 1) ≡ Some c → IsSome (map c.child))
-    by_told None shrunk = tt
-    by_told (Some map) shrunk = λ c is. let there = place_is inner.level inner.right inner.places.items j s at in own_page inner i child map shrunk j next there.child c there.is is
+  pub left_page : (j : ℕ) → j + 1 ≡ i → slice_get (children_of inner) j ≡ Some s → IfSome p0 (IsShrunk inner i child)
+      → IfSome p1 (λ map. (c : Child) → slice_get inner.places.items (j + 1) ≡ Some c → IsSome (map c.child))
+  left_page j next at shrunk = subst (λ (p : Option PageMap). IfSome p (λ map. (c : Child) → slice_get inner.places.items
+      (j + 1) ≡ Some c → IsSome (map c.child))) (sym same) (by_told p0 shrunk) where
+        by_told : (p : Option PageMap) → IfSome p (IsShrunk inner i child)
+            → IfSome p (λ map. (c : Child) → slice_get inner.places.items (j + 1) ≡ Some c → IsSome (map c.child))
+        by_told None shrunk = tt
+        by_told (Some map) shrunk = λ c is. let there = place_is inner.level inner.right inner.places.items j s at in
+            own_page inner i child map shrunk j next there.child c there.is is
 
-  pub right_joined : i + 1 < length inner.places.items → slice_get (children_of inner) (i + 1) ≡ Some s → IfSome p0 (λ map. (height : ℕ) × IsStoredTree map height s) → IfSome p0 (λ map. StandsHere map s other) → IfSome p1 (λ old. IfSome p2 (λ new. IsPairJoined inner i child other old new after))
+  pub right_joined : i + 1 < length inner.places.items → slice_get (children_of inner) (i + 1) ≡ Some s
+      → IfSome p0 (λ map. (height : ℕ) × IsStoredTree map height s) → IfSome p0 (λ map. StandsHere map s other)
+      → IfSome p1 (λ old. IfSome p2 (λ new. IsPairJoined inner i child other old new after))
       → IfSome p0 (λ old. IfSome p2 (λ new. IsJoinedAt inner i child old new after))
-  right_joined low at stored here joined = by_told p0 p2 stored here (subst (λ (p : Option PageMap). IfSome p (λ old. IfSome p2 (λ new. IsPairJoined inner i child other old new after))) same joined) where
-    by_told : (p q : Option PageMap) → IfSome p (λ map. (height : ℕ) × IsStoredTree map height s) → IfSome p (λ map. StandsHere map s other) → IfSome p (λ old. IfSome q (λ new. IsPairJoined inner i child other old new after)) → IfSome p (λ old. IfSome q (λ new. IsJoinedAt inner i child old new after))
-    by_told None q stored here joined = tt
-    by_told (Some old) None stored here joined = tt
-    by_told (Some old) (Some new) stored here joined = inl (low, other, read_child old inner (i + 1) s other at stored.1.there here, joined)
+  right_joined low at stored here joined = by_told p0 p2 stored here
+      (subst (λ (p : Option PageMap). IfSome p (λ old. IfSome p2 (λ new. IsPairJoined inner i child other old new after))) same joined) where
+        by_told : (p q : Option PageMap) → IfSome p (λ map. (height : ℕ) × IsStoredTree map height s)
+            → IfSome p (λ map. StandsHere map s other)
+            → IfSome p (λ old. IfSome q (λ new. IsPairJoined inner i child other old new after))
+            → IfSome p (λ old. IfSome q (λ new. IsJoinedAt inner i child old new after))
+        by_told None q stored here joined = tt
+        by_told (Some old) None stored here joined = tt
+        by_told (Some old) (Some new) stored here joined = inl (low, other, read_child old inner (i + 1) s other at stored.1.there here, joined)
 
-  pub left_joined : (j : ℕ) → j + 1 ≡ i → slice_get (children_of inner) j ≡ Some s → IfSome p0 (λ map. (height : ℕ) × IsStoredTree map height s) → IfSome p0 (λ map. StandsHere map s other) → IfSome p1 (λ old. IfSome p2 (λ new. IsPairJoined inner j other child old new after))
+  pub left_joined : (j : ℕ) → j + 1 ≡ i → slice_get (children_of inner) j ≡ Some s → IfSome p0 (λ map. (height : ℕ)
+      × IsStoredTree map height s) → IfSome p0 (λ map. StandsHere map s other)
+      → IfSome p1 (λ old. IfSome p2 (λ new. IsPairJoined inner j other child old new after))
       → IfSome p0 (λ old. IfSome p2 (λ new. IsJoinedAt inner i child old new after))
-  left_joined j next at stored here joined = by_told p0 p2 stored here (subst (λ (p : Option PageMap). IfSome p (λ old. IfSome p2 (λ new. IsPairJoined inner j other child old new after))) same joined) where
-    by_told : (p q : Option PageMap) → IfSome p (λ map. (height : ℕ) × IsStoredTree map height s) → IfSome p (λ map. StandsHere map s other) → IfSome p (λ old. IfSome q (λ new. IsPairJoined inner j other child old new after)) → IfSome p (λ old. IfSome q (λ new. IsJoinedAt inner i child old new after))
-    by_told None q stored here joined = tt
-    by_told (Some old) None stored here joined = tt
-    by_told (Some old) (Some new) stored here joined = inr (j, next, other, read_child old inner j s other at stored.1.there here, joined)
+  left_joined j next at stored here joined = by_told p0 p2 stored here
+      (subst (λ (p : Option PageMap). IfSome p (λ old. IfSome p2 (λ new. IsPairJoined inner j other child old new after))) same joined) where
+        by_told : (p q : Option PageMap) → IfSome p (λ map. (height : ℕ) × IsStoredTree map height s)
+            → IfSome p (λ map. StandsHere map s other)
+            → IfSome p (λ old. IfSome q (λ new. IsPairJoined inner j other child old new after))
+            → IfSome p (λ old. IfSome q (λ new. IsJoinedAt inner i child old new after))
+        by_told None q stored here joined = tt
+        by_told (Some old) None stored here joined = tt
+        by_told (Some old) (Some new) stored here joined = inr (j, next, other, read_child old inner j s other at stored.1.there here, joined)

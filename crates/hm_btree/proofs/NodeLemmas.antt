@@ -1,5 +1,6 @@
 -- A changed node: what is known of it once it is written, and of the node above it.
-use Rattle.std.proofs.Common.{◌≡◌, Bool, true, false, true≢false, ◌||◌, ℕ, suc, ◌≤◌, List, [], ◌∷◌, ◌++◌, length, refl, sym, ap, subst, ◌∙◌, arith, nat_eq, Some, None, append-nil}
+use Rattle.std.proofs.Common.{◌≡◌, Bool, true, false, true≢false, ◌||◌, ℕ, suc, ◌≤◌, List, [], ◌∷◌, ◌++◌, length, refl, sym, ap, subst}
+use Rattle.std.proofs.Common.{◌∙◌, arith, nat_eq, Some, None, append-nil}
 use Rattle.std.specs.Prelude.{Option, option_map, IsSome, is_some, All, if◌then◌else◌}
 use Rattle.std.specs.List.{AllByRecursion}
 use Rattle.std.specs.List.Sorted.{IsStrictlySortedBy}
@@ -39,7 +40,8 @@ module _ (old mid : PageMap) (height : ℕ) (was is : Node) (replaces : Replaces
       true≢false (sym there ∙ ap (λ (o : Option (List ℕ)). is_some o) (replaces.made at reached not)))
 
 -- a child whose node changed is written
-module _ (f : List Element → List Element) (key : Key) (marking : Marking) (level : ℕ) (next : Base) (height : ℕ) (old mid new : PageMap) (c : Child) (after : Node) (page : List ℕ) where
+module _ (f : List Element → List Element) (key : Key) (marking : Marking) (level : ℕ) (next : Base) (height : ℕ)
+    (old mid new : PageMap) (c : Child) (after : Node) (page : List ℕ) where
   pub changed_written : IsChild c → IsBefore (key_of c.left) (key_of next) → IsStoredTree old height (child_place level next c)
       → Changed f key marking (child_place level next c) height old mid (node_at old c.child) after → Spells page after → HasPut c.child page mid new
       → ChangedUnder f key marking level next height old new (c ∷ []) (with_mirror (mirror_of after) c ∷ [])
@@ -48,26 +50,37 @@ module _ (f : List Element → List Element) (key : Key) (marking : Marking) (le
       let was : Node = node_at old c.child in
       let itself : reaches old height was c.child ≡ false = not_below_itself old height (child_place level next c) was c.child stored.tree refl in
       let apart : reaches mid height after c.child ≡ false = not_reached old mid height was after change.pages c.child stored.there itself in
-      let same : IsSameBelow mid new height after = record { same = λ x is. put_other c.child page mid new put x (λ one. true≢false (sym is ∙ ap (reaches mid height after) one ∙ apart)) } in
+      let same : IsSameBelow mid new height after = record {
+        same = λ x is. put_other c.child page mid new put x
+            (λ one. true≢false (sym is ∙ ap (reaches mid height after) one ∙ apart));
+      } in
       let there : new c.child ≡ Some page = put_at c.child page mid new put in
       let here : node_at new c.child ≡ after = ap (λ (o : Option (List ℕ)). node_in (page_in o)) there ∙ spells.value in
-      let elements : elements_in new height (node_at new c.child) ≡ elements_in mid height after = ap (elements_in new height) here ∙ frame_elements mid new height after same in
-      let marks : (k : Key) → mark_in new height (node_at new c.child) k ≡ mark_in mid height after k = λ k. ap (λ (n : Node). mark_in new height n k) here ∙ frame_mark mid new k height after same in
-      let reached : (x : ℕ) → reaches new height (node_at new c.child) x ≡ reaches mid height after x = λ x. ap (λ (n : Node). reaches new height n x) here ∙ frame_reaches mid new x height after same in
+      let elements : elements_in new height (node_at new c.child) ≡ elements_in mid height after = ap (elements_in new height)
+      here ∙ frame_elements mid new height after same in
+      let marks : (k : Key) → mark_in new height (node_at new c.child) k ≡ mark_in mid height after k =
+      λ k. ap (λ (n : Node). mark_in new height n k) here ∙ frame_mark mid new k height after same in
+      let reached : (x : ℕ) → reaches new height (node_at new c.child) x ≡ reaches mid height after x =
+      λ x. ap (λ (n : Node). reaches new height n x) here ∙ frame_reaches mid new x height after same in
       record {
         stored = (
           record {
             there = rw there refl;
-            spelled = subst (λ (o : Option (List ℕ)). Spells (page_in o) (node_in (page_in o))) (sym there) (subst (λ (n : Node). Spells page n) (sym spells.value) spells);
-            tree = subst (λ (n : Node). IsTree new height (child_place level next (with_mirror (mirror_of after) c)) n) (sym here) (frame_tree mid new height (child_place level next (with_mirror (mirror_of after) c)) after same change.tree);
+            spelled = subst (λ (o : Option (List ℕ)). Spells (page_in o) (node_in (page_in o))) (sym there)
+                (subst (λ (n : Node). Spells page n) (sym spells.value) spells);
+            tree = subst (λ (n : Node). IsTree new height (child_place level next (with_mirror (mirror_of after) c)) n) (sym here)
+                (frame_tree mid new height (child_place level next (with_mirror (mirror_of after) c)) after same change.tree);
           },
           tt,
         );
-        elements = append-nil (elements_in new height (node_at new c.child)) ∙ elements ∙ change.elements ∙ ap f (sym (append-nil (elements_in old height was)));
-        mark = same_marks (MarksWithin marking key c.left next (mark_in old height was)) (mark_in mid height after) (mark_in new height (node_at new c.child)) marks change.mark;
+        elements = append-nil (elements_in new height (node_at new c.child)) ∙ elements ∙ change.elements
+            ∙ ap f (sym (append-nil (elements_in old height was)));
+        mark = same_marks (MarksWithin marking key c.left next (mark_in old height was)) (mark_in mid height after)
+            (mark_in new height (node_at new c.child)) marks change.mark;
         pages = replaces_same old new (λ x. nat_eq c.child x || reaches old height was x) (λ x. nat_eq c.child x || reaches mid height after x)
             (has_under old height (c ∷ [])) (has_under new height (with_mirror (mirror_of after) c ∷ []))
-            (λ x. or_nil (nat_eq c.child x || reaches old height was x)) (λ x. or_nil (nat_eq c.child x || reaches new height (node_at new c.child) x) ∙ ap (λ (b : Bool). nat_eq c.child x || b) (reached x))
+            (λ x. or_nil (nat_eq c.child x || reaches old height was x))
+            (λ x. or_nil (nat_eq c.child x || reaches new height (node_at new c.child) x) ∙ ap (λ (b : Bool). nat_eq c.child x || b) (reached x))
             (replaces_put c.child page (reaches old height was) (reaches mid height after) old mid new put stored.there change.pages);
         left = refl;
         rising = ((before, tt), (tt, tt));
@@ -78,34 +91,44 @@ module _ (f : List Element → List Element) (key : Key) (marking : Marking) (le
         or_nil false = refl
 
 -- The child whose boundaries hold a key: it is that of `holder_place`.
-pub holder_inside : (key : Key) (right : Base) (pre : List Child) (c : Child) (post : List Child) → length pre ≡ holder_place key (pre ++ c ∷ post) → IsFrom (key_of (next_left right (pre ++ c ∷ post))) key → IsBefore key (key_of right)
+pub holder_inside : (key : Key) (right : Base) (pre : List Child) (c : Child) (post : List Child) → length pre ≡ holder_place key
+    (pre ++ c ∷ post) → IsFrom (key_of (next_left right (pre ++ c ∷ post))) key → IsBefore key (key_of right)
     → IsInside c.left (next_left right post) key
 holder_inside key right [] c [] here from before = record { from = from; before = before }
 holder_inside key right [] c (d ∷ ds) here from before = by_test (starts_after key d) refl here where
   by_test : (b : Bool) → starts_after key d ≡ b → 0 ≡ (if b then 0 else suc (begun key ds)) → IsInside c.left d.left key
   by_test true is here = record { from = from; before = before_is key (key_of d.left) is }
   by_test false is here = absurd (omega arith)
-holder_inside key right (p ∷ []) c post here from before = by_test (starts_after key c) refl here (λ zero from. holder_inside key right [] c post zero from before) where
-  by_test : (b : Bool) → starts_after key c ≡ b → 1 ≡ (if b then 0 else suc (begun key post)) → (0 ≡ begun key post → IsFrom (key_of c.left) key → IsInside c.left (next_left right post) key) → IsInside c.left (next_left right post) key
-  by_test true is here more = absurd (omega arith)
-  by_test false is here more = more (omega arith) (from_is key (key_of c.left) is)
-holder_inside key right (p ∷ q ∷ qs) c post here from before = by_test (starts_after key q) refl here (λ one from. holder_inside key right (q ∷ qs) c post one from before) where
-  by_test : (b : Bool) → starts_after key q ≡ b → suc (suc (length qs)) ≡ (if b then 0 else suc (begun key (qs ++ c ∷ post))) → (suc (length qs) ≡ begun key (qs ++ c ∷ post) → IsFrom (key_of q.left) key → IsInside c.left (next_left right post) key)
-      → IsInside c.left (next_left right post) key
-  by_test true is here more = absurd (omega arith)
-  by_test false is here more = more (omega arith) (from_is key (key_of q.left) is)
+holder_inside key right (p ∷ []) c post here from before = by_test (starts_after key c) refl here
+    (λ zero from. holder_inside key right [] c post zero from before) where
+      by_test : (b : Bool) → starts_after key c ≡ b → 1 ≡ (if b then 0 else suc (begun key post))
+          → (0 ≡ begun key post → IsFrom (key_of c.left) key → IsInside c.left (next_left right post) key) → IsInside c.left (next_left right post) key
+      by_test true is here more = absurd (omega arith)
+      by_test false is here more = more (omega arith) (from_is key (key_of c.left) is)
+holder_inside key right (p ∷ q ∷ qs) c post here from before = by_test (starts_after key q) refl here
+    (λ one from. holder_inside key right (q ∷ qs) c post one from before) where
+      by_test : (b : Bool) → starts_after key q ≡ b → suc (suc (length qs)) ≡ (if b then 0 else suc (begun key (qs ++ c ∷ post)))
+          → (suc (length qs) ≡ begun key (qs ++ c ∷ post) → IsFrom (key_of q.left) key → IsInside c.left (next_left right post) key)
+          → IsInside c.left (next_left right post) key
+      by_test true is here more = absurd (omega arith)
+      by_test false is here more = more (omega arith) (from_is key (key_of q.left) is)
 
 -- all the way from the first child on
-module _ (f : List Element → List Element) (key : Key) (marking : Marking) (level : ℕ) (right : Base) (height : ℕ) (old new : PageMap) (local : IsLocal f key) (b c : Child) (bs cs ds : List Child) where
+module _ (f : List Element → List Element) (key : Key) (marking : Marking) (level : ℕ) (right : Base) (height : ℕ)
+    (old new : PageMap) (local : IsLocal f key) (b c : Child) (bs cs ds : List Child) where
   -- the first child of some begins at or before the key
   first_by : (q : Child) (qs : List Child) → AreRising right (q ∷ (qs ++ ((b ∷ bs) ++ ds))) → IsFrom (key_of b.left) key → IsFrom (key_of q.left) key
-  first_by q [] rising from = from_trans (key_of q.left) (key_of b.left) key (key_from_before (key_of q.left) (key_of b.left) (rising_next right q ((b ∷ bs) ++ ds) rising)) from
+  first_by q [] rising from = from_trans (key_of q.left) (key_of b.left) key (key_from_before (key_of q.left) (key_of b.left)
+      (rising_next right q ((b ∷ bs) ++ ds) rising)) from
   first_by q (p ∷ ps) rising from =
-      from_trans (key_of q.left) (key_of p.left) key (key_from_before (key_of q.left) (key_of p.left) (rising_next right q ((p ∷ ps) ++ ((b ∷ bs) ++ ds)) rising))
+      from_trans (key_of q.left) (key_of p.left) key (key_from_before (key_of q.left) (key_of p.left)
+      (rising_next right q ((p ∷ ps) ++ ((b ∷ bs) ++ ds)) rising))
       (first_by p ps (rising_rest right q ((p ∷ ps) ++ ((b ∷ bs) ++ ds)) rising) from)
 
-  pub changed_within : (pre : List Child) → AllByRecursion IsChild (pre ++ ((b ∷ bs) ++ ds)) → AreRising right (pre ++ ((b ∷ bs) ++ ds)) → AreStored old height level right (pre ++ ((b ∷ bs) ++ ds))
-      → IsFrom (key_of b.left) key → IsBefore key (key_of (next_left right ds)) → ChangedUnder f key marking level (next_left right ds) height old new (b ∷ bs) (c ∷ cs)
+  pub changed_within : (pre : List Child) → AllByRecursion IsChild (pre ++ ((b ∷ bs) ++ ds)) → AreRising right
+      (pre ++ ((b ∷ bs) ++ ds)) → AreStored old height level right (pre ++ ((b ∷ bs) ++ ds))
+      → IsFrom (key_of b.left) key → IsBefore key (key_of (next_left right ds)) → ChangedUnder f key marking level
+      (next_left right ds) height old new (b ∷ bs) (c ∷ cs)
       → ChangedUnder f key marking level right height old new (pre ++ ((b ∷ bs) ++ ds)) (pre ++ ((c ∷ cs) ++ ds))
   changed_within [] children rising stored from before change =
       changed_before f key marking level right height old new local b c bs cs ds (each_back IsChild (b ∷ bs) ds children) rising stored before change
@@ -114,7 +137,8 @@ module _ (f : List Element → List Element) (key : Key) (marking : Marking) (le
       (changed_within [] children.1 (rising_rest right p ((b ∷ bs) ++ ds) rising) stored.1 from before change)
   changed_within (p ∷ q ∷ qs) children rising stored from before change =
       let later = rising_rest right p ((q ∷ qs) ++ ((b ∷ bs) ++ ds)) rising in
-      changed_later f key marking level right height old new local p q q (qs ++ ((b ∷ bs) ++ ds)) (qs ++ ((c ∷ cs) ++ ds)) children.0 rising stored (first_by q qs later from)
+      changed_later f key marking level right height old new local p q q (qs ++ ((b ∷ bs) ++ ds)) (qs ++ ((c ∷ cs) ++ ds))
+      children.0 rising stored (first_by q qs later from)
       (changed_within (q ∷ qs) children.1 later stored.1 from before change)
 
 -- what a parent says of a node whose `mirror` it has
@@ -135,7 +159,8 @@ module _ (node : Node) where
   placed_mirror (Some q) = refl
 
 -- The node above children that changed.
-module _ (f : List Element → List Element) (key : Key) (marking : Marking) (place : Subtree) (height : ℕ) (old new : PageMap) (level mirror more : ℕ) (right : Base) (before after : List Child) where
+module _ (f : List Element → List Element) (key : Key) (marking : Marking) (place : Subtree) (height : ℕ) (old new : PageMap)
+    (level mirror more : ℕ) (right : Base) (before after : List Child) where
   abbrev pub was : Node
   was = inner_node (inner_of level mirror before right)
 
@@ -153,7 +178,14 @@ module _ (f : List Element → List Element) (key : Key) (marking : Marking) (pl
       → 1 ≤ length after → length after ≤ 62 → FitsCount place.parent is → Changed f key marking place (suc height) old new was is
   changed_above tree change mirrors some few count = record {
     tree = record {
-      sound = record { level = tree.sound.level; count = (some, few); order = change.rising; fields = record { children = All-from_recursion IsChild after change.fields; right = tree.sound.fields.right }; mirror = mirrors };
+      sound = record {
+        level = tree.sound.level;
+        count = (some, few);
+        order = change.rising;
+        fields =
+            record { children = All-from_recursion IsChild after change.fields; right = tree.sound.fields.right };
+        mirror = mirrors;
+      };
       level = tree.level;
       fits = record {
         level = placed_level is place.parent was refl tree.fits.level;
@@ -164,6 +196,7 @@ module _ (f : List Element → List Element) (key : Key) (marking : Marking) (pl
       below = change.stored;
     };
     elements = change.elements;
-    mark = marks_bounds marking key (next_left right before) place.left right place.right (mark_under old height before) (mark_under new height after) (begins_left place.left right before tree.fits.bounds.0) tree.fits.bounds.1 change.mark;
+    mark = marks_bounds marking key (next_left right before) place.left right place.right (mark_under old height before)
+        (mark_under new height after) (begins_left place.left right before tree.fits.bounds.0) tree.fits.bounds.1 change.mark;
     pages = change.pages;
   }

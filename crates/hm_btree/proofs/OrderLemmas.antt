@@ -26,7 +26,8 @@ each_back P [] ys each = each
 each_back P (x ∷ xs) ys each = each_back P xs ys each.1
 
 -- a child begins before all that comes after it
-pub rising_first : (right : Base) (c : Child) (cs : List Child) → AreRising right (c ∷ cs) → AllByRecursion (λ y. base_cmp c.left y ≡ Less) (bounds_of right cs)
+pub rising_first : (right : Base) (c : Child) (cs : List Child) → AreRising right (c ∷ cs) → AllByRecursion
+    (λ y. base_cmp c.left y ≡ Less) (bounds_of right cs)
 unfolding IsStrictlySortedBy
 rising_first right c cs rising = rising.0
 
@@ -34,7 +35,8 @@ pub rising_rest : (right : Base) (c : Child) (cs : List Child) → AreRising rig
 unfolding IsStrictlySortedBy
 rising_rest right c cs rising = rising.1
 
-pub rising_cons : (right : Base) (c : Child) (cs : List Child) → AllByRecursion (λ y. base_cmp c.left y ≡ Less) (bounds_of right cs) → AreRising right cs → AreRising right (c ∷ cs)
+pub rising_cons : (right : Base) (c : Child) (cs : List Child) → AllByRecursion (λ y. base_cmp c.left y ≡ Less)
+    (bounds_of right cs) → AreRising right cs → AreRising right (c ∷ cs)
 unfolding IsStrictlySortedBy
 rising_cons right c cs first rest = (first, rest)
 
@@ -44,10 +46,14 @@ rising_next right c [] rising = (rising_first right c [] rising).0
 rising_next right c (d ∷ ds) rising = (rising_first right c (d ∷ ds) rising).0
 
 -- what is before the first of some boundaries is before all of them
-pub before_all : (a : Base) (right : Base) (cs : List Child) → AreRising right cs → IsBefore (key_of a) (key_of (next_left right cs)) → AllByRecursion (λ y. base_cmp a y ≡ Less) (bounds_of right cs)
+pub before_all : (a : Base) (right : Base) (cs : List Child) → AreRising right cs → IsBefore (key_of a)
+    (key_of (next_left right cs)) → AllByRecursion (λ y. base_cmp a y ≡ Less) (bounds_of right cs)
 before_all a right [] rising before = (before, tt)
-before_all a right (c ∷ cs) rising before =
-    (before, before_all a right cs (rising_rest right c cs rising) (before_before (key_of a) (key_of c.left) (key_of (next_left right cs)) before (rising_next right c cs rising)))
+before_all a right (c ∷ cs) rising before = (
+  before,
+  before_all a right cs (rising_rest right c cs rising) (before_before (key_of a) (key_of c.left)
+      (key_of (next_left right cs)) before (rising_next right c cs rising)),
+)
 
 -- the first boundary of children and others after them
 pub next_append : (right : Base) (cs ds : List Child) → next_left right (cs ++ ds) ≡ next_left (next_left right ds) cs
@@ -59,7 +65,8 @@ pub rising_append : (right : Base) (cs ds : List Child) → AreRising (next_left
 rising_append right [] ds first second = second
 rising_append right (c ∷ cs) ds first second =
     let more = rising_append right cs ds (rising_rest (next_left right ds) c cs first) second in
-    rising_cons right c (cs ++ ds) (before_all c.left right (cs ++ ds) more (subst (λ (b : Base). IsBefore (key_of c.left) (key_of b)) (sym (next_append right cs ds)) (rising_next (next_left right ds) c cs first))) more
+    rising_cons right c (cs ++ ds) (before_all c.left right (cs ++ ds) more
+    (subst (λ (b : Base). IsBefore (key_of c.left) (key_of b)) (sym (next_append right cs ds)) (rising_next (next_left right ds) c cs first))) more
 
 pub rising_back : (right : Base) (cs ds : List Child) → AreRising right (cs ++ ds) → AreRising right ds
 rising_back right [] ds rising = rising

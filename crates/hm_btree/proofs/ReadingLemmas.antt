@@ -18,7 +18,8 @@ use Rattle.hm_btree.proofs.StoreLemmas.{store_cause}
 
 -- the first element from a key on
 pub first_in_store : (intact : Bool) (told : Option PageMap) (root : ℕ) (key : Key) (r : Result (Option Element) Fault) → ∥ IsIntact intact told root ∥₁
-    → IfSome told (λ pages. IsSoundTree pages root → IfOk r (λ found. found ≡ first_from key (elements_of pages root))) → IfSome (told_elements intact told root) (λ es. IfOk r (λ found. found ≡ first_from key es))
+    → IfSome told (λ pages. IsSoundTree pages root → IfOk r (λ found. found ≡ first_from key (elements_of pages root)))
+    → IfSome (told_elements intact told root) (λ es. IfOk r (λ found. found ≡ first_from key es))
 first_in_store false told root key r sound found = tt
 first_in_store true None root key r sound found = tt
 first_in_store true (Some pages) root key r sound found = ∥∥₁_elim sound (by_result r) (λ tree. found tree.sound) where
@@ -27,8 +28,10 @@ first_in_store true (Some pages) root key r sound found = ∥∥₁_elim sound (
   by_result (Err fault) = hlevel props
 
 -- how far nothing changed
-pub quiet_in_store : (intact : Bool) (told : Option PageMap) (root : ℕ) (at : Key) (since : ℕ) (r : Result (Option Base) Fault) → ∥ IsIntact intact told root ∥₁
-    → IfSome told (λ pages. IsSoundTree pages root → IfOk r (IsQuiet (mark_of pages root) at since)) → IfSome (told_elements intact told root) (λ _. IfOk r (IsQuiet (told_mark told root) at since))
+pub quiet_in_store : (intact : Bool) (told : Option PageMap) (root : ℕ) (at : Key) (since : ℕ) (r : Result (Option Base) Fault)
+    → ∥ IsIntact intact told root ∥₁
+    → IfSome told (λ pages. IsSoundTree pages root → IfOk r (IsQuiet (mark_of pages root) at since))
+    → IfSome (told_elements intact told root) (λ _. IfOk r (IsQuiet (told_mark told root) at since))
 quiet_in_store false told root at since r sound quiet = tt
 quiet_in_store true None root at since r sound quiet = tt
 quiet_in_store true (Some pages) root at since r sound quiet = ∥∥₁_elim sound (by_result r) (λ tree. quiet tree.sound) where
@@ -38,11 +41,14 @@ quiet_in_store true (Some pages) root at since r sound quiet = ∥∥₁_elim so
   by_result (Err fault) = hlevel props
 
 -- the cause of each fault
-search_cause : {T : Type 0} (told : Option PageMap) (root old new : ℕ) (r : Result T Fault) → HasSearchCause told (root_place root) old new r → HasTreeCause told root old new r
+search_cause : {T : Type 0} (told : Option PageMap) (root old new : ℕ) (r : Result T Fault) → HasSearchCause told
+    (root_place root) old new r → HasTreeCause told root old new r
 search_cause told root old new r cause = record { counted = cause.counted; damage = cause.damage; undamaged = by_told told cause.undamaged } where
-  by_told : (o : Option PageMap) → IfSome o (λ map. (height : ℕ) → IsStoredTree map height (root_place root) → IfErr r IsUndamaged) → IfSome o (λ pages. IsSoundTree pages root → IfErr r IsUndamaged)
+  by_told : (o : Option PageMap) → IfSome o (λ map. (height : ℕ) → IsStoredTree map height (root_place root)
+      → IfErr r IsUndamaged) → IfSome o (λ pages. IsSoundTree pages root → IfErr r IsUndamaged)
   by_told None undamaged = tt
   by_told (Some pages) undamaged = λ sound. undamaged (height_of (node_at pages root)) sound
 
-pub cause_in_store : {T : Type 0} (intact : Bool) (told : Option PageMap) (root old new : ℕ) (r : Result T Fault) → ∥ IsIntact intact told root ∥₁ → HasSearchCause told (root_place root) old new r → HasStoreCause (told_elements intact told root) old new r
+pub cause_in_store : {T : Type 0} (intact : Bool) (told : Option PageMap) (root old new : ℕ) (r : Result T Fault)
+    → ∥ IsIntact intact told root ∥₁ → HasSearchCause told (root_place root) old new r → HasStoreCause (told_elements intact told root) old new r
 cause_in_store intact told root old new r sound cause = store_cause intact told root old new r sound (search_cause told root old new r cause)

@@ -53,7 +53,8 @@ chosen_same : (t : Bool) (x x' y y' : ℕ) → x ≡ x' → y ≡ y' → (if t t
 chosen_same true x x' y y' first second = first
 chosen_same false x x' y y' first second = second
 
-module _ (f : List Element → List Element) (key : Key) (marking : Marking) (level : ℕ) (next : Base) (height : ℕ) (old mid new1 new2 : PageMap) (a b : Child) where
+module _ (f : List Element → List Element) (key : Key) (marking : Marking) (level : ℕ) (next : Base) (height : ℕ)
+    (old mid new1 new2 : PageMap) (a b : Child) where
   abbrev pub pair_olds : ℕ → Bool
   pair_olds = below_both old height a b
 
@@ -69,31 +70,43 @@ module _ (f : List Element → List Element) (key : Key) (marking : Marking) (le
       abbrev joined_child : Child
       joined_child = with_mirror (mirror_of node) a
 
-      pub joined_written : Joined key marking height old mid pair_olds pair_want pair_were a.left next node → HasWritten a.child node mid new1 → HasLost b.child new1 new2
+      pub joined_written : Joined key marking height old mid pair_olds pair_want pair_were a.left next node
+          → HasWritten a.child node mid new1 → HasLost b.child new1 new2
           → ChangedUnder f key marking level next height old new2 (a ∷ b ∷ []) (joined_child ∷ [])
       unfolding IsStrictlySortedBy
       joined_written joined (page, spells, put) lost =
           let news : ℕ → Bool = λ x. reaches mid height node x in
-          let not_lower : news a.child ≡ false = not_come pair_olds news old mid a.child joined.pages stored.0.there (lower_itself old height level next a b rising stored) in
-          let not_upper : news b.child ≡ false = not_come pair_olds news old mid b.child joined.pages stored.1.0.there (upper_itself old height level next a b rising stored) in
-          let there : new2 a.child ≡ Some page = lost_other b.child new1 new2 lost a.child (not_same old height level next a b rising stored) ∙ put_at a.child page mid new1 put in
+          let not_lower : news a.child ≡ false = not_come pair_olds news old mid a.child joined.pages stored.0.there
+          (lower_itself old height level next a b rising stored) in
+          let not_upper : news b.child ≡ false = not_come pair_olds news old mid b.child joined.pages stored.1.0.there
+          (upper_itself old height level next a b rising stored) in
+          let there : new2 a.child ≡ Some page = lost_other b.child new1 new2 lost a.child
+          (not_same old height level next a b rising stored) ∙ put_at a.child page mid new1 put in
           let is : Written mid new2 height node a.child = written mid new2 height node a.child page there spells (λ x reached.
           lost_other b.child new1 new2 lost x (λ same. true≢false (sym reached ∙ ap (reaches mid height node) same ∙ not_upper))
           ∙ put_other a.child page mid new1 put x (λ same. true≢false (sym reached ∙ ap (reaches mid height node) same ∙ not_lower))) in
           record {
-            stored = (is.stored (child_place level next joined_child) refl (as_child mid height level a.child (between a.left next) node joined.tree joined.many high), tt);
+            stored = (
+              is.stored (child_place level next joined_child) refl (as_child mid height level a.child
+                  (between a.left next) node joined.tree joined.many high),
+              tt,
+            );
             elements = append-nil (elements_in new2 height (node_at new2 a.child)) ∙ is.elements ∙ joined.elements;
-            mark = same_marks (MarksWithin marking key a.left next pair_were) (mark_in mid height node) (mark_under new2 height (joined_child ∷ [])) is.mark joined.mark;
-            pages = replaces_same old new2 (λ x. nat_eq b.child x || (nat_eq a.child x || pair_olds x)) (λ x. nat_eq a.child x || news x) (has_under old height (a ∷ b ∷ [])) (has_under new2 height (joined_child ∷ []))
+            mark = same_marks (MarksWithin marking key a.left next pair_were) (mark_in mid height node)
+                (mark_under new2 height (joined_child ∷ [])) is.mark joined.mark;
+            pages = replaces_same old new2 (λ x. nat_eq b.child x || (nat_eq a.child x || pair_olds x))
+                (λ x. nat_eq a.child x || news x) (has_under old height (a ∷ b ∷ [])) (has_under new2 height (joined_child ∷ []))
                 (λ x. shuffle (nat_eq b.child x) (nat_eq a.child x) (reaches old height (node_at old a.child) x) (reaches old height (node_at old b.child) x))
                 (λ x. or_nil (nat_eq a.child x || reaches new2 height (node_at new2 a.child) x) ∙ ap (λ (t : Bool). nat_eq a.child x || t) (is.pages x))
-                (replaces_lost b.child (λ x. nat_eq a.child x || pair_olds x) (λ x. nat_eq a.child x || news x) old new1 new2 lost (replaces_put a.child page pair_olds news old mid new1 put stored.0.there joined.pages));
+                (replaces_lost b.child (λ x. nat_eq a.child x || pair_olds x) (λ x. nat_eq a.child x || news x) old new1 new2 lost
+                (replaces_put a.child page pair_olds news old mid new1 put stored.0.there joined.pages));
             left = refl;
             rising = ((before, tt), (tt, tt));
             fields = (record { left = child.left; child = child.child }, tt);
           } where
             before : IsBefore (key_of a.left) (key_of next)
-            before = before_before (key_of a.left) (key_of b.left) (key_of next) (rising_next next a (b ∷ []) rising) (rising_next next b [] (rising_rest next a (b ∷ []) rising))
+            before = before_before (key_of a.left) (key_of b.left) (key_of next) (rising_next next a (b ∷ []) rising)
+                (rising_next next b [] (rising_rest next a (b ∷ []) rising))
 
     -- they are two still
     module _ (lower upper : Node) (at : Base) (child : IsChild a) (second : IsChild b) where
@@ -103,33 +116,52 @@ module _ (f : List Element → List Element) (key : Key) (marking : Marking) (le
       abbrev shared_upper : Child
       shared_upper = record { left = at; child = b.child; mirror = mirror_of upper }
 
-      pub shared_written : Shared key marking height old mid pair_olds pair_want pair_were a.left next lower upper at → HasWritten a.child lower mid new1 → HasWritten b.child upper new1 new2
+      pub shared_written : Shared key marking height old mid pair_olds pair_want pair_were a.left next lower upper at
+          → HasWritten a.child lower mid new1 → HasWritten b.child upper new1 new2
           → ChangedUnder f key marking level next height old new2 (a ∷ b ∷ []) (shared_lower ∷ shared_upper ∷ [])
       unfolding IsStrictlySortedBy
       shared_written shared (page, spells, put) (page2, spells2, put2) =
           let beside = shared.beside in
           let news : ℕ → Bool = λ x. reaches mid height lower x || reaches mid height upper x in
-          let not_lower : news a.child ≡ false = not_come pair_olds news old mid a.child beside.pages stored.0.there (lower_itself old height level next a b rising stored) in
-          let not_upper : news b.child ≡ false = not_come pair_olds news old mid b.child beside.pages stored.1.0.there (upper_itself old height level next a b rising stored) in
-          let there : new2 a.child ≡ Some page = put_other b.child page2 new1 new2 put2 a.child (not_same old height level next a b rising stored) ∙ put_at a.child page mid new1 put in
-          let stays : (x : ℕ) → x ≢ a.child → x ≢ b.child → new2 x ≡ mid x = λ x first other. put_other b.child page2 new1 new2 put2 x other ∙ put_other a.child page mid new1 put x first in
+          let not_lower : news a.child ≡ false = not_come pair_olds news old mid a.child beside.pages stored.0.there
+          (lower_itself old height level next a b rising stored) in
+          let not_upper : news b.child ≡ false = not_come pair_olds news old mid b.child beside.pages stored.1.0.there
+          (upper_itself old height level next a b rising stored) in
+          let there : new2 a.child ≡ Some page = put_other b.child page2 new1 new2 put2 a.child
+          (not_same old height level next a b rising stored) ∙ put_at a.child page mid new1 put in
+          let stays : (x : ℕ) → x ≢ a.child → x ≢ b.child → new2 x ≡ mid x = λ x first other. put_other b.child page2 new1 new2
+          put2 x other ∙ put_other a.child page mid new1 put x first in
           let low : Written mid new2 height lower a.child = written mid new2 height lower a.child page there spells (λ x reached. stays x
-          (λ same. true≢false (sym reached ∙ ap (reaches mid height lower) same ∙ or_false_left (reaches mid height lower a.child) (reaches mid height upper a.child) not_lower))
-          (λ same. true≢false (sym reached ∙ ap (reaches mid height lower) same ∙ or_false_left (reaches mid height lower b.child) (reaches mid height upper b.child) not_upper))) in
-          let up : Written mid new2 height upper b.child = written mid new2 height upper b.child page2 (put_at b.child page2 new1 new2 put2) spells2 (λ x reached. stays x
-          (λ same. true≢false (sym reached ∙ ap (reaches mid height upper) same ∙ or_false_right (reaches mid height lower a.child) (reaches mid height upper a.child) not_lower))
-          (λ same. true≢false (sym reached ∙ ap (reaches mid height upper) same ∙ or_false_right (reaches mid height lower b.child) (reaches mid height upper b.child) not_upper))) in
-          let marks : (k : Key) → mark_under new2 height (shared_lower ∷ shared_upper ∷ []) k ≡ (if is_lt (key_cmp k (key_of at)) then mark_in mid height lower k else mark_in mid height upper k) =
-          λ k. mark_cons new2 height k shared_lower shared_upper [] ∙ chosen_same (is_lt (key_cmp k (key_of at))) (mark_in new2 height (node_at new2 a.child) k) (mark_in mid height lower k)
+          (λ same. true≢false (sym reached ∙ ap (reaches mid height lower) same ∙ or_false_left (reaches mid height lower a.child)
+          (reaches mid height upper a.child) not_lower))
+          (λ same. true≢false (sym reached ∙ ap (reaches mid height lower) same ∙ or_false_left (reaches mid height lower b.child)
+          (reaches mid height upper b.child) not_upper))) in
+          let up : Written mid new2 height upper b.child = written mid new2 height upper b.child page2
+          (put_at b.child page2 new1 new2 put2) spells2 (λ x reached. stays x
+          (λ same. true≢false (sym reached ∙ ap (reaches mid height upper) same ∙ or_false_right
+          (reaches mid height lower a.child) (reaches mid height upper a.child) not_lower))
+          (λ same. true≢false (sym reached ∙ ap (reaches mid height upper) same ∙ or_false_right
+          (reaches mid height lower b.child) (reaches mid height upper b.child) not_upper))) in
+          let marks : (k : Key) → mark_under new2 height (shared_lower ∷ shared_upper ∷ []) k ≡ (if is_lt (key_cmp k (key_of at))
+          then mark_in mid height lower k else mark_in mid height upper k) =
+          λ k. mark_cons new2 height k shared_lower shared_upper [] ∙ chosen_same (is_lt (key_cmp k (key_of at)))
+          (mark_in new2 height (node_at new2 a.child) k) (mark_in mid height lower k)
           (mark_in new2 height (node_at new2 b.child) k) (mark_in mid height upper k) (low.mark k) (up.mark k) in
           record {
             stored = (
-              low.stored (child_place level at shared_lower) refl (as_child mid height level a.child (between a.left at) lower beside.lower_tree shared.lower_many high),
-              (up.stored (child_place level next shared_upper) refl (as_child mid height level b.child (between at next) upper beside.upper_tree shared.upper_many high), tt),
+              low.stored (child_place level at shared_lower) refl (as_child mid height level a.child (between a.left at) lower
+                  beside.lower_tree shared.lower_many high),
+              (
+                up.stored (child_place level next shared_upper) refl (as_child mid height level b.child (between at next) upper
+                    beside.upper_tree shared.upper_many high),
+                tt,
+              ),
             );
             elements = ap (λ (l : List Element). l ++ (elements_in new2 height (node_at new2 b.child) ++ [])) low.elements
-                ∙ ap (λ (l : List Element). elements_in mid height lower ++ l) (append-nil (elements_in new2 height (node_at new2 b.child)) ∙ up.elements) ∙ beside.elements;
-            mark = same_marks (MarksWithin marking key a.left next pair_were) (both_sides at (mark_in mid height lower) (mark_in mid height upper)) (mark_under new2 height (shared_lower ∷ shared_upper ∷ [])) marks beside.mark;
+                ∙ ap (λ (l : List Element). elements_in mid height lower ++ l)
+                (append-nil (elements_in new2 height (node_at new2 b.child)) ∙ up.elements) ∙ beside.elements;
+            mark = same_marks (MarksWithin marking key a.left next pair_were) (both_sides at (mark_in mid height lower)
+                (mark_in mid height upper)) (mark_under new2 height (shared_lower ∷ shared_upper ∷ [])) marks beside.mark;
             pages = replaces_same old new2 (λ x. nat_eq b.child x || (nat_eq a.child x || pair_olds x)) (λ x. nat_eq b.child x || (nat_eq a.child x || news x))
                 (has_under old height (a ∷ b ∷ [])) (has_under new2 height (shared_lower ∷ shared_upper ∷ []))
                 (λ x. shuffle (nat_eq b.child x) (nat_eq a.child x) (reaches old height (node_at old a.child) x) (reaches old height (node_at old b.child) x))

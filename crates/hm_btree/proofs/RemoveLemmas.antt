@@ -36,16 +36,22 @@ loose_tree map height place node tree = record {
 }
 
 module _ (map : PageMap) (height : ℕ) (place : Subtree) (key : Key) (leaf after : Leaf) (i : ℕ) where
-  pub removed_leaf : IsTree map height place (leaf_node leaf) → IsInside place.left place.right key → IsSome (element_at key leaf.places.items) → i ≡ leading key leaf.places.items → after ≡ leaf_of leaf.mirror (remove leaf.places.items i)
+  pub removed_leaf : IsTree map height place (leaf_node leaf) → IsInside place.left place.right key
+      → IsSome (element_at key leaf.places.items) → i ≡ leading key leaf.places.items → after ≡ leaf_of leaf.mirror (remove leaf.places.items i)
       → Changed (removed key) key TakesOut (loose place) height map map (leaf_node leaf) (leaf_node after)
   removed_leaf tree inside there at now =
-      let is : IsPlace key leaf.places.items i = subst (λ (n : ℕ). IsPlace key leaf.places.items n) (sym at) (leading_place key leaf.places.items tree.sound.order there) in
+      let is : IsPlace key leaf.places.items i = subst (λ (n : ℕ). IsPlace key leaf.places.items n) (sym at)
+      (leading_place key leaf.places.items tree.sound.order there) in
       let items : remove leaf.places.items i ≡ removed key leaf.places.items = sym (removed-place key leaf.places.items i is) in
       let short : length (removed key leaf.places.items) + 1 ≡ length leaf.places.items =
       ap (λ (l : List Element). length l + 1) (sym items) ∙ length-remove leaf.places.items i (IsPlace-within key leaf.places.items i is) in
-      subst (λ (l : Leaf). Changed (removed key) key TakesOut (loose place) height map map (leaf_node leaf) (leaf_node l)) (sym (now ∙ ap (leaf_of leaf.mirror) items))
-      (changed_leaf (removed key) key TakesOut (loose place) height map leaf (leaf_of leaf.mirror (removed key leaf.places.items)) (loose_tree map height place (leaf_node leaf) tree) refl
-      (content_removed key leaf.places.items (leaf_content map height place leaf tree)) (each_removed (λ e. IsOffset e.payload) key leaf.places.items (leaf_offsets map height place leaf tree))
-      (each_removed (λ e. IsInside place.left place.right (element_key e)) key leaf.places.items (recursion_from_All (λ e. IsInside place.left place.right (element_key e)) leaf.places.items tree.fits.bounds))
+      subst (λ (l : Leaf). Changed (removed key) key TakesOut (loose place) height map map (leaf_node leaf) (leaf_node l))
+      (sym (now ∙ ap (leaf_of leaf.mirror) items))
+      (changed_leaf (removed key) key TakesOut (loose place) height map leaf (leaf_of leaf.mirror (removed key leaf.places.items))
+      (loose_tree map height place (leaf_node leaf) tree) refl
+      (content_removed key leaf.places.items (leaf_content map height place leaf tree))
+      (each_removed (λ e. IsOffset e.payload) key leaf.places.items (leaf_offsets map height place leaf tree))
+      (each_removed (λ e. IsInside place.left place.right (element_key e)) key leaf.places.items
+      (recursion_from_All (λ e. IsInside place.left place.right (element_key e)) leaf.places.items tree.fits.bounds))
       (each_removed (IsUpTo leaf.mirror) key leaf.places.items (recursion_from_All (IsUpTo leaf.mirror) leaf.places.items tree.sound.mirror))
       (omega (arith, short, tree.sound.count)) tt (takes_leaf place.left place.right key leaf.mirror inside))

@@ -1,5 +1,6 @@
 -- The root of a tree that changed.
-use Rattle.std.proofs.Common.{◌≡◌, Bool, true, false, true≢false, ◌||◌, ℕ, ◌≤◌, inl, inr, List, refl, sym, ap, subst, ◌∙◌, arith, nat_eq, eqb-true, eq-eqb, Some, None, Result, Ok, Err}
+use Rattle.std.proofs.Common.{◌≡◌, Bool, true, false, true≢false, ◌||◌, ℕ, ◌≤◌, inl, inr, List, refl, sym, ap, subst, ◌∙◌, arith, nat_eq}
+use Rattle.std.proofs.Common.{eqb-true, eq-eqb, Some, None, Result, Ok, Err}
 use Rattle.std.specs.Prelude.{Option, IsSome, is_some, IfSome, ⊤}
 use Rattle.hm_types.specs.Elements.{Key}
 use Rattle.hm_types.specs.Faults.{HasFaultCause, HasStoreCause, IsUndamaged}
@@ -31,13 +32,15 @@ use Rattle.hm_btree.proofs.PutLemmas.{put_at, put_other, replaces_put, other_tes
 use Rattle.hm_btree.proofs.ToldLemmas.{Works}
 
 -- pages that are all that a call leaves
-pub whole_after : (olds news : ℕ → Bool) (old new : PageMap) → Replaces olds news old new → ((x : ℕ) → IsSome (old x) → olds x ≡ true) → (x : ℕ) → IsSome (new x) → news x ≡ true
+pub whole_after : (olds news : ℕ → Bool) (old new : PageMap) → Replaces olds news old new
+    → ((x : ℕ) → IsSome (old x) → olds x ≡ true) → (x : ℕ) → IsSome (new x) → news x ≡ true
 whole_after olds news old new replaces all x there = by_test (news x) refl where
   by_test : (b : Bool) → news x ≡ b → b ≡ true
   by_test true is = refl
   by_test false is = let more = replaces.rest x there is in absurd (true≢false (sym (all x more.1) ∙ more.0))
 
-pub spots_after : (olds news : ℕ → Bool) (old new : PageMap) → Replaces olds news old new → ((x : ℕ) → IsSome (old x) → IsSpot x) → (x : ℕ) → IsSome (new x) → IsSpot x
+pub spots_after : (olds news : ℕ → Bool) (old new : PageMap) → Replaces olds news old new → ((x : ℕ) → IsSome (old x) → IsSpot x)
+    → (x : ℕ) → IsSome (new x) → IsSpot x
 spots_after olds news old new replaces all x there = elim (replaces.spots x there) [ inl was ↦ all x was | inr spot ↦ spot ]
 
 pub turned : (a b : ℕ) → nat_eq a b ≡ nat_eq b a
@@ -48,13 +51,17 @@ turned a b = by_test (nat_eq a b) refl where
 
 -- the root's node changed and is written
 module _ (f : List Element → List Element) (key : Key) (marking : Marking) (root : ℕ) (old mid new : PageMap) (after : Node) where
-  pub root_written : IsTreeSpace old root → Changed f key marking (root_place root) (height_of (node_at old root)) old mid (node_at old root) after → HasWritten root after mid new → TreeChanged f key marking old new root root
+  pub root_written : IsTreeSpace old root → Changed f key marking (root_place root) (height_of (node_at old root)) old mid
+      (node_at old root) after → HasWritten root after mid new → TreeChanged f key marking old new root root
   root_written tree change (page, spells, put) =
       let was : Node = node_at old root in
       let h : ℕ = height_of was in
       let itself : reaches old h was root ≡ false = not_below_itself old h (root_place root) was root tree.sound.tree refl in
       let apart : reaches mid h after root ≡ false = not_reached old mid h was after change.pages root tree.sound.there itself in
-      let same : IsSameBelow mid new h after = record { same = λ x is. put_other root page mid new put x (λ one. true≢false (sym is ∙ ap (reaches mid h after) one ∙ apart)) } in
+      let same : IsSameBelow mid new h after = record {
+        same = λ x is. put_other root page mid new put x
+            (λ one. true≢false (sym is ∙ ap (reaches mid h after) one ∙ apart));
+      } in
       let there : new root ≡ Some page = put_at root page mid new put in
       let here : node_at new root ≡ after = ap (λ (o : Option (List ℕ)). node_in (page_in o)) there ∙ spells.value in
       let high : height_of (node_at new root) ≡ h = ap height_of here ∙ omega (arith, change.tree.level) in
@@ -69,10 +76,12 @@ module _ (f : List Element → List Element) (key : Key) (marking : Marking) (ro
         tree = record {
           sound = subst (λ (n : ℕ). IsStoredTree new n (root_place root)) (sym high) (record {
             there = rw there refl;
-            spelled = subst (λ (o : Option (List ℕ)). Spells (page_in o) (node_in (page_in o))) (sym there) (subst (λ (n : Node). Spells page n) (sym spells.value) spells);
+            spelled = subst (λ (o : Option (List ℕ)). Spells (page_in o) (node_in (page_in o))) (sym there)
+                (subst (λ (n : Node). Spells page n) (sym spells.value) spells);
             tree = subst (λ (n : Node). IsTree new h (root_place root) n) (sym here) (frame_tree mid new h (root_place root) after same change.tree);
           });
-          whole = λ x some. ap (λ (b : Bool). b || reaches new (height_of (node_at new root)) (node_at new root) x) (turned x root) ∙ ap (λ (b : Bool). nat_eq root x || b) (reached x)
+          whole = λ x some. ap (λ (b : Bool). b || reaches new (height_of (node_at new root)) (node_at new root) x)
+              (turned x root) ∙ ap (λ (b : Bool). nat_eq root x || b) (reached x)
               ∙ whole_after (λ y. nat_eq root y || reaches old h was y) (λ y. nat_eq root y || reaches mid h after y) old new replaces
               (λ y was_there. ap (λ (b : Bool). b || reaches old h was y) (turned root y) ∙ tree.whole y was_there) x some;
           spots = spots_after (λ y. nat_eq root y || reaches old h was y) (λ y. nat_eq root y || reaches mid h after y) old new replaces tree.spots;
@@ -83,69 +92,91 @@ module _ (f : List Element → List Element) (key : Key) (marking : Marking) (ro
       }
 
 -- the same where the pages are told
-pub root_works : (f : List Element → List Element) (key : Key) (marking : Marking) (root : ℕ) (Needs : Option Element → Type 0) (More : Type 0) (p0 p1 p2 p3 : Option PageMap) (node after : Node)
-    → ((old : PageMap) → IsTreeSpace old root → Needs (element_at key (elements_of old root)) → More → IsInside (root_place root).left (root_place root).right key)
-    → p1 ≡ p0 → IfSome p0 (λ map. StandsHere map (root_place root) node) → Works f key marking Needs More p1 p2 node after → BothTell p2 p3 (HasWritten root after)
-    → ChangesTree f key marking (λ es. Needs (element_at key es)) More p0 p3 root root
-root_works f key marking root Needs More None p1 p2 p3 node after inside same here works written = tt
-root_works f key marking root Needs More (Some old) p1 p2 p3 node after inside same here works written = λ tree needs more.
-    by_pages p2 p3 (subst (λ (p : Option PageMap). Works f key marking Needs More p p2 node after) same works) written tree needs more where
-      by_pages : (p2 p3 : Option PageMap) → Works f key marking Needs More (Some old) p2 node after → BothTell p2 p3 (HasWritten root after) → IsTreeSpace old root → Needs (element_at key (elements_of old root)) → More
+pub root_works : (f : List Element → List Element) (key : Key) (marking : Marking) (root : ℕ) (Needs : Option Element → Type 0)
+    (p0 p1 p2 p3 : Option PageMap) (node after : Node)
+    → ((old : PageMap) → IsTreeSpace old root → Needs (element_at key (elements_of old root)) → IsInside (root_place root).left (root_place root).right key)
+    → p1 ≡ p0 → IfSome p0 (λ map. StandsHere map (root_place root) node) → Works f key marking Needs p1 p2 node after → BothTell p2 p3 (HasWritten root after)
+    → ChangesTree f key marking (λ es. Needs (element_at key es)) p0 p3 root root
+root_works f key marking root Needs None p1 p2 p3 node after inside same here works written = tt
+root_works f key marking root Needs (Some old) p1 p2 p3 node after inside same here works written = λ tree needs.
+    by_pages p2 p3 (subst (λ (p : Option PageMap). Works f key marking Needs p p2 node after) same works) written tree needs where
+      by_pages : (p2 p3 : Option PageMap) → Works f key marking Needs (Some old) p2 node after → BothTell p2 p3
+          (HasWritten root after) → IsTreeSpace old root → Needs (element_at key (elements_of old root))
           → IfSome p3 (λ new. TreeChanged f key marking old new root root)
-      by_pages None None works written tree needs more = tt
-      by_pages None (Some new) works written tree needs more = absurd written
-      by_pages (Some mid) None works written tree needs more = tt
-      by_pages (Some mid) (Some new) works written tree needs more =
+      by_pages None None works written tree needs = tt
+      by_pages None (Some new) works written tree needs = absurd written
+      by_pages (Some mid) None works written tree needs = tt
+      by_pages (Some mid) (Some new) works written tree needs =
           let read : node_at old root ≡ node = (here.spelled tree.sound.there).value in
           let h : ℕ = height_of (node_at old root) in
           let change : Changed f key marking (root_place root) h old mid node after =
-          works (root_place root) h (subst (λ (n : Node). IsTree old h (root_place root) n) read tree.sound.tree) (inside old tree needs more)
-          (subst (λ (n : Node). Needs (element_at key (elements_in old h n))) read needs) more in
-          root_written f key marking root old mid new after tree (subst (λ (n : Node). Changed f key marking (root_place root) h old mid n after) (sym read) change) written
+          works (root_place root) h (subst (λ (n : Node). IsTree old h (root_place root) n) read tree.sound.tree) (inside old tree needs)
+          (subst (λ (n : Node). Needs (element_at key (elements_in old h n))) read needs) in
+          root_written f key marking root old mid new after tree
+          (subst (λ (n : Node). Changed f key marking (root_place root) h old mid n after) (sym read) change) written
 
 -- an element that is there stands inside the boundaries of the whole tree
-pub there_inside : (root : ℕ) (key : Key) (old : PageMap) → IsTreeSpace old root → IsSome (element_at key (elements_of old root)) → IsInside (root_place root).left (root_place root).right key
+pub there_inside : (root : ℕ) (key : Key) (old : PageMap) → IsTreeSpace old root → IsSome (element_at key (elements_of old root))
+    → IsInside (root_place root).left (root_place root).right key
 there_inside root key old tree there =
     let some = element_each (λ e. IsInside (root_place root).left (root_place root).right (element_key e)) key (elements_of old root)
     (elements_inside old (height_of (node_at old root)) (root_place root) (node_at old root) tree.sound.tree) there in
     subst (λ (k : Key). IsInside (root_place root).left (root_place root).right k) some.1 some.2
 
 -- the cause of each fault, where damage is told of what stands below the root alone
-root_cause : {T : Type 0} (told : Option PageMap) (root old new : ℕ) (fault : Fault) → HasFaultCause {T = T} old new (Err fault) → IfSome told (λ map. IsFaultBelow map (root_place root) fault) → HasTreeCause {T = T} told root old new (Err fault)
+root_cause : {T : Type 0} (told : Option PageMap) (root old new : ℕ) (fault : Fault) → HasFaultCause {T = T} old new (Err fault)
+    → IfSome told (λ map. IsFaultBelow map (root_place root) fault) → HasTreeCause {T = T} told root old new (Err fault)
 root_cause told root old new fault counted damage = record { counted = counted; damage = damage; undamaged = if_told told damage } where
   if_told : (o : Option PageMap) → IfSome o (λ map. IsFaultBelow map (root_place root) fault) → IfSome o (λ map. IsSoundTree map root → IsUndamaged fault)
   if_told None damage = tt
   if_told (Some map) damage = λ sound. sound_undamaged map (height_of (node_at map root)) (root_place root) fault sound damage
 
 -- of the first read, of one further down, and of a write
-pub root_cause_read : {T : Type 0} (told : Option PageMap) (root old new : ℕ) (s : Subtree) (fault : Fault) → s ≡ root_place root → HasFaultCause {T = Node} old new (Err fault) → IfSome told (λ map. TellsDamage s (map s.at) fault) → HasTreeCause {T = T} told root old new (Err fault)
+pub root_cause_read : {T : Type 0} (told : Option PageMap) (root old new : ℕ) (s : Subtree) (fault : Fault) → s ≡ root_place root
+    → HasFaultCause {T = Node} old new (Err fault) → IfSome told (λ map. TellsDamage s (map s.at) fault) → HasTreeCause {T = T} told root old new (Err fault)
 root_cause_read told root old new s fault is counted damage =
     root_cause told root old new fault (record { never_falls = counted.never_falls; caused = counted.caused })
     (if_told told (subst (λ (t : Subtree). IfSome told (λ map. TellsDamage t (map t.at) fault)) is damage)) where
-      if_told : (o : Option PageMap) → IfSome o (λ map. TellsDamage (root_place root) (map root) fault) → IfSome o (λ map. IsFaultBelow map (root_place root) fault)
+      if_told : (o : Option PageMap) → IfSome o (λ map. TellsDamage (root_place root) (map root) fault)
+          → IfSome o (λ map. IsFaultBelow map (root_place root) fault)
       if_told None damage = tt
       if_told (Some map) damage = fault_here map (root_place root) fault damage
 
-pub root_cause_below : {T U : Type 0} (told now : Option PageMap) (root old mid new : ℕ) (s : Subtree) (node : Node) (fault : Fault) → s ≡ root_place root → now ≡ told → old ≤ mid → IfSome told (λ map. StandsHere map s node)
+pub root_cause_below : {T U : Type 0} (told now : Option PageMap) (root old mid new : ℕ) (s : Subtree) (node : Node)
+    (fault : Fault) → s ≡ root_place root → now ≡ told → old ≤ mid → IfSome told (λ map. StandsHere map s node)
     → HasEditCause {T = T} now node mid new (Err fault) → HasTreeCause {T = U} told root old new (Err fault)
 root_cause_below told now root old mid new s node fault is same low here cause =
-    root_cause told root old new fault (record { never_falls = omega (arith, cause.counted.never_falls); caused = caused_since old mid new fault low cause.counted.caused })
-    (if_told told (subst (λ (t : Subtree). IfSome told (λ map. StandsHere map t node)) is here) (subst (λ (o : Option PageMap). IfSome o (λ map. (place : Subtree) → StandsHere map place node → IsFaultBelow map place fault)) same cause.damage)) where
-      if_told : (o : Option PageMap) → IfSome o (λ map. StandsHere map (root_place root) node) → IfSome o (λ map. (place : Subtree) → StandsHere map place node → IsFaultBelow map place fault) → IfSome o (λ map. IsFaultBelow map (root_place root) fault)
+    root_cause told root old new fault (record {
+      never_falls = omega (arith, cause.counted.never_falls);
+      caused =
+          caused_since old mid new fault low cause.counted.caused;
+    })
+    (if_told told (subst (λ (t : Subtree). IfSome told (λ map. StandsHere map t node)) is here)
+    (subst (λ (o : Option PageMap). IfSome o (λ map. (place : Subtree) → StandsHere map place node
+    → IsFaultBelow map place fault)) same cause.damage)) where
+      if_told : (o : Option PageMap) → IfSome o (λ map. StandsHere map (root_place root) node)
+          → IfSome o (λ map. (place : Subtree) → StandsHere map place node → IsFaultBelow map place fault)
+          → IfSome o (λ map. IsFaultBelow map (root_place root) fault)
       if_told None here more = tt
       if_told (Some map) here more = more (root_place root) here
 
-pub root_cause_write : {T : Type 0} (told mid : Option PageMap) (root old middle new : ℕ) (result : Result T Fault) → is_some mid ≡ is_some told → old ≤ middle → HasStoreCause mid middle new result → HasTreeCause told root old new result
-root_cause_write told mid root old middle new (Ok x) same low cause = record { counted = record { never_falls = omega (arith, low, cause.counted.never_falls); caused = tt }; damage = none told; undamaged = sound told } where
-  none : (o : Option PageMap) → IfSome o (λ map. ⊤)
-  none None = tt
-  none (Some map) = tt
+pub root_cause_write : {T : Type 0} (told mid : Option PageMap) (root old middle new : ℕ) (result : Result T Fault)
+    → is_some mid ≡ is_some told → old ≤ middle → HasStoreCause mid middle new result → HasTreeCause told root old new result
+root_cause_write told mid root old middle new (Ok x) same low cause =
+    record { counted = record { never_falls = omega (arith, low, cause.counted.never_falls); caused = tt }; damage = none told; undamaged = sound told } where
+      none : (o : Option PageMap) → IfSome o (λ map. ⊤)
+      none None = tt
+      none (Some map) = tt
 
-  sound : (o : Option PageMap) → IfSome o (λ map. IsSoundTree map root → ⊤)
-  sound None = tt
-  sound (Some map) = λ is. tt
+      sound : (o : Option PageMap) → IfSome o (λ map. IsSoundTree map root → ⊤)
+      sound None = tt
+      sound (Some map) = λ is. tt
 root_cause_write {T = T} told mid root old middle new (Err fault) same low cause =
-    root_cause {T = T} told root old new fault (record { never_falls = omega (arith, low, cause.counted.never_falls); caused = caused_since old middle new fault low cause.counted.caused }) (if_told told mid same cause.undamaged) where
+    root_cause {T = T} told root old new fault (record {
+      never_falls = omega (arith, low, cause.counted.never_falls);
+      caused =
+          caused_since old middle new fault low cause.counted.caused;
+    }) (if_told told mid same cause.undamaged) where
       if_told : (o p : Option PageMap) → is_some p ≡ is_some o → IfSome p (λ _. IsUndamaged fault) → IfSome o (λ map. IsFaultBelow map (root_place root) fault)
       if_told None p same is = tt
       if_told (Some map) None same is = absurd (true≢false (sym same))

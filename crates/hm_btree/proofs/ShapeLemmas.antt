@@ -1,5 +1,6 @@
 -- Each edit of a node keeps its shape, also over pages that are not told.
-use Rattle.std.proofs.Common.{◌≡◌, true≢false, ℕ, zero, suc, ◌+◌, ◌<◌, ◌≤◌, List, [], ◌∷◌, ◌++◌, length, take, drop, insert, remove, refl, sym, ap, subst, ◌∙◌, arith, max, Some, None, length-take, length-drop, length-set, length-append}
+use Rattle.std.proofs.Common.{◌≡◌, true≢false, ℕ, zero, suc, ◌+◌, ◌<◌, ◌≤◌, List, [], ◌∷◌, ◌++◌, length, take, drop, insert, remove, refl}
+use Rattle.std.proofs.Common.{sym, ap, subst, ◌∙◌, arith, max, Some, None, length-take, length-drop, length-set, length-append}
 use Rattle.std.specs.Prelude.{Option, IsSome, slice_get, slice_set, slice_index_or}
 use Rattle.std.specs.List.{AllByRecursion}
 use Rattle.std.specs.List.Sorted.{IsStrictlySortedBy}
@@ -58,7 +59,8 @@ module _ {A : Type 0} (P : A → Type 0) where
   each_remove : (i : ℕ) (xs : List A) → AllByRecursion P xs → AllByRecursion P (remove xs i)
   each_remove i xs each = each_append P (take i xs) (drop (suc i) xs) (each_take i xs each) (each_drop (suc i) xs each)
 
-  each_set : (f : A → A) (d : A) (i : ℕ) (xs : List A) → ((x : A) → P x → P (f x)) → AllByRecursion P xs → AllByRecursion P (slice_set xs i (f (slice_index_or xs i d)))
+  each_set : (f : A → A) (d : A) (i : ℕ) (xs : List A) → ((x : A) → P x → P (f x)) → AllByRecursion P xs → AllByRecursion P
+      (slice_set xs i (f (slice_index_or xs i d)))
   each_set f d i [] keeps each = tt
   each_set f d zero (x ∷ xs) keeps each = (keeps x each.0, each.1)
   each_set f d (suc i) (x ∷ xs) keeps each = (each.0, each_set f d i xs keeps each.1)
@@ -67,8 +69,14 @@ module _ {A : Type 0} (P : A → Type 0) where
 pub leaf_shaped : (mirror : ℕ) (es : List Element) → length es ≤ 63 → AllByRecursion IsPlaced es → IsShaped (leaf_node (leaf_of mirror es))
 leaf_shaped mirror es few each = record { level = tt; count = few; fields = All-from_recursion IsPlaced es each }
 
-pub inner_shaped : (level mirror : ℕ) (cs : List Child) (right : Base) → (2 ≤ level) × (level ≤ 9) → 1 ≤ length cs → length cs ≤ 62 → AllByRecursion IsChild cs → IsBound right → IsShaped (inner_node (inner_of level mirror cs right))
-inner_shaped level mirror cs right within some few each bound = record { level = within; count = (some, few); fields = record { children = All-from_recursion IsChild cs each; right = bound } }
+pub inner_shaped : (level mirror : ℕ) (cs : List Child) (right : Base) → (2 ≤ level) × (level ≤ 9) → 1 ≤ length cs
+    → length cs ≤ 62 → AllByRecursion IsChild cs → IsBound right → IsShaped (inner_node (inner_of level mirror cs right))
+inner_shaped level mirror cs right within some few each bound = record {
+  level = within;
+  count = (some, few);
+  fields =
+      record { children = All-from_recursion IsChild cs each; right = bound };
+}
 
 -- the places of a shaped node
 elements_each : (leaf : Leaf) → IsShaped (leaf_node leaf) → AllByRecursion IsPlaced leaf.places.items
@@ -78,7 +86,8 @@ children_each : (inner : Inner) → IsShaped (inner_node inner) → AllByRecursi
 children_each inner shape = recursion_from_All IsChild inner.places.items shape.fields.children
 
 -- where the child of a node stands, a node may stand
-pub child_offset : (node : Node) (inner : Inner) (i : ℕ) (s : Subtree) → IsShaped node → node ≡ inner_node inner → slice_get (children_of inner) i ≡ Some s → IsNodeOffset s.at
+pub child_offset : (node : Node) (inner : Inner) (i : ℕ) (s : Subtree) → IsShaped node → node ≡ inner_node inner
+    → slice_get (children_of inner) i ≡ Some s → IsNodeOffset s.at
 child_offset node inner i s shape is at =
     let there = place_is inner.level inner.right inner.places.items i s at in
     let child = each_get IsChild inner.places.items i there.child there.is (children_each inner (subst (λ (n : Node). IsShaped n) is shape)) in
@@ -94,7 +103,8 @@ left_bound [] right each bound = bound
 left_bound (c ∷ cs) right each bound = each.0.left
 
 -- a leaf that was to have these elements, and its upper part
-pub leaf_becomes : (mirror : ℕ) (es : List Element) (leaf : Leaf) (upper : Option Upper) → AllByRecursion IsPlaced es → LeafBecomes mirror es leaf upper → AreShaped (leaf_node leaf) upper
+pub leaf_becomes : (mirror : ℕ) (es : List Element) (leaf : Leaf) (upper : Option Upper) → AllByRecursion IsPlaced es
+    → LeafBecomes mirror es leaf upper → AreShaped (leaf_node leaf) upper
 leaf_becomes mirror es leaf None each becomes = record {
   shape = subst (λ (l : Leaf). IsShaped (leaf_node l)) (sym becomes.0) (leaf_shaped mirror es becomes.1 each);
   above = tt;
@@ -103,15 +113,18 @@ leaf_becomes mirror es leaf (Some upper) each becomes =
     let low = length-take 32 es in
     let high = length-drop 32 es in
     record {
-      shape = subst (λ (l : Leaf). IsShaped (leaf_node l)) (sym becomes.0) (leaf_shaped mirror (take 32 es) (omega (arith, low, becomes.3)) (each_take IsPlaced 32 es each));
+      shape = subst (λ (l : Leaf). IsShaped (leaf_node l)) (sym becomes.0) (leaf_shaped mirror (take 32 es)
+          (omega (arith, low, becomes.3)) (each_take IsPlaced 32 es each));
       above = record {
-        node = subst (λ (n : Node). IsShaped n) (sym becomes.1) (leaf_shaped mirror (drop 32 es) (omega (arith, high, becomes.3)) (each_drop IsPlaced 32 es each));
+        node = subst (λ (n : Node). IsShaped n) (sym becomes.1) (leaf_shaped mirror (drop 32 es) (omega (arith, high, becomes.3))
+            (each_drop IsPlaced 32 es each));
         left = first_bound (drop 32 es) upper.left becomes.2;
       };
     }
 
 -- the same of an inner node
-pub inner_becomes : (level mirror : ℕ) (cs : List Child) (right : Base) (inner : Inner) (upper : Option Upper) → (2 ≤ level) × (level ≤ 9) → 1 ≤ length cs → AllByRecursion IsChild cs → IsBound right
+pub inner_becomes : (level mirror : ℕ) (cs : List Child) (right : Base) (inner : Inner) (upper : Option Upper) → (2 ≤ level)
+    × (level ≤ 9) → 1 ≤ length cs → AllByRecursion IsChild cs → IsBound right
     → InnerBecomes level mirror cs right inner upper → AreShaped (inner_node inner) upper
 inner_becomes level mirror cs right inner None within some each bound becomes = record {
   shape = subst (λ (n : Inner). IsShaped (inner_node n)) (sym becomes.0) (inner_shaped level mirror cs right within some becomes.1 each bound);
@@ -123,56 +136,78 @@ inner_becomes level mirror cs right inner (Some upper) within some each bound be
     let left = left_bound (drop 32 cs) right (each_drop IsChild 32 cs each) bound in
     record {
       shape = subst (λ (n : Inner). IsShaped (inner_node n)) (sym becomes.0)
-          (inner_shaped level mirror (take 32 cs) (left_of (drop 32 cs) right) within (omega (arith, low, becomes.3)) (omega (arith, low, becomes.3)) (each_take IsChild 32 cs each) left);
+          (inner_shaped level mirror (take 32 cs) (left_of (drop 32 cs) right) within (omega (arith, low, becomes.3))
+          (omega (arith, low, becomes.3)) (each_take IsChild 32 cs each) left);
       above = record {
-        node = subst (λ (n : Node). IsShaped n) (sym becomes.1) (inner_shaped level mirror (drop 32 cs) right within (omega (arith, high, becomes.3)) (omega (arith, high, becomes.3)) (each_drop IsChild 32 cs each) bound);
+        node = subst (λ (n : Node). IsShaped n) (sym becomes.1) (inner_shaped level mirror (drop 32 cs) right within
+            (omega (arith, high, becomes.3)) (omega (arith, high, becomes.3)) (each_drop IsChild 32 cs each) bound);
         left = subst (λ (b : Base). IsBound b) (sym becomes.2) left;
       };
     }
 
 -- as many children as before
-pub count_kept : (f : Child → Child) (before after : Inner) (i : ℕ) → ChildChange f before.places.items i after.places.items → length after.places.items ≡ length before.places.items
+pub count_kept : (f : Child → Child) (before after : Inner) (i : ℕ) → ChildChange f before.places.items i after.places.items
+    → length after.places.items ≡ length before.places.items
 count_kept f before after i items =
     let d : Child = record { left = before.right; child = 0; mirror = 0 } in
     ap length (items d) ∙ length-set before.places.items i (f (slice_index_or before.places.items i d))
 
 -- a child changed, which may still stand there
 module _ (f : Child → Child) (before after : Inner) (i : ℕ) (keeps : (c : Child) → IsChild c → IsChild (f c)) where
-  pub child_shaped : IsShaped (inner_node before) → after.level ≡ before.level → ChildChange f before.places.items i after.places.items → after.right ≡ before.right → IsShaped (inner_node after)
+  pub child_shaped : IsShaped (inner_node before) → after.level ≡ before.level → ChildChange f before.places.items i
+      after.places.items → after.right ≡ before.right → IsShaped (inner_node after)
   child_shaped shape level items right =
       let d : Child = record { left = before.right; child = 0; mirror = 0 } in
       let long = count_kept f before after i items in
-      let each = subst (λ (cs : List Child). AllByRecursion IsChild cs) (sym (items d)) (each_set IsChild f d i before.places.items keeps (children_each before shape)) in
+      let each = subst (λ (cs : List Child). AllByRecursion IsChild cs) (sym (items d))
+      (each_set IsChild f d i before.places.items keeps (children_each before shape)) in
       record {
         level = subst (λ (n : ℕ). (2 ≤ n) × (n ≤ 9)) (sym level) shape.level;
         count = (omega (arith, long, shape.count.0), omega (arith, long, shape.count.1));
-        fields = record { children = All-from_recursion IsChild after.places.items each; right = subst (λ (b : Base). IsBound b) (sym right) shape.fields.right };
+        fields = record {
+          children = All-from_recursion IsChild after.places.items each;
+          right = subst (λ (b : Base). IsBound b)
+              (sym right) shape.fields.right;
+        };
       }
 
-pub mirror_shaped : (before after : Inner) (i mirror : ℕ) → IsShaped (inner_node before) → after.level ≡ before.level → ChildChange (with_mirror mirror) before.places.items i after.places.items → after.right ≡ before.right → IsShaped (inner_node after)
+pub mirror_shaped : (before after : Inner) (i mirror : ℕ) → IsShaped (inner_node before) → after.level ≡ before.level
+    → ChildChange (with_mirror mirror) before.places.items i after.places.items → after.right ≡ before.right → IsShaped (inner_node after)
 mirror_shaped before after i mirror = child_shaped (with_mirror mirror) before after i (λ c is. record { left = is.left; child = is.child })
 
-pub left_shaped : (before after : Inner) (i : ℕ) (left : Base) → IsBound left → IsShaped (inner_node before) → after.level ≡ before.level → ChildChange (with_left left) before.places.items i after.places.items → after.right ≡ before.right → IsShaped (inner_node after)
+pub left_shaped : (before after : Inner) (i : ℕ) (left : Base) → IsBound left → IsShaped (inner_node before)
+    → after.level ≡ before.level → ChildChange (with_left left) before.places.items i after.places.items
+    → after.right ≡ before.right → IsShaped (inner_node after)
 left_shaped before after i left bound = child_shaped (with_left left) before after i (λ c is. record { left = bound; child = is.child })
 
 -- a place was taken out
-pub removed_leaf_shaped : (before after : Leaf) (i : ℕ) → i < length before.places.items → IsShaped (leaf_node before) → after ≡ leaf_of before.mirror (remove before.places.items i) → IsShaped (leaf_node after)
+pub removed_leaf_shaped : (before after : Leaf) (i : ℕ) → i < length before.places.items → IsShaped (leaf_node before)
+    → after ≡ leaf_of before.mirror (remove before.places.items i) → IsShaped (leaf_node after)
 removed_leaf_shaped before after i low shape is =
     let long = length-remove before.places.items i low in
-    subst (λ (l : Leaf). IsShaped (leaf_node l)) (sym is) (leaf_shaped before.mirror (remove before.places.items i) (omega (arith, long, shape.count)) (each_remove IsPlaced i before.places.items (elements_each before shape)))
+    subst (λ (l : Leaf). IsShaped (leaf_node l)) (sym is) (leaf_shaped before.mirror (remove before.places.items i)
+    (omega (arith, long, shape.count)) (each_remove IsPlaced i before.places.items (elements_each before shape)))
 
-pub removed_child_shaped : (before after : Inner) (i : ℕ) → i < length before.places.items → 2 ≤ length before.places.items → IsShaped (inner_node before) → after ≡ inner_of before.level before.mirror (remove before.places.items i) before.right → IsShaped (inner_node after)
+pub removed_child_shaped : (before after : Inner) (i : ℕ) → i < length before.places.items → 2 ≤ length before.places.items
+    → IsShaped (inner_node before) → after ≡ inner_of before.level before.mirror (remove before.places.items i) before.right → IsShaped (inner_node after)
 removed_child_shaped before after i low many shape is =
     let long = length-remove before.places.items i low in
     subst (λ (n : Inner). IsShaped (inner_node n)) (sym is)
-    (inner_shaped before.level before.mirror (remove before.places.items i) before.right shape.level (omega (arith, long, many)) (omega (arith, long, shape.count.1)) (each_remove IsChild i before.places.items (children_each before shape)) shape.fields.right)
+    (inner_shaped before.level before.mirror (remove before.places.items i) before.right shape.level (omega (arith, long, many))
+    (omega (arith, long, shape.count.1)) (each_remove IsChild i before.places.items (children_each before shape)) shape.fields.right)
 
 -- the element at a key changed as it may
-placed_after : (key : Key) (change : Change) (es : List Element) → MayChange key change → IsStrictlySortedBy element_cmp es → AllByRecursion IsPlaced es → AllByRecursion IsPlaced (with_change key change es)
+placed_after : (key : Key) (change : Change) (es : List Element) → MayChange key change → IsStrictlySortedBy element_cmp es
+    → AllByRecursion IsPlaced es → AllByRecursion IsPlaced (with_change key change es)
 placed_after key change es may rising each =
-    let content : IsContent es = record { rising = rising; each = All-from_recursion IsElement es (each_so IsPlaced IsElement es (λ e is. is.element) each) } in
+    let content : IsContent es = record {
+      rising = rising;
+      each = All-from_recursion IsElement es
+          (each_so IsPlaced IsElement es (λ e is. is.element) each);
+    } in
     let elements = recursion_from_All IsElement (with_change key change es) (kept change may content).each in
-    let offsets = each_changed (λ e. IsOffset e.payload) key (change_of change) es (λ e stands is. offset change e may is) (each_so IsPlaced (λ e. IsOffset e.payload) es (λ e is. is.payload) each) in
+    let offsets = each_changed (λ e. IsOffset e.payload) key (change_of change) es (λ e stands is. offset change e may is)
+    (each_so IsPlaced (λ e. IsOffset e.payload) es (λ e is. is.payload) each) in
     each_so (λ e. IsElement e × IsOffset e.payload) IsPlaced (with_change key change es) (λ e both. record { element = both.0; payload = both.1 })
     (each_both IsElement (λ e. IsOffset e.payload) (with_change key change es) elements offsets) where
       kept : (c : Change) → MayChange key c → IsContent es → IsContent (with_change key c es)
@@ -183,15 +218,19 @@ placed_after key change es may rising each =
       offset (Close delete) e may is = is
       offset (Move to) e may is = may
 
-pub element_shaped : (key : Key) (change : Change) (before after : Leaf) (i : ℕ) → MayChange key change → IsNode (leaf_node before) → IsSome (element_at key before.places.items) → i ≡ leading key before.places.items
+pub element_shaped : (key : Key) (change : Change) (before after : Leaf) (i : ℕ) → MayChange key change
+    → IsNode (leaf_node before) → IsSome (element_at key before.places.items) → i ≡ leading key before.places.items
     → ElementChange (change_of change) before.places.items i after.places.items → IsShaped (leaf_node after)
 element_shaped key change before after i may sound there at changes = by_list before.places.items refl there where
   by_list : (es : List Element) → before.places.items ≡ es → IsSome (element_at key es) → IsShaped (leaf_node after)
   by_list [] same some = absurd (true≢false (sym some))
   by_list (d ∷ es) same some =
-      let is : IsPlace key before.places.items i = subst (λ (n : ℕ). IsPlace key before.places.items n) (sym at) (leading_place key before.places.items sound.order there) in
-      let items : after.places.items ≡ with_change key change before.places.items = changes d ∙ sym (changed-place key (change_of change) d before.places.items i is) in
-      let long : length after.places.items ≡ length before.places.items = ap length (changes d) ∙ length-set before.places.items i (change_of change (slice_index_or before.places.items i d)) in
+      let is : IsPlace key before.places.items i = subst (λ (n : ℕ). IsPlace key before.places.items n) (sym at)
+      (leading_place key before.places.items sound.order there) in
+      let items : after.places.items ≡ with_change key change before.places.items = changes d
+      ∙ sym (changed-place key (change_of change) d before.places.items i is) in
+      let long : length after.places.items ≡ length before.places.items = ap length (changes d) ∙ length-set before.places.items i
+      (change_of change (slice_index_or before.places.items i d)) in
       let each = placed_after key change before.places.items may sound.order (recursion_from_All IsPlaced before.places.items sound.fields) in
       record {
         level = tt;
@@ -200,21 +239,27 @@ element_shaped key change before after i may sound there at changes = by_list be
       }
 
 -- what an insertion leaves
-pub inserted_shaped : (node : Node) (leaf after : Leaf) (e : Element) (mirror : ℕ) (upper : Option Upper) → IsNode node → node ≡ leaf_node leaf → IsPlaced e → LeafBecomes mirror (inserted e leaf.places.items) after upper → AreShaped (leaf_node after) upper
+pub inserted_shaped : (node : Node) (leaf after : Leaf) (e : Element) (mirror : ℕ) (upper : Option Upper) → IsNode node
+    → node ≡ leaf_node leaf → IsPlaced e → LeafBecomes mirror (inserted e leaf.places.items) after upper → AreShaped (leaf_node after) upper
 inserted_shaped node leaf after e mirror upper sound is placed becomes =
-    leaf_becomes mirror (inserted e leaf.places.items) after upper (each_inserted IsPlaced e leaf.places.items placed (elements_each leaf (subst (λ (n : Node). IsShaped n) is (node_shaped node sound)))) becomes
+    leaf_becomes mirror (inserted e leaf.places.items) after upper (each_inserted IsPlaced e leaf.places.items placed
+    (elements_each leaf (subst (λ (n : Node). IsShaped n) is (node_shaped node sound)))) becomes
 
-pub beside_shaped : (mirror at : ℕ) (child : Child) (inner after : Inner) (upper : Option Upper) → IsShaped (inner_node inner) → IsChild child → at ≤ length inner.places.items
+pub beside_shaped : (mirror at : ℕ) (child : Child) (inner after : Inner) (upper : Option Upper) → IsShaped (inner_node inner)
+    → IsChild child → at ≤ length inner.places.items
     → InnerBecomes inner.level mirror (insert inner.places.items at child) inner.right after upper → AreShaped (inner_node after) upper
 beside_shaped mirror at child inner after upper shape is low becomes =
     let long = length-insert inner.places.items at child low in
-    inner_becomes inner.level mirror (insert inner.places.items at child) inner.right after upper shape.level (omega (arith, long)) (each_insert IsChild at child inner.places.items is (children_each inner shape)) shape.fields.right becomes
+    inner_becomes inner.level mirror (insert inner.places.items at child) inner.right after upper shape.level
+    (omega (arith, long)) (each_insert IsChild at child inner.places.items is (children_each inner shape)) shape.fields.right becomes
 
 -- what neighbours become that are joined
-leaves_shaped : (a b lower : Leaf) (upper : Option Upper) → IsShaped (leaf_node a) → IsShaped (leaf_node b) → JoinsLeaves a b lower upper → AreShaped (leaf_node lower) upper
+leaves_shaped : (a b lower : Leaf) (upper : Option Upper) → IsShaped (leaf_node a) → IsShaped (leaf_node b)
+    → JoinsLeaves a b lower upper → AreShaped (leaf_node lower) upper
 leaves_shaped a b lower None first second joins = record {
   shape = subst (λ (l : Leaf). IsShaped (leaf_node l)) (sym joins.0)
-      (leaf_shaped (max a.mirror b.mirror) (a.places.items ++ b.places.items) joins.1 (each_append IsPlaced a.places.items b.places.items (elements_each a first) (elements_each b second)));
+      (leaf_shaped (max a.mirror b.mirror) (a.places.items ++ b.places.items) joins.1
+      (each_append IsPlaced a.places.items b.places.items (elements_each a first) (elements_each b second)));
   above = tt;
 }
 leaves_shaped a b lower (Some upper) first second joins =
@@ -225,14 +270,17 @@ leaves_shaped a b lower (Some upper) first second joins =
     let low = length-take count all in
     let high = length-drop count all in
     record {
-      shape = subst (λ (l : Leaf). IsShaped (leaf_node l)) (sym joins.0) (leaf_shaped _ (take count all) (omega (arith, long, low, first.count, second.count)) (each_take IsPlaced count all each));
+      shape = subst (λ (l : Leaf). IsShaped (leaf_node l)) (sym joins.0) (leaf_shaped _ (take count all)
+          (omega (arith, long, low, first.count, second.count)) (each_take IsPlaced count all each));
       above = record {
-        node = subst (λ (n : Node). IsShaped n) (sym joins.1) (leaf_shaped _ (drop count all) (omega (arith, long, high, first.count, second.count)) (each_drop IsPlaced count all each));
+        node = subst (λ (n : Node). IsShaped n) (sym joins.1) (leaf_shaped _ (drop count all)
+            (omega (arith, long, high, first.count, second.count)) (each_drop IsPlaced count all each));
         left = first_bound (drop count all) upper.left joins.2;
       };
     }
 
-inners_shaped : (a b lower : Inner) (upper : Option Upper) → IsShaped (inner_node a) → IsShaped (inner_node b) → JoinsInners a b lower upper → AreShaped (inner_node lower) upper
+inners_shaped : (a b lower : Inner) (upper : Option Upper) → IsShaped (inner_node a) → IsShaped (inner_node b)
+    → JoinsInners a b lower upper → AreShaped (inner_node lower) upper
 inners_shaped a b lower None first second joins =
     let long = length-append a.places.items b.places.items in
     record {
@@ -251,10 +299,12 @@ inners_shaped a b lower (Some upper) first second joins =
     let left = left_bound (drop count all) a.right (each_drop IsChild count all each) first.fields.right in
     record {
       shape = subst (λ (n : Inner). IsShaped (inner_node n)) (sym joins.0)
-          (inner_shaped a.level _ (take count all) (left_of (drop count all) a.right) first.level (omega (arith, long, low, joins.3)) (omega (arith, long, low, first.count.1, second.count.1)) (each_take IsChild count all each) left);
+          (inner_shaped a.level _ (take count all) (left_of (drop count all) a.right) first.level
+          (omega (arith, long, low, joins.3)) (omega (arith, long, low, first.count.1, second.count.1)) (each_take IsChild count all each) left);
       above = record {
         node = subst (λ (n : Node). IsShaped n) (sym joins.1)
-            (inner_shaped b.level _ (drop count all) b.right second.level (omega (arith, long, high, joins.3)) (omega (arith, long, high, first.count.1, second.count.1)) (each_drop IsChild count all each) second.fields.right);
+            (inner_shaped b.level _ (drop count all) b.right second.level (omega (arith, long, high, joins.3))
+            (omega (arith, long, high, first.count.1, second.count.1)) (each_drop IsChild count all each) second.fields.right);
         left = subst (λ (b : Base). IsBound b) (sym joins.2) left;
       };
     }
@@ -268,7 +318,8 @@ joins_shaped (inner_node a) (inner_node b) (leaf_node lower) upper first second 
 joins_shaped (inner_node a) (inner_node b) (inner_node lower) upper first second joins = inners_shaped a b lower upper first second joins
 
 -- the root above two nodes
-pub top_shaped : (place : Subtree) (lower : Node) (upper : Upper) (at : ℕ) → IsNodeOffset place.at → IsBound place.left → IsBound place.right → IsShaped lower → IsShapedUpper upper → IsNodeOffset at → level_of lower ≤ 8 → IsShaped (top_of place lower upper at)
+pub top_shaped : (place : Subtree) (lower : Node) (upper : Upper) (at : ℕ) → IsNodeOffset place.at → IsBound place.left
+    → IsBound place.right → IsShaped lower → IsShapedUpper upper → IsNodeOffset at → level_of lower ≤ 8 → IsShaped (top_of place lower upper at)
 top_shaped place lower upper at here left right shape above there high =
     let low : 1 ≤ level_of lower = from_one lower shape.level in
     inner_shaped (level_of lower + 1) _ _ place.right (omega (arith, low), omega (arith, high)) (omega arith) (omega arith)
@@ -279,4 +330,13 @@ top_shaped place lower upper at here left right shape above there high =
 
 -- the boundaries of the whole tree
 pub root_bounds : (root : ℕ) → IsBound (root_place root).left × IsBound (root_place root).right
-root_bounds root = (record { key = refl; not_closed = refl; no_kind = refl; btype = refl }, record { key = refl; not_closed = refl; no_kind = refl; btype = refl })
+root_bounds root = (
+  record { key = refl; not_closed = refl; no_kind = refl; btype = refl },
+  record {
+    key = refl;
+    not_closed =
+        refl;
+    no_kind = refl;
+    btype = refl;
+  },
+)

@@ -59,26 +59,34 @@ module _ (place : Subtree) (height level mirror : ℕ) (right : Base) (old : Pag
     pub lower_inside : (key : Key) → IsInside a.left b.left key → IsInside a.left (next_left right post) key
     lower_inside key inside = record {
       from = inside.from;
-      before = before_before key (key_of b.left) (key_of (next_left right post)) inside.before (rising_next (next_left right post) b [] (rising_rest (next_left right post) a (b ∷ []) pair_rising));
+      before = before_before key (key_of b.left) (key_of (next_left right post)) inside.before
+          (rising_next (next_left right post) b [] (rising_rest (next_left right post) a (b ∷ []) pair_rising));
     }
 
     pub upper_inside : (key : Key) → IsInside b.left (next_left right post) key → IsInside a.left (next_left right post) key
     upper_inside key inside = record {
-      from = from_trans (key_of a.left) (key_of b.left) key (key_from_before (key_of a.left) (key_of b.left) (rising_next (next_left right post) a (b ∷ []) pair_rising)) inside.from;
+      from = from_trans (key_of a.left) (key_of b.left) key (key_from_before (key_of a.left) (key_of b.left)
+          (rising_next (next_left right post) a (b ∷ []) pair_rising)) inside.from;
       before = inside.before;
     }
 
     -- they became one or two children
-    pub rejoined_parent : (f : List Element → List Element) (key : Key) (marking : Marking) (more : ℕ) (new : PageMap) (after : List Child) → IsLocal f key → IsInside a.left (next_left right post) key
-        → ChangedUnder f key marking level (next_left right post) height old new (a ∷ b ∷ []) after → 1 ≤ length after → length after ≤ 2 → AllByRecursion (λ d. d.mirror ≤ more) after → mirror ≤ more
+    pub rejoined_parent : (f : List Element → List Element) (key : Key) (marking : Marking) (more : ℕ) (new : PageMap)
+        (after : List Child) → IsLocal f key → IsInside a.left (next_left right post) key
+        → ChangedUnder f key marking level (next_left right post) height old new (a ∷ b ∷ []) after → 1 ≤ length after
+        → length after ≤ 2 → AllByRecursion (λ d. d.mirror ≤ more) after → mirror ≤ more
         → Changed f key marking (loose place) (suc height) old new pair_whole (inner_node (inner_of level more (pre ++ (after ++ post)) right))
     rejoined_parent f key marking more new [] local inside change some few mirrors up = absurd (omega arith)
     rejoined_parent f key marking more new (c ∷ cs) local inside change some few mirrors up =
-        let all = changed_within f key marking level right height old new local a c (b ∷ []) cs post pre pair_children tree.sound.order tree.below inside.from inside.before change in
+        let all = changed_within f key marking level right height old new local a c (b ∷ []) cs post pre pair_children
+        tree.sound.order tree.below inside.from inside.before change in
         let was : length (pre ++ a ∷ b ∷ post) ≡ length pre + suc (suc (length post)) = length-append pre (a ∷ b ∷ post) in
-        let now : length (pre ++ c ∷ (cs ++ post)) ≡ length pre + suc (length cs + length post) = length-append pre (c ∷ (cs ++ post)) ∙ ap (λ (n : ℕ). length pre + suc n) (length-append cs post) in
-        changed_above f key marking (loose place) height old new level mirror more right (pre ++ a ∷ b ∷ post) (pre ++ c ∷ (cs ++ post)) (loose_tree old (suc height) place pair_whole tree) all
-        (All-from_recursion (λ d. d.mirror ≤ more) (pre ++ c ∷ (cs ++ post)) each_mirror) (omega (arith, now)) (omega (arith, was, now, few, tree.sound.count.1)) tt where
+        let now : length (pre ++ c ∷ (cs ++ post)) ≡ length pre + suc (length cs + length post) = length-append pre
+        (c ∷ (cs ++ post)) ∙ ap (λ (n : ℕ). length pre + suc n) (length-append cs post) in
+        changed_above f key marking (loose place) height old new level mirror more right (pre ++ a ∷ b ∷ post)
+        (pre ++ c ∷ (cs ++ post)) (loose_tree old (suc height) place pair_whole tree) all
+        (All-from_recursion (λ d. d.mirror ≤ more) (pre ++ c ∷ (cs ++ post)) each_mirror) (omega (arith, now))
+        (omega (arith, was, now, few, tree.sound.count.1)) tt where
           raised : (ds : List Child) → AllByRecursion (λ d. d.mirror ≤ mirror) ds → AllByRecursion (λ d. d.mirror ≤ more) ds
           raised ds each = each_so (λ d. d.mirror ≤ mirror) (λ d. d.mirror ≤ more) ds (λ d le. omega (arith, le, up)) each
 
@@ -89,8 +97,10 @@ module _ (place : Subtree) (height level mirror : ℕ) (right : Base) (old : Pag
               (each_append (λ d. d.mirror ≤ more) (c ∷ cs) post mirrors (raised post (each_back (λ d. d.mirror ≤ mirror) pre (a ∷ b ∷ post) each).1.1))
 
 -- a changed node that has places enough to stand below its parent
-pub enough_places : (f : List Element → List Element) (key : Key) (marking : Marking) (level height : ℕ) (next : Base) (old mid : PageMap) (c : Child) (before after : Node) → level ≡ suc (suc height) → least_count after ≤ count_of after
-    → Changed f key marking (loose (child_place level next c)) height old mid before after → Changed f key marking (child_place level next c) height old mid before after
+pub enough_places : (f : List Element → List Element) (key : Key) (marking : Marking) (level height : ℕ) (next : Base)
+    (old mid : PageMap) (c : Child) (before after : Node) → level ≡ suc (suc height) → least_count after ≤ count_of after
+    → Changed f key marking (loose (child_place level next c)) height old mid before after → Changed f key marking
+    (child_place level next c) height old mid before after
 enough_places f key marking level height next old mid c before after high many change = record {
   tree = as_child mid height level c.child (loose (child_place level next c)) after change.tree many high;
   elements = change.elements;
@@ -104,9 +114,12 @@ module _ (key : Key) (place : Subtree) (height level mirror : ℕ) (right : Base
   one_whole = inner_node (inner_of level mirror (pre ++ c ∷ post) right)
 
   pub as_written : IsTree old (suc height) place one_whole → length pre ≡ holder_place key (pre ++ c ∷ post) → IsInside place.left place.right key
-      → (f : List Element → List Element) (marking : Marking) (mid new : PageMap) (after : Node) → IsLocal f key → Changed f key marking (loose (child_place level (next_left right post) c)) height old mid (node_at old c.child) after
+      → (f : List Element → List Element) (marking : Marking) (mid new : PageMap) (after : Node) → IsLocal f key
+      → Changed f key marking (loose (child_place level (next_left right post) c)) height old mid (node_at old c.child) after
       → least_count after ≤ count_of after → HasWritten c.child after mid new
-      → Changed f key marking (loose place) (suc height) old new one_whole (inner_node (inner_of level (max mirror (mirror_of after)) (pre ++ with_mirror (mirror_of after) c ∷ post) right))
+      → Changed f key marking (loose place) (suc height) old new one_whole
+      (inner_node (inner_of level (max mirror (mirror_of after)) (pre ++ with_mirror (mirror_of after) c ∷ post) right))
   as_written tree here inside f marking mid new after local change many wrote =
-      changed_parent key (loose place) height level mirror right old pre c post (loose_tree old (suc height) place one_whole tree) here inside f marking mid new after local
+      changed_parent key (loose place) height level mirror right old pre c post (loose_tree old (suc height) place one_whole tree)
+      here inside f marking mid new after local
       (enough_places f key marking level height (next_left right post) old mid c (node_at old c.child) after tree.level many change) wrote

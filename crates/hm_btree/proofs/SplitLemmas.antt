@@ -1,5 +1,6 @@
 -- Nodes that become two.
-use Rattle.std.proofs.Common.{◌≡◌, Bool, true, false, true≢false, ◌||◌, ℕ, suc, ◌≤◌, List, [], ◌∷◌, ◌++◌, length, map, refl, sym, ap, subst, ◌∙◌, arith, Some, None}
+use Rattle.std.proofs.Common.{◌≡◌, Bool, true, false, true≢false, ◌||◌, ℕ, suc, ◌≤◌, List, [], ◌∷◌, ◌++◌, length, map, refl, sym, ap}
+use Rattle.std.proofs.Common.{subst, ◌∙◌, arith, Some, None}
 use Rattle.std.specs.Prelude.{Option, if◌then◌else◌}
 use Rattle.std.specs.List.{AllByRecursion}
 use Rattle.std.specs.List.Sorted.{IsStrictlySortedBy}
@@ -53,25 +54,34 @@ module _ where
   sorted_back [] ys sorted = sorted
   sorted_back (x ∷ xs) ys sorted = sorted_back xs ys sorted.1
 
-  sorted_across : (xs : List Element) (y : Element) (ys : List Element) → IsStrictlySortedBy element_cmp (xs ++ y ∷ ys) → AllByRecursion (λ x. IsBefore (element_key x) (element_key y)) xs
+  sorted_across : (xs : List Element) (y : Element) (ys : List Element) → IsStrictlySortedBy element_cmp (xs ++ y ∷ ys)
+      → AllByRecursion (λ x. IsBefore (element_key x) (element_key y)) xs
   unfolding IsStrictlySortedBy
   sorted_across [] y ys sorted = tt
   sorted_across (x ∷ xs) y ys sorted = ((each_back (λ z. element_cmp x z ≡ Less) xs (y ∷ ys) sorted.0).0, sorted_across xs y ys sorted.1)
 
   -- the first element stands before all others
-  sorted_first : (y : Element) (ys : List Element) → IsStrictlySortedBy element_cmp (y ∷ ys) → AllByRecursion (λ z. IsFrom (element_key y) (element_key z)) (y ∷ ys)
+  sorted_first : (y : Element) (ys : List Element) → IsStrictlySortedBy element_cmp (y ∷ ys) → AllByRecursion
+      (λ z. IsFrom (element_key y) (element_key z)) (y ∷ ys)
   unfolding IsStrictlySortedBy
-  sorted_first y ys sorted = (key_not_before (element_key y), each_so (λ z. element_cmp y z ≡ Less) (λ z. IsFrom (element_key y) (element_key z)) ys (λ z less. key_from_before (element_key y) (element_key z) less) sorted.0)
+  sorted_first y ys sorted = (
+    key_not_before (element_key y),
+    each_so (λ z. element_cmp y z ≡ Less)
+        (λ z. IsFrom (element_key y) (element_key z)) ys (λ z less. key_from_before (element_key y) (element_key z) less) sorted.0,
+  )
 
 same_choice : (b : Bool) (m : ℕ) → (if b then m else m) ≡ m
 same_choice true m = refl
 same_choice false m = refl
 
 -- a leaf that became two
-module _ (f : List Element → List Element) (key : Key) (marking : Marking) (place : Subtree) (height : ℕ) (map : PageMap) (before : Leaf) (mirror : ℕ) (lo : List Element) (e : Element) (hi : List Element) (at : Base) where
-  pub split_leaf : IsTree map height place (leaf_node before) → lo ++ e ∷ hi ≡ f before.places.items → IsContent (lo ++ e ∷ hi) → AllByRecursion (λ x. IsOffset x.payload) (lo ++ e ∷ hi)
+module _ (f : List Element → List Element) (key : Key) (marking : Marking) (place : Subtree) (height : ℕ) (map : PageMap)
+    (before : Leaf) (mirror : ℕ) (lo : List Element) (e : Element) (hi : List Element) (at : Base) where
+  pub split_leaf : IsTree map height place (leaf_node before) → lo ++ e ∷ hi ≡ f before.places.items → IsContent (lo ++ e ∷ hi)
+      → AllByRecursion (λ x. IsOffset x.payload) (lo ++ e ∷ hi)
       → AllByRecursion (λ x. IsInside place.left place.right (element_key x)) (lo ++ e ∷ hi) → AllByRecursion (IsUpTo mirror) (lo ++ e ∷ hi)
-      → 1 ≤ length lo → length lo ≤ 63 → length (e ∷ hi) ≤ 63 → MarksWithin marking key place.left place.right (λ _. before.mirror) (λ _. mirror) → IsBoundary at (element_key e)
+      → 1 ≤ length lo → length lo ≤ 63 → length (e ∷ hi) ≤ 63 → MarksWithin marking key place.left place.right
+      (λ _. before.mirror) (λ _. mirror) → IsBoundary at (element_key e)
       → Split f key marking place height map map (leaf_node before) (leaf_node (leaf_of mirror lo)) (leaf_node (leaf_of mirror (e ∷ hi))) at
   split_leaf tree items content offsets inside upto some few more marks bound =
       let first = each_front (λ x. IsInside place.left place.right (element_key x)) lo (e ∷ hi) inside in
@@ -86,11 +96,13 @@ module _ (f : List Element → List Element) (key : Key) (marking : Marking) (pl
         upper_tree = leaf_sound place height map before (leaf_of mirror (e ∷ hi)) at place.right tree
             (record { rising = sorted_back lo (e ∷ hi) content.rising; each = All-from_recursion IsElement (e ∷ hi) (each_back IsElement lo (e ∷ hi) each) })
             (each_back (λ x. IsOffset x.payload) lo (e ∷ hi) offsets)
-            (upper_inside (e ∷ hi) second (sorted_first e hi (sorted_back lo (e ∷ hi) content.rising))) (each_back (IsUpTo mirror) lo (e ∷ hi) upto) more (count place.parent (e ∷ hi) (omega arith));
+            (upper_inside (e ∷ hi) second (sorted_first e hi (sorted_back lo (e ∷ hi) content.rising)))
+            (each_back (IsUpTo mirror) lo (e ∷ hi) upto) more (count place.parent (e ∷ hi) (omega arith));
         lower_many = some;
         upper_many = omega arith;
         elements = items;
-        mark = same_marks (MarksWithin marking key place.left place.right (λ _. before.mirror)) (λ _. mirror) (both_sides at (λ _. mirror) (λ _. mirror)) (λ k. same_choice (is_lt (key_cmp k (key_of at))) mirror) marks;
+        mark = same_marks (MarksWithin marking key place.left place.right (λ _. before.mirror)) (λ _. mirror)
+            (both_sides at (λ _. mirror) (λ _. mirror)) (λ k. same_choice (is_lt (key_cmp k (key_of at))) mirror) marks;
         pages = replaces_none (λ x. false) map (λ x is. absurd (true≢false (sym is)));
         bound = record { key = refl; not_closed = bound.not_closed; no_kind = bound.no_kind; btype = bound.btype };
         from = subst (λ (k : Key). IsBefore (key_of place.left) k) (sym bound.key) (starts lo some first across);
@@ -100,23 +112,42 @@ module _ (f : List Element → List Element) (key : Key) (marking : Marking) (pl
         count None es some = tt
         count (Some q) es some = some
 
-        lower_inside : (es : List Element) → AllByRecursion (λ x. IsInside place.left place.right (element_key x)) es → AllByRecursion (λ x. IsBefore (element_key x) (element_key e)) es → AllByRecursion (λ x. IsInside place.left at (element_key x)) es
+        lower_inside : (es : List Element) → AllByRecursion (λ x. IsInside place.left place.right (element_key x)) es
+            → AllByRecursion (λ x. IsBefore (element_key x) (element_key e)) es → AllByRecursion (λ x. IsInside place.left at (element_key x)) es
         lower_inside [] each before = tt
-        lower_inside (x ∷ xs) each before = (record { from = each.0.from; before = subst (λ (k : Key). IsBefore (element_key x) k) (sym bound.key) before.0 }, lower_inside xs each.1 before.1)
+        lower_inside (x ∷ xs) each before = (
+          record {
+            from = each.0.from;
+            before = subst (λ (k : Key). IsBefore (element_key x) k)
+                (sym bound.key) before.0;
+          },
+          lower_inside xs each.1 before.1,
+        )
 
-        upper_inside : (es : List Element) → AllByRecursion (λ x. IsInside place.left place.right (element_key x)) es → AllByRecursion (λ x. IsFrom (element_key e) (element_key x)) es → AllByRecursion (λ x. IsInside at place.right (element_key x)) es
+        upper_inside : (es : List Element) → AllByRecursion (λ x. IsInside place.left place.right (element_key x)) es
+            → AllByRecursion (λ x. IsFrom (element_key e) (element_key x)) es → AllByRecursion (λ x. IsInside at place.right (element_key x)) es
         upper_inside [] each from = tt
-        upper_inside (x ∷ xs) each from = (record { from = subst (λ (k : Key). IsFrom k (element_key x)) (sym bound.key) from.0; before = each.0.before }, upper_inside xs each.1 from.1)
+        upper_inside (x ∷ xs) each from = (
+          record {
+            from = subst (λ (k : Key). IsFrom k (element_key x)) (sym bound.key) from.0;
+            before = each.0.before;
+          },
+          upper_inside xs each.1 from.1,
+        )
 
-        starts : (es : List Element) → 1 ≤ length es → AllByRecursion (λ x. IsInside place.left place.right (element_key x)) es → AllByRecursion (λ x. IsBefore (element_key x) (element_key e)) es → IsBefore (key_of place.left) (element_key e)
+        starts : (es : List Element) → 1 ≤ length es → AllByRecursion (λ x. IsInside place.left place.right (element_key x)) es
+            → AllByRecursion (λ x. IsBefore (element_key x) (element_key e)) es → IsBefore (key_of place.left) (element_key e)
         starts [] some each before = absurd (omega arith)
         starts (x ∷ xs) some each before = from_then_before (key_of place.left) (element_key x) (element_key e) each.0.from before.0
 
 -- an inner node whose children changed and are too many
-module _ (f : List Element → List Element) (key : Key) (marking : Marking) (place : Subtree) (height : ℕ) (old new : PageMap) (level mirror more : ℕ) (right : Base) (before lo : List Child) (c : Child) (hi : List Child) where
-  pub split_above : IsTree old (suc height) place (inner_node (inner_of level mirror before right)) → ChangedUnder f key marking level right height old new before (lo ++ c ∷ hi) → AllByRecursion (λ d. d.mirror ≤ more) (lo ++ c ∷ hi)
+module _ (f : List Element → List Element) (key : Key) (marking : Marking) (place : Subtree) (height : ℕ) (old new : PageMap)
+    (level mirror more : ℕ) (right : Base) (before lo : List Child) (c : Child) (hi : List Child) where
+  pub split_above : IsTree old (suc height) place (inner_node (inner_of level mirror before right)) → ChangedUnder f key marking
+      level right height old new before (lo ++ c ∷ hi) → AllByRecursion (λ d. d.mirror ≤ more) (lo ++ c ∷ hi)
       → 16 ≤ length lo → length lo ≤ 62 → 16 ≤ length (c ∷ hi) → length (c ∷ hi) ≤ 62
-      → Split f key marking place (suc height) old new (inner_node (inner_of level mirror before right)) (inner_node (inner_of level more lo c.left)) (inner_node (inner_of level more (c ∷ hi) right)) c.left
+      → Split f key marking place (suc height) old new (inner_node (inner_of level mirror before right))
+      (inner_node (inner_of level more lo c.left)) (inner_node (inner_of level more (c ∷ hi) right)) c.left
   split_above tree change mirrors some few many most =
       let els : Child → List Element = λ (x : Child). elements_in new height (node_at new x.child) in
       let lower : Node = inner_node (inner_of level more lo c.left) in
@@ -160,21 +191,27 @@ module _ (f : List Element → List Element) (key : Key) (marking : Marking) (pl
         lower_many = some;
         upper_many = many;
         elements = sym (flat_map-append els lo (c ∷ hi)) ∙ change.elements;
-        mark = same_marks (MarksWithin marking key place.left place.right (mark_under old height before)) (mark_under new height (lo ++ c ∷ hi)) (both_sides c.left (mark_under new height lo) (mark_under new height (c ∷ hi)))
+        mark = same_marks (MarksWithin marking key place.left place.right (mark_under old height before))
+            (mark_under new height (lo ++ c ∷ hi)) (both_sides c.left (mark_under new height lo) (mark_under new height (c ∷ hi)))
             (λ k. sym (mark_cut new height right k lo c hi (omega arith) change.rising))
-            (marks_bounds marking key (next_left right before) place.left right place.right (mark_under old height before) (mark_under new height (lo ++ c ∷ hi)) (begins_left place.left right before tree.fits.bounds.0) tree.fits.bounds.1 change.mark);
-        pages = replaces_same old new (has_under old height before) (has_under new height (lo ++ c ∷ hi)) (has_under old height before) (λ x. has_under new height lo x || has_under new height (c ∷ hi) x)
+            (marks_bounds marking key (next_left right before) place.left right place.right (mark_under old height before)
+            (mark_under new height (lo ++ c ∷ hi)) (begins_left place.left right before tree.fits.bounds.0) tree.fits.bounds.1 change.mark);
+        pages = replaces_same old new (has_under old height before) (has_under new height (lo ++ c ∷ hi))
+            (has_under old height before) (λ x. has_under new height lo x || has_under new height (c ∷ hi) x)
             (λ x. refl) (λ x. sym (under_append new height x lo (c ∷ hi))) change.pages;
         bound = child.left;
         from = starts before lo (omega arith) change.left tree.fits.bounds.0 change.rising;
         to = subst (λ (k : Key). IsBefore (key_of c.left) k) tree.fits.bounds.1
-            (each_back (λ y. base_cmp c.left y ≡ Less) (map (λ (d : Child). d.left) hi) (right ∷ []) (rising_first right c hi (rising_back right lo (c ∷ hi) change.rising))).0;
+            (each_back (λ y. base_cmp c.left y ≡ Less) (map (λ (d : Child). d.left) hi) (right ∷ [])
+            (rising_first right c hi (rising_back right lo (c ∷ hi) change.rising))).0;
       } where
         further : (b : Child) (bs : List Child) → AreRising right (b ∷ (bs ++ c ∷ hi)) → IsBefore (key_of b.left) (key_of c.left)
         further b [] rising = rising_next right b (c ∷ hi) rising
-        further b (d ∷ ds) rising = before_before (key_of b.left) (key_of d.left) (key_of c.left) (rising_next right b ((d ∷ ds) ++ c ∷ hi) rising) (further d ds (rising_rest right b ((d ∷ ds) ++ c ∷ hi) rising))
+        further b (d ∷ ds) rising = before_before (key_of b.left) (key_of d.left) (key_of c.left)
+            (rising_next right b ((d ∷ ds) ++ c ∷ hi) rising) (further d ds (rising_rest right b ((d ∷ ds) ++ c ∷ hi) rising))
 
-        starts : (bs cs : List Child) → 1 ≤ length cs → next_left right (cs ++ c ∷ hi) ≡ next_left right bs → BeginsAt place.left bs → AreRising right (cs ++ c ∷ hi) → IsBefore (key_of place.left) (key_of c.left)
+        starts : (bs cs : List Child) → 1 ≤ length cs → next_left right (cs ++ c ∷ hi) ≡ next_left right bs
+            → BeginsAt place.left bs → AreRising right (cs ++ c ∷ hi) → IsBefore (key_of place.left) (key_of c.left)
         starts [] cs some same at rising = absurd at
         starts (b ∷ bs) [] some same at rising = absurd (omega arith)
         starts (b ∷ bs) (d ∷ ds) some same at rising = subst (λ (k : Key). IsBefore k (key_of c.left)) (ap key_of same ∙ at) (further d ds rising)

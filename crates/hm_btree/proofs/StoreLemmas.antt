@@ -15,19 +15,22 @@ use Rattle.hm_btree.specs.Tree.{ChangesTree, HasTreeCause, IsIntact, told_elemen
 use Rattle.hm_btree.proofs.IntactLemmas.{intact_tree}
 
 -- what a call that changes the tree leaves
-pub record StoreChanged (f : List Element → List Element) (key : Key) (marking : Marking) (intact : Bool) (old new : Option PageMap) (root root' : ℕ) : Type 0 where
+pub record StoreChanged (f : List Element → List Element) (key : Key) (marking : Marking) (intact : Bool)
+    (old new : Option PageMap) (root root' : ℕ) : Type 0 where
   pub elements : told_elements true new root' ≡ option_map f (told_elements intact old root)
   pub mark : IfSome (told_elements intact old root) (λ _. MarksBy marking key (told_mark old root) (told_mark new root'))
   pub sound : ∥ IsIntact true new root' ∥₁
 
-pub store_changed : (f : List Element → List Element) (key : Key) (marking : Marking) (Needs : List Element → Type 0) (More : Type 0) (intact : Bool) (old new : Option PageMap) (root root' : ℕ)
-    → IsTrue intact → ∥ IsIntact intact old root ∥₁ → is_some new ≡ is_some old → IfSome (told_elements intact old root) Needs → More → ChangesTree f key marking Needs More old new root root' → StoreChanged f key marking intact old new root root'
-store_changed f key marking Needs More false old new root root' is sound told needs more changes = absurd (true≢false (sym is))
-store_changed f key marking Needs More true None None root root' is sound told needs more changes = record { elements = refl; mark = tt; sound = ∣ tt ∣₁ }
-store_changed f key marking Needs More true None (Some new) root root' is sound told needs more changes = absurd (true≢false told)
-store_changed f key marking Needs More true (Some old) None root root' is sound told needs more changes = absurd (true≢false (sym told))
-store_changed f key marking Needs More true (Some old) (Some new) root root' is sound told needs more changes =
-    let change = changes (intact_tree true (Some old) root refl sound) needs more in
+pub store_changed : (f : List Element → List Element) (key : Key) (marking : Marking) (Needs : List Element → Type 0)
+    (intact : Bool) (old new : Option PageMap) (root root' : ℕ)
+    → IsTrue intact → ∥ IsIntact intact old root ∥₁ → is_some new ≡ is_some old → IfSome (told_elements intact old root) Needs
+    → ChangesTree f key marking Needs old new root root' → StoreChanged f key marking intact old new root root'
+store_changed f key marking Needs false old new root root' is sound told needs changes = absurd (true≢false (sym is))
+store_changed f key marking Needs true None None root root' is sound told needs changes = record { elements = refl; mark = tt; sound = ∣ tt ∣₁ }
+store_changed f key marking Needs true None (Some new) root root' is sound told needs changes = absurd (true≢false told)
+store_changed f key marking Needs true (Some old) None root root' is sound told needs changes = absurd (true≢false (sym told))
+store_changed f key marking Needs true (Some old) (Some new) root root' is sound told needs changes =
+    let change = changes (intact_tree true (Some old) root refl sound) needs in
     record { elements = ap Some change.elements; mark = change.mark; sound = ∣ change.tree ∣₁ }
 
 undamaged_prop : (fault : Fault) → IsProp (IsUndamaged fault)
@@ -36,19 +39,27 @@ undamaged_prop (Damaged at kind) = hlevel props
 undamaged_prop NoMemory = hlevel props
 
 -- no damage is told where the elements are
-pub store_cause : {T : Type 0} (intact : Bool) (told : Option PageMap) (root old new : ℕ) (result : Result T Fault) → ∥ IsIntact intact told root ∥₁ → HasTreeCause told root old new result → HasStoreCause (told_elements intact told root) old new result
-store_cause intact told root old new result sound cause = record { counted = cause.counted; undamaged = by_told intact told sound cause.undamaged result } where
+pub store_cause : {T : Type 0} (intact : Bool) (told : Option PageMap) (root old new : ℕ) (result : Result T Fault)
+    → ∥ IsIntact intact told root ∥₁ → HasTreeCause told root old new result → HasStoreCause (told_elements intact told root) old new result
+store_cause intact told root old new result sound cause = record {
+  counted = cause.counted;
+  undamaged =
+      by_told intact told sound cause.undamaged result;
+} where
   by_result : {T : Type 0} (r : Result T Fault) → IsProp (IfErr r IsUndamaged)
   by_result (Ok x) = hlevel props
   by_result (Err fault) = undamaged_prop fault
 
-  by_told : {T : Type 0} (b : Bool) (o : Option PageMap) → ∥ IsIntact b o root ∥₁ → IfSome o (λ pages. IsSoundTree pages root → IfErr result IsUndamaged) → (r : Result T Fault) → IfSome (told_elements b o root) (λ _. IfErr result IsUndamaged)
+  by_told : {T : Type 0} (b : Bool) (o : Option PageMap) → ∥ IsIntact b o root ∥₁ → IfSome o (λ pages. IsSoundTree pages root
+      → IfErr result IsUndamaged) → (r : Result T Fault) → IfSome (told_elements b o root) (λ _. IfErr result IsUndamaged)
   by_told false o sound more r = tt
   by_told true None sound more r = tt
   by_told true (Some pages) sound more r = ∥∥₁_elim sound (by_result result) (λ tree. more tree.sound)
 
 -- the number of told lists stays
-pub told_kept : (f : List Element → List Element) (intact : Bool) (old new : Option PageMap) (root root' : ℕ) → told_elements true new root' ≡ option_map f (told_elements intact old root) → is_some (told_elements true new root') ≡ is_some (told_elements intact old root)
+pub told_kept : (f : List Element → List Element) (intact : Bool) (old new : Option PageMap) (root root' : ℕ)
+    → told_elements true new root' ≡ option_map f (told_elements intact old root)
+    → is_some (told_elements true new root') ≡ is_some (told_elements intact old root)
 told_kept f intact old new root root' is = ap is_some is ∙ by_option (told_elements intact old root) where
   by_option : (o : Option (List Element)) → is_some (option_map f o) ≡ is_some o
   by_option None = refl

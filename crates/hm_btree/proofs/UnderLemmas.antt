@@ -49,7 +49,8 @@ module _ (map : PageMap) (height : ℕ) where
       ]
 
   -- what is under the first child, or under the later ones
-  pub first_apart : (x level : ℕ) (right : Base) (c : Child) (cs : List Child) → AreRising right (c ∷ cs) → AreStored map height level right (c ∷ cs) → is_under map height x c ≡ true → has_under map height cs x ≡ false
+  pub first_apart : (x level : ℕ) (right : Base) (c : Child) (cs : List Child) → AreRising right (c ∷ cs)
+      → AreStored map height level right (c ∷ cs) → is_under map height x c ≡ true → has_under map height cs x ≡ false
   first_apart x level right c cs rising stored here = apart_children map height x level right c cs rising stored here
 
   pub under_append : (x : ℕ) (cs ds : List Child) → has_under map height (cs ++ ds) x ≡ (has_under map height cs x || has_under map height ds x)
@@ -60,20 +61,27 @@ module _ (map : PageMap) (height : ℕ) where
     assoc false = refl
 
   -- what is under later children is under none before them
-  pub later_apart : (x level : ℕ) (right : Base) (cs ds : List Child) → AreRising right (cs ++ ds) → AreStored map height level right (cs ++ ds) → has_under map height ds x ≡ true → has_under map height cs x ≡ false
+  pub later_apart : (x level : ℕ) (right : Base) (cs ds : List Child) → AreRising right (cs ++ ds) → AreStored map height level
+      right (cs ++ ds) → has_under map height ds x ≡ true → has_under map height cs x ≡ false
   later_apart x level right [] ds rising stored is = refl
   later_apart x level right (c ∷ cs) ds rising stored is =
       or_false (is_under map height x c) (has_under map height cs x)
-      (fails (is_under map height x c) (λ here. true≢false (sym (under_append x cs ds ∙ or_right (has_under map height cs x) (has_under map height ds x) is) ∙ apart_children map height x level right c (cs ++ ds) rising stored here)))
+      (fails (is_under map height x c)
+      (λ here. true≢false (sym (under_append x cs ds ∙ or_right (has_under map height cs x) (has_under map height ds x) is)
+      ∙ apart_children map height x level right c (cs ++ ds) rising stored here)))
       (later_apart x level right cs ds (rising_rest right c (cs ++ ds) rising) stored.1 is)
 
   -- children and others after them
-  pub stored_append : (level : ℕ) (right : Base) (cs ds : List Child) → AreStored map height level (next_left right ds) cs → AreStored map height level right ds → AreStored map height level right (cs ++ ds)
+  pub stored_append : (level : ℕ) (right : Base) (cs ds : List Child) → AreStored map height level (next_left right ds) cs
+      → AreStored map height level right ds → AreStored map height level right (cs ++ ds)
   stored_append level right [] ds first second = second
-  stored_append level right (c ∷ cs) ds first second =
-      (subst (λ (b : Base). IsStoredTree map height (child_place level b c)) (sym (next_append right cs ds)) first.0, stored_append level right cs ds first.1 second)
+  stored_append level right (c ∷ cs) ds first second = (
+    subst (λ (b : Base). IsStoredTree map height (child_place level b c)) (sym (next_append right cs ds)) first.0,
+    stored_append level right cs ds first.1 second,
+  )
 
-  pub stored_front : (level : ℕ) (right : Base) (cs ds : List Child) → AreStored map height level right (cs ++ ds) → AreStored map height level (next_left right ds) cs
+  pub stored_front : (level : ℕ) (right : Base) (cs ds : List Child) → AreStored map height level right (cs ++ ds)
+      → AreStored map height level (next_left right ds) cs
   stored_front level right [] ds stored = tt
   stored_front level right (c ∷ cs) ds stored =
       (subst (λ (b : Base). IsStoredTree map height (child_place level b c)) (next_append right cs ds) stored.0, stored_front level right cs ds stored.1)
@@ -104,7 +112,8 @@ module _ (old new : PageMap) (height : ℕ) (right : Base) (cs : List Child) (un
 
 -- pages that stay beside those on which a call works
 module _ (old new : PageMap) where
-  pub replaces_same : (olds news olds' news' : ℕ → Bool) → ((x : ℕ) → olds' x ≡ olds x) → ((x : ℕ) → news' x ≡ news x) → Replaces olds news old new → Replaces olds' news' old new
+  pub replaces_same : (olds news olds' news' : ℕ → Bool) → ((x : ℕ) → olds' x ≡ olds x) → ((x : ℕ) → news' x ≡ news x)
+      → Replaces olds news old new → Replaces olds' news' old new
   replaces_same olds news olds' news' first second replaces = record {
     kept = λ x is there. replaces.kept x (sym (first x) ∙ is) there;
     rest = λ x there is. let more = replaces.rest x there (sym (second x) ∙ is) in (first x ∙ more.0, more.1);
@@ -115,7 +124,8 @@ module _ (old new : PageMap) where
   pub replaces_front : (u olds news : ℕ → Bool) → Replaces olds news old new → Replaces (λ x. u x || olds x) (λ x. u x || news x) old new
   replaces_front u olds news replaces = record {
     kept = λ x is there. replaces.kept x (or_false_right (u x) (olds x) is) there;
-    rest = λ x there is. let more = replaces.rest x there (or_false_right (u x) (news x) is) in (or_false (u x) (olds x) (or_false_left (u x) (news x) is) more.0, more.1);
+    rest = λ x there is. let more = replaces.rest x there (or_false_right (u x) (news x) is) in
+        (or_false (u x) (olds x) (or_false_left (u x) (news x) is) more.0, more.1);
     made = λ x is was. replaces.made x (later (u x) (news x) is (or_false_left (u x) (olds x) was)) (or_false_right (u x) (olds x) was);
     spots = replaces.spots;
   } where
@@ -124,7 +134,8 @@ module _ (old new : PageMap) where
 
   pub replaces_back : (u olds news : ℕ → Bool) → Replaces olds news old new → Replaces (λ x. olds x || u x) (λ x. news x || u x) old new
   replaces_back u olds news replaces =
-      replaces_same (λ x. u x || olds x) (λ x. u x || news x) (λ x. olds x || u x) (λ x. news x || u x) (λ x. turn (olds x) (u x)) (λ x. turn (news x) (u x)) (replaces_front u olds news replaces) where
+      replaces_same (λ x. u x || olds x) (λ x. u x || news x) (λ x. olds x || u x) (λ x. news x || u x) (λ x. turn (olds x) (u x))
+      (λ x. turn (news x) (u x)) (replaces_front u olds news replaces) where
         turn : (a b : Bool) → (a || b) ≡ (b || a)
         turn true true = refl
         turn true false = refl

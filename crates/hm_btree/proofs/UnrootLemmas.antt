@@ -1,6 +1,6 @@
 -- The root of a tree that lost an element: it is written, or goes where it has one child alone.
 use Rattle.std.proofs.Common.{◌≡◌, Bool, true, false, true≢false, ◌||◌, ℕ, zero, suc, List, [], ◌∷◌, refl, sym, ap, subst, ◌∙◌, arith, nat_eq, Some, None}
-use Rattle.std.specs.Prelude.{Option, IsSome, is_some, IfSome, ⊤}
+use Rattle.std.specs.Prelude.{Option, IsSome, is_some, IfSome}
 use Rattle.hm_types.specs.Elements.{Key}
 use Rattle.hm_fields.specs.Pages.{PageMap}
 use Rattle.hm_types.specs.Told.{BothTell}
@@ -25,13 +25,18 @@ use Rattle.hm_btree.proofs.ToldLemmas.{inner_is}
 
 -- the root has one child alone, and its page goes
 module _ (f : List Element → List Element) (key : Key) (marking : Marking) (root : ℕ) (old mid new : PageMap) where
-  pub root_dropped : (after : Node) (below : ℕ) → IsTreeSpace old root → Changed f key marking (root_place root) (height_of (node_at old root)) old mid (node_at old root) after → IsOnlyChild after below → HasLost root mid new → TreeChanged f key marking old new root below
+  pub root_dropped : (after : Node) (below : ℕ) → IsTreeSpace old root → Changed f key marking (root_place root)
+      (height_of (node_at old root)) old mid (node_at old root) after → IsOnlyChild after below → HasLost root mid new
+      → TreeChanged f key marking old new root below
   root_dropped (leaf_node leaf) below tree change only lost = absurd only
   root_dropped (inner_node inner) below tree change (c, items, at) lost =
-      let is : inner_node inner ≡ inner_node (inner_of inner.level inner.mirror (c ∷ []) inner.right) = ap inner_node (inner_is inner inner.level inner.mirror (c ∷ []) inner.right refl refl items refl) in
+      let is : inner_node inner ≡ inner_node (inner_of inner.level inner.mirror (c ∷ []) inner.right) = ap inner_node
+      (inner_is inner inner.level inner.mirror (c ∷ []) inner.right refl refl items refl) in
       subst (λ (x : ℕ). TreeChanged f key marking old new root x) at
-      (by_height (height_of (node_at old root)) refl (subst (λ (n : Node). Changed f key marking (root_place root) (height_of (node_at old root)) old mid (node_at old root) n) is change)) where
-        by_height : (h : ℕ) → height_of (node_at old root) ≡ h → Changed f key marking (root_place root) h old mid (node_at old root) (inner_node (inner_of inner.level inner.mirror (c ∷ []) inner.right)) → TreeChanged f key marking old new root c.child
+      (by_height (height_of (node_at old root)) refl
+      (subst (λ (n : Node). Changed f key marking (root_place root) (height_of (node_at old root)) old mid (node_at old root) n) is change)) where
+        by_height : (h : ℕ) → height_of (node_at old root) ≡ h → Changed f key marking (root_place root) h old mid
+            (node_at old root) (inner_node (inner_of inner.level inner.mirror (c ∷ []) inner.right)) → TreeChanged f key marking old new root c.child
         by_height zero high change = absurd (omega (arith, change.tree.level, change.tree.sound.level.0))
         by_height (suc h) high change =
             let top : Node = inner_node (inner_of inner.level inner.mirror (c ∷ []) inner.right) in
@@ -47,81 +52,105 @@ module _ (f : List Element → List Element) (key : Key) (marking : Marking) (ro
             record {
               tree = record {
                 sound = only_sound mid new h root inner.level inner.mirror c inner.right change.tree apart lost;
-                whole = λ x there. only_reached mid new h root inner.level inner.mirror c inner.right change.tree apart lost x (whole_after (λ y. nat_eq root y || olds y) news old new replaces all x there);
+                whole = λ x there. only_reached mid new h root inner.level inner.mirror c inner.right change.tree apart lost x
+                    (whole_after (λ y. nat_eq root y || olds y) news old new replaces all x there);
                 spots = spots_after (λ y. nat_eq root y || olds y) news old new replaces tree.spots;
               };
-              elements = only_elements mid new h root inner.level inner.mirror c inner.right change.tree apart lost ∙ change.elements ∙ ap (λ (n : ℕ). f (elements_in old n was)) (sym high);
+              elements = only_elements mid new h root inner.level inner.mirror c inner.right change.tree apart lost
+                  ∙ change.elements ∙ ap (λ (n : ℕ). f (elements_in old n was)) (sym high);
               mark = as_marks (MarksBy marking key) (mark_in old (suc h) was) (mark_of old root) (mark_in mid (suc h) top) (mark_of new c.child)
                   (λ k. ap (λ (n : ℕ). mark_in old n was k) high) (only_mark mid new h root inner.level inner.mirror c inner.right change.tree apart lost)
                   (marks_whole marking key (root_place root).left (root_place root).right (mark_in old (suc h) was) (mark_in mid (suc h) top) change.mark);
             }
 
 -- a change of the tree that stands from a lower root on
-pub changed_lowered : (f : List Element → List Element) (key : Key) (marking : Marking) (old mid new : PageMap) (root low root' : ℕ) (node : Node) → IsLowered old mid root low node → TreeChanged f key marking mid new low root' → TreeChanged f key marking old new root root'
+pub changed_lowered : (f : List Element → List Element) (key : Key) (marking : Marking) (old mid new : PageMap)
+    (root low root' : ℕ) (node : Node) → IsLowered old mid root low node → TreeChanged f key marking mid new low root'
+    → TreeChanged f key marking old new root root'
 changed_lowered f key marking old mid new root low root' node lowered change = record {
   tree = change.tree;
   elements = change.elements ∙ ap f lowered.elements;
   mark = same_marks (λ (o : Key → ℕ). MarksBy marking key o (mark_of new root')) (mark_of mid low) (mark_of old root) (λ k. sym (lowered.mark k)) change.mark;
 }
 
-module _ (key : Key) (root low : ℕ) (node : Node) (p0 p1 p2 : Option PageMap) (same : p1 ≡ p0) (lowered : IfSome p1 (λ was. IfSome p2 (λ is. IsLowered was is root low node))) (told : is_some p2 ≡ is_some p1) where
+module _ (key : Key) (root low : ℕ) (node : Node) (p0 p1 p2 : Option PageMap) (same : p1 ≡ p0)
+    (lowered : IfSome p1 (λ was. IfSome p2 (λ is. IsLowered was is root low node))) (told : is_some p2 ≡ is_some p1) where
   -- the element is there from the lower root on
   pub holds_lowered : IfSome p0 (λ was. IsSome (element_at key (elements_of was root))) → IfSome p2 (HoldsElement key node)
-  holds_lowered there = by_pages p0 p2 there (subst (λ (p : Option PageMap). IfSome p (λ was. IfSome p2 (λ is. IsLowered was is root low node))) same lowered) (told ∙ ap is_some same) where
-    by_pages : (p q : Option PageMap) → IfSome p (λ was. IsSome (element_at key (elements_of was root))) → IfSome p (λ was. IfSome q (λ is. IsLowered was is root low node)) → is_some q ≡ is_some p → IfSome q (HoldsElement key node)
-    by_pages p None there lowered told = tt
-    by_pages None (Some mid) there lowered told = absurd (true≢false told)
-    by_pages (Some old) (Some mid) there lowered told =
-        let some : IsSome (element_at key (elements_of mid low)) = subst (λ (l : List Element). IsSome (element_at key l)) (sym lowered.elements) there in
-        record {
-          place = root_place low;
-          height = height_of (node_at mid low);
-          tree = subst (λ (n : Node). IsTree mid (height_of (node_at mid low)) (root_place low) n) lowered.here lowered.tree.sound.tree;
-          inside = there_inside low key mid lowered.tree some;
-          there = subst (λ (n : Node). IsSome (element_at key (elements_in mid (height_of (node_at mid low)) n))) lowered.here some;
-        }
+  holds_lowered there = by_pages p0 p2 there
+      (subst (λ (p : Option PageMap). IfSome p (λ was. IfSome p2 (λ is. IsLowered was is root low node))) same lowered) (told ∙ ap is_some same) where
+        by_pages : (p q : Option PageMap) → IfSome p (λ was. IsSome (element_at key (elements_of was root)))
+            → IfSome p (λ was. IfSome q (λ is. IsLowered was is root low node)) → is_some q ≡ is_some p → IfSome q (HoldsElement key node)
+        by_pages p None there lowered told = tt
+        by_pages None (Some mid) there lowered told = absurd (true≢false told)
+        by_pages (Some old) (Some mid) there lowered told =
+            let some : IsSome (element_at key (elements_of mid low)) = subst (λ (l : List Element). IsSome (element_at key l)) (sym lowered.elements) there in
+            record {
+              place = root_place low;
+              height = height_of (node_at mid low);
+              tree = subst (λ (n : Node). IsTree mid (height_of (node_at mid low)) (root_place low) n) lowered.here lowered.tree.sound.tree;
+              inside = there_inside low key mid lowered.tree some;
+              there = subst (λ (n : Node). IsSome (element_at key (elements_in mid (height_of (node_at mid low)) n))) lowered.here some;
+            }
 
-  module _ (f : List Element → List Element) (marking : Marking) (p3 : Option PageMap) (after : Node) (shrinks : Shrinks f key marking (λ o. IsSome o) p2 p3 node after) (told3 : is_some p3 ≡ is_some p2) where
+  module _ (f : List Element → List Element) (marking : Marking) (p3 : Option PageMap) (after : Node)
+      (shrinks : Shrinks f key marking (λ o. IsSome o) p2 p3 node after) (told3 : is_some p3 ≡ is_some p2) where
     -- what became of its node
-    change_of : (old mid now : PageMap) → IsLowered old mid root low node → IsSome (element_at key (elements_of old root)) → Shrinks f key marking (λ o. IsSome o) (Some mid) (Some now) node after
+    change_of : (old mid now : PageMap) → IsLowered old mid root low node → IsSome (element_at key (elements_of old root))
+        → Shrinks f key marking (λ o. IsSome o) (Some mid) (Some now) node after
         → Changed f key marking (root_place low) (height_of (node_at mid low)) mid now (node_at mid low) after
     change_of old mid now lowered there shrinks =
         let some : IsSome (element_at key (elements_of mid low)) = subst (λ (l : List Element). IsSome (element_at key l)) (sym lowered.elements) there in
         let h : ℕ = height_of (node_at mid low) in
         subst (λ (n : Node). Changed f key marking (root_place low) h mid now n after) (sym lowered.here)
-        (shrinks (root_place low) h (subst (λ (n : Node). IsTree mid h (root_place low) n) lowered.here lowered.tree.sound.tree) (there_inside low key mid lowered.tree some)
+        (shrinks (root_place low) h (subst (λ (n : Node). IsTree mid h (root_place low) n) lowered.here lowered.tree.sound.tree)
+        (there_inside low key mid lowered.tree some)
         (subst (λ (n : Node). IsSome (element_at key (elements_in mid h n))) lowered.here some))
 
     -- the page of the lower root stays
     pub low_there : IfSome p0 (λ was. IsSome (element_at key (elements_of was root))) → IfSome p3 (λ map. IsSome (map low))
-    low_there there = by_pages p0 p2 p3 there (subst (λ (p : Option PageMap). IfSome p (λ was. IfSome p2 (λ is. IsLowered was is root low node))) same lowered) (told ∙ ap is_some same) shrinks told3 where
-      by_pages : (p q r : Option PageMap) → IfSome p (λ was. IsSome (element_at key (elements_of was root))) → IfSome p (λ was. IfSome q (λ is. IsLowered was is root low node)) → is_some q ≡ is_some p → Shrinks f key marking (λ o. IsSome o) q r node after → is_some r ≡ is_some q
-          → IfSome r (λ map. IsSome (map low))
-      by_pages p q None there lowered told shrinks told3 = tt
-      by_pages p None (Some now) there lowered told shrinks told3 = absurd (true≢false told3)
-      by_pages None (Some mid) (Some now) there lowered told shrinks told3 = absurd (true≢false told)
-      by_pages (Some old) (Some mid) (Some now) there lowered told shrinks told3 =
-          let change = change_of old mid now lowered there shrinks in
-          let h : ℕ = height_of (node_at mid low) in
-          let itself = not_below_itself mid h (root_place low) (node_at mid low) low lowered.tree.sound.tree refl in
-          subst (λ (o : Option (List ℕ)). IsSome o) (sym (change.pages.kept low itself lowered.tree.sound.there)) lowered.tree.sound.there
+    low_there there = by_pages p0 p2 p3 there
+        (subst (λ (p : Option PageMap). IfSome p (λ was. IfSome p2 (λ is. IsLowered was is root low node))) same lowered)
+        (told ∙ ap is_some same) shrinks told3 where
+          by_pages : (p q r : Option PageMap) → IfSome p (λ was. IsSome (element_at key (elements_of was root)))
+              → IfSome p (λ was. IfSome q (λ is. IsLowered was is root low node)) → is_some q ≡ is_some p → Shrinks f key marking
+              (λ o. IsSome o) q r node after → is_some r ≡ is_some q
+              → IfSome r (λ map. IsSome (map low))
+          by_pages p q None there lowered told shrinks told3 = tt
+          by_pages p None (Some now) there lowered told shrinks told3 = absurd (true≢false told3)
+          by_pages None (Some mid) (Some now) there lowered told shrinks told3 = absurd (true≢false told)
+          by_pages (Some old) (Some mid) (Some now) there lowered told shrinks told3 =
+              let change = change_of old mid now lowered there shrinks in
+              let h : ℕ = height_of (node_at mid low) in
+              let itself = not_below_itself mid h (root_place low) (node_at mid low) low lowered.tree.sound.tree refl in
+              subst (λ (o : Option (List ℕ)). IsSome o) (sym (change.pages.kept low itself lowered.tree.sound.there)) lowered.tree.sound.there
 
-    by_result : (p4 : Option PageMap) (root' : ℕ) (Ends : PageMap → PageMap → Type 0) → ((mid now new : PageMap) → IsTreeSpace mid low → Changed f key marking (root_place low) (height_of (node_at mid low)) mid now (node_at mid low) after → Ends now new → TreeChanged f key marking mid new low root')
-        → BothTell p3 p4 Ends → ChangesTree f key marking (λ es. IsSome (element_at key es)) ⊤ p0 p4 root root'
-    by_result p4 root' Ends step ended = by_pages p0 p2 p3 p4 (subst (λ (p : Option PageMap). IfSome p (λ was. IfSome p2 (λ is. IsLowered was is root low node))) same lowered) (told ∙ ap is_some same) shrinks told3 ended where
-      by_pages : (p q r s : Option PageMap) → IfSome p (λ was. IfSome q (λ is. IsLowered was is root low node)) → is_some q ≡ is_some p → Shrinks f key marking (λ o. IsSome o) q r node after → is_some r ≡ is_some q → BothTell r s Ends
-          → ChangesTree f key marking (λ es. IsSome (element_at key es)) ⊤ p s root root'
-      by_pages None q r s lowered told shrinks told3 ended = tt
-      by_pages (Some old) q r None lowered told shrinks told3 ended = λ tree there more. tt
-      by_pages (Some old) q None (Some new) lowered told shrinks told3 ended = absurd ended
-      by_pages (Some old) None (Some now) (Some new) lowered told shrinks told3 ended = absurd (true≢false told3)
-      by_pages (Some old) (Some mid) (Some now) (Some new) lowered told shrinks told3 ended = λ tree there more.
-          changed_lowered f key marking old mid new root low root' node lowered (step mid now new lowered.tree (change_of old mid now lowered there shrinks) ended)
+    by_result : (p4 : Option PageMap) (root' : ℕ) (Ends : PageMap → PageMap → Type 0)
+        → ((mid now new : PageMap) → IsTreeSpace mid low → Changed f key marking (root_place low) (height_of (node_at mid low))
+        mid now (node_at mid low) after → Ends now new → TreeChanged f key marking mid new low root')
+        → BothTell p3 p4 Ends → ChangesTree f key marking (λ es. IsSome (element_at key es)) p0 p4 root root'
+    by_result p4 root' Ends step ended = by_pages p0 p2 p3 p4
+        (subst (λ (p : Option PageMap). IfSome p (λ was. IfSome p2 (λ is. IsLowered was is root low node))) same lowered)
+        (told ∙ ap is_some same) shrinks told3 ended where
+          by_pages : (p q r s : Option PageMap) → IfSome p (λ was. IfSome q (λ is. IsLowered was is root low node))
+              → is_some q ≡ is_some p → Shrinks f key marking (λ o. IsSome o) q r node after → is_some r ≡ is_some q → BothTell r s Ends
+              → ChangesTree f key marking (λ es. IsSome (element_at key es)) p s root root'
+          by_pages None q r s lowered told shrinks told3 ended = tt
+          by_pages (Some old) q r None lowered told shrinks told3 ended = λ tree there. tt
+          by_pages (Some old) q None (Some new) lowered told shrinks told3 ended = absurd ended
+          by_pages (Some old) None (Some now) (Some new) lowered told shrinks told3 ended = absurd (true≢false told3)
+          by_pages (Some old) (Some mid) (Some now) (Some new) lowered told shrinks told3 ended = λ tree there.
+              changed_lowered f key marking old mid new root low root' node lowered
+              (step mid now new lowered.tree (change_of old mid now lowered there shrinks) ended)
 
     -- it is written
-    pub written_result : (p4 : Option PageMap) → BothTell p3 p4 (HasWritten low after) → ChangesTree f key marking (λ es. IsSome (element_at key es)) ⊤ p0 p4 root low
-    written_result p4 written = by_result p4 low (HasWritten low after) (λ mid now new tree change ended. root_written f key marking low mid now new after tree change ended) written
+    pub written_result : (p4 : Option PageMap) → BothTell p3 p4 (HasWritten low after) → ChangesTree f key marking
+        (λ es. IsSome (element_at key es)) p0 p4 root low
+    written_result p4 written = by_result p4 low (HasWritten low after) (λ mid now new tree change ended. root_written f key
+        marking low mid now new after tree change ended) written
 
     -- it goes
-    pub dropped_result : (p4 : Option PageMap) (below : ℕ) → IsOnlyChild after below → BothTell p3 p4 (HasLost low) → ChangesTree f key marking (λ es. IsSome (element_at key es)) ⊤ p0 p4 root below
-    dropped_result p4 below only lost = by_result p4 below (HasLost low) (λ mid now new tree change ended. root_dropped f key marking low mid now new after below tree change only ended) lost
+    pub dropped_result : (p4 : Option PageMap) (below : ℕ) → IsOnlyChild after below → BothTell p3 p4 (HasLost low)
+        → ChangesTree f key marking (λ es. IsSome (element_at key es)) p0 p4 root below
+    dropped_result p4 below only lost = by_result p4 below (HasLost low) (λ mid now new tree change ended. root_dropped f key
+        marking low mid now new after below tree change only ended) lost

@@ -66,14 +66,16 @@ pub record IsLocal (f : List Element → List Element) (key : Key) : Type 0 wher
 
 -- A node and all below it changed: its list of elements and the marks in these ways, at a key. The node's own page
 -- is not written yet.
-pub record Changed (f : List Element → List Element) (key : Key) (marking : Marking) (place : Subtree) (height : ℕ) (old new : PageMap) (before after : Node) : Type 0 where
+pub record Changed (f : List Element → List Element) (key : Key) (marking : Marking) (place : Subtree) (height : ℕ)
+    (old new : PageMap) (before after : Node) : Type 0 where
   pub tree : IsTree new height (placed after place) after
   pub elements : elements_in new height after ≡ f (elements_in old height before)
   pub mark : MarksWithin marking key place.left place.right (mark_in old height before) (mark_in new height after)
   pub pages : Replaces (reaches old height before) (reaches new height after) old new
 
 -- the same of some children of one node
-pub record ChangedUnder (f : List Element → List Element) (key : Key) (marking : Marking) (level : ℕ) (right : Base) (height : ℕ) (old new : PageMap) (before after : List Child) : Type 0 where
+pub record ChangedUnder (f : List Element → List Element) (key : Key) (marking : Marking) (level : ℕ) (right : Base) (height : ℕ)
+    (old new : PageMap) (before after : List Child) : Type 0 where
   pub stored : AreStored new height level right after
   pub elements : elements_under new height after ≡ f (elements_under old height before)
   pub mark : MarksWithin marking key (next_left right before) right (mark_under old height before) (mark_under new height after)

@@ -2,6 +2,7 @@
 use Rattle.std.specs.Prelude.{◌≡◌, ℕ, ◌+◌, ◌≤◌, ◌||◌, max, if◌then◌else◌, List, [], ◌∷◌, ◌++◌, length, take, drop, Option, None, Some, IfSome}
 use Rattle.std.specs.Ordering.{is_lt}
 use Rattle.hm_types.specs.Elements.{Key, key_cmp}
+use Rattle.hm_types.specs.Told.{BothTell}
 use Rattle.hm_fields.specs.Pages.{PageMap}
 use Rattle.hm_key.specs.Key.{key_of, IsBefore, IsBoundary}
 use Rattle.hm_key.specs.Elements.{element_at, element_key}
@@ -25,13 +26,15 @@ use Rattle.hm_btree.specs.declared.upper.Upper.{Upper}
 
 -- A node and all below it changed, as `Changed` says, and became two, of which neither is written. The upper one
 -- begins at a boundary inside those of the node.
-pub record Split (f : List Element → List Element) (key : Key) (marking : Marking) (place : Subtree) (height : ℕ) (old new : PageMap) (before lower upper : Node) (at : Base) : Type 0 where
+pub record Split (f : List Element → List Element) (key : Key) (marking : Marking) (place : Subtree) (height : ℕ)
+    (old new : PageMap) (before lower upper : Node) (at : Base) : Type 0 where
   pub lower_tree : IsTree new height (placed lower (record place { right = at })) lower
   pub upper_tree : IsTree new height (placed upper (record place { left = at })) upper
   pub lower_many : least_count lower ≤ count_of lower
   pub upper_many : least_count upper ≤ count_of upper
   pub elements : elements_in new height lower ++ elements_in new height upper ≡ f (elements_in old height before)
-  pub mark : MarksWithin marking key place.left place.right (mark_in old height before) (λ k. if is_lt (key_cmp k (key_of at)) then mark_in new height lower k else mark_in new height upper k)
+  pub mark : MarksWithin marking key place.left place.right (mark_in old height before)
+      (λ k. if is_lt (key_cmp k (key_of at)) then mark_in new height lower k else mark_in new height upper k)
   pub pages : Replaces (reaches old height before) (λ x. reaches new height lower x || reaches new height upper x) old new
   pub bound : IsBound at
   pub from : IsBefore (key_of place.left) (key_of at)
@@ -43,10 +46,12 @@ GrownTo f key marking place height old new before after None = Changed f key mar
 GrownTo f key marking place height old new before after (Some upper) = Split f key marking place height old new before after upper.node upper.left
 
 -- what a call that may make a node two makes of one, where the pages are told: it needs a fact of what stands at
--- the key, and one more
-abbrev pub Grows : (List Element → List Element) → Key → Marking → (Option Element → Type 0) → Type 0 → Option PageMap → Option PageMap → Node → Node → Option Upper → Type 0
-Grows f key marking Needs More old new before after upper =
-    IfSome old (λ was. (place : Subtree) (height : ℕ) → IsTree was height place before → IsInside place.left place.right key → Needs (element_at key (elements_in was height before)) → More
+-- the key
+abbrev pub Grows : (List Element → List Element) → Key → Marking → (Option Element → Type 0) → Option PageMap → Option PageMap
+    → Node → Node → Option Upper → Type 0
+Grows f key marking Needs old new before after upper =
+    IfSome old (λ was. (place : Subtree) (height : ℕ) → IsTree was height place before → IsInside place.left place.right key
+    → Needs (element_at key (elements_in was height before))
     → IfSome new (λ is. GrownTo f key marking place height was is before after upper))
 
 -- a boundary at the first of some elements
@@ -71,9 +76,20 @@ InnerBecomes level mirror cs right inner (Some upper) =
 abbrev pub top_of : Subtree → Node → Upper → ℕ → Node
 top_of place lower upper at =
     inner_node (inner_of (level_of lower + 1) (max (mirror_of lower) (mirror_of upper.node))
-    (record { left = place.left; child = place.at; mirror = mirror_of lower } ∷ record { left = upper.left; child = at; mirror = mirror_of upper.node } ∷ []) place.right)
+    (record { left = place.left; child = place.at; mirror = mirror_of lower } ∷ record {
+      left = upper.left;
+      child = at;
+      mirror =
+          mirror_of upper.node;
+    } ∷ []) place.right)
 
 -- a root was added at an offset, above a node that stands where the root stood and one that was added
 abbrev pub HasTop : Subtree → Node → Upper → ℕ → PageMap → PageMap → Type 0
 HasTop place lower upper top old new =
     (mid : PageMap) × (at : ℕ) × IsSpot at × HasAdded at upper.node old mid × HasAdded top (top_of place lower upper at) mid new
+
+-- the same of pages that may be told: the root stands where a node may, above at most eight levels
+pub record AddsTop (place : Subtree) (lower : Node) (upper : Upper) (old new : Option PageMap) (top : ℕ) : Type 0 where
+  pub told : BothTell old new (HasTop place lower upper top)
+  pub spot : IsSpot top
+  pub shallow : level_of lower ≤ 8

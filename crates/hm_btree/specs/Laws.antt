@@ -15,11 +15,14 @@ pub told_sorted : (intact : Bool) (told : Option PageMap) (root : ℕ) → ∥ I
 told_sorted false told root sound = tt
 told_sorted true None root sound = tt
 told_sorted true (Some pages) root sound =
-    ∥∥₁_elim sound (IsContent-prop (elements_of pages root)) (λ tree. tree_content pages (height_of (node_at pages root)) (root_place root) (node_at pages root) tree.sound.tree)
+    ∥∥₁_elim sound (IsContent-prop (elements_of pages root)) (λ tree. tree_content pages (height_of (node_at pages root))
+    (root_place root) (node_at pages root) tree.sound.tree)
 
 -- the mark at the key of each is at least its two ids
-pub told_marked : (intact : Bool) (told : Option PageMap) (root : ℕ) → ∥ IsIntact intact told root ∥₁ → IfSome (told_elements intact told root) (All (IsMarked (told_mark told root)))
+pub told_marked : (intact : Bool) (told : Option PageMap) (root : ℕ) → ∥ IsIntact intact told root ∥₁
+    → IfSome (told_elements intact told root) (All (IsMarked (told_mark told root)))
 told_marked false told root sound = tt
 told_marked true None root sound = tt
 told_marked true (Some pages) root sound =
-    ∥∥₁_elim sound (AllMarked-prop (mark_of pages root) (elements_of pages root)) (λ tree. all_marked pages (height_of (node_at pages root)) (root_place root) (node_at pages root) tree.sound.tree)
+    ∥∥₁_elim sound (AllMarked-prop (mark_of pages root) (elements_of pages root))
+    (λ tree. all_marked pages (height_of (node_at pages root)) (root_place root) (node_at pages root) tree.sound.tree)

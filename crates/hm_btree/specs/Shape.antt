@@ -1,7 +1,7 @@
 -- What a node keeps that is written, also over pages that are not told.
-use Rattle.std.specs.Prelude.{Option, IfSome}
+use Rattle.std.specs.Prelude.{◌≡◌, Option, IfSome}
 use Rattle.hm_node.specs.Inner.{IsBound}
-use Rattle.hm_node.specs.Node.{HasLevel, HasCount, HasFields}
+use Rattle.hm_node.specs.Node.{HasLevel, HasCount, HasFields, level_of}
 use Rattle.hm_node.specs.declared.node.Node.{Node}
 use Rattle.hm_btree.specs.declared.upper.Upper.{Upper}
 
@@ -20,3 +20,8 @@ pub record IsShapedUpper (upper : Upper) : Type 0 where
 pub record AreShaped (node : Node) (upper : Option Upper) : Type 0 where
   pub shape : IsShaped node
   pub above : IfSome upper IsShapedUpper
+
+-- a node is one, of the level of the node that it was
+pub record IsShapedLike (before after : Node) : Type 0 where
+  pub shape : IsShaped after
+  pub level : level_of after ≡ level_of before

@@ -1,5 +1,6 @@
 -- Nodes that lose places, and are joined with a neighbour where they have too few.
-use Rattle.std.specs.Prelude.{◌≡◌, ◌⊎◌, ℕ, suc, ◌+◌, ◌/◌, ◌<◌, ◌≤◌, ◌||◌, Bool, max, nat_lt, if◌then◌else◌, List, [], ◌∷◌, ◌++◌, length, take, drop, slice_get, Option, None, Some, IfSome, IsSome, ⊤}
+use Rattle.std.specs.Prelude.{◌≡◌, ◌⊎◌, ℕ, suc, ◌+◌, ◌/◌, ◌<◌, ◌≤◌, ◌||◌, Bool, max, nat_lt, if◌then◌else◌, List, [], ◌∷◌, ◌++◌, length}
+use Rattle.std.specs.Prelude.{take, drop, slice_get, Option, None, Some, IfSome, IsSome, ⊤}
 use Rattle.std.specs.Ordering.{is_lt}
 use Rattle.arrayvec.specs.ArrayVec.{array_vec_len}
 use Rattle.hm_types.specs.Elements.{Key, key_cmp}
@@ -40,7 +41,8 @@ between left right = record { at = 0; left = left; right = right; parent = None 
 -- for where it stands. It needs a fact of what stands at the key.
 abbrev pub Shrinks : (List Element → List Element) → Key → Marking → (Option Element → Type 0) → Option PageMap → Option PageMap → Node → Node → Type 0
 Shrinks f key marking Needs old new before after =
-    IfSome old (λ was. (place : Subtree) (height : ℕ) → IsTree was height place before → IsInside place.left place.right key → Needs (element_at key (elements_in was height before))
+    IfSome old (λ was. (place : Subtree) (height : ℕ) → IsTree was height place before → IsInside place.left place.right key
+    → Needs (element_at key (elements_in was height before))
     → IfSome new (λ is. Changed f key marking (loose place) height was is before after))
 
 -- an element stands at a key below a node, which is sound with all below it
@@ -101,7 +103,8 @@ Joins (inner_node a) (inner_node b) (inner_node lower) upper = JoinsInners a b l
 
 -- Two neighbours, on both sides of a boundary, of which neither is written. Together they have these elements, and
 -- the marks came from these by a change at a key.
-pub record Beside (key : Key) (marking : Marking) (height : ℕ) (old mid : PageMap) (olds : ℕ → Bool) (want : List Element) (were : Key → ℕ) (left right : Base) (lower upper : Node) (at : Base) : Type 0 where
+pub record Beside (key : Key) (marking : Marking) (height : ℕ) (old mid : PageMap) (olds : ℕ → Bool) (want : List Element)
+    (were : Key → ℕ) (left right : Base) (lower upper : Node) (at : Base) : Type 0 where
   pub lower_tree : IsTree mid height (between left at) lower
   pub upper_tree : IsTree mid height (between at right) upper
   pub elements : elements_in mid height lower ++ elements_in mid height upper ≡ want
@@ -122,13 +125,15 @@ LeavesHave marks at (leaf_node a) (inner_node b) = ⊤
 LeavesHave marks at (inner_node a) upper = ⊤
 
 -- two neighbours that have enough places
-pub record Shared (key : Key) (marking : Marking) (height : ℕ) (old mid : PageMap) (olds : ℕ → Bool) (want : List Element) (were : Key → ℕ) (left right : Base) (lower upper : Node) (at : Base) : Type 0 where
+pub record Shared (key : Key) (marking : Marking) (height : ℕ) (old mid : PageMap) (olds : ℕ → Bool) (want : List Element)
+    (were : Key → ℕ) (left right : Base) (lower upper : Node) (at : Base) : Type 0 where
   pub beside : Beside key marking height old mid olds want were left right lower upper at
   pub lower_many : least_count lower ≤ count_of lower
   pub upper_many : least_count upper ≤ count_of upper
 
 -- the same of one node
-pub record Joined (key : Key) (marking : Marking) (height : ℕ) (old mid : PageMap) (olds : ℕ → Bool) (want : List Element) (were : Key → ℕ) (left right : Base) (node : Node) : Type 0 where
+pub record Joined (key : Key) (marking : Marking) (height : ℕ) (old mid : PageMap) (olds : ℕ → Bool) (want : List Element)
+    (were : Key → ℕ) (left right : Base) (node : Node) : Type 0 where
   pub tree : IsTree mid height (between left right) node
   pub many : least_count node ≤ count_of node
   pub elements : elements_in mid height node ≡ want
@@ -145,12 +150,18 @@ abbrev pub IsRejoined : Inner → ℕ → Node → Option Upper → PageMap → 
 IsRejoined before i lower None old new after =
     (a b : Child) → slice_get before.places.items i ≡ Some a → slice_get before.places.items (i + 1) ≡ Some b
     → ((mid : PageMap) × HasWritten a.child lower old mid × HasLost b.child mid new)
-    × (after ≡ inner_of before.level (max before.mirror (mirror_of lower)) (take i before.places.items ++ with_mirror (mirror_of lower) a ∷ drop (i + 2) before.places.items) before.right)
+    × (after ≡ inner_of before.level (max before.mirror (mirror_of lower)) (take i before.places.items ++ with_mirror
+    (mirror_of lower) a ∷ drop (i + 2) before.places.items) before.right)
 IsRejoined before i lower (Some upper) old new after =
     (a b : Child) → slice_get before.places.items i ≡ Some a → slice_get before.places.items (i + 1) ≡ Some b
     → ((mid : PageMap) × HasWritten a.child lower old mid × HasWritten b.child upper.node mid new)
     × (after ≡ inner_of before.level (max (max before.mirror (mirror_of lower)) (mirror_of upper.node))
-    (take i before.places.items ++ with_mirror (mirror_of lower) a ∷ record { left = upper.left; child = b.child; mirror = mirror_of upper.node } ∷ drop (i + 2) before.places.items) before.right)
+    (take i before.places.items ++ with_mirror (mirror_of lower) a ∷ record {
+      left = upper.left;
+      child = b.child;
+      mirror =
+          mirror_of upper.node;
+    } ∷ drop (i + 2) before.places.items) before.right)
 
 -- the node of a child at a place, where the child's page holds it
 abbrev pub IsChildNode : Inner → ℕ → PageMap → Node → Type 0
@@ -183,7 +194,8 @@ pub record IsShrunk (inner : Inner) (i : ℕ) (node : Node) (now : PageMap) : Ty
   pub holder : i ≡ holder_place key inner.places.items
   pub child : Child
   pub at : slice_get inner.places.items i ≡ Some child
-  pub change : Changed f key TakesOut (loose (child_place inner.level (next_left inner.right (drop (suc i) inner.places.items)) child)) height old now (node_at old child.child) node
+  pub change : Changed f key TakesOut (loose (child_place inner.level (next_left inner.right (drop (suc i) inner.places.items))
+      child)) height old now (node_at old child.child) node
 
 -- the same tree stands from another root on, whose node is this one
 pub record IsLowered (old new : PageMap) (root root' : ℕ) (node : Node) : Type 0 where

@@ -1,6 +1,7 @@
 -- What the calls of a space of nodes do to its pages.
-use Rattle.std.specs.Prelude.{◌≡◌, ℕ, ◌==◌, ◌<◌, ◌^◌, List, None, if◌then◌else◌}
+use Rattle.std.specs.Prelude.{◌≡◌, ℕ, ◌==◌, ◌<◌, ◌^◌, List, Option, None, if◌then◌else◌}
 use Rattle.hm_types.specs.Offset.{byte_of}
+use Rattle.hm_types.specs.Told.{BothTell}
 use Rattle.hm_fields.specs.Pages.{PageMap, HasPut}
 use Rattle.hm_node.specs.Inner.{IsNodeOffset}
 use Rattle.hm_node.specs.Node.{Spells}
@@ -27,3 +28,8 @@ HasAdded at node old new = (page : List ℕ) × Spells page node × HasNew at pa
 pub record IsSpot (at : ℕ) : Type 0 where
   pub node : IsNodeOffset at
   pub below : byte_of at < 2 ^ 43
+
+-- a node was added at an offset where one may stand, to pages that may be told
+pub record AddsNode (node : Node) (old new : Option PageMap) (at : ℕ) : Type 0 where
+  pub told : BothTell old new (HasAdded at node)
+  pub spot : IsSpot at

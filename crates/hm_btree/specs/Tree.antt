@@ -1,5 +1,5 @@
 -- The tree that a space of nodes holds.
-use Rattle.std.specs.Prelude.{◌≡◌, ℕ, Bool, true, false, List, Option, None, Some, Result, IsSome, IfSome, IfErr, ⊤}
+use Rattle.std.specs.Prelude.{◌≡◌, ℕ, Bool, true, false, List, [], Option, None, Some, Result, IsSome, IfSome, IfErr, ⊤}
 use Rattle.hm_types.specs.Elements.{Key}
 use Rattle.hm_types.specs.Faults.{HasFaultCause, IsUndamaged}
 use Rattle.hm_types.specs.declared.fault.Fault.{Fault}
@@ -26,10 +26,10 @@ pub record TreeChanged (f : List Element → List Element) (key : Key) (marking 
   pub elements : elements_of new root' ≡ f (elements_of old root)
   pub mark : MarksBy marking key (mark_of old root) (mark_of new root')
 
--- a call changes a tree so, where what stands at the key is as it needs, and one more fact holds
-abbrev pub ChangesTree : (List Element → List Element) → Key → Marking → (List Element → Type 0) → Type 0 → Option PageMap → Option PageMap → ℕ → ℕ → Type 0
-ChangesTree f key marking Needs More old new root root' =
-    IfSome old (λ was. IsTreeSpace was root → Needs (elements_of was root) → More → IfSome new (λ is. TreeChanged f key marking was is root root'))
+-- a call changes a tree so, where what stands at the key is as it needs
+abbrev pub ChangesTree : (List Element → List Element) → Key → Marking → (List Element → Type 0) → Option PageMap → Option PageMap → ℕ → ℕ → Type 0
+ChangesTree f key marking Needs old new root root' =
+    IfSome old (λ was. IsTreeSpace was root → Needs (elements_of was root) → IfSome new (λ is. TreeChanged f key marking was is root root'))
 
 -- Each fault of a call has its cause in the call. It tells of damage only of a place to which a descent comes from the
 -- root, and of its lowest broken rule; of none where the pages are a sound tree.
@@ -57,3 +57,8 @@ told_elements true (Some pages) root = Some (elements_of pages root)
 abbrev pub told_mark : Option PageMap → ℕ → Key → ℕ
 told_mark None root key = 0
 told_mark (Some pages) root key = mark_of pages root key
+
+-- a tree tells that it has no element, and that no key has a mark
+pub record HasNothing (intact : Bool) (told : Option PageMap) (root : ℕ) : Type 0 where
+  pub elements : told_elements intact told root ≡ Some []
+  pub marks : (key : Key) → told_mark told root key ≡ 0

@@ -10,6 +10,7 @@ ghost use Rattle.hm_node.specs.Node.{IsNode};
 ghost use Rattle.hm_search.specs.Place.{IsInside};
 ghost use Rattle.hm_search.specs.Tree.{elements_in, IsTree};
 ghost use Rattle.hm_search.specs.declared.subtree.Subtree.{Subtree as Place};
+ghost use Rattle.hm_btree.specs.Calls.Space.{Stays};
 ghost use Rattle.hm_btree.specs.Below.{Changed, HasEditCause};
 ghost use Rattle.hm_btree.specs.Change.{change_of, id_of, marking_of, with_change, MayChange};
 ghost use Rattle.hm_btree.specs.Edits.{ElementChange};
@@ -46,12 +47,10 @@ pub fn change_element<S: NodeSpace>(
     requires may { MayChange (key_of at.now) change }
     ensures ok { OnOk result (ChangesTree (with_change (key_of at.now) change) (key_of at.now)
         (marking_of change) (λ es. IsSome (element_at (key_of at.now) es))
-        (MayChange (key_of at.now) change)
         (S.pages space.old) (S.pages space.new) root root) }
     ensures told { OnOk result (is_some (S.pages space.new) ≡ is_some (S.pages space.old)) }
     ensures rest { S.rest space.new ≡ S.rest space.old }
-    ensures name { S.name space.new ≡ S.name space.old }
-    ensures frame { S.frame space.new ≡ S.frame space.old }
+    ensures stays { Stays S.Counted space.old space.new }
     ensures cause { HasTreeCause (S.pages space.old) root
         (S.faults space.old) (S.faults space.new) result }
 {
@@ -73,14 +72,13 @@ fn change_in<S: NodeSpace>(
     ensures ok { IfSome (S.pages space.old) (λ old. (place : Place) (height : ℕ) →
         IsTree old height place node.old → IsInside place.left place.right (key_of at.now) →
         IsSome (element_at (key_of at.now) (elements_in old height node.old)) →
-        MayChange (key_of at.now) change → OnOk result (IfSome (S.pages space.new) (λ new.
+        OnOk result (IfSome (S.pages space.new) (λ new.
         Changed (with_change (key_of at.now) change) (key_of at.now) (marking_of change)
         place height old new node.old node.new))) }
     ensures shape { OnOk result (IsShaped node.new) }
     ensures told { OnOk result (is_some (S.pages space.new) ≡ is_some (S.pages space.old)) }
     ensures rest { S.rest space.new ≡ S.rest space.old }
-    ensures name { S.name space.new ≡ S.name space.old }
-    ensures frame { S.frame space.new ≡ S.frame space.old }
+    ensures stays { Stays S.Counted space.old space.new }
     ensures cause { HasEditCause (S.pages space.old) node.old
         (S.faults space.old) (S.faults space.new) result }
 {

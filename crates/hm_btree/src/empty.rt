@@ -1,9 +1,9 @@
 // A tree without elements.
-ghost use Rattle.std.specs.Prelude.{◌≡◌, ◌≤◌, ℕ, None, Some, [], Err, IfSome, IfOk, IfErr};
-ghost use Rattle.hm_types.specs.Elements.{Key};
+ghost use Rattle.std.specs.Prelude.{◌≡◌, ◌≤◌, ℕ, Err, IfSome, IfOk, IfErr};
 ghost use Rattle.hm_types.specs.Faults.{HasStoreCause};
-ghost use Rattle.hm_types.specs.Space.{Spends, in_zone};
-ghost use Rattle.hm_btree.specs.Tree.{HasNoPage, told_elements, told_mark};
+ghost use Rattle.hm_types.specs.Space.{in_zone};
+ghost use Rattle.hm_btree.specs.Calls.Space.{Stays, Takes};
+ghost use Rattle.hm_btree.specs.Tree.{HasNoPage, HasNothing};
 
 use crate::node_edit::add_node;
 use crate::space::{NODE_BYTES, NodeSpace};
@@ -18,17 +18,13 @@ impl<S: NodeSpace> BTree<S> {
     pub fn empty(space: S) -> Result<BTree<S>, (S, Fault)>
         requires pages { IfSome (S.pages space) HasNoPage }
         requires room { NODE_BYTES ≤ S.room space TREE_ZONE }
-        ensures elements { IfOk result (λ tree. IfSome (S.pages space) (λ _.
-            told_elements tree.intact (S.pages tree.space) tree.root ≡ Some [])) }
-        ensures marks { IfOk result (λ tree. IfSome (S.pages space) (λ _. (key : Key) →
-            told_mark (S.pages tree.space) tree.root key ≡ 0)) }
+        ensures empty { IfOk result (λ tree. IfSome (S.pages space) (λ _.
+            HasNothing tree.intact (S.pages tree.space) tree.root)) }
         ensures extents { IfOk result (λ tree. S.extents tree.space ≡ S.extents space) }
         ensures space { IfOk result (λ tree.
-            Spends S.room S.free (in_zone TREE_ZONE NODE_BYTES) space tree.space) }
-        ensures name { IfOk result (λ tree. S.name tree.space ≡ S.name space) }
-        ensures frame { IfOk result (λ tree. S.frame tree.space ≡ S.frame space) }
-        ensures back { IfErr result
-            (λ e. (S.name e.0 ≡ S.name space) × (S.frame e.0 ≡ S.frame space)) }
+            Takes S.HasRoom (in_zone TREE_ZONE NODE_BYTES) space tree.space) }
+        ensures stays { IfOk result (λ tree. Stays S.Counted space tree.space) }
+        ensures back { IfErr result (λ e. Stays S.Counted space e.0) }
         ensures cause { IfErr result (λ e.
             HasStoreCause {T = ℕ} (S.pages space) (S.faults space) (S.faults e.0) (Err e.1)) }
     {

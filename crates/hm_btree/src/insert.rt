@@ -1,13 +1,12 @@
 // Insertion of an element below a node.
-ghost use Rattle.std.specs.Prelude.{◌≡◌, ◌*◌, ◌-◌, ◌≤◌, max, insert, IsNone, IfOk, OnOk, is_some};
+ghost use Rattle.std.specs.Prelude.{◌≡◌, ◌*◌, ◌-◌, ◌≤◌, max, insert, IsNone, IfOk, OnOk};
 ghost use Rattle.arrayvec.specs.ArrayVec.{array_vec_len};
-ghost use Rattle.hm_types.specs.Offset.{IsOffset};
-ghost use Rattle.hm_key.specs.Element.{IsElement};
 ghost use Rattle.hm_key.specs.Elements.{inserted, last_id};
 ghost use Rattle.hm_key.specs.Key.{key_of};
-ghost use Rattle.hm_types.specs.Space.{Spends, in_zone};
+ghost use Rattle.hm_types.specs.Space.{in_zone};
 ghost use Rattle.hm_node.specs.Leaf.{HasLeafOrder, IsPlaced};
 ghost use Rattle.hm_node.specs.Node.{IsNode, level_of};
+ghost use Rattle.hm_btree.specs.Calls.Space.{KeepsTold, Stays, Takes};
 ghost use Rattle.hm_btree.specs.Below.{HasEditCause};
 ghost use Rattle.hm_btree.specs.Marking.{Writes};
 ghost use Rattle.hm_btree.specs.Grow.{Grows, LeafBecomes, InnerBecomes};
@@ -35,15 +34,12 @@ pub fn insert_into<S: NodeSpace>(
     requires room { NODE_BYTES * (level_of node.old - 1) ≤ S.room space.old TREE_ZONE }
     ensures ok { IfOk result (Grows (inserted element.now) (key_of element.now.base)
         (Writes (last_id element.now)) (λ o. IsNone o)
-        (IsElement element.now × IsOffset element.now.payload)
         (S.pages space.old) (S.pages space.new) node.old node.new) }
     ensures shape { IfOk result (λ upper. AreShaped node.new upper) }
-    ensures told { OnOk result (is_some (S.pages space.new) ≡ is_some (S.pages space.old)) }
-    ensures extents { OnOk result (S.extents space.new ≡ S.extents space.old) }
-    ensures space { Spends S.room S.free (in_zone TREE_ZONE (NODE_BYTES * (level_of node.old - 1)))
+    ensures kept { OnOk result (KeepsTold S.Pages S.HasRoom space.old space.new) }
+    ensures space { Takes S.HasRoom (in_zone TREE_ZONE (NODE_BYTES * (level_of node.old - 1)))
         space.old space.new }
-    ensures name { S.name space.new ≡ S.name space.old }
-    ensures frame { S.frame space.new ≡ S.frame space.old }
+    ensures stays { Stays S.Counted space.old space.new }
     ensures cause { HasEditCause (S.pages space.old) node.old
         (S.faults space.old) (S.faults space.new) result }
 {

@@ -1,13 +1,14 @@
 // What leaves and inner nodes have in common.
-ghost use Rattle.std.specs.Prelude.{◌≡◌, ◌≤◌, IfOk, OnOk};
+ghost use Rattle.std.specs.Prelude.{◌≡◌, ◌≤◌, IfOk, OnOk, OnErr};
 ghost use Rattle.hm_types.specs.Told.{BothTell};
 ghost use Rattle.hm_types.specs.Faults.{HasStoreCause};
 ghost use Rattle.hm_node.specs.Inner.{IsNodeOffset};
 ghost use Rattle.hm_node.specs.Node.{level_of};
 ghost use Rattle.hm_search.specs.Place.{mirror_of};
-ghost use Rattle.hm_types.specs.Space.{Spends, in_zone};
+ghost use Rattle.hm_types.specs.Space.{in_zone};
+ghost use Rattle.hm_btree.specs.Calls.Space.{Stays, Takes};
 ghost use Rattle.hm_btree.specs.Shape.{IsShaped};
-ghost use Rattle.hm_btree.specs.Space.{HasAdded, HasWritten, IsSpot};
+ghost use Rattle.hm_btree.specs.Space.{AddsNode, HasWritten};
 
 use crate::space::{NODE_BYTES, NodeSpace};
 use hm_fields::Page;
@@ -31,8 +32,7 @@ pub fn write_node<S: NodeSpace>(space: &mut S, at: HOff, node: &Node) -> Result<
     ensures ok { OnOk result
         (BothTell (S.pages space.old) (S.pages space.new) (HasWritten at node.now)) }
     ensures rest { S.rest space.new ≡ S.rest space.old }
-    ensures name { S.name space.new ≡ S.name space.old }
-    ensures frame { S.frame space.new ≡ S.frame space.old }
+    ensures stays { Stays S.Counted space.old space.new }
     ensures cause { HasStoreCause (S.pages space.old)
         (S.faults space.old) (S.faults space.new) result }
 {
@@ -45,13 +45,11 @@ pub fn write_node<S: NodeSpace>(space: &mut S, at: HOff, node: &Node) -> Result<
 pub fn add_node<S: NodeSpace>(space: &mut S, node: &Node) -> Result<HOff, Fault>
     requires node { IsShaped node.now }
     requires room { NODE_BYTES ≤ S.room space.old TREE_ZONE }
-    ensures ok { IfOk result (λ at.
-        BothTell (S.pages space.old) (S.pages space.new) (HasAdded at node.now)) }
-    ensures offset { IfOk result IsSpot }
+    ensures ok { IfOk result (AddsNode node.now (S.pages space.old) (S.pages space.new)) }
+    ensures refused { OnErr result S.Refusal }
     ensures extents { OnOk result (S.extents space.new ≡ S.extents space.old) }
-    ensures space { Spends S.room S.free (in_zone TREE_ZONE NODE_BYTES) space.old space.new }
-    ensures name { S.name space.new ≡ S.name space.old }
-    ensures frame { S.frame space.new ≡ S.frame space.old }
+    ensures space { Takes S.HasRoom (in_zone TREE_ZONE NODE_BYTES) space.old space.new }
+    ensures stays { Stays S.Counted space.old space.new }
     ensures cause { HasStoreCause (S.pages space.old)
         (S.faults space.old) (S.faults space.new) result }
 {

@@ -1,15 +1,16 @@
 // Removal of an element below a node.
-ghost use Rattle.std.specs.Prelude.{◌≡◌, ◌+◌, ◌<◌, ◌≤◌, IfSome, IsSome, OnOk, Some, is_some, slice_get};
+ghost use Rattle.std.specs.Prelude.{◌≡◌, ◌+◌, ◌<◌, ◌≤◌, IfSome, IsSome, OnOk, Some, slice_get};
 ghost use Rattle.arrayvec.specs.ArrayVec.{array_vec_len};
 ghost use Rattle.hm_types.specs.Faults.{HasStoreCause};
 ghost use Rattle.hm_key.specs.Elements.{removed};
 ghost use Rattle.hm_key.specs.Key.{key_of};
-ghost use Rattle.hm_types.specs.Space.{Spends, nothing};
-ghost use Rattle.hm_node.specs.Node.{IsNode, level_of};
+ghost use Rattle.hm_types.specs.Space.{nothing};
+ghost use Rattle.hm_node.specs.Node.{IsNode};
 ghost use Rattle.hm_node.specs.declared.inner.Child.{Child as ChildOf};
 ghost use Rattle.hm_node.specs.declared.node.Node.TheVariants.{Inner as inner_node};
+ghost use Rattle.hm_btree.specs.Calls.Space.{KeepsTold, Stays, Takes};
 ghost use Rattle.hm_btree.specs.Marking.{TakesOut};
-ghost use Rattle.hm_btree.specs.Shape.{IsShaped};
+ghost use Rattle.hm_btree.specs.Shape.{IsShaped, IsShapedLike};
 ghost use Rattle.hm_btree.specs.Shrink.{Shrinks, HoldsElement, HasNeighbours, IsLevelBelow, IsPairJoined, IsJoinedAt, IsShrunk};
 
 use crate::change::has_element;
@@ -32,13 +33,10 @@ pub fn remove_below<S: NodeSpace>(space: &mut S, node: &mut Node, at: &Base) -> 
     requires told { IfSome (S.pages space.old) (HoldsElement (key_of at.now) node.old) }
     ensures ok { OnOk result (Shrinks (removed (key_of at.now)) (key_of at.now) TakesOut (λ o. IsSome o)
         (S.pages space.old) (S.pages space.new) node.old node.new) }
-    ensures level { OnOk result (level_of node.new ≡ level_of node.old) }
-    ensures shape { OnOk result (IsShaped node.new) }
-    ensures told { OnOk result (is_some (S.pages space.new) ≡ is_some (S.pages space.old)) }
-    ensures extents { OnOk result (S.extents space.new ≡ S.extents space.old) }
-    ensures space { Spends S.room S.free nothing space.old space.new }
-    ensures name { S.name space.new ≡ S.name space.old }
-    ensures frame { S.frame space.new ≡ S.frame space.old }
+    ensures shape { OnOk result (IsShapedLike node.old node.new) }
+    ensures kept { OnOk result (KeepsTold S.Pages S.HasRoom space.old space.new) }
+    ensures space { Takes S.HasRoom nothing space.old space.new }
+    ensures stays { Stays S.Counted space.old space.new }
     ensures cause { HasStoreCause (S.pages space.old)
         (S.faults space.old) (S.faults space.new) result }
 {
@@ -79,13 +77,10 @@ fn rejoin<S: NodeSpace>(
     requires told { IfSome (S.pages space.old) (IsShrunk inner.old i child) }
     ensures ok { OnOk result (IfSome (S.pages space.old) (λ old. IfSome (S.pages space.new) (λ new.
         IsJoinedAt inner.old i child old new inner.new))) }
-    ensures level { inner.new.level ≡ inner.old.level }
-    ensures shape { OnOk result (IsShaped (inner_node inner.new)) }
-    ensures told { OnOk result (is_some (S.pages space.new) ≡ is_some (S.pages space.old)) }
-    ensures extents { OnOk result (S.extents space.new ≡ S.extents space.old) }
-    ensures space { Spends S.room S.free nothing space.old space.new }
-    ensures name { S.name space.new ≡ S.name space.old }
-    ensures frame { S.frame space.new ≡ S.frame space.old }
+    ensures shape { OnOk result (IsShapedLike (inner_node inner.old) (inner_node inner.new)) }
+    ensures kept { OnOk result (KeepsTold S.Pages S.HasRoom space.old space.new) }
+    ensures space { Takes S.HasRoom nothing space.old space.new }
+    ensures stays { Stays S.Counted space.old space.new }
     ensures cause { HasStoreCause (S.pages space.old)
         (S.faults space.old) (S.faults space.new) result }
 {
@@ -115,13 +110,10 @@ fn join_at<S: NodeSpace>(
         slice_get inner.old.places.items (i + 1) ≡ Some c → IsSome (map c.child)) }
     ensures ok { OnOk result (IfSome (S.pages space.old) (λ old. IfSome (S.pages space.new) (λ new.
         IsPairJoined inner.old i left right old new inner.new))) }
-    ensures level { inner.new.level ≡ inner.old.level }
-    ensures shape { OnOk result (IsShaped (inner_node inner.new)) }
-    ensures told { OnOk result (is_some (S.pages space.new) ≡ is_some (S.pages space.old)) }
-    ensures extents { OnOk result (S.extents space.new ≡ S.extents space.old) }
-    ensures space { Spends S.room S.free nothing space.old space.new }
-    ensures name { S.name space.new ≡ S.name space.old }
-    ensures frame { S.frame space.new ≡ S.frame space.old }
+    ensures shape { OnOk result (IsShapedLike (inner_node inner.old) (inner_node inner.new)) }
+    ensures kept { OnOk result (KeepsTold S.Pages S.HasRoom space.old space.new) }
+    ensures space { Takes S.HasRoom nothing space.old space.new }
+    ensures stays { Stays S.Counted space.old space.new }
     ensures cause { HasStoreCause (S.pages space.old)
         (S.faults space.old) (S.faults space.new) result }
 {

@@ -1,19 +1,16 @@
 // Insertion of an element into a tree.
-ghost use Rattle.std.specs.Prelude.{◌≡◌, ◌↔◌, ◌*◌, ◌^◌, ◌<◌, ◌≤◌, IsTrue, IsNone, IfOk, OnOk, is_some};
-ghost use Rattle.hm_types.specs.Offset.{IsOffset};
-ghost use Rattle.hm_types.specs.Told.{BothTell};
+ghost use Rattle.std.specs.Prelude.{◌≡◌, ◌⊎◌, ◌*◌, ◌^◌, ◌<◌, ◌≤◌, IsNone, IfOk, OnOk, OnErr};
 ghost use Rattle.hm_types.specs.Faults.{HasStoreCause};
-ghost use Rattle.hm_key.specs.Element.{IsElement};
 ghost use Rattle.hm_key.specs.Elements.{element_at, inserted, last_id};
 ghost use Rattle.hm_key.specs.Key.{key_of};
-ghost use Rattle.hm_types.specs.Space.{Spends, in_zone};
+ghost use Rattle.hm_types.specs.Space.{in_zone};
 ghost use Rattle.hm_node.specs.Inner.{IsBound, IsNodeOffset};
 ghost use Rattle.hm_node.specs.Leaf.{IsPlaced};
 ghost use Rattle.hm_node.specs.Node.{level_of};
-ghost use Rattle.hm_btree.specs.Grow.{HasTop, top_of};
+ghost use Rattle.hm_btree.specs.Calls.Space.{KeepsTold, Stays, Takes};
+ghost use Rattle.hm_btree.specs.Grow.{AddsTop, top_of};
 ghost use Rattle.hm_btree.specs.Marking.{Writes};
 ghost use Rattle.hm_btree.specs.Shape.{IsShaped, IsShapedUpper};
-ghost use Rattle.hm_btree.specs.Space.{IsSpot};
 ghost use Rattle.hm_btree.specs.Tree.{ChangesTree, HasTreeCause};
 
 use crate::insert::insert_into;
@@ -38,13 +35,10 @@ pub fn insert_from<S: NodeSpace>(
     requires room { INSERT_ROOM ≤ S.room space.old TREE_ZONE }
     ensures ok { IfOk result (ChangesTree (inserted element.now) (key_of element.now.base)
         (Writes (last_id element.now)) (λ es. IsNone (element_at (key_of element.now.base) es))
-        (IsElement element.now × IsOffset element.now.payload)
         (S.pages space.old) (S.pages space.new) root) }
-    ensures told { OnOk result (is_some (S.pages space.new) ≡ is_some (S.pages space.old)) }
-    ensures extents { OnOk result (S.extents space.new ≡ S.extents space.old) }
-    ensures space { Spends S.room S.free (in_zone TREE_ZONE INSERT_ROOM) space.old space.new }
-    ensures name { S.name space.new ≡ S.name space.old }
-    ensures frame { S.frame space.new ≡ S.frame space.old }
+    ensures kept { OnOk result (KeepsTold S.Pages S.HasRoom space.old space.new) }
+    ensures space { Takes S.HasRoom (in_zone TREE_ZONE INSERT_ROOM) space.old space.new }
+    ensures stays { Stays S.Counted space.old space.new }
     ensures cause { HasTreeCause (S.pages space.old) root
         (S.faults space.old) (S.faults space.new) result }
 {
@@ -59,8 +53,9 @@ pub fn insert_from<S: NodeSpace>(
     }
 }
 
-// Adds a root above a node that stands where the root stood, and one that is not written yet. The
-// tree cannot have more than nine levels, for which no volume has enough nodes.
+// Adds a root above a node that stands where the root stood, and one that is not written yet. It
+// answers `NoMemory` where the space refuses a node, or the tree has nine levels already, for which
+// no volume has enough nodes.
 fn add_root<S: NodeSpace>(
     space: &mut S,
     place: &Subtree,
@@ -71,31 +66,22 @@ fn add_root<S: NodeSpace>(
     requires bounds { IsBound place.now.left × IsBound place.now.right }
     requires shape { IsShaped lower.now × IsShapedUpper upper.now }
     requires room { NODE_BYTES * 2 ≤ S.room space.old TREE_ZONE }
-    ensures ok { IfOk result (λ at. BothTell (S.pages space.old) (S.pages space.new)
-        (HasTop place.now lower.now upper.now at)) }
-    ensures offset { IfOk result IsSpot }
-    ensures shallow { OnOk result (level_of lower.now ≤ 8) }
+    ensures ok { IfOk result (AddsTop place.now lower.now upper.now
+        (S.pages space.old) (S.pages space.new)) }
+    ensures refused { OnErr result (S.Refusal ⊎ (MOST_LEVELS ≤ level_of lower.now)) }
     ensures extents { OnOk result (S.extents space.new ≡ S.extents space.old) }
-    ensures space { Spends S.room S.free (in_zone TREE_ZONE (NODE_BYTES * 2))
+    ensures space { Takes S.HasRoom (in_zone TREE_ZONE (NODE_BYTES * 2))
         space.old space.new }
-    ensures name { S.name space.new ≡ S.name space.old }
-    ensures frame { S.frame space.new ≡ S.frame space.old }
+    ensures stays { Stays S.Counted space.old space.new }
     ensures cause { HasStoreCause (S.pages space.old)
         (S.faults space.old) (S.faults space.new) result }
 {
-    if !may_grow(lower) {
+    if level(lower) >= MOST_LEVELS {
         return Err(Fault::NoMemory);
     }
     let at = add_node(space, &upper.node)?;
     let top = top_over(place, lower, upper, at);
     add_node(space, &top)
-}
-
-// Whether a root may stand above a node: it has at most the greatest level.
-fn may_grow(lower: &Node) -> bool
-    ensures { IsTrue result ↔ (level_of lower.now < 9) }
-{
-    level(lower) < MOST_LEVELS
 }
 
 // The root above two nodes.

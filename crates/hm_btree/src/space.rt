@@ -1,5 +1,5 @@
 // The pages of a tree, with room for more.
-ghost use Rattle.std.specs.Prelude.{◌≡◌, ℕ, ◌+◌, ◌≤◌, Option, IfSome, IsSome, IfOk, OnOk};
+ghost use Rattle.std.specs.Prelude.{◌≡◌, ℕ, ◌+◌, ◌≤◌, Option, IfSome, IsSome, IfOk, OnOk, OnErr};
 ghost use Rattle.hm_types.specs.Told.{BothTell};
 ghost use Rattle.hm_types.specs.Faults.{HasStoreCause};
 ghost use Rattle.hm_types.specs.Space.{Spends, nothing, in_zone};
@@ -21,6 +21,10 @@ pub const MOST_NODES: u64 = 2_147_483_648;
 ///
 /// After an error of a call that writes, nothing is known of the pages.
 pub trait NodeSpace: NodePages + HasRoom {
+    /// What is so where the space refused a new node. Only a call that it refused gives this fact:
+    /// a caller that answers it did not give up by itself.
+    ghost Refusal: { Type 0 } = { Unit {0} };
+
     /// Puts a page that holds a node at an offset that no page has, and answers the offset: a
     /// multiple of 4,096 below 2^43 in zone 8, which must have room for it.
     fn new_node(&mut self, with: &Page) -> Result<HOff, Fault>
@@ -29,6 +33,7 @@ pub trait NodeSpace: NodePages + HasRoom {
         ensures ok { IfOk result (λ at.
             BothTell (Self.pages self.old) (Self.pages self.new) (HasNew at with.now)) }
         ensures offset { IfOk result IsSpot }
+        ensures refused { OnErr result Self.Refusal }
         ensures extents { OnOk result (Self.extents self.new ≡ Self.extents self.old) }
         ensures room { OnOk result ((zone : ℕ) → Self.room self.new zone
             + in_zone TREE_ZONE NODE_BYTES zone ≡ Self.room self.old zone) }
@@ -57,6 +62,8 @@ pub trait NodeSpace: NodePages + HasRoom {
 }
 
 impl<S: NodeSpace> NodeSpace for &mut S {
+    ghost Refusal = { S.Refusal };
+
     ghost rests = { λ s t same. S.NodeSpace.rests s.now t.now same };
 
     fn new_node(&mut self, with: &Page) -> Result<HOff, Fault> {

@@ -1,12 +1,13 @@
 // Removal of an element from a tree.
-ghost use Rattle.std.specs.Prelude.{◌≡◌, IfSome, IsSome, IfOk, OnOk, is_some, Some, None, IfNone, ⊤};
+ghost use Rattle.std.specs.Prelude.{◌≡◌, IfSome, IsSome, IfOk, OnOk, Some, None, IfNone};
 ghost use Rattle.hm_types.specs.Faults.{HasStoreCause};
 ghost use Rattle.hm_key.specs.Elements.{element_at, removed};
 ghost use Rattle.hm_key.specs.Key.{key_of};
-ghost use Rattle.hm_types.specs.Space.{Spends, nothing};
+ghost use Rattle.hm_types.specs.Space.{nothing};
 ghost use Rattle.hm_node.specs.Inner.{IsNodeOffset};
 ghost use Rattle.hm_node.specs.Node.{IsNode};
 ghost use Rattle.hm_search.specs.Tree.{node_at, elements_of};
+ghost use Rattle.hm_btree.specs.Calls.Space.{KeepsTold, Stays, Takes};
 ghost use Rattle.hm_btree.specs.Marking.{TakesOut};
 ghost use Rattle.hm_btree.specs.Shrink.{HasNeighbours, IsLowered, IsOnlyChild};
 ghost use Rattle.hm_btree.specs.Tree.{ChangesTree, IsTreeSpace};
@@ -27,13 +28,11 @@ pub fn remove_from<S: NodeSpace>(space: &mut S, root: HOff, at: &Base) -> Result
     requires there { IfSome (S.pages space.old) (λ was.
         IsSome (element_at (key_of at.now) (elements_of was root))) }
     ensures ok { IfOk result (ChangesTree (removed (key_of at.now)) (key_of at.now) TakesOut
-        (λ es. IsSome (element_at (key_of at.now) es)) ⊤
+        (λ es. IsSome (element_at (key_of at.now) es))
         (S.pages space.old) (S.pages space.new) root) }
-    ensures told { OnOk result (is_some (S.pages space.new) ≡ is_some (S.pages space.old)) }
-    ensures extents { OnOk result (S.extents space.new ≡ S.extents space.old) }
-    ensures space { Spends S.room S.free nothing space.old space.new }
-    ensures name { S.name space.new ≡ S.name space.old }
-    ensures frame { S.frame space.new ≡ S.frame space.old }
+    ensures kept { OnOk result (KeepsTold S.Pages S.HasRoom space.old space.new) }
+    ensures space { Takes S.HasRoom nothing space.old space.new }
+    ensures stays { Stays S.Counted space.old space.new }
     ensures cause { HasStoreCause (S.pages space.old)
         (S.faults space.old) (S.faults space.new) result }
 {
@@ -61,13 +60,11 @@ fn lowest<S: NodeSpace>(space: &mut S, root: HOff, node: Node) -> Result<(HOff, 
     requires here { IfSome (S.pages space.old) (λ was. node_at was root ≡ node) }
     ensures ok { IfOk result (λ found. IfSome (S.pages space.old) (λ was.
         IfSome (S.pages space.new) (λ is. IsLowered was is root found.0 found.1))) }
-    ensures root { IfOk result (λ found. IsNodeOffset found.0) }
-    ensures node { IfOk result (λ found. IsNode found.1 × HasNeighbours found.1) }
-    ensures told { OnOk result (is_some (S.pages space.new) ≡ is_some (S.pages space.old)) }
-    ensures extents { OnOk result (S.extents space.new ≡ S.extents space.old) }
-    ensures space { Spends S.room S.free nothing space.old space.new }
-    ensures name { S.name space.new ≡ S.name space.old }
-    ensures frame { S.frame space.new ≡ S.frame space.old }
+    ensures stands { IfOk result (λ found. IsNodeOffset found.0
+        × IsNode found.1 × HasNeighbours found.1) }
+    ensures kept { OnOk result (KeepsTold S.Pages S.HasRoom space.old space.new) }
+    ensures space { Takes S.HasRoom nothing space.old space.new }
+    ensures stays { Stays S.Counted space.old space.new }
     ensures cause { HasStoreCause (S.pages space.old)
         (S.faults space.old) (S.faults space.new) result }
 {

@@ -9,7 +9,7 @@ use Rattle.hm_node.specs.Node.{level_of, IsNode}
 use Rattle.hm_node.specs.declared.node.Node.{Node}
 use Rattle.hm_node.specs.declared.node.Node.TheVariants.{Leaf as leaf_node}
 use Rattle.hm_btree.specs.Below.{HasEditCause}
-use Rattle.hm_btree.specs.Change.{change_of, MayChange, with_change, marking_of}
+use Rattle.hm_btree.specs.Change.{change_of, with_change, marking_of}
 use Rattle.hm_btree.specs.Shape.{IsShaped}
 use Rattle.hm_btree.proofs.EditLemmas.{place_within, child_lower, cause_read, cause_below, cause_write}
 use Rattle.hm_btree.proofs.LocalLemmas.{changed_local}
@@ -19,7 +19,8 @@ use Rattle.hm_btree.proofs.change.+change_in.Goals as goal
 use Rattle.hm_btree.proofs.change.+change_in.Goals.{then-has_element, else-has_element}
 
 pub child-place-requires : goal.child-place-requires
-child-place-requires g t c = place_within c.args.node.now c.in-Inner.inner (key_of c.args.at.now) c.holder_place-i.result c.requires.node c.in-Inner.is c.holder_place-i.ensures
+child-place-requires g t c = place_within c.args.node.now c.in-Inner.inner (key_of c.args.at.now) c.holder_place-i.result
+    c.requires.node c.in-Inner.is c.holder_place-i.ensures
 
 pub returns-in_err-child-in-Inner-clause-cause : goal.returns-in_err-child-in-Inner-clause-cause
 returns-in_err-child-in-Inner-clause-cause g t c =
@@ -29,13 +30,15 @@ returns-in_err-child-in-Inner-clause-cause g t c =
     let new = g.S.Counted.faults c.read_node.new.pages in
     let p = err_from_is_err_and c.from_residual.result c.from_residual.ensures.1 in
     let whole = cause_read told c.args.node.now c.in-Inner.inner c.holder_place-i.result c.child-place.result old new fault c.in-Inner.is c.child-place.ensures
-    (subst (λ (r : Result Node Fault). HasFaultCause old new r) c.in_err-child-in-Inner.was c.read_node.ensures.cause) c.in_err-child-in-Inner.ensures.damage in
+    (subst (λ (r : Result Node Fault). HasFaultCause old new r) c.in_err-child-in-Inner.was c.read_node.ensures.cause)
+    c.in_err-child-in-Inner.ensures.damage in
     rw (p.1, p.2) whole
 
 pub change_in-requires : goal.change_in-requires
 change_in-requires g t c κs within =
     let smaller : level_of c.in_ok-child-in-Inner.child < level_of c.args.node.now =
-    child_lower c.args.node.now c.in_ok-child-in-Inner.child c.in-Inner.inner c.holder_place-i.result c.child-place.result c.in-Inner.is c.child-place.ensures c.in_ok-child-in-Inner.ensures.fits in
+    child_lower c.args.node.now c.in_ok-child-in-Inner.child c.in-Inner.inner c.holder_place-i.result c.child-place.result
+    c.in-Inner.is c.child-place.ensures c.in_ok-child-in-Inner.ensures.fits in
     search rules
 
 pub returns-in_err-change_in-in-Inner-clause-cause :
@@ -48,37 +51,47 @@ returns-in_err-change_in-in-Inner-clause-cause g t c =
     let mid = g.S.Counted.faults c.read_node.new.pages in
     let new = g.S.Counted.faults c.change_in.new.space in
     let p = err_from_is_err_and c.from_residual-in_err-change_in-in-Inner.result c.from_residual-in_err-change_in-in-Inner.ensures.1 in
-    let whole = cause_below told now c.args.node.now c.in_ok-child-in-Inner.child c.in-Inner.inner c.holder_place-i.result c.child-place.result old mid new fault c.in-Inner.is c.child-place.ensures
+    let whole = cause_below told now c.args.node.now c.in_ok-child-in-Inner.child c.in-Inner.inner c.holder_place-i.result
+    c.child-place.result old mid new fault c.in-Inner.is c.child-place.ensures
     c.read_node.ensures.same.pages c.read_node.ensures.cause.never_falls c.in_ok-child-in-Inner.ensures.ok
-    (subst (λ (r : Result (Unit {0}) Fault). HasEditCause now c.in_ok-child-in-Inner.child mid new r) c.in_err-change_in-in-Inner.was c.change_in.ensures.cause) in
+    (subst (λ (r : Result (Unit {0}) Fault). HasEditCause now c.in_ok-child-in-Inner.child mid new r)
+    c.in_err-change_in-in-Inner.was c.change_in.ensures.cause) in
     rw (p.1, p.2) whole
 
 pub set_mirror-requires : goal.set_mirror-requires
-set_mirror-requires g t c = place_within c.args.node.now c.in-Inner.inner (key_of c.args.at.now) c.holder_place-i.result c.requires.node c.in-Inner.is c.holder_place-i.ensures
+set_mirror-requires g t c = place_within c.args.node.now c.in-Inner.inner (key_of c.args.at.now) c.holder_place-i.result
+    c.requires.node c.in-Inner.is c.holder_place-i.ensures
 
 pub returns-after-has_element-clause-ok : goal.returns-after-has_element-clause-ok
 returns-after-has_element-clause-ok g t c =
     let told = g.S.Pages.pages c.args.space.now in
     elim c.if-has_element.branch [
-      | then-has_element w ↦ leaf_works (key_of c.args.at.now) c.args.change c.args.node.now c.if-has_element.node c.in-Leaf.leaf w.change_at.new.leaf c.leaf_place-place.result told c.in-Leaf.is w.node-is c.leaf_place-place.ensures w.change_at.ensures.mirror w.change_at.ensures.items
-      | else-has_element w ↦ leaf_without (key_of c.args.at.now) c.args.change c.args.node.now c.if-has_element.node c.in-Leaf.leaf told c.in-Leaf.is (sym c.has_element.ensures.value ∙ w.if-has_element.false)
+      | then-has_element w ↦ leaf_works (key_of c.args.at.now) c.args.change c.args.node.now c.if-has_element.node c.in-Leaf.leaf
+          w.change_at.new.leaf c.leaf_place-place.result told c.requires.may c.in-Leaf.is w.node-is c.leaf_place-place.ensures
+          w.change_at.ensures.mirror w.change_at.ensures.items
+      | else-has_element w ↦ leaf_without (key_of c.args.at.now) c.args.change c.args.node.now c.if-has_element.node
+          c.in-Leaf.leaf told c.in-Leaf.is (sym c.has_element.ensures.value ∙ w.if-has_element.false)
     ]
 
 pub returns-in_ok-write_node-in-Inner-clause-ok : goal.returns-in_ok-write_node-in-Inner-clause-ok
 returns-in_ok-write_node-in-Inner-clause-ok g t c =
     let key = key_of c.args.at.now in
-    inner_works (with_change key c.args.change) key (marking_of c.args.change) (λ o. IsSome o) (MayChange key c.args.change) (changed_local key (change_of c.args.change)) c.in-Inner.inner c.set_mirror.new.inner
+    inner_works (with_change key c.args.change) key (marking_of c.args.change) (λ o. IsSome o)
+    (changed_local key (change_of c.args.change)) c.in-Inner.inner c.set_mirror.new.inner
     c.holder_place-i.result c.child-place.result c.in_ok-child-in-Inner.child c.change_in.new.node c.mirror.result c.args.node.now
     (g.S.Pages.pages c.args.space.now) (g.S.Pages.pages c.read_node.new.pages) (g.S.Pages.pages c.change_in.new.space) (g.S.Pages.pages c.write_node.new.space)
-    c.in-Inner.is c.holder_place-i.ensures c.child-place.ensures c.read_node.ensures.same.pages c.in_ok-child-in-Inner.ensures.ok c.in_ok-change_in-in-Inner.ensures.ok c.in_ok-write_node-in-Inner.ensures.ok
+    c.in-Inner.is c.holder_place-i.ensures c.child-place.ensures c.read_node.ensures.same.pages c.in_ok-child-in-Inner.ensures.ok
+    c.in_ok-change_in-in-Inner.ensures.ok c.in_ok-write_node-in-Inner.ensures.ok
     c.set_mirror.ensures.level c.set_mirror.ensures.mirror c.mirror.ensures c.set_mirror.ensures.items c.set_mirror.ensures.right
 
 pub write_node-requires-clause-at : goal.write_node-requires-clause-at
-write_node-requires-clause-at g t c = child_offset c.args.node.now c.in-Inner.inner c.holder_place-i.result c.child-place.result (node_shaped c.args.node.now c.requires.node) c.in-Inner.is c.child-place.ensures
+write_node-requires-clause-at g t c = child_offset c.args.node.now c.in-Inner.inner c.holder_place-i.result c.child-place.result
+    (node_shaped c.args.node.now c.requires.node) c.in-Inner.is c.child-place.ensures
 
 pub returns-in_ok-write_node-in-Inner-clause-shape : goal.returns-in_ok-write_node-in-Inner-clause-shape
 returns-in_ok-write_node-in-Inner-clause-shape g t c =
-    mirror_shaped c.in-Inner.inner c.set_mirror.new.inner c.holder_place-i.result c.mirror.result (subst (λ (n : Node). IsShaped n) c.in-Inner.is (node_shaped c.args.node.now c.requires.node))
+    mirror_shaped c.in-Inner.inner c.set_mirror.new.inner c.holder_place-i.result c.mirror.result
+    (subst (λ (n : Node). IsShaped n) c.in-Inner.is (node_shaped c.args.node.now c.requires.node))
     c.set_mirror.ensures.level c.set_mirror.ensures.items c.set_mirror.ensures.right
 
 pub returns-after-has_element-clause-shape : goal.returns-after-has_element-clause-shape
@@ -86,7 +99,8 @@ returns-after-has_element-clause-shape g t c =
     let sound = subst (λ (n : Node). IsNode n) c.in-Leaf.is c.requires.node in
     elim c.if-has_element.branch [
       | then-has_element w ↦ rw w.node-is
-          (element_shaped (key_of c.args.at.now) c.args.change c.in-Leaf.leaf w.change_at.new.leaf c.leaf_place-place.result c.requires.may sound (sym c.has_element.ensures.value ∙ w.if-has_element.true) c.leaf_place-place.ensures w.change_at.ensures.items)
+          (element_shaped (key_of c.args.at.now) c.args.change c.in-Leaf.leaf w.change_at.new.leaf c.leaf_place-place.result
+          c.requires.may sound (sym c.has_element.ensures.value ∙ w.if-has_element.true) c.leaf_place-place.ensures w.change_at.ensures.items)
       | else-has_element w ↦ rw w.node-is (node_shaped (leaf_node c.in-Leaf.leaf) sound)
     ]
 
@@ -98,7 +112,8 @@ returns-in_err-write_node-in-Inner-clause-cause g t c =
     let middle = g.S.Counted.faults c.change_in.new.space in
     let new = g.S.Counted.faults c.write_node.new.space in
     let p = err_from_is_err_and c.from_residual-in_err-write_node-in-Inner.result c.from_residual-in_err-write_node-in-Inner.ensures.1 in
-    let whole = cause_write {T = Unit {0}} told mid c.args.node.now old middle new c.in_err-write_node-in-Inner.field-0.0 (c.in_ok-change_in-in-Inner.ensures.told ∙ ap (λ (o : Option PageMap). is_some o) c.read_node.ensures.same.pages)
+    let whole = cause_write {T = Unit {0}} told mid c.args.node.now old middle new c.in_err-write_node-in-Inner.field-0.0
+    (c.in_ok-change_in-in-Inner.ensures.told ∙ ap (λ (o : Option PageMap). is_some o) c.read_node.ensures.same.pages)
     (omega (arith, c.read_node.ensures.cause.never_falls, c.change_in.ensures.cause.counted.never_falls))
     (subst (λ (r : Result (Unit {0}) Fault). HasStoreCause mid middle new r) c.in_err-write_node-in-Inner.was c.write_node.ensures.cause) in
     rw (p.1, p.2) whole

@@ -1,13 +1,15 @@
 use Rattle.std.proofs.Common.{◌∙◌, ◌<◌, ℕ, sym, subst, rules, Result}
 use Rattle.std.specs.Prelude.{IfSome}
-use Rattle.std.proofs.lemmas.Result.{err_from_is_err_and, on_ok_weaker, IfOk-weaker}
+use Rattle.std.proofs.lemmas.Result.{err_from_is_err_and, IfOk-weaker}
 use Rattle.hm_types.specs.Faults.{HasFaultCause}
 use Rattle.hm_types.specs.declared.fault.Fault.{Fault}
 use Rattle.hm_node.specs.Inner.{IsNodeOffset}
 use Rattle.hm_node.specs.Node.{level_of}
 use Rattle.hm_node.specs.declared.node.Node.{Node}
 use Rattle.hm_btree.specs.Shrink.{IsLowered}
+use Rattle.hm_btree.specs.Space.{HasLost}
 use Rattle.hm_btree.proofs.EditLemmas.{child_lower}
+use Rattle.hm_btree.proofs.KeptLemmas.{kept_read, kept_change, kept_both, kept_then}
 use Rattle.hm_btree.proofs.LowestLemmas.{lowered_told, lowered_tree, lowered_then, lowered_read}
 use Rattle.hm_btree.proofs.NeighbourLemmas.{stored_cause}
 use Rattle.hm_btree.proofs.ShapeLemmas.{node_shaped, child_offset}
@@ -17,7 +19,7 @@ use Rattle.hm_btree.proofs.top.+lowest.Goals as goal
 pub returns-in_err-child-in-Inner-clause-space : goal.returns-in_err-child-in-Inner-clause-space
 returns-in_err-child-in-Inner-clause-space g t c =
     let same = g.met.S.NodeSpace.rests c.args.space.now c.read_node.new.pages c.read_node.ensures.same.rest in
-    spends_nothing g.S.HasRoom.room g.S.HasRoom.free c.args.space.now c.read_node.new.pages same.0 same.1
+    spends_nothing g.S.HasRoom c.args.space.now c.read_node.new.pages same
 
 pub returns-in_err-child-in-Inner-clause-cause : goal.returns-in_err-child-in-Inner-clause-cause
 returns-in_err-child-in-Inner-clause-cause g t c =
@@ -27,26 +29,33 @@ returns-in_err-child-in-Inner-clause-cause g t c =
     let p = err_from_is_err_and c.from_residual.result c.from_residual.ensures.1 in
     let whole = stored_cause {T = ℕ × Node} told c.child-below.result old new c.in_err-child-in-Inner.field-0.0
     (lowered_read told c.args.root c.args.node c.in-Inner.inner c.child-below.result c.in-Inner.is c.child-below.ensures c.requires.tree c.requires.here)
-    (subst (λ (r : Result Node Fault). HasFaultCause old new r) c.in_err-child-in-Inner.was c.read_node.ensures.cause) c.in_err-child-in-Inner.ensures.damage in
+    (subst (λ (r : Result Node Fault). HasFaultCause old new r) c.in_err-child-in-Inner.was c.read_node.ensures.cause)
+    c.in_err-child-in-Inner.ensures.damage in
     rw (p.1, p.2) whole
 
 pub returns-in_err-drop_node-in-Inner-clause-space :
     goal.returns-in_err-drop_node-in-Inner-clause-space
 returns-in_err-drop_node-in-Inner-clause-space g t c =
     let same = g.met.S.NodeSpace.rests c.args.space.now c.read_node.new.pages c.read_node.ensures.same.rest in
-    spends_both g.S.HasRoom.room g.S.HasRoom.free c.args.space.now c.read_node.new.pages c.drop_node.new.self (spends_nothing g.S.HasRoom.room g.S.HasRoom.free c.args.space.now c.read_node.new.pages same.0 same.1) c.drop_node.ensures.space
+    spends_both g.S.HasRoom c.args.space.now c.read_node.new.pages c.drop_node.new.self
+    (spends_nothing g.S.HasRoom c.args.space.now c.read_node.new.pages same) c.drop_node.ensures.space
 
 pub lowest-requires : goal.lowest-requires
 lowest-requires g t c κs within =
     let smaller : level_of c.in_ok-child-in-Inner.child < level_of c.args.node =
-    child_lower c.args.node c.in_ok-child-in-Inner.child c.in-Inner.inner 0 c.child-below.result c.in-Inner.is c.child-below.ensures c.in_ok-child-in-Inner.ensures.fits in
-    let lowered = lowered_told (g.S.Pages.pages c.args.space.now) (g.S.Pages.pages c.read_node.new.pages) (g.S.Pages.pages c.drop_node.new.self) c.args.root c.args.node c.in_ok-child-in-Inner.child c.in-Inner.inner c.child-below.result
-    c.in-Inner.is c.read_node.ensures.same.pages c.in_ok-drop_node-in-Inner.ensures.ok (sym c.len.ensures.value ∙ c.if-len-eq1.true) c.child-below.ensures c.requires.tree c.requires.here c.in_ok-child-in-Inner.ensures.ok in
-    let both = lowered_tree (g.S.Pages.pages c.args.space.now) (g.S.Pages.pages c.read_node.new.pages) (g.S.Pages.pages c.drop_node.new.self) c.args.root c.args.node c.in_ok-child-in-Inner.child c.in-Inner.inner c.child-below.result
+    child_lower c.args.node c.in_ok-child-in-Inner.child c.in-Inner.inner 0 c.child-below.result c.in-Inner.is
+    c.child-below.ensures c.in_ok-child-in-Inner.ensures.fits in
+    let lowered = lowered_told (g.S.Pages.pages c.args.space.now) (g.S.Pages.pages c.read_node.new.pages)
+    (g.S.Pages.pages c.drop_node.new.self) c.args.root c.args.node c.in_ok-child-in-Inner.child c.in-Inner.inner c.child-below.result
+    c.in-Inner.is c.read_node.ensures.same.pages c.in_ok-drop_node-in-Inner.ensures.ok (sym c.len.ensures.value
+    ∙ c.if-len-eq1.true) c.child-below.ensures c.requires.tree c.requires.here c.in_ok-child-in-Inner.ensures.ok in
+    let both = lowered_tree (g.S.Pages.pages c.args.space.now) (g.S.Pages.pages c.read_node.new.pages)
+    (g.S.Pages.pages c.drop_node.new.self) c.args.root c.args.node c.in_ok-child-in-Inner.child c.in-Inner.inner c.child-below.result
     c.in-Inner.is c.read_node.ensures.same.pages c.in_ok-drop_node-in-Inner.ensures.ok lowered in
     let first = both.0 in
     let second = both.1 in
-    let below : IsNodeOffset c.child-below.result.at = child_offset c.args.node c.in-Inner.inner 0 c.child-below.result (node_shaped c.args.node c.requires.node) c.in-Inner.is c.child-below.ensures in
+    let below : IsNodeOffset c.child-below.result.at = child_offset c.args.node c.in-Inner.inner 0 c.child-below.result
+    (node_shaped c.args.node c.requires.node) c.in-Inner.is c.child-below.ensures in
     search rules
 
 pub returns-in_ok-drop_node-in-Inner-clause-ok : goal.returns-in_ok-drop_node-in-Inner-clause-ok
@@ -55,20 +64,29 @@ returns-in_ok-drop_node-in-Inner-clause-ok g t c =
     let p1 = g.S.Pages.pages c.read_node.new.pages in
     let p2 = g.S.Pages.pages c.drop_node.new.self in
     let p3 = g.S.Pages.pages c.lowest.new.space in
-    let lowered = lowered_told p0 p1 p2 c.args.root c.args.node c.in_ok-child-in-Inner.child c.in-Inner.inner c.child-below.result c.in-Inner.is c.read_node.ensures.same.pages c.in_ok-drop_node-in-Inner.ensures.ok
+    let lowered = lowered_told p0 p1 p2 c.args.root c.args.node c.in_ok-child-in-Inner.child c.in-Inner.inner c.child-below.result
+    c.in-Inner.is c.read_node.ensures.same.pages c.in_ok-drop_node-in-Inner.ensures.ok
     (sym c.len.ensures.value ∙ c.if-len-eq1.true) c.child-below.ensures c.requires.tree c.requires.here c.in_ok-child-in-Inner.ensures.ok in
-    IfOk-weaker c.lowest.result (λ found. IfSome p2 (λ was. IfSome p3 (λ is. IsLowered was is c.child-below.result.at found.0 found.1))) (λ found. IfSome p0 (λ was. IfSome p3 (λ is. IsLowered was is c.args.root found.0 found.1)))
-    (λ found more. lowered_then p0 p1 p2 c.args.root c.args.node c.in_ok-child-in-Inner.child c.in-Inner.inner c.child-below.result c.in-Inner.is c.read_node.ensures.same.pages c.in_ok-drop_node-in-Inner.ensures.ok p3 found.0 found.1 lowered more) c.lowest.ensures.ok
+    IfOk-weaker c.lowest.result (λ found. IfSome p2
+    (λ was. IfSome p3 (λ is. IsLowered was is c.child-below.result.at found.0 found.1)))
+    (λ found. IfSome p0 (λ was. IfSome p3 (λ is. IsLowered was is c.args.root found.0 found.1)))
+    (λ found more. lowered_then p0 p1 p2 c.args.root c.args.node c.in_ok-child-in-Inner.child c.in-Inner.inner
+    c.child-below.result c.in-Inner.is c.read_node.ensures.same.pages c.in_ok-drop_node-in-Inner.ensures.ok p3 found.0 found.1
+    lowered more) c.lowest.ensures.ok
 
-pub returns-in_ok-drop_node-in-Inner-clause-extents :
-    goal.returns-in_ok-drop_node-in-Inner-clause-extents
-returns-in_ok-drop_node-in-Inner-clause-extents g t c =
+pub returns-in_ok-drop_node-in-Inner-clause-kept : goal.returns-in_ok-drop_node-in-Inner-clause-kept
+returns-in_ok-drop_node-in-Inner-clause-kept g t c =
     let same = g.met.S.NodeSpace.rests c.args.space.now c.read_node.new.pages c.read_node.ensures.same.rest in
-    on_ok_weaker c.lowest.result (λ more. more ∙ c.in_ok-drop_node-in-Inner.ensures.extents ∙ same.2) c.lowest.ensures.extents
+    let read = kept_read g.S.Pages g.S.HasRoom c.args.space.now c.read_node.new.pages same.2 c.read_node.ensures.same.pages in
+    let dropped = kept_both g.S.Pages g.S.HasRoom c.args.space.now c.read_node.new.pages c.drop_node.new.self read
+    (kept_change g.S.Pages g.S.HasRoom c.read_node.new.pages c.drop_node.new.self (HasLost c.args.root)
+    c.in_ok-drop_node-in-Inner.ensures.extents c.in_ok-drop_node-in-Inner.ensures.ok) in
+    kept_then g.S.Pages g.S.HasRoom c.args.space.now c.drop_node.new.self c.lowest.new.space c.lowest.result dropped c.lowest.ensures.kept
 
 pub returns-in_ok-drop_node-in-Inner-clause-space :
     goal.returns-in_ok-drop_node-in-Inner-clause-space
 returns-in_ok-drop_node-in-Inner-clause-space g t c =
     let same = g.met.S.NodeSpace.rests c.args.space.now c.read_node.new.pages c.read_node.ensures.same.rest in
-    let first = spends_both g.S.HasRoom.room g.S.HasRoom.free c.args.space.now c.read_node.new.pages c.drop_node.new.self (spends_nothing g.S.HasRoom.room g.S.HasRoom.free c.args.space.now c.read_node.new.pages same.0 same.1) c.drop_node.ensures.space in
-    spends_both g.S.HasRoom.room g.S.HasRoom.free c.args.space.now c.drop_node.new.self c.lowest.new.space first c.lowest.ensures.space
+    let first = spends_both g.S.HasRoom c.args.space.now c.read_node.new.pages c.drop_node.new.self
+    (spends_nothing g.S.HasRoom c.args.space.now c.read_node.new.pages same) c.drop_node.ensures.space in
+    spends_both g.S.HasRoom c.args.space.now c.drop_node.new.self c.lowest.new.space first c.lowest.ensures.space

@@ -7,7 +7,11 @@ use Rattle.hm_btree.proofs.HeldLemmas.{held_put}
 use Rattle.hm_btree.proofs.mem_space.MemSpace.put.Goals as goal
 
 pub invariant_of-self : goal.invariant_of-self
-invariant_of-self c = record { nodes = held_put c.args.self.now.pages c.insert.new.self c.args.at c.in_ok-page.page c.insert.result c.args.self.now.nodes (subst (λ (bytes : List ℕ). HoldsNode bytes) (sym c.in_ok-page.ensures.ok) c.requires.node) c.insert.ensures.updates c.insert.ensures.err }
+invariant_of-self c = record {
+  nodes = held_put c.args.self.now.pages c.insert.new.self c.args.at c.in_ok-page.page
+      c.insert.result c.args.self.now.nodes (subst (λ (bytes : List ℕ). HoldsNode bytes) (sym c.in_ok-page.ensures.ok)
+      c.requires.node) c.insert.ensures.updates c.insert.ensures.err;
+}
 
 pub returns-clause-ok : goal.returns-clause-ok
 returns-clause-ok c other =

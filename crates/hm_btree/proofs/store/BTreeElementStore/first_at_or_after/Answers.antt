@@ -7,7 +7,8 @@ use Rattle.hm_btree.proofs.ReadingLemmas.{first_in_store, cause_in_store}
 use Rattle.hm_btree.proofs.store.BTreeElementStore.first_at_or_after.Goals as goal
 
 pub returns-clause-ok : goal.returns-clause-ok
-returns-clause-ok g c = first_in_store c.args.self.now.intact (g.S.Pages.pages c.args.self.now.space) c.args.self.now.root (key_of c.args.at.now) c.first_at_or_after.result c.args.self.now.sound c.first_at_or_after.ensures.ok
+returns-clause-ok g c = first_in_store c.args.self.now.intact (g.S.Pages.pages c.args.self.now.space) c.args.self.now.root
+    (key_of c.args.at.now) c.first_at_or_after.result c.args.self.now.sound c.first_at_or_after.ensures.ok
 
 pub returns-clause-keeps : goal.returns-clause-keeps
 returns-clause-keeps g c =
@@ -23,5 +24,6 @@ returns-clause-keeps g c =
 
 pub returns-clause-cause : goal.returns-clause-cause
 returns-clause-cause g c =
-    cause_in_store c.args.self.now.intact (g.S.Pages.pages c.args.self.now.space) c.args.self.now.root (g.S.Counted.faults c.args.self.now.space) (g.S.Counted.faults c.first_at_or_after.new.pages) c.first_at_or_after.result
+    cause_in_store c.args.self.now.intact (g.S.Pages.pages c.args.self.now.space) c.args.self.now.root
+    (g.S.Counted.faults c.args.self.now.space) (g.S.Counted.faults c.first_at_or_after.new.pages) c.first_at_or_after.result
     c.args.self.now.sound c.first_at_or_after.ensures.cause

@@ -1,9 +1,7 @@
 use Rattle.std.proofs.Common.{ℕ, ap, subst, Result, Err}
 use Rattle.std.specs.Prelude.{Option, List, IsNone, is_some}
 use Rattle.std.proofs.lemmas.Result.{err_from_is_err_and}
-use Rattle.hm_types.specs.Offset.{IsOffset}
 use Rattle.hm_types.specs.declared.fault.Fault.{Fault}
-use Rattle.hm_key.specs.Element.{IsElement}
 use Rattle.hm_key.specs.Elements.{element_at, inserted, last_id}
 use Rattle.hm_key.specs.Extents.{Extent}
 use Rattle.hm_key.specs.Key.{key_of}
@@ -20,7 +18,13 @@ returns-in_err-root-clause-cause g c =
     let new = g.S.Counted.faults c.insert_from.new.space in
     let fault = c.in_err-root.field-0.0 in
     let cause = subst (λ (r : Result ℕ Fault). HasTreeCause told c.args.self.now.root old new r) c.in_err-root.was c.insert_from.ensures.cause in
-    let other : HasTreeCause {T = Unit {0}} told c.args.self.now.root old new (Err fault) = record { counted = record { never_falls = cause.counted.never_falls; caused = cause.counted.caused }; damage = cause.damage; undamaged = cause.undamaged } in
+    let other : HasTreeCause {T = Unit {0}} told c.args.self.now.root old new (Err fault) =
+    record {
+      counted = record { never_falls = cause.counted.never_falls; caused = cause.counted.caused };
+      damage =
+          cause.damage;
+      undamaged = cause.undamaged;
+    } in
     let whole = store_cause c.args.self.now.intact told c.args.self.now.root old new (Err fault) c.args.self.now.sound other in
     rw (p.1, p.2) whole
 
@@ -28,28 +32,32 @@ pub invariant_of-self-2 : goal.invariant_of-self-2
 invariant_of-self-2 g c =
     let e = c.args.e.now in
     let key = key_of e.base in
-    let changed = store_changed (inserted e) key (Writes (last_id e)) (λ es. IsNone (element_at key es)) (IsElement e × IsOffset e.payload) c.args.self.now.intact
-    (g.S.Pages.pages c.args.self.now.space) (g.S.Pages.pages c.insert_from.new.space) c.args.self.now.root c.in_ok-root.root c.in_ok-require_intact.ensures.ok c.args.self.now.sound
-    c.in_ok-root.ensures.told c.requires.new (c.requires.element, c.known_offset.ensures) c.in_ok-root.ensures.ok in
+    let changed = store_changed (inserted e) key (Writes (last_id e)) (λ es. IsNone (element_at key es)) c.args.self.now.intact
+    (g.S.Pages.pages c.args.self.now.space) (g.S.Pages.pages c.insert_from.new.space) c.args.self.now.root c.in_ok-root.root
+    c.in_ok-require_intact.ensures.ok c.args.self.now.sound
+    c.in_ok-root.ensures.kept.told c.requires.new c.in_ok-root.ensures.ok in
     record { sound = changed.sound }
 
 pub returns-clause-ok : goal.returns-clause-ok
 returns-clause-ok g c =
     let e = c.args.e.now in
     let key = key_of e.base in
-    let changed = store_changed (inserted e) key (Writes (last_id e)) (λ es. IsNone (element_at key es)) (IsElement e × IsOffset e.payload) c.args.self.now.intact
-    (g.S.Pages.pages c.args.self.now.space) (g.S.Pages.pages c.insert_from.new.space) c.args.self.now.root c.in_ok-root.root c.in_ok-require_intact.ensures.ok c.args.self.now.sound
-    c.in_ok-root.ensures.told c.requires.new (c.requires.element, c.known_offset.ensures) c.in_ok-root.ensures.ok in
-    record { elements = changed.elements; mark = changed.mark; extents = c.in_ok-root.ensures.extents }
+    let changed = store_changed (inserted e) key (Writes (last_id e)) (λ es. IsNone (element_at key es)) c.args.self.now.intact
+    (g.S.Pages.pages c.args.self.now.space) (g.S.Pages.pages c.insert_from.new.space) c.args.self.now.root c.in_ok-root.root
+    c.in_ok-require_intact.ensures.ok c.args.self.now.sound
+    c.in_ok-root.ensures.kept.told c.requires.new c.in_ok-root.ensures.ok in
+    record { elements = changed.elements; mark = changed.mark; extents = c.in_ok-root.ensures.kept.extents }
 
 pub returns-clause-keeps : goal.returns-clause-keeps
 returns-clause-keeps g c =
     let e = c.args.e.now in
     let key = key_of e.base in
-    let changed = store_changed (inserted e) key (Writes (last_id e)) (λ es. IsNone (element_at key es)) (IsElement e × IsOffset e.payload) c.args.self.now.intact
-    (g.S.Pages.pages c.args.self.now.space) (g.S.Pages.pages c.insert_from.new.space) c.args.self.now.root c.in_ok-root.root c.in_ok-require_intact.ensures.ok c.args.self.now.sound
-    c.in_ok-root.ensures.told c.requires.new (c.requires.element, c.known_offset.ensures) c.in_ok-root.ensures.ok in
+    let changed = store_changed (inserted e) key (Writes (last_id e)) (λ es. IsNone (element_at key es)) c.args.self.now.intact
+    (g.S.Pages.pages c.args.self.now.space) (g.S.Pages.pages c.insert_from.new.space) c.args.self.now.root c.in_ok-root.root
+    c.in_ok-require_intact.ensures.ok c.args.self.now.sound
+    c.in_ok-root.ensures.kept.told c.requires.new c.in_ok-root.ensures.ok in
     record {
-      elements = told_kept (inserted e) c.args.self.now.intact (g.S.Pages.pages c.args.self.now.space) (g.S.Pages.pages c.insert_from.new.space) c.args.self.now.root c.in_ok-root.root changed.elements;
-      extents = ap (λ (o : Option (List Extent)). is_some o) c.in_ok-root.ensures.extents;
+      elements = told_kept (inserted e) c.args.self.now.intact (g.S.Pages.pages c.args.self.now.space)
+          (g.S.Pages.pages c.insert_from.new.space) c.args.self.now.root c.in_ok-root.root changed.elements;
+      extents = ap (λ (o : Option (List Extent)). is_some o) c.in_ok-root.ensures.kept.extents;
     }

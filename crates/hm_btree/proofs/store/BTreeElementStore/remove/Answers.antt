@@ -1,5 +1,5 @@
 use Rattle.std.proofs.Common.{ℕ, ap, subst, Result}
-use Rattle.std.specs.Prelude.{Option, List, IsSome, is_some, ⊤}
+use Rattle.std.specs.Prelude.{Option, List, IsSome, is_some}
 use Rattle.std.proofs.lemmas.Result.{err_from_is_err_and}
 use Rattle.hm_types.specs.declared.fault.Fault.{Fault}
 use Rattle.hm_types.specs.Faults.{HasStoreCause}
@@ -12,11 +12,13 @@ use Rattle.hm_btree.proofs.StoreLemmas.{store_changed, told_kept}
 use Rattle.hm_btree.proofs.store.BTreeElementStore.remove.Goals as goal
 
 pub remove_from-requires-clause-tree : goal.remove_from-requires-clause-tree
-remove_from-requires-clause-tree g c = intact_tree c.args.self.now.intact (g.S.Pages.pages c.args.self.now.space) c.args.self.now.root c.in_ok-require_intact.ensures.ok c.args.self.now.sound
+remove_from-requires-clause-tree g c = intact_tree c.args.self.now.intact (g.S.Pages.pages c.args.self.now.space)
+    c.args.self.now.root c.in_ok-require_intact.ensures.ok c.args.self.now.sound
 
 pub remove_from-requires-clause-there : goal.remove_from-requires-clause-there
 remove_from-requires-clause-there g c =
-    intact_elements (λ es. IsSome (element_at (key_of c.args.at.now) es)) c.args.self.now.intact (g.S.Pages.pages c.args.self.now.space) c.args.self.now.root c.in_ok-require_intact.ensures.ok c.requires.there
+    intact_elements (λ es. IsSome (element_at (key_of c.args.at.now) es)) c.args.self.now.intact
+    (g.S.Pages.pages c.args.self.now.space) c.args.self.now.root c.in_ok-require_intact.ensures.ok c.requires.there
 
 pub returns-in_err-root-clause-cause : goal.returns-in_err-root-clause-cause
 returns-in_err-root-clause-cause g c =
@@ -25,32 +27,37 @@ returns-in_err-root-clause-cause g c =
     let old = g.S.Counted.faults c.args.self.now.space in
     let new = g.S.Counted.faults c.remove_from.new.space in
     let fault = c.in_err-root.field-0.0 in
-    let whole = cause_in_tree c.args.self.now.intact told c.args.self.now.root old new fault (subst (λ (r : Result ℕ Fault). HasStoreCause told old new r) c.in_err-root.was c.remove_from.ensures.cause) in
+    let whole = cause_in_tree c.args.self.now.intact told c.args.self.now.root old new fault
+    (subst (λ (r : Result ℕ Fault). HasStoreCause told old new r) c.in_err-root.was c.remove_from.ensures.cause) in
     rw (p.1, p.2) whole
 
 pub invariant_of-self-2 : goal.invariant_of-self-2
 invariant_of-self-2 g c =
     let key = key_of c.args.at.now in
-    let changed = store_changed (removed key) key TakesOut (λ es. IsSome (element_at key es)) ⊤ c.args.self.now.intact
-    (g.S.Pages.pages c.args.self.now.space) (g.S.Pages.pages c.remove_from.new.space) c.args.self.now.root c.in_ok-root.root c.in_ok-require_intact.ensures.ok c.args.self.now.sound
-    c.in_ok-root.ensures.told c.requires.there tt c.in_ok-root.ensures.ok in
+    let changed = store_changed (removed key) key TakesOut (λ es. IsSome (element_at key es)) c.args.self.now.intact
+    (g.S.Pages.pages c.args.self.now.space) (g.S.Pages.pages c.remove_from.new.space) c.args.self.now.root c.in_ok-root.root
+    c.in_ok-require_intact.ensures.ok c.args.self.now.sound
+    c.in_ok-root.ensures.kept.told c.requires.there c.in_ok-root.ensures.ok in
     record { sound = changed.sound }
 
 pub returns-clause-ok : goal.returns-clause-ok
 returns-clause-ok g c =
     let key = key_of c.args.at.now in
-    let changed = store_changed (removed key) key TakesOut (λ es. IsSome (element_at key es)) ⊤ c.args.self.now.intact
-    (g.S.Pages.pages c.args.self.now.space) (g.S.Pages.pages c.remove_from.new.space) c.args.self.now.root c.in_ok-root.root c.in_ok-require_intact.ensures.ok c.args.self.now.sound
-    c.in_ok-root.ensures.told c.requires.there tt c.in_ok-root.ensures.ok in
-    record { elements = changed.elements; mark = changed.mark; extents = c.in_ok-root.ensures.extents }
+    let changed = store_changed (removed key) key TakesOut (λ es. IsSome (element_at key es)) c.args.self.now.intact
+    (g.S.Pages.pages c.args.self.now.space) (g.S.Pages.pages c.remove_from.new.space) c.args.self.now.root c.in_ok-root.root
+    c.in_ok-require_intact.ensures.ok c.args.self.now.sound
+    c.in_ok-root.ensures.kept.told c.requires.there c.in_ok-root.ensures.ok in
+    record { elements = changed.elements; mark = changed.mark; extents = c.in_ok-root.ensures.kept.extents }
 
 pub returns-clause-keeps : goal.returns-clause-keeps
 returns-clause-keeps g c =
     let key = key_of c.args.at.now in
-    let changed = store_changed (removed key) key TakesOut (λ es. IsSome (element_at key es)) ⊤ c.args.self.now.intact
-    (g.S.Pages.pages c.args.self.now.space) (g.S.Pages.pages c.remove_from.new.space) c.args.self.now.root c.in_ok-root.root c.in_ok-require_intact.ensures.ok c.args.self.now.sound
-    c.in_ok-root.ensures.told c.requires.there tt c.in_ok-root.ensures.ok in
+    let changed = store_changed (removed key) key TakesOut (λ es. IsSome (element_at key es)) c.args.self.now.intact
+    (g.S.Pages.pages c.args.self.now.space) (g.S.Pages.pages c.remove_from.new.space) c.args.self.now.root c.in_ok-root.root
+    c.in_ok-require_intact.ensures.ok c.args.self.now.sound
+    c.in_ok-root.ensures.kept.told c.requires.there c.in_ok-root.ensures.ok in
     record {
-      elements = told_kept (removed key) c.args.self.now.intact (g.S.Pages.pages c.args.self.now.space) (g.S.Pages.pages c.remove_from.new.space) c.args.self.now.root c.in_ok-root.root changed.elements;
-      extents = ap (λ (o : Option (List Extent)). is_some o) c.in_ok-root.ensures.extents;
+      elements = told_kept (removed key) c.args.self.now.intact (g.S.Pages.pages c.args.self.now.space)
+          (g.S.Pages.pages c.remove_from.new.space) c.args.self.now.root c.in_ok-root.root changed.elements;
+      extents = ap (λ (o : Option (List Extent)). is_some o) c.in_ok-root.ensures.kept.extents;
     }

@@ -7,7 +7,8 @@ use Rattle.hm_btree.proofs.ReadingLemmas.{quiet_in_store, cause_in_store}
 use Rattle.hm_btree.proofs.store.BTreeElementStore.unchanged_until.Goals as goal
 
 pub returns-clause-ok : goal.returns-clause-ok
-returns-clause-ok g c = quiet_in_store c.args.self.now.intact (g.S.Pages.pages c.args.self.now.space) c.args.self.now.root (key_of c.args.at.now) c.args.since.0 c.unchanged_until.result c.args.self.now.sound c.unchanged_until.ensures.ok
+returns-clause-ok g c = quiet_in_store c.args.self.now.intact (g.S.Pages.pages c.args.self.now.space) c.args.self.now.root
+    (key_of c.args.at.now) c.args.since.0 c.unchanged_until.result c.args.self.now.sound c.unchanged_until.ensures.ok
 
 pub returns-clause-keeps : goal.returns-clause-keeps
 returns-clause-keeps g c =
@@ -23,5 +24,6 @@ returns-clause-keeps g c =
 
 pub returns-clause-cause : goal.returns-clause-cause
 returns-clause-cause g c =
-    cause_in_store c.args.self.now.intact (g.S.Pages.pages c.args.self.now.space) c.args.self.now.root (g.S.Counted.faults c.args.self.now.space) (g.S.Counted.faults c.unchanged_until.new.pages) c.unchanged_until.result
+    cause_in_store c.args.self.now.intact (g.S.Pages.pages c.args.self.now.space) c.args.self.now.root
+    (g.S.Counted.faults c.args.self.now.space) (g.S.Counted.faults c.unchanged_until.new.pages) c.unchanged_until.result
     c.args.self.now.sound c.unchanged_until.ensures.cause
