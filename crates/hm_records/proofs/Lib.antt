@@ -1,0 +1,4 @@
+pub mod NumberLemmas
+pub mod InodeLemmas
+pub mod EntryLemmas
+pub mod PfsLemmas

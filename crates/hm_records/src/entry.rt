@@ -1,0 +1,55 @@
+// Directory entries.
+ghost use Rattle.std.specs.Prelude.{◌≡◌, IfOk, IfErr};
+ghost use Rattle.hm_records.specs.Entry.{IsEntry, entry_bytes};
+ghost use Rattle.hm_records.specs.Faults.{IsReadFault, Reads};
+
+use crate::fault::bad_payload;
+use byteorder::{ByteOrder, LittleEndian};
+use hm_types::{Fault, HOff, Name, NoMemory, Obj, is_name};
+use std::alloc::Global;
+
+/// The size of an object's number, in bytes.
+const OBJ_BYTES: usize = 8;
+
+/// An entry of a directory: an object, and the name that it has there.
+#[derive(Debug, Drop)]
+pub struct DirEntry {
+    pub obj: Obj,
+    pub name: Name,
+}
+
+/// The payload of an entry, 8 bytes and those of the name. `decode_entry` gives back an entry whose
+/// name may be one. `NoMemory` where an allocation was refused.
+pub fn encode_entry(alloc: Global, value: &DirEntry) -> Result<Vec<u8>, NoMemory>
+    ensures { IfOk result (λ bytes. bytes.items ≡ entry_bytes value.now) }
+{
+    let name = value.name.bytes();
+    let mut bytes = Vec::with_capacity(alloc, OBJ_BYTES.saturating_add(name.len()))?;
+    bytes.extend_from_slice(&value.obj.0.to_le_bytes())?;
+    bytes.extend_from_slice(name)?;
+    Ok(bytes)
+}
+
+/// The entry that a payload spells. `Damaged` at the payload's offset `at`, of kind 6, where it
+/// spells none, and `NoMemory` where an allocation was refused.
+pub fn decode_entry(alloc: Global, at: HOff, bytes: &[u8]) -> Result<DirEntry, Fault>
+    // What is read is spelled so.
+    ensures ok { IfOk result (λ entry. IsEntry entry × (bytes.now ≡ entry_bytes entry)) }
+    // What is spelled so is read.
+    ensures only { (entry : DirEntry) → IsEntry entry → bytes.now ≡ entry_bytes entry →
+        Reads entry result }
+    // All else is damage of the payload.
+    ensures err { IfErr result (IsReadFault at) }
+{
+    if bytes.len() < OBJ_BYTES {
+        return Err(bad_payload(at));
+    }
+    let (obj, name) = bytes.split_at(OBJ_BYTES);
+    if !is_name(name) {
+        return Err(bad_payload(at));
+    }
+    Ok(DirEntry {
+        obj: Obj(LittleEndian::read_u64(obj)),
+        name: Name::of(Vec::from_slice(alloc, name)?),
+    })
+}
