@@ -1,5 +1,5 @@
 -- An entry, and the bytes that spell it.
-use Rattle.std.proofs.Common.{◌≡◌, ℕ, ◌+◌, ◌≤◌, List, length, take, drop, refl, arith, length-append}
+use Rattle.std.proofs.Common.{ap, sym, ◌∙◌, ◌≡◌, ℕ, ◌+◌, ◌≤◌, List, length, take, drop, refl, arith, length-append}
 use Rattle.byteorder.specs.Endian.{little_bytes, little_number}
 use Rattle.byteorder.specs.Numbers.{length-bytes_low_first}
 use Rattle.hm_records.specs.declared.entry.DirEntry.{DirEntry}
@@ -36,3 +36,7 @@ entry_back entry is =
     same_entry (entry_in (entry_bytes entry)) entry
     (number_back entry.obj.0 entry.name is.obj)
     (after_number entry.obj.0 entry.name)
+
+-- some bytes are those of one entry
+pub one_entry : (a b : DirEntry) → IsEntry a → IsEntry b → entry_bytes a ≡ entry_bytes b → a ≡ b
+one_entry a b is is' same = sym (entry_back a is) ∙ ap entry_in same ∙ entry_back b is'

@@ -1,5 +1,5 @@
 -- An inode, and the bytes that spell it.
-use Rattle.std.proofs.Common.{◌≡◌, ℕ, List, [], length, take, drop, slice_index, refl}
+use Rattle.std.proofs.Common.{ap, sym, ◌∙◌, ◌≡◌, ℕ, List, [], length, take, drop, slice_index, refl}
 use Rattle.byteorder.specs.Endian.{little_number}
 use Rattle.byteorder.specs.Numbers.{little_number-reads_back}
 use Rattle.hm_records.specs.declared.inode.Inode.{Inode}
@@ -32,3 +32,7 @@ inode_back inode is =
     (little_number-reads_back 8 inode.size [] is.size)
     (little_number-reads_back 4 inode.links [] is.links)
     (little_number-reads_back 2 inode.pfs.0 [] is.pfs)
+
+-- some bytes are those of one inode
+pub one_inode : (a b : Inode) → IsInode a → IsInode b → inode_bytes a ≡ inode_bytes b → a ≡ b
+one_inode a b is is' same = sym (inode_back a is) ∙ ap inode_in same ∙ inode_back b is'

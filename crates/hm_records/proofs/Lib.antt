@@ -2,3 +2,5 @@ pub mod NumberLemmas
 pub mod InodeLemmas
 pub mod EntryLemmas
 pub mod PfsLemmas
+pub mod OpenLemmas
+pub mod PayloadLemmas

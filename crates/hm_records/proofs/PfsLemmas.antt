@@ -115,12 +115,15 @@ pub pfs_tail : (r : PfsRecord) → drop 32 (pfs_bytes r) ≡ intervals_bytes r.r
 unfolding pfs_bytes
 pfs_tail r = drop_at (head_bytes r) (intervals_bytes r.retention) 32 (length-head r)
 
+pub length-pfs : (r : PfsRecord) → length (pfs_bytes r) ≡ 32 + 16 * length r.retention
+unfolding pfs_bytes
+length-pfs r =
+    omega (arith, length-append (head_bytes r) (intervals_bytes r.retention), length-head r, length-intervals r.retention)
+
 -- a spelling has a size that a record may have
 pub pfs_size : (r : PfsRecord) → IsPfsRecord r → IsPfsSize (length (pfs_bytes r))
-unfolding pfs_bytes
 pfs_size r is =
-    let size : length (head_bytes r ++ intervals_bytes r.retention) ≡ 32 + 16 * length r.retention =
-    omega (arith, length-append (head_bytes r) (intervals_bytes r.retention), length-head r, length-intervals r.retention) in
+    let size = length-pfs r in
     record { least = omega arith; most = omega (arith, is.retention.few); whole = omega arith }
 
 -- bytes whose head and whose rest are those of a record spell it
@@ -139,3 +142,10 @@ intervals_back bytes list r is same ids read =
 -- and the head is the record's
 pub head_is : (bytes : List ℕ) (r : PfsRecord) → bytes ≡ pfs_bytes r → take 32 bytes ≡ head_bytes r
 head_is bytes r same = ap (λ (xs : List ℕ). take 32 xs) same ∙ pfs_head r
+
+-- some bytes are those of one record
+pub one_record : (a b : PfsRecord) → IsPfsRecord a → IsPfsRecord b → pfs_bytes a ≡ pfs_bytes b → a ≡ b
+one_record a b is is' same =
+    let list = intervals_back (pfs_bytes a) a.retention b is' same (retention_ids a.retention is.retention) (pfs_tail a) in
+    let head = sym (pfs_head a) ∙ head_is (pfs_bytes a) b same in
+    sym (head_back a is) ∙ rw (head, list) (head_back b is')

@@ -1,6 +1,6 @@
 -- The records of pseudo file systems, and the one spelling of each: 32 bytes, and 16 for each interval of
 -- its retention. A number stands with its lowest byte first.
-use Rattle.std.specs.Prelude.{◌≡◌, ℕ, ◌+◌, ◌-◌, ◌*◌, ◌%◌, ◌^◌, ◌<◌, ◌≤◌, Bool, IsTrue, if◌then◌else◌, List, [], ◌∷◌, ◌++◌, length, replicate}
+use Rattle.std.specs.Prelude.{◌≡◌, ◌≢◌, ℕ, ◌+◌, ◌-◌, ◌*◌, ◌%◌, ◌^◌, ◌<◌, ◌≤◌, Bool, IsTrue, if◌then◌else◌, List, [], ◌∷◌, ◌++◌, length, replicate}
 use Rattle.std.specs.List.{flat_map, AllByRecursion}
 use Rattle.byteorder.specs.Endian.{little_bytes}
 use Rattle.hm_types.specs.Intervals.{Keeps}
@@ -17,6 +17,16 @@ open_end = 2 ^ 64 - 1
 -- one, since intervals rise.
 abbrev pub IsOpen : List (ℕ × ℕ) → Type 0
 IsOpen retention = Keeps retention open_end
+
+-- the last interval has an open end
+abbrev pub EndsOpen : List (ℕ × ℕ) → Type 0
+EndsOpen [] = ⊥
+EndsOpen (interval ∷ []) = interval.1 ≡ open_end
+EndsOpen (interval ∷ next ∷ more) = EndsOpen (next ∷ more)
+
+-- no interval has an open end
+abbrev pub NoneEndsOpen : List (ℕ × ℕ) → Type 0
+NoneEndsOpen list = AllByRecursion (λ interval. interval.1 ≢ open_end) list
 
 -- each end of each interval fits 8 bytes
 abbrev pub AreIds : List (ℕ × ℕ) → Type 0

@@ -12,7 +12,7 @@ use std::alloc::Global;
 const OBJ_BYTES: usize = 8;
 
 /// An entry of a directory: an object, and the name that it has there.
-#[derive(Debug, Drop)]
+#[derive(Debug, PartialEq, Drop)]
 pub struct DirEntry {
     pub obj: Obj,
     pub name: Name,

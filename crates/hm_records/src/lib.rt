@@ -6,11 +6,19 @@ mod entry;
 mod fault;
 mod inode;
 mod kind;
+mod laws;
 mod pfs_record;
 mod target;
+#[cfg(test)]
+mod tests;
 
 pub use entry::{DirEntry, decode_entry, encode_entry};
 pub use inode::{Inode, decode_inode, encode_inode, is_inode};
 pub use kind::{DIRECTORY, FILE, PFS_LINK, SOFTLINK};
+pub use laws::{
+    bytes_spell_one_entry, bytes_spell_one_inode, bytes_spell_one_record,
+    low_bits_of_a_key_are_free, open_end_is_that_of_the_last_interval,
+    payload_is_neither_empty_nor_large, payloads_have_their_sizes,
+};
 pub use pfs_record::{PfsRecord, decode_pfs, encode_pfs};
 pub use target::{decode_target, encode_target};
