@@ -4,3 +4,9 @@ pub mod EntryLemmas
 pub mod PfsLemmas
 pub mod OpenLemmas
 pub mod PayloadLemmas
+pub mod MemberLemmas
+pub mod OrderLemmas
+pub mod ObjectLemmas
+pub mod ViewLemmas
+pub mod CountsLemmas
+pub mod ChangeLemmas

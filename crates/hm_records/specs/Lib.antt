@@ -1,6 +1,11 @@
+pub mod Changes
+pub mod Counts
 pub mod Entry
 pub mod Faults
 pub mod Inode
+pub mod KeysFit
+pub mod Laws
 pub mod Payload
 pub mod PfsRecord
 pub mod Target
+pub mod View

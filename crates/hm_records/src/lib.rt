@@ -11,6 +11,7 @@ mod pfs_record;
 mod target;
 #[cfg(test)]
 mod tests;
+mod views;
 
 pub use entry::{DirEntry, decode_entry, encode_entry};
 pub use inode::{Inode, decode_inode, encode_inode, is_inode};
@@ -22,3 +23,9 @@ pub use laws::{
 };
 pub use pfs_record::{PfsRecord, decode_pfs, encode_pfs};
 pub use target::{decode_target, encode_target};
+pub use views::{
+    additions_count_from_their_id, changes_leave_the_past, closed_versions_count_no_more,
+    ids_stay_below, keys_settle_what_counts, later_ids_count_the_same,
+    records_are_what_counts_last, replaced_versions_count_no_more, views_are_one,
+    what_counts_decides,
+};

@@ -1,0 +1,176 @@
+-- What counts decides which objects and triples there are, and of one number there is at most one object.
+use Rattle.std.proofs.Common.{◌≡◌, ◌≢◌, ℕ, ◌+◌, ◌-◌, ◌<◌, ◌≤◌, List, [], length, slice_index, refl, sym, ap, subst, ◌∙◌, arith}
+use Rattle.std.specs.Prelude.{◌↔◌}
+use Rattle.std.proofs.lemmas.Grind.{same_number_lists}
+use Rattle.hm_types.specs.declared.id.Obj.{Obj}
+use Rattle.hm_types.specs.declared.id.Pfs.{Pfs}
+use Rattle.hm_types.specs.declared.object.Object.{Object}
+use Rattle.hm_types.specs.declared.object.Triple.{Triple}
+use Rattle.hm_types.specs.declared.object.Kind.{Kind}
+use Rattle.hm_types.specs.declared.object.Kind.TheVariants.{Directory, File, Softlink, PfsLink}
+use Rattle.hm_types.specs.declared.object.Content.{Content as Held}
+use Rattle.hm_types.specs.declared.object.Content.TheVariants.{Nothing, File as of_file, Target, Linked}
+use Rattle.hm_records.specs.declared.inode.Inode.{Inode}
+use Rattle.hm_records.specs.Inode.{IsInode, inode_bytes}
+use Rattle.hm_records.specs.Counts.{Content, inode_subject, bytes_subject, target_subject}
+use Rattle.hm_records.specs.View.{AreFileBytes, IsFileByte, covered, hole, past, IsFirstAfter, IsHeld, IsObject, IsTargetOf, held, missing, IsTriple, kind_number}
+use Rattle.hm_records.specs.Changes.{AgreeOnName, AgreeOnObject, IsSettled}
+use Rattle.hm_records.proofs.InodeLemmas.{inode_in, inode_back}
+
+-- ---- agreement
+
+pub object_back : (pfs obj : ℕ) (C D : Content) → AgreeOnObject pfs obj C D → AgreeOnObject pfs obj D C
+object_back pfs obj C D agree = record {
+  inode = λ bytes. ((agree.inode bytes).1, (agree.inode bytes).0);
+  bytes = λ end bytes. ((agree.bytes end bytes).1, (agree.bytes end bytes).0);
+  target = λ bytes. ((agree.target bytes).1, (agree.target bytes).0);
+}
+
+pub name_back : (pfs : ℕ) (directory : Obj) (name : List ℕ) (C D : Content) → AgreeOnName pfs directory name C D
+    → AgreeOnName pfs directory name D C
+name_back pfs directory name C D agree key object = ((agree key object).1, (agree key object).0)
+
+first_kept : (pfs obj x end : ℕ) (bytes : List ℕ) (C D : Content) → AgreeOnObject pfs obj C D
+    → IsFirstAfter C pfs obj x end bytes → IsFirstAfter D pfs obj x end bytes
+first_kept pfs obj x end bytes C D agree first = record {
+  there = (agree.bytes end bytes).1 first.there;
+  after = first.after;
+  first = λ other others there. first.first other others ((agree.bytes other others).0 there);
+}
+
+byte_kept : (pfs obj x byte : ℕ) (C D : Content) → AgreeOnObject pfs obj C D → IsFileByte C pfs obj x byte → IsFileByte D pfs obj x byte
+byte_kept pfs obj x byte C D agree (covered end bytes first reaches is) = covered end bytes (first_kept pfs obj x end bytes C D agree first) reaches is
+byte_kept pfs obj x byte C D agree (hole end bytes first short is) = hole end bytes (first_kept pfs obj x end bytes C D agree first) short is
+byte_kept pfs obj x byte C D agree (past none is) = past (λ end bytes there. none end bytes ((agree.bytes end bytes).0 there)) is
+
+target_kept : (pfs obj : ℕ) (text : List ℕ) (C D : Content) → AgreeOnObject pfs obj C D → IsTargetOf C pfs obj text → IsTargetOf D pfs obj text
+target_kept pfs obj text C D agree (held there) = held ((agree.target text).1 there)
+target_kept pfs obj text C D agree (missing none is) = missing (λ bytes there. none bytes ((agree.target bytes).0 there)) is
+
+pub held_kept : (pfs obj : ℕ) (inode : Inode) (content : Held) (C D : Content) → AgreeOnObject pfs obj C D
+    → IsHeld C pfs obj inode content → IsHeld D pfs obj inode content
+held_kept pfs obj inode Nothing C D agree is = is
+held_kept pfs obj inode (of_file bytes) C D agree is =
+    (is.0, record { sized = is.1.sized; each = λ x below. byte_kept pfs obj x (slice_index bytes x) C D agree (is.1.each x below) })
+held_kept pfs obj inode (Target text) C D agree is = (is.0, target_kept pfs obj text C D agree is.1)
+held_kept pfs obj inode (Linked other) C D agree is = is
+
+-- what counts of an object decides whether it is there
+pub object_kept : (pfs : ℕ) (o : Object) (C D : Content) → AgreeOnObject pfs o.number.0 C D → IsObject C pfs o → IsObject D pfs o
+object_kept pfs o C D agree is = record {
+  inode = is.inode;
+  ranges = is.ranges;
+  there = (agree.inode (inode_bytes is.inode)).1 is.there;
+  kind = is.kind;
+  links = is.links;
+  holds = held_kept pfs o.number.0 is.inode o.content C D agree is.holds;
+}
+
+-- and what counts of a name, which object it leads to
+pub triple_kept : (pfs : ℕ) (t : Triple) (C D : Content) → AgreeOnName pfs t.directory t.name C D → IsTriple C pfs t → IsTriple D pfs t
+triple_kept pfs t C D agree is = record {
+  key = is.key;
+  ranges = is.ranges;
+  there = (agree is.key t.object).1 is.there;
+  first = λ other object there. is.first other object ((agree other object).0 there);
+}
+
+-- ---- at most one
+
+pub inode_one : (i j : Inode) → IsInode i → IsInode j → inode_bytes i ≡ inode_bytes j → i ≡ j
+inode_one i j is is' same = sym (inode_back i is) ∙ ap inode_in same ∙ inode_back j is'
+
+first_one : (pfs obj x end end' : ℕ) (bytes bytes' : List ℕ) (C : Content) → IsSettled C → IsFirstAfter C pfs obj x end bytes
+    → IsFirstAfter C pfs obj x end' bytes' → (end ≡ end') × (bytes ≡ bytes')
+first_one pfs obj x end end' bytes bytes' C settled a b =
+    let same : end ≡ end' = omega (arith, a.first end' bytes' b.there b.after, b.first end bytes a.there a.after) in (
+      same,
+      settled (bytes_subject pfs obj end') bytes bytes' (subst (λ (n : ℕ). C (bytes_subject pfs obj n) bytes) same a.there) b.there,
+    )
+
+byte_one : (pfs obj x a b : ℕ) (C : Content) → IsSettled C → IsFileByte C pfs obj x a → IsFileByte C pfs obj x b → a ≡ b
+byte_one pfs obj x a b C settled (covered end bytes first reaches is) (covered end' bytes' first' reaches' is') =
+    let same = first_one pfs obj x end end' bytes bytes' C settled first first' in
+    let e : end ≡ end' = same.0 in
+    let f : bytes ≡ bytes' = same.1 in
+    is ∙ rw (e, f) (sym is')
+byte_one pfs obj x a b C settled (covered end bytes first reaches is) (hole end' bytes' first' short is') =
+    let same = first_one pfs obj x end end' bytes bytes' C settled first first' in
+    absurd (omega (arith, same.0, ap length same.1))
+byte_one pfs obj x a b C settled (covered end bytes first reaches is) (past none is') = absurd (none end bytes first.there first.after)
+byte_one pfs obj x a b C settled (hole end bytes first short is) (covered end' bytes' first' reaches' is') =
+    let same = first_one pfs obj x end end' bytes bytes' C settled first first' in
+    absurd (omega (arith, same.0, ap length same.1))
+byte_one pfs obj x a b C settled (hole end bytes first short is) (hole end' bytes' first' short' is') = is ∙ sym is'
+byte_one pfs obj x a b C settled (hole end bytes first short is) (past none is') = is ∙ sym is'
+byte_one pfs obj x a b C settled (past none is) (covered end' bytes' first' reaches' is') = absurd (none end' bytes' first'.there first'.after)
+byte_one pfs obj x a b C settled (past none is) (hole end' bytes' first' short' is') = is ∙ sym is'
+byte_one pfs obj x a b C settled (past none is) (past none' is') = is ∙ sym is'
+
+pub bytes_one : (pfs obj size : ℕ) (a b : List ℕ) (C : Content) → IsSettled C → AreFileBytes C pfs obj size a
+    → AreFileBytes C pfs obj size b → a ≡ b
+bytes_one pfs obj size a b C settled is is' =
+    same_number_lists a b (is.sized ∙ sym is'.sized)
+    (λ k below. let k_below : k < size = omega (arith, below, is.sized) in
+    byte_one pfs obj k (slice_index a k) (slice_index b k) C settled (is.each k k_below) (is'.each k k_below))
+
+target_one : (pfs obj : ℕ) (a b : List ℕ) (C : Content) → IsSettled C → IsTargetOf C pfs obj a → IsTargetOf C pfs obj b → a ≡ b
+target_one pfs obj a b C settled (held there) (held there') = settled (target_subject pfs obj) a b there there'
+target_one pfs obj a b C settled (held there) (missing none is) = absurd (none a there)
+target_one pfs obj a b C settled (missing none is) (held there) = absurd (none b there)
+target_one pfs obj a b C settled (missing none is) (missing none' is') = is ∙ sym is'
+
+kind_one : (a b : Kind) → kind_number a ≡ kind_number b → a ≡ b
+kind_one Directory Directory same = refl
+kind_one File File same = refl
+kind_one Softlink Softlink same = refl
+kind_one PfsLink PfsLink same = refl
+kind_one Directory File same = absurd (omega (arith, same))
+kind_one Directory Softlink same = absurd (omega (arith, same))
+kind_one Directory PfsLink same = absurd (omega (arith, same))
+kind_one File Directory same = absurd (omega (arith, same))
+kind_one File Softlink same = absurd (omega (arith, same))
+kind_one File PfsLink same = absurd (omega (arith, same))
+kind_one Softlink Directory same = absurd (omega (arith, same))
+kind_one Softlink File same = absurd (omega (arith, same))
+kind_one Softlink PfsLink same = absurd (omega (arith, same))
+kind_one PfsLink Directory same = absurd (omega (arith, same))
+kind_one PfsLink File same = absurd (omega (arith, same))
+kind_one PfsLink Softlink same = absurd (omega (arith, same))
+
+-- what an object of this inode holds
+held_one : (pfs obj : ℕ) (inode : Inode) (a b : Held) (C : Content) → IsSettled C → IsHeld C pfs obj inode a
+    → IsHeld C pfs obj inode b → a ≡ b
+held_one pfs obj inode Nothing Nothing C settled is is' = refl
+held_one pfs obj inode Nothing (of_file bytes) C settled is is' = absurd (omega (arith, is, is'.0))
+held_one pfs obj inode Nothing (Target text) C settled is is' = absurd (omega (arith, is, is'.0))
+held_one pfs obj inode Nothing (Linked other) C settled is is' = absurd (omega (arith, is, is'.0))
+held_one pfs obj inode (of_file bytes) Nothing C settled is is' = absurd (omega (arith, is.0, is'))
+held_one pfs obj inode (of_file bytes) (of_file bytes') C settled is is' = ap of_file (bytes_one pfs obj inode.size bytes bytes' C settled is.1 is'.1)
+held_one pfs obj inode (of_file bytes) (Target text) C settled is is' = absurd (omega (arith, is.0, is'.0))
+held_one pfs obj inode (of_file bytes) (Linked other) C settled is is' = absurd (omega (arith, is.0, is'.0))
+held_one pfs obj inode (Target text) Nothing C settled is is' = absurd (omega (arith, is.0, is'))
+held_one pfs obj inode (Target text) (of_file bytes) C settled is is' = absurd (omega (arith, is.0, is'.0))
+held_one pfs obj inode (Target text) (Target text') C settled is is' = ap Target (target_one pfs obj text text' C settled is.1 is'.1)
+held_one pfs obj inode (Target text) (Linked other) C settled is is' = absurd (omega (arith, is.0, is'.0))
+held_one pfs obj inode (Linked other) Nothing C settled is is' = absurd (omega (arith, is.0, is'))
+held_one pfs obj inode (Linked other) (of_file bytes) C settled is is' = absurd (omega (arith, is.0, is'.0))
+held_one pfs obj inode (Linked other) (Target text) C settled is is' = absurd (omega (arith, is.0, is'.0))
+held_one pfs obj inode (Linked other) (Linked other') C settled is is' = ap Linked (is.1 ∙ sym is'.1)
+
+same_object : (o p : Object) → o.number.0 ≡ p.number.0 → o.kind ≡ p.kind → o.content ≡ p.content → o.links ≡ p.links → o ≡ p
+same_object o p number kind content links =
+    λ i. record { number = record { 0 = number i }; kind = kind i; content = content i; links = links i }
+
+-- of one number there is at most one object
+pub object_one : (pfs : ℕ) (o p : Object) (C : Content) → IsSettled C → IsObject C pfs o → IsObject C pfs p → o.number.0 ≡ p.number.0 → o ≡ p
+object_one pfs o p C settled is is' number =
+    let there : C (inode_subject pfs p.number.0) (inode_bytes is.inode) = subst (λ (n : ℕ). C (inode_subject pfs n) (inode_bytes is.inode)) number is.there in
+    let same : is.inode ≡ is'.inode =
+    inode_one is.inode is'.inode is.ranges is'.ranges (settled (inode_subject pfs p.number.0) (inode_bytes is.inode) (inode_bytes is'.inode) there is'.there) in
+    let holds : IsHeld C pfs p.number.0 is.inode o.content = subst (λ (n : ℕ). IsHeld C pfs n is.inode o.content) number is.holds in
+    let holds' : IsHeld C pfs p.number.0 is'.inode o.content = subst (λ (i : Inode). IsHeld C pfs p.number.0 i o.content) same holds in
+    same_object o p number
+    (kind_one o.kind p.kind (sym is.kind ∙ ap (λ (i : Inode). i.kind) same ∙ is'.kind))
+    (held_one pfs p.number.0 is'.inode o.content p.content C settled holds' is'.holds)
+    (is.links ∙ ap (λ (i : Inode). i.links) same ∙ sym is'.links)

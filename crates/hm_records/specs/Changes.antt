@@ -1,0 +1,90 @@
+-- What a call does to a list of elements, as sets, and what that does to what counts.
+use Rattle.std.specs.Prelude.{◌≡◌, ◌≢◌, ◌↔◌, ◌⊎◌, ℕ, ◌<◌, Bool, ◌==◌, ◌&&◌, if◌then◌else◌, List, Option, Some}
+use Rattle.std.specs.List.{Contains}
+use Rattle.std.specs.List.Sorted.{IsStrictlySortedBy}
+use Rattle.std.specs.Ordering.{on}
+use Rattle.hm_types.specs.Elements.{FullElement, Key, key_cmp}
+use Rattle.hm_types.specs.declared.id.Obj.{Obj}
+use Rattle.hm_records.specs.Counts.{Content, Subject, inode_subject, bytes_subject, entry_subject, target_subject}
+use Rattle.hm_records.specs.View.{HasEntry}
+
+-- the elements rise by their keys, as the leaves of a sound tree hold them
+abbrev pub AreSorted : List FullElement → Type 0
+AreSorted es = IsStrictlySortedBy (on (λ (e : FullElement). e.key) key_cmp) es
+
+-- no two elements have one key
+abbrev pub HaveOwnKeys : List FullElement → Type 0
+HaveOwnKeys es = (x y : FullElement) → Contains es x → Contains es y → x.key ≡ y.key → x ≡ y
+
+-- all ids in a list are below `i`: those that made its elements, and those that closed them
+pub record IsBelow (i : ℕ) (es : List FullElement) : Type 0 where
+  pub made : (x : FullElement) → Contains es x → x.key.create < i
+  pub closed : (x : FullElement) → Contains es x → x.delete < i
+
+-- one element more
+abbrev pub Adds : FullElement → List FullElement → List FullElement → Type 0
+Adds e es es' = (x : FullElement) → Contains es' x ↔ ((x ≡ e) ⊎ Contains es x)
+
+-- one element less
+abbrev pub TakesOut : FullElement → List FullElement → List FullElement → Type 0
+TakesOut e es es' = (x : FullElement) → Contains es' x ↔ (Contains es x × (x ≢ e))
+
+-- whether a key is about a subject
+abbrev pub is_about : Subject → Key → Bool
+is_about s k = (k.localization == s.localization) && (k.obj == s.obj) && (k.rec_type == s.rec_type) && (k.key == s.key)
+
+-- an element as it is once the open ones about a subject were closed at `i`
+abbrev pub closed_for : Subject → ℕ → FullElement → FullElement
+closed_for s i e = if is_about s e.key && (e.delete == 0) then record e { delete = i } else e
+
+-- the open elements about a subject are closed at `i`, and all else is as it was
+abbrev pub Closes : Subject → ℕ → List FullElement → List FullElement → Type 0
+Closes s i es es' = (x : FullElement) → Contains es' x ↔ ((e : FullElement) × Contains es e × (closed_for s i e ≡ x))
+
+-- ---- what counts
+
+-- the same counts for every subject
+abbrev pub CountSame : Content → Content → Type 0
+CountSame old new = (s : Subject) (bytes : List ℕ) → new s bytes ↔ old s bytes
+
+-- nothing counts for a subject
+abbrev pub CountsNothing : Content → Subject → Type 0
+CountsNothing counts s = (bytes : List ℕ) → counts s bytes → ⊥
+
+-- for no subject two payloads count
+abbrev pub IsSettled : Content → Type 0
+IsSettled counts = (s : Subject) (a b : List ℕ) → counts s a → counts s b → a ≡ b
+
+-- For one subject these bytes count and no others, or nothing counts for it. For every other subject there counts
+-- what counted.
+pub record Overrides (subject : Subject) (now : Option (List ℕ)) (old new : Content) : Type 0 where
+  pub about : (bytes : List ℕ) → new subject bytes ↔ (now ≡ Some bytes)
+  pub elsewhere : (other : Subject) (bytes : List ℕ) → other ≢ subject → new other bytes ↔ old other bytes
+
+-- two contents agree about an object: about its inode, its bytes and its target
+pub record AgreeOnObject (pfs obj : ℕ) (old new : Content) : Type 0 where
+  pub inode : (bytes : List ℕ) → new (inode_subject pfs obj) bytes ↔ old (inode_subject pfs obj) bytes
+  pub bytes : (end : ℕ) (bytes : List ℕ) → new (bytes_subject pfs obj end) bytes ↔ old (bytes_subject pfs obj end) bytes
+  pub target : (bytes : List ℕ) → new (target_subject pfs obj) bytes ↔ old (target_subject pfs obj) bytes
+
+-- they agree about the entries of a directory that have this name
+abbrev pub AgreeOnName : ℕ → Obj → List ℕ → Content → Content → Type 0
+AgreeOnName pfs directory name old new =
+    (key : ℕ) (object : Obj) → HasEntry new pfs directory key name object ↔ HasEntry old pfs directory key name object
+
+-- Two contents agree about a pseudo file system but for one object, of which neither the names are meant nor the
+-- entries that it has as a directory.
+pub record AgreeButObject (pfs obj : ℕ) (old new : Content) : Type 0 where
+  pub objects : (other : ℕ) → other ≢ obj → AgreeOnObject pfs other old new
+  pub entries : (directory : Obj) (name : List ℕ) → AgreeOnName pfs directory name old new
+
+-- A subject is about no object of a pseudo file system and no entry in it.
+pub record IsBeside (pfs : ℕ) (s : Subject) : Type 0 where
+  pub inode : (obj : ℕ) → s ≢ inode_subject pfs obj
+  pub bytes : (obj end : ℕ) → s ≢ bytes_subject pfs obj end
+  pub target : (obj : ℕ) → s ≢ target_subject pfs obj
+  pub entry : (directory key : ℕ) → s ≢ entry_subject pfs directory key
+
+-- a directory has no entry of this name
+abbrev pub LacksName : Content → ℕ → Obj → List ℕ → Type 0
+LacksName counts pfs directory name = (key : ℕ) (object : Obj) → HasEntry counts pfs directory key name object → ⊥

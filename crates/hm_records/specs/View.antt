@@ -1,0 +1,97 @@
+-- The tree of a pseudo file system, by what counts. It is said as sets: which objects and which triples there are,
+-- and not how any of them is found.
+use Rattle.std.specs.Prelude.{◌≡◌, ◌↔◌, ◌⊎◌, ℕ, ◌+◌, ◌-◌, ◌<◌, ◌≤◌, Bool, List, [], ◌∷◌, length, slice_index, IsTrue}
+use Rattle.std.specs.List.{All, Contains}
+use Rattle.hm_types.specs.Elements.{FullElement}
+use Rattle.hm_types.specs.Tree.{FileTree, is_object_before, is_triple_before}
+use Rattle.hm_types.specs.declared.id.Obj.{Obj}
+use Rattle.hm_types.specs.declared.object.Object.{Object}
+use Rattle.hm_types.specs.declared.object.Triple.{Triple}
+use Rattle.hm_types.specs.declared.object.Kind.{Kind}
+use Rattle.hm_types.specs.declared.object.Kind.TheVariants.{Directory, File, Softlink, PfsLink}
+use Rattle.hm_types.specs.declared.object.Content.{Content as Held}
+use Rattle.hm_types.specs.declared.object.Content.TheVariants.{Nothing, File as of_file, Target, Linked}
+use Rattle.hm_records.specs.Counts.{Content, Counts, inode_subject, bytes_subject, entry_subject, target_subject}
+use Rattle.hm_records.specs.Entry.{IsEntry, entry_bytes}
+use Rattle.hm_records.specs.Inode.{IsInode, inode_bytes}
+use Rattle.hm_records.specs.declared.entry.DirEntry.{DirEntry}
+use Rattle.hm_records.specs.declared.inode.Inode.{Inode}
+use Rattle.hm_records.specs.declared.kind.TheConstants.{DIRECTORY, FILE, SOFTLINK, PFS_LINK}
+
+-- the number of a kind
+abbrev pub kind_number : Kind → ℕ
+kind_number Directory = DIRECTORY
+kind_number File = FILE
+kind_number Softlink = SOFTLINK
+kind_number PfsLink = PFS_LINK
+
+-- of the bytes of a file that count and end after byte `x`, the first ones end at `end`
+pub record IsFirstAfter (counts : Content) (pfs obj x end : ℕ) (bytes : List ℕ) : Type 0 where
+  pub there : counts (bytes_subject pfs obj end) bytes
+  pub after : x < end
+  pub first : (other : ℕ) (others : List ℕ) → counts (bytes_subject pfs obj other) others → x < other → end ≤ other
+
+-- Byte `x` of a file: the first bytes that end after it have it, where they begin at it or before. Where they begin
+-- later, and where there are none, it is zero.
+pub data IsFileByte (counts : Content) (pfs obj x byte : ℕ) : Type 0 where
+  covered : (end : ℕ) (bytes : List ℕ) → IsFirstAfter counts pfs obj x end bytes → end ≤ x + length bytes
+      → byte ≡ slice_index bytes (x + length bytes - end) → IsFileByte counts pfs obj x byte
+  hole : (end : ℕ) (bytes : List ℕ) → IsFirstAfter counts pfs obj x end bytes → x + length bytes < end → byte ≡ 0
+      → IsFileByte counts pfs obj x byte
+  past : ((end : ℕ) (bytes : List ℕ) → counts (bytes_subject pfs obj end) bytes → x < end → ⊥) → byte ≡ 0
+      → IsFileByte counts pfs obj x byte
+
+-- the bytes of a file: as many as its inode says
+pub record AreFileBytes (counts : Content) (pfs obj size : ℕ) (bytes : List ℕ) : Type 0 where
+  pub sized : length bytes ≡ size
+  pub each : (x : ℕ) → x < size → IsFileByte counts pfs obj x (slice_index bytes x)
+
+-- The target of a softlink: the bytes of its target, or none where there is no target.
+pub data IsTargetOf (counts : Content) (pfs obj : ℕ) (text : List ℕ) : Type 0 where
+  held : counts (target_subject pfs obj) text → IsTargetOf counts pfs obj text
+  missing : ((bytes : List ℕ) → counts (target_subject pfs obj) bytes → ⊥) → text ≡ [] → IsTargetOf counts pfs obj text
+
+-- what an object holds, by its inode
+abbrev pub IsHeld : Content → ℕ → ℕ → Inode → Held → Type 0
+IsHeld counts pfs obj inode Nothing = inode.kind ≡ DIRECTORY
+IsHeld counts pfs obj inode (of_file bytes) = (inode.kind ≡ FILE) × AreFileBytes counts pfs obj inode.size bytes
+IsHeld counts pfs obj inode (Target text) = (inode.kind ≡ SOFTLINK) × IsTargetOf counts pfs obj text
+IsHeld counts pfs obj inode (Linked other) = (inode.kind ≡ PFS_LINK) × (other ≡ inode.pfs)
+
+-- An object: its inode counts. Its links are as many as the inode says, whatever names lead to it.
+pub record IsObject (counts : Content) (pfs : ℕ) (o : Object) : Type 0 where
+  pub inode : Inode
+  pub ranges : IsInode inode
+  pub there : counts (inode_subject pfs o.number.0) (inode_bytes inode)
+  pub kind : inode.kind ≡ kind_number o.kind
+  pub links : o.links ≡ inode.links
+  pub holds : IsHeld counts pfs o.number.0 inode o.content
+
+-- a directory has an entry with this key, that leads to an object under a name
+abbrev pub HasEntry : Content → ℕ → Obj → ℕ → List ℕ → Obj → Type 0
+HasEntry counts pfs directory key name object =
+    counts (entry_subject pfs directory.0 key) (entry_bytes (record { obj = object; name = name }))
+
+-- A triple: its entry counts, and is the first in the order of keys of those with its name. It makes no difference
+-- whether its directory or its object has an inode.
+pub record IsTriple (counts : Content) (pfs : ℕ) (t : Triple) : Type 0 where
+  pub key : ℕ
+  pub ranges : IsEntry (record { obj = t.object; name = t.name })
+  pub there : HasEntry counts pfs t.directory key t.name t.object
+  pub first : (other : ℕ) (object : Obj) → HasEntry counts pfs t.directory other t.name object → key ≤ other
+
+-- each element of a list goes before all that follow it
+abbrev pub AreInOrder : {X : Type 0} → (X → X → Bool) → List X → Type 0
+AreInOrder before [] = Unit {0}
+AreInOrder before (x ∷ xs) = All (λ y. IsTrue (before x y)) xs × AreInOrder before xs
+
+-- The tree of what counts: its objects and its triples, in their order.
+pub record IsView (counts : Content) (pfs : ℕ) (tree : FileTree) : Type 0 where
+  pub objects_rise : AreInOrder is_object_before tree.objects
+  pub objects : (o : Object) → Contains tree.objects o ↔ IsObject counts pfs o
+  pub triples_rise : AreInOrder is_triple_before tree.triples
+  pub triples : (t : Triple) → Contains tree.triples t ↔ IsTriple counts pfs t
+
+-- the tree of a pseudo file system as of an id
+abbrev pub IsViewOf : List FullElement → ℕ → ℕ → FileTree → Type 0
+IsViewOf es pfs t = IsView (Counts es t) pfs
