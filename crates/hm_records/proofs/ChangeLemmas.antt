@@ -2,7 +2,7 @@
 use Rattle.std.proofs.Common.{◌≡◌, ◌≢◌, ℕ, ◌+◌, ◌<◌, ◌≤◌, Bool, true, false, List, refl, sym, ap, subst, ◌∙◌, inl, inr, arith}
 use Rattle.std.specs.Prelude.{◌↔◌, ◌⊎◌, ◌==◌, ◌&&◌, if◌then◌else◌, Option, Some, None}
 use Rattle.std.specs.List.{Contains}
-use Rattle.std.proofs.lemmas.Bool.{false≢true, eqb-true, eq-eqb}
+use Rattle.std.proofs.lemmas.Bool.{false≢true, eqb-true, eq-eqb, and_parts}
 use Rattle.hm_types.specs.Elements.{FullElement, Key}
 use Rattle.hm_records.specs.Counts.{Content, Counts, IsSeen, Subject, subject_of}
 use Rattle.hm_records.specs.Changes.{Adds, Closes, CountSame, HaveOwnKeys, IsBelow, Overrides, TakesOut, closed_for, is_about}
@@ -53,16 +53,11 @@ takes_out_unseen e es es' t takes unseen s bytes = (shown s es' es t t bytes bac
 
 -- ---- closing
 
-both_true : (a b : Bool) → (a && b) ≡ true → (a ≡ true) × (b ≡ true)
-both_true true true is = (refl, refl)
-both_true true false is = absurd (false≢true is)
-both_true false b is = absurd (false≢true is)
-
 about_is : (s : Subject) (k : Key) → is_about s k ≡ true → subject_of k ≡ s
 about_is s k is =
-    let last = both_true _ _ is in
-    let third = both_true _ _ last.0 in
-    let first = both_true _ _ third.0 in
+    let last = and_parts _ _ is in
+    let third = and_parts _ _ last.0 in
+    let first = and_parts _ _ third.0 in
     let l : k.localization ≡ s.localization = eqb-true k.localization s.localization first.0 in
     let o : k.obj ≡ s.obj = eqb-true k.obj s.obj first.1 in
     let r : k.rec_type ≡ s.rec_type = eqb-true k.rec_type s.rec_type third.1 in

@@ -10,3 +10,6 @@ pub mod ObjectLemmas
 pub mod ViewLemmas
 pub mod CountsLemmas
 pub mod ChangeLemmas
+pub mod SubjectLemmas
+pub mod NameLemmas
+pub mod EntryChangeLemmas

@@ -57,7 +57,7 @@ module _ {X : Type 0} where
       | inr later ↦ rest later passes
     ]
 
-  filter_all : (p : X → Bool) (xs : List X) → ((x : X) → Contains xs x → p x ≡ true) → filter p xs ≡ xs
+  pub filter_all : (p : X → Bool) (xs : List X) → ((x : X) → Contains xs x → p x ≡ true) → filter p xs ≡ xs
   filter_all p [] each = refl
   filter_all p (x ∷ xs) each =
       let first : p x ≡ true = each x (has_head x xs) in

@@ -1,8 +1,13 @@
 -- Words in which the laws of views are said.
-use Rattle.std.specs.Prelude.{◌≡◌, ℕ, ◌+◌, ◌≤◌, List}
+use Rattle.std.specs.Prelude.{◌≡◌, ◌≢◌, ℕ, ◌+◌, ◌^◌, ◌<◌, ◌≤◌, List, None, Some}
+use Rattle.hm_types.specs.declared.id.Obj.{Obj}
 use Rattle.hm_types.specs.Elements.{FullElement}
-use Rattle.hm_records.specs.Counts.{Content, Counts, subject_of}
-use Rattle.hm_records.specs.Changes.{Adds, Closes, IsBelow}
+use Rattle.hm_records.specs.Counts.{Content, Counts, entry_subject, subject_of}
+use Rattle.hm_types.specs.Tree.{FileTree}
+use Rattle.hm_records.specs.declared.entry.DirEntry.{DirEntry}
+use Rattle.hm_records.specs.Entry.{IsEntry, entry_bytes}
+use Rattle.hm_records.specs.View.{HasEntry, IsView}
+use Rattle.hm_records.specs.Changes.{Adds, Closes, CountsNothing, IsBelow, IsSettled, Overrides}
 
 -- a list of elements as of an id
 pub record AsOf : Type 0 where
@@ -25,3 +30,42 @@ pub record Replaces (e : FullElement) (es es' : List FullElement) : Type 0 where
 -- no id of a list is above `t`
 abbrev pub IsUpTo : ℕ → List FullElement → Type 0
 IsUpTo t es = IsBelow (t + 1) es
+
+-- a content has this view, and at most one payload counts in it for each subject
+pub record HasView (counts : Content) (pfs : ℕ) (tree : FileTree) : Type 0 where
+  pub settled : IsSettled counts
+  pub view : IsView counts pfs tree
+
+-- a directory gets an entry, under a key that no entry had
+pub record GetsEntry (pfs : ℕ) (directory : Obj) (key : ℕ) (entry : DirEntry) (old new : Content) : Type 0 where
+  pub ranges : IsEntry entry
+  pub unused : CountsNothing old (entry_subject pfs directory.0 key)
+  pub counts : Overrides (entry_subject pfs directory.0 key) (Some (entry_bytes entry)) old new
+
+-- a directory loses the entry that it had under a key
+pub record LosesEntry (pfs : ℕ) (directory : Obj) (key : ℕ) (entry : DirEntry) (old new : Content) : Type 0 where
+  pub there : HasEntry old pfs directory key entry.name entry.obj
+  pub counts : Overrides (entry_subject pfs directory.0 key) None old new
+
+-- an entry under this key would be the first of its name
+abbrev pub IsFirstOf : Content → ℕ → Obj → List ℕ → ℕ → Type 0
+IsFirstOf counts pfs directory name key = (other : ℕ) (object : Obj) → HasEntry counts pfs directory other name object → key ≤ other
+
+-- there is an entry of the name under an earlier key
+pub record HasEarlier (counts : Content) (pfs : ℕ) (directory : Obj) (name : List ℕ) (key : ℕ) : Type 0 where
+  pub other : ℕ
+  pub object : Obj
+  pub there : HasEntry counts pfs directory other name object
+  pub earlier : other < key
+
+-- of the entries of a name besides the one under a key this is the first, and leads to an object
+pub record IsNext (counts : Content) (pfs : ℕ) (directory : Obj) (name : List ℕ) (key : ℕ) (object : Obj) : Type 0 where
+  pub next : ℕ
+  pub fits : object.0 < 2 ^ 64
+  pub there : HasEntry counts pfs directory next name object
+  pub besides : next ≢ key
+  pub first : (other : ℕ) (object' : Obj) → HasEntry counts pfs directory other name object' → other ≢ key → next ≤ other
+
+-- the entry under a key is the only one of its name
+abbrev pub IsOnly : Content → ℕ → Obj → List ℕ → ℕ → Type 0
+IsOnly counts pfs directory name key = (other : ℕ) (object : Obj) → HasEntry counts pfs directory other name object → other ≡ key

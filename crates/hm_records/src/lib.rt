@@ -25,7 +25,8 @@ pub use pfs_record::{PfsRecord, decode_pfs, encode_pfs};
 pub use target::{decode_target, encode_target};
 pub use views::{
     additions_count_from_their_id, changes_leave_the_past, closed_versions_count_no_more,
-    ids_stay_below, keys_settle_what_counts, later_ids_count_the_same,
+    entries_that_go_show_the_next_of_their_name, ids_stay_below, keys_settle_what_counts,
+    later_ids_count_the_same, new_entries_are_shown_where_they_come_first,
     records_are_what_counts_last, replaced_versions_count_no_more, views_are_one,
     what_counts_decides,
 };
