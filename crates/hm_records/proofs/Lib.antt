@@ -13,3 +13,5 @@ pub mod ChangeLemmas
 pub mod SubjectLemmas
 pub mod NameLemmas
 pub mod EntryChangeLemmas
+pub mod ObjectChangeLemmas
+pub mod MadeLemmas

@@ -11,6 +11,7 @@ use Rattle.hm_types.specs.declared.object.Kind.TheVariants.{Directory, File, Sof
 use Rattle.hm_types.specs.declared.object.Content.{Content as Held}
 use Rattle.hm_types.specs.declared.object.Content.TheVariants.{Nothing, File as of_file, Target, Linked}
 use Rattle.hm_records.specs.declared.inode.Inode.{Inode}
+use Rattle.hm_records.specs.declared.kind.TheConstants.{FILE, SOFTLINK}
 use Rattle.hm_records.specs.Inode.{IsInode, inode_bytes}
 use Rattle.hm_records.specs.Counts.{Content, inode_subject, bytes_subject, target_subject}
 use Rattle.hm_records.specs.View.{AreFileBytes, IsFileByte, covered, hole, past, IsFirstAfter, IsHeld, IsObject, IsTargetOf, held, missing, IsTriple, kind_number}
@@ -30,30 +31,41 @@ pub name_back : (pfs : ℕ) (directory : Obj) (name : List ℕ) (C D : Content) 
     → AgreeOnName pfs directory name D C
 name_back pfs directory name C D agree key object = ((agree key object).1, (agree key object).0)
 
-first_kept : (pfs obj x end : ℕ) (bytes : List ℕ) (C D : Content) → AgreeOnObject pfs obj C D
+-- the same bytes of a file count, and the same target
+abbrev pub SameBytes : ℕ → ℕ → Content → Content → Type 0
+SameBytes pfs obj C D = (end : ℕ) (bytes : List ℕ) → D (bytes_subject pfs obj end) bytes ↔ C (bytes_subject pfs obj end) bytes
+
+abbrev pub SameTarget : ℕ → ℕ → Content → Content → Type 0
+SameTarget pfs obj C D = (bytes : List ℕ) → D (target_subject pfs obj) bytes ↔ C (target_subject pfs obj) bytes
+
+first_kept : (pfs obj x end : ℕ) (bytes : List ℕ) (C D : Content) → SameBytes pfs obj C D
     → IsFirstAfter C pfs obj x end bytes → IsFirstAfter D pfs obj x end bytes
-first_kept pfs obj x end bytes C D agree first = record {
-  there = (agree.bytes end bytes).1 first.there;
+first_kept pfs obj x end bytes C D same first = record {
+  there = (same end bytes).1 first.there;
   after = first.after;
-  first = λ other others there. first.first other others ((agree.bytes other others).0 there);
+  first = λ other others there. first.first other others ((same other others).0 there);
 }
 
-byte_kept : (pfs obj x byte : ℕ) (C D : Content) → AgreeOnObject pfs obj C D → IsFileByte C pfs obj x byte → IsFileByte D pfs obj x byte
-byte_kept pfs obj x byte C D agree (covered end bytes first reaches is) = covered end bytes (first_kept pfs obj x end bytes C D agree first) reaches is
-byte_kept pfs obj x byte C D agree (hole end bytes first short is) = hole end bytes (first_kept pfs obj x end bytes C D agree first) short is
-byte_kept pfs obj x byte C D agree (past none is) = past (λ end bytes there. none end bytes ((agree.bytes end bytes).0 there)) is
+byte_kept : (pfs obj x byte : ℕ) (C D : Content) → SameBytes pfs obj C D → IsFileByte C pfs obj x byte → IsFileByte D pfs obj x byte
+byte_kept pfs obj x byte C D same (covered end bytes first reaches is) = covered end bytes (first_kept pfs obj x end bytes C D same first) reaches is
+byte_kept pfs obj x byte C D same (hole end bytes first short is) = hole end bytes (first_kept pfs obj x end bytes C D same first) short is
+byte_kept pfs obj x byte C D same (past none is) = past (λ end bytes there. none end bytes ((same end bytes).0 there)) is
 
-target_kept : (pfs obj : ℕ) (text : List ℕ) (C D : Content) → AgreeOnObject pfs obj C D → IsTargetOf C pfs obj text → IsTargetOf D pfs obj text
-target_kept pfs obj text C D agree (held there) = held ((agree.target text).1 there)
-target_kept pfs obj text C D agree (missing none is) = missing (λ bytes there. none bytes ((agree.target bytes).0 there)) is
+bytes_kept : (pfs obj size : ℕ) (bytes : List ℕ) (C D : Content) → SameBytes pfs obj C D → AreFileBytes C pfs obj size bytes → AreFileBytes D pfs obj size bytes
+bytes_kept pfs obj size bytes C D same are =
+    record { sized = are.sized; each = λ x below. byte_kept pfs obj x (slice_index bytes x) C D same (are.each x below) }
 
-pub held_kept : (pfs obj : ℕ) (inode : Inode) (content : Held) (C D : Content) → AgreeOnObject pfs obj C D
-    → IsHeld C pfs obj inode content → IsHeld D pfs obj inode content
-held_kept pfs obj inode Nothing C D agree is = is
-held_kept pfs obj inode (of_file bytes) C D agree is =
-    (is.0, record { sized = is.1.sized; each = λ x below. byte_kept pfs obj x (slice_index bytes x) C D agree (is.1.each x below) })
-held_kept pfs obj inode (Target text) C D agree is = (is.0, target_kept pfs obj text C D agree is.1)
-held_kept pfs obj inode (Linked other) C D agree is = is
+target_kept : (pfs obj : ℕ) (text : List ℕ) (C D : Content) → SameTarget pfs obj C D → IsTargetOf C pfs obj text → IsTargetOf D pfs obj text
+target_kept pfs obj text C D same (held there) = held ((same text).1 there)
+target_kept pfs obj text C D same (missing none is) = missing (λ bytes there. none bytes ((same bytes).0 there)) is
+
+-- what an object holds needs its bytes only where it is a file, and its target only where it is a softlink
+pub held_kept : (pfs obj : ℕ) (inode : Inode) (content : Held) (C D : Content) → (inode.kind ≡ FILE → SameBytes pfs obj C D)
+    → (inode.kind ≡ SOFTLINK → SameTarget pfs obj C D) → IsHeld C pfs obj inode content → IsHeld D pfs obj inode content
+held_kept pfs obj inode Nothing C D bytes target is = is
+held_kept pfs obj inode (of_file b) C D bytes target is = (is.0, bytes_kept pfs obj inode.size b C D (bytes is.0) is.1)
+held_kept pfs obj inode (Target text) C D bytes target is = (is.0, target_kept pfs obj text C D (target is.0) is.1)
+held_kept pfs obj inode (Linked other) C D bytes target is = is
 
 -- what counts of an object decides whether it is there
 pub object_kept : (pfs : ℕ) (o : Object) (C D : Content) → AgreeOnObject pfs o.number.0 C D → IsObject C pfs o → IsObject D pfs o
@@ -63,7 +75,7 @@ object_kept pfs o C D agree is = record {
   there = (agree.inode (inode_bytes is.inode)).1 is.there;
   kind = is.kind;
   links = is.links;
-  holds = held_kept pfs o.number.0 is.inode o.content C D agree is.holds;
+  holds = held_kept pfs o.number.0 is.inode o.content C D (λ _. agree.bytes) (λ _. agree.target) is.holds;
 }
 
 -- and what counts of a name, which object it leads to

@@ -17,13 +17,30 @@ use Rattle.hm_records.proofs.OrderLemmas.{object_strict, triple_strict}
 same_tree : (t u : FileTree) → t.objects ≡ u.objects → t.triples ≡ u.triples → t ≡ u
 same_tree t u objects triples = λ i. record { objects = objects i; triples = triples i }
 
+-- the triples are one where the names agree, and the objects where these do
+pub one_objects : (pfs : ℕ) (t u : FileTree) (C D : Content) → ((obj : ℕ) → AgreeOnObject pfs obj C D) → IsView C pfs t
+    → IsView D pfs u → t.objects ≡ u.objects
+one_objects pfs t u C D agree is is' =
+    order_one is_object_before object_strict t.objects u.objects is.objects_rise is'.objects_rise
+    (λ o has. (is'.objects o).1 (object_kept pfs o C D (agree o.number.0) ((is.objects o).0 has)))
+    (λ o has. (is.objects o).1 (object_kept pfs o D C (object_back pfs o.number.0 C D (agree o.number.0)) ((is'.objects o).0 has)))
+
+pub one_triples : (pfs : ℕ) (t u : FileTree) (C D : Content) → ((directory : Obj) (name : List ℕ) → AgreeOnName pfs directory name C D)
+    → IsView C pfs t → IsView D pfs u → t.triples ≡ u.triples
+one_triples pfs t u C D agree is is' =
+    order_one is_triple_before triple_strict t.triples u.triples is.triples_rise is'.triples_rise
+    (λ o has. (is'.triples o).1 (triple_kept pfs o C D (agree o.directory o.name) ((is.triples o).0 has)))
+    (λ o has. (is.triples o).1 (triple_kept pfs o D C (name_back pfs o.directory o.name C D (agree o.directory o.name)) ((is'.triples o).0 has)))
+
 pub view_one : (counts : Content) (pfs : ℕ) (t u : FileTree) → IsView counts pfs t → IsView counts pfs u → t ≡ u
 view_one counts pfs t u is is' =
     same_tree t u
-    (order_one is_object_before object_strict t.objects u.objects is.objects_rise is'.objects_rise
-    (λ o has. (is'.objects o).1 ((is.objects o).0 has)) (λ o has. (is.objects o).1 ((is'.objects o).0 has)))
-    (order_one is_triple_before triple_strict t.triples u.triples is.triples_rise is'.triples_rise
-    (λ o has. (is'.triples o).1 ((is.triples o).0 has)) (λ o has. (is.triples o).1 ((is'.triples o).0 has)))
+    (one_objects pfs t u counts counts (λ obj. record {
+      inode = λ bytes. (λ h. h, λ h. h);
+      bytes = λ end bytes. (λ h. h, λ h. h);
+      target = λ bytes. (λ h. h, λ h. h);
+    }) is is')
+    (one_triples pfs t u counts counts (λ directory name key object. (λ h. h, λ h. h)) is is')
 
 -- contents that agree about all objects have the same ones
 pub objects_kept : (pfs : ℕ) (tree : FileTree) (C D : Content) → ((obj : ℕ) → AgreeOnObject pfs obj C D) → IsView C pfs tree

@@ -7,6 +7,8 @@ use Rattle.hm_types.specs.Elements.{FullElement, Key, key_cmp}
 use Rattle.hm_types.specs.declared.id.Obj.{Obj}
 use Rattle.hm_records.specs.Counts.{Content, Subject, inode_subject, bytes_subject, entry_subject, target_subject}
 use Rattle.hm_records.specs.View.{HasEntry}
+use Rattle.hm_records.specs.declared.inode.Inode.{Inode}
+use Rattle.hm_records.specs.Inode.{IsInode, inode_bytes}
 
 -- the elements rise by their keys, as the leaves of a sound tree hold them
 abbrev pub AreSorted : List FullElement → Type 0
@@ -88,3 +90,17 @@ pub record IsBeside (pfs : ℕ) (s : Subject) : Type 0 where
 -- a directory has no entry of this name
 abbrev pub LacksName : Content → ℕ → Obj → List ℕ → Type 0
 LacksName counts pfs directory name = (key : ℕ) (object : Obj) → HasEntry counts pfs directory key name object → ⊥
+
+-- one object of a pseudo file system changes at most, and what counts stays settled
+pub record ChangesObject (pfs obj : ℕ) (old new : Content) : Type 0 where
+  pub agree : AgreeButObject pfs obj old new
+  pub settled : IsSettled new
+
+-- an object has this inode
+pub record HasInode (counts : Content) (pfs obj : ℕ) (inode : Inode) : Type 0 where
+  pub ranges : IsInode inode
+  pub there : counts (inode_subject pfs obj) (inode_bytes inode)
+
+-- no inode of the object is of this kind, so that it has none or one of another kind
+abbrev pub IsNotOfKind : Content → ℕ → ℕ → ℕ → Type 0
+IsNotOfKind counts pfs obj kind = (inode : Inode) → HasInode counts pfs obj inode → inode.kind ≢ kind

@@ -3,11 +3,16 @@ use Rattle.std.specs.Prelude.{◌≡◌, ◌≢◌, ℕ, ◌+◌, ◌^◌, ◌<�
 use Rattle.hm_types.specs.declared.id.Obj.{Obj}
 use Rattle.hm_types.specs.Elements.{FullElement}
 use Rattle.hm_records.specs.Counts.{Content, Counts, entry_subject, subject_of}
-use Rattle.hm_types.specs.Tree.{FileTree}
+use Rattle.hm_types.specs.Tree.{FileTree, insert_by, is_object_before}
+use Rattle.hm_types.specs.declared.object.Object.{Object}
 use Rattle.hm_records.specs.declared.entry.DirEntry.{DirEntry}
 use Rattle.hm_records.specs.Entry.{IsEntry, entry_bytes}
-use Rattle.hm_records.specs.View.{HasEntry, IsView}
-use Rattle.hm_records.specs.Changes.{Adds, Closes, CountsNothing, IsBelow, IsSettled, Overrides}
+use Rattle.hm_types.specs.declared.object.Content.{Content as Held}
+use Rattle.hm_types.specs.declared.object.Kind.{Kind}
+use Rattle.hm_records.specs.declared.inode.Inode.{Inode}
+use Rattle.hm_records.specs.declared.kind.TheConstants.{FILE}
+use Rattle.hm_records.specs.View.{AreFileBytes, HasEntry, IsView}
+use Rattle.hm_records.specs.Changes.{Adds, Closes, CountsNothing, HasInode, IsBelow, IsSettled, Overrides}
 
 -- a list of elements as of an id
 pub record AsOf : Type 0 where
@@ -69,3 +74,26 @@ pub record IsNext (counts : Content) (pfs : ℕ) (directory : Obj) (name : List 
 -- the entry under a key is the only one of its name
 abbrev pub IsOnly : Content → ℕ → Obj → List ℕ → ℕ → Type 0
 IsOnly counts pfs directory name key = (other : ℕ) (object : Obj) → HasEntry counts pfs directory other name object → other ≡ key
+
+-- the tree with one object more, to which no name leads yet
+abbrev pub with_inode : FileTree → Object → FileTree
+with_inode tree object = record tree { objects = insert_by is_object_before object tree.objects }
+
+-- the object that an inode makes
+abbrev pub made_of : Obj → Kind → Held → Inode → Object
+made_of number kind content inode = record { number = number; kind = kind; content = content; links = inode.links }
+
+-- an inode with another number of links
+abbrev pub linked : ℕ → Inode → Inode
+linked links inode = record inode { links = links }
+
+-- A file of a tree has these bytes in a content: its inode has their number, and as many links as the file.
+pub record HoldsBytes (counts : Content) (pfs : ℕ) (file : Object) (inode : Inode) (bytes : List ℕ) : Type 0 where
+  pub there : HasInode counts pfs file.number.0 inode
+  pub kind : inode.kind ≡ FILE
+  pub links : inode.links ≡ file.links
+  pub are : AreFileBytes counts pfs file.number.0 inode.size bytes
+
+-- a change of an object leaves its number
+abbrev pub KeepsNumbers : (Object → Object) → Type 0
+KeepsNumbers change = (o : Object) → (change o).number ≡ o.number

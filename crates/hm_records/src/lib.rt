@@ -24,9 +24,13 @@ pub use laws::{
 pub use pfs_record::{PfsRecord, decode_pfs, encode_pfs};
 pub use target::{decode_target, encode_target};
 pub use views::{
-    additions_count_from_their_id, changes_leave_the_past, closed_versions_count_no_more,
-    entries_that_go_show_the_next_of_their_name, ids_stay_below, keys_settle_what_counts,
-    later_ids_count_the_same, new_entries_are_shown_where_they_come_first,
-    records_are_what_counts_last, replaced_versions_count_no_more, views_are_one,
+    additions_count_from_their_id, changed_objects_are_shown, changes_leave_the_past,
+    changes_of_one_object_join, closed_versions_count_no_more, entries_and_inodes_need_not_fit,
+    entries_that_go_show_the_next_of_their_name, ids_stay_below,
+    inodes_bytes_and_targets_are_of_one_object, inodes_make_objects, keys_settle_what_counts,
+    later_ids_count_the_same, lost_inodes_take_their_objects, new_bytes_are_shown,
+    new_entries_are_shown_where_they_come_first, new_inodes_add_their_objects, new_links_are_shown,
+    records_are_what_counts_last, replaced_versions_count_no_more,
+    targets_and_bytes_need_their_inodes, trees_are_of_their_own_elements, views_are_one,
     what_counts_decides,
 };
