@@ -266,3 +266,24 @@ below_later es i j later below = record {
   made = λ x has. let made = below.made x has in omega (arith, made);
   closed = λ x has. let closed = below.closed x has in omega (arith, closed);
 }
+
+pub own_keys_adds : (e : FullElement) (es es' : List FullElement) → Adds e es es' → ((x : FullElement) → Contains es x → x.key ≢ e.key)
+    → HaveOwnKeys es → HaveOwnKeys es'
+own_keys_adds e es es' adds new own x y has has' alike = by_place ((adds x).0 has) ((adds y).0 has') where
+  by_place : ((x ≡ e) ⊎ Contains es x) → ((y ≡ e) ⊎ Contains es y) → x ≡ y
+  by_place (inl is) (inl is') = is ∙ sym is'
+  by_place (inl is) (inr old) = absurd (new y old (sym alike ∙ ap (λ (z : FullElement). z.key) is))
+  by_place (inr old) (inl is) = absurd (new x old (alike ∙ ap (λ (z : FullElement). z.key) is))
+  by_place (inr old) (inr old') = own x y old old' alike
+
+pub own_keys_closes : (s : Subject) (i : ℕ) (es es' : List FullElement) → Closes s i es es' → HaveOwnKeys es → HaveOwnKeys es'
+own_keys_closes s i es es' closes own x y has has' alike =
+    let (a, there, is) = (closes x).0 has in
+    let (b, there', is') = (closes y).0 has' in
+    let keys : a.key ≡ b.key =
+    sym (key_stays s i a (closed_for s i a) (closing s i a)).0 ∙ ap (λ (z : FullElement). z.key) is ∙ alike
+    ∙ ap (λ (z : FullElement). z.key) (sym is') ∙ (key_stays s i b (closed_for s i b) (closing s i b)).0 in
+    sym is ∙ ap (closed_for s i) (own a b there there' keys) ∙ is'
+
+pub own_keys_takes_out : (e : FullElement) (es es' : List FullElement) → TakesOut e es es' → HaveOwnKeys es → HaveOwnKeys es'
+own_keys_takes_out e es es' takes own x y has has' = own x y ((takes x).0 has).0 ((takes y).0 has').0

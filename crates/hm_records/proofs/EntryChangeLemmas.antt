@@ -16,6 +16,16 @@ use Rattle.hm_records.proofs.ObjectLemmas.{name_back, triple_kept}
 use Rattle.hm_records.proofs.SubjectLemmas.{SameBut, entry_no_object, same_but_back, same_subject, settled_still}
 use Rattle.hm_records.proofs.ViewLemmas.{objects_kept}
 
+-- what counts under a key decides the entry there
+name_at : (pfs : ℕ) (directory : Obj) (key : ℕ) (name : List ℕ) (object : Obj) (C D : Content)
+    → (D (entry_subject pfs directory.0 key) (entry_bytes (record { obj = object; name = name }))
+    ↔ C (entry_subject pfs directory.0 key) (entry_bytes (record { obj = object; name = name })))
+    → HasEntry D pfs directory key name object ↔ HasEntry C pfs directory key name object
+name_at pfs directory key name object C D same = (
+  λ has. record { ranges = has.ranges; there = same.0 has.there },
+  λ has. record { ranges = has.ranges; there = same.1 has.there },
+)
+
 -- whatever counts under the key is an entry of this name
 abbrev HasOnlyName : Content → ℕ → Obj → ℕ → List ℕ → Type 0
 HasOnlyName C pfs directory key name = (other : List ℕ) (object : Obj) → HasEntry C pfs directory key other object → other ≡ name
@@ -25,7 +35,7 @@ others_agree : (pfs key : ℕ) (directory : Obj) (name : List ℕ) (C D : Conten
     → HasOnlyName C pfs directory key name → HasOnlyName D pfs directory key name → OthersAgree pfs directory name C D
 others_agree pfs key directory name C D same only only' t not key' object =
     elim (same_subject (entry_subject pfs t.directory.0 key') (entry_subject pfs directory.0 key)) [
-      | inr differ ↦ same (entry_subject pfs t.directory.0 key') (entry_bytes (record { obj = object; name = t.name })) differ
+      | inr differ ↦ name_at pfs t.directory key' t.name object C D (same (entry_subject pfs t.directory.0 key') (entry_bytes (record { obj = object; name = t.name })) differ)
       | inl is ↦ (λ has. absurd (never D only' is has), λ has. absurd (never C only is has))
     ]
   where
@@ -34,14 +44,18 @@ others_agree pfs key directory name C D same only only' t not key' object =
     never E only is has =
         not (
           ap (λ (s : Subject). s.obj) is,
-          only t.name object (subst (λ (s : Subject). E s (entry_bytes (record { obj = object; name = t.name }))) is has),
+          only t.name object (record {
+            ranges = has.ranges;
+            there = subst (λ (s : Subject). E s (entry_bytes (record { obj = object; name = t.name }))) is has.there;
+          }),
         )
 
 -- an entry under another key is the same
 kept_entry : (pfs key other : ℕ) (directory : Obj) (name : List ℕ) (object : Obj) (C D : Content) → SameBut (entry_subject pfs directory.0 key) C D
     → other ≢ key → HasEntry C pfs directory other name object → HasEntry D pfs directory other name object
-kept_entry pfs key other directory name object C D same differ has =
-    (same (entry_subject pfs directory.0 other) (entry_bytes (record { obj = object; name = name })) (λ is. differ (ap (λ (s : Subject). s.key) is))).1 has
+kept_entry pfs key other directory name object C D same differ =
+    (name_at pfs directory other name object C D
+    (same (entry_subject pfs directory.0 other) (entry_bytes (record { obj = object; name = name })) (λ is. differ (ap (λ (s : Subject). s.key) is)))).1
 
 same_some : (a b : List ℕ) → Some a ≡ Some b → a ≡ b
 same_some a b is = cc
@@ -55,10 +69,10 @@ module _ (pfs : ℕ) (directory : Obj) (key : ℕ) (entry : DirEntry) (C D : Con
   agree_gets : OthersAgree pfs directory entry.name C D
   agree_gets =
       others_agree pfs key directory entry.name C D same_gets
-      (λ other object has. absurd (gets.unused (entry_bytes (record { obj = object; name = other })) has))
+      (λ other object has. absurd (gets.unused (entry_bytes (record { obj = object; name = other })) has.there))
       (λ other object has. sym (name_one entry (record { obj = object; name = other })
       (same_some (entry_bytes entry) (entry_bytes (record { obj = object; name = other }))
-      ((gets.counts.about (entry_bytes (record { obj = object; name = other }))).0 has))))
+      ((gets.counts.about (entry_bytes (record { obj = object; name = other }))).0 has.there))))
 
   objects_gets : (obj : ℕ) → AgreeOnObject pfs obj C D
   objects_gets obj = entry_no_object pfs directory.0 key obj C D same_gets
@@ -69,8 +83,7 @@ module _ (pfs : ℕ) (directory : Obj) (key : ℕ) (entry : DirEntry) (C D : Con
   shown_gets : IsFirstOf C pfs directory entry.name key → IsTriple D pfs (record { directory = directory; name = entry.name; object = entry.obj })
   shown_gets first = record {
     key = key;
-    ranges = gets.ranges;
-    there = (gets.counts.about (entry_bytes entry)).1 refl;
+    there = record { ranges = gets.ranges; there = (gets.counts.about (entry_bytes entry)).1 refl };
     first = λ other object has. elim (cases_eq other key) [
       | inl is ↦ omega (arith, is)
       | inr differ ↦ first other object (kept_entry pfs key other directory entry.name object D C (same_but_back (entry_subject pfs directory.0 key) C D same_gets) differ has)
@@ -102,7 +115,6 @@ later_same pfs key directory name t C D same earlier (here, named) is =
     let kept : HasEntry D pfs directory is.key name t.object = kept_entry pfs key is.key directory name t.object C D same (λ e. absurd (omega (arith, e, below))) mine in
     record {
       key = is.key;
-      ranges = is.ranges;
       there = has_moved pfs is.key directory t.directory name t.name t.object D (sym here) (sym named) kept;
       first = λ other object has. elim (cases_eq other key) [
         | inl e ↦ omega (arith, e, below)
@@ -167,8 +179,8 @@ module _ (pfs : ℕ) (directory : Obj) (key : ℕ) (entry : DirEntry) (C D : Con
   agree_loses settled =
       others_agree pfs key directory entry.name C D same_loses
       (λ other object has. name_one (record { obj = object; name = other }) entry
-      (settled (entry_subject pfs directory.0 key) (entry_bytes (record { obj = object; name = other })) (entry_bytes entry) has loses.there))
-      (λ other object has. absurd (nothing_loses (entry_bytes (record { obj = object; name = other })) has))
+      (settled (entry_subject pfs directory.0 key) (entry_bytes (record { obj = object; name = other })) (entry_bytes entry) has.there loses.there.there))
+      (λ other object has. absurd (nothing_loses (entry_bytes (record { obj = object; name = other })) has.there))
 
   objects_loses : (obj : ℕ) → AgreeOnObject pfs obj C D
   objects_loses obj = entry_no_object pfs directory.0 key obj C D same_loses
@@ -181,7 +193,7 @@ module _ (pfs : ℕ) (directory : Obj) (key : ℕ) (entry : DirEntry) (C D : Con
       → (other ≢ key) × HasEntry C pfs directory other entry.name object
   left_loses other object has =
       let differ : other ≢ key = λ is. nothing_loses (entry_bytes (record { obj = object; name = entry.name }))
-      (subst (λ (k : ℕ). HasEntry D pfs directory k entry.name object) is has) in (
+      (subst (λ (k : ℕ). HasEntry D pfs directory k entry.name object) is has).there in (
         differ,
         kept_entry pfs key other directory entry.name object D C (same_but_back (entry_subject pfs directory.0 key) C D same_loses) differ has,
       )
@@ -193,14 +205,13 @@ module _ (pfs : ℕ) (directory : Obj) (key : ℕ) (entry : DirEntry) (C D : Con
         (λ other object there. let left = left_loses other object there in left.0 (only other object left.1));
   }
 
-  pub next_shown : (tree : FileTree) (object : Obj) → HasView C pfs tree → IsEntry entry → IsNext C pfs directory entry.name key object
+  pub next_shown : (tree : FileTree) (object : Obj) → HasView C pfs tree → IsNext C pfs directory entry.name key object
       → HasView D pfs (with_name (without_name tree directory entry.name) directory entry.name object)
-  next_shown tree object has ranges next = record {
+  next_shown tree object has next = record {
     settled = settled_loses has.settled;
     view = name_shown pfs tree C D directory entry.name has.view (agree_loses has.settled) objects_loses (settled_loses has.settled) object
         (record {
           key = next.next;
-          ranges = record { obj = next.fits; name = ranges.name };
           there = kept_entry pfs key next.next directory entry.name object C D same_loses next.besides next.there;
           first = λ other object' there. let left = left_loses other object' there in next.first other object' left.1 left.0;
         });

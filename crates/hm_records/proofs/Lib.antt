@@ -15,3 +15,4 @@ pub mod NameLemmas
 pub mod EntryChangeLemmas
 pub mod ObjectChangeLemmas
 pub mod MadeLemmas
+pub mod LookupLemmas

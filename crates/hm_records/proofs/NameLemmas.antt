@@ -73,8 +73,8 @@ opposite_false test x not = by_test (test x) refl where
 pub has_moved : (pfs key : ℕ) (a b : Obj) (name name' : List ℕ) (object : Obj) (C : Content) → a.0 ≡ b.0 → name ≡ name'
     → HasEntry C pfs a key name object → HasEntry C pfs b key name' object
 has_moved pfs key a b name name' object C here same has =
-    subst (λ (n : List ℕ). HasEntry C pfs b key n object) same
-    (subst (λ (d : ℕ). C (entry_subject pfs d key) (entry_bytes (record { obj = object; name = name }))) here has)
+    let d : a ≡ b = same_obj a b here in
+    subst (λ (n : List ℕ). HasEntry C pfs b key n object) same (subst (λ (o : Obj). HasEntry C pfs o key name object) d has)
 
 -- a name leads to one object
 pub triple_one : (pfs : ℕ) (t u : Triple) (C : Content) → IsSettled C → IsTriple C pfs t → IsTriple C pfs u → Stands t.directory t.name u → u ≡ t
@@ -86,8 +86,9 @@ triple_one pfs t u C settled is is' (here, same) =
     let there : HasEntry C pfs t.directory is.key t.name u.object = subst (λ (k : ℕ). HasEntry C pfs t.directory k t.name u.object) key there' in
     let e : DirEntry = record { obj = t.object; name = t.name } in
     let e' : DirEntry = record { obj = u.object; name = t.name } in
-    let ranges' : IsEntry e' = record { obj = is'.ranges.obj; name = is.ranges.name } in
-    let one : e' ≡ e = entry_one e' e ranges' is.ranges (settled (entry_subject pfs t.directory.0 is.key) (entry_bytes e') (entry_bytes e) there is.there) in
+    let one : e' ≡ e =
+    entry_one e' e there.ranges is.there.ranges
+    (settled (entry_subject pfs t.directory.0 is.key) (entry_bytes e') (entry_bytes e) there.there is.there.there) in
     λ i. record { directory = same_obj u.directory t.directory here i; name = same i; object = (one i).obj }
 
 -- ---- a change of one name

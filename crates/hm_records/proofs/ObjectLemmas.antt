@@ -82,7 +82,6 @@ object_kept pfs o C D agree is = record {
 pub triple_kept : (pfs : ℕ) (t : Triple) (C D : Content) → AgreeOnName pfs t.directory t.name C D → IsTriple C pfs t → IsTriple D pfs t
 triple_kept pfs t C D agree is = record {
   key = is.key;
-  ranges = is.ranges;
   there = (agree is.key t.object).1 is.there;
   first = λ other object there. is.first other object ((agree other object).0 there);
 }

@@ -30,8 +30,15 @@ object_same s pfs obj C D same inode bytes target = record {
 
 pub name_same : (s : Subject) (pfs : ℕ) (directory : Obj) (name : List ℕ) (C D : Content) → SameBut s C D
     → ((key : ℕ) → entry_subject pfs directory.0 key ≢ s) → AgreeOnName pfs directory name C D
-name_same s pfs directory name C D same not key object =
-    same (entry_subject pfs directory.0 key) (entry_bytes (record { obj = object; name = name })) (not key)
+name_same s pfs directory name C D same not key object = (
+  λ has. record { ranges = has.ranges; there = (agree).0 has.there },
+  λ has. record { ranges = has.ranges; there = (agree).1 has.there },
+) where
+  bytes : List ℕ
+  bytes = entry_bytes (record { obj = object; name = name })
+
+  agree : D (entry_subject pfs directory.0 key) bytes ↔ C (entry_subject pfs directory.0 key) bytes
+  agree = same (entry_subject pfs directory.0 key) bytes (not key)
 
 -- an override of an entry is about no object
 pub entry_no_object : (pfs directory key obj : ℕ) (C D : Content) → SameBut (entry_subject pfs directory key) C D → AgreeOnObject pfs obj C D

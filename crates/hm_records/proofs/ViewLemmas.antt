@@ -75,5 +75,8 @@ view_same pfs tree C D same is =
       bytes = λ end. same (bytes_subject pfs obj end);
       target = same (target_subject pfs obj);
     })
-    (λ directory name key object. same (entry_subject pfs directory.0 key) (entry_bytes (record { obj = object; name = name })))
+    (λ directory name key object. (
+      λ has. record { ranges = has.ranges; there = (same (entry_subject pfs directory.0 key) (entry_bytes (record { obj = object; name = name }))).0 has.there },
+      λ has. record { ranges = has.ranges; there = (same (entry_subject pfs directory.0 key) (entry_bytes (record { obj = object; name = name }))).1 has.there },
+    ))
     is

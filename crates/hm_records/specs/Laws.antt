@@ -5,6 +5,7 @@ use Rattle.hm_types.specs.Elements.{FullElement}
 use Rattle.hm_records.specs.Counts.{Content, Counts, entry_subject, subject_of}
 use Rattle.hm_types.specs.Tree.{FileTree, insert_by, is_object_before}
 use Rattle.hm_types.specs.declared.object.Object.{Object}
+use Rattle.hm_types.specs.declared.object.Triple.{Triple}
 use Rattle.hm_records.specs.declared.entry.DirEntry.{DirEntry}
 use Rattle.hm_records.specs.Entry.{IsEntry, entry_bytes}
 use Rattle.hm_types.specs.declared.object.Content.{Content as Held}
@@ -66,7 +67,6 @@ pub record HasEarlier (counts : Content) (pfs : ℕ) (directory : Obj) (name : L
 -- of the entries of a name besides the one under a key this is the first, and leads to an object
 pub record IsNext (counts : Content) (pfs : ℕ) (directory : Obj) (name : List ℕ) (key : ℕ) (object : Obj) : Type 0 where
   pub next : ℕ
-  pub fits : object.0 < 2 ^ 64
   pub there : HasEntry counts pfs directory next name object
   pub besides : next ≢ key
   pub first : (other : ℕ) (object' : Obj) → HasEntry counts pfs directory other name object' → other ≢ key → next ≤ other
@@ -97,3 +97,7 @@ pub record HoldsBytes (counts : Content) (pfs : ℕ) (file : Object) (inode : In
 -- a change of an object leaves its number
 abbrev pub KeepsNumbers : (Object → Object) → Type 0
 KeepsNumbers change = (o : Object) → (change o).number ≡ o.number
+
+-- a directory's entry of this name, which leads to an object
+abbrev pub triple_of : Obj → List ℕ → Obj → Triple
+triple_of directory name object = record { directory = directory; name = name; object = object }

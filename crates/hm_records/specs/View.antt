@@ -68,15 +68,14 @@ pub record IsObject (counts : Content) (pfs : ℕ) (o : Object) : Type 0 where
   pub holds : IsHeld counts pfs o.number.0 inode o.content
 
 -- a directory has an entry with this key, that leads to an object under a name
-abbrev pub HasEntry : Content → ℕ → Obj → ℕ → List ℕ → Obj → Type 0
-HasEntry counts pfs directory key name object =
-    counts (entry_subject pfs directory.0 key) (entry_bytes (record { obj = object; name = name }))
+pub record HasEntry (counts : Content) (pfs : ℕ) (directory : Obj) (key : ℕ) (name : List ℕ) (object : Obj) : Type 0 where
+  pub ranges : IsEntry (record { obj = object; name = name })
+  pub there : counts (entry_subject pfs directory.0 key) (entry_bytes (record { obj = object; name = name }))
 
 -- A triple: its entry counts, and is the first in the order of keys of those with its name. It makes no difference
 -- whether its directory or its object has an inode.
 pub record IsTriple (counts : Content) (pfs : ℕ) (t : Triple) : Type 0 where
   pub key : ℕ
-  pub ranges : IsEntry (record { obj = t.object; name = t.name })
   pub there : HasEntry counts pfs t.directory key t.name t.object
   pub first : (other : ℕ) (object : Obj) → HasEntry counts pfs t.directory other t.name object → key ≤ other
 

@@ -4,13 +4,14 @@
 mod changes;
 mod contents;
 mod inodes;
+mod lookups;
 mod names;
 mod objects;
 mod untouched;
 
 pub use changes::{
     additions_count_from_their_id, changes_leave_the_past, closed_versions_count_no_more,
-    ids_stay_below, later_ids_count_the_same, replaced_versions_count_no_more,
+    ids_stay_below, keys_stay_apart, later_ids_count_the_same, replaced_versions_count_no_more,
 };
 pub use contents::{
     keys_settle_what_counts, records_are_what_counts_last, views_are_one, what_counts_decides,
@@ -18,6 +19,7 @@ pub use contents::{
 pub use inodes::{
     changes_of_one_object_join, inodes_bytes_and_targets_are_of_one_object, inodes_make_objects,
 };
+pub use lookups::{names_in_views_are_those_of_entries, objects_in_views_are_those_of_inodes};
 pub use names::{
     entries_that_go_show_the_next_of_their_name, new_entries_are_shown_where_they_come_first,
 };

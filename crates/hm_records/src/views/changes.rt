@@ -1,5 +1,5 @@
 // Laws of changes of a list: what counts as of an id before the change, and as of one from it on.
-ghost use Rattle.std.specs.Prelude.{◌≡◌, ℕ, ◌+◌, ◌<◌, ◌≤◌, List, None, Some};
+ghost use Rattle.std.specs.Prelude.{◌≡◌, ◌≢◌, ℕ, ◌+◌, ◌<◌, ◌≤◌, List, None, Some};
 ghost use Rattle.std.specs.List.{Contains};
 ghost use Rattle.hm_types.specs.Elements.{FullElement};
 ghost use Rattle.hm_records.specs.Counts.{Counts, IsSeen, Subject, subject_of};
@@ -7,6 +7,7 @@ ghost use Rattle.hm_records.specs.Changes.{
   Adds,
   Closes,
   CountSame,
+  HaveOwnKeys,
   IsBelow,
   Overrides,
   TakesOut,
@@ -62,4 +63,15 @@ pub fn ids_stay_below()
     ensures takes_out { (e : FullElement) (es es' : List FullElement) (i : ℕ) →
         TakesOut e es es' → IsBelow i es → IsBelow i es' }
     ensures later { (es : List FullElement) (i j : ℕ) → i ≤ j → IsBelow i es → IsBelow j es }
+{}
+
+/// A change leaves no two elements of one key, where an added one has a key that none had.
+pub fn keys_stay_apart()
+    ensures adds { (e : FullElement) (es es' : List FullElement) → Adds e es es' →
+        ((x : FullElement) → Contains es x → x.key ≢ e.key) →
+        HaveOwnKeys es → HaveOwnKeys es' }
+    ensures closes { (s : Subject) (i : ℕ) (es es' : List FullElement) → Closes s i es es' →
+        HaveOwnKeys es → HaveOwnKeys es' }
+    ensures takes_out { (e : FullElement) (es es' : List FullElement) → TakesOut e es es' →
+        HaveOwnKeys es → HaveOwnKeys es' }
 {}

@@ -4,7 +4,6 @@ ghost use Rattle.hm_types.specs.declared.id.Obj.{Obj};
 ghost use Rattle.hm_types.specs.Tree.{FileTree, with_name, without_name};
 ghost use Rattle.hm_records.specs.declared.entry.DirEntry.{DirEntry};
 ghost use Rattle.hm_records.specs.Changes.{LacksName};
-ghost use Rattle.hm_records.specs.Entry.{IsEntry};
 ghost use Rattle.hm_records.specs.Laws.{
   AsOf,
   GetsEntry,
@@ -50,7 +49,7 @@ pub fn entries_that_go_show_the_next_of_their_name()
         HasView (counts_of new) pfs (without_name tree directory entry.name) }
     ensures next { (old new : AsOf) (pfs : ℕ) (tree : FileTree) (directory : Obj) (key : ℕ)
         (entry : DirEntry) (object : Obj) → HasView (counts_of old) pfs tree →
-        LosesEntry pfs directory key entry (counts_of old) (counts_of new) → IsEntry entry →
+        LosesEntry pfs directory key entry (counts_of old) (counts_of new) →
         IsNext (counts_of old) pfs directory entry.name key object →
         HasView (counts_of new) pfs
         (with_name (without_name tree directory entry.name) directory entry.name object) }
