@@ -3,3 +3,11 @@ pub mod LayoutLemmas
 pub mod PageLemmas
 pub mod RangeLemmas
 pub mod SlotLemmas
+pub mod AnswerLemmas
+pub mod SliceLemmas
+pub mod OnDiskLemmas
+pub mod GateLemmas
+pub mod HeaderLemmas
+pub mod StageLemmas
+pub mod CloseLemmas
+pub mod ChangeLemmas

@@ -25,7 +25,7 @@ counts_is_one first second (suc zero) (suc (suc n)) p q = absurd q
 counts_is_one first second (suc (suc m)) n p q = absurd p
 
 -- the slot that counts takes part
-counts_takes_part : (first second : List ℕ) (n : ℕ) → Counts first second n → TakesPart (slot_of first second n)
+pub counts_takes_part : (first second : List ℕ) (n : ℕ) → Counts first second n → TakesPart (slot_of first second n)
 counts_takes_part first second zero p = p.0
 counts_takes_part first second (suc zero) p = p.0
 counts_takes_part first second (suc (suc n)) p = absurd p

@@ -1,4 +1,5 @@
 // What a header says, and how large things are.
+ghost use Rattle.std.specs.Prelude.{◌≡◌, ◌+◌, ◌%◌, ◌^◌};
 
 use hm_types::{HOff, Id};
 
@@ -16,6 +17,9 @@ pub const GATE_PLACE: usize = 16_383;
 
 /// The gate's value where it is open. A gate of any other value is closed.
 pub const GATE_OPEN: u8 = 0xA5;
+
+/// The value that a gate gets as it is closed.
+pub const GATE_CLOSED: u8 = 0;
 
 // What a slot begins with.
 pub(crate) const SIGNATURE: [u8; 8] = *b"HMRPROF1";
@@ -44,4 +48,13 @@ pub struct Header {
     pub undo_next: u32,
     /// The big-blocks that zones 8 to 11 are filled in, in this order.
     pub append: [u32; 4],
+}
+
+impl Header {
+    /// The generation of the header that is written after this one.
+    pub fn next_generation(&self) -> u64
+        ensures { result ≡ (self.now.generation + 1) % 2 ^ 64 }
+    {
+        self.generation.wrapping_add(1)
+    }
 }

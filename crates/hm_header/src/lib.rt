@@ -1,7 +1,9 @@
-//! The two header slots of a volume: which of them counts, and what its header says.
+//! The two header slots of a volume: which of them counts, what its header says, and how the next one
+//! is written.
 #![tactic(auto)]
 
 mod body;
+mod change;
 mod fault;
 mod header;
 mod laws;
@@ -12,12 +14,16 @@ mod slots;
 mod tests;
 
 pub use body::encode;
+pub use change::{change_header, close_gate, open_gate, write_body};
 pub use fault::HeaderFault;
-pub use header::{BODY_BYTES, GATE_OPEN, GATE_PLACE, Header, SECOND_SLOT, SLOT_BYTES, VERSION};
+pub use header::{
+    BODY_BYTES, GATE_CLOSED, GATE_OPEN, GATE_PLACE, Header, SECOND_SLOT, SLOT_BYTES, VERSION,
+};
 pub use laws::{
     body_has_its_length, body_has_one_header, chosen_header_is_one, closed_first_slot_is_ignored,
     closed_second_slot_is_ignored, closed_slot_does_not_count, encoded_header_is_chosen,
     encoded_slot_takes_part, fault_is_one, no_chosen_header_has_a_fault,
     slot_in_range_has_a_header, slot_of_a_header_is_in_range, slot_written_last_counts,
 };
+pub use place::{gate_place, slot_place};
 pub use slots::choose;

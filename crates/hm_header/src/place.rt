@@ -1,4 +1,8 @@
-// Where the fields stand in a slot, in bytes.
+// Where the slots and their gates stand on a disk, and the fields in a slot, in bytes.
+ghost use Rattle.std.specs.Prelude.{◌≡◌, ◌≤◌};
+ghost use Rattle.hm_header.specs.OnDisk.{gate_place, slot_place};
+
+use crate::header::{GATE_PLACE, SLOT_BYTES};
 
 pub(crate) const SIGNATURE: usize = 0;
 
@@ -31,3 +35,19 @@ pub(crate) const SMALL_APPEND: usize = 68;
 
 /// Zeros, up to the gate.
 pub(crate) const REST: usize = 72;
+
+/// Where a slot begins on the disk, in bytes. The slots have the numbers 0 and 1.
+pub fn slot_place(number: u8) -> u64
+    requires { number ≤ 1 }
+    ensures { result ≡ slot_place number }
+{
+    u64::from(number) * SLOT_BYTES as u64
+}
+
+/// Where the gate of a slot stands on the disk, in bytes.
+pub fn gate_place(number: u8) -> u64
+    requires { number ≤ 1 }
+    ensures { result ≡ gate_place number }
+{
+    slot_place(number) + GATE_PLACE as u64
+}
