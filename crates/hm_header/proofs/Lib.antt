@@ -5,9 +5,11 @@ pub mod RangeLemmas
 pub mod SlotLemmas
 pub mod AnswerLemmas
 pub mod SliceLemmas
+pub mod ReadLemmas
 pub mod OnDiskLemmas
 pub mod GateLemmas
 pub mod HeaderLemmas
 pub mod StageLemmas
 pub mod CloseLemmas
+pub mod KeptLemmas
 pub mod ChangeLemmas

@@ -23,12 +23,12 @@ use Rattle.hm_header.proofs.SliceLemmas.{length-slice, slice-byte}
 use Rattle.hm_header.proofs.SlotLemmas.{length-body}
 
 -- what a crash leaves within a write is what one might have left before it, but for the range
-record LeftBefore (bytes : List ℕ) (unsettled : List (ℕ × ℕ)) (place count : ℕ) (image : List ℕ) : Type 0 where
+pub record LeftBefore (bytes : List ℕ) (unsettled : List (ℕ × ℕ)) (place count : ℕ) (image : List ℕ) : Type 0 where
   pub before : List ℕ
   pub left : MayLeave bytes unsettled before
   pub change : MayLeave before ((place, count) ∷ []) image
 
-left-before : (bytes : List ℕ) (unsettled : List (ℕ × ℕ)) (place count : ℕ) (image : List ℕ) → place + count ≤ length bytes
+pub left-before : (bytes : List ℕ) (unsettled : List (ℕ × ℕ)) (place count : ℕ) (image : List ℕ) → place + count ≤ length bytes
     → MayLeave bytes ((place, count) ∷ unsettled) image → LeftBefore bytes unsettled place count image
 left-before bytes unsettled place count image within left = record {
   before = back;
@@ -71,7 +71,7 @@ left-before bytes unsettled place count image within left = record {
         (cases_lt byte place)
 
 -- a disk that was torn leaves only what a crash within the write leaves
-torn-leaves : (place count : ℕ) (s t : Told) → TornAll place count s t → Each (MayLeave t.bytes t.unsettled) (MayLeave s.bytes ((place, count) ∷ s.unsettled))
+pub torn-leaves : (place count : ℕ) (s t : Told) → TornAll place count s t → Each (MayLeave t.bytes t.unsettled) (MayLeave s.bytes ((place, count) ∷ s.unsettled))
 torn-leaves place count s t torn image left =
     MayLeave-through s.bytes t.bytes image ((place, count) ∷ s.unsettled) t.unsettled
     (MayLeave-fewer s.bytes t.bytes ((place, count) ∷ s.unsettled) ((place, count) ∷ []) (λ byte outside. (outside.0, tt)) torn.bytes_are)

@@ -1,8 +1,9 @@
 -- The two header slots in the bytes of a disk.
 use Rattle.std.specs.Prelude.{ℕ, ◌+◌, ◌*◌, ◌≤◌, List, length, take, slice_range}
+use Rattle.hm_header.specs.declared.fault.HeaderFault.{HeaderFault}
 use Rattle.hm_header.specs.declared.header.Header.{Header}
 use Rattle.hm_header.specs.declared.header.TheConstants.{GATE_PLACE, SLOT_BYTES}
-use Rattle.hm_header.specs.Slots.{IsChosen, slot_of}
+use Rattle.hm_header.specs.Slots.{IsChosen, IsFault, slot_of}
 
 -- the two header slots; a disk that is too short for them has less of them
 abbrev pub first_slot : List ℕ → List ℕ
@@ -29,3 +30,7 @@ HasSlots bytes = 2 * SLOT_BYTES ≤ length bytes
 -- the slot of this number counts, and this is its header
 abbrev pub HasHeader : List ℕ → Header → ℕ → Type 0
 HasHeader bytes header number = IsChosen (first_slot bytes) (second_slot bytes) (length bytes) header number
+
+-- why the bytes have no header
+abbrev pub HasFault : List ℕ → HeaderFault → Type 0
+HasFault bytes fault = IsFault (first_slot bytes) (second_slot bytes) (length bytes) fault

@@ -1,8 +1,11 @@
 // What follows from the definitions alone: each function states one law, and does nothing.
-ghost use Rattle.std.specs.Prelude.{◌≡◌, ◌<◌, ℕ, List, [], ◌∷◌, ◌++◌, length, slice_index};
+ghost use Rattle.std.specs.Prelude.{◌≡◌, ◌<◌, ◌≤◌, ◌+◌, ◌*◌, ℕ, List, [], ◌∷◌, ◌++◌, length, slice_index};
+ghost use Rattle.hm_disk.specs.Crash.{Told};
+ghost use Rattle.hm_disk.specs.Transfer.{TornAll};
 ghost use Rattle.hm_header.specs.declared.fault.HeaderFault.{HeaderFault};
 ghost use Rattle.hm_header.specs.declared.header.Header.{Header};
-ghost use Rattle.hm_header.specs.declared.header.TheConstants.{BODY_BYTES, GATE_OPEN};
+ghost use Rattle.hm_header.specs.declared.header.TheConstants.{BODY_BYTES, GATE_OPEN, SLOT_BYTES};
+ghost use Rattle.hm_header.specs.Change.{AnyCrash, AreSlotsSettled, HasNextBody, IsClosedBeside, IsCounting};
 ghost use Rattle.hm_header.specs.Layout.{body_of};
 ghost use Rattle.hm_header.specs.Parts.{AreInRange, all_parts};
 ghost use Rattle.hm_header.specs.Range.{HasRoom, IsHeader};
@@ -96,4 +99,29 @@ pub fn closed_second_slot_is_ignored()
         IsChosen first second size header number → IsChosen first other size header number)
         × ((fault : HeaderFault) →
         IsFault first second size fault → IsFault first other size fault) }
+{}
+
+/// Where no unsettled range meets a slot, what a stage of a header change asks for holds whatever a
+/// crash leaves, if it holds of the disk as it reads.
+pub fn settled_slots_are_left()
+    ensures first { (t : Told) (header : Header) (slot : ℕ) → AreSlotsSettled t →
+        IsCounting header slot t.bytes → AnyCrash (IsCounting header slot) t }
+    ensures second { (t : Told) (header : Header) (slot : ℕ) → AreSlotsSettled t →
+        IsClosedBeside header slot t.bytes → AnyCrash (IsClosedBeside header slot) t }
+    ensures third { (t : Told) (header next : Header) (slot : ℕ) → AreSlotsSettled t →
+        HasNextBody header slot next t.bytes → AnyCrash (HasNextBody header slot next) t }
+{}
+
+/// Writes past the slots change nothing of what a stage of a header change asks for, whether they
+/// succeed or not.
+pub fn writes_past_the_slots_leave_them()
+    ensures first { (old new : Told) (place count : ℕ) (header : Header) (slot : ℕ) →
+        2 * SLOT_BYTES ≤ place → place + count ≤ length old.bytes → TornAll place count old new →
+        AnyCrash (IsCounting header slot) old → AnyCrash (IsCounting header slot) new }
+    ensures second { (old new : Told) (place count : ℕ) (header : Header) (slot : ℕ) →
+        2 * SLOT_BYTES ≤ place → place + count ≤ length old.bytes → TornAll place count old new →
+        AnyCrash (IsClosedBeside header slot) old → AnyCrash (IsClosedBeside header slot) new }
+    ensures third { (old new : Told) (place count : ℕ) (header next : Header) (slot : ℕ) →
+        2 * SLOT_BYTES ≤ place → place + count ≤ length old.bytes → TornAll place count old new →
+        AnyCrash (HasNextBody header slot next) old → AnyCrash (HasNextBody header slot next) new }
 {}

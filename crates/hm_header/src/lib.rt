@@ -1,5 +1,5 @@
-//! The two header slots of a volume: which of them counts, what its header says, and how the next one
-//! is written.
+//! The two header slots of a volume: which of them counts, what its header says, and how the next
+//! one is written.
 #![tactic(auto)]
 
 mod body;
@@ -8,6 +8,7 @@ mod fault;
 mod header;
 mod laws;
 mod place;
+mod read;
 mod slot;
 mod slots;
 #[cfg(test)]
@@ -22,8 +23,10 @@ pub use header::{
 pub use laws::{
     body_has_its_length, body_has_one_header, chosen_header_is_one, closed_first_slot_is_ignored,
     closed_second_slot_is_ignored, closed_slot_does_not_count, encoded_header_is_chosen,
-    encoded_slot_takes_part, fault_is_one, no_chosen_header_has_a_fault,
+    encoded_slot_takes_part, fault_is_one, no_chosen_header_has_a_fault, settled_slots_are_left,
     slot_in_range_has_a_header, slot_of_a_header_is_in_range, slot_written_last_counts,
+    writes_past_the_slots_leave_them,
 };
 pub use place::{gate_place, slot_place};
+pub use read::read_header;
 pub use slots::choose;
