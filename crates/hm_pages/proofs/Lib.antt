@@ -1,0 +1,5 @@
+mod CountLemmas
+mod FoldLemmas
+mod ListedLemmas
+mod MapLemmas
+mod ResultLemmas

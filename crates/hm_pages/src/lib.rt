@@ -1,0 +1,7 @@
+//! Every page of a volume in memory, in three states: as committed, as frozen for a flush, and as
+//! calls see and change them.
+#![tactic(auto)]
+
+mod changes;
+mod table;
+
