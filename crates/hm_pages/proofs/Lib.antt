@@ -1,5 +1,9 @@
 mod CountLemmas
 mod FoldLemmas
 mod ListedLemmas
+mod LoadLemmas
 mod MapLemmas
+mod PutLemmas
 mod ResultLemmas
+mod ShutLemmas
+mod StoreLemmas

@@ -41,7 +41,8 @@ impl Changes {
 
     /// How many offsets were changed.
     pub(crate) fn len(&self) -> usize
-        ensures { result ≡ hash_map_len self.now.places }
+        ensures len { result ≡ hash_map_len self.now.places }
+        ensures small { result < 2 ^ 63 }
     {
         self.places.len()
     }
@@ -62,6 +63,13 @@ impl Changes {
             Some(None) => Some(None),
             None => None,
         }
+    }
+
+    /// Whether a page was put at an offset.
+    pub(crate) fn has_page(&self, at: HOff) -> bool
+        ensures { result ≡ is_page (change_at self.now at) }
+    {
+        matches!(self.get(at), Some(Some(_)))
     }
 
     /// Makes room for the changes of so many offsets more.
@@ -85,6 +93,7 @@ impl Changes {
             self.old.pages + pages_at (Some (option_map bytes_of page))) }
         ensures err { OnErr result (change_at self.new ≡ change_at self.old) }
         ensures pages_at_err { OnErr result (self.new.pages ≡ self.old.pages) }
+        ensures len { hash_map_len self.new.places ≤ hash_map_len self.old.places + 1 }
         ensures spare { spare self.old.places ≤ spare self.new.places + 1 }
         ensures succeeds { 0 < spare self.old.places → IsOk result }
     {

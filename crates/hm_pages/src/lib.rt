@@ -3,5 +3,7 @@
 #![tactic(auto)]
 
 mod changes;
+mod store;
 mod table;
 
+pub use store::PageStore;
