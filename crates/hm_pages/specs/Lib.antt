@@ -5,3 +5,4 @@ pub mod Table
 pub mod Sets
 pub mod Store
 pub mod Calls
+pub mod States

@@ -2,6 +2,8 @@
 use Rattle.std.specs.Prelude.{ℕ, Bool, ◌&&◌, List, [], Option, Some, None, is_some, if◌then◌else◌}
 use Rattle.hm_types.specs.declared.id.Id.{Id}
 use Rattle.hm_fields.specs.Pages.{PageMap}
+use Rattle.hm_fields.specs.declared.states.State.{State}
+use Rattle.hm_fields.specs.declared.states.State.TheVariants.{Committed, Frozen, Current}
 use Rattle.hm_pages.specs.Maps.{ChangeMap, no_pages, over}
 use Rattle.hm_pages.specs.Sets.{ChangeSet, no_set, set_of, in_freemap}
 use Rattle.hm_pages.specs.Changes.{change_at}
@@ -62,3 +64,9 @@ frame_of s = record {
 -- the pages of layer 2: those of the freemap that are committed
 abbrev pub layer2 : Store → ℕ → Bool
 layer2 s at = in_freemap at && is_some (s.committed at)
+
+-- the map of one of the states
+abbrev pub in_state : Store → State → PageMap
+in_state s Committed = s.committed
+in_state s Frozen = s.frozen
+in_state s Current = s.current

@@ -3,6 +3,7 @@
 #![tactic(auto)]
 
 mod changes;
+mod states;
 mod store;
 mod table;
 

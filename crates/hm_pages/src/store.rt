@@ -11,7 +11,7 @@ ghost use Rattle.hm_pages.specs.Changes.{change_at};
 
 use crate::changes::Changes;
 use crate::table::Table;
-use hm_fields::Page;
+use hm_fields::{Page, State};
 use hm_types::{HOff, Id, MOST_GROUP_PAGES, NoMemory};
 use std::alloc::Global;
 use std::mem;
@@ -57,7 +57,7 @@ impl PageStore {
     ghost use Rattle.hm_pages.specs.Maps.{pages_at};
     ghost use Rattle.hm_pages.specs.Counts.{bytes_of};
     ghost use Rattle.hm_pages.specs.Sets.{in_freemap};
-    ghost use Rattle.hm_pages.specs.Store.{contents, empty_store};
+    ghost use Rattle.hm_pages.specs.Store.{contents, empty_store, in_state};
     ghost use Rattle.hm_pages.specs.Calls.{IsBegun, IsChanged, IsCommitted, IsFrozen, IsKept, IsLoaded, IsUndone};
 
     /// No page, and nothing frozen. It takes no memory.
@@ -179,8 +179,18 @@ impl PageStore {
         self.put(at, None)
     }
 
+    // Puts a page at an offset, in place of the one that stands there.
+    pub(crate) fn put_page(&mut self, at: HOff, with: &Page) -> Result<(), NoMemory>
+        ensures ok { OnOk result (IsChanged at (Some with.now)
+            (contents self.old) (contents self.new)) }
+        ensures err { OnErr result (contents self.new ≡ contents self.old) }
+    {
+        let page = Box::new(self.alloc, *with)?;
+        self.put(at, Some(page))
+    }
+
     // Puts a page at an offset, or takes out the one that stands there.
-    pub(crate) fn put(&mut self, at: HOff, page: Option<Box<Page>>) -> Result<(), NoMemory>
+    fn put(&mut self, at: HOff, page: Option<Box<Page>>) -> Result<(), NoMemory>
         requires kept { in_freemap at ≡ true → is_some page ≡ true }
         ensures ok { OnOk result (IsChanged at (option_map bytes_of page)
             (contents self.old) (contents self.new)) }
@@ -282,7 +292,7 @@ impl PageStore {
 
     // The committed page at an offset.
     #[tactic(auto, unfolding(crate::specs::Store::contents))]
-    pub(crate) fn committed_at(&self, at: HOff) -> Option<&Page>
+    fn committed_at(&self, at: HOff) -> Option<&Page>
         ensures { option_map (λ p. p.now) result ≡ (contents self.now).committed at }
     {
         self.committed.get(at)
@@ -290,7 +300,7 @@ impl PageStore {
 
     // The frozen page at an offset.
     #[tactic(auto, unfolding(crate::specs::Store::contents))]
-    pub(crate) fn frozen_at(&self, at: HOff) -> Option<&Page>
+    fn frozen_at(&self, at: HOff) -> Option<&Page>
         ensures { option_map (λ p. p.now) result ≡ (contents self.now).frozen at }
     {
         match self.frozen.get(at) {
@@ -310,6 +320,17 @@ impl PageStore {
         match self.group.get(at) {
             Some(page) => page,
             None => self.frozen_at(at),
+        }
+    }
+
+    // The page at an offset in one of the states.
+    pub(crate) fn page_at(&self, state: State, at: HOff) -> Option<&Page>
+        ensures { option_map (λ p. p.now) result ≡ in_state (contents self.now) state at }
+    {
+        match state {
+            State::Committed => self.committed_at(at),
+            State::Frozen => self.frozen_at(at),
+            State::Current => self.current_at(at),
         }
     }
 }
