@@ -1,5 +1,5 @@
 -- Changes that are made one after another.
-use Rattle.std.proofs.Common.{◌≡◌, ℕ, List, [], ◌∷◌, Bool, true, false, cond, Option, Some, None, option_map, unwrap_or, refl, sym, ap, ◌∙◌, arith, ⊎_elim}
+use Rattle.std.proofs.Common.{◌≡◌, ℕ, List, [], ◌∷◌, false, Option, Some, None, option_map, unwrap_or, refl, sym, ap, ◌∙◌, arith, ⊎_elim}
 use Rattle.std.proofs.lemmas.Bool.{cases_eq}
 use Rattle.std.proofs.lemmas.Bool.Decides.{nat_tests}
 use Rattle.std.proofs.lemmas.Grind.{common_steps}
@@ -35,7 +35,7 @@ module _ {X Y : Type 0} (put : X → Y) where
 
   -- where no offset comes twice, each is given what was put there
   pub folded_at : (f : ℕ → Y) (entries : List (ℕ × X)) (at : ℕ) → IsDistinct nat_eq (keys_of entries) →
-    folded f entries at ≡ unwrap_or (option_map put (lookup (nat_eq at) entries)) (f at)
+      folded f entries at ≡ unwrap_or (option_map put (lookup (nat_eq at) entries)) (f at)
   unfolding folded IsDistinct
   folded_at f [] at distinct = refl
   folded_at f (entry ∷ rest) at distinct =
@@ -50,15 +50,15 @@ abbrev pub put_change : Option Boxed → Option (Option (List ℕ))
 put_change change = Some (option_map bytes_of change)
 
 later_of : (found : Option (Option Boxed)) (earlier : Option (Option (List ℕ))) →
-  unwrap_or (option_map put_change found) earlier ≡ option_or (option_map (option_map bytes_of) found) earlier
+    unwrap_or (option_map put_change found) earlier ≡ option_or (option_map (option_map bytes_of) found) earlier
 later_of None earlier = refl
 later_of (Some change) earlier = refl
 
 pub folded_joined : (f : ChangeMap) (entries : List (ℕ × Option Boxed)) → IsDistinct nat_eq (keys_of entries) →
-  folded put_change f entries ≡ joined (λ at. option_map (option_map bytes_of) (lookup (nat_eq at) entries)) f
+    folded put_change f entries ≡ joined (λ at. option_map (option_map bytes_of) (lookup (nat_eq at) entries)) f
 folded_joined f entries distinct = fun_ext (λ at. folded_at put_change f entries at distinct ∙ later_of (lookup (nat_eq at) entries) (f at))
 
 -- changes over a map
 pub folded_over : (f : PageMap) (entries : List (ℕ × Option Boxed)) → IsDistinct nat_eq (keys_of entries) →
-  folded (option_map bytes_of) f entries ≡ over (λ at. option_map (option_map bytes_of) (lookup (nat_eq at) entries)) f
+    folded (option_map bytes_of) f entries ≡ over (λ at. option_map (option_map bytes_of) (lookup (nat_eq at) entries)) f
 folded_over f entries distinct = fun_ext (λ at. folded_at (option_map bytes_of) f entries at distinct)

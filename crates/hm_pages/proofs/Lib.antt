@@ -6,4 +6,5 @@ mod MapLemmas
 mod PutLemmas
 mod ResultLemmas
 mod ShutLemmas
+mod SoundLemmas
 mod StoreLemmas

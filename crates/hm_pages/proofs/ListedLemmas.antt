@@ -1,5 +1,5 @@
 -- The offsets at which a list of changes puts a page.
-use Rattle.std.proofs.Common.{◌≡◌, ◌+◌, ℕ, List, [], ◌∷◌, ◌++◌, Bool, true, false, cond, Option, Some, None, option_map, length, refl, sym, ap, subst, ◌∙◌, arith, ⊎_elim, is_some, append_assoc, append-nil}
+use Rattle.std.proofs.Common.{◌≡◌, ◌+◌, ℕ, List, [], ◌∷◌, ◌++◌, true, false, cond, Option, Some, None, option_map, length, refl, sym, ap, subst, ◌∙◌, arith, ⊎_elim, is_some, append_assoc, append-nil}
 use Rattle.std.proofs.lemmas.Bool.{cases_eq}
 use Rattle.std.proofs.lemmas.Bool.Decides.{nat_tests}
 use Rattle.std.proofs.lemmas.Grind.{common_steps}
@@ -33,12 +33,12 @@ length-page_keys (entry ∷ rest) = omega (arith, length_with entry.0 entry.1 (p
 
 -- no offset comes twice
 none_with : (key at : ℕ) (change : Option Boxed) (keys : List ℕ) → nat_eq key at ≡ false → AllByRecursion (λ other. nat_eq key other ≡ false) keys →
-  AllByRecursion (λ other. nat_eq key other ≡ false) (with_key at change keys)
+    AllByRecursion (λ other. nat_eq key other ≡ false) (with_key at change keys)
 none_with key at None keys here none = none
 none_with key at (Some page) keys here none = (here, none)
 
 none-page_keys : (key : ℕ) (entries : List (ℕ × Option Boxed)) → AllByRecursion (λ other. nat_eq key other ≡ false) (keys_of entries) →
-  AllByRecursion (λ other. nat_eq key other ≡ false) (page_keys entries)
+    AllByRecursion (λ other. nat_eq key other ≡ false) (page_keys entries)
 unfolding page_keys
 none-page_keys key [] none = none
 none-page_keys key (entry ∷ rest) none = none_with key entry.0 entry.1 (page_keys rest) none.0 (none-page_keys key rest none.1)
@@ -56,15 +56,15 @@ distinct-page_keys (entry ∷ rest) distinct =
 
 -- each stands there exactly where a page was put
 member_with : (at key : ℕ) (change : Option Boxed) (keys : List ℕ) (found : Option (Option Boxed)) → is_member nat_eq keys at ≡ is_page (option_map (option_map bytes_of) found) →
-  (at ≡ key → found ≡ None) →
-  is_member nat_eq (with_key key change keys) at ≡ is_page (option_map (option_map bytes_of) (cond (nat_eq at key) (Some change) found))
+    (at ≡ key → found ≡ None) →
+    is_member nat_eq (with_key key change keys) at ≡ is_page (option_map (option_map bytes_of) (cond (nat_eq at key) (Some change) found))
 member_with at key None keys found rest gone = ⊎_elim
     (λ e. grind (arith, common_steps, nat_tests, rest, e, gone e)) (λ ne. grind (arith, common_steps, nat_tests, rest, ne)) (cases_eq at key)
 member_with at key (Some page) keys found rest gone = ⊎_elim
     (λ e. grind (arith, common_steps, nat_tests, rest, e, gone e)) (λ ne. grind (arith, common_steps, nat_tests, rest, ne)) (cases_eq at key)
 
 pub member-page_keys : (at : ℕ) (entries : List (ℕ × Option Boxed)) → IsDistinct nat_eq (keys_of entries) →
-  is_member nat_eq (page_keys entries) at ≡ is_page (option_map (option_map bytes_of) (lookup (nat_eq at) entries))
+    is_member nat_eq (page_keys entries) at ≡ is_page (option_map (option_map bytes_of) (lookup (nat_eq at) entries))
 unfolding page_keys IsDistinct
 member-page_keys at [] distinct = refl
 member-page_keys at (entry ∷ rest) distinct =
@@ -81,14 +81,14 @@ with_none at None keys none = refl
 with_none at (Some page) keys none = absurd (grind (arith, none))
 
 pub listed_page : (keys pushed : List ℕ) (entries rest : List (ℕ × Option Boxed)) (entry : ℕ × Option Boxed) → entries ≡ entry ∷ rest → is_some entry.1 ≡ true →
-  pushed ≡ keys ++ entry.0 ∷ [] → pushed ++ page_keys rest ≡ keys ++ page_keys entries
+    pushed ≡ keys ++ entry.0 ∷ [] → pushed ++ page_keys rest ≡ keys ++ page_keys entries
 unfolding page_keys
 listed_page keys pushed entries rest entry more some push =
     ap (λ (ks : List ℕ). ks ++ page_keys rest) push ∙ append_assoc keys (entry.0 ∷ []) (page_keys rest) ∙
     ap (λ (ks : List ℕ). keys ++ ks) (sym (with_some entry.0 entry.1 (page_keys rest) some)) ∙ sym (ap (λ es. keys ++ page_keys es) more)
 
 pub listed_none : (keys : List ℕ) (entries rest : List (ℕ × Option Boxed)) (entry : ℕ × Option Boxed) → entries ≡ entry ∷ rest → is_some entry.1 ≡ false →
-  keys ++ page_keys rest ≡ keys ++ page_keys entries
+    keys ++ page_keys rest ≡ keys ++ page_keys entries
 unfolding page_keys
 listed_none keys entries rest entry more none =
     ap (λ (ks : List ℕ). keys ++ ks) (sym (with_none entry.0 entry.1 (page_keys rest) none)) ∙ sym (ap (λ es. keys ++ page_keys es) more)

@@ -1,16 +1,15 @@
 -- What a store tells after a page is loaded into all three maps.
-use Rattle.std.proofs.Common.{◌≡◌, ◌==◌, ℕ, List, Bool, true, false, cond, if◌then◌else◌, Option, Some, None, unwrap_or, is_some, refl, sym, ap, ◌∙◌, arith, ⊎_elim}
-use Rattle.std.proofs.lemmas.Bool.{cases_eq}
+use Rattle.std.proofs.Common.{◌≡◌, ◌==◌, ℕ, List, Bool, true, false, if◌then◌else◌, Option, Some, None, unwrap_or, is_some, refl, sym, ap, ◌∙◌, arith}
 use Rattle.std.proofs.lemmas.Bool.Decides.{nat_tests}
 use Rattle.std.proofs.lemmas.Grind.{common_steps}
 use mathlib.Core.Path.{fun_ext}
 use Rattle.hm_fields.specs.Pages.{PageMap}
 use Rattle.hm_pages.specs.Maps.{ChangeMap, over, set_at, is_page, pages_at}
-use Rattle.hm_pages.specs.Sets.{takes_out, in_freemap, KeepsFreemap}
+use Rattle.hm_pages.specs.Sets.{takes_out, KeepsFreemap}
 
 -- a page below, with no change over it
 load_here : (here : Bool) (page : Option (List ℕ)) (change : Option (Option (List ℕ))) (below : Option (List ℕ)) →
-  unwrap_or (if here then None else change) (if here then page else below) ≡ (if here then page else unwrap_or change below)
+    unwrap_or (if here then None else change) (if here then page else below) ≡ (if here then page else unwrap_or change below)
 load_here true page change below = refl
 load_here false page change below = refl
 

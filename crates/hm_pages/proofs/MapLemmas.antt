@@ -1,5 +1,5 @@
 -- Tables of pages and of changes, as functions of the offset.
-use Rattle.std.proofs.Common.{◌≡◌, ℕ, List, Option, Some, option_map, ap, arith, ⊎_elim}
+use Rattle.std.proofs.Common.{◌≡◌, ℕ, Option, option_map, ap, arith, ⊎_elim}
 use Rattle.std.proofs.lemmas.Bool.{cases_eq}
 use Rattle.std.proofs.lemmas.Bool.Decides.{nat_tests}
 use Rattle.std.proofs.lemmas.Grind.{common_steps}

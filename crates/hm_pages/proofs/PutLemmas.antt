@@ -1,17 +1,16 @@
 -- What a store tells after a page is put or taken out.
-use Rattle.std.proofs.Common.{◌≡◌, ◌≤◌, ◌+◌, ◌==◌, ℕ, List, Bool, true, false, cond, if◌then◌else◌, Option, Some, None, option_map, unwrap_or, is_some, refl, sym, ap, ◌∙◌, arith, ⊎_elim}
-use Rattle.std.proofs.lemmas.Bool.{cases_eq}
+use Rattle.std.proofs.Common.{◌≡◌, ◌+◌, ◌==◌, ℕ, List, Bool, true, false, if◌then◌else◌, Option, Some, None, option_map, unwrap_or, is_some, refl, ap, ◌∙◌, arith}
 use Rattle.std.proofs.lemmas.Bool.Decides.{nat_tests}
 use Rattle.std.proofs.lemmas.Grind.{common_steps}
 use mathlib.Core.Path.{fun_ext}
 use Rattle.hm_fields.specs.Pages.{PageMap}
 use Rattle.hm_pages.specs.Counts.{Boxed, bytes_of}
 use Rattle.hm_pages.specs.Maps.{ChangeMap, over, set_at, is_page, pages_at}
-use Rattle.hm_pages.specs.Sets.{ChangeSet, set_of, one_if, HasChanged, takes_out, in_freemap, KeepsFreemap}
+use Rattle.hm_pages.specs.Sets.{set_of, one_if, HasChanged, takes_out, in_freemap, KeepsFreemap}
 
 -- a change over a map is the map with it
 over_here : (here : Bool) (page : Option (List ℕ)) (change : Option (Option (List ℕ))) (below : Option (List ℕ)) →
-  unwrap_or (if here then Some page else change) below ≡ (if here then page else unwrap_or change below)
+    unwrap_or (if here then Some page else change) below ≡ (if here then page else unwrap_or change below)
 over_here true page change below = refl
 over_here false page change below = refl
 
@@ -33,7 +32,7 @@ pages_of (Some None) below = refl
 pages_of (Some (Some bytes)) below = refl
 
 pub has_changed : (at : ℕ) (page : Option (List ℕ)) (changes after : ChangeMap) (pages pages' : ℕ) (map : PageMap) → after ≡ set_at at (Some page) changes →
-  pages' + pages_at (changes at) ≡ pages + pages_at (Some page) → HasChanged at (over changes map at) page (set_of changes pages) (set_of after pages')
+    pages' + pages_at (changes at) ≡ pages + pages_at (Some page) → HasChanged at (over changes map at) page (set_of changes pages) (set_of after pages')
 has_changed at page changes after pages pages' map is count = record {
   changed = (λ i other. is_some (is i other)) ∙ fun_ext (λ other. changed_here (other == at) page (changes other));
   pages = omega (arith, count, pages_after page, pages_of (changes at) (map at));
@@ -47,13 +46,13 @@ pages_if (Some (Some bytes)) = refl
 
 -- no page of the freemap is taken out
 taken_here : (here : Bool) (page : Option Boxed) (change : Option (Option (List ℕ))) → (here ≡ true → is_some page ≡ true) → takes_out change ≡ false →
-  takes_out (if here then Some (option_map bytes_of page) else change) ≡ false
+    takes_out (if here then Some (option_map bytes_of page) else change) ≡ false
 taken_here true None change there kept = absurd (grind (arith, there refl))
 taken_here true (Some page) change there kept = refl
 taken_here false page change there kept = kept
 
 pub keeps_set : (at : ℕ) (page : Option Boxed) (changes after : ChangeMap) → after ≡ set_at at (Some (option_map bytes_of page)) changes →
-  (in_freemap at ≡ true → is_some page ≡ true) → KeepsFreemap changes → KeepsFreemap after
+    (in_freemap at ≡ true → is_some page ≡ true) → KeepsFreemap changes → KeepsFreemap after
 keeps_set at page changes after is there kept other in_it =
     ap (λ (f : ChangeMap). takes_out (f other)) is ∙
     taken_here (other == at) page (changes other) (λ here. there (grind (arith, common_steps, nat_tests, here, in_it))) (kept other in_it)

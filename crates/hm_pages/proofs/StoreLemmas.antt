@@ -1,18 +1,17 @@
 -- What a store tells, from the maps that it is made of.
 use Rattle.std.proofs.Common.{◌≡◌, ◌≤◌, ◌&&◌, ◌||◌, ℕ, List, Bool, true, false, Option, Some, None, option_map, unwrap_or, is_some, refl, sym, ap, ◌∙◌, arith}
-use Rattle.std.proofs.lemmas.Grind.{common_steps}
 use Rattle.std.specs.Option.{option_or}
 use mathlib.Core.Path.{fun_ext}
 use Rattle.std.specs.HashMap.{hash_map_len}
 use Rattle.std.proofs.Common.{[], ◌∷◌, length, nat_eq, if◌then◌else◌}
 use Rattle.std.specs.Map.{lookup}
 use Rattle.hm_types.specs.declared.id.Id.{Id}
-use Rattle.hm_pages.specs.Counts.{Boxed, bytes_of}
+use Rattle.hm_pages.specs.Counts.{bytes_of}
 use Rattle.hm_fields.specs.Pages.{PageMap}
 use Rattle.hm_pages.specs.Changes.{change_at}
 use Rattle.hm_pages.specs.declared.changes.Changes.{Changes}
-use Rattle.hm_pages.specs.Maps.{ChangeMap, no_changes, over, joined, set_at, is_page}
-use Rattle.hm_pages.specs.Sets.{ChangeSet, no_set, set_of, takes_out, in_freemap, KeepsFreemap}
+use Rattle.hm_pages.specs.Maps.{ChangeMap, no_changes, over, joined, is_page}
+use Rattle.hm_pages.specs.Sets.{no_set, set_of, takes_out, KeepsFreemap}
 
 -- later changes over earlier ones
 over_both : (later earlier : Option (Option (List ℕ))) (page : Option (List ℕ)) → unwrap_or (option_or later earlier) page ≡ unwrap_or later (unwrap_or earlier page)
@@ -27,7 +26,7 @@ either_set None earlier = refl
 either_set (Some change) earlier = refl
 
 pub changed_joined : (later earlier both : ChangeMap) → both ≡ joined later earlier →
-  ◌≡◌ {A = ℕ → Bool} (λ at. is_some (both at)) (λ at. is_some (later at) || is_some (earlier at))
+    ◌≡◌ {A = ℕ → Bool} (λ at. is_some (both at)) (λ at. is_some (later at) || is_some (earlier at))
 changed_joined later earlier both is = fun_ext (λ at. ap (λ (f : ChangeMap). is_some (f at)) is ∙ either_set (later at) (earlier at))
 
 -- the map stays where the open call's changes are joined to the group's
@@ -64,7 +63,7 @@ emptied left fresh same none len pages = record {
   pages = ap (λ (d : Changes). d.pages) same ∙ pages;
 }
 
-empty_from_length : {X : Type 0} (xs : List X) → length xs ≡ 0 → xs ≡ []
+pub empty_from_length : {X : Type 0} (xs : List X) → length xs ≡ 0 → xs ≡ []
 empty_from_length [] zero = refl
 empty_from_length (x ∷ xs) zero = absurd (omega (arith, zero))
 

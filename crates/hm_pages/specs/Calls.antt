@@ -1,10 +1,10 @@
 -- What each call of a store of pages changes.
-use Rattle.std.specs.Prelude.{◌≡◌, ℕ, ◌+◌, ◌≤◌, ◌&&◌, ◌||◌, Bool, true, false, List, [], Option, Some, None, length, is_some, nat_eq, IfSome}
+use Rattle.std.specs.Prelude.{◌≡◌, ℕ, ◌+◌, ◌≤◌, ◌&&◌, ◌||◌, false, List, [], Option, Some, None, length, is_some, nat_eq}
 use Rattle.std.specs.Option.{MatchOption}
 use Rattle.std.specs.Set.{is_member}
 use Rattle.hm_types.specs.declared.id.Id.{Id}
 use Rattle.hm_pages.specs.Maps.{set_at}
-use Rattle.hm_pages.specs.Sets.{ChangeSet, no_set, HasChanged}
+use Rattle.hm_pages.specs.Sets.{no_set, HasChanged}
 use Rattle.hm_pages.specs.Store.{Store}
 
 -- what is committed and what is frozen stays
@@ -20,8 +20,8 @@ pub record IsChanged (at : ℕ) (page : Option (List ℕ)) (old new : Store) : T
   pub current : new.current ≡ set_at at page old.current
   pub begin : new.begin ≡ old.begin
   pub sets : MatchOption old.begin
-    (HasChanged at (old.current at) page old.group new.group × (new.call ≡ old.call))
-    (λ _. HasChanged at (old.current at) page old.call new.call × (new.group ≡ old.group))
+      (HasChanged at (old.current at) page old.group new.group × (new.call ≡ old.call))
+      (λ _. HasChanged at (old.current at) page old.call new.call × (new.group ≡ old.group))
 
 -- a page was put into all three maps, where none had one
 pub record IsLoaded (at : ℕ) (bytes : List ℕ) (old new : Store) : Type 0 where

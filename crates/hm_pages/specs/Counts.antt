@@ -1,5 +1,5 @@
 -- Pages in boxes, and how many of them a list of changes puts.
-use Rattle.std.specs.Prelude.{ℕ, List, [], ◌∷◌, Option, Some, None, Box}
+use Rattle.std.specs.Prelude.{ℕ, List, Option, Some, None, Box}
 use Rattle.std.specs.List.{sum_by}
 use Rattle.std.specs.Map.{values_of}
 use Rattle.std.specs.declared.alloc.Global.{Global}

@@ -5,4 +5,5 @@ pub mod Table
 pub mod Sets
 pub mod Store
 pub mod Calls
+pub mod Sound
 pub mod States

@@ -2,7 +2,6 @@
 use Rattle.std.specs.Prelude.{◌≡◌, ℕ, ◌+◌, ◌==◌, Bool, true, false, List, Option, Some, None, is_some, if◌then◌else◌}
 use Rattle.hm_types.specs.Offset.{zone_of}
 use Rattle.hm_types.specs.declared.zone.TheConstants.{FREEMAP_ZONE}
-use Rattle.hm_fields.specs.Pages.{PageMap}
 use Rattle.hm_pages.specs.Maps.{ChangeMap, set_at}
 
 -- the offsets that were changed, and at how many of them a page was put

@@ -26,8 +26,15 @@ pub record Store : Type 0 where
 -- no page, and nothing changed or frozen
 abbrev pub empty_store : Store
 empty_store = record {
-  committed = no_pages; frozen = no_pages; current = no_pages; begin = None;
-  call = no_set; group = no_set; frozen_group = []; boundary = None }
+  committed = no_pages;
+  frozen = no_pages;
+  current = no_pages;
+  begin = None;
+  call = no_set;
+  group = no_set;
+  frozen_group = [];
+  boundary = None;
+}
 
 -- what these tell: the committed map, what was frozen over it, what the group and the open call changed, whether one is
 -- open, how many pages the group and the call put, the offsets to place, and the boundary
@@ -40,11 +47,12 @@ store_of committed frozen group call is_open group_pages call_pages places bound
   call = set_of call call_pages;
   group = set_of group group_pages;
   frozen_group = places;
-  boundary = boundary }
+  boundary = boundary;
+}
 
 unfoldable pub contents : PageStore → Store
 contents s = store_of (page_at s.committed) (change_at s.frozen) (change_at s.group) (change_at s.call) s.is_open
-  s.group.pages s.call.pages s.places.items s.boundary
+    s.group.pages s.call.pages s.places.items s.boundary
 
 -- What no change of a call alters: the committed and the frozen pages, what a flush has to place, and the map
 -- and the group at the beginning of the open call.
@@ -58,8 +66,13 @@ pub record Frame : Type 0 where
 
 abbrev pub frame_of : Store → Frame
 frame_of s = record {
-  committed = s.committed; frozen = s.frozen; frozen_group = s.frozen_group; boundary = s.boundary;
-  begin = s.begin; begin_group = if is_some s.begin then Some s.group else None }
+  committed = s.committed;
+  frozen = s.frozen;
+  frozen_group = s.frozen_group;
+  boundary = s.boundary;
+  begin = s.begin;
+  begin_group = if is_some s.begin then Some s.group else None;
+}
 
 -- the pages of layer 2: those of the freemap that are committed
 abbrev pub layer2 : Store → ℕ → Bool

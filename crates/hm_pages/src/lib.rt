@@ -3,8 +3,10 @@
 #![tactic(auto)]
 
 mod changes;
+mod laws;
 mod states;
 mod store;
 mod table;
 
+pub use laws::store_is_sound;
 pub use store::PageStore;

@@ -57,7 +57,7 @@ impl PageStore {
     ghost use Rattle.hm_pages.specs.Maps.{pages_at};
     ghost use Rattle.hm_pages.specs.Counts.{bytes_of};
     ghost use Rattle.hm_pages.specs.Sets.{in_freemap};
-    ghost use Rattle.hm_pages.specs.Store.{contents, empty_store, in_state};
+    ghost use Rattle.hm_pages.specs.Store.{contents, empty_store, frame_of, in_state};
     ghost use Rattle.hm_pages.specs.Calls.{IsBegun, IsChanged, IsCommitted, IsFrozen, IsKept, IsLoaded, IsUndone};
 
     /// No page, and nothing frozen. It takes no memory.
@@ -175,6 +175,7 @@ impl PageStore {
         requires kept { zone_of at ≢ FREEMAP_ZONE }
         ensures ok { OnOk result (IsChanged at None (contents self.old) (contents self.new)) }
         ensures err { OnErr result (contents self.new ≡ contents self.old) }
+        ensures frame { frame_of (contents self.new) ≡ frame_of (contents self.old) }
     {
         self.put(at, None)
     }

@@ -1,14 +1,12 @@
 use Rattle.std.specs.Prelude.{nat_eq}
 use Rattle.std.specs.List.{IsDistinct}
 use Rattle.std.specs.Map.{keys_of}
-use Rattle.std.specs.HashMap.{HashMap}
-use Rattle.std.proofs.Common.{ℕ, Option, subst, ◌≡◌, ◌∷◌, ◌≤◌, ◌+◌, ◌<◌, ◌∙◌, sym, ap, arith, length, Some, option_map}
+use Rattle.std.proofs.Common.{ℕ, Option, subst, ◌≡◌, ◌∷◌, ◌∙◌, sym, ap, arith, length}
 use Rattle.std.proofs.lemmas.Map.Iter.{rest_more, rest_all}
 use Rattle.hm_pages.specs.Changes.{change_at}
-use Rattle.hm_pages.specs.Counts.{Boxed, bytes_of, page_count, pages_in}
-use Rattle.hm_pages.specs.Maps.{set_at, pages_at}
+use Rattle.hm_pages.specs.Counts.{Boxed, pages_in}
 use Rattle.hm_pages.proofs.CountLemmas.{pages-cons, pages_put}
-use Rattle.hm_pages.proofs.FoldLemmas.{folded, folded_more, folded_done, folded_joined, put_change}
+use Rattle.hm_pages.proofs.FoldLemmas.{folded_more, folded_done, folded_joined, put_change}
 use Rattle.hm_pages.proofs.ResultLemmas.{on_ok}
 use Rattle.hm_pages.proofs.changes.Changes.absorb.Goals as goal
 
@@ -33,4 +31,4 @@ returns-clause-value c =
     let done = rest_all (λ x. x) c.loop-at.at-iterator c.next.new.self _ c.in-None.is c.next.ensures.steps in
     sym (folded_done put_change (change_at c.loop-at.self) c.loop-at.at-iterator done) ∙ c.loop-at.invariant.value ∙
     folded_joined (change_at c.args.self.now) c.args.later.places.entries
-        (subst (λ m. IsDistinct nat_eq (keys_of m.entries)) c.into_places-at-items.ensures c.into_iter-at-iterator.ensures.into_iter_gives.4)
+    (subst (λ m. IsDistinct nat_eq (keys_of m.entries)) c.into_places-at-items.ensures c.into_iter-at-iterator.ensures.into_iter_gives.4)

@@ -1,9 +1,8 @@
-use Rattle.std.proofs.Common.{◌≡◌, ◌+◌, ◌∙◌, sym, ap, arith, unwrap_or, option_map, None}
-use Rattle.std.specs.Map.{values_of, lookup}
+use Rattle.std.proofs.Common.{◌≡◌, ◌+◌, ap, arith, unwrap_or, option_map, None}
+use Rattle.std.specs.Map.{lookup}
 use Rattle.std.specs.Prelude.{nat_eq}
 use Rattle.std.proofs.lemmas.Map.Entries.{sum_by_values_permutation, sum_by-remove_entry}
 use Rattle.hm_pages.specs.Counts.{page_count, pages_in, bytes_of}
-use Rattle.hm_pages.specs.Maps.{pages_at}
 use Rattle.hm_pages.proofs.CountLemmas.{pages_before}
 use Rattle.hm_pages.proofs.MapLemmas.{viewed_update}
 use Rattle.hm_pages.proofs.changes.Changes.forget.Goals as goal

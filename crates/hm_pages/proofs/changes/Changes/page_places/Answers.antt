@@ -1,13 +1,10 @@
-use Rattle.std.proofs.Common.{ℕ, Option, List, subst, ◌≡◌, ◌∷◌, [], ◌++◌, ◌∙◌, sym, ap, arith, length, Some}
+use Rattle.std.proofs.Common.{ℕ, List, subst, ◌≡◌, ◌∙◌, sym, ap, arith, length}
 use Rattle.std.specs.Prelude.{nat_eq}
 use Rattle.std.specs.List.{IsDistinct}
-use Rattle.std.specs.Map.{keys_of}
 use Rattle.std.specs.Set.{is_member}
 use Rattle.std.proofs.lemmas.Map.Keys.{IsDistinct-IsPermutation, IsStrictlyIncreasing-from_distinct}
 use Rattle.std.proofs.lemmas.List.Sorted.{length_permutation, list_any-IsPermutation, IsNonDecreasingBy-from_sort}
 use Rattle.std.proofs.lemmas.Bool.Decides.{nat_tests}
-use Rattle.std.proofs.lemmas.Grind.{common_steps}
-use Rattle.hm_pages.specs.Counts.{Boxed, bytes_of}
 use Rattle.hm_pages.proofs.ListedLemmas.{page_keys, length-page_keys, distinct-page_keys, member-page_keys, listed_page, listed_none, listed_all}
 use Rattle.hm_pages.proofs.changes.Changes.page_places.Goals as goal
 

@@ -1,8 +1,7 @@
-use Rattle.std.proofs.Common.{◌∙◌, sym, ◌≡◌, ◌≤◌, ◌+◌, arith, length, unwrap_or, option_map, Some, ap}
-use Rattle.std.specs.Map.{values_of}
+use Rattle.std.proofs.Common.{arith, option_map, Some, ap}
 use Rattle.std.specs.Prelude.{nat_eq}
 use Rattle.std.proofs.lemmas.Map.Entries.{sum_by_puts_entry}
-use Rattle.hm_pages.specs.Counts.{page_count, pages_in, bytes_of}
+use Rattle.hm_pages.specs.Counts.{page_count, bytes_of}
 use Rattle.hm_pages.proofs.CountLemmas.{pages-le-length, pages_before, pages_put}
 use Rattle.hm_pages.specs.Maps.{pages_at}
 use Rattle.hm_pages.proofs.MapLemmas.{viewed_update}

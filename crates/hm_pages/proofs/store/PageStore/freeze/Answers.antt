@@ -1,9 +1,8 @@
-use Rattle.std.proofs.Common.{◌≡◌, ◌≤◌, ◌+◌, ◌&&◌, ℕ, ◌∙◌, ap, sym, subst, refl, arith, Bool, false, Some, None, is_some, if◌then◌else◌}
+use Rattle.std.proofs.Common.{◌≡◌, ◌&&◌, ◌∙◌, ap, sym, subst, refl, arith, Bool, Some, None, is_some, if◌then◌else◌}
 use Rattle.std.specs.HashMap.{hash_map_len}
-use Rattle.hm_fields.specs.Pages.{PageMap}
 use Rattle.hm_pages.specs.Changes.{change_at}
 use Rattle.hm_pages.specs.Table.{page_at}
-use Rattle.hm_pages.specs.Maps.{ChangeMap, no_changes, over, is_page}
+use Rattle.hm_pages.specs.Maps.{ChangeMap, over, is_page}
 use Rattle.hm_pages.specs.Sets.{KeepsFreemap}
 use Rattle.hm_pages.specs.Store.{contents}
 use Rattle.hm_pages.specs.declared.changes.Changes.{Changes}
@@ -42,17 +41,20 @@ returns-clause-ok c =
     let idle = frozen_none s c.requires.idle in
     let none = none_from_len s.call (call_len s c.requires.closed) in
     let current : over (change_at s.call) (over (change_at c.replace.new.dest) (over (change_at c.replace.result) (page_at c.reserve.new.self))) ≡
-      over (change_at s.call) (over (change_at s.group) (over (change_at s.frozen) (page_at s.committed))) =
-      (λ i. over (change_at s.call) (over (left.none i) (over (moved i) (same i)))) ∙ sym (λ i. over (change_at s.call) (over (change_at s.group) (over (idle i) (page_at s.committed)))) in
+    over (change_at s.call) (over (change_at s.group) (over (change_at s.frozen) (page_at s.committed))) =
+    (λ i. over (change_at s.call) (over (left.none i) (over (moved i) (same i)))) ∙ sym (λ i. over (change_at s.call) (over (change_at s.group) (over (idle i) (page_at s.committed)))) in
     record {
       committed = same;
       frozen = (λ i. over (moved i) (same i)) ∙ sym (λ i. over (none i) (over (change_at s.group) (over (idle i) (page_at s.committed))));
       current = current;
       group = nothing_set (change_at c.replace.new.dest) c.replace.new.dest.pages left.none left.pages;
       each = λ at. c.in_ok-places.ensures.each at ∙ page_there (change_at s.group at) (over (change_at s.frozen) (page_at s.committed) at) ∙
-        ap (λ (k : ChangeMap). is_some (change_at s.group at) && is_some (over k (over (change_at s.group) (over (change_at s.frozen) (page_at s.committed))) at)) (sym none);
+          ap (λ (k : ChangeMap). is_some (change_at s.group at) && is_some (over k (over (change_at s.group) (over (change_at s.frozen) (page_at s.committed))) at)) (sym none);
       len = c.in_ok-places.ensures.len;
       boundary_is = refl;
-      call = (refl, ap (λ (b : Bool). if b then Some (over (change_at c.replace.new.dest) (over (change_at c.replace.result) (page_at c.reserve.new.self))) else None)
-        (shut s c.requires.closed) ∙ sym c.requires.closed);
+      call = (
+        refl,
+        ap (λ (b : Bool). if b then Some (over (change_at c.replace.new.dest) (over (change_at c.replace.result) (page_at c.reserve.new.self))) else None)
+            (shut s c.requires.closed) ∙ sym c.requires.closed,
+      );
     }

@@ -1,4 +1,4 @@
-use Rattle.std.proofs.Common.{◌≡◌, ◌≤◌, ◌+◌, ◌∙◌, sym, ap, subst, refl, arith}
+use Rattle.std.proofs.Common.{◌∙◌, ap, refl, arith}
 use Rattle.hm_pages.specs.Changes.{change_at}
 use Rattle.hm_pages.specs.Table.{page_at}
 use Rattle.hm_pages.specs.Maps.{over, joined}
@@ -24,7 +24,7 @@ invariant_of-self c =
       len = c.args.self.now.len;
       call_keeps = keeps_none (change_at c.replace-call.new.dest) left.none;
       group_keeps = keeps_joined (change_at c.args.self.now.call) (change_at c.args.self.now.group) (change_at c.absorb.new.self) both
-        c.args.self.now.call_keeps c.args.self.now.group_keeps;
+          c.args.self.now.call_keeps c.args.self.now.group_keeps;
       frozen_keeps = c.args.self.now.frozen_keeps;
     }
 
@@ -37,7 +37,7 @@ returns c =
     record {
       flush = record { committed = refl; frozen = refl; frozen_group = refl; boundary = refl };
       current = kept_map (change_at c.replace-call.new.dest) (change_at c.args.self.now.call) (change_at c.args.self.now.group) (change_at c.absorb.new.self)
-        (over (change_at c.args.self.now.frozen) (page_at c.args.self.now.committed)) left.none both;
+          (over (change_at c.args.self.now.frozen) (page_at c.args.self.now.committed)) left.none both;
       begin = refl;
       call = nothing_set (change_at c.replace-call.new.dest) c.replace-call.new.dest.pages left.none left.pages;
       group = changed_joined (change_at c.args.self.now.call) (change_at c.args.self.now.group) (change_at c.absorb.new.self) both;

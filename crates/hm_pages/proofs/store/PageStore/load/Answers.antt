@@ -1,9 +1,8 @@
-use Rattle.std.proofs.Common.{◌≡◌, ◌≤◌, ◌+◌, ◌∙◌, ℕ, Bool, false, ap, sym, subst, refl, arith, Some, None, is_some, if◌then◌else◌}
-use Rattle.std.specs.HashMap.{hash_map_len, spare}
-use Rattle.hm_fields.specs.Pages.{PageMap}
+use Rattle.std.proofs.Common.{◌≡◌, ◌∙◌, ℕ, false, ap, sym, refl, arith, Some, None, is_some, if◌then◌else◌}
+use Rattle.std.specs.HashMap.{hash_map_len}
 use Rattle.hm_pages.specs.Changes.{change_at}
 use Rattle.hm_pages.specs.Table.{page_at}
-use Rattle.hm_pages.specs.Maps.{ChangeMap, over, set_at, is_page, pages_at}
+use Rattle.hm_pages.specs.Maps.{ChangeMap, over, set_at, is_page}
 use Rattle.hm_pages.specs.Store.{contents}
 use Rattle.hm_pages.specs.declared.store.PageStore.{PageStore}
 use Rattle.hm_pages.proofs.LoadLemmas.{over_load, changed_forget, no_page, no_pages_at, listed_forget, keeps_forget}
@@ -54,7 +53,7 @@ returns-clause-ok c =
     let none = none_from_len s.call (call_len s c.requires.closed) in
     let is_shut = shut s c.requires.closed in
     let committed : page_at c.put.new.self ≡ set_at at (Some page) (page_at s.committed) =
-      c.put.ensures.value ∙ (λ i. set_at at (Some (c.in_ok-page.ensures.ok i)) (c.reserve.ensures.same i)) in
+    c.put.ensures.value ∙ (λ i. set_at at (Some (c.in_ok-page.ensures.ok i)) (c.reserve.ensures.same i)) in
     let frozen = (λ i. over (c.forget.ensures.value i) (committed i)) ∙ over_load at (Some page) (change_at s.frozen) (page_at s.committed) in
     let group = (λ i. over (c.forget-2.ensures.value i) (frozen i)) ∙ over_load at (Some page) (change_at s.group) (over (change_at s.frozen) (page_at s.committed)) in
     let count = no_pages_at (change_at s.group at) (no_group s at c.requires.current c.requires.closed) in
@@ -64,7 +63,10 @@ returns-clause-ok c =
       current = (λ i. over (none i) (group i)) ∙ sym (λ i. set_at at (Some page) (over (none i) (over (change_at s.group) (over (change_at s.frozen) (page_at s.committed)))));
       changed = changed_forget at (change_at s.group) (change_at c.forget-2.new.self) c.forget-2.ensures.value;
       pages = omega (arith, c.forget-2.ensures.pages, count);
-      call = (refl, (λ i. if is_shut i then Some (over (change_at c.forget-2.new.self) (over (change_at c.forget.new.self) (page_at c.put.new.self))) else None)
-        ∙ sym (λ i. if is_shut i then Some (over (change_at s.group) (over (change_at s.frozen) (page_at s.committed))) else None));
+      call = (
+        refl,
+        (λ i. if is_shut i then Some (over (change_at c.forget-2.new.self) (over (change_at c.forget.new.self) (page_at c.put.new.self))) else None)
+            ∙ sym (λ i. if is_shut i then Some (over (change_at s.group) (over (change_at s.frozen) (page_at s.committed))) else None),
+      );
       flush = (refl, refl);
     }

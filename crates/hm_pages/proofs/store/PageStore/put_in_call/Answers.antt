@@ -1,11 +1,10 @@
-use Rattle.std.proofs.Common.{◌≡◌, ◌≤◌, ◌+◌, ◌∙◌, ℕ, Bool, true, ap, sym, subst, refl, arith, Some, None, option_map, if◌then◌else◌}
-use Rattle.std.specs.HashMap.{hash_map_len, spare}
+use Rattle.std.proofs.Common.{◌≡◌, ◌∙◌, ℕ, Bool, ap, sym, subst, refl, arith, Some, None, option_map, if◌then◌else◌}
+use Rattle.std.specs.HashMap.{hash_map_len}
 use Rattle.std.specs.Option.{MatchOption}
-use Rattle.hm_fields.specs.Pages.{PageMap}
 use Rattle.hm_pages.specs.Changes.{change_at}
 use Rattle.hm_pages.specs.Table.{page_at}
 use Rattle.hm_pages.specs.Counts.{bytes_of}
-use Rattle.hm_pages.specs.Maps.{ChangeMap, over, set_at}
+use Rattle.hm_pages.specs.Maps.{ChangeMap, over}
 use Rattle.hm_pages.specs.Sets.{KeepsFreemap, HasChanged, set_of}
 use Rattle.hm_pages.specs.Store.{contents}
 use Rattle.hm_pages.proofs.PutLemmas.{over_set, has_changed, pages_if, keeps_set}
@@ -41,9 +40,9 @@ invariant_of-self-2 c =
       room = omega (arith, c.put.ensures.len, c.len.ensures.len, c.in_ok-reserve.ensures.ok);
       flush_room = s.flush_room;
       few = each_way c.put.result
-        (λ count. omega (arith, count, fits, stands, same, c.reserve.ensures.pages, s.few))
-        (λ count. omega (arith, count, c.reserve.ensures.pages, s.few))
-        c.put.ensures.pages c.put.ensures.pages_at_err;
+          (λ count. omega (arith, count, fits, stands, same, c.reserve.ensures.pages, s.few))
+          (λ count. omega (arith, count, c.reserve.ensures.pages, s.few))
+          c.put.ensures.pages c.put.ensures.pages_at_err;
       most_few = s.most_few;
       few_frozen = s.few_frozen;
       closed = subst (λ (b : Bool). (if b then 0 else hash_map_len c.put.new.self.places) ≡ 0) (sym c.requires.opened) refl;
@@ -52,9 +51,9 @@ invariant_of-self-2 c =
       listed = s.listed;
       len = s.len;
       call_keeps = each_way c.put.result
-        (λ value. keeps_set c.args.at c.args.page (change_at s.call) (change_at c.put.new.self) value c.requires.kept s.call_keeps)
-        (λ same. subst (λ (f : ChangeMap). KeepsFreemap f) (sym same) s.call_keeps)
-        c.put.ensures.ok c.put.ensures.err;
+          (λ value. keeps_set c.args.at c.args.page (change_at s.call) (change_at c.put.new.self) value c.requires.kept s.call_keeps)
+          (λ same. subst (λ (f : ChangeMap). KeepsFreemap f) (sym same) s.call_keeps)
+          c.put.ensures.ok c.put.ensures.err;
       group_keeps = subst (λ (f : ChangeMap). KeepsFreemap f) (sym c.reserve.ensures.same) s.group_keeps;
       frozen_keeps = s.frozen_keeps;
     }
@@ -73,13 +72,14 @@ returns-clause-ok c =
       begin = ap (λ (g : ChangeMap). if s.is_open then Some (over g frozen) else None) same;
       sets = subst (λ (b : Bool). MatchOption (if b then Some (over (change_at s.group) frozen) else None)
           (HasChanged c.args.at (over (change_at s.call) (over (change_at s.group) frozen) c.args.at) page
-            (set_of (change_at s.group) s.group.pages) (set_of (change_at c.reserve.new.self) c.reserve.new.self.pages)
-            × (set_of (change_at c.put.new.self) c.put.new.self.pages ≡ set_of (change_at s.call) s.call.pages))
+          (set_of (change_at s.group) s.group.pages) (set_of (change_at c.reserve.new.self) c.reserve.new.self.pages)
+          × (set_of (change_at c.put.new.self) c.put.new.self.pages ≡ set_of (change_at s.call) s.call.pages))
           (λ _. HasChanged c.args.at (over (change_at s.call) (over (change_at s.group) frozen) c.args.at) page
-            (set_of (change_at s.call) s.call.pages) (set_of (change_at c.put.new.self) c.put.new.self.pages)
-            × (set_of (change_at c.reserve.new.self) c.reserve.new.self.pages ≡ set_of (change_at s.group) s.group.pages)))
-        (sym c.requires.opened)
-        (has_changed c.args.at page (change_at s.call) (change_at c.put.new.self) s.call.pages c.put.new.self.pages (over (change_at s.group) frozen) value count,
-          λ i. set_of (same i) (c.reserve.ensures.pages i));
+          (set_of (change_at s.call) s.call.pages) (set_of (change_at c.put.new.self) c.put.new.self.pages)
+          × (set_of (change_at c.reserve.new.self) c.reserve.new.self.pages ≡ set_of (change_at s.group) s.group.pages)))
+          (sym c.requires.opened) (
+            has_changed c.args.at page (change_at s.call) (change_at c.put.new.self) s.call.pages c.put.new.self.pages (over (change_at s.group) frozen) value count,
+            λ i. set_of (same i) (c.reserve.ensures.pages i),
+          );
     })
     c.put.ensures.ok c.put.ensures.pages

@@ -1,12 +1,11 @@
-use Rattle.std.proofs.Common.{◌≡◌, ◌≤◌, ◌+◌, ◌∙◌, ℕ, Bool, ap, sym, subst, refl, arith, Some, None, option_map, if◌then◌else◌}
-use Rattle.std.specs.HashMap.{hash_map_len, spare}
+use Rattle.std.proofs.Common.{◌≡◌, ◌∙◌, ℕ, Bool, ap, sym, subst, refl, arith, Some, None, option_map, if◌then◌else◌}
+use Rattle.std.specs.HashMap.{hash_map_len}
 use Rattle.std.specs.Option.{MatchOption}
-use Rattle.hm_fields.specs.Pages.{PageMap}
 use Rattle.hm_pages.specs.Changes.{change_at}
 use Rattle.hm_pages.specs.Table.{page_at}
 use Rattle.hm_pages.specs.Counts.{bytes_of}
 use Rattle.hm_pages.specs.Maps.{ChangeMap, over, set_at}
-use Rattle.hm_pages.specs.Sets.{ChangeSet, KeepsFreemap, HasChanged, set_of}
+use Rattle.hm_pages.specs.Sets.{KeepsFreemap, HasChanged, set_of}
 use Rattle.hm_pages.specs.Store.{contents}
 use Rattle.hm_pages.proofs.PutLemmas.{over_set, has_changed, pages_if, keeps_set}
 use Rattle.hm_pages.proofs.ResultLemmas.{on_both, each_way}
@@ -23,9 +22,9 @@ invariant_of-self c =
       room = omega (arith, closed_len s.is_open (hash_map_len s.call.places) s.closed c.requires.closed);
       flush_room = s.flush_room;
       few = each_way c.put.result
-        (λ count. omega (arith, count, fits, stands, same, s.few))
-        (λ count. omega (arith, count, s.few))
-        c.put.ensures.pages c.put.ensures.pages_at_err;
+          (λ count. omega (arith, count, fits, stands, same, s.few))
+          (λ count. omega (arith, count, s.few))
+          c.put.ensures.pages c.put.ensures.pages_at_err;
       most_few = s.most_few;
       few_frozen = s.few_frozen;
       closed = s.closed;
@@ -35,9 +34,9 @@ invariant_of-self c =
       len = s.len;
       call_keeps = s.call_keeps;
       group_keeps = each_way c.put.result
-        (λ value. keeps_set c.args.at c.args.page (change_at s.group) (change_at c.put.new.self) value c.requires.kept s.group_keeps)
-        (λ same. subst (λ (f : ChangeMap). KeepsFreemap f) (sym same) s.group_keeps)
-        c.put.ensures.ok c.put.ensures.err;
+          (λ value. keeps_set c.args.at c.args.page (change_at s.group) (change_at c.put.new.self) value c.requires.kept s.group_keeps)
+          (λ same. subst (λ (f : ChangeMap). KeepsFreemap f) (sym same) s.group_keeps)
+          c.put.ensures.ok c.put.ensures.err;
       frozen_keeps = s.frozen_keeps;
     }
 
@@ -53,19 +52,20 @@ returns-clause-ok c =
     (λ value count. record {
       flush = record { committed = refl; frozen = refl; frozen_group = refl; boundary = refl };
       current = (λ i. over (none i) (over (value i) frozen)) ∙ over_set c.args.at page (change_at s.group) frozen ∙
-        sym (λ i. set_at c.args.at page (over (none i) (over (change_at s.group) frozen)));
+          sym (λ i. set_at c.args.at page (over (none i) (over (change_at s.group) frozen)));
       begin = (λ i. if shut i then Some (over (change_at c.put.new.self) frozen) else None) ∙ sym (λ i. if shut i then Some (over (change_at s.group) frozen) else None);
       sets = subst (λ (b : Bool). MatchOption (if b then Some (over (change_at s.group) frozen) else None)
           (HasChanged c.args.at (over (change_at s.call) (over (change_at s.group) frozen) c.args.at) page
-            (set_of (change_at s.group) s.group.pages) (set_of (change_at c.put.new.self) c.put.new.self.pages)
-            × (set_of (change_at s.call) s.call.pages ≡ set_of (change_at s.call) s.call.pages))
+          (set_of (change_at s.group) s.group.pages) (set_of (change_at c.put.new.self) c.put.new.self.pages)
+          × (set_of (change_at s.call) s.call.pages ≡ set_of (change_at s.call) s.call.pages))
           (λ _. HasChanged c.args.at (over (change_at s.call) (over (change_at s.group) frozen) c.args.at) page
-            (set_of (change_at s.call) s.call.pages) (set_of (change_at s.call) s.call.pages)
-            × (set_of (change_at c.put.new.self) c.put.new.self.pages ≡ set_of (change_at s.group) s.group.pages)))
-        (sym shut)
-        (subst (λ (f : ChangeMap). HasChanged c.args.at (over f (over (change_at s.group) frozen) c.args.at) page
-            (set_of (change_at s.group) s.group.pages) (set_of (change_at c.put.new.self) c.put.new.self.pages)) (sym none)
-          (has_changed c.args.at page (change_at s.group) (change_at c.put.new.self) s.group.pages c.put.new.self.pages frozen value count),
-          refl);
+          (set_of (change_at s.call) s.call.pages) (set_of (change_at s.call) s.call.pages)
+          × (set_of (change_at c.put.new.self) c.put.new.self.pages ≡ set_of (change_at s.group) s.group.pages)))
+          (sym shut) (
+            subst (λ (f : ChangeMap). HasChanged c.args.at (over f (over (change_at s.group) frozen) c.args.at) page
+                (set_of (change_at s.group) s.group.pages) (set_of (change_at c.put.new.self) c.put.new.self.pages)) (sym none)
+                (has_changed c.args.at page (change_at s.group) (change_at c.put.new.self) s.group.pages c.put.new.self.pages frozen value count),
+            refl,
+          );
     })
     c.put.ensures.ok c.put.ensures.pages

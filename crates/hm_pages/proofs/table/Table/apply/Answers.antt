@@ -1,13 +1,12 @@
 use Rattle.std.specs.Prelude.{nat_eq}
 use Rattle.std.specs.List.{IsDistinct}
 use Rattle.std.specs.Map.{keys_of}
-use Rattle.std.specs.HashMap.{HashMap}
-use Rattle.std.proofs.Common.{ℕ, Option, subst, ◌≡◌, ◌∷◌, ◌≤◌, ◌+◌, ◌<◌, ◌∙◌, sym, ap, arith, length, Some, option_map}
+use Rattle.std.proofs.Common.{ℕ, Option, subst, ◌≡◌, ◌∷◌, ◌∙◌, sym, ap, arith, length, option_map}
 use Rattle.std.proofs.lemmas.Map.Iter.{rest_more, rest_all}
 use Rattle.hm_pages.specs.Table.{page_at}
 use Rattle.hm_pages.specs.Counts.{Boxed, bytes_of}
 use Rattle.hm_pages.specs.Maps.{set_at}
-use Rattle.hm_pages.proofs.FoldLemmas.{folded, folded_more, folded_done, folded_over}
+use Rattle.hm_pages.proofs.FoldLemmas.{folded_more, folded_done, folded_over}
 use Rattle.hm_pages.proofs.table.Table.apply.Goals as goal
 
 pub loop-at-preserved-in-Some-change : goal.loop-at-preserved-in-Some-change
@@ -39,4 +38,4 @@ returns c =
     let done = rest_all (λ x. x) c.loop-at.at-iterator c.next.new.self _ c.in-None.is c.next.ensures.steps in
     sym (folded_done (option_map bytes_of) (page_at c.loop-at.self) c.loop-at.at-iterator done) ∙ c.loop-at.invariant.value ∙
     folded_over (page_at c.args.self.now) c.args.changes.places.entries
-        (subst (λ m. IsDistinct nat_eq (keys_of m.entries)) c.into_places-at-items.ensures c.into_iter-at-iterator.ensures.into_iter_gives.4)
+    (subst (λ m. IsDistinct nat_eq (keys_of m.entries)) c.into_places-at-items.ensures c.into_iter-at-iterator.ensures.into_iter_gives.4)

@@ -1,5 +1,5 @@
 -- The changes that are left, made one after another, give what all of them give.
-use Rattle.std.proofs.Common.{◌≡◌, ◌≤◌, ℕ, List, option_map, length}
+use Rattle.std.proofs.Common.{◌≡◌, ◌≤◌, option_map, length}
 use Rattle.std.specs.HashMap.{spare}
 use Rattle.hm_pages.specs.Table.{page_at}
 use Rattle.hm_pages.specs.Counts.{bytes_of}
