@@ -335,3 +335,6 @@ impl PageStore {
         }
     }
 }
+
+#[cfg(test)]
+mod tests;
