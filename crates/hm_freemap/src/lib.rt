@@ -1,0 +1,11 @@
+//! The freemap of a volume in two layers: which zone a big-block belongs to, how far it is filled, and
+//! how many of its bytes are free.
+#![tactic(auto)]
+
+mod entry;
+mod layer1;
+mod place;
+
+pub use entry::{Entry, UNUSED};
+pub use layer1::{layer1_offset, read_layer1, write_layer1};
+pub use place::{page_of, place_of};
