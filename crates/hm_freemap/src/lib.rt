@@ -4,8 +4,11 @@
 
 mod entry;
 mod layer1;
+mod pages;
 mod place;
+mod scan;
 
 pub use entry::{Entry, UNUSED};
 pub use layer1::{layer1_offset, read_layer1, write_layer1};
+pub use pages::FreemapPages;
 pub use place::{page_of, place_of};
