@@ -1,2 +1,5 @@
 pub mod PlaceLemmas
 pub mod PutLemmas
+pub mod ScanLemmas
+pub mod SheetLemmas
+pub mod ToldLemmas

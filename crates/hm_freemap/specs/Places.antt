@@ -1,5 +1,5 @@
 -- Where the entries of layer 2 stand. Its big-blocks follow one another, so its pages do, each with 256 entries.
-use Rattle.std.specs.Prelude.{ℕ, ◌+◌, ◌*◌, ◌/◌, ◌%◌}
+use Rattle.std.specs.Prelude.{ℕ, ◌+◌, ◌*◌, ◌/◌, ◌%◌, ◌<◌, Bool, IsTrue}
 use Rattle.hm_types.specs.Layout.{first_layer2, start_of}
 use Rattle.hm_types.specs.Offset.{raw_of}
 use Rattle.hm_types.specs.declared.limits.TheConstants.{PAGE_BYTES}
@@ -16,3 +16,7 @@ page_of block = raw_of FREEMAP_ZONE (start_of first_layer2 + block / entries_per
 -- where in that page it begins, in bytes
 unfoldable pub place_of : ℕ → ℕ
 place_of block = block % entries_per_page * 16
+
+-- at each page of layer 2 of so many big-blocks one stands
+abbrev pub HasLayer2 : ℕ → (ℕ → Bool) → Type 0
+HasLayer2 bigblocks layer2 = (block : ℕ) → block < bigblocks → IsTrue (layer2 (page_of block))

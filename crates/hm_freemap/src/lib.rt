@@ -6,7 +6,9 @@ mod entry;
 mod layer1;
 mod pages;
 mod place;
+mod pool_entry;
 mod scan;
+mod sheets;
 
 pub use entry::{Entry, UNUSED};
 pub use layer1::{layer1_offset, read_layer1, write_layer1};

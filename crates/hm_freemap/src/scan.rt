@@ -1,36 +1,35 @@
 // A look for free big-blocks, through the entries of the pool.
-ghost use Rattle.std.specs.Prelude.{◌≡◌, ◌≤◌, ◌<◌, ◌+◌, ◌-◌, ◌↔◌, ℕ, Bool, [], OnOk, IfErr, IsTrue, IsSome, IfSome};
+ghost use Rattle.std.specs.Prelude.{
+    ◌≡◌, ◌≤◌, ◌<◌, ◌+◌, ◌-◌, ◌↔◌, ◌++◌, ℕ, Bool, List, [], ◌∷◌, OnOk, IfOk, IfErr, IsTrue, IsSome, IfSome,
+};
 ghost use Rattle.std.specs.List.{range_with_len};
-ghost use Rattle.hm_types.specs.References.{is_append};
-ghost use Rattle.hm_freemap.specs.Entry.{entry_in};
-ghost use Rattle.hm_freemap.specs.Places.{place_of};
-ghost use Rattle.hm_freemap.specs.Stand.{HoldsPoolEntry, is_clear_in, is_free_in};
-ghost use Rattle.hm_freemap.specs.Scan.{Finds};
+ghost use Rattle.hm_types.specs.Layout.{IsPool};
+ghost use Rattle.hm_types.specs.References.{is_append, pool};
+ghost use Rattle.hm_types.specs.declared.limits.TheConstants.{LEAST_BIGBLOCKS, MOST_BIGBLOCKS};
+ghost use Rattle.hm_freemap.specs.Faults.{HasFreemapCause};
+ghost use Rattle.hm_freemap.specs.Places.{HasLayer2};
+ghost use Rattle.hm_freemap.specs.Scan.{Finds, AllHold, IsAgreed};
+ghost use Rattle.hm_freemap.specs.Stand.{WhereTold, is_free_by, is_free_in};
 
-use crate::entry::Entry;
-use crate::place::place_of;
-use hm_fields::Page;
-use hm_types::BIGBLOCK_BYTES;
+use crate::pages::FreemapPages;
+use crate::pool_entry::{bad_entry, is_clear};
+use crate::sheets::Sheets;
+use hm_types::{Fault, first_pool};
 
-// The free big-blocks that a look has found.
+/// The free big-blocks that a look has found.
+#[derive(Drop)]
 pub(crate) struct Found {
-    // How many there are.
+    /// How many there are.
     pub(crate) count: u32,
-    // The first four of them.
+    /// The first four of them.
     pub(crate) first: [u32; 4],
 }
 
-// The pages of the three states that have the entries of the same big-blocks.
-pub(crate) struct Sheets {
-    pub(crate) committed: Page,
-    pub(crate) frozen: Page,
-    pub(crate) current: Page,
-}
-
 impl Found {
-    // None.
-    pub(crate) fn none() -> Found
-        ensures { (free : ℕ → Bool) (limit : ℕ) → Finds free limit [] result }
+    /// None.
+    fn none() -> Found
+        ensures none { result.count ≡ 0 }
+        ensures found { (free : ℕ → Bool) (limit : ℕ) → Finds free limit [] result }
     {
         Found {
             count: 0,
@@ -39,34 +38,86 @@ impl Found {
     }
 
     // One more.
-    fn add(&mut self, block: u32)
-        requires { self.old.count < 1048576 }
+    fn add(&mut self, block: u32, limit: u32)
+        requires { self.old.count < limit }
         ensures count { self.new.count ≡ self.old.count + 1 }
+        ensures found { (free : ℕ → Bool) (blocks : List ℕ) → IsTrue (free block) →
+            Finds free limit blocks self.old → Finds free limit (blocks ++ block ∷ []) self.new }
     {
         if self.count < 4 {
             self.first[self.count as usize] = block;
         }
         self.count += 1;
     }
+
+    // Looks at the big-blocks from one to before another, whose entries stand on these pages, until
+    // so many were found. A big-block that has none is an error.
+    fn look(
+        &mut self,
+        sheets: &Sheets,
+        append: &[u32; 4],
+        from: u32,
+        to: u32,
+        limit: u32,
+    ) -> Result<(), u32>
+        requires order { from ≤ to }
+        requires few { self.old.count ≤ limit }
+        ensures few { self.new.count ≤ limit }
+        ensures ok { OnOk result ((free : ℕ → Bool) (first : ℕ) → first ≤ from →
+            IsAgreed free append.now sheets.now from to →
+            Finds free limit (range_with_len first (from - first)) self.old →
+            Finds free limit (range_with_len first (to - first)) self.new) }
+        ensures err { IfErr result (λ block. (from ≤ block) × (block < to)
+            × (AllHold sheets.now block → ⊥)) }
+    {
+        for block in from..to {
+            if self.count == limit {
+                return Ok(());
+            }
+            self.look_at(sheets, append, block, limit)?;
+        }
+        Ok(())
+    }
+
+    // Looks at one.
+    fn look_at(
+        &mut self,
+        sheets: &Sheets,
+        append: &[u32; 4],
+        block: u32,
+        limit: u32,
+    ) -> Result<(), u32>
+        requires { self.old.count < limit }
+        ensures few { self.new.count ≤ limit }
+        ensures ok { OnOk result ((free : ℕ → Bool) (blocks : List ℕ) →
+            free block ≡ is_free_in append.now
+                sheets.now.committed sheets.now.frozen sheets.now.current block →
+            Finds free limit blocks self.old → Finds free limit (blocks ++ block ∷ []) self.new) }
+        ensures err { IfErr result (λ bad. (bad ≡ block) × (AllHold sheets.now block → ⊥)) }
+    {
+        match is_free(sheets, append, block) {
+            Some(true) => {
+                self.add(block, limit);
+                Ok(())
+            }
+            Some(false) => Ok(()),
+            None => Err(block),
+        }
+    }
 }
 
-// The entry that a page has for a big-block of the pool. None where it is out of range or that of
-// another kind of big-block.
-pub(crate) fn pool_entry(page: &Page, block: u64) -> Option<Entry>
-    ensures some { IsSome result ↔ HoldsPoolEntry page.now block }
-    ensures value { IfSome result (λ entry. entry ≡ entry_in page.now (place_of block)) }
+// Whether a big-block is free by the entries on these pages. None where one of them is none of the
+// pool.
+fn is_free(sheets: &Sheets, append: &[u32; 4], block: u32) -> Option<bool>
+    ensures some { IsSome result ↔ AllHold sheets.now block }
+    ensures value { IfSome result (λ free. free ≡ is_free_in append.now
+        sheets.now.committed sheets.now.frozen sheets.now.current block) }
 {
-    let entry = Entry::read(page, place_of(block))?;
-    if entry.is_of_pool() { Some(entry) } else { None }
-}
-
-// Whether all bytes of a big-block of the pool are free, by the entry that a page has for it.
-fn is_clear(page: &Page, block: u64) -> Option<bool>
-    ensures some { IsSome result ↔ HoldsPoolEntry page.now block }
-    ensures value { IfSome result (λ clear. clear ≡ is_clear_in page.now block) }
-{
-    let entry = pool_entry(page, block)?;
-    Some(entry.bytes_free == BIGBLOCK_BYTES as i32)
+    let number = u64::from(block);
+    let committed = is_clear(&sheets.committed, number)?;
+    let frozen = is_clear(&sheets.frozen, number)?;
+    let current = is_clear(&sheets.current, number)?;
+    Some(!is_one_of(append, block) && committed && frozen && current)
 }
 
 // Whether a big-block is one of the four.
@@ -74,4 +125,42 @@ fn is_one_of(append: &[u32; 4], block: u32) -> bool
     ensures { result ≡ is_append append.now block }
 {
     append.iter().any(|b| *b == block)
+}
+
+/// Looks for free big-blocks in the pool, until so many were found.
+pub(crate) fn scan<P: FreemapPages>(
+    pages: &mut P,
+    bigblocks: u32,
+    append: &[u32; 4],
+    limit: u32,
+) -> Result<Found, Fault>
+    requires least { LEAST_BIGBLOCKS ≤ bigblocks }
+    requires most { bigblocks ≤ MOST_BIGBLOCKS }
+    requires there { HasLayer2 bigblocks (P.layer2 pages.old) }
+    ensures ok { IfOk result (λ found.
+        WhereTold (P.committed pages.old) (P.frozen pages.old) (P.pages pages.old) (λ maps.
+            Finds (is_free_by append.now maps) limit (pool bigblocks) found)) }
+    ensures same { (P.pages pages.new ≡ P.pages pages.old)
+        × (P.committed pages.new ≡ P.committed pages.old)
+        × (P.frozen pages.new ≡ P.frozen pages.old)
+        × (P.layer2 pages.new ≡ P.layer2 pages.old) }
+    ensures rest { P.rest pages.new ≡ P.rest pages.old }
+    ensures name { P.name pages.new ≡ P.name pages.old }
+    ensures frame { P.frame pages.new ≡ P.frame pages.old }
+    ensures cause { HasFreemapCause bigblocks append.now (IsPool bigblocks)
+        (P.committed pages.old) (P.frozen pages.old) (P.pages pages.old)
+        (P.faults pages.old) (P.faults pages.new) result }
+{
+    let mut found = Found::none();
+    let mut sheets = Sheets::zero();
+    let mut from = first_pool(bigblocks);
+    while from < bigblocks && found.count < limit {
+        let to = bigblocks.min((from / 256 + 1) * 256);
+        sheets.read(pages, u64::from(from))?;
+        match found.look(&sheets, append, from, to, limit) {
+            Ok(()) => from = to,
+            Err(block) => return Err(bad_entry(u64::from(block))),
+        }
+    }
+    Ok(found)
 }
