@@ -1,3 +1,5 @@
+pub mod CountLemmas
+pub mod FreeLemmas
 pub mod PlaceLemmas
 pub mod PutLemmas
 pub mod ScanLemmas

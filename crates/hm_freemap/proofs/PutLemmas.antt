@@ -48,9 +48,9 @@ module _ (block : ℕ) (entry : Entry) (was is : List ℕ) (old new : PageMap)
   field : (other k size : ℕ) → other ≢ block → k + size ≤ 16 → get (entry_page new other) (place_of other + k) size ≡ get (entry_page old other) (place_of other + k) size
   field other k size apart within = ⊎_elim
       (λ (same : page_of other ≡ page_of block).
-        let now : entry_page new other ≡ is = ap page_in (ap new same ∙ put_at (page_of block) is old new put) in
-        let before : entry_page old other ≡ was = ap page_in (ap old same ∙ read) in
-        rw (now, before) (others (place_of other + k) size (places_apart block other k size (λ e. apart (sym e)) (sym same) within)))
+      let now : entry_page new other ≡ is = ap page_in (ap new same ∙ put_at (page_of block) is old new put) in
+      let before : entry_page old other ≡ was = ap page_in (ap old same ∙ read) in
+      rw (now, before) (others (place_of other + k) size (places_apart block other k size (λ e. apart (sym e)) (sym same) within)))
       (λ elsewhere. ap (λ (o : Option (List ℕ)). get (page_in o) (place_of other + k) size) (put_other (page_of block) is old new put (page_of other) elsewhere))
       (cases_eq (page_of other) (page_of block))
 

@@ -5,13 +5,11 @@ use Rattle.std.specs.List.{range_with_len}
 use Rattle.std.proofs.lemmas.Bool.{cases_lt}
 use Rattle.std.proofs.lemmas.List.{get_or_append_left}
 use Rattle.std.proofs.lemmas.List.Elements.{filter-append}
-use Rattle.std.proofs.lemmas.List.Sums.{sum_by-append, length-filter}
+use Rattle.std.proofs.lemmas.List.Sums.{length-filter}
 use Rattle.std.proofs.Math.Seq.{get_or-append_seam}
+use Rattle.hm_freemap.proofs.CountLemmas.{count-append}
 use Rattle.hm_freemap.specs.Scan.{Finds}
 use Rattle.hm_freemap.specs.declared.scan.Found.{Found}
-
-pub count-append : (free : ℕ → Bool) (xs ys : List ℕ) → count_by free (xs ++ ys) ≡ count_by free xs + count_by free ys
-count-append free xs ys = sum_by-append (λ x. cond (free x) 1 0) xs ys
 
 -- a further big-block that is free
 pub finds_one : (free : ℕ → Bool) (limit : ℕ) (blocks : List ℕ) (block : ℕ) (old : Found) (first : List ℕ)
@@ -28,12 +26,12 @@ finds_one free limit blocks block old first is below same here finds =
       count = omega (arith, finds.count, one, all);
       first = λ i low few. ⊎_elim
           (λ (before : i < old.count).
-            same i before few ∙ finds.first i before few
-            ∙ rw filtered (sym (get_or_append_left (filter free blocks) (block ∷ []) 0 i (omega (arith, sized, finds.count)))))
+          same i before few ∙ finds.first i before few
+          ∙ rw filtered (sym (get_or_append_left (filter free blocks) (block ∷ []) 0 i (omega (arith, sized, finds.count)))))
           (λ past.
-            let at : i ≡ old.count = omega arith in
-            let end : length (filter free blocks) ≡ old.count = omega (arith, sized, finds.count) in
-            rw (at, here (omega arith), filtered, ← end) (sym (get_or-append_seam (filter free blocks) block [] 0)))
+          let at : i ≡ old.count = omega arith in
+          let end : length (filter free blocks) ≡ old.count = omega (arith, sized, finds.count) in
+          rw (at, here (omega arith), filtered, ← end) (sym (get_or-append_seam (filter free blocks) block [] 0)))
           (cases_lt i old.count);
     }
 

@@ -4,3 +4,4 @@ pub mod Places
 pub mod Stand
 pub mod Faults
 pub mod Scan
+pub mod Calls

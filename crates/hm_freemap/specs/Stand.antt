@@ -128,3 +128,7 @@ pub record EntryPut (block : ℕ) (entry : Entry) (old new : PageMap) : Type 0 w
 -- one reference more in the current state
 abbrev pub with_reference : Reference → References → References
 with_reference r states = record states { current = r ∷ states.current }
+
+-- the append big-blocks lie on the volume
+abbrev pub AreBelow : ℕ → List ℕ → Type 0
+AreBelow bigblocks append = (k : ℕ) → k < 4 → slice_index append k < bigblocks

@@ -3,6 +3,7 @@
 #![tactic(auto)]
 
 mod entry;
+mod freemap;
 mod layer1;
 mod pages;
 mod place;
@@ -11,6 +12,7 @@ mod scan;
 mod sheets;
 
 pub use entry::{Entry, UNUSED};
+pub use freemap::Freemap;
 pub use layer1::{layer1_offset, read_layer1, write_layer1};
 pub use pages::FreemapPages;
 pub use place::{page_of, place_of};

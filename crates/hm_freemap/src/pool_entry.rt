@@ -18,7 +18,11 @@ pub(crate) fn pool_entry(page: &Page, block: u64) -> Option<Entry>
     ensures value { IfSome result (λ entry. entry ≡ entry_in page.now (place_of block)) }
 {
     let entry = Entry::read(page, place_of(block))?;
-    if entry.is_of_pool() { Some(entry) } else { None }
+    if entry.is_of_pool() {
+        Some(entry)
+    } else {
+        None
+    }
 }
 
 /// Whether all bytes of a big-block of the pool are free, by the entry that a page has for it.

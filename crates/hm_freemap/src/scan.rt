@@ -1,6 +1,23 @@
 // A look for free big-blocks, through the entries of the pool.
 ghost use Rattle.std.specs.Prelude.{
-    ◌≡◌, ◌≤◌, ◌<◌, ◌+◌, ◌-◌, ◌↔◌, ◌++◌, ℕ, Bool, List, [], ◌∷◌, OnOk, IfOk, IfErr, IsTrue, IsSome, IfSome,
+  ◌≡◌,
+  ◌≤◌,
+  ◌<◌,
+  ◌+◌,
+  ◌-◌,
+  ◌↔◌,
+  ◌++◌,
+  ℕ,
+  Bool,
+  List,
+  [],
+  ◌∷◌,
+  OnOk,
+  IfOk,
+  IfErr,
+  IsTrue,
+  IsSome,
+  IfSome,
 };
 ghost use Rattle.std.specs.List.{range_with_len};
 ghost use Rattle.hm_types.specs.Layout.{IsPool};
@@ -91,7 +108,7 @@ impl Found {
         ensures few { self.new.count ≤ limit }
         ensures ok { OnOk result ((free : ℕ → Bool) (blocks : List ℕ) →
             free block ≡ is_free_in append.now
-                sheets.now.committed sheets.now.frozen sheets.now.current block →
+            sheets.now.committed sheets.now.frozen sheets.now.current block →
             Finds free limit blocks self.old → Finds free limit (blocks ++ block ∷ []) self.new) }
         ensures err { IfErr result (λ bad. (bad ≡ block) × (AllHold sheets.now block → ⊥)) }
     {
@@ -139,7 +156,7 @@ pub(crate) fn scan<P: FreemapPages>(
     requires there { HasLayer2 bigblocks (P.layer2 pages.old) }
     ensures ok { IfOk result (λ found.
         WhereTold (P.committed pages.old) (P.frozen pages.old) (P.pages pages.old) (λ maps.
-            Finds (is_free_by append.now maps) limit (pool bigblocks) found)) }
+        Finds (is_free_by append.now maps) limit (pool bigblocks) found)) }
     ensures same { (P.pages pages.new ≡ P.pages pages.old)
         × (P.committed pages.new ≡ P.committed pages.old)
         × (P.frozen pages.new ≡ P.frozen pages.old)

@@ -99,10 +99,10 @@ returns-clause-ok g c =
           (λ maps finds. finds_rest (is_free_by append maps) c.args.limit first from c.args.bigblocks c.loop-from.found invariant.low invariant.high (omega arith) finds)
           invariant.found
       | else-loop-from-test w ↦
-        let end : from ≡ c.args.bigblocks = omega arith in
-        where_map committed frozen current
-        (λ maps. Finds (is_free_by append maps) c.args.limit (range_with_len first (from - first)) c.loop-from.found)
-        (λ maps. Finds (is_free_by append maps) c.args.limit (pool c.args.bigblocks) c.loop-from.found)
-        (λ maps finds. subst (λ (to : ℕ). Finds (is_free_by append maps) c.args.limit (range_with_len first (to - first)) c.loop-from.found) end finds)
-        invariant.found
+          let end : from ≡ c.args.bigblocks = omega arith in
+          where_map committed frozen current
+          (λ maps. Finds (is_free_by append maps) c.args.limit (range_with_len first (from - first)) c.loop-from.found)
+          (λ maps. Finds (is_free_by append maps) c.args.limit (pool c.args.bigblocks) c.loop-from.found)
+          (λ maps finds. subst (λ (to : ℕ). Finds (is_free_by append maps) c.args.limit (range_with_len first (to - first)) c.loop-from.found) end finds)
+          invariant.found
     ]
