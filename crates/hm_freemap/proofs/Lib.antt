@@ -1,3 +1,4 @@
+pub mod BoundLemmas
 pub mod CountLemmas
 pub mod FreeLemmas
 pub mod PlaceLemmas

@@ -5,3 +5,5 @@ pub mod Stand
 pub mod Faults
 pub mod Scan
 pub mod Calls
+pub mod Change
+pub mod Extents

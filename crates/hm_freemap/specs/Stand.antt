@@ -125,10 +125,6 @@ pub record EntryPut (block : ℕ) (entry : Entry) (old new : PageMap) : Type 0 w
   pub zeros : (other : ℕ) → other ≢ block → get (entry_page new other) (place_of other + 12) 4 ≡ get (entry_page old other) (place_of other + 12) 4
   pub pages : (at : ℕ) → at ≢ page_of block → new at ≡ old at
 
--- one reference more in the current state
-abbrev pub with_reference : Reference → References → References
-with_reference r states = record states { current = r ∷ states.current }
-
 -- the append big-blocks lie on the volume
 abbrev pub AreBelow : ℕ → List ℕ → Type 0
 AreBelow bigblocks append = (k : ℕ) → k < 4 → slice_index append k < bigblocks

@@ -1,8 +1,9 @@
 // An entry of layer 2.
-ghost use Rattle.std.specs.Prelude.{◌≡◌, ◌≤◌, ◌+◌, ◌%◌, ◌↔◌, ℕ, IsTrue, IsSome, IfSome, length};
+ghost use Rattle.std.specs.Prelude.{◌≡◌, ◌≤◌, ◌+◌, ◌-◌, ◌%◌, ◌^◌, ◌↔◌, ℕ, pos, min, IsTrue, IsSome, IfSome, length};
 ghost use Rattle.hm_types.specs.References.{unit_of};
 ghost use Rattle.hm_types.specs.declared.limits.TheConstants.{PAGE_BYTES, MOST_BIGBLOCKS};
 ghost use Rattle.hm_fields.specs.Fields.{Apart, get};
+ghost use Rattle.hm_freemap.specs.Change.{HasRoomFor, appended, shared, given};
 ghost use Rattle.hm_freemap.specs.Entry.{
   entry_in,
   HoldsEntry,
@@ -122,6 +123,48 @@ impl Entry {
         self.zone == UNAVAILABLE_ZONE && self.is_in_range()
     }
 
+    /// The entry after an extent of `size` bytes was appended in a zone. None where the big-block
+    /// belongs to another zone, or has too few bytes left.
+    pub(crate) fn extended(&self, zone: u8, size: u64) -> Option<Entry>
+        requires { size ≤ 2 ^ 33 }
+        ensures some { IsSome result ↔ HasRoomFor zone size self.now }
+        ensures value { IfSome result (λ entry. entry ≡ appended size self.now) }
+    {
+        let end = u64::from(self.append_off) + size;
+        if self.zone != zone || end > BIGBLOCK_BYTES {
+            return None;
+        }
+        Some(Entry {
+            zone: self.zone,
+            append_off: end as u32,
+            bytes_free: self.bytes_free.saturating_sub(signed(size)),
+        })
+    }
+
+    /// The entry after `size` bytes of the big-block became live.
+    pub(crate) fn shared(&self, size: u64) -> Entry
+        requires { size ≤ 2 ^ 33 }
+        ensures { result ≡ shared size self.now }
+    {
+        Entry {
+            zone: self.zone,
+            append_off: self.append_off,
+            bytes_free: self.bytes_free.saturating_sub(signed(size)),
+        }
+    }
+
+    /// The entry after `size` bytes of the big-block became free.
+    pub(crate) fn given(&self, size: u64) -> Entry
+        requires { size ≤ 2 ^ 33 }
+        ensures { result ≡ given size self.now }
+    {
+        Entry {
+            zone: self.zone,
+            append_off: self.append_off,
+            bytes_free: self.bytes_free.saturating_add(signed(size)),
+        }
+    }
+
     // Whether it may be that of a big-block of the pool that belongs to a zone.
     fn is_owned(&self) -> bool
         ensures { IsTrue result ↔ IsOwned self.now }
@@ -161,4 +204,12 @@ fn is_whole(zone: u8, offset: u32) -> bool
     } else {
         offset % 16 == 0
     }
+}
+
+// A number of bytes as it is taken off those that are free. No extent has as many as do not fit.
+fn signed(size: u64) -> i32
+    requires { size ≤ 2 ^ 33 }
+    ensures { result ≡ pos (min size (2 ^ 31 - 1)) }
+{
+    size.min(2_147_483_647) as i32
 }

@@ -3,6 +3,7 @@
 #![tactic(auto)]
 
 mod entry;
+mod extents;
 mod freemap;
 mod layer1;
 mod pages;
