@@ -45,11 +45,11 @@ total-within from to a (suc n) end =
     ⊎_elim
     (λ (before : a < from). omega (arith, rest, before))
     (λ later. ⊎_elim
-      (λ (inside : a < to).
-        let one : bit (within from to a) ≡ 1 = ap bit (within_is from to a later inside) in
-        omega (arith, rest, one, later, inside))
-      (λ past. omega (arith, rest, later, past))
-      (cases_lt a to))
+    (λ (inside : a < to).
+    let one : bit (within from to a) ≡ 1 = ap bit (within_is from to a later inside) in
+    omega (arith, rest, one, later, inside))
+    (λ past. omega (arith, rest, later, past))
+    (cases_lt a to))
     (cases_lt a from)
 
 -- whether an extent has a byte
@@ -120,15 +120,15 @@ live_total bigblocks block start size (r ∷ rs) begin whole placed =
     let sum = total-add (λ x. bit (covers x r)) (λ x. count_by (covers x) rs) (λ x. count_by (covers x) (r ∷ rs)) start size (λ x. count-cons (covers x) r rs) in
     let first : cond (is_in block r) (rounded r.len) 0 ≤ total (λ x. bit (covers x r)) start size = by_place (is_in block r) refl in
     omega (arith, rest, sum, first) where
-  by_place : (b : Bool) → is_in block r ≡ b → cond b (rounded r.len) 0 ≤ total (λ x. bit (covers x r)) start size
-  by_place false is = omega arith
-  by_place true is =
-      let here : block_of (begin_of r) ≡ block = eqb-true (block_of (begin_of r)) block is in
-      let mine = All-head (IsPlaced bigblocks) r rs placed in
-      let low = placed_low bigblocks r mine in
-      let high = placed_high bigblocks r mine in
-      let all : end_of r ≤ start + size = omega (arith, high, here, begin, whole) in
-      omega (arith, total-within (begin_of r) (end_of r) start size all, low, here, begin)
+      by_place : (b : Bool) → is_in block r ≡ b → cond b (rounded r.len) 0 ≤ total (λ x. bit (covers x r)) start size
+      by_place false is = omega arith
+      by_place true is =
+          let here : block_of (begin_of r) ≡ block = eqb-true (block_of (begin_of r)) block is in
+          let mine = All-head (IsPlaced bigblocks) r rs placed in
+          let low = placed_low bigblocks r mine in
+          let high = placed_high bigblocks r mine in
+          let all : end_of r ≤ start + size = omega (arith, high, here, begin, whole) in
+          omega (arith, total-within (begin_of r) (end_of r) start size all, low, here, begin)
 
 live_bound : (bigblocks block start size : ℕ) (rs : List Reference) → start ≡ start_of block → size ≡ BIGBLOCK_BYTES → All (IsPlaced bigblocks) rs → NoneOverlap rs → AreFew rs
     → live_bytes rs block ≤ MOST_REFERENCES * size

@@ -1,8 +1,14 @@
 pub mod BoundLemmas
+pub mod CauseLemmas
 pub mod CountLemmas
+pub mod EntryLemmas
+pub mod ExtentLemmas
 pub mod FreeLemmas
+pub mod ListLemmas
 pub mod PlaceLemmas
 pub mod PutLemmas
 pub mod ScanLemmas
 pub mod SheetLemmas
+pub mod StandLemmas
+pub mod TakeLemmas
 pub mod ToldLemmas

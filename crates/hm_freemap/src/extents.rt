@@ -7,7 +7,14 @@ ghost use Rattle.hm_types.specs.declared.limits.TheConstants.{LEAST_BIGBLOCKS, M
 ghost use Rattle.hm_types.specs.declared.zone.TheConstants.{TREE_ZONE, SMALL_ZONE};
 ghost use Rattle.hm_freemap.specs.Entry.{entry_in};
 ghost use Rattle.hm_freemap.specs.Extents.{
-    Moves, Takes, Changes, IsReferred, IsShareable, referred, unreferred, reference,
+  Moves,
+  Takes,
+  Changes,
+  IsReferred,
+  IsShareable,
+  referred,
+  unreferred,
+  reference,
 };
 ghost use Rattle.hm_freemap.specs.Faults.{HasFreemapCause};
 ghost use Rattle.hm_freemap.specs.Places.{HasLayer2, page_of, place_of};
@@ -78,8 +85,8 @@ impl<P: FreemapPages> Freemap<P> {
         requires room { rounded len ≤ room self.old.append (P.pages self.old.pages) zone }
         ensures ok { IfOk result (λ at.
             Moves (P.committed self.old.pages) (P.frozen self.old.pages)
-                (P.pages self.old.pages) (P.pages self.new.pages)
-                (Takes self.old.bigblocks self.old.append zone len at)) }
+            (P.pages self.old.pages) (P.pages self.new.pages)
+            (Takes self.old.bigblocks self.old.append zone len at)) }
         ensures same { (P.rest self.new.pages ≡ P.rest self.old.pages)
             × (self.new.append ≡ self.old.append) × (self.new.bigblocks ≡ self.old.bigblocks) }
         ensures name { P.name self.new.pages ≡ P.name self.old.pages }
@@ -105,7 +112,7 @@ impl<P: FreemapPages> Freemap<P> {
         ensures ok { OnOk result (Moves (P.committed self.old.pages) (P.frozen self.old.pages)
             (P.pages self.old.pages) (P.pages self.new.pages)
             (Changes self.old.bigblocks self.old.append (reference at len)
-                (IsReferred (reference at len)) (unreferred (reference at len)))) }
+            (IsReferred (reference at len)) (unreferred (reference at len)))) }
         ensures same { (P.rest self.new.pages ≡ P.rest self.old.pages)
             × (self.new.append ≡ self.old.append) × (self.new.bigblocks ≡ self.old.bigblocks) }
         ensures name { P.name self.new.pages ≡ P.name self.old.pages }
@@ -128,7 +135,7 @@ impl<P: FreemapPages> Freemap<P> {
         ensures ok { OnOk result (Moves (P.committed self.old.pages) (P.frozen self.old.pages)
             (P.pages self.old.pages) (P.pages self.new.pages)
             (Changes self.old.bigblocks self.old.append (reference at len)
-                (IsShareable (reference at len)) (referred (reference at len)))) }
+            (IsShareable (reference at len)) (referred (reference at len)))) }
         ensures same { (P.rest self.new.pages ≡ P.rest self.old.pages)
             × (self.new.append ≡ self.old.append) × (self.new.bigblocks ≡ self.old.bigblocks) }
         ensures name { P.name self.new.pages ≡ P.name self.old.pages }

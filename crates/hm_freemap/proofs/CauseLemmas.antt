@@ -1,0 +1,54 @@
+-- Why calls of a freemap fail, from why the calls of its pages do.
+use Rattle.std.proofs.Common.{◌≡◌, ℕ, ◌+◌, ◌≤◌, List, refl, sym, subst, ◌∙◌, arith, Option, Some, None, Result, Ok, Err}
+use Rattle.std.specs.Prelude.{IfSome, IfErr}
+use Rattle.hm_types.specs.Faults.{HasFaultCause, HasStoreCause, IsCaused, IsUndamaged}
+use Rattle.hm_types.specs.declared.fault.Fault.{Fault}
+use Rattle.hm_types.specs.declared.fault.Fault.TheVariants.{Media, Damaged, NoMemory}
+use Rattle.hm_fields.specs.Pages.{PageMap}
+use Rattle.hm_freemap.specs.Faults.{HasFreemapCause, IsFreemapDamage}
+use Rattle.hm_freemap.specs.Stand.{Maps, WhereTold}
+use Rattle.hm_freemap.proofs.ToldLemmas.{where_all, where_map}
+
+caused_later : (old mid new : ℕ) (fault : Fault) → old ≤ mid → IsCaused mid new fault → IsCaused old new fault
+caused_later old mid new (Media before after) grows cause = record { begin = omega (arith, grows, cause.begin); rose = cause.rose; end = cause.end }
+caused_later old mid new (Damaged at kind) grows cause = tt
+caused_later old mid new NoMemory grows cause = tt
+
+undamaged : (bigblocks : ℕ) (append : List ℕ) (Looked : ℕ → Type 0) (maps : Maps) (fault : Fault) → IsUndamaged fault → IsFreemapDamage bigblocks append Looked maps fault
+undamaged bigblocks append Looked maps (Media before after) none = tt
+undamaged bigblocks append Looked maps (Damaged at kind) none = absurd none
+undamaged bigblocks append Looked maps NoMemory none = tt
+
+-- a call of the pages, after others that only read
+pub cause_later : {T : Type 0} (bigblocks : ℕ) (append : List ℕ) (Looked : ℕ → Type 0) (c f u told : Option PageMap) (old mid new : ℕ) (result : Result T Fault)
+    → old ≤ mid → told ≡ u → HasStoreCause told mid new result → HasFreemapCause bigblocks append Looked c f u old new result
+cause_later bigblocks append Looked c f u told old mid new (Ok x) grows same cause = record {
+  counted = record { never_falls = omega (arith, grows, cause.counted.never_falls); caused = tt };
+  damage = where_all c f u (λ maps. Unit {0}) (λ maps. tt);
+}
+cause_later bigblocks append Looked c f u told old mid new (Err fault) grows same cause = record {
+  counted = record { never_falls = omega (arith, grows, cause.counted.never_falls); caused = caused_later old mid new fault grows cause.counted.caused };
+  damage = by_told c f u (subst (λ (o : Option PageMap). IfSome o (λ _. IsUndamaged fault)) same cause.undamaged);
+} where
+  by_told : (a b o : Option PageMap) → IfSome o (λ _. IsUndamaged fault) → WhereTold a b o (λ maps. IsFreemapDamage bigblocks append Looked maps fault)
+  by_told None b o none = tt
+  by_told (Some x) None o none = tt
+  by_told (Some x) (Some y) None none = tt
+  by_told (Some x) (Some y) (Some z) none = undamaged bigblocks append Looked (record { committed = x; frozen = y; current = z }) fault none
+
+-- a fault that is handed on, which looked at one big-block
+pub cause_on : {T S : Type 0} (bigblocks : ℕ) (append : List ℕ) (block block' : ℕ) (c f u : Option PageMap) (old new : ℕ) (fault : Fault) (result : Result S Fault)
+    → block ≡ block' → result ≡ Err fault → HasFreemapCause {T = T} bigblocks append (λ one. one ≡ block) c f u old new (Err fault)
+    → HasFreemapCause bigblocks append (λ one. one ≡ block') c f u old new result
+cause_on bigblocks append block block' c f u old new fault result at is cause = rw (is, ← at) (record {
+  counted = record { never_falls = cause.counted.never_falls; caused = cause.counted.caused };
+  damage = cause.damage;
+})
+
+-- a call that succeeded
+pub cause_ok : {T : Type 0} (bigblocks : ℕ) (append : List ℕ) (Looked : ℕ → Type 0) (c f u : Option PageMap) (old new : ℕ) (x : T) → old ≤ new
+    → HasFreemapCause bigblocks append Looked c f u old new (Ok x)
+cause_ok bigblocks append Looked c f u old new x grows = record {
+  counted = record { never_falls = grows; caused = tt };
+  damage = where_all c f u (λ maps. Unit {0}) (λ maps. tt);
+}
