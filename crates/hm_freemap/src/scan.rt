@@ -26,7 +26,7 @@ ghost use Rattle.hm_types.specs.declared.limits.TheConstants.{LEAST_BIGBLOCKS, M
 ghost use Rattle.hm_freemap.specs.Faults.{HasFreemapCause};
 ghost use Rattle.hm_freemap.specs.Places.{HasLayer2};
 ghost use Rattle.hm_freemap.specs.Scan.{Finds, AllHold, IsAgreed};
-ghost use Rattle.hm_freemap.specs.Stand.{WhereTold, is_free_by, is_free_in};
+ghost use Rattle.hm_freemap.specs.Stand.{AreBelow, WhereTold, is_free_by, is_free_in};
 
 use crate::pages::FreemapPages;
 use crate::pool_entry::{bad_entry, is_clear};
@@ -47,6 +47,7 @@ impl Found {
     fn none() -> Found
         ensures none { result.count ≡ 0 }
         ensures found { (free : ℕ → Bool) (limit : ℕ) → Finds free limit [] result }
+        ensures below { (bound : ℕ) → 0 < bound → AreBelow bound result.first }
     {
         Found {
             count: 0,
@@ -60,6 +61,8 @@ impl Found {
         ensures count { self.new.count ≡ self.old.count + 1 }
         ensures found { (free : ℕ → Bool) (blocks : List ℕ) → IsTrue (free block) →
             Finds free limit blocks self.old → Finds free limit (blocks ++ block ∷ []) self.new }
+        ensures below { (bound : ℕ) → block < bound → AreBelow bound self.old.first →
+            AreBelow bound self.new.first }
     {
         if self.count < 4 {
             self.first[self.count as usize] = block;
@@ -84,6 +87,8 @@ impl Found {
             IsAgreed free append.now sheets.now from to →
             Finds free limit (range_with_len first (from - first)) self.old →
             Finds free limit (range_with_len first (to - first)) self.new) }
+        ensures below { (bound : ℕ) → to ≤ bound → AreBelow bound self.old.first →
+            AreBelow bound self.new.first }
         ensures err { IfErr result (λ block. (from ≤ block) × (block < to)
             × (AllHold sheets.now block → ⊥)) }
     {
@@ -110,6 +115,8 @@ impl Found {
             free block ≡ is_free_in append.now
             sheets.now.committed sheets.now.frozen sheets.now.current block →
             Finds free limit blocks self.old → Finds free limit (blocks ++ block ∷ []) self.new) }
+        ensures below { (bound : ℕ) → block < bound → AreBelow bound self.old.first →
+            AreBelow bound self.new.first }
         ensures err { IfErr result (λ bad. (bad ≡ block) × (AllHold sheets.now block → ⊥)) }
     {
         match is_free(sheets, append, block) {

@@ -27,6 +27,7 @@ loop-from-init g c =
       others = refl;
       name = refl;
       frame = refl;
+      below = c.none-found.ensures.below c.args.bigblocks (omega (arith, c.requires.least));
       faults = omega arith;
     }
 
@@ -64,6 +65,7 @@ loop-from-preserved g c =
       others = c.in_ok-read.ensures.rest ∙ invariant.others;
       name = c.in_ok-read.ensures.name ∙ invariant.name;
       frame = c.in_ok-read.ensures.frame ∙ invariant.frame;
+      below = c.in-Ok.ensures.below c.args.bigblocks inside invariant.below;
       faults = omega (arith, invariant.faults, c.in_ok-read.ensures.counted.never_falls);
     }
 

@@ -2,7 +2,7 @@ use Rattle.std.proofs.Common.{◌≡◌, ◌≤◌, ◌-◌, ℕ, List}
 use Rattle.std.specs.List.{range_with_len}
 use Rattle.hm_types.specs.Layout.{first_pool}
 use Rattle.hm_freemap.specs.Scan.{Finds}
-use Rattle.hm_freemap.specs.Stand.{WhereTold, is_free_by}
+use Rattle.hm_freemap.specs.Stand.{AreBelow, WhereTold, is_free_by}
 use Rattle.hm_freemap.proofs.scan.scan.Given as goal
 
 abbrev pub invariant-loop-from : goal.invariant-loop-from
@@ -19,6 +19,7 @@ invariant-loop-from g l = record {
   others : g.P.Pages.rest l.pages ≡ g.P.Pages.rest l.fn.pages;
   name : g.P.Counted.name l.pages ≡ g.P.Counted.name l.fn.pages;
   frame : g.P.Counted.frame l.pages ≡ g.P.Counted.frame l.fn.pages;
+  below : AreBelow l.bigblocks l.found.first;
   faults : g.P.Counted.faults l.fn.pages ≤ g.P.Counted.faults l.pages;
 }
 
