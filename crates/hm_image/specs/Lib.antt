@@ -1,0 +1,4 @@
+pub mod Fresh
+pub mod Image
+pub mod Sound
+pub mod Stands

@@ -1,0 +1,8 @@
+//! What the bytes of a volume mean: which images are sound, and which volume one stands for.
+//!
+//! It is definitions alone: they cite those of the formats, and code cites them.
+#![tactic(auto)]
+
+mod laws;
+
+pub use laws::{a_sound_image_has_one_header};
