@@ -1,0 +1,9 @@
+pub mod ListLemmas
+pub mod OffsetLemmas
+pub mod FreshHeaderLemmas
+pub mod FreshSpaceLemmas
+pub mod FreshTreeLemmas
+pub mod FreshPayloadLemmas
+pub mod FreshExtentLemmas
+pub mod FreshFreeLemmas
+pub mod FreshLemmas

@@ -1,5 +1,5 @@
 -- The bytes of a volume as it is made: the root directory, in one pseudo file system, whose record keeps every id.
-use Rattle.std.specs.Prelude.{◌≡◌, ℕ, ◌+◌, ◌*◌, ◌-◌, ◌-ℤ◌, ◌<◌, ◌≤◌, Bool, true, List, [], ◌∷◌, ◌++◌, Some, if◌then◌else◌, nat_eq, nat_lt, pos, length}
+use Rattle.std.specs.Prelude.{◌≡◌, ℕ, ◌+◌, ◌*◌, ◌-◌, ◌-ℤ◌, ◌<◌, ◌≤◌, true, List, [], ◌∷◌, ◌++◌, Some, if◌then◌else◌, nat_eq, nat_lt, pos, length}
 use Rattle.hm_types.specs.Layout.{blocks_per_layer2, first_pool, first_undo, layer2_blocks, start_of}
 use Rattle.hm_types.specs.Offset.{raw_of}
 use Rattle.hm_types.specs.declared.limits.TheConstants.{BIGBLOCK_BYTES, PAGE_BYTES}
@@ -91,10 +91,14 @@ fresh_base rec_type part = record {
 }
 
 -- the elements of its tree: the inode of the root directory, and the record of PFS 0
+abbrev pub inode_element : ℕ → Element
+inode_element bigblocks = record { base = fresh_base INODE INODE_PART; payload = inode_at bigblocks; len = 32 }
+
+abbrev pub record_element : ℕ → Element
+record_element bigblocks = record { base = fresh_base PFS_RECORD OTHER_PART; payload = record_at bigblocks; len = 48 }
+
 abbrev pub fresh_elements : ℕ → List Element
-fresh_elements bigblocks =
-    record { base = fresh_base INODE INODE_PART; payload = inode_at bigblocks; len = 32 }
-    ∷ record { base = fresh_base PFS_RECORD OTHER_PART; payload = record_at bigblocks; len = 48 } ∷ []
+fresh_elements bigblocks = inode_element bigblocks ∷ record_element bigblocks ∷ []
 
 -- its only node
 abbrev pub fresh_root : ℕ → Node

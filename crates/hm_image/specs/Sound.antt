@@ -1,5 +1,5 @@
 -- Which images are sound: one sentence for each part of a volume.
-use Rattle.std.specs.Prelude.{◌≡◌, ℕ, ◌+◌, ◌-ℤ◌, ◌*◌, ◌<◌, ◌≤◌, pos, List, length, slice_index, slice_range, Some}
+use Rattle.std.specs.Prelude.{◌≡◌, ℕ, ◌+◌, ◌-ℤ◌, ◌*◌, ◌<◌, ◌≤◌, pos, List, slice_index, slice_range, Some}
 use Rattle.std.specs.List.{All}
 use Rattle.hm_types.specs.Hash.{name_hash}
 use Rattle.hm_types.specs.Layout.{IsPool, block_of, blocks_per_layer2, layer2_blocks, start_of}
@@ -15,7 +15,7 @@ use Rattle.hm_header.specs.declared.header.Header.{Header}
 use Rattle.hm_records.specs.KeysFit.{KeysFit}
 use Rattle.hm_records.specs.Payload.{IsPayload}
 use Rattle.hm_search.specs.Tree.{IsSoundTree}
-use Rattle.hm_image.specs.Image.{HasHeader, bytes_at, elements_from, pages_of, references_from}
+use Rattle.hm_image.specs.Image.{HasHeader, elements_from, pages_of, references_from}
 
 -- how many entries layer 1 has, whatever the size of the volume
 abbrev pub layer1_entries : ℕ
@@ -66,7 +66,7 @@ abbrev pub HasFreeBytes : List ℕ → Header → (ℕ → Entry) → Type 0
 HasFreeBytes image header entries =
     (block : ℕ) → IsPool header.bigblocks block
     → (entries block).bytes_free
-        ≡ pos BIGBLOCK_BYTES -ℤ pos (live_bytes (references_from (pages_of image) header.root) block)
+    ≡ pos BIGBLOCK_BYTES -ℤ pos (live_bytes (references_from (pages_of image) header.root) block)
 
 -- a sound image, with the header that counts
 pub record IsSoundBy (image : List ℕ) (header : Header) : Type 0 where

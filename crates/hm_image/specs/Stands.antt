@@ -3,7 +3,6 @@ use Rattle.std.specs.Prelude.{◌≡◌, ℕ, ◌<◌, ◌≤◌, Bool, true, fa
 use Rattle.std.specs.List.{All}
 use Rattle.hm_types.specs.Elements.{FullElement}
 use Rattle.hm_types.specs.Intervals.{Keeps}
-use Rattle.hm_types.specs.Tree.{FileTree}
 use Rattle.hm_types.specs.declared.object.Object.{Object}
 use Rattle.hm_header.specs.declared.header.Header.{Header}
 use Rattle.hm_key.specs.Element.{pfs_of}

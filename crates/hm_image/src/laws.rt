@@ -1,14 +1,7 @@
-// What follows from the definitions.
-ghost use Rattle.std.specs.Prelude.{◌≡◌, ℕ, List};
-ghost use Rattle.hm_header.specs.declared.header.Header.{Header};
-ghost use Rattle.hm_image.specs.Sound.{IsSoundBy};
+//! What follows from the definitions alone: each function states one law, and does nothing.
 
-use hm_header::chosen_header_is_one;
+mod fresh;
+mod sound;
 
-/// A sound image has one header: two by which it is sound are the same.
-pub fn a_sound_image_has_one_header()
-    ensures { (image : List ℕ) (one other : Header) → IsSoundBy image one → IsSoundBy image other →
-        one ≡ other }
-{
-    chosen_header_is_one();
-}
+pub use fresh::a_fresh_volume_is_sound;
+pub use sound::a_sound_image_has_one_header;
