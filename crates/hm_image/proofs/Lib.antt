@@ -7,3 +7,5 @@ pub mod FreshPayloadLemmas
 pub mod FreshExtentLemmas
 pub mod FreshFreeLemmas
 pub mod FreshLemmas
+pub mod FreshViewLemmas
+pub mod FreshStandsLemmas

@@ -3,5 +3,5 @@
 mod fresh;
 mod sound;
 
-pub use fresh::a_fresh_volume_is_sound;
+pub use fresh::{a_fresh_volume_is_sound, a_fresh_volume_stands};
 pub use sound::a_sound_image_has_one_header;

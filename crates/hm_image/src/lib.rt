@@ -5,4 +5,4 @@
 
 mod laws;
 
-pub use laws::{a_fresh_volume_is_sound, a_sound_image_has_one_header};
+pub use laws::{a_fresh_volume_is_sound, a_fresh_volume_stands, a_sound_image_has_one_header};
