@@ -9,3 +9,4 @@ pub mod FreshFreeLemmas
 pub mod FreshLemmas
 pub mod FreshViewLemmas
 pub mod FreshStandsLemmas
+pub mod WitnessLemmas

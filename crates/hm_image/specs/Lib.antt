@@ -1,3 +1,4 @@
+pub mod Examples
 pub mod Fresh
 pub mod Image
 pub mod Sound
