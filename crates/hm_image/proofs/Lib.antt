@@ -10,3 +10,7 @@ pub mod FreshLemmas
 pub mod FreshViewLemmas
 pub mod FreshStandsLemmas
 pub mod WitnessLemmas
+pub mod ReferenceLemmas
+pub mod SameLemmas
+pub mod SameVolumeLemmas
+pub mod NamedLemmas

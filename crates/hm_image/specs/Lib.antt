@@ -1,5 +1,6 @@
 pub mod Examples
 pub mod Fresh
 pub mod Image
+pub mod Same
 pub mod Sound
 pub mod Stands

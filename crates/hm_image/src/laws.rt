@@ -2,6 +2,7 @@
 
 mod fresh;
 mod refused;
+mod same;
 mod sound;
 
 pub use fresh::{a_fresh_volume_is_sound, a_fresh_volume_stands};
@@ -9,5 +10,8 @@ pub use refused::{
     extents_across_bigblocks_are_refused, extents_past_the_filled_part_are_refused,
     keys_of_other_names_are_refused, other_counts_of_free_bytes_are_refused,
     overlapping_extents_are_refused, references_past_64_are_refused,
+};
+pub use same::{
+    images_are_their_freemaps_and_trees, images_are_what_they_name, trees_are_what_they_refer_to,
 };
 pub use sound::a_sound_image_has_one_header;
