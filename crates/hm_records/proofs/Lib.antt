@@ -1,6 +1,7 @@
 pub mod NumberLemmas
 pub mod InodeLemmas
 pub mod EntryLemmas
+pub mod IntervalLemmas
 pub mod PfsLemmas
 pub mod OpenLemmas
 pub mod PayloadLemmas

@@ -1,7 +1,6 @@
 -- Which interval of a retention may have an open end.
-use Rattle.std.proofs.Common.{◌≡◌, ℕ, ◌+◌, ◌<◌, ◌≤◌, ◌^◌, List, [], ◌∷◌, inl, inr, arith}
+use Rattle.std.proofs.Common.{ℕ, ◌+◌, List, [], ◌∷◌, inl, inr, arith}
 use Rattle.std.specs.Prelude.{◌↔◌}
-use Rattle.hm_types.specs.Intervals.{Keeps}
 use Rattle.hm_retain.specs.Intervals.{RiseFrom}
 use Rattle.hm_retain.specs.Retention.{IsRetention}
 use Rattle.hm_records.specs.PfsRecord.{EndsOpen, IsOpen, NoneEndsOpen}

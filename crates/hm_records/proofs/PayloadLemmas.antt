@@ -1,5 +1,5 @@
 -- How long payloads are.
-use Rattle.std.proofs.Common.{◌≡◌, ℕ, ◌+◌, ◌*◌, ◌≤◌, List, length, inl, inr, ap, ◌∙◌, arith}
+use Rattle.std.proofs.Common.{ℕ, ◌≤◌, List, length, inl, inr, ap, ◌∙◌, arith}
 use Rattle.hm_types.specs.Elements.{FullElement}
 use Rattle.hm_records.specs.Payload.{HasGrammar, IsPayload, SpellsEntry, SpellsInode, SpellsPfs}
 use Rattle.hm_records.proofs.InodeLemmas.{length-inode}

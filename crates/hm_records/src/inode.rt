@@ -25,27 +25,6 @@ pub struct Inode {
     pub pfs: Pfs,
 }
 
-/// Whether an inode may be in a volume: its kind is known, and its size and its PFS number are in
-/// the range of its kind.
-pub fn is_inode(inode: &Inode) -> bool
-    ensures { IsTrue result ↔ IsInode inode.now }
-{
-    let inode = *inode;
-    is_size_of(inode.kind, inode.size) && (inode.kind == PFS_LINK || inode.pfs.0 == 0)
-}
-
-// Whether the kind is known, and an object of it may have this size.
-fn is_size_of(kind: u8, size: u64) -> bool
-    ensures { IsTrue result ↔ IsSizeOf kind size }
-{
-    match kind {
-        DIRECTORY | PFS_LINK => size == 0,
-        FILE => true,
-        SOFTLINK => 1 <= size && size <= MOST_TARGET_BYTES as u64,
-        _ => false,
-    }
-}
-
 /// The payload of an inode, 32 bytes. `decode_inode` gives back an inode that may be in a volume.
 pub fn encode_inode(alloc: Global, value: &Inode) -> Result<Vec<u8>, NoMemory>
     ensures { IfOk result (λ bytes. bytes.items ≡ inode_bytes value.now) }
@@ -103,6 +82,27 @@ fn spells(bytes: &[u8], inode: &Inode) -> bool
     ensures { IsTrue result ↔ (IsInode inode.now × (bytes.now ≡ inode_bytes inode.now)) }
 {
     is_inode(inode) && bytes == bytes_of(inode).as_slice()
+}
+
+// Whether an inode may be in a volume: its kind is known, and its size and its PFS number are in
+// the range of its kind.
+fn is_inode(inode: &Inode) -> bool
+    ensures { IsTrue result ↔ IsInode inode.now }
+{
+    let inode = *inode;
+    is_size_of(inode.kind, inode.size) && (inode.kind == PFS_LINK || inode.pfs.0 == 0)
+}
+
+// Whether the kind is known, and an object of it may have this size.
+fn is_size_of(kind: u8, size: u64) -> bool
+    ensures { IsTrue result ↔ IsSizeOf kind size }
+{
+    match kind {
+        DIRECTORY | PFS_LINK => size == 0,
+        FILE => true,
+        SOFTLINK => 1 <= size && size <= MOST_TARGET_BYTES as u64,
+        _ => false,
+    }
 }
 
 // The spelling of an inode.

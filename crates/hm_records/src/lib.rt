@@ -14,7 +14,7 @@ mod tests;
 mod views;
 
 pub use entry::{DirEntry, decode_entry, encode_entry};
-pub use inode::{Inode, decode_inode, encode_inode, is_inode};
+pub use inode::{Inode, decode_inode, encode_inode};
 pub use kind::{DIRECTORY, FILE, PFS_LINK, SOFTLINK};
 pub use laws::{
     bytes_spell_one_entry, bytes_spell_one_inode, bytes_spell_one_record,

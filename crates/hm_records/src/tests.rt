@@ -38,6 +38,16 @@ const LINK_TO_PFS: [u8; 32] = [
     0, 0, 0, 0, 0, 0, 0, 0, 0, 0,
 ];
 
+// One of the four inodes.
+fn inode_of(kind: u8) -> [u8; 32] {
+    match kind {
+        DIRECTORY => BIG_DIRECTORY,
+        FILE => BIG_FILE,
+        SOFTLINK => LONG_LINK,
+        _ => LINK_TO_PFS,
+    }
+}
+
 // The record of PFS 0 on a fresh volume.
 const FRESH_MASTER: [u8; 48] = [
     0x01, 0, 0, 0, 0, 0, 0, 0, // kind, zeros
@@ -99,12 +109,13 @@ fn repeated(alloc: Global, byte: u8, count: usize) -> Result<Vec<u8>, AllocError
 #[test]
 fn inodes_are_written_and_read_as_laid_out(rt: HostRuntime) -> Result<(), Fail> {
     let alloc = rt.alloc();
-    for (bytes, kind, size, links, pfs) in [
-        (BIG_DIRECTORY, DIRECTORY, 0, u32::MAX, 0),
-        (BIG_FILE, FILE, 0x0102_0304_0506_0708, 0x0A0B_0C0D, 0),
-        (LONG_LINK, SOFTLINK, 1_023, 1, 0),
-        (LINK_TO_PFS, PFS_LINK, 0, 1, 0x1234),
+    for (kind, size, links, pfs) in [
+        (DIRECTORY, 0, u32::MAX, 0),
+        (FILE, 0x0102_0304_0506_0708, 0x0A0B_0C0D, 0),
+        (SOFTLINK, 1_023, 1, 0),
+        (PFS_LINK, 0, 1, 0x1234),
     ] {
+        let bytes = inode_of(kind);
         let inode = Inode {
             kind,
             size,
@@ -121,28 +132,34 @@ fn inodes_are_written_and_read_as_laid_out(rt: HostRuntime) -> Result<(), Fail> 
 #[test]
 fn damage_of_an_inode_is_told_at_its_payload(rt: HostRuntime) -> Result<(), Fail> {
     let alloc = rt.alloc();
-    for (bytes, at, change) in [
-        (BIG_FILE, 0, &[0x00].as_slice()),
-        (BIG_FILE, 0, &[0x05].as_slice()),
-        (BIG_FILE, 0, &[0xFF].as_slice()),
+    for (kind, at, byte) in [
+        (FILE, 0, 0x00),
+        (FILE, 0, 0x05),
+        (FILE, 0, 0xFF),
         // A size that the kind does not have.
-        (BIG_DIRECTORY, 8, &[0x01].as_slice()),
-        (BIG_DIRECTORY, 15, &[0x80].as_slice()),
-        (LINK_TO_PFS, 8, &[0x01].as_slice()),
-        (LINK_TO_PFS, 15, &[0x80].as_slice()),
-        (LONG_LINK, 8, &[0x00, 0x00].as_slice()),
-        (LONG_LINK, 8, &[0x00, 0x04].as_slice()),
-        (LONG_LINK, 15, &[0x01].as_slice()),
+        (DIRECTORY, 8, 0x01),
+        (DIRECTORY, 15, 0x80),
+        (PFS_LINK, 8, 0x01),
+        (PFS_LINK, 15, 0x80),
+        (SOFTLINK, 9, 0x04),
+        (SOFTLINK, 15, 0x01),
         // A PFS number without a PFS link.
-        (BIG_DIRECTORY, 20, &[0x01].as_slice()),
-        (BIG_FILE, 21, &[0x01].as_slice()),
-        (LONG_LINK, 20, &[0x01].as_slice()),
-        // The kind of another object's size and PFS number.
-        (LINK_TO_PFS, 0, &[0x01].as_slice()),
-        (LONG_LINK, 0, &[0x04].as_slice()),
+        (DIRECTORY, 20, 0x01),
+        (FILE, 21, 0x01),
+        (SOFTLINK, 20, 0x01),
+        // The kind of another object's size or PFS number.
+        (PFS_LINK, 0, DIRECTORY),
+        (SOFTLINK, 0, PFS_LINK),
     ] {
-        let bytes = patched(alloc, &bytes, at, change)?;
-        assert_eq!(rt; decode_inode(place(), &bytes), Err(damaged()), "{at}");
+        let bytes = patched(alloc, &inode_of(kind), at, &[byte])?;
+        let read = decode_inode(place(), &bytes);
+        assert_eq!(rt; read, Err(damaged()), "{kind} {at} {byte}");
+    }
+    for (size, want) in [(0, false), (1, true), (1_023, true), (1_024, false)] {
+        let size: u64 = size;
+        let bytes = patched(alloc, &LONG_LINK, 8, &size.to_le_bytes())?;
+        let read = decode_inode(place(), &bytes);
+        assert_eq!(rt; read.is_ok(), want, "{size}");
     }
     Ok(())
 }

@@ -1,6 +1,6 @@
 use Rattle.std.proofs.Common.{ap, ◌∙◌, List, ℕ, arith}
 use Rattle.byteorder.specs.Endian.{little_number}
-use Rattle.hm_records.proofs.PfsLemmas.{interval_read}
+use Rattle.hm_records.proofs.IntervalLemmas.{interval_read}
 use Rattle.hm_records.proofs.pfs_record.interval_in.Goals as goal
 
 pub returns-clause-spelled : goal.returns-clause-spelled
