@@ -11,13 +11,15 @@ use Rattle.hm_records.specs.Inode.{IsInode, inode_bytes}
 use Rattle.hm_records.specs.PfsRecord.{IsPfsRecord, pfs_bytes}
 use Rattle.hm_records.specs.Target.{IsTarget}
 
--- the bytes are those of an inode, of an entry, of a record
+-- the bytes spell an inode
 abbrev pub SpellsInode : List ℕ → Type 0
 SpellsInode bytes = (inode : Inode) × IsInode inode × (bytes ≡ inode_bytes inode)
 
+-- the bytes spell a directory entry
 abbrev pub SpellsEntry : List ℕ → Type 0
 SpellsEntry bytes = (entry : DirEntry) × IsEntry entry × (bytes ≡ entry_bytes entry)
 
+-- the bytes spell the record of a pseudo file system
 abbrev pub SpellsPfs : List ℕ → Type 0
 SpellsPfs bytes = (r : PfsRecord) × IsPfsRecord r × (bytes ≡ pfs_bytes r)
 
