@@ -37,8 +37,7 @@ module _ (root : ℕ) (old new : PageMap) (none : HasNoPage old) (spot : IsSpot 
           count = omega arith;
           order = no_order;
           fields = All-from_recursion IsPlaced [] tt;
-          mirror =
-              All-from_recursion (IsUpTo 0) [] tt;
+          mirror = All-from_recursion (IsUpTo 0) [] tt;
         };
         level = refl;
         fits = record {

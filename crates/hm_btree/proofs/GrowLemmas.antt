@@ -147,8 +147,7 @@ module _ (key : Key) (place : Subtree) (height level mirror : ℕ) (right : Base
             each_append (λ d. d.mirror ≤ m) pre (with_mirror (mirror_of lower) c ∷ record {
               left = b;
               child = a;
-              mirror =
-                  mirror_of upper;
+              mirror = mirror_of upper;
             } ∷ post) (up m pre (omega arith) (each_front (λ d. d.mirror ≤ mirror) pre (c ∷ post) each))
             (omega arith, (omega arith, up m post (omega arith) (each_back (λ d. d.mirror ≤ mirror) pre (c ∷ post) each).1))
 

@@ -169,8 +169,7 @@ module _ (key : Key) (marking : Marking) (height : ℕ) (old mid : PageMap) (old
       fits = record {
         level = tt;
         count = tt;
-        bounds =
-            (begins_append left a.places.items b.places.items beside.lower_tree.fits.bounds.0, beside.upper_tree.fits.bounds.1);
+        bounds = (begins_append left a.places.items b.places.items beside.lower_tree.fits.bounds.0, beside.upper_tree.fits.bounds.1);
         mirror = tt;
       };
       below = all_stored;

@@ -47,8 +47,7 @@ module _ (map : PageMap) (height : ℕ) (left right : Base) (es : List Element) 
       count = tree.sound.count;
       order = tree.sound.order;
       fields = tree.sound.fields;
-      mirror =
-          All-from_recursion (IsUpTo n) es up;
+      mirror = All-from_recursion (IsUpTo n) es up;
     };
     level = tree.level;
     fits = record { level = tt; count = tt; bounds = tree.fits.bounds; mirror = tt };

@@ -126,8 +126,7 @@ pub stored_cause : {T : Type 0} (told : Option PageMap) (s : Subtree) (old new :
 stored_cause None s old new fault stored counted damage = record {
   counted = record {
     never_falls = counted.never_falls;
-    caused =
-        counted.caused;
+    caused = counted.caused;
   };
   undamaged = tt;
 }

@@ -182,8 +182,7 @@ module _ (f : List Element → List Element) (key : Key) (marking : Marking) (pl
         level = tree.sound.level;
         count = (some, few);
         order = change.rising;
-        fields =
-            record { children = All-from_recursion IsChild after change.fields; right = tree.sound.fields.right };
+        fields = record { children = All-from_recursion IsChild after change.fields; right = tree.sound.fields.right };
         mirror = mirrors;
       };
       level = tree.level;

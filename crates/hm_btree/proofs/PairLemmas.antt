@@ -130,8 +130,7 @@ module _ (f : List Element → List Element) (key : Key) (marking : Marking) (le
         at = c.child;
         left = l;
         right = b;
-        parent =
-            Some (record { level = level; mirror = mirror_of lower });
+        parent = Some (record { level = level; mirror = mirror_of lower });
       }) lower) left
       (as_child mid height level c.child (record place { right = b }) lower split.lower_tree split.lower_many high) in
       let up_tree : IsTree mid height (child_place level next upper_child) upper =

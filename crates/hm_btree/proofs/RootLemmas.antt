@@ -148,8 +148,7 @@ pub root_cause_below : {T U : Type 0} (told now : Option PageMap) (root old mid 
 root_cause_below told now root old mid new s node fault is same low here cause =
     root_cause told root old new fault (record {
       never_falls = omega (arith, cause.counted.never_falls);
-      caused =
-          caused_since old mid new fault low cause.counted.caused;
+      caused = caused_since old mid new fault low cause.counted.caused;
     })
     (if_told told (subst (λ (t : Subtree). IfSome told (λ map. StandsHere map t node)) is here)
     (subst (λ (o : Option PageMap). IfSome o (λ map. (place : Subtree) → StandsHere map place node
@@ -174,8 +173,7 @@ root_cause_write told mid root old middle new (Ok x) same low cause =
 root_cause_write {T = T} told mid root old middle new (Err fault) same low cause =
     root_cause {T = T} told root old new fault (record {
       never_falls = omega (arith, low, cause.counted.never_falls);
-      caused =
-          caused_since old middle new fault low cause.counted.caused;
+      caused = caused_since old middle new fault low cause.counted.caused;
     }) (if_told told mid same cause.undamaged) where
       if_told : (o p : Option PageMap) → is_some p ≡ is_some o → IfSome p (λ _. IsUndamaged fault) → IfSome o (λ map. IsFaultBelow map (root_place root) fault)
       if_told None p same is = tt

@@ -74,8 +74,7 @@ pub inner_shaped : (level mirror : ℕ) (cs : List Child) (right : Base) → (2 
 inner_shaped level mirror cs right within some few each bound = record {
   level = within;
   count = (some, few);
-  fields =
-      record { children = All-from_recursion IsChild cs each; right = bound };
+  fields = record { children = All-from_recursion IsChild cs each; right = bound };
 }
 
 -- the places of a shaped node
@@ -334,8 +333,7 @@ root_bounds root = (
   record { key = refl; not_closed = refl; no_kind = refl; btype = refl },
   record {
     key = refl;
-    not_closed =
-        refl;
+    not_closed = refl;
     no_kind = refl;
     btype = refl;
   },

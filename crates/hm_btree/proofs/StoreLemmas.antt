@@ -43,8 +43,7 @@ pub store_cause : {T : Type 0} (intact : Bool) (told : Option PageMap) (root old
     → ∥ IsIntact intact told root ∥₁ → HasTreeCause told root old new result → HasStoreCause (told_elements intact told root) old new result
 store_cause intact told root old new result sound cause = record {
   counted = cause.counted;
-  undamaged =
-      by_told intact told sound cause.undamaged result;
+  undamaged = by_told intact told sound cause.undamaged result;
 } where
   by_result : {T : Type 0} (r : Result T Fault) → IsProp (IfErr r IsUndamaged)
   by_result (Ok x) = hlevel props

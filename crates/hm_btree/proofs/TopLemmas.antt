@@ -73,8 +73,7 @@ module _ (f : List Element → List Element) (key : Key) (marking : Marking) (ro
             children = All-from_recursion IsChild cs change.fields;
             right = record {
               key = refl;
-              not_closed =
-                  refl;
+              not_closed = refl;
               no_kind = refl;
               btype = refl;
             };

@@ -76,12 +76,8 @@ InnerBecomes level mirror cs right inner (Some upper) =
 abbrev pub top_of : Subtree → Node → Upper → ℕ → Node
 top_of place lower upper at =
     inner_node (inner_of (level_of lower + 1) (max (mirror_of lower) (mirror_of upper.node))
-    (record { left = place.left; child = place.at; mirror = mirror_of lower } ∷ record {
-      left = upper.left;
-      child = at;
-      mirror =
-          mirror_of upper.node;
-    } ∷ []) place.right)
+    (record { left = place.left; child = place.at; mirror = mirror_of lower }
+    ∷ record { left = upper.left; child = at; mirror = mirror_of upper.node } ∷ []) place.right)
 
 -- a root was added at an offset, above a node that stands where the root stood and one that was added
 abbrev pub HasTop : Subtree → Node → Upper → ℕ → PageMap → PageMap → Type 0

@@ -159,8 +159,7 @@ IsRejoined before i lower (Some upper) old new after =
     (take i before.places.items ++ with_mirror (mirror_of lower) a ∷ record {
       left = upper.left;
       child = b.child;
-      mirror =
-          mirror_of upper.node;
+      mirror = mirror_of upper.node;
     } ∷ drop (i + 2) before.places.items) before.right)
 
 -- the node of a child at a place, where the child's page holds it

@@ -1,11 +1,15 @@
 -- What the calls of a space of nodes do to its pages.
-use Rattle.std.specs.Prelude.{◌≡◌, ℕ, ◌==◌, ◌<◌, ◌^◌, List, Option, None, if◌then◌else◌}
+use Rattle.std.specs.Prelude.{◌≡◌, ℕ, ◌+◌, ◌==◌, ◌<◌, ◌^◌, List, Option, None, if◌then◌else◌}
 use Rattle.hm_types.specs.Offset.{byte_of}
+use Rattle.hm_types.specs.Space.{in_zone}
 use Rattle.hm_types.specs.Told.{BothTell}
+use Rattle.hm_types.specs.declared.zone.TheConstants.{TREE_ZONE}
 use Rattle.hm_fields.specs.Pages.{PageMap, HasPut}
+use Rattle.hm_key.specs.Extents.{Extent}
 use Rattle.hm_node.specs.Inner.{IsNodeOffset}
 use Rattle.hm_node.specs.Node.{Spells}
 use Rattle.hm_node.specs.declared.node.Node.{Node}
+use Rattle.hm_btree.specs.declared.space.TheConstants.{NODE_BYTES}
 
 -- a map had no page at the offset, and now has this one there; it is as before elsewhere
 pub record HasNew (at : ℕ) (bytes : List ℕ) (old new : PageMap) : Type 0 where
@@ -33,3 +37,12 @@ pub record IsSpot (at : ℕ) : Type 0 where
 pub record AddsNode (node : Node) (old new : Option PageMap) (at : ℕ) : Type 0 where
   pub told : BothTell old new (HasAdded at node)
   pub spot : IsSpot at
+
+-- A page was put at an offset that had none, where a node may stand, to pages that may be told. It took its room in
+-- zone 8, and the extents are the same.
+pub record PutsNew {S : Type 0} (pages_of : S → Option PageMap) (room_of : S → ℕ → ℕ) (extents_of : S → Option (List Extent))
+    (bytes : List ℕ) (old new : S) (at : ℕ) : Type 0 where
+  pub told : BothTell (pages_of old) (pages_of new) (HasNew at bytes)
+  pub spot : IsSpot at
+  pub room : (zone : ℕ) → room_of new zone + in_zone TREE_ZONE NODE_BYTES zone ≡ room_of old zone
+  pub extents : extents_of new ≡ extents_of old

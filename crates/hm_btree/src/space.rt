@@ -1,10 +1,10 @@
 // The pages of a tree, with room for more.
-ghost use Rattle.std.specs.Prelude.{◌≡◌, ℕ, ◌+◌, ◌≤◌, Option, IfSome, IsSome, IfOk, OnOk, OnErr};
+ghost use Rattle.std.specs.Prelude.{◌≡◌, ◌≤◌, IfSome, IsSome, IfOk, OnOk, OnErr};
 ghost use Rattle.hm_types.specs.Told.{BothTell};
 ghost use Rattle.hm_types.specs.Faults.{HasStoreCause};
 ghost use Rattle.hm_types.specs.Space.{Spends, nothing, in_zone};
 ghost use Rattle.hm_node.specs.Shape.{HoldsNode};
-ghost use Rattle.hm_btree.specs.Space.{HasNew, HasLost, IsSpot};
+ghost use Rattle.hm_btree.specs.Space.{HasLost, PutsNew};
 
 use hm_fields::Page;
 use hm_key::HasRoom;
@@ -30,13 +30,9 @@ pub trait NodeSpace: NodePages + HasRoom {
     fn new_node(&mut self, with: &Page) -> Result<HOff, Fault>
         requires node { HoldsNode with.now }
         requires room { NODE_BYTES ≤ Self.room self.old TREE_ZONE }
-        ensures ok { IfOk result (λ at.
-            BothTell (Self.pages self.old) (Self.pages self.new) (HasNew at with.now)) }
-        ensures offset { IfOk result IsSpot }
+        ensures ok { IfOk result (PutsNew Self.pages Self.room Self.extents with.now
+            self.old self.new) }
         ensures refused { OnErr result Self.Refusal }
-        ensures extents { OnOk result (Self.extents self.new ≡ Self.extents self.old) }
-        ensures room { OnOk result ((zone : ℕ) → Self.room self.new zone
-            + in_zone TREE_ZONE NODE_BYTES zone ≡ Self.room self.old zone) }
         ensures space { Spends Self.room Self.free (in_zone TREE_ZONE NODE_BYTES)
             self.old self.new }
         ensures name { Self.name self.new ≡ Self.name self.old }

@@ -49,8 +49,7 @@ returns-in_err-child-in-Inner-clause-cause g t c =
     let other : HasEditCause {T = Option Upper} told c.args.node.now old new (Err fault) =
     record {
       counted = record { never_falls = whole.counted.never_falls; caused = whole.counted.caused };
-      damage =
-          whole.damage;
+      damage = whole.damage;
       undamaged = whole.undamaged;
     } in
     rw (p.1, p.2) other

@@ -21,8 +21,7 @@ returns-in_err-root-clause-cause g c =
     let other : HasTreeCause {T = Unit {0}} told c.args.self.now.root old new (Err fault) =
     record {
       counted = record { never_falls = cause.counted.never_falls; caused = cause.counted.caused };
-      damage =
-          cause.damage;
+      damage = cause.damage;
       undamaged = cause.undamaged;
     } in
     let whole = store_cause c.args.self.now.intact told c.args.self.now.root old new (Err fault) c.args.self.now.sound other in
