@@ -1,12 +1,17 @@
 -- Why calls of a freemap fail, from why the calls of its pages do.
-use Rattle.std.proofs.Common.{◌≡◌, ℕ, ◌+◌, ◌≤◌, List, refl, sym, subst, ◌∙◌, arith, Option, Some, None, Result, Ok, Err}
+use Rattle.std.proofs.Common.{◌≡◌, ℕ, ◌+◌, ◌-◌, ◌<◌, ◌≤◌, List, refl, sym, ap, subst, ◌∙◌, arith, Option, Some, None, Result, Ok, Err}
 use Rattle.std.specs.Prelude.{IfSome, IfErr}
 use Rattle.hm_types.specs.Faults.{HasFaultCause, HasStoreCause, IsCaused, IsUndamaged}
 use Rattle.hm_types.specs.declared.fault.Fault.{Fault}
 use Rattle.hm_types.specs.declared.fault.Fault.TheVariants.{Media, Damaged, NoMemory}
-use Rattle.hm_fields.specs.Pages.{PageMap}
-use Rattle.hm_freemap.specs.Faults.{HasFreemapCause, IsFreemapDamage}
-use Rattle.hm_freemap.specs.Stand.{Maps, WhereTold}
+use Rattle.hm_types.specs.declared.damage.TheConstants.{BAD_FREEMAP}
+use Rattle.hm_types.specs.declared.zone.TheConstants.{TREE_ZONE, SMALL_ZONE}
+use Rattle.hm_fields.specs.Pages.{PageMap, page_in}
+use Rattle.hm_freemap.specs.Entry.{entry_in}
+use Rattle.hm_freemap.specs.Places.{page_of, place_of}
+use Rattle.hm_freemap.specs.declared.entry.Entry.{Entry}
+use Rattle.hm_freemap.specs.Faults.{HasFreemapCause, IsFreemapDamage, IsGoodBlock}
+use Rattle.hm_freemap.specs.Stand.{Maps, WhereTold, append_of, entry_of}
 use Rattle.hm_freemap.proofs.ToldLemmas.{where_all, where_map}
 
 caused_later : (old mid new : ℕ) (fault : Fault) → old ≤ mid → IsCaused mid new fault → IsCaused old new fault
@@ -52,3 +57,43 @@ cause_ok bigblocks append Looked c f u old new x grows = record {
   counted = record { never_falls = grows; caused = tt };
   damage = where_all c f u (λ maps. Unit {0}) (λ maps. tt);
 }
+
+-- a fault that is handed on by a call that looked at more
+pub cause_wide : {T S : Type 0} (bigblocks : ℕ) (append : List ℕ) (Looked Looked' : ℕ → Type 0) (c f u : Option PageMap) (old new : ℕ) (fault : Fault) (result : Result S Fault)
+    → ((block : ℕ) → Looked block → Looked' block) → result ≡ Err fault → HasFreemapCause {T = T} bigblocks append Looked c f u old new (Err fault)
+    → HasFreemapCause bigblocks append Looked' c f u old new result
+cause_wide bigblocks append Looked Looked' c f u old new fault result widen is cause = rw is (record {
+  counted = record { never_falls = cause.counted.never_falls; caused = cause.counted.caused };
+  damage = where_map c f u (λ maps. IsFreemapDamage bigblocks append Looked maps fault) (λ maps. IsFreemapDamage bigblocks append Looked' maps fault)
+      (λ maps damage. widened maps fault damage) cause.damage;
+}) where
+  widened : (maps : Maps) (one : Fault) → IsFreemapDamage bigblocks append Looked maps one → IsFreemapDamage bigblocks append Looked' maps one
+  widened maps (Media before after) damage = tt
+  widened maps (Damaged at kind) damage = record { block = damage.block; looked = widen damage.block damage.looked; place = damage.place; number = damage.number; bad = damage.bad }
+  widened maps NoMemory damage = tt
+
+-- damage of the append big-block of a zone that belongs to another one
+pub bad_zone : {T : Type 0} (bigblocks : ℕ) (append : List ℕ) (zone block : ℕ) (page : List ℕ) (c f u : Option PageMap) (old new : ℕ) (fault : Fault)
+    → TREE_ZONE ≤ zone → zone ≤ SMALL_ZONE → block ≡ append_of append zone → block < bigblocks
+    → IfSome u (λ map. map (page_of block) ≡ Some page) → ((entry_in page (place_of block)).zone ≡ zone → ⊥)
+    → fault ≡ Damaged (page_of block) BAD_FREEMAP → old ≤ new
+    → HasFreemapCause {T = T} bigblocks append (λ one. one < bigblocks) c f u old new (Err fault)
+bad_zone bigblocks append zone block page c f u old new fault low high one below read other is grows = record {
+  counted = record { never_falls = grows; caused = subst (IsCaused old new) (sym is) tt };
+  damage = by_told c f u read;
+} where
+  by_told : (c f o : Option PageMap) → IfSome o (λ map. map (page_of block) ≡ Some page) → WhereTold c f o (λ maps. IsFreemapDamage bigblocks append (λ one. one < bigblocks) maps fault)
+  by_told None f o read = tt
+  by_told (Some c) None o read = tt
+  by_told (Some c) (Some f) None read = tt
+  by_told (Some c) (Some f) (Some map) read =
+      let maps : Maps = record { committed = c; frozen = f; current = map } in
+      let here : entry_of map block ≡ entry_in page (place_of block) = ap (λ (o : Option (List ℕ)). entry_in (page_in o) (place_of block)) read in
+      subst (IsFreemapDamage bigblocks append (λ one. one < bigblocks) maps) (sym is) (record {
+        block = block;
+        looked = below;
+        place = refl;
+        number = refl;
+        bad = λ (good : IsGoodBlock bigblocks append maps block).
+            other (ap (λ (e : Entry). e.zone) (sym here) ∙ good.zone (zone - TREE_ZONE) (omega (arith, low, high)) (sym one) ∙ omega (arith, low));
+      })

@@ -1,5 +1,6 @@
 -- Counts of the elements of a list that pass a test.
 use Rattle.std.proofs.Common.{◌≡◌, Bool, true, false, ℕ, zero, suc, ◌+◌, ◌<◌, ◌≤◌, List, [], ◌∷◌, ◌++◌, refl, sym, ap, ◌∙◌, arith, cond}
+use mir.Val.{bool_byte}
 use Rattle.std.specs.Prelude.{count_by}
 use Rattle.std.specs.List.{range_with_len}
 use Rattle.std.proofs.lemmas.List.Sums.{sum_by-append, sum_by-cons}
@@ -26,3 +27,8 @@ count_same p q a (suc n) same =
     let here = count-range p a n in
     let there = count-range q a n in
     omega (arith, first, rest, here, there)
+
+-- a truth value as a number
+pub bool_bit : (b : Bool) → bool_byte b ≡ bit b
+bool_bit true = refl
+bool_bit false = refl

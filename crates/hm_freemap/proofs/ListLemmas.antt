@@ -65,11 +65,11 @@ pub or_second : (a b : Bool) → (a || b) ≡ true → a ≡ false → b ≡ tru
 or_second true b is not = absurd (true≢false not)
 or_second false b is not = is
 
-and_left : (a b : Bool) → (a && b) ≡ true → a ≡ true
+pub and_left : (a b : Bool) → (a && b) ≡ true → a ≡ true
 and_left true b is = refl
 and_left false b is = absurd (true≢false (sym is))
 
-and_right : (a b : Bool) → (a && b) ≡ true → b ≡ true
+pub and_right : (a b : Bool) → (a && b) ≡ true → b ≡ true
 and_right true b is = is
 and_right false b is = absurd (true≢false (sym is))
 

@@ -31,7 +31,7 @@ use Rattle.hm_freemap.proofs.ListLemmas.{all_left, apart_left}
 use Rattle.hm_freemap.proofs.PutLemmas.{other_test, same_test}
 use Rattle.hm_freemap.proofs.StandLemmas.{stand_after, all_below}
 
-all_both : (P Q R : Reference → Type 0) (xs : List Reference) → ((x : Reference) → P x → Q x → R x) → All P xs → All Q xs → All R xs
+pub all_both : (P Q R : Reference → Type 0) (xs : List Reference) → ((x : Reference) → P x → Q x → R x) → All P xs → All Q xs → All R xs
 all_both P Q R [] step p q = All-nil R
 all_both P Q R (x ∷ xs) step p q =
     All-cons R x xs (step x (All-head P x xs p) (All-head Q x xs q)) (all_both P Q R xs step (All-tail P x xs p) (All-tail Q x xs q))
@@ -56,7 +56,7 @@ none_there r (x ∷ xs) each =
     let rest = none_there r xs (All-tail (λ s. is_there r s ≡ false) x xs each) in
     omega (arith, first, rest, count-cons (is_there r) x xs)
 
-handed_out : (zone : ℕ) → TREE_ZONE ≤ zone → zone ≤ SMALL_ZONE → is_handed_out zone ≡ true
+pub handed_out : (zone : ℕ) → TREE_ZONE ≤ zone → zone ≤ SMALL_ZONE → is_handed_out zone ≡ true
 handed_out zone low high = grind (arith, nat_tests)
 
 is_handed : (zone : ℕ) → is_handed_out zone ≡ true → (TREE_ZONE ≤ zone) × (zone ≤ SMALL_ZONE)

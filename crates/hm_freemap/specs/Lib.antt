@@ -7,3 +7,5 @@ pub mod Scan
 pub mod Calls
 pub mod Change
 pub mod Extents
+pub mod Admit
+pub mod Renew

@@ -3,6 +3,7 @@ ghost use Rattle.std.specs.Prelude.{◌≡◌, ◌≤◌, ◌+◌, ◌-◌, ◌%
 ghost use Rattle.hm_types.specs.References.{unit_of};
 ghost use Rattle.hm_types.specs.declared.limits.TheConstants.{PAGE_BYTES, MOST_BIGBLOCKS};
 ghost use Rattle.hm_fields.specs.Fields.{Apart, get};
+ghost use Rattle.hm_freemap.specs.Admit.{begun};
 ghost use Rattle.hm_freemap.specs.Change.{HasRoomFor, appended, shared, given};
 ghost use Rattle.hm_freemap.specs.Entry.{
   entry_in,
@@ -44,6 +45,17 @@ impl Entry {
     {
         Entry {
             zone: UNUSED,
+            append_off: 0,
+            bytes_free: BIGBLOCK_BYTES as i32,
+        }
+    }
+
+    /// The entry of a big-block that a zone begins to append to.
+    pub fn begun(zone: u8) -> Entry
+        ensures { result ≡ begun zone }
+    {
+        Entry {
+            zone,
             append_off: 0,
             bytes_free: BIGBLOCK_BYTES as i32,
         }

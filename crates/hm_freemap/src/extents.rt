@@ -27,8 +27,8 @@ use crate::pool_entry::{bad_entry, pool_entry};
 use hm_fields::{Page, State};
 use hm_types::{BIGBLOCK_BYTES, Fault, HOff, TREE_ZONE, is_pool, rounded};
 
-// The entry of a big-block of the pool in the current state, and its page.
-fn read_entry<P: FreemapPages>(
+/// The entry of a big-block of the pool in the current state, and its page.
+pub(crate) fn read_entry<P: FreemapPages>(
     pages: &mut P,
     bigblocks: u32,
     block: u64,

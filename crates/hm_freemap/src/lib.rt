@@ -2,6 +2,7 @@
 //! how many of its bytes are free.
 #![tactic(auto)]
 
+mod admit;
 mod entry;
 mod extents;
 mod freemap;

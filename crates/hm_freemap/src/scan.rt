@@ -164,6 +164,7 @@ pub(crate) fn scan<P: FreemapPages>(
     ensures ok { IfOk result (λ found.
         WhereTold (P.committed pages.old) (P.frozen pages.old) (P.pages pages.old) (λ maps.
         Finds (is_free_by append.now maps) limit (pool bigblocks) found)) }
+    ensures below { IfOk result (λ found. AreBelow bigblocks found.first) }
     ensures same { (P.pages pages.new ≡ P.pages pages.old)
         × (P.committed pages.new ≡ P.committed pages.old)
         × (P.frozen pages.new ≡ P.frozen pages.old)

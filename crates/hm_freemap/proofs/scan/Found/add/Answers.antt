@@ -26,8 +26,8 @@ returns-clause-below c bound inside below =
     let count = c.args.self.now.count in
     elim c.if-self-lt4.branch [
       | then-self-lt4 w ↦ λ i low.
-        let four : length first ≡ 4 = search rules in
-        rw w.self-is (⊎_elim
+          let four : length first ≡ 4 = search rules in
+          rw w.self-is (⊎_elim
           (λ (same : i ≡ count). rw (same, get_or-set_same first count c.args.block 0 (omega arith)) inside)
           (λ other. rw (get_or-set_other first count i c.args.block 0 other) (below i low))
           (cases_eq i count))

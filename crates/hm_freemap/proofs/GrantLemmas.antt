@@ -1,0 +1,112 @@
+-- Zones that lacked room have begun new big-blocks: the call is admitted.
+use Rattle.std.proofs.Common.{◌≡◌, ◌≢◌, Bool, true, false, ℕ, ◌+◌, ◌-◌, ◌^◌, ◌<◌, ◌≤◌, min, inl, inr, ⊎_elim, List, length, refl, sym, ap, subst, ◌∙◌, arith, cond, nat_eq, Option, Some, None}
+use Rattle.std.specs.Prelude.{IfSome}
+use Rattle.std.proofs.lemmas.List.FromFn.{length-range_with_len}
+use Rattle.std.proofs.lemmas.List.Sums.{count_by-le-length}
+use Rattle.hm_types.specs.Layout.{first_pool}
+use Rattle.hm_types.specs.References.{References, pool}
+use Rattle.hm_types.specs.Space.{names_zone, reserve_of, needed, Admits}
+use Rattle.hm_types.specs.Told.{BothTell}
+use Rattle.hm_types.specs.declared.limits.TheConstants.{BIGBLOCK_BYTES, MOST_BIGBLOCKS}
+use Rattle.hm_types.specs.declared.zone.TheConstants.{TREE_ZONE, SMALL_ZONE}
+use Rattle.hm_types.specs.declared.zones.Zones.{Zones}
+use Rattle.hm_fields.specs.Pages.{PageMap}
+use Rattle.hm_freemap.specs.Admit.{IsAdmitted, does_lack, lacking, room_at, free_at}
+use Rattle.hm_freemap.specs.Extents.{Moves, with_current}
+use Rattle.hm_freemap.specs.Renew.{AreFresh, RenewedFor, Renewing, count_of, lacks_at}
+use Rattle.hm_freemap.specs.Scan.{Finds}
+use Rattle.hm_freemap.specs.Stand.{Maps, StandBy, WhereTold, free_by, is_free_by, room_in}
+use Rattle.hm_freemap.specs.declared.scan.Found.{Found}
+use Rattle.hm_freemap.proofs.AdmitLemmas.{found_fresh, lacks_is, named_zone, needed_is, reserve_kept, admitted_none}
+use Rattle.hm_freemap.proofs.FreeLemmas.{free_same}
+
+-- a zone that lacks room is one of which the reserve is less than a big-block
+reserve_small : (zone : ℕ) → reserve_of zone ≤ BIGBLOCK_BYTES
+reserve_small zone = by_test (nat_eq zone TREE_ZONE) where
+  by_test : (b : Bool) → cond b 1048576 131072 ≤ BIGBLOCK_BYTES
+  by_test true = omega arith
+  by_test false = omega arith
+
+module _ (bigblocks : ℕ) (zones : Zones) (held : ℕ) (append append' : List ℕ) (maps : Maps) (now : PageMap) (lack : List Bool) (wanted : ℕ) (found : Found)
+    (few : bigblocks ≤ MOST_BIGBLOCKS)
+    (is : lack ≡ lacking zones (room_in append maps.current))
+    (sized : wanted ≡ min (count_of lack + held) (2 ^ 32 - 1))
+    (four : count_of lack ≤ 4)
+    (enough : wanted ≤ found.count)
+    (finds : Finds (is_free_by append maps) wanted (pool bigblocks) found)
+    (renewing : Renewing lack found.first 4 (count_of lack) append append' maps.current now) where
+  room : ℕ → ℕ
+  room = room_in append maps.current
+
+  total : needed zones (room_in append maps.current) ≡ count_of lack
+  total = needed_is zones (room_in append maps.current) ∙ ap count_of (sym is)
+
+  there : count_of lack + held ≤ free_by bigblocks append maps
+  there =
+      let most = count_by-le-length (is_free_by append maps) (pool bigblocks) in
+      let long = length-range_with_len (first_pool bigblocks) (bigblocks - first_pool bigblocks) in
+      omega (arith, sized, enough, finds.count, most, long, few)
+
+  module _ (states : References) (stand : StandBy bigblocks append maps states) where
+    renewed : RenewedFor bigblocks lack found.first 4 (count_of lack) append append' maps (with_current now maps) states
+    renewed = renewing.each bigblocks maps.committed maps.frozen states stand
+        (found_fresh bigblocks append maps states wanted (count_of lack) found stand finds (omega (arith, sized, enough, four)) four)
+
+    reserved : (zone : ℕ) → names_zone zones zone ≡ true → reserve_of zone ≤ room_in append' now zone
+    reserved zone names =
+        let range = named_zone zones zone names in
+        let place : TREE_ZONE + (zone - TREE_ZONE) ≡ zone = omega (arith, range) in
+        let low : zone - TREE_ZONE < 4 = omega (arith, range) in
+        by_test (zone - TREE_ZONE) low place (lacks_at lack (zone - TREE_ZONE)) refl where
+          by_test : (j : ℕ) → j < 4 → TREE_ZONE + j ≡ zone → (b : Bool) → lacks_at lack j ≡ b → reserve_of zone ≤ room_in append' now zone
+          by_test j low place true has =
+              let whole : room_in append' now zone ≡ BIGBLOCK_BYTES = ap (room_in append' now) (sym place) ∙ renewed.done j low low has in
+              omega (arith, whole, reserve_small zone)
+          by_test j low place false has =
+              let same : room_in append' now zone ≡ room_in append maps.current zone =
+              ap (room_in append' now) (sym place) ∙ renewed.undone j low (inr has) ∙ ap (room_in append maps.current) place in
+              let has_room : does_lack zones (room_in append maps.current) zone ≡ false =
+              ap (does_lack zones (room_in append maps.current)) (sym place) ∙ sym (lacks_is zones (room_in append maps.current) j low)
+              ∙ ap (λ (l : List Bool). lacks_at l j) (sym is) ∙ has in
+              let kept = reserve_kept zones (room_in append maps.current) zone names has_room in
+              omega (arith, same, kept)
+
+    admits_all : Admits room_at (free_at bigblocks) zones held (record { append = append; maps = maps }) (record { append = append'; maps = with_current now maps })
+    admits_all =
+        let before = free_same bigblocks append maps states stand in
+        let after = free_same bigblocks append' (with_current now maps) states renewed.stand in
+        record {
+          enough = omega (arith, total, there);
+          no_more = omega (arith, before, after, renewed.no_more);
+          paid = omega (arith, before, after, total, renewed.paid);
+          reserve = reserved;
+        }
+
+  pub admitted_some : IsAdmitted bigblocks zones held append append' maps now
+  admitted_some = record {
+    pages = renewing.pages;
+    stand = λ states stand. (renewed states stand).stand;
+    admits = admits_all;
+  }
+
+-- the same where pages are told
+pub told_some : (bigblocks : ℕ) (zones : Zones) (held : ℕ) (append append' : List ℕ) (c f old new : Option PageMap) (lack : List Bool) (wanted : ℕ) (found : Found)
+    → bigblocks ≤ MOST_BIGBLOCKS → IfSome old (λ map. lack ≡ lacking zones (room_in append map)) → wanted ≡ min (count_of lack + held) (2 ^ 32 - 1) → count_of lack ≤ 4
+    → wanted ≤ found.count → WhereTold c f old (λ maps. Finds (is_free_by append maps) wanted (pool bigblocks) found)
+    → BothTell old new (Renewing lack found.first 4 (count_of lack) append append') → Moves c f old new (IsAdmitted bigblocks zones held append append')
+told_some bigblocks zones held append append' None f old new lack wanted found few is sized four enough finds renewing = tt
+told_some bigblocks zones held append append' (Some c) None old new lack wanted found few is sized four enough finds renewing = tt
+told_some bigblocks zones held append append' (Some c) (Some f) None new lack wanted found few is sized four enough finds renewing = tt
+told_some bigblocks zones held append append' (Some c) (Some f) (Some old) None lack wanted found few is sized four enough finds renewing = renewing
+told_some bigblocks zones held append append' (Some c) (Some f) (Some old) (Some new) lack wanted found few is sized four enough finds renewing =
+    admitted_some bigblocks zones held append append' (record { committed = c; frozen = f; current = old }) new lack wanted found few is sized four enough finds renewing
+
+pub told_none : (bigblocks : ℕ) (zones : Zones) (held : ℕ) (append : List ℕ) (c f old new : Option PageMap) (lack : List Bool) → new ≡ old
+    → IfSome old (λ map. lack ≡ lacking zones (room_in append map)) → count_of lack ≡ 0 → Moves c f old new (IsAdmitted bigblocks zones held append append)
+told_none bigblocks zones held append c f old new lack same is none = rw same (by_told c f old is) where
+  by_told : (c f o : Option PageMap) → IfSome o (λ map. lack ≡ lacking zones (room_in append map)) → Moves c f o o (IsAdmitted bigblocks zones held append append)
+  by_told None f o is = tt
+  by_told (Some c) None o is = tt
+  by_told (Some c) (Some f) None is = tt
+  by_told (Some c) (Some f) (Some map) is =
+      admitted_none bigblocks zones held append (record { committed = c; frozen = f; current = map }) (ap count_of (sym is) ∙ none)

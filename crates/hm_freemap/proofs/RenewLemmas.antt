@@ -1,0 +1,332 @@
+-- A zone begins a big-block that is free: the freemap stands for the same states.
+use Rattle.std.proofs.Common.{◌≡◌, ◌≢◌, Bool, true, false, true≢false, ℕ, zero, suc, ◌+◌, ◌-◌, ◌*◌, ◌%◌, ◌<◌, ◌≤◌, inl, inr, ⊎_elim, List, [], ◌∷◌, ◌++◌, length, set, slice_index, slice_set, refl, sym, ap, subst, ◌∙◌, arith, cond, not, ◌&&◌, ◌||◌, nat_eq, eqb-true, eq-eqb, ℤ, pos, ◌+ℤ◌}
+use Rattle.std.specs.Prelude.{All, count_by}
+use Rattle.std.specs.List.{list_any, range_with_len}
+use Rattle.std.proofs.lemmas.Bool.{cases_eq, cases_lt}
+use Rattle.std.proofs.lemmas.List.{get_or-set_same, get_or-set_other, length-set}
+use Rattle.std.proofs.lemmas.List.Elements.{All-head, All-tail, All-cons, All-nil, All-weaker}
+use Rattle.std.proofs.lemmas.Int.{ints}
+use Rattle.hm_types.specs.Layout.{IsPool, first_pool}
+use Rattle.hm_types.specs.References.{Reference, References, IsPlaced, is_in, unit_of, is_append, is_unused, is_free, free_blocks, live_bytes, pool}
+use Rattle.hm_types.specs.Space.{rounded}
+use Rattle.hm_types.specs.declared.limits.TheConstants.{BIGBLOCK_BYTES}
+use Rattle.hm_types.specs.declared.zone.TheConstants.{TREE_ZONE, SMALL_ZONE}
+use Rattle.hm_fields.specs.Pages.{PageMap}
+use Rattle.hm_freemap.specs.Admit.{begun}
+use Rattle.hm_freemap.specs.Entry.{IsPoolEntry}
+use Rattle.hm_freemap.specs.Extents.{with_current}
+use Rattle.hm_freemap.specs.Stand.{Maps, StandBy, IsBelow, AreAppended, EntryPut, all_of, home_of, entry_of, room_in, append_of, is_handed_out}
+use Rattle.hm_freemap.specs.declared.entry.Entry.{Entry}
+use Rattle.hm_freemap.proofs.BoundLemmas.{placed_size}
+use Rattle.hm_freemap.proofs.CountLemmas.{bit, count-range}
+use Rattle.hm_freemap.proofs.ListLemmas.{all_left, all_right, and_left, and_right}
+use Rattle.hm_freemap.proofs.PutLemmas.{other_test, same_test, fails}
+use Rattle.hm_freemap.proofs.StandLemmas.{tells_after}
+use Rattle.hm_freemap.proofs.TakeLemmas.{all_both, handed_out}
+
+-- a big-block in which nothing is live is no reference's
+unused_home : (bigblocks block : ℕ) (rs : List Reference) → All (IsPlaced bigblocks) rs → live_bytes rs block ≡ 0 → All (λ r. home_of r ≢ block) rs
+unused_home bigblocks block [] placed none = All-nil (λ r. home_of r ≢ block)
+unused_home bigblocks block (r ∷ rs) placed none =
+    let size = placed_size r.len (All-head (IsPlaced bigblocks) r rs placed).some in
+    All-cons (λ r. home_of r ≢ block) r rs
+    (λ same.
+    let is : cond (is_in block r) (rounded r.len) 0 ≡ rounded r.len = ap (λ (b : Bool). cond b (rounded r.len) 0) (eq-eqb (home_of r) block same) in
+    absurd (omega (arith, none, is, size)))
+    (unused_home bigblocks block rs (All-tail (IsPlaced bigblocks) r rs placed) (omega (arith, none)))
+
+all_append : {X : Type 0} (P : X → Type 0) (xs ys : List X) → All P xs → All P ys → All P (xs ++ ys)
+all_append P [] ys first second = second
+all_append P (x ∷ xs) ys first second = All-cons P x (xs ++ ys) (All-head P x xs first) (all_append P xs ys (All-tail P x xs first) second)
+
+pub zero_test : (n : ℕ) → nat_eq n 0 ≡ true → n ≡ 0
+zero_test n is = eqb-true n 0 is
+
+-- what a big-block that is free is
+pub record IsFreeBlock (append : List ℕ) (states : References) (block : ℕ) : Type 0 where
+  pub apart : is_append append block ≡ false
+  pub committed : live_bytes states.committed block ≡ 0
+  pub frozen : live_bytes states.frozen block ≡ 0
+  pub current : live_bytes states.current block ≡ 0
+
+not_true : (b : Bool) → not b ≡ true → b ≡ false
+not_true true is = absurd (true≢false (sym is))
+not_true false is = refl
+
+pub free_block : (append : List ℕ) (states : References) (block : ℕ) → is_free append states block ≡ true → IsFreeBlock append states block
+free_block append states block is =
+    let c = nat_eq (live_bytes states.committed block) 0 in
+    let f = nat_eq (live_bytes states.frozen block) 0 in
+    let u = nat_eq (live_bytes states.current block) 0 in
+    let n = not (is_append append block) in
+    let rest = and_right n ((c && f) && u) is in
+    let both = and_left (c && f) u rest in
+    record {
+      apart = not_true (is_append append block) (and_left n ((c && f) && u) is);
+      committed = zero_test (live_bytes states.committed block) (and_left c f both);
+      frozen = zero_test (live_bytes states.frozen block) (and_right c f both);
+      current = zero_test (live_bytes states.current block) (and_right (c && f) u rest);
+    }
+
+-- a test that no element of a list passes
+none_at : (xs : List ℕ) (block i : ℕ) → is_append xs block ≡ false → i < length xs → slice_index xs i ≢ block
+none_at [] block i none low same = absurd (omega arith)
+none_at (x ∷ xs) block zero none low same = true≢false (sym (eq-eqb x block same) ∙ or_left (nat_eq x block) (is_append xs block) none) where
+  or_left : (a b : Bool) → (a || b) ≡ false → a ≡ false
+  or_left true b is = is
+  or_left false b is = refl
+none_at (x ∷ xs) block (suc i) none low same = none_at xs block i (or_right (nat_eq x block) (is_append xs block) none) (omega arith) same where
+  or_right : (a b : Bool) → (a || b) ≡ false → b ≡ false
+  or_right true b is = absurd (true≢false is)
+  or_right false b is = is
+
+-- the four with one replaced
+pub set_none : (xs : List ℕ) (k new block : ℕ) → is_append xs block ≡ false → new ≢ block → is_append (set xs k new) block ≡ false
+set_none [] k new block none other = refl
+set_none (x ∷ xs) zero new block none other = rw (other_test new block other) (or_right (nat_eq x block) (is_append xs block) none) where
+  or_right : (a b : Bool) → (a || b) ≡ false → b ≡ false
+  or_right true b is = absurd (true≢false is)
+  or_right false b is = is
+set_none (x ∷ xs) (suc k) new block none other = both (nat_eq x block) (is_append xs block) (is_append (set xs k new) block) none (λ rest. set_none xs k new block rest other) where
+  both : (a b c : Bool) → (a || b) ≡ false → (b ≡ false → c ≡ false) → (a || c) ≡ false
+  both true b c is step = is
+  both false b c is step = step is
+
+set_same : (xs : List ℕ) (k new x : ℕ) → new ≢ x → slice_index xs k ≢ x → is_append (set xs k new) x ≡ is_append xs x
+set_same [] k new x other apart = refl
+set_same (y ∷ ys) zero new x other apart = rw (other_test new x other, other_test y x apart) refl
+set_same (y ∷ ys) (suc k) new x other apart = ap (λ (b : Bool). nat_eq y x || b) (set_same ys k new x other apart)
+
+set_has : (xs : List ℕ) (k new : ℕ) → k < length xs → is_append (set xs k new) new ≡ true
+set_has [] k new low = absurd (omega arith)
+set_has (y ∷ ys) zero new low = rw (same_test new) refl
+set_has (y ∷ ys) (suc k) new low = or_true (nat_eq y new) (is_append (set ys k new) new) (set_has ys k new (omega arith)) where
+  or_true : (a b : Bool) → b ≡ true → (a || b) ≡ true
+  or_true true b is = refl
+  or_true false b is = is
+
+has_at : (xs : List ℕ) (k : ℕ) → k < length xs → is_append xs (slice_index xs k) ≡ true
+has_at [] k low = absurd (omega arith)
+has_at (y ∷ ys) zero low = rw (same_test y) refl
+has_at (y ∷ ys) (suc k) low = or_true (nat_eq y (slice_index ys k)) (is_append ys (slice_index ys k)) (has_at ys k (omega arith)) where
+  or_true : (a b : Bool) → b ≡ true → (a || b) ≡ true
+  or_true true b is = refl
+  or_true false b is = is
+
+pub free_is : (append : List ℕ) (states : References) (block : ℕ) → is_append append block ≡ false → live_bytes states.committed block ≡ 0
+    → live_bytes states.frozen block ≡ 0 → live_bytes states.current block ≡ 0 → is_free append states block ≡ true
+free_is append states block apart committed frozen current =
+    let c = eq-eqb (live_bytes states.committed block) 0 committed in
+    let f = eq-eqb (live_bytes states.frozen block) 0 frozen in
+    let u = eq-eqb (live_bytes states.current block) 0 current in
+    rw (apart, c, f, u) refl
+
+not_free : (append : List ℕ) (states : References) (block : ℕ) → is_append append block ≡ true → is_free append states block ≡ false
+not_free append states block is = ap (λ (b : Bool). not b && is_unused states block) is
+
+pub bit_one : (b : Bool) → bit b ≤ 1
+bit_one true = omega arith
+bit_one false = omega arith
+
+-- sums of tests over a range, from what they are at each number
+pair_more : (p q e f : ℕ → Bool) (a n : ℕ) → ((x : ℕ) → bit (q x) + bit (e x) ≤ bit (p x) + bit (f x))
+    → count_by q (range_with_len a n) + count_by e (range_with_len a n) ≤ count_by p (range_with_len a n) + count_by f (range_with_len a n)
+pair_more p q e f a zero each = omega arith
+pair_more p q e f a (suc n) each =
+    let rest = pair_more p q e f (a + 1) n each in
+    omega (arith, each a, rest, count-range p a n, count-range q a n, count-range e a n, count-range f a n)
+
+pair_less : (p q e : ℕ → Bool) (a n : ℕ) → ((x : ℕ) → bit (p x) ≤ bit (q x) + bit (e x))
+    → count_by p (range_with_len a n) ≤ count_by q (range_with_len a n) + count_by e (range_with_len a n)
+pair_less p q e a zero each = omega arith
+pair_less p q e a (suc n) each =
+    let rest = pair_less p q e (a + 1) n each in
+    omega (arith, each a, rest, count-range p a n, count-range q a n, count-range e a n)
+
+abbrev is_one : ℕ → ℕ → Bool
+is_one b x = nat_eq x b
+
+none_before : (b a n : ℕ) → b < a → count_by (is_one b) (range_with_len a n) ≡ 0
+none_before b a zero low = refl
+none_before b a (suc n) low =
+    let first : bit (is_one b a) ≡ 0 = ap bit (other_test a b (λ same. absurd (omega (arith, same)))) in
+    let rest = none_before b (a + 1) n (omega arith) in
+    omega (arith, first, rest, count-range (is_one b) a n)
+
+one_there : (b a n : ℕ) → a ≤ b → b < a + n → count_by (is_one b) (range_with_len a n) ≡ 1
+one_there b a zero low high = absurd (omega arith)
+one_there b a (suc n) low high = ⊎_elim
+    (λ (same : a ≡ b).
+    let first : bit (is_one b a) ≡ 1 = ap bit (eq-eqb a b same) in
+    let rest = none_before b (a + 1) n (omega (arith, same)) in
+    omega (arith, first, rest, count-range (is_one b) a n))
+    (λ other.
+    let first : bit (is_one b a) ≡ 0 = ap bit (other_test a b other) in
+    let rest = one_there b (a + 1) n (omega (arith, other)) (omega arith) in
+    omega (arith, first, rest, count-range (is_one b) a n))
+    (cases_eq a b)
+
+one_most : (b a n : ℕ) → count_by (is_one b) (range_with_len a n) ≤ 1
+one_most b a zero = omega arith
+one_most b a (suc n) = ⊎_elim
+    (λ (same : a ≡ b).
+    let first : bit (is_one b a) ≡ 1 = ap bit (eq-eqb a b same) in
+    let rest = none_before b (a + 1) n (omega (arith, same)) in
+    omega (arith, first, rest, count-range (is_one b) a n))
+    (λ other.
+    let first : bit (is_one b a) ≡ 0 = ap bit (other_test a b other) in
+    let rest = one_most b (a + 1) n in
+    omega (arith, first, rest, count-range (is_one b) a n))
+    (cases_eq a b)
+
+zero_unit : (zone : ℕ) → 0 % unit_of zone ≡ 0
+zero_unit zone = by_test (nat_eq zone TREE_ZONE) where
+  by_test : (t : Bool) → 0 % cond t 4096 16 ≡ 0
+  by_test true = omega arith
+  by_test false = omega arith
+
+module _ (bigblocks : ℕ) (append : List ℕ) (maps : Maps) (states : References) (stand : StandBy bigblocks append maps states)
+    (k : ℕ) (low : k < 4) (block : ℕ) (inside : IsPool bigblocks block) (is : is_free append states block ≡ true)
+    (now : PageMap) (put : EntryPut block (begun (TREE_ZONE + k)) maps.current now) where
+  abbrev after : List ℕ
+  after = slice_set append k block
+
+  free : IsFreeBlock append states block
+  free = free_block append states block is
+
+  at_place : slice_index after k ≡ block
+  at_place = get_or-set_same append k block 0 (omega (arith, stand.appended.four))
+
+  at_other : (j : ℕ) → j ≢ k → slice_index after j ≡ slice_index append j
+  at_other j other = get_or-set_other append k j block 0 other
+
+  append_apart : (j : ℕ) → j < 4 → slice_index append j ≢ block
+  append_apart j few = none_at append block j free.apart (omega (arith, stand.appended.four))
+
+  homes : All (λ r. home_of r ≢ block) (all_of states)
+  homes =
+      let rest = states.frozen ++ states.committed in
+      let more = all_right (IsPlaced bigblocks) states.current rest stand.placed in
+      all_append (λ r. home_of r ≢ block) states.current rest
+      (unused_home bigblocks block states.current (all_left (IsPlaced bigblocks) states.current rest stand.placed) free.current)
+      (all_append (λ r. home_of r ≢ block) states.frozen states.committed
+      (unused_home bigblocks block states.frozen (all_left (IsPlaced bigblocks) states.frozen states.committed more) free.frozen)
+      (unused_home bigblocks block states.committed (all_right (IsPlaced bigblocks) states.frozen states.committed more) free.committed))
+
+  below_begun : (r : Reference) → home_of r ≢ block → IsBelow maps.current r → IsBelow now r
+  below_begun r apart below =
+      let same = put.others (home_of r) apart in
+      record {
+        zone = ap (λ (e : Entry). e.zone) same ∙ below.zone;
+        end = omega (arith, below.end, ap (λ (e : Entry). e.append_off) same);
+      }
+
+  begun_entry : IsPoolEntry (begun (TREE_ZONE + k))
+  begun_entry = inl (record {
+    zone = (omega arith, omega arith);
+    append = omega arith;
+    unit = zero_unit (TREE_ZONE + k);
+  })
+
+  begun_free : pos BIGBLOCK_BYTES +ℤ pos (live_bytes states.current block) ≡ pos BIGBLOCK_BYTES
+  begun_free = let none = free.current in omega (arith, ints, none)
+
+  begun_appended : AreAppended bigblocks after now
+  begun_appended = record {
+    four = length-set append k block ∙ stand.appended.four;
+    pool = λ j few. ⊎_elim
+        (λ (same : j ≡ k). subst (IsPool bigblocks) (sym (ap (slice_index after) same ∙ at_place)) inside)
+        (λ other. subst (IsPool bigblocks) (sym (at_other j other)) (stand.appended.pool j few))
+        (cases_eq j k);
+    zone = λ j few. ⊎_elim
+        (λ (same : j ≡ k). ap (λ (b : ℕ). (entry_of now b).zone) (ap (slice_index after) same ∙ at_place) ∙ ap (λ (e : Entry). e.zone) put.put ∙ omega (arith, same))
+        (λ other. ap (λ (b : ℕ). (entry_of now b).zone) (at_other j other) ∙ ap (λ (e : Entry). e.zone) (put.others (slice_index append j) (append_apart j few)) ∙ stand.appended.zone j few)
+        (cases_eq j k);
+  }
+
+  pub begun_stands : StandBy bigblocks (slice_set append k block) (with_current now maps) states
+  begun_stands = record {
+    committed = stand.committed;
+    frozen = stand.frozen;
+    current = tells_after block (begun (TREE_ZONE + k)) maps.current now put bigblocks states.current states.current begun_entry begun_free (λ b other. refl) stand.current;
+    appended = begun_appended;
+    placed = stand.placed;
+    below = all_both (λ r. home_of r ≢ block) (IsBelow maps.current) (IsBelow now) (all_of states) below_begun homes stand.below;
+    apart = stand.apart;
+    few = stand.few;
+  }
+
+  -- which big-blocks are free changed at the new one and the old one alone
+  same_free : (x : ℕ) → x ≢ block → x ≢ slice_index append k → is_free after states x ≡ is_free append states x
+  same_free x other apart =
+      ap (λ (b : Bool). not b && is_unused states x) (set_same append k block x (λ e. other (sym e)) (λ e. apart (sym e)))
+
+  gone : is_free after states block ≡ false
+  gone = not_free after states block (set_has append k block (omega (arith, stand.appended.four)))
+
+  used : is_free append states (slice_index append k) ≡ false
+  used = not_free append states (slice_index append k) (has_at append k (omega (arith, stand.appended.four)))
+
+  each_more : (x : ℕ) → bit (is_free after states x) + bit (is_one block x) ≤ bit (is_free append states x) + bit (is_one (slice_index append k) x)
+  each_more x = ⊎_elim
+      (λ (same : x ≡ block).
+      let a : bit (is_free after states x) ≡ 0 = ap (λ (y : ℕ). bit (is_free after states y)) same ∙ ap bit gone in
+      let b : bit (is_free append states x) ≡ 1 = ap (λ (y : ℕ). bit (is_free append states y)) same ∙ ap bit is in
+      omega (arith, a, b, bit_one (is_one block x)))
+      (λ other.
+      let none : bit (is_one block x) ≡ 0 = ap bit (other_test x block other) in
+      ⊎_elim
+      (λ (old : x ≡ slice_index append k).
+      let one : bit (is_one (slice_index append k) x) ≡ 1 = ap bit (eq-eqb x (slice_index append k) old) in
+      omega (arith, none, one, bit_one (is_free after states x)))
+      (λ apart.
+      let same : bit (is_free after states x) ≡ bit (is_free append states x) = ap bit (same_free x other apart) in
+      omega (arith, none, same))
+      (cases_eq x (slice_index append k)))
+      (cases_eq x block)
+
+  each_less : (x : ℕ) → bit (is_free append states x) ≤ bit (is_free after states x) + bit (is_one block x)
+  each_less x = ⊎_elim
+      (λ (same : x ≡ block).
+      let one : bit (is_one block x) ≡ 1 = ap bit (eq-eqb x block same) in
+      omega (arith, one, bit_one (is_free append states x)))
+      (λ other. ⊎_elim
+      (λ (old : x ≡ slice_index append k).
+      let none : bit (is_free append states x) ≡ 0 = ap (λ (y : ℕ). bit (is_free append states y)) old ∙ ap bit used in
+      omega (arith, none))
+      (λ apart.
+      let same : bit (is_free after states x) ≡ bit (is_free append states x) = ap bit (same_free x other apart) in
+      omega (arith, same))
+      (cases_eq x (slice_index append k)))
+      (cases_eq x block)
+
+  pub no_more : free_blocks bigblocks (slice_set append k block) states ≤ free_blocks bigblocks append states
+  no_more =
+      let first = first_pool bigblocks in
+      let n = bigblocks - first in
+      let sum = pair_more (is_free append states) (is_free after states) (is_one block) (is_one (slice_index append k)) first n each_more in
+      let one = one_there block first n inside.0 (omega (arith, inside.0, inside.1)) in
+      omega (arith, sum, one, one_most (slice_index append k) first n)
+
+  pub one_less : free_blocks bigblocks append states ≤ free_blocks bigblocks (slice_set append k block) states + 1
+  one_less =
+      let first = first_pool bigblocks in
+      let n = bigblocks - first in
+      let sum = pair_less (is_free append states) (is_free after states) (is_one block) first n each_less in
+      omega (arith, sum, one_most block first n)
+
+  pub room_begun : room_in (slice_set append k block) now (TREE_ZONE + k) ≡ BIGBLOCK_BYTES
+  room_begun =
+      let place : TREE_ZONE + k - TREE_ZONE ≡ k = omega arith in
+      let here : entry_of now (append_of after (TREE_ZONE + k)) ≡ begun (TREE_ZONE + k) = ap (λ (j : ℕ). entry_of now (slice_index after j)) place ∙ ap (entry_of now) at_place ∙ put.put in
+      let handed = handed_out (TREE_ZONE + k) (omega arith) (omega arith) in
+      ap (λ (e : Entry). cond (is_handed_out (TREE_ZONE + k)) (BIGBLOCK_BYTES - e.append_off) 0) here ∙ ap (λ (b : Bool). cond b (BIGBLOCK_BYTES - 0) 0) handed
+
+  pub room_other : (j : ℕ) → j < 4 → j ≢ k → room_in (slice_set append k block) now (TREE_ZONE + j) ≡ room_in append maps.current (TREE_ZONE + j)
+  room_other j few other =
+      let place : TREE_ZONE + j - TREE_ZONE ≡ j = omega arith in
+      let one : append_of after (TREE_ZONE + j) ≡ slice_index append j = ap (slice_index after) place ∙ at_other j other in
+      let two : append_of append (TREE_ZONE + j) ≡ slice_index append j = ap (slice_index append) place in
+      let same : entry_of now (append_of after (TREE_ZONE + j)) ≡ entry_of maps.current (append_of append (TREE_ZONE + j)) =
+      ap (entry_of now) one ∙ put.others (slice_index append j) (append_apart j few) ∙ ap (entry_of maps.current) (sym two) in
+      ap (λ (e : Entry). cond (is_handed_out (TREE_ZONE + j)) (BIGBLOCK_BYTES - e.append_off) 0) same

@@ -1,0 +1,140 @@
+-- One zone after the other begins a big-block.
+use Rattle.std.proofs.Common.{◌≡◌, ◌≢◌, Bool, true, false, true≢false, ℕ, suc, ◌+◌, ◌-◌, ◌^◌, ◌<◌, ◌≤◌, ◌⊎◌, inl, inr, ⊎_elim, List, length, take, get_or, slice_index, slice_set, refl, sym, ap, subst, ◌∙◌, arith, cond, Option, Some, None}
+use Rattle.std.specs.Prelude.{count_by}
+use Rattle.std.proofs.lemmas.Bool.{cases_eq, cases_lt}
+use Rattle.std.proofs.lemmas.List.Sums.{count_by_more_yes, count_by_more_no, count_by-le-length, sum_by-take-le}
+use Rattle.hm_types.specs.Layout.{IsPool}
+use Rattle.hm_types.specs.Offset.{zone_of}
+use Rattle.hm_types.specs.References.{References, is_append, is_free, free_blocks}
+use Rattle.hm_types.specs.Told.{BothTell}
+use Rattle.hm_types.specs.declared.limits.TheConstants.{BIGBLOCK_BYTES}
+use Rattle.hm_types.specs.declared.zone.TheConstants.{TREE_ZONE, FREEMAP_ZONE}
+use Rattle.hm_fields.specs.Pages.{PageMap}
+use Rattle.hm_freemap.specs.Admit.{begun}
+use Rattle.hm_freemap.specs.Places.{page_of}
+use Rattle.hm_freemap.specs.Renew.{AreFresh, Begins, RenewedFor, Renewing, count_of, lacks_at}
+use Rattle.hm_freemap.specs.Stand.{Maps, StandBy, EntryPut, room_in}
+use Rattle.hm_freemap.proofs.CountLemmas.{bit}
+use Rattle.hm_freemap.proofs.PlaceLemmas.{page_zone}
+use Rattle.hm_freemap.proofs.RenewLemmas.{IsFreeBlock, free_block, free_is, set_none, begun_stands, no_more, one_less, room_begun, room_other}
+
+-- how many of the first k zones lack room
+abbrev pub count_first : List Bool → ℕ → ℕ
+count_first lack k = count_by (λ lacks. lacks) (take k lack)
+
+pub first_few : (lack : List Bool) (k : ℕ) → count_first lack k ≤ count_of lack
+first_few lack k = sum_by-take-le (λ lacks. cond lacks 1 0) lack k
+
+pub first_more : (lack : List Bool) (k : ℕ) → k < length lack → count_first lack (k + 1) ≡ count_first lack k + bit (lacks_at lack k)
+first_more lack k low = by_test (lacks_at lack k) refl where
+  by_test : (b : Bool) → lacks_at lack k ≡ b → count_first lack (k + 1) ≡ count_first lack k + bit b
+  by_test true is = count_by_more_yes (λ lacks. lacks) lack k false low is
+  by_test false is = let same = count_by_more_no (λ lacks. lacks) lack k false low is in omega (arith, same)
+
+-- nothing has begun yet
+pub renewing_none : (lack : List Bool) (fresh append : List ℕ) (map : PageMap) → length append ≡ 4 → Renewing lack fresh 0 0 append append map map
+renewing_none lack fresh append map four = record {
+  pages = λ at other. refl;
+  each = λ bigblocks c f states stand facts. record {
+    stand = stand;
+    no_more = omega arith;
+    paid = omega arith;
+    left = λ i low high. (free_block append states (slice_index fresh i) (facts.free i high)).apart;
+    done = λ j few early. absurd (omega arith);
+    undone = λ j few later. refl;
+  };
+}
+
+module _ (lack : List Bool) (fresh : List ℕ) (k : ℕ) (append0 append' : List ℕ) (old mid : PageMap) (low : k < 4) (four : length lack ≡ 4)
+    (renewing : Renewing lack fresh k (count_first lack k) append0 append' old mid) where
+  -- a zone that has room
+  step_none : lacks_at lack k ≡ false → Renewing lack fresh (k + 1) (count_first lack (k + 1)) append0 append' old mid
+  step_none has =
+      let same : count_first lack (k + 1) ≡ count_first lack k = first_more lack k (omega (arith, four)) ∙ (let zero : bit (lacks_at lack k) ≡ 0 = ap bit has in omega (arith, zero)) in
+      record {
+        pages = renewing.pages;
+        each = λ bigblocks c f states stand facts.
+            let r = renewing.each bigblocks c f states stand facts in
+            record {
+              stand = r.stand;
+              no_more = r.no_more;
+              paid = omega (arith, r.paid, same);
+              left = λ i later high. r.left i (omega (arith, same, later)) high;
+              done = λ j few early lacks. ⊎_elim
+                  (λ (here : j ≡ k). absurd (true≢false (sym lacks ∙ (ap (lacks_at lack) here ∙ has))))
+                  (λ other. r.done j few (omega (arith, early, other)) lacks)
+                  (cases_eq j k);
+              undone = λ j few which. ⊎_elim (λ (later : k + 1 ≤ j). r.undone j few (inl (omega (arith, later)))) (λ none. r.undone j few (inr none)) which;
+            };
+      }
+
+  -- a zone that has too little
+  step_some : lacks_at lack k ≡ true → slice_index fresh (count_first lack k) < 2 ^ 32 → (now : PageMap)
+      → EntryPut (slice_index fresh (count_first lack k)) (begun (TREE_ZONE + k)) mid now
+      → Renewing lack fresh (k + 1) (count_first lack (k + 1)) append0 (slice_set append' k (slice_index fresh (count_first lack k))) old now
+  step_some lacks small now put =
+      let next = count_first lack k in
+      let block = slice_index fresh next in
+      let one : count_first lack (k + 1) ≡ next + 1 = first_more lack k (omega (arith, four)) ∙ (let bits : bit (lacks_at lack k) ≡ 1 = ap bit lacks in omega (arith, bits)) in
+      let inside : next < count_of lack = omega (arith, one, first_few lack (k + 1)) in
+      record {
+        pages = λ at other. put.pages at (λ same. other (ap zone_of same ∙ page_zone block small)) ∙ renewing.pages at other;
+        each = λ bigblocks c f states stand facts.
+            let r = renewing.each bigblocks c f states stand facts in
+            let maps : Maps = record { committed = c; frozen = f; current = mid } in
+            let was = free_block append0 states block (facts.free next inside) in
+            let free : is_free append' states block ≡ true = free_is append' states block (r.left next (omega arith) inside) was.committed was.frozen was.current in
+            let pool = facts.pool next inside in
+            let more = no_more bigblocks append' maps states r.stand k low block pool free now put in
+            let less = one_less bigblocks append' maps states r.stand k low block pool free now put in
+            record {
+              stand = begun_stands bigblocks append' maps states r.stand k low block pool free now put;
+              no_more = omega (arith, more, r.no_more);
+              paid = omega (arith, less, r.paid, one);
+              left = λ i later high. set_none append' k block (slice_index fresh i) (r.left i (omega (arith, later, one)) high) (facts.apart next i (omega (arith, later, one)) high);
+              done = λ j few early needs. ⊎_elim
+                  (λ (here : j ≡ k). ap (λ (x : ℕ). room_in (slice_set append' k block) now (TREE_ZONE + x)) here ∙ room_begun bigblocks append' maps states r.stand k low block pool free now put)
+                  (λ other. room_other bigblocks append' maps states r.stand k low block pool free now put j few other ∙ r.done j few (omega (arith, early, other)) needs)
+                  (cases_eq j k);
+              undone = λ j few which.
+                  let other : j ≢ k = λ here. ⊎_elim (λ (later : k + 1 ≤ j). absurd (omega (arith, later, here))) (λ none. absurd (true≢false (sym (ap (lacks_at lack) here ∙ lacks) ∙ none))) which in
+                  room_other bigblocks append' maps states r.stand k low block pool free now put j few other
+                  ∙ ⊎_elim (λ (later : k + 1 ≤ j). r.undone j few (inl (omega (arith, later)))) (λ none. r.undone j few (inr none)) which;
+            };
+      }
+
+-- a step of the loop over the four, where pages are told
+pub told_step : (lack : List Bool) (fresh : List ℕ) (k next : ℕ) (append0 append' append'' : List ℕ) (lacks : Bool) (block : ℕ) (old mid now : Option PageMap)
+    → k < 4 → length lack ≡ 4 → next ≡ count_first lack k → lacks ≡ lacks_at lack k → block ≡ slice_index fresh next → block < 2 ^ 32
+    → BothTell old mid (Renewing lack fresh k next append0 append')
+    → BothTell mid now (Begins lacks k block append' append'')
+    → BothTell old now (Renewing lack fresh (k + 1) (next + bit lacks) append0 append'')
+told_step lack fresh k next append0 append' append'' lacks block None None None low four at is one small before after = tt
+told_step lack fresh k next append0 append' append'' lacks block None None (Some z) low four at is one small before after = after
+told_step lack fresh k next append0 append' append'' lacks block None (Some y) z low four at is one small before after = absurd before
+told_step lack fresh k next append0 append' append'' lacks block (Some x) None z low four at is one small before after = absurd before
+told_step lack fresh k next append0 append' append'' lacks block (Some x) (Some y) None low four at is one small before after = after
+told_step lack fresh k next append0 append' append'' lacks block (Some x) (Some y) (Some z) low four at is one small before after =
+    by_test lacks is after where
+      counted : (b : Bool) → b ≡ lacks_at lack k → count_first lack (k + 1) ≡ next + bit b
+      counted b same = first_more lack k (omega (arith, four)) ∙ (let bits : bit b ≡ bit (lacks_at lack k) = ap bit same in omega (arith, bits, at))
+
+      was : Renewing lack fresh k (count_first lack k) append0 append' x y
+      was = subst (λ (n : ℕ). Renewing lack fresh k n append0 append' x y) at before
+
+      place : block ≡ slice_index fresh (count_first lack k)
+      place = one ∙ ap (slice_index fresh) at
+
+      by_test : (b : Bool) → b ≡ lacks_at lack k → Begins b k block append' append'' y z → Renewing lack fresh (k + 1) (next + bit b) append0 append'' x z
+      by_test false same begins =
+          subst (λ (n : ℕ). Renewing lack fresh (k + 1) n append0 append'' x z) (counted false same)
+          (rw (begins.0, begins.1) (step_none lack fresh k append0 append' x y low four was (sym same)))
+      by_test true same begins =
+          let put : EntryPut (slice_index fresh (count_first lack k)) (begun (TREE_ZONE + k)) y z = subst (λ (b : ℕ). EntryPut b (begun (TREE_ZONE + k)) y z) place begins.1 in
+          let done = step_some lack fresh k append0 append' x y low four was (sym same) (subst (λ (b : ℕ). b < 2 ^ 32) place small) z put in
+          subst (λ (n : ℕ). Renewing lack fresh (k + 1) n append0 append'' x z) (counted true same)
+          (subst (λ (l : List ℕ). Renewing lack fresh (k + 1) (count_first lack (k + 1)) append0 l x z) (sym (begins.0 ∙ ap (slice_set append' k) place)) done)
+
+pub told_none : (lack : List Bool) (fresh append : List ℕ) (told : Option PageMap) → length append ≡ 4 → BothTell told told (Renewing lack fresh 0 0 append append)
+told_none lack fresh append None four = tt
+told_none lack fresh append (Some map) four = renewing_none lack fresh append map four
