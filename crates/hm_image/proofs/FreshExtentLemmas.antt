@@ -5,18 +5,19 @@ use Rattle.std.specs.List.{All}
 use Rattle.std.proofs.lemmas.List.Elements.{All-nil}
 use Rattle.std.proofs.lemmas.List.Sums.{count_by-le-length}
 use Rattle.hm_types.specs.Layout.{block_of, first_pool, start_of}
-use Rattle.hm_types.specs.Offset.{raw_of}
+use Rattle.hm_types.specs.Offset.{raw_of, zone_of}
 use Rattle.hm_types.specs.References.{AreFew, DoNotOverlap, IsPlaced, NoneOverlap, Reference, begin_of, end_of, is_there, unit_of}
-use Rattle.hm_types.specs.Space.{rounded}
+use Rattle.hm_types.specs.Space.{IsPayloadZone, rounded}
 use Rattle.hm_types.specs.declared.limits.TheConstants.{BIGBLOCK_BYTES, PAGE_BYTES}
 use Rattle.hm_types.specs.declared.zone.TheConstants.{META_ZONE, SMALL_ZONE, TREE_ZONE}
 use Rattle.hm_freemap.specs.declared.entry.Entry.{Entry}
 use Rattle.hm_header.specs.Range.{IsSize}
+use Rattle.hm_search.specs.Tree.{elements_of}
 use Rattle.hm_image.specs.Fresh.{IsFresh, fresh_entry, inode_element, pool_entry, record_element, root_at}
 use Rattle.hm_image.specs.Image.{pages_of, references_from, to_node, to_payload}
-use Rattle.hm_image.specs.Sound.{IsFilled}
+use Rattle.hm_image.specs.Sound.{IsAmongPayloads, IsFilled}
 use Rattle.hm_image.proofs.FreshSpaceLemmas.{fresh_in_pool}
-use Rattle.hm_image.proofs.FreshTreeLemmas.{fresh_node, leaf_references}
+use Rattle.hm_image.proofs.FreshTreeLemmas.{fresh_node, leaf_elements, leaf_references}
 use Rattle.hm_image.proofs.ListLemmas.{all_one, all_three, all_two}
 use Rattle.hm_image.proofs.OffsetLemmas.{byte_is, pool_is, volume_is, zone_is}
 
@@ -118,3 +119,17 @@ module _ (bigblocks : ℕ) (size : IsSize bigblocks) where
 
   pub fresh_few : AreFew (fresh_references bigblocks)
   fresh_few k d below = omega (arith, count_by-le-length (is_there (slice_index_or (fresh_references bigblocks) k d)) (fresh_references bigblocks))
+
+-- both payloads stand in the zone of such payloads
+among : (byte : ℕ) → byte < 2 ^ 52 → IsPayloadZone (zone_of (raw_of META_ZONE byte))
+among byte few = let zone = zone_is META_ZONE byte few in (omega arith, omega arith)
+
+pub fresh_zones : (bigblocks : ℕ) (image : List ℕ) → IsSize bigblocks → IsFresh bigblocks image
+    → All IsAmongPayloads (elements_of (pages_of image) (root_at bigblocks))
+fresh_zones bigblocks image size fresh =
+    let pool = pool_is bigblocks size in
+    let elements = leaf_elements (pages_of image) (root_at bigblocks) _ (fresh_node bigblocks image fresh) in
+    subst (All IsAmongPayloads) (sym elements)
+    (all_two IsAmongPayloads (inode_element bigblocks) (record_element bigblocks)
+    (among (start_of (first_pool bigblocks + 1)) (omega arith))
+    (among (start_of (first_pool bigblocks + 1) + 32) (omega arith)))

@@ -13,7 +13,7 @@ use Rattle.hm_records.specs.KeysFit.{KeysFit}
 use Rattle.hm_records.specs.Payload.{IsPayload}
 use Rattle.hm_image.specs.Fresh.{IsFresh, fresh_entry, fresh_header, pool_entry}
 use Rattle.hm_image.specs.Sound.{HasExtents, HasFreeBytes, HasLayer2, HasPayloads, IsFilled, IsSoundBy}
-use Rattle.hm_image.proofs.FreshExtentLemmas.{fresh_apart, fresh_entry_at, fresh_few, fresh_filled, fresh_placed, fresh_references_are}
+use Rattle.hm_image.proofs.FreshExtentLemmas.{fresh_apart, fresh_entry_at, fresh_few, fresh_filled, fresh_placed, fresh_references_are, fresh_zones}
 use Rattle.hm_image.proofs.FreshFreeLemmas.{fresh_free}
 use Rattle.hm_image.proofs.FreshHeaderLemmas.{fresh_counts}
 use Rattle.hm_image.proofs.FreshPayloadLemmas.{fresh_full, full_keys, full_payloads}
@@ -52,6 +52,7 @@ module _ (bigblocks : ℕ) (image : List ℕ) (size : IsSize bigblocks) (fresh :
   extents =
       let here = sym (fresh_references_are bigblocks image fresh) in
       record {
+        zones = fresh_zones bigblocks image size fresh;
         placed = subst (All (IsPlaced bigblocks)) here (fresh_placed bigblocks size);
         filled = subst (All (IsFilled (fresh_entry bigblocks))) here (fresh_filled bigblocks size);
         apart = subst NoneOverlap here (fresh_apart bigblocks size);

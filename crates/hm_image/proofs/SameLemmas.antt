@@ -55,7 +55,7 @@ module _ (old new : List ℕ) (root : ℕ) (same : HasSameTree old new root) whe
   node_same : node_at (pages_of new) root ≡ node
   node_same = ap (λ (o : Option (List ℕ)). node_in (page_in o)) root_same
 
-  plain_same : elements_of (pages_of new) root ≡ elements_of (pages_of old) root
+  pub plain_same : elements_of (pages_of new) root ≡ elements_of (pages_of old) root
   plain_same =
       ap (λ (n : Node). elements_in (pages_of new) (height_of n) n) node_same
       ∙ frame_elements (pages_of old) (pages_of new) height node below_same

@@ -13,9 +13,9 @@ use Rattle.hm_records.specs.KeysFit.{KeysFit}
 use Rattle.hm_records.specs.Payload.{IsPayload}
 use Rattle.hm_image.specs.Image.{HasHeader, elements_from, pages_of, references_from}
 use Rattle.hm_image.specs.Same.{HasSameFreemap, HasSameTree}
-use Rattle.hm_image.specs.Sound.{HasEntry, HasExtents, HasLayer2, HasPayloads, IsFilled, IsSoundBy, free_in}
+use Rattle.hm_image.specs.Sound.{HasEntry, HasExtents, HasLayer2, HasPayloads, IsAmongPayloads, IsFilled, IsSoundBy, free_in}
 use Rattle.hm_image.specs.Stands.{AreOfSystems, HasIds, HasViews, HaveRecords, StandsFor}
-use Rattle.hm_image.proofs.SameLemmas.{elements_same, references_same, tree_same}
+use Rattle.hm_image.proofs.SameLemmas.{elements_same, plain_same, references_same, tree_same}
 
 -- an entry of layer 2
 entry_same : (old new : List ℕ) (block : ℕ) (e : Entry) → pages_of new (page_of block) ≡ pages_of old (page_of block)
@@ -34,6 +34,7 @@ module _ (old new : List ℕ) (header : Header) (freemap : HasSameFreemap old ne
 
   extents_same : (entries : ℕ → Entry) → HasExtents old header entries → HasExtents new header entries
   extents_same entries has = record {
+    zones = subst (All IsAmongPayloads) (sym (plain_same old new header.root same)) has.zones;
     placed = subst (All (IsPlaced header.bigblocks)) rs_same has.placed;
     filled = subst (All (IsFilled entries)) rs_same has.filled;
     apart = subst NoneOverlap rs_same has.apart;

@@ -7,12 +7,13 @@ use Rattle.hm_types.specs.Hash.{name_hash}
 use Rattle.hm_types.specs.Name.{IsName, IsNameByte, LacksId}
 use Rattle.hm_types.specs.References.{AreFew, DoNotOverlap, IsPlaced, NoneOverlap, Reference, is_there}
 use Rattle.hm_types.specs.declared.space.TheConstants.{MOST_REFERENCES}
+use Rattle.hm_key.specs.Elements.{moved_to}
 use Rattle.hm_records.specs.Entry.{IsEntry}
 use Rattle.hm_records.specs.KeysFit.{KeysFit}
 use Rattle.hm_records.specs.Payload.{KeyFits}
 use Rattle.hm_image.specs.Examples.{entry_a, entry_at, key_of_a, payload_at}
-use Rattle.hm_image.specs.Fresh.{fresh_entry}
-use Rattle.hm_image.specs.Sound.{IsFilled, free_in}
+use Rattle.hm_image.specs.Fresh.{fresh_entry, inode_element, root_at}
+use Rattle.hm_image.specs.Sound.{IsAmongPayloads, IsFilled, free_in}
 use Rattle.hm_image.proofs.ListLemmas.{all_one}
 
 -- ---- overlaps
@@ -54,6 +55,12 @@ unfilled_refused is = omega (arith, is.filled)
 
 pub filled_there : IsFilled (fresh_entry 24) (payload_at 64 16)
 filled_there = record { zone = refl; filled = omega arith }
+
+pub node_zone_refused : ¬ IsAmongPayloads (moved_to (root_at 24) (inode_element 24))
+node_zone_refused is = omega (arith, is.0)
+
+pub meta_zone_among : IsAmongPayloads (inode_element 24)
+meta_zone_among = (omega arith, omega arith)
 
 -- ---- references
 

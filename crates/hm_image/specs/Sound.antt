@@ -5,6 +5,7 @@ use Rattle.hm_types.specs.Hash.{name_hash}
 use Rattle.hm_types.specs.Layout.{IsPool, block_of, blocks_per_layer2, layer2_blocks, start_of}
 use Rattle.hm_types.specs.Offset.{zone_of}
 use Rattle.hm_types.specs.References.{Reference, IsPlaced, NoneOverlap, AreFew, begin_of, end_of, live_bytes}
+use Rattle.hm_types.specs.Space.{IsPayloadZone}
 use Rattle.hm_types.specs.declared.limits.TheConstants.{BIGBLOCK_BYTES}
 use Rattle.hm_types.specs.declared.zone.TheConstants.{TREE_ZONE}
 use Rattle.hm_freemap.specs.Entry.{IsEntryOf, SpellsEntry}
@@ -12,9 +13,10 @@ use Rattle.hm_freemap.specs.Layer1.{layer1_bytes, layer1_of}
 use Rattle.hm_freemap.specs.Places.{page_of, place_of}
 use Rattle.hm_freemap.specs.declared.entry.Entry.{Entry}
 use Rattle.hm_header.specs.declared.header.Header.{Header}
+use Rattle.hm_key.specs.declared.element.Element.{Element}
 use Rattle.hm_records.specs.KeysFit.{KeysFit}
 use Rattle.hm_records.specs.Payload.{IsPayload}
-use Rattle.hm_search.specs.Tree.{IsSoundTree}
+use Rattle.hm_search.specs.Tree.{IsSoundTree, elements_of}
 use Rattle.hm_image.specs.Image.{HasHeader, elements_from, pages_of, references_from}
 
 -- how many entries layer 1 has, whatever the size of the volume
@@ -54,8 +56,13 @@ pub record IsFilled (entries : ℕ → Entry) (r : Reference) : Type 0 where
   pub zone : (entries (block_of (begin_of r))).zone ≡ zone_of r.at
   pub filled : end_of r ≤ start_of (block_of (begin_of r)) + (entries (block_of (begin_of r))).append_off
 
+-- a payload stands in a zone of payloads, apart from the nodes, which are written where they stand
+abbrev pub IsAmongPayloads : Element → Type 0
+IsAmongPayloads e = IsPayloadZone (zone_of e.payload)
+
 -- extents: each stands where one may, two are equal or share no byte, and none is referred to too often
 pub record HasExtents (image : List ℕ) (header : Header) (entries : ℕ → Entry) : Type 0 where
+  pub zones : All IsAmongPayloads (elements_of (pages_of image) header.root)
   pub placed : All (IsPlaced header.bigblocks) (references_from (pages_of image) header.root)
   pub filled : All (IsFilled entries) (references_from (pages_of image) header.root)
   pub apart : NoneOverlap (references_from (pages_of image) header.root)

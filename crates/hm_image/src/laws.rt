@@ -9,7 +9,8 @@ pub use fresh::{a_fresh_volume_is_sound, a_fresh_volume_stands};
 pub use refused::{
     extents_across_bigblocks_are_refused, extents_past_the_filled_part_are_refused,
     keys_of_other_names_are_refused, other_counts_of_free_bytes_are_refused,
-    overlapping_extents_are_refused, references_past_64_are_refused,
+    overlapping_extents_are_refused, payloads_among_nodes_are_refused,
+    references_past_64_are_refused,
 };
 pub use same::{
     images_are_their_freemaps_and_trees, images_are_what_they_name, trees_are_what_they_refer_to,

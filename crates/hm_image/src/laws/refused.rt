@@ -2,11 +2,12 @@
 ghost use Rattle.std.specs.Prelude.{◌≡◌, ◌≢◌, ◌+◌, pos, [], ◌∷◌, replicate, codes};
 ghost use Rattle.hm_types.specs.Hash.{name_hash};
 ghost use Rattle.hm_types.specs.References.{AreFew, IsPlaced, NoneOverlap};
+ghost use Rattle.hm_key.specs.Elements.{moved_to};
 ghost use Rattle.hm_records.specs.KeysFit.{KeysFit};
 ghost use Rattle.hm_records.specs.Payload.{KeyFits};
 ghost use Rattle.hm_image.specs.Examples.{entry_at, key_of_a, payload_at};
-ghost use Rattle.hm_image.specs.Fresh.{fresh_entry};
-ghost use Rattle.hm_image.specs.Sound.{IsFilled, free_in};
+ghost use Rattle.hm_image.specs.Fresh.{fresh_entry, inode_element, root_at};
+ghost use Rattle.hm_image.specs.Sound.{IsAmongPayloads, IsFilled, free_in};
 
 /// Two extents that share 16 bytes are refused. One that begins where the other ends is not, and
 /// neither are two references to one extent, whose lengths may differ by less than 16 bytes.
@@ -28,6 +29,13 @@ pub fn extents_across_bigblocks_are_refused()
 pub fn extents_past_the_filled_part_are_refused()
     ensures refused { ¬ IsFilled (fresh_entry 24) (payload_at 80 16) }
     ensures filled { IsFilled (fresh_entry 24) (payload_at 64 16) }
+{}
+
+/// A payload that stands in the zone of nodes is refused: here the root directory's inode stands where
+/// the root node does. One in the zone of such payloads is not.
+pub fn payloads_among_nodes_are_refused()
+    ensures refused { ¬ IsAmongPayloads (moved_to (root_at 24) (inode_element 24)) }
+    ensures among { IsAmongPayloads (inode_element 24) }
 {}
 
 /// A 65th reference to one extent is refused, and the 64th is not.
