@@ -14,3 +14,4 @@ pub mod ReferenceLemmas
 pub mod SameLemmas
 pub mod SameVolumeLemmas
 pub mod NamedLemmas
+pub mod ApartLemmas

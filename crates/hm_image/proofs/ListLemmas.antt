@@ -1,5 +1,5 @@
 -- Facts of short lists.
-use Rattle.std.proofs.Common.{◌≡◌, ◌⊎◌, inl, inr, zero, suc, [], ◌∷◌, arith}
+use Rattle.std.proofs.Common.{◌≡◌, List, ◌⊎◌, inl, inr, zero, suc, [], ◌∷◌, arith}
 use Rattle.std.specs.List.{All, Contains}
 use Rattle.std.proofs.lemmas.List.Elements.{All-cons, All-nil}
 
@@ -22,3 +22,8 @@ one_of_two x y z (suc (suc k), few, here) = absurd (omega arith)
 pub only_one : {X : Type 0} (x z : X) → Contains (x ∷ []) z → x ≡ z
 only_one x z (zero, few, here) = here
 only_one x z (suc k, few, here) = absurd (omega arith)
+
+-- an element of a list is its first, or one of the others
+pub first_or_later : {X : Type 0} (x : X) (xs : List X) (z : X) → Contains (x ∷ xs) z → (x ≡ z) ⊎ Contains xs z
+first_or_later x xs z (zero, few, here) = inl here
+first_or_later x xs z (suc k, few, here) = inr (k, omega arith, here)

@@ -15,4 +15,7 @@ pub use refused::{
 pub use same::{
     images_are_their_freemaps_and_trees, images_are_what_they_name, trees_are_what_they_refer_to,
 };
-pub use sound::a_sound_image_has_one_header;
+pub use sound::{
+    a_sound_image_has_one_header, elements_of_a_sound_image_are_in_order,
+    extents_of_a_sound_image_are_apart,
+};

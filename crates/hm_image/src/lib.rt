@@ -7,7 +7,8 @@ mod laws;
 
 pub use laws::{
     a_fresh_volume_is_sound, a_fresh_volume_stands, a_sound_image_has_one_header,
-    extents_across_bigblocks_are_refused, extents_past_the_filled_part_are_refused,
+    elements_of_a_sound_image_are_in_order, extents_across_bigblocks_are_refused,
+    extents_of_a_sound_image_are_apart, extents_past_the_filled_part_are_refused,
     images_are_their_freemaps_and_trees, images_are_what_they_name,
     keys_of_other_names_are_refused, other_counts_of_free_bytes_are_refused,
     overlapping_extents_are_refused, payloads_among_nodes_are_refused,
