@@ -240,7 +240,10 @@ fn frozen_pages_are_listed_by_their_offsets(rt: HostRuntime) -> Result<(), Fail>
     take(&rt, &mut store, Step::Freeze)?;
     assert_eq!(rt; (store.group_len(), store.frozen_len()), (0, 3));
     take(&rt, &mut store, Step::Change(3, 33))?;
-    assert_eq!(rt; listed(&rt, &store), [(1, 21, true), (3, 23, false), (5, 25, false)]);
+    assert_eq!(rt;
+        listed(&rt, &store),
+        [(1, 21, true), (3, 23, false), (5, 25, false)]
+    );
     take(&rt, &mut store, Step::Commit)?;
     assert_eq!(rt; (store.group_len(), store.frozen_len()), (1, 0));
     Ok(())
@@ -253,15 +256,27 @@ fn a_group_has_no_more_pages_than_it_may(rt: HostRuntime) -> Result<(), Fail> {
     take(&rt, &mut store, Step::Begin)?;
     take(&rt, &mut store, Step::Change(1, 11))?;
     take(&rt, &mut store, Step::Change(2, 12))?;
-    assert_eq!(rt; take(&rt, &mut store, Step::Change(3, 13)), Err(Fault::NoMemory));
+    assert_eq!(rt;
+        take(&rt, &mut store, Step::Change(3, 13)),
+        Err(Fault::NoMemory)
+    );
     take(&rt, &mut store, Step::Change(2, 22))?;
     take(&rt, &mut store, Step::Remove(1))?;
     take(&rt, &mut store, Step::Change(3, 23))?;
-    assert_eq!(rt; take(&rt, &mut store, Step::Change(4, 24)), Err(Fault::NoMemory));
-    assert_eq!(rt; numbers_in(&rt, &mut store, State::Current)?, [10, 0, 22, 23, 0, 0, 0, 0]);
+    assert_eq!(rt;
+        take(&rt, &mut store, Step::Change(4, 24)),
+        Err(Fault::NoMemory)
+    );
+    assert_eq!(rt;
+        numbers_in(&rt, &mut store, State::Current)?,
+        [10, 0, 22, 23, 0, 0, 0, 0]
+    );
     take(&rt, &mut store, Step::Keep)?;
     assert_eq!(rt; store.group_len(), 3);
-    assert_eq!(rt; take(&rt, &mut store, Step::Change(5, 25)), Err(Fault::NoMemory));
+    assert_eq!(rt;
+        take(&rt, &mut store, Step::Change(5, 25)),
+        Err(Fault::NoMemory)
+    );
     take(&rt, &mut store, Step::Freeze)?;
     take(&rt, &mut store, Step::Change(5, 25))?;
     Ok(())
