@@ -1,5 +1,6 @@
 pub mod ListLemmas
 pub mod OffsetLemmas
+pub mod PartLemmas
 pub mod FreshHeaderLemmas
 pub mod FreshSpaceLemmas
 pub mod FreshTreeLemmas
@@ -15,3 +16,6 @@ pub mod SameLemmas
 pub mod SameVolumeLemmas
 pub mod NamedLemmas
 pub mod ApartLemmas
+pub mod FreshPageLemmas
+pub mod FreshImageLemmas
+pub mod FreshThereLemmas

@@ -1,9 +1,8 @@
 -- Images with the same bytes wherever a byte is named have the same header slots, freemap and tree.
-use Rattle.std.proofs.Common.{◌≡◌, inl, inr, ℕ, ◌+◌, ◌-◌, ◌*◌, ◌/◌, ◌<◌, ◌≤◌, List, drop, length, refl, sym, subst, ◌∙◌, arith, length-drop, length-take, get_or-drop, get_or-take}
+use Rattle.std.proofs.Common.{◌≡◌, inl, inr, ℕ, ◌+◌, ◌*◌, ◌/◌, ◌<◌, ◌≤◌, List, length, refl, sym, subst, ◌∙◌, arith}
 use Rattle.std.specs.Prelude.{slice_index, slice_range}
 use Rattle.std.specs.List.{Contains}
 use Rattle.std.proofs.lemmas.Bool.{cases_lt}
-use Rattle.std.proofs.lemmas.Grind.{same_number_lists}
 use Rattle.std.proofs.lemmas.List.{get_or_past}
 use Rattle.std.proofs.lemmas.List.Elements.{All-contains_itself, All-weaker}
 use Rattle.hm_types.specs.Layout.{blocks_per_layer2, first_layer2, first_undo, layer2_blocks, start_of}
@@ -21,24 +20,12 @@ use Rattle.hm_image.specs.Image.{HasHeader, bytes_at, first_slot, pages_of, refe
 use Rattle.hm_image.specs.Same.{HasSameBytes, HasSameFreemap, HasSameNamed, HasSameTree, IsNamed, of_freemap, of_slot, of_tree}
 use Rattle.hm_image.specs.Sound.{IsSoundBy}
 use Rattle.hm_image.specs.Stands.{StandsFor}
+use Rattle.hm_image.proofs.PartLemmas.{part_same}
 use Rattle.hm_image.proofs.OffsetLemmas.{byte_is, layer2_is}
 use Rattle.hm_image.proofs.SameVolumeLemmas.{sound_same, stands_same}
 
--- parts of two lists that have the same numbers there
-pub range_same : (old new : List ℕ) (from to : ℕ) → length new ≡ length old
-    → ((i : ℕ) → from ≤ i → i < to → slice_index new i ≡ slice_index old i) → slice_range new from to ≡ slice_range old from to
-range_same old new from to size same =
-    same_number_lists (slice_range new from to) (slice_range old from to)
-    (simp (length-take, length-drop) (omega arith))
-    (λ k below.
-    let within : k < to - from = omega (arith, length-take (to - from) (drop from new)) in
-    let here = same (from + k) (omega arith) (omega arith) in
-    let at : (xs : List ℕ) → slice_index (slice_range xs from to) k ≡ slice_index xs (from + k) =
-    λ xs. get_or-take (to - from) (drop from xs) k 0 within ∙ get_or-drop from xs k 0 in
-    at new ∙ here ∙ sym (at old))
-
 -- the page with the entry of a big-block lies in the big-blocks of layer 2
-page_byte : (bigblocks block : ℕ) → IsSize bigblocks → block < layer2_blocks bigblocks * blocks_per_layer2
+pub page_byte : (bigblocks block : ℕ) → IsSize bigblocks → block < layer2_blocks bigblocks * blocks_per_layer2
     → (start_of first_layer2 ≤ byte_of (page_of block)) × (byte_of (page_of block) + PAGE_BYTES ≤ start_of (first_undo bigblocks))
 unfolding page_of
 page_byte bigblocks block size few =
@@ -57,7 +44,7 @@ module _ (old new : List ℕ) (header : Header) (same : HasSameNamed old new hea
       ]
 
   named_range : (from to : ℕ) → ((i : ℕ) → from ≤ i → i < to → IsNamed old header i) → slice_range new from to ≡ slice_range old from to
-  named_range from to named = range_same old new from to same.size (λ i after before. named_same i (named i after before))
+  named_range from to named = part_same old new from to same.size (λ i after before. named_same i (named i after before))
 
   first_same : first_slot new ≡ first_slot old
   first_same = named_range 0 SLOT_BYTES (λ i after before. of_slot (omega arith))

@@ -34,11 +34,18 @@ module _ (old new : List ℕ) (root : ℕ) (same : HasSameTree old new root) whe
   abbrev height : ℕ
   height = height_of node
 
-  nodes : All (HasSameBytes old new) (to_node root ∷ nodes_below (pages_of old) height node)
-  nodes = All-left (HasSameBytes old new) (to_node root ∷ nodes_below (pages_of old) height node) (map to_payload (elements_of (pages_of old) root)) same.bytes
+  -- the references are those to nodes, and those to payloads
+  abbrev to_nodes : List Reference
+  to_nodes = to_node root ∷ nodes_below (pages_of old) height node
 
-  payloads : All (HasSameBytes old new) (map to_payload (elements_of (pages_of old) root))
-  payloads = All-right (HasSameBytes old new) (to_node root ∷ nodes_below (pages_of old) height node) (map to_payload (elements_of (pages_of old) root)) same.bytes
+  abbrev to_payloads : List Reference
+  to_payloads = map to_payload (elements_of (pages_of old) root)
+
+  nodes : All (HasSameBytes old new) to_nodes
+  nodes = All-left (HasSameBytes old new) to_nodes to_payloads same.bytes
+
+  payloads : All (HasSameBytes old new) to_payloads
+  payloads = All-right (HasSameBytes old new) to_nodes to_payloads same.bytes
 
   pub root_same : pages_of new root ≡ pages_of old root
   root_same = page_same old new root same.size (All-head (HasSameBytes old new) (to_node root) (nodes_below (pages_of old) height node) nodes)

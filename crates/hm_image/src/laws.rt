@@ -5,7 +5,7 @@ mod refused;
 mod same;
 mod sound;
 
-pub use fresh::{a_fresh_volume_is_sound, a_fresh_volume_stands};
+pub use fresh::{a_fresh_volume_is_sound, a_fresh_volume_stands, there_is_a_fresh_volume};
 pub use refused::{
     extents_across_bigblocks_are_refused, extents_past_the_filled_part_are_refused,
     keys_of_other_names_are_refused, other_counts_of_free_bytes_are_refused,

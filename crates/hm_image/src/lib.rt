@@ -12,5 +12,5 @@ pub use laws::{
     images_are_their_freemaps_and_trees, images_are_what_they_name,
     keys_of_other_names_are_refused, other_counts_of_free_bytes_are_refused,
     overlapping_extents_are_refused, payloads_among_nodes_are_refused,
-    references_past_64_are_refused, trees_are_what_they_refer_to,
+    references_past_64_are_refused, there_is_a_fresh_volume, trees_are_what_they_refer_to,
 };

@@ -12,9 +12,14 @@ pub fn a_fresh_volume_is_sound()
         IsSoundBy image (fresh_header bigblocks) }
 {}
 
-/// It stands for the volume that the model makes: one master, whose tree has the root directory alone,
-/// and the id 1 drawn.
+/// It stands for the volume that the model makes: one master, whose tree has the root directory
+/// alone, and the id 1 drawn.
 pub fn a_fresh_volume_stands()
     ensures { (bigblocks : ℕ) (image : List ℕ) → IsSize bigblocks → IsFresh bigblocks image →
         StandsFor image (fresh bigblocks) }
+{}
+
+/// There is one of each size. So the laws above speak of something, and a sound image exists.
+pub fn there_is_a_fresh_volume()
+    ensures { (bigblocks : ℕ) → IsSize bigblocks → (image : List ℕ) × IsFresh bigblocks image }
 {}

@@ -31,8 +31,8 @@ pub fn extents_past_the_filled_part_are_refused()
     ensures filled { IsFilled (fresh_entry 24) (payload_at 64 16) }
 {}
 
-/// A payload that stands in the zone of nodes is refused: here the root directory's inode stands where
-/// the root node does. One in the zone of such payloads is not.
+/// A payload that stands in the zone of nodes is refused: here the root directory's inode stands
+/// where the root node does. One in the zone of such payloads is not.
 pub fn payloads_among_nodes_are_refused()
     ensures refused { ¬ IsAmongPayloads (moved_to (root_at 24) (inode_element 24)) }
     ensures among { IsAmongPayloads (inode_element 24) }
@@ -44,8 +44,8 @@ pub fn references_past_64_are_refused()
     ensures few { AreFew (replicate 64 (payload_at 0 32)) }
 {}
 
-/// Of a big-block with one extent of 32 bytes and two references to one of 40 bytes, which takes 48,
-/// 128 bytes are live, and no other number of free bytes counts than what is left.
+/// Of a big-block with one extent of 32 bytes and two references to one of 40 bytes, which takes
+/// 48, 128 bytes are live, and no other number of free bytes counts than what is left.
 pub fn other_counts_of_free_bytes_are_refused()
     ensures counted { free_in (payload_at 0 32 ∷ payload_at 32 40 ∷ payload_at 32 40 ∷ []) 12
         ≡ pos 8388480 }

@@ -8,8 +8,8 @@ ghost use Rattle.hm_image.specs.Same.{HasSameFreemap, HasSameNamed, HasSameTree}
 ghost use Rattle.hm_image.specs.Sound.{IsSoundBy};
 ghost use Rattle.hm_image.specs.Stands.{StandsFor};
 
-/// Two images that have the same bytes wherever a tree of one refers to have the same elements there,
-/// and refer to the same extents. The tree is sound in both or in neither.
+/// Two images that have the same bytes wherever a tree of one refers to have the same elements
+/// there, and refer to the same extents. The tree is sound in both or in neither.
 pub fn trees_are_what_they_refer_to()
     ensures elements { (old new : List ℕ) (root : ℕ) → HasSameTree old new root →
         elements_from new root ≡ elements_from old root }
@@ -21,14 +21,14 @@ pub fn trees_are_what_they_refer_to()
         HasSameTree new old root }
 {}
 
-/// An image that has the freemap of a sound one, and its bytes wherever its tree refers to, is sound by
-/// the same header where that counts in it too. So it is with the volume that it stands for.
+/// An image that has the freemap of a sound one, and its bytes wherever its tree refers to, is sound
+/// by the same header where that counts in it too. So it is with the volume that it stands for.
 pub fn images_are_their_freemaps_and_trees()
     ensures sound { (old new : List ℕ) (header : Header) (slot : ℕ) →
         HasSameFreemap old new header.bigblocks → HasSameTree old new header.root →
         HasHeader new header slot → IsSoundBy old header → IsSoundBy new header }
-    ensures stands { (old new : List ℕ) (volume : Volume) (stands : StandsFor old volume) (slot : ℕ) →
-        HasSameFreemap old new stands.header.bigblocks → HasSameTree old new stands.header.root →
+    ensures stands { (old new : List ℕ) (volume : Volume) (stands : StandsFor old volume)
+        (slot : ℕ) → HasSameFreemap old new stands.header.bigblocks → HasSameTree old new stands.header.root →
         HasHeader new stands.header slot → StandsFor new volume }
 {}
 
