@@ -21,15 +21,17 @@ pub fn trees_are_what_they_refer_to()
         HasSameTree new old root }
 {}
 
-/// An image that has the freemap of a sound one, and its bytes wherever its tree refers to, is sound
-/// by the same header where that counts in it too. So it is with the volume that it stands for.
+/// An image that has the freemap of a sound one, and its bytes wherever its tree refers to, is
+/// sound by the same header where that counts in it too. So it is with the volume that it stands
+/// for.
 pub fn images_are_their_freemaps_and_trees()
     ensures sound { (old new : List ℕ) (header : Header) (slot : ℕ) →
         HasSameFreemap old new header.bigblocks → HasSameTree old new header.root →
         HasHeader new header slot → IsSoundBy old header → IsSoundBy new header }
     ensures stands { (old new : List ℕ) (volume : Volume) (stands : StandsFor old volume)
-        (slot : ℕ) → HasSameFreemap old new stands.header.bigblocks → HasSameTree old new stands.header.root →
-        HasHeader new stands.header slot → StandsFor new volume }
+        (slot : ℕ) → HasSameFreemap old new stands.header.bigblocks →
+        HasSameTree old new stands.header.root → HasHeader new stands.header slot →
+        StandsFor new volume }
 {}
 
 /// Said byte by byte: an image that differs from one that stands for a volume only in bytes that no
