@@ -8,7 +8,8 @@ use Rattle.hm_disk.proofs.DiskLemmas.{BothTell-and, BothTell-then}
 use Rattle.hm_disk.proofs.MomentLemmas.{Elapses-more}
 use Rattle.hm_header.specs.declared.header.Header.{Header}
 use Rattle.hm_header.specs.declared.header.TheConstants.{SLOT_BYTES}
-use Rattle.hm_header.specs.Change.{AnyCrash, ChangeElapses, ChangeFailed, Changes, HasNextBody, IsBodyWritten, IsChanged, IsClosedBeside, IsCounting, KeepsOthers, StageDone, StageElapses, StageFailed}
+use Rattle.hm_header.specs.Change.{AnyCrash, ChangeElapses, ChangeFailed, Changes, HasNextBody, IsBodyWritten, IsChanged}
+use Rattle.hm_header.specs.Change.{IsClosedBeside, IsCounting, KeepsOthers, StageDone, StageElapses, StageFailed}
 use Rattle.hm_header.specs.OnDisk.{gate_place, slot_place}
 use Rattle.hm_header.proofs.StageLemmas.{Elapses-within}
 
@@ -47,7 +48,8 @@ left-then : (number : ℕ) (s t : Told) (place count : ℕ) (image : List ℕ) �
     → MayLeave s.bytes ((slot_place number, SLOT_BYTES) ∷ s.unsettled) image
 left-then number s t place count image from to settled kept left =
     MayLeave-through s.bytes t.bytes image ((slot_place number, SLOT_BYTES) ∷ s.unsettled) ((slot_place number, SLOT_BYTES) ∷ t.unsettled)
-    (MayLeave-fewer s.bytes t.bytes ((slot_place number, SLOT_BYTES) ∷ s.unsettled) ((slot_place number, SLOT_BYTES) ∷ []) (λ byte outside. (outside.0, tt)) kept)
+    (MayLeave-fewer s.bytes t.bytes ((slot_place number, SLOT_BYTES) ∷ s.unsettled) ((slot_place number, SLOT_BYTES) ∷ [])
+    (λ byte outside. (outside.0, tt)) kept)
     (λ byte outside. (outside.0, subst (λ (ranges : List (ℕ × ℕ)). Outside ranges byte) (sym settled) tt))
     (left-in number t place count image from to left)
 
@@ -77,7 +79,8 @@ module _ (header next : Header) (slot : ℕ) (small : slot ≤ 1) where
   closed-others s t closing = KeepsOthers-in (1 - slot) s.bytes t.bytes (gate_place (1 - slot)) 1 (omega arith) (omega arith) closing.others
 
   -- the second stage failed
-  pub failed-body : (s t u : Told) → Closing s t → StageFailed (IsClosedBeside header slot) (slot_place (1 - slot)) 16383 t u → ChangeFailed header slot next s u
+  pub failed-body : (s t u : Told) → Closing s t → StageFailed (IsClosedBeside header slot) (slot_place (1 - slot)) 16383 t u
+      → ChangeFailed header slot next s u
   failed-body s t u closing failed = record {
     header_is = inl (failed.crash u.bytes (MayLeave-same u.bytes u.unsettled)).header_is;
     others = KeepsOthers-then (1 - slot) s.bytes t.bytes u.bytes (closed-others s t closing)
@@ -90,7 +93,8 @@ module _ (header next : Header) (slot : ℕ) (small : slot ≤ 1) where
   body-elapses past middle since s t u closing first then = Elapses-more _ _ past middle since s t u (close-elapses past middle s t first) then
       (λ image left. record {
         header_is = inl left.has.header_is;
-        others = left-then (1 - slot) s t (slot_place (1 - slot)) 16383 image (omega arith) (omega arith) closing.settled (closed-others s t closing) left.others;
+        others = left-then (1 - slot) s t (slot_place (1 - slot)) 16383 image (omega arith) (omega arith) closing.settled
+            (closed-others s t closing) left.others;
       })
 
   -- two stages succeeded

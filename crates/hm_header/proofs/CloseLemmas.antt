@@ -13,7 +13,8 @@ use Rattle.hm_header.proofs.AnswerLemmas.{IfSome-both, IfSome-map}
 use Rattle.hm_header.proofs.GateLemmas.{byte-read}
 use Rattle.hm_header.proofs.StageLemmas.{close-already, close-leaves, close-written, failed-same, failed-write, read-elapses, synced-elapses, written-elapses}
 
-module _ (header : Header) (slot : ℕ) (small : slot ≤ 1) (old told : Option Told) (safe : IfSome old (AnyCrash (IsCounting header slot))) (same : told ≡ old) where
+module _ (header : Header) (slot : ℕ) (small : slot ≤ 1) (old told : Option Told) (safe : IfSome old (AnyCrash (IsCounting header slot)))
+    (same : told ≡ old) where
   -- nothing was written
   pub unwritten : BothTell old told (StageFailed (IsCounting header slot) (gate_place (1 - slot)) 1)
   unwritten =
@@ -41,16 +42,19 @@ module _ (header : Header) (slot : ℕ) (small : slot ≤ 1) (old told : Option 
 
     pub open-done : BothTell told new (WrittenSynced place (0 ∷ [])) → BothTell old new (StageDone (IsClosedBeside header slot) (gate_place (1 - slot)) 1)
     open-done written =
-        BothTell-map old new Seen _ _ (λ s t fits first. close-written header slot small s t fits.0 first) seen (from-old (λ k. WrittenSynced k (0 ∷ [])) written)
+        BothTell-map old new Seen _ _ (λ s t fits first. close-written header slot small s t fits.0 first) seen
+        (from-old (λ k. WrittenSynced k (0 ∷ [])) written)
 
     pub open-failed : get_or buf 0 0 ≡ GATE_OPEN → BothTell told new (TornAll place 1)
         → BothTell old new (StageFailed (IsCounting header slot) (gate_place (1 - slot)) 1)
     open-failed was_open torn =
         BothTell-map old new Seen _ _
-        (λ s t fits first. failed-write (IsCounting header slot) (gate_place (1 - slot)) 1 s t (close-leaves header slot small s fits.0 (sym fits.1 ∙ was_open)) first)
+        (λ s t fits first. failed-write (IsCounting header slot) (gate_place (1 - slot)) 1 s t
+        (close-leaves header slot small s fits.0 (sym fits.1 ∙ was_open)) first)
         seen (from-old (λ k. TornAll k 1) torn)
 
-    pub open-elapses : (past middle since : LeftSince) → SameLeft past middle → get_or buf 0 0 ≡ GATE_OPEN → BothTell told new (WriteElapses place 1 middle since)
+    pub open-elapses : (past middle since : LeftSince) → SameLeft past middle → get_or buf 0 0 ≡ GATE_OPEN
+        → BothTell told new (WriteElapses place 1 middle since)
         → BothTell old new (StageElapses (IsCounting header slot) (gate_place (1 - slot)) 1 past since)
     open-elapses past middle since left was_open time =
         BothTell-map old new Seen _ _
@@ -58,7 +62,8 @@ module _ (header : Header) (slot : ℕ) (small : slot ≤ 1) (old told : Option 
         (close-leaves header slot small s fits.0 (sym fits.1 ∙ was_open)) left first)
         seen (from-old (λ k. WriteElapses k 1 middle since) time)
 
-    pub closed-done : (get_or buf 0 0 ≡ GATE_OPEN → ⊥) → BothTell told new Synced → BothTell old new (StageDone (IsClosedBeside header slot) (gate_place (1 - slot)) 1)
+    pub closed-done : (get_or buf 0 0 ≡ GATE_OPEN → ⊥) → BothTell told new Synced
+        → BothTell old new (StageDone (IsClosedBeside header slot) (gate_place (1 - slot)) 1)
     closed-done shut synced =
         BothTell-map old new Seen _ _
         (λ s t fits first. close-already header slot small s t fits.0 (λ is_open. shut (fits.1 ∙ is_open)) first) seen (from-old (λ k. Synced) synced)

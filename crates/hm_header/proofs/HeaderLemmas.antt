@@ -86,7 +86,8 @@ next-counts first second header next zero small is is_next generation part spell
     (last_counts first second part other).0 follows
 next-counts first second header next (suc zero) small is is_next generation part spelled written =
     let other : TakesPart first = subst TakesPart (sym written) (encoded_takes_part next) in
-    let follows : Follows second first = subst (λ (s : List ℕ). Follows second s) (sym written) (next-follows second header next spelled is is_next generation) in
+    let follows : Follows second first = subst (λ (s : List ℕ). Follows second s) (sym written)
+    (next-follows second header next spelled is is_next generation) in
     (last_counts first second other part).1 follows
 next-counts first second header next (suc (suc number)) small is is_next generation part spelled written = absurd (omega (arith, small))
 

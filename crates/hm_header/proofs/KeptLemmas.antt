@@ -1,13 +1,14 @@
 -- What keeps the two slots keeps what the stages of a header change ask for.
-use Rattle.std.proofs.Common.{◌≡◌, ◌⊎◌, inl, inr, ⊎_elim, ℕ, zero, suc, ◌+◌, ◌-◌, ◌*◌, ◌<◌, ◌≤◌, List, [], ◌∷◌, subst, sym, arith, length, get_or}
-use Rattle.hm_disk.specs.Crash.{Told, MayLeave}
-use Rattle.hm_disk.specs.Moments.{Each}
+use Rattle.std.proofs.Common.{◌≡◌, ◌⊎◌, inl, inr, ⊎_elim, ℕ, zero, suc, ◌+◌, ◌-◌, ◌*◌, ◌<◌, ◌≤◌, List, subst, sym, arith, length, get_or, Option, Some, None, IfSome}
+use Rattle.hm_disk.specs.Crash.{Told}
+use Rattle.hm_disk.specs.Disk.{BothTell, Synced}
 use Rattle.hm_disk.specs.Transfer.{TornAll}
 use Rattle.hm_header.specs.declared.header.Header.{Header}
 use Rattle.hm_header.specs.declared.header.TheConstants.{SLOT_BYTES}
 use Rattle.hm_header.specs.Change.{AnyCrash, AreSlotsSettled, HasNextBody, IsClosedBeside, IsCounting}
-use Rattle.hm_header.specs.OnDisk.{slot_in}
+use Rattle.hm_header.specs.OnDisk.{HasHeader, slot_in}
 use Rattle.hm_header.specs.Slots.{IsClosed, Spells}
+use Rattle.hm_header.proofs.ChangeLemmas.{settled-any}
 use Rattle.hm_header.proofs.HeaderLemmas.{header-same, held-kept}
 use Rattle.hm_header.proofs.SliceLemmas.{slice-same}
 use Rattle.hm_header.proofs.StageLemmas.{left-before, torn-leaves}
@@ -92,3 +93,16 @@ pub past-next : (old new : Told) (place count : ℕ) (header next : Header) (slo
     → TornAll place count old new → AnyCrash (HasNextBody header slot next) old → AnyCrash (HasNextBody header slot next) new
 past-next old new place count header next slot past within torn safe =
     past-slots (HasNextBody header slot next) (next-hangs header next slot) old new place count past within torn safe
+
+-- after a sync
+pub synced-counting : (old new told : Option Told) (header : Header) (slot : ℕ) → BothTell old new Synced → told ≡ new
+    → IfSome new (λ t. HasHeader t.bytes header slot) → IfSome told (AnyCrash (IsCounting header slot))
+synced-counting old new told header slot synced same chosen =
+    subst (λ (o : Option Told). IfSome o (AnyCrash (IsCounting header slot))) (sym same) (settled old new synced chosen)
+  where
+    settled : (old new : Option Told) → BothTell old new Synced → IfSome new (λ t. HasHeader t.bytes header slot)
+        → IfSome new (AnyCrash (IsCounting header slot))
+    settled None None synced chosen = tt
+    settled (Some s) (Some t) synced chosen = settled-any (IsCounting header slot) t synced.unsettled_are chosen
+    settled None (Some t) synced chosen = absurd synced
+    settled (Some s) None synced chosen = tt

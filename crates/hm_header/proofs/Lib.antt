@@ -11,5 +11,5 @@ pub mod GateLemmas
 pub mod HeaderLemmas
 pub mod StageLemmas
 pub mod CloseLemmas
-pub mod KeptLemmas
 pub mod ChangeLemmas
+pub mod KeptLemmas

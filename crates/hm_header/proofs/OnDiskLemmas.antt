@@ -1,5 +1,6 @@
 -- The header slots of bytes that changed in a range.
-use Rattle.std.proofs.Common.{◌≡◌, ◌⊎◌, inl, inr, ⊎_elim, ℕ, zero, suc, ◌+◌, ◌-◌, ◌<◌, ◌≤◌, List, [], ◌∷◌, ◌++◌, refl, sym, ap, subst, ◌∙◌, arith, length, get_or, slice_range, slice_index}
+use Rattle.std.proofs.Common.{◌≡◌, ◌⊎◌, inl, inr, ⊎_elim, ℕ, zero, suc, ◌+◌, ◌-◌, ◌<◌, ◌≤◌, List, []}
+use Rattle.std.proofs.Common.{◌∷◌, ◌++◌, refl, sym, ap, subst, ◌∙◌, arith, length, get_or, slice_range, slice_index}
 use Rattle.std.proofs.lemmas.List.{places, ext_get_or}
 use Rattle.std.proofs.lemmas.Bool.{cases_lt}
 use Rattle.hm_disk.specs.Crash.{MayLeave}
@@ -41,7 +42,8 @@ pub slot-of-body : (number : ℕ) (bytes body : List ℕ) → number ≤ 1 → H
     → ((i : ℕ) → i < 16383 → slice_index bytes (slot_place number + i) ≡ slice_index body i)
     → slot_in bytes number ≡ body ++ slice_index bytes (gate_place number) ∷ []
 slot-of-body number bytes body small both long same =
-    ext_get_or 0 (slot_in bytes number) (body ++ slice_index bytes (gate_place number) ∷ []) (sized ∙ sym whole) (λ i below. each i (omega (arith, sized, below)))
+    ext_get_or 0 (slot_in bytes number) (body ++ slice_index bytes (gate_place number) ∷ []) (sized ∙ sym whole)
+    (λ i below. each i (omega (arith, sized, below)))
   where
     sized : length (slot_in bytes number) ≡ 16384
     sized = length-slot number bytes small both

@@ -1,5 +1,6 @@
 -- Reading the slots of a disk.
-use Rattle.std.proofs.Common.{◌≡◌, ℕ, ◌+◌, ◌-◌, ◌<◌, ◌≤◌, min, List, ◌++◌, sym, ap, subst, ◌∙◌, arith, length, take, drop, get_or, slice_range, Option, Some, None, IfSome}
+use Rattle.std.proofs.Common.{◌≡◌, ℕ, ◌+◌, ◌-◌, ◌<◌, ◌≤◌, min, List, ◌++◌, sym, ap, subst}
+use Rattle.std.proofs.Common.{◌∙◌, arith, length, take, drop, get_or, slice_range, Option, Some, None, IfSome}
 use Rattle.std.proofs.lemmas.List.{places, ext_get_or, take_at}
 use Rattle.hm_disk.specs.Crash.{Told}
 use Rattle.hm_header.specs.OnDisk.{first_slot, second_slot}
@@ -32,7 +33,8 @@ first-part bytes half one both order is =
     each i low = grind (arith, places)
 
 -- and the second one
-second-part : (bytes : List ℕ) (half one both : ℕ) → one ≤ both → half ≡ min (min (length bytes) both) one → drop half (take both bytes) ≡ slice_range bytes one both
+second-part : (bytes : List ℕ) (half one both : ℕ) → one ≤ both → half ≡ min (min (length bytes) both) one
+    → drop half (take both bytes) ≡ slice_range bytes one both
 second-part bytes half one both order is =
     ext_get_or 0 (drop half (take both bytes)) (slice_range bytes one both) sizes (λ i below. each i (short i below))
   where
@@ -57,7 +59,8 @@ pub slots-filled : (told : Option Told) (size count : ℕ) (old piece : List ℕ
 slots-filled None size count old piece sized is long read = tt
 slots-filled (Some t) size count old piece sized is long read =
     ap (λ n. take n (piece ++ drop count old)) (sym is) ∙ (take_at piece (drop count old) count whole
-    ∙ (read ∙ (ap (λ n. slice_range t.bytes 0 (0 + n)) asked ∙ (ap (λ n. take n t.bytes) none ∙ take-most t.bytes count 32768 (is ∙ ap (λ n. min n 32768) long)))))
+    ∙ (read ∙ (ap (λ n. slice_range t.bytes 0 (0 + n)) asked
+    ∙ (ap (λ n. take n t.bytes) none ∙ take-most t.bytes count 32768 (is ∙ ap (λ n. min n 32768) long)))))
   where
     none : 0 + count - 0 ≡ count
     none = omega arith
@@ -77,8 +80,10 @@ pub slots-read : (P : List ℕ → List ℕ → ℕ → Type 0) (bytes slots fir
     → first ≡ take half (take count slots) → second ≡ drop half (take count slots)
     → P first second size → P (first_slot bytes) (second_slot bytes) (length bytes)
 slots-read P bytes slots first second size count half sized same counted halved first_is second_is p =
-    subst (λ (f : List ℕ). P f (second_slot bytes) (length bytes)) (first_is ∙ (ap (λ (bs : List ℕ). take half bs) read ∙ first-part bytes half 16384 32768 (omega arith) at))
-    (subst (λ (s : List ℕ). P first s (length bytes)) (second_is ∙ (ap (λ (bs : List ℕ). drop half bs) read ∙ second-part bytes half 16384 32768 (omega arith) at))
+    subst (λ (f : List ℕ). P f (second_slot bytes) (length bytes))
+    (first_is ∙ (ap (λ (bs : List ℕ). take half bs) read ∙ first-part bytes half 16384 32768 (omega arith) at))
+    (subst (λ (s : List ℕ). P first s (length bytes))
+    (second_is ∙ (ap (λ (bs : List ℕ). drop half bs) read ∙ second-part bytes half 16384 32768 (omega arith) at))
     (subst (λ n. P first second n) sized p))
   where
     read : take count slots ≡ take 32768 bytes

@@ -1,5 +1,6 @@
 -- What the stages of a header change leave.
-use Rattle.std.proofs.Common.{◌≡◌, ◌⊎◌, inl, inr, ⊎_elim, ℕ, ◌+◌, ◌-◌, ◌<◌, ◌≤◌, List, [], ◌∷◌, ◌++◌, refl, sym, ap, subst, ◌∙◌, arith, length, take, get_or, slice_index, slice_range}
+use Rattle.std.proofs.Common.{◌≡◌, ◌⊎◌, inl, inr, ⊎_elim, ℕ, ◌+◌, ◌-◌, ◌<◌, ◌≤◌, List, [], ◌∷◌}
+use Rattle.std.proofs.Common.{◌++◌, refl, sym, ap, subst, ◌∙◌, arith, length, take, get_or, slice_index, slice_range}
 use Rattle.std.proofs.lemmas.List.{places, take_at}
 use Rattle.std.proofs.lemmas.Bool.{cases_lt}
 use Rattle.hm_disk.specs.Crash.{Told, MayLeave, Outside}
@@ -11,7 +12,8 @@ use Rattle.hm_disk.proofs.MomentLemmas.{Elapses-none, Elapses-read}
 use Rattle.hm_disk.proofs.OverwriteLemmas.{MayLeave-overwritten, get_or-overwritten_in, get_or-overwritten_out, length-overwritten}
 use Rattle.hm_header.specs.declared.header.Header.{Header}
 use Rattle.hm_header.specs.declared.header.TheConstants.{GATE_OPEN}
-use Rattle.hm_header.specs.Change.{AnyCrash, HasNextBody, HoldsHeader, IsBodyWritten, IsChanged, IsClosedBeside, IsCounting, IsNext, StageDone, StageElapses, StageFailed}
+use Rattle.hm_header.specs.Change.{AnyCrash, HasNextBody, HoldsHeader, IsBodyWritten, IsChanged, IsClosedBeside}
+use Rattle.hm_header.specs.Change.{IsCounting, IsNext, StageDone, StageElapses, StageFailed}
 use Rattle.hm_header.specs.Layout.{body_of}
 use Rattle.hm_header.specs.OnDisk.{HasHeader, HasSlots, gate_place, slot_in, slot_place}
 use Rattle.hm_header.specs.Range.{IsHeader}
@@ -67,18 +69,21 @@ left-before bytes unsettled place count image within left = record {
     each byte below outside =
         let here : byte < length back = omega (arith, below, size, left.size) in
         ⊎_elim (λ low. out byte here (inl low) ∙ left.same byte below (inl low, outside))
-        (λ from. ⊎_elim (λ to. inside byte from to) (λ above. out byte here (inr above) ∙ left.same byte below (inr above, outside)) (cases_lt byte (place + count)))
+        (λ from. ⊎_elim (λ to. inside byte from to) (λ above. out byte here (inr above) ∙ left.same byte below (inr above, outside))
+        (cases_lt byte (place + count)))
         (cases_lt byte place)
 
 -- a disk that was torn leaves only what a crash within the write leaves
-pub torn-leaves : (place count : ℕ) (s t : Told) → TornAll place count s t → Each (MayLeave t.bytes t.unsettled) (MayLeave s.bytes ((place, count) ∷ s.unsettled))
+pub torn-leaves : (place count : ℕ) (s t : Told) → TornAll place count s t
+    → Each (MayLeave t.bytes t.unsettled) (MayLeave s.bytes ((place, count) ∷ s.unsettled))
 torn-leaves place count s t torn image left =
     MayLeave-through s.bytes t.bytes image ((place, count) ∷ s.unsettled) t.unsettled
     (MayLeave-fewer s.bytes t.bytes ((place, count) ∷ s.unsettled) ((place, count) ∷ []) (λ byte outside. (outside.0, tt)) torn.bytes_are)
     torn.unsettled_are left
 
 -- more images
-pub Elapses-within : (Within All : List ℕ → Type 0) (past since : LeftSince) (old new : Told) → Each Within All → Elapses Within past since old new → Elapses All past since old new
+pub Elapses-within : (Within All : List ℕ → Type 0) (past since : LeftSince) (old new : Told) → Each Within All → Elapses Within past since old new
+    → Elapses All past since old new
 Elapses-within Within All past since old new each time = record {
   later = time.later;
   size = time.size;
@@ -87,7 +92,8 @@ Elapses-within Within All past since old new each time = record {
 }
 
 -- a read before
-Elapses-after-read : (Within : List ℕ → Type 0) (past middle since : LeftSince) (old new : Told) → SameLeft past middle → Elapses Within middle since old new → Elapses Within past since old new
+Elapses-after-read : (Within : List ℕ → Type 0) (past middle since : LeftSince) (old new : Told) → SameLeft past middle
+    → Elapses Within middle since old new → Elapses Within past since old new
 Elapses-after-read Within past middle since old new same time = record {
   later = time.later;
   size = time.size;
@@ -142,7 +148,8 @@ take-byte xs n i below = grind (arith, places)
 spelled-byte : (number : ℕ) (bytes : List ℕ) (header : Header) → number ≤ 1 → Spells (slot_in bytes number) header
     → (i : ℕ) → i < 16383 → slice_index bytes (slot_place number + i) ≡ slice_index (body_of header) i
 spelled-byte number bytes header small spelled i below =
-    sym (slot-byte number bytes i small (omega (arith, below))) ∙ (sym (take-byte (slot_in bytes number) 16383 i below) ∙ ap (λ (xs : List ℕ). get_or xs i 0) spelled)
+    sym (slot-byte number bytes i small (omega (arith, below)))
+    ∙ (sym (take-byte (slot_in bytes number) 16383 i below) ∙ ap (λ (xs : List ℕ). get_or xs i 0) spelled)
 
 module _ (header : Header) (slot : ℕ) (small : slot ≤ 1) where
   -- a range of the other slot changed

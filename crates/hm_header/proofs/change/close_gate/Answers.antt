@@ -12,33 +12,38 @@ pub returns-then-gate-clause-ok : goal.returns-then-gate-clause-ok
 returns-then-gate-clause-ok g c =
     let r = c.requires in
     let read = c.in_ok-read_at.ensures in
-    OnOk-map _ _ _ (open-done c.args.header.now c.args.slot r.slot _ _ r.before read.same _ c.gate_place-place.result c.read_at.new.buf c.gate_place-place.ensures read.ok)
+    OnOk-map _ _ _ (open-done c.args.header.now c.args.slot r.slot _ _ r.before read.same _ c.gate_place-place.result c.read_at.new.buf
+    c.gate_place-place.ensures read.ok)
     c.write_synced.ensures.ok
 
 pub returns-then-gate-clause-err : goal.returns-then-gate-clause-err
 returns-then-gate-clause-err g c =
     let r = c.requires in
     let read = c.in_ok-read_at.ensures in
-    OnErr-map _ _ _ (open-failed c.args.header.now c.args.slot r.slot _ _ r.before read.same _ c.gate_place-place.result c.read_at.new.buf c.gate_place-place.ensures read.ok c.if-gate.true)
+    OnErr-map _ _ _ (open-failed c.args.header.now c.args.slot r.slot _ _ r.before read.same _ c.gate_place-place.result c.read_at.new.buf
+    c.gate_place-place.ensures read.ok c.if-gate.true)
     c.write_synced.ensures.err
 
 pub returns-then-gate-clause-any_moment : goal.returns-then-gate-clause-any_moment
 returns-then-gate-clause-any_moment g c =
     let r = c.requires in
     let read = c.in_ok-read_at.ensures in
-    open-elapses c.args.header.now c.args.slot r.slot _ _ r.before read.same _ c.gate_place-place.result c.read_at.new.buf c.gate_place-place.ensures read.ok
+    open-elapses c.args.header.now c.args.slot r.slot _ _ r.before read.same _ c.gate_place-place.result c.read_at.new.buf
+    c.gate_place-place.ensures read.ok
     (g.D.Disk.left_since c.args.disk.now) (g.D.Disk.left_since c.read_at.new.self) _ read.any_moment c.if-gate.true c.write_synced.ensures.any_moment
 
 pub returns-else-gate-clause-ok : goal.returns-else-gate-clause-ok
 returns-else-gate-clause-ok g c =
     let r = c.requires in
     let read = c.in_ok-read_at.ensures in
-    OnOk-map _ _ _ (closed-done c.args.header.now c.args.slot r.slot _ _ r.before read.same _ c.gate_place-place.result c.read_at.new.buf c.gate_place-place.ensures read.ok c.if-gate.false)
+    OnOk-map _ _ _ (closed-done c.args.header.now c.args.slot r.slot _ _ r.before read.same _ c.gate_place-place.result c.read_at.new.buf
+    c.gate_place-place.ensures read.ok c.if-gate.false)
     c.sync.ensures.ok
 
 pub returns-else-gate-clause-any_moment : goal.returns-else-gate-clause-any_moment
 returns-else-gate-clause-any_moment g c =
     let r = c.requires in
     let read = c.in_ok-read_at.ensures in
-    closed-elapses c.args.header.now c.args.slot r.slot _ _ r.before read.same _ c.gate_place-place.result c.read_at.new.buf c.gate_place-place.ensures read.ok
+    closed-elapses c.args.header.now c.args.slot r.slot _ _ r.before read.same _ c.gate_place-place.result c.read_at.new.buf
+    c.gate_place-place.ensures read.ok
     (g.D.Disk.left_since c.args.disk.now) (g.D.Disk.left_since c.read_at.new.self) _ read.any_moment c.sync.ensures.any_moment

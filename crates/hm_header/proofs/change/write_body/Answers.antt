@@ -40,4 +40,5 @@ returns-clause-any_moment g c =
     (λ s t safe first. write-elapses (IsClosedBeside c.args.header.now c.args.slot) (slot_place (1 - c.args.slot)) 16383 past since s t
     (body-leaves c.args.header.now c.args.slot c.requires.slot s safe) first) c.requires.before
     (subst (λ (count : ℕ). BothTell told new (WriteElapses (slot_place (1 - c.args.slot)) count past since)) c.encode.array_long
-    (subst (λ (place : ℕ). BothTell told new (WriteElapses place (length c.encode.new.body) past since)) c.slot_place.ensures c.write_synced.ensures.any_moment))
+    (subst (λ (place : ℕ). BothTell told new (WriteElapses place (length c.encode.new.body) past since)) c.slot_place.ensures
+    c.write_synced.ensures.any_moment))
