@@ -8,13 +8,13 @@ use Rattle.hm_disk.proofs.OverwriteLemmas.{MayLeave-overwritten}
 use Rattle.hm_header.specs.declared.header.Header.{Header}
 use Rattle.hm_header.specs.declared.header.TheConstants.{SLOT_BYTES}
 use Rattle.hm_header.specs.Range.{IsHeader, IsSize}
-use Rattle.hm_core.specs.Commit.{Changes, Commits, IsNext, KeepsOthers, MayChange, MayCommit, list_of}
+use Rattle.hm_core.specs.Commit.{Commits, MayCommit, list_of}
+use Rattle.hm_header.specs.Change.{ChangeFailed, Changes, IsNext, KeepsOthers}
 use Rattle.hm_core.specs.Listed.{list_place}
-use Rattle.hm_core.specs.Slots.{slot_place}
-use Rattle.hm_core.specs.Stands.{HasHeader}
-use Rattle.hm_core.proofs.HeaderLemmas.{header-same}
-use Rattle.hm_core.proofs.RangeLemmas.{slice-kept, slice-overwritten}
-use Rattle.hm_core.proofs.SlotLemmas.{slot-kept}
+use Rattle.hm_header.specs.OnDisk.{HasHeader, slot_place}
+use Rattle.hm_header.proofs.HeaderLemmas.{header-same}
+use Rattle.hm_header.proofs.SliceLemmas.{slice-kept, slice-overwritten}
+use Rattle.hm_header.proofs.OnDiskLemmas.{slot-kept}
 
 -- a list stands past the slots
 pub list-past-slots : (bigblocks generation : ℕ) → 2 * 16384 ≤ list_place bigblocks generation
@@ -73,7 +73,7 @@ module _ (header next : Header) (slot : ℕ) (list : List ℕ) (small : slot ≤
       ∙ (ap (λ (bs : List ℕ). slice_range bs (list_of next) (list_of next + length list)) written.bytes_are
       ∙ slice-overwritten s.bytes (list_of next) list (list-fits s chosen))
 
-  pub MayCommit-header : (s t u : Told) → HasHeader s.bytes header slot → WrittenSynced (list_of next) list s t → MayChange header slot next t.bytes u.bytes
+  pub MayCommit-header : (s t u : Told) → HasHeader s.bytes header slot → WrittenSynced (list_of next) list s t → ChangeFailed header slot next t u
       → MayCommit header slot next list s u
   MayCommit-header s t u chosen written change =
       ⊎_elim

@@ -21,7 +21,7 @@ use Rattle.hm_core.specs.Inside.{IsSound, made_until, opening_of}
 use Rattle.hm_core.specs.Mount.{IsOpened}
 use Rattle.hm_core.specs.Stands.{Stands, StandsFor}
 use Rattle.hm_core.specs.State.{CoreState}
-use Rattle.hm_core.proofs.AnswerLemmas.{IfSome-map, OnErr-map, OnOk-map}
+use Rattle.hm_header.proofs.AnswerLemmas.{IfSome-map, OnErr-map, OnOk-map}
 use Rattle.hm_core.proofs.FinishLemmas.{both_map}
 use Rattle.hm_core.proofs.KeptLemmas.{Kept-directories}
 use Rattle.hm_core.proofs.VersionLemmas.{made_until-all}

@@ -17,12 +17,12 @@ use Rattle.hm_core.specs.Directories.{AreDirectories}
 use Rattle.hm_core.specs.Fresh.{HasSpace, fresh_header}
 use Rattle.hm_core.specs.Listed.{HoldsAt, list_bytes, list_place, list_root}
 use Rattle.hm_core.specs.Open.{IsSettled}
-use Rattle.hm_core.specs.Slots.{HasClosed, HasSlots, IsAllSettled, gate_place, slot_in, slot_place}
-use Rattle.hm_core.specs.Stands.{HasHeader, first_slot, second_slot}
+use Rattle.hm_core.specs.Slots.{HasClosed, IsAllSettled}
+use Rattle.hm_header.specs.OnDisk.{HasHeader, HasSlots, first_slot, gate_place, second_slot, slot_in, slot_place}
 use Rattle.hm_core.proofs.CommitLemmas.{list-past-slots, list-within}
-use Rattle.hm_core.proofs.GateLemmas.{closed-by-byte, gate-overwritten}
-use Rattle.hm_core.proofs.RangeLemmas.{slice-kept, slice-overwritten}
-use Rattle.hm_core.proofs.SlotLemmas.{body-written, slot-kept, slot-under-gate}
+use Rattle.hm_header.proofs.GateLemmas.{closed-by-byte, gate-overwritten}
+use Rattle.hm_header.proofs.SliceLemmas.{slice-kept, slice-overwritten}
+use Rattle.hm_header.proofs.OnDiskLemmas.{body-written, slot-kept, slot-under-gate}
 
 -- a gate reads closed where its byte is 0
 shut : (number : ℕ) (bytes : List ℕ) → number ≤ 1 → slice_index bytes (gate_place number) ≡ 0 → IsClosed (slot_in bytes number)

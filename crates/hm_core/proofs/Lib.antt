@@ -1,9 +1,3 @@
-pub mod AnswerLemmas
-pub mod RangeLemmas
-pub mod SlotLemmas
-pub mod GateLemmas
-pub mod HeaderLemmas
-pub mod ChangeLemmas
 pub mod CommitLemmas
 pub mod ElapseLemmas
 pub mod ReadLemmas

@@ -16,7 +16,8 @@ use Rattle.hm_core.specs.declared.fault.OpenFault.TheVariants.{NotVolume as no_v
 use Rattle.hm_core.specs.Directories.{AreDirectories, IsDirectory, volume_of}
 use Rattle.hm_core.specs.Listed.{HoldsAt, list_bytes, list_place}
 use Rattle.hm_core.specs.Open.{HasBrokenList, IsOpenFault}
-use Rattle.hm_core.specs.Stands.{HasList, StandsFor, first_slot, second_slot}
+use Rattle.hm_core.specs.Stands.{HasList, StandsFor}
+use Rattle.hm_header.specs.OnDisk.{first_slot, second_slot}
 use Rattle.hm_core.proofs.BytesLemmas.{MayStand, begins_longer, entry_bytes, same_fronts}
 
 -- directories that a volume may have may stand in a list

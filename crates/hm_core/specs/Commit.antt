@@ -1,18 +1,12 @@
--- What a change of the header does.
-use Rattle.std.specs.Prelude.{◌≡◌, ◌⊎◌, ℕ, ◌+◌, ◌-◌, ◌%◌, ◌^◌, List, [], ◌∷◌, length, slice_range}
+-- What writing a list, and then the header that names it, does.
+use Rattle.std.specs.Prelude.{◌≡◌, ◌⊎◌, ℕ, ◌+◌, ◌-◌, List, [], length, slice_range}
 use Rattle.hm_types.specs.declared.limits.TheConstants.{BIGBLOCK_BYTES}
-use Rattle.hm_disk.specs.Crash.{Told, MayLeave}
+use Rattle.hm_disk.specs.Crash.{Told}
 use Rattle.hm_disk.specs.Moments.{Elapses, LeftSince}
 use Rattle.hm_header.specs.declared.header.Header.{Header}
-use Rattle.hm_header.specs.declared.header.TheConstants.{SLOT_BYTES}
+use Rattle.hm_header.specs.OnDisk.{HasHeader}
 use Rattle.hm_core.specs.Listed.{list_place}
-use Rattle.hm_core.specs.Slots.{Closed, IsAllSettled, slot_place}
-use Rattle.hm_core.specs.Stands.{HasHeader}
-
--- the header that is written after another, on the same volume
-pub record IsNext (header next : Header) : Type 0 where
-  pub bigblocks : next.bigblocks ≡ header.bigblocks
-  pub generation : next.generation ≡ (header.generation + 1) % 2 ^ 64
+use Rattle.hm_core.specs.Slots.{IsAllSettled}
 
 -- where the list of a header stands
 abbrev pub list_of : Header → ℕ
@@ -32,21 +26,6 @@ pub record CountsStill (header : Header) (number : ℕ) (old new : List ℕ) : T
   pub header_is : HasHeader new header number
   pub list_is : list_block_of new header ≡ list_block_of old header
 
--- each byte outside the slot of this number is as before
-abbrev pub KeepsOthers : ℕ → List ℕ → List ℕ → Type 0
-KeepsOthers number old new = MayLeave old ((slot_place number, SLOT_BYTES) ∷ []) new
-
--- a header counts, in the slot of this number, which alone was written, and nothing is unsettled
-pub record Changes (header : Header) (number : ℕ) (old new : Told) : Type 0 where
-  pub header_is : HasHeader new.bytes header number
-  pub others : KeepsOthers number old.bytes new.bytes
-  pub settled : new.unsettled ≡ []
-
--- the old header counts still, or the next one, in the other slot, which alone was written
-pub record MayChange (header : Header) (slot : ℕ) (next : Header) (old new : List ℕ) : Type 0 where
-  pub header_is : HasHeader new header slot ⊎ HasHeader new next (1 - slot)
-  pub others : KeepsOthers (1 - slot) old new
-
 -- the next header counts, in the slot that did not count, with this list, and nothing is unsettled
 pub record Commits (next : Header) (slot : ℕ) (list : List ℕ) (new : Told) : Type 0 where
   pub stands : HasHeaderAndList new.bytes next (1 - slot) list
@@ -65,14 +44,3 @@ MayCommit header slot next list old new = MayHave header slot next list old.byte
 abbrev pub CommitElapses : Header → ℕ → Header → List ℕ → LeftSince → LeftSince → Told → Told → Type 0
 CommitElapses header slot next list past since old new =
     IsAllSettled old → Elapses (MayHave header slot next list old.bytes) past since old new
-
--- the same of the header change alone
-abbrev pub ChangeElapses : Header → ℕ → Header → LeftSince → LeftSince → Told → Told → Type 0
-ChangeElapses header slot next past since old new =
-    IsAllSettled old → Elapses (MayChange header slot next old.bytes) past since old new
-
--- a crash while a gate is closed leaves it as it was or closed
-abbrev pub CloseElapses : ℕ → LeftSince → LeftSince → Told → Told → Type 0
-CloseElapses number past since old new =
-    IsAllSettled old
-    → Elapses (λ image. (image ≡ old.bytes) ⊎ Closed number old.bytes image) past since old new

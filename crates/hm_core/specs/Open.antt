@@ -8,12 +8,12 @@ use Rattle.hm_types.specs.declared.fault.Fault.TheVariants.{Media, Damaged, NoMe
 use Rattle.hm_disk.specs.Crash.{Told}
 use Rattle.hm_header.specs.declared.header.Header.{Header}
 use Rattle.hm_header.specs.declared.fault.HeaderFault.TheVariants.{NotVolume as no_volume, BadField as bad_field}
-use Rattle.hm_header.specs.Slots.{IsFault}
+use Rattle.hm_header.specs.OnDisk.{HasFault, HasHeader}
 use Rattle.hm_model.specs.Volume.{Volume}
 use Rattle.hm_core.specs.declared.fault.OpenFault.{OpenFault}
 use Rattle.hm_core.specs.declared.fault.OpenFault.TheVariants.{NotVolume, BadField, Fault as of_disk}
 use Rattle.hm_core.specs.declared.directory.Directory.{Directory}
-use Rattle.hm_core.specs.Stands.{StandsFor, HasHeader, HasList, first_slot, second_slot}
+use Rattle.hm_core.specs.Stands.{StandsFor, HasList}
 
 -- a disk that tells this is too small for so many big-blocks
 abbrev pub IsTooSmall : ℕ → Told → Type 0
@@ -40,9 +40,8 @@ IsListDamage bytes NoMemory = Unit {0}
 
 -- why bytes gave no volume
 abbrev pub IsOpenFault : List ℕ → OpenFault → Type 0
-IsOpenFault bytes NotVolume = IsFault (first_slot bytes) (second_slot bytes) (length bytes) no_volume
-IsOpenFault bytes (BadField place) =
-    IsFault (first_slot bytes) (second_slot bytes) (length bytes) (bad_field place)
+IsOpenFault bytes NotVolume = HasFault bytes no_volume
+IsOpenFault bytes (BadField place) = HasFault bytes (bad_field place)
 IsOpenFault bytes (of_disk fault) = IsListDamage bytes fault
 
 -- a fault of the disk has its cause in such a call; a volume that is none has its in the bytes

@@ -1,29 +1,13 @@
--- The two header slots in the bytes of a disk.
-use Rattle.std.specs.Prelude.{◌≡◌, ℕ, ◌+◌, ◌*◌, ◌≤◌, List, [], ◌∷◌, length, Result, Ok, Err}
+-- The header slots of a disk that is made or opened, and its faults.
+use Rattle.std.specs.Prelude.{◌≡◌, ℕ, [], Result, Ok, Err}
 use Rattle.hm_types.specs.declared.fault.Failed.{Failed}
 use Rattle.hm_types.specs.declared.fault.Fault.{Fault}
 use Rattle.hm_types.specs.declared.fault.Fault.TheVariants.{Media, Damaged, NoMemory}
-use Rattle.hm_disk.specs.Crash.{Told, MayLeave}
-use Rattle.hm_header.specs.declared.header.TheConstants.{GATE_PLACE, SLOT_BYTES}
-use Rattle.hm_header.specs.Slots.{IsClosed, slot_of}
+use Rattle.hm_disk.specs.Crash.{Told}
+use Rattle.hm_header.specs.OnDisk.{slot_in}
+use Rattle.hm_header.specs.Slots.{IsClosed}
 use Rattle.hm_core.specs.declared.fault.OpenFault.{OpenFault}
 use Rattle.hm_core.specs.declared.fault.OpenFault.TheVariants.{NotVolume, BadField, Fault as of_disk}
-use Rattle.hm_core.specs.Stands.{first_slot, second_slot}
-
--- where a slot begins, and where its gate stands, in bytes from the start of the disk
-abbrev pub slot_place : ℕ → ℕ
-slot_place number = number * SLOT_BYTES
-
-abbrev pub gate_place : ℕ → ℕ
-gate_place number = slot_place number + GATE_PLACE
-
--- the slot of this number
-abbrev pub slot_in : List ℕ → ℕ → List ℕ
-slot_in bytes number = slot_of (first_slot bytes) (second_slot bytes) number
-
--- a disk has both slots whole
-abbrev pub HasSlots : List ℕ → Type 0
-HasSlots bytes = 2 * SLOT_BYTES ≤ length bytes
 
 -- nothing of a disk is unsettled
 abbrev pub IsAllSettled : Told → Type 0
@@ -32,11 +16,6 @@ IsAllSettled t = t.unsettled ≡ []
 -- the gate of a slot is closed, which is settled as all else
 abbrev pub HasClosed : ℕ → Told → Type 0
 HasClosed number t = IsClosed (slot_in t.bytes number) × IsAllSettled t
-
--- the gate of a slot is closed, and each other byte is as before
-pub record Closed (number : ℕ) (old new : List ℕ) : Type 0 where
-  pub closed : IsClosed (slot_in new number)
-  pub others : MayLeave old ((gate_place number, 1) ∷ []) new
 
 -- the answer of calls of a disk that began and ended with these counts of faults, and tells them where
 -- they failed

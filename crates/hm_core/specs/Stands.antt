@@ -1,22 +1,11 @@
 -- Which volume the bytes of a disk stand for.
-use Rattle.std.specs.Prelude.{◌≡◌, ℕ, List, length, take, slice_range}
+use Rattle.std.specs.Prelude.{◌≡◌, ℕ, List}
 use Rattle.hm_header.specs.declared.header.Header.{Header}
-use Rattle.hm_header.specs.Slots.{IsChosen}
+use Rattle.hm_header.specs.OnDisk.{HasHeader}
 use Rattle.hm_model.specs.Volume.{Volume}
 use Rattle.hm_core.specs.declared.directory.Directory.{Directory}
 use Rattle.hm_core.specs.Directories.{AreDirectories, volume_of}
 use Rattle.hm_core.specs.Listed.{HoldsAt, list_place, list_root}
-
--- the two header slots; a disk that is too short for them has less of them
-abbrev pub first_slot : List ℕ → List ℕ
-first_slot bytes = take 16384 bytes
-
-abbrev pub second_slot : List ℕ → List ℕ
-second_slot bytes = slice_range bytes 16384 32768
-
--- the slot of this number counts, and this is its header
-abbrev pub HasHeader : List ℕ → Header → ℕ → Type 0
-HasHeader bytes header number = IsChosen (first_slot bytes) (second_slot bytes) (length bytes) header number
 
 -- the list of directories that a header names
 pub record HasList (bytes : List ℕ) (header : Header) (ds : List Directory) : Type 0 where

@@ -2,20 +2,24 @@
 ghost use Rattle.std.specs.Prelude.{◌≡◌, ◌≤◌, ◌*◌, [], ◌∷◌, IfErr, IfSome, OnOk, length};
 ghost use Rattle.hm_types.specs.Faults.{HasCause};
 ghost use Rattle.hm_disk.specs.Disk.{BothTell, overwritten};
+ghost use Rattle.hm_disk.specs.Transfer.{WrittenSynced};
+ghost use Rattle.hm_header.specs.declared.header.TheConstants.{GATE_OPEN};
 ghost use Rattle.hm_header.specs.Layout.{body_of};
+ghost use Rattle.hm_header.specs.OnDisk.{HasSlots, gate_place};
 ghost use Rattle.hm_header.specs.Range.{IsSize};
 ghost use Rattle.hm_model.specs.Volume.{fresh};
 ghost use Rattle.hm_core.specs.Fresh.{HasSpace, IsMakeFault, fresh_header};
 ghost use Rattle.hm_core.specs.Listed.{list_bytes, list_place};
 ghost use Rattle.hm_core.specs.Open.{HasOpenCause, IsSettled};
-ghost use Rattle.hm_core.specs.Slots.{HasClosed, HasSlots, IsAllSettled};
+ghost use Rattle.hm_core.specs.Slots.{HasClosed, IsAllSettled};
 
-use crate::change::{GATE_CLOSED, open_gate};
 use crate::fault::OpenFault;
 use crate::place::{list_place, list_root};
-use crate::slots::{gate_place, slot_place, with_counts};
-use hm_disk::Disk;
-use hm_header::{BODY_BYTES, Header, VERSION, encode};
+use crate::slots::with_counts;
+use hm_disk::{Disk, write_synced};
+use hm_header::{
+    BODY_BYTES, GATE_CLOSED, GATE_OPEN, Header, VERSION, encode, gate_place, slot_place,
+};
 use hm_types::{BIGBLOCK_BYTES, Failed, Id, first_pool};
 
 // Where the number of big-blocks stands in a header slot, in bytes.
@@ -63,7 +67,7 @@ fn write_volume<D: Disk>(disk: &mut D, bigblocks: u32) -> Result<(), Failed>
 {
     close_gates(disk)?;
     write_state(disk, &fresh_header(bigblocks))?;
-    open_gate(disk, 0)
+    open_first_gate(disk)
 }
 
 /// Closes both gates, and settles that.
@@ -95,6 +99,16 @@ fn write_state<D: Disk>(disk: &mut D, header: &Header) -> Result<(), Failed>
     disk.write_at(slot_place(0), &body)?;
     disk.write_at(list_place(header.bigblocks, header.generation), &EMPTY_LIST)?;
     disk.sync()
+}
+
+/// Opens the gate of the first slot, whose body is settled, and settles that.
+fn open_first_gate<D: Disk>(disk: &mut D) -> Result<(), Failed>
+    requires slots { IfSome (D.told disk.old) (λ t. HasSlots t.bytes) }
+    ensures ok { OnOk result (BothTell (D.told disk.old) (D.told disk.new)
+        (WrittenSynced (gate_place 0) (GATE_OPEN ∷ []))) }
+    ensures cause { HasCause (D.faults disk.old) (D.faults disk.new) result }
+{
+    write_synced(disk, gate_place(0), &[GATE_OPEN])
 }
 
 /// The header of an empty volume.

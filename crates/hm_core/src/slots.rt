@@ -1,33 +1,15 @@
-// The two header slots on a disk.
-ghost use Rattle.std.specs.Prelude.{◌≡◌, ◌≤◌, ℕ, List, IfOk, IfErr, IfSome, length, min, take};
-ghost use Rattle.hm_types.specs.Faults.{HasCause};
+// The header of a disk that is opened, and the faults of a disk.
+ghost use Rattle.std.specs.Prelude.{◌≡◌, ◌≤◌, ℕ, List, IfOk, IfErr, IfSome};
 ghost use Rattle.hm_disk.specs.Moments.{SameLeft};
+ghost use Rattle.hm_header.specs.OnDisk.{HasFault, HasHeader};
 ghost use Rattle.hm_header.specs.Range.{IsHeader};
 ghost use Rattle.hm_core.specs.Open.{IsOpenFault, HasOpenCause};
-ghost use Rattle.hm_core.specs.Slots.{IsNoHeader, IsOfSlots, gate_place, slot_place, with_counts};
-ghost use Rattle.hm_core.specs.Stands.{HasHeader};
+ghost use Rattle.hm_core.specs.Slots.{IsNoHeader, IsOfSlots, with_counts};
 
 use crate::fault::OpenFault;
 use hm_disk::Disk;
-use hm_header::{GATE_PLACE, Header, HeaderFault, SLOT_BYTES, choose};
+use hm_header::{Header, HeaderFault};
 use hm_types::{Failed, Fault};
-
-// The size of both slots, in bytes.
-const SLOTS_BYTES: usize = 2 * SLOT_BYTES;
-
-/// Where a slot begins on the disk, in bytes.
-pub(crate) fn slot_place(number: u8) -> u64
-    ensures { result ≡ slot_place number }
-{
-    u64::from(number) * SLOT_BYTES as u64
-}
-
-/// Where the gate of a slot stands on the disk, in bytes.
-pub(crate) fn gate_place(number: u8) -> u64
-    ensures { result ≡ gate_place number }
-{
-    slot_place(number) + GATE_PLACE as u64
-}
 
 /// The header of the slot that counts, and the slot's number, 0 or 1. It changes nothing on the
 /// disk.
@@ -43,45 +25,22 @@ pub(crate) fn read_header<D: Disk>(disk: &mut D) -> Result<(Header, u8), OpenFau
     ensures cause { HasOpenCause (D.faults disk.old) (D.faults disk.new) result }
 {
     let before = disk.faults();
-    let mut slots = [0; SLOTS_BYTES];
-    let read = read_slots(disk, &mut slots);
+    let read = hm_header::read_header(disk);
     match with_counts(disk, before, read) {
-        Ok(size) => choose_header(&slots, size),
+        Ok(Ok(answer)) => Ok(answer),
+        Ok(Err(fault)) => Err(slots_fault(fault)),
         Err(fault) => Err(OpenFault::Fault(fault)),
     }
 }
 
-/// Reads both slots, or as much of them as the disk has, and tells the size of the disk in bytes.
-fn read_slots<D: Disk>(disk: &mut D, slots: &mut [u8; SLOTS_BYTES]) -> Result<u64, Failed>
-    ensures size { IfOk result (λ size. IfSome (D.told disk.old) (λ t. size ≡ length t.bytes)) }
-    ensures ok { IfOk result (λ size. IfSome (D.told disk.old) (λ t.
-        take (min size 32768) slots.new ≡ take 32768 t.bytes)) }
-    ensures same { D.told disk.new ≡ D.told disk.old }
-    ensures any_moment { SameLeft (D.left_since disk.old) (D.left_since disk.new) }
-    ensures cause { HasCause (D.faults disk.old) (D.faults disk.new) result }
+/// Why no volume is opened where the slots have no header.
+fn slots_fault(fault: HeaderFault) -> OpenFault
+    ensures bytes { (bytes : List ℕ) → HasFault bytes fault → IsOpenFault bytes result }
+    ensures only { IsOfSlots result }
 {
-    let size = disk.size()?;
-    let count = size.min(SLOTS_BYTES as u64) as usize;
-    disk.read_at(0, &mut slots[..count])?;
-    Ok(size)
-}
-
-/// The header that counts, and the number of its slot, on a disk of `size` bytes that begins so.
-fn choose_header(slots: &[u8; SLOTS_BYTES], size: u64) -> Result<(Header, u8), OpenFault>
-    ensures header { IfOk result (λ answer. IsHeader answer.0 × (answer.1 ≤ 1)) }
-    ensures chosen { (bytes : List ℕ) → size ≡ length bytes →
-        take (min size 32768) slots.now ≡ take 32768 bytes →
-        IfOk result (λ answer. HasHeader bytes answer.0 answer.1) }
-    ensures err { (bytes : List ℕ) → size ≡ length bytes →
-        take (min size 32768) slots.now ≡ take 32768 bytes → IfErr result (IsOpenFault bytes) }
-    ensures bytes { IfErr result IsOfSlots }
-{
-    let count = size.min(SLOTS_BYTES as u64) as usize;
-    let (first, second) = slots[..count].split_at(count.min(SLOT_BYTES));
-    match choose(first, second, size) {
-        Ok(answer) => Ok(answer),
-        Err(HeaderFault::NotVolume) => Err(OpenFault::NotVolume),
-        Err(HeaderFault::BadField { place }) => Err(OpenFault::BadField { place }),
+    match fault {
+        HeaderFault::NotVolume => OpenFault::NotVolume,
+        HeaderFault::BadField { place } => OpenFault::BadField { place },
     }
 }
 

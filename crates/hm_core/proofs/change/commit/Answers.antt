@@ -3,9 +3,11 @@ use Rattle.hm_disk.specs.Disk.{BothTell}
 use Rattle.hm_disk.specs.Moments.{WriteElapses}
 use Rattle.hm_disk.specs.Transfer.{TornAll, WrittenSynced}
 use Rattle.hm_disk.proofs.DiskLemmas.{BothTell-and, BothTell-map, BothTell-then, IfSome-then}
-use Rattle.hm_core.specs.Commit.{ChangeElapses, list_of}
-use Rattle.hm_core.specs.Stands.{HasHeader}
-use Rattle.hm_core.proofs.AnswerLemmas.{OnErr-all, OnErr-map, OnOk-map}
+use Rattle.hm_header.specs.Change.{AnyCrash, ChangeElapses, IsCounting}
+use Rattle.hm_header.specs.OnDisk.{HasHeader}
+use Rattle.hm_core.specs.Commit.{list_of}
+use Rattle.hm_header.proofs.AnswerLemmas.{OnErr-all, OnErr-map, OnOk-map}
+use Rattle.hm_header.proofs.ChangeLemmas.{settled-any}
 use Rattle.hm_core.proofs.CommitLemmas.{Commits-header, MayCommit-header, MayCommit-list, header-after-list}
 use Rattle.hm_core.proofs.ElapseLemmas.{CommitElapses-header, CommitElapses-list}
 use Rattle.hm_core.proofs.change.commit.Goals as goal
@@ -24,8 +26,9 @@ change_header-requires-clause-before g c =
     let r = c.requires in
     let written = subst (λ (place : ℕ). BothTell (g.D.Disk.told c.args.disk.now) (g.D.Disk.told c.write_synced.new.disk) (WrittenSynced place c.args.list.now))
     c.list_place.ensures.value c.in_ok-write_synced.ensures.ok in
-    IfSome-then _ _ (λ t. HasHeader t.bytes c.args.header.now c.args.slot) _ _
-    (λ s t chosen first. header-after-list c.args.header.now c.args.next.now c.args.slot c.args.list.now r.slot r.next r.follows r.list s t chosen first)
+    IfSome-then _ _ (λ t. HasHeader t.bytes c.args.header.now c.args.slot) (AnyCrash (IsCounting c.args.header.now c.args.slot)) _
+    (λ s t chosen first. settled-any (IsCounting c.args.header.now c.args.slot) t first.unsettled_are
+    (header-after-list c.args.header.now c.args.next.now c.args.slot c.args.list.now r.slot r.next r.follows r.list s t chosen first))
     r.before written
 
 pub returns-clause-ok : goal.returns-clause-ok

@@ -1,8 +1,8 @@
 use Rattle.std.proofs.Common.{ℕ, [], ◌∷◌, subst}
 use Rattle.hm_disk.specs.Disk.{BothTell, Written}
 use Rattle.hm_disk.proofs.DiskLemmas.{BothTell-then}
-use Rattle.hm_core.specs.Slots.{HasSlots}
-use Rattle.hm_core.proofs.AnswerLemmas.{OnOk-map}
+use Rattle.hm_header.specs.OnDisk.{HasSlots}
+use Rattle.hm_header.proofs.AnswerLemmas.{OnOk-map}
 use Rattle.hm_core.proofs.FreshLemmas.{WroteGates, wrote-gates, both-closed}
 use Rattle.hm_core.proofs.fresh.close_gates.Goals as goal
 

@@ -7,7 +7,7 @@ use Rattle.hm_header.specs.Range.{IsSize}
 use Rattle.hm_core.specs.Fresh.{HasSpace}
 use Rattle.hm_core.specs.Listed.{list_bytes, list_place}
 use Rattle.hm_core.specs.Slots.{HasClosed, IsAllSettled}
-use Rattle.hm_core.proofs.AnswerLemmas.{OnOk-map}
+use Rattle.hm_header.proofs.AnswerLemmas.{OnOk-map}
 use Rattle.hm_core.proofs.FreshLemmas.{WroteState, fresh-settled, wrote-state}
 use Rattle.hm_core.proofs.fresh.write_volume.Goals as goal
 
@@ -34,4 +34,4 @@ returns-clause-ok g c =
     (λ s b e room wrote opened. fresh-settled c.args.bigblocks c.requires.size wrote.told b e wrote.room wrote.closed wrote.written opened) c.requires.room
     (BothTell-then _ _ _ (HasSpace c.args.bigblocks) _ _ (WroteState c.args.bigblocks)
     (λ s a b room closed written. wrote-state c.args.bigblocks s a b room closed written) c.requires.room c.in_ok-close_gates.ensures.ok state))
-    c.open_gate.ensures.ok
+    c.open_first_gate.ensures.ok
