@@ -7,7 +7,7 @@ use Rattle.hm_header.specs.Range.{IsAppendAt, IsHeader, IsRoot, IsSize}
 use Rattle.hm_header.specs.Slots.{FirstCounts, TakesPart}
 use Rattle.hm_header.proofs.SlotLemmas.{encoded_is_chosen, encoded_takes_part}
 use Rattle.hm_image.specs.Fresh.{IsFresh, fresh_header, root_at}
-use Rattle.hm_image.specs.Image.{HasHeader, first_slot, second_slot}
+use Rattle.hm_header.specs.OnDisk.{HasHeader, first_slot, second_slot}
 use Rattle.hm_image.proofs.OffsetLemmas.{byte_is, pool_is, volume_is, zone_is}
 
 root_is : (bigblocks : ℕ) → IsSize bigblocks → IsRoot bigblocks (root_at bigblocks)

@@ -20,7 +20,8 @@ use Rattle.hm_records.specs.Inode.{inode_bytes}
 use Rattle.hm_records.specs.PfsRecord.{head_bytes, interval_bytes, pfs_bytes}
 use Rattle.hm_records.proofs.InodeLemmas.{length-inode}
 use Rattle.hm_image.specs.Fresh.{IsFresh, fresh_entry, fresh_header, fresh_record, inode_at, record_at, root_at, root_inode}
-use Rattle.hm_image.specs.Image.{bytes_at, first_slot, pages_of, second_slot}
+use Rattle.hm_header.specs.OnDisk.{first_slot, second_slot}
+use Rattle.hm_image.specs.Image.{bytes_at, pages_of}
 use Rattle.hm_image.specs.Sound.{HasEntry, HasLayer1}
 use Rattle.hm_image.proofs.FreshImageLemmas.{fresh_image, image_length, in_pool, layer1_byte, layer2_byte, row_byte, slot_byte, slot_bytes}
 use Rattle.hm_image.proofs.FreshPageLemmas.{fresh_page}

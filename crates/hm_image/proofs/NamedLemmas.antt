@@ -16,7 +16,8 @@ use Rattle.hm_header.specs.Slots.{IsChosen}
 use Rattle.hm_header.specs.declared.header.Header.{Header}
 use Rattle.hm_header.specs.declared.header.TheConstants.{SLOT_BYTES}
 use Rattle.hm_model.specs.Volume.{Volume}
-use Rattle.hm_image.specs.Image.{HasHeader, bytes_at, first_slot, pages_of, references_from, second_slot}
+use Rattle.hm_header.specs.OnDisk.{HasHeader, first_slot, second_slot}
+use Rattle.hm_image.specs.Image.{bytes_at, pages_of, references_from}
 use Rattle.hm_image.specs.Same.{HasSameBytes, HasSameFreemap, HasSameNamed, HasSameTree, IsNamed, of_freemap, of_slot, of_tree}
 use Rattle.hm_image.specs.Sound.{IsSoundBy}
 use Rattle.hm_image.specs.Stands.{StandsFor}

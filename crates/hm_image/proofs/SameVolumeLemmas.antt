@@ -11,7 +11,8 @@ use Rattle.hm_header.specs.declared.header.Header.{Header}
 use Rattle.hm_model.specs.Volume.{PseudoFileSystem, Volume}
 use Rattle.hm_records.specs.KeysFit.{KeysFit}
 use Rattle.hm_records.specs.Payload.{IsPayload}
-use Rattle.hm_image.specs.Image.{HasHeader, elements_from, pages_of, references_from}
+use Rattle.hm_header.specs.OnDisk.{HasHeader}
+use Rattle.hm_image.specs.Image.{elements_from, pages_of, references_from}
 use Rattle.hm_image.specs.Same.{HasSameFreemap, HasSameTree}
 use Rattle.hm_image.specs.Sound.{HasEntry, HasExtents, HasLayer2, HasPayloads, IsAmongPayloads, IsFilled, IsSoundBy, free_in}
 use Rattle.hm_image.specs.Stands.{AreOfSystems, HasIds, HasViews, HaveRecords, StandsFor}

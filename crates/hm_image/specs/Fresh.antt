@@ -23,7 +23,8 @@ use Rattle.hm_records.specs.PfsRecord.{pfs_bytes}
 use Rattle.hm_records.specs.declared.inode.Inode.{Inode}
 use Rattle.hm_records.specs.declared.kind.TheConstants.{DIRECTORY}
 use Rattle.hm_records.specs.declared.pfs_record.PfsRecord.{PfsRecord}
-use Rattle.hm_image.specs.Image.{bytes_at, first_slot, pages_of, second_slot}
+use Rattle.hm_header.specs.OnDisk.{first_slot, second_slot}
+use Rattle.hm_image.specs.Image.{bytes_at, pages_of}
 use Rattle.hm_image.specs.Sound.{HasEntry, HasLayer1}
 
 -- where the root node, the inode of the root directory and the record stand: the first big-block of the pool is of

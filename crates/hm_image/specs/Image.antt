@@ -1,4 +1,4 @@
--- What the bytes of a volume hold: its header, its pages, the elements of its tree, and what that tree refers to.
+-- What the bytes of a volume hold: its pages, the elements of its tree, and what that tree refers to.
 -- An image is the list of these bytes.
 use Rattle.std.specs.Prelude.{ℕ, zero, suc, ◌+◌, ◌*◌, List, [], ◌∷◌, ◌++◌, Some, None, if◌then◌else◌, nat_le, length, map, take, slice_range}
 use Rattle.std.specs.List.{flat_map}
@@ -7,26 +7,12 @@ use Rattle.hm_types.specs.Offset.{byte_of}
 use Rattle.hm_types.specs.References.{Reference}
 use Rattle.hm_types.specs.declared.limits.TheConstants.{PAGE_BYTES}
 use Rattle.hm_fields.specs.Pages.{PageMap}
-use Rattle.hm_header.specs.Slots.{IsChosen}
-use Rattle.hm_header.specs.declared.header.Header.{Header}
-use Rattle.hm_header.specs.declared.header.TheConstants.{SLOT_BYTES}
 use Rattle.hm_key.specs.Elements.{element_key}
 use Rattle.hm_key.specs.declared.element.Element.{Element}
 use Rattle.hm_node.specs.declared.inner.Child.{Child}
 use Rattle.hm_node.specs.declared.node.Node.{Node}
 use Rattle.hm_node.specs.declared.node.Node.TheVariants.{Leaf, Inner as inner_node}
 use Rattle.hm_search.specs.Tree.{elements_of, height_of, node_at}
-
--- the two header slots
-abbrev pub first_slot : List ℕ → List ℕ
-first_slot image = take SLOT_BYTES image
-
-abbrev pub second_slot : List ℕ → List ℕ
-second_slot image = slice_range image SLOT_BYTES (2 * SLOT_BYTES)
-
--- the header that counts, in the slot of this number, 0 or 1
-abbrev pub HasHeader : List ℕ → Header → ℕ → Type 0
-HasHeader image header number = IsChosen (first_slot image) (second_slot image) (length image) header number
 
 -- so many bytes of the image, from the byte that an offset names
 abbrev pub bytes_at : List ℕ → ℕ → ℕ → List ℕ

@@ -17,7 +17,8 @@ use Rattle.hm_key.specs.declared.element.Element.{Element}
 use Rattle.hm_records.specs.KeysFit.{KeysFit}
 use Rattle.hm_records.specs.Payload.{IsPayload}
 use Rattle.hm_search.specs.Tree.{IsSoundTree, elements_of}
-use Rattle.hm_image.specs.Image.{HasHeader, elements_from, pages_of, references_from}
+use Rattle.hm_header.specs.OnDisk.{HasHeader}
+use Rattle.hm_image.specs.Image.{elements_from, pages_of, references_from}
 
 -- how many entries layer 1 has, whatever the size of the volume
 abbrev pub layer1_entries : ℕ
