@@ -13,7 +13,8 @@ use Rattle.hm_fields.specs.Pages.{PageMap}
 use Rattle.hm_pages.specs.Maps.{ChangeMap, set_at, over, joined}
 
 -- an offset that no entry has is not found
-pub absent : {X : Type 0} (at : ℕ) (entries : List (ℕ × X)) → AllByRecursion (λ key. nat_eq at key ≡ false) (keys_of entries) → lookup (nat_eq at) entries ≡ None
+pub absent : {X : Type 0} (at : ℕ) (entries : List (ℕ × X)) → AllByRecursion (λ key. nat_eq at key ≡ false) (keys_of entries) →
+    lookup (nat_eq at) entries ≡ None
 absent at [] none = refl
 absent at (entry ∷ rest) none = grind (arith, common_steps, none.0, absent at rest none.1)
 
@@ -24,7 +25,8 @@ module _ {X Y : Type 0} (put : X → Y) where
   folded f (entry ∷ rest) = folded (set_at entry.0 (put entry.1) f) rest
 
   -- one of them is put
-  pub folded_more : (f g : ℕ → Y) (entries rest : List (ℕ × X)) (entry : ℕ × X) → entries ≡ entry ∷ rest → g ≡ set_at entry.0 (put entry.1) f → folded g rest ≡ folded f entries
+  pub folded_more : (f g : ℕ → Y) (entries rest : List (ℕ × X)) (entry : ℕ × X) → entries ≡ entry ∷ rest → g ≡ set_at entry.0 (put entry.1) f →
+      folded g rest ≡ folded f entries
   unfolding folded
   folded_more f g entries rest entry more is = ap (λ h. folded h rest) is ∙ sym (ap (folded f) more)
 

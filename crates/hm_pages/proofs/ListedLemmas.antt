@@ -1,5 +1,6 @@
 -- The offsets at which a list of changes puts a page.
-use Rattle.std.proofs.Common.{◌≡◌, ◌+◌, ℕ, List, [], ◌∷◌, ◌++◌, true, false, cond, Option, Some, None, option_map, length, refl, sym, ap, subst, ◌∙◌, arith, ⊎_elim, is_some, append_assoc, append-nil}
+use Rattle.std.proofs.Common.{◌≡◌, ◌+◌, ℕ, List, [], ◌∷◌, ◌++◌, true, false, cond, Option, Some, None, option_map, length, refl, sym, ap, subst, ◌∙◌}
+use Rattle.std.proofs.Common.{arith, ⊎_elim, is_some, append_assoc, append-nil}
 use Rattle.std.proofs.lemmas.Bool.{cases_eq}
 use Rattle.std.proofs.lemmas.Bool.Decides.{nat_tests}
 use Rattle.std.proofs.lemmas.Grind.{common_steps}
@@ -43,7 +44,8 @@ unfolding page_keys
 none-page_keys key [] none = none
 none-page_keys key (entry ∷ rest) none = none_with key entry.0 entry.1 (page_keys rest) none.0 (none-page_keys key rest none.1)
 
-distinct_with : (at : ℕ) (change : Option Boxed) (keys : List ℕ) → AllByRecursion (λ other. nat_eq at other ≡ false) keys → IsDistinct nat_eq keys → IsDistinct nat_eq (with_key at change keys)
+distinct_with : (at : ℕ) (change : Option Boxed) (keys : List ℕ) → AllByRecursion (λ other. nat_eq at other ≡ false) keys → IsDistinct nat_eq keys →
+    IsDistinct nat_eq (with_key at change keys)
 unfolding IsDistinct
 distinct_with at None keys none distinct = distinct
 distinct_with at (Some page) keys none distinct = (none, distinct)
@@ -55,7 +57,8 @@ distinct-page_keys (entry ∷ rest) distinct =
     distinct_with entry.0 entry.1 (page_keys rest) (none-page_keys entry.0 rest distinct.0) (distinct-page_keys rest distinct.1)
 
 -- each stands there exactly where a page was put
-member_with : (at key : ℕ) (change : Option Boxed) (keys : List ℕ) (found : Option (Option Boxed)) → is_member nat_eq keys at ≡ is_page (option_map (option_map bytes_of) found) →
+member_with : (at key : ℕ) (change : Option Boxed) (keys : List ℕ) (found : Option (Option Boxed)) →
+    is_member nat_eq keys at ≡ is_page (option_map (option_map bytes_of) found) →
     (at ≡ key → found ≡ None) →
     is_member nat_eq (with_key key change keys) at ≡ is_page (option_map (option_map bytes_of) (cond (nat_eq at key) (Some change) found))
 member_with at key None keys found rest gone = ⊎_elim
@@ -80,7 +83,8 @@ with_none : (at : ℕ) (change : Option Boxed) (keys : List ℕ) → is_some cha
 with_none at None keys none = refl
 with_none at (Some page) keys none = absurd (grind (arith, none))
 
-pub listed_page : (keys pushed : List ℕ) (entries rest : List (ℕ × Option Boxed)) (entry : ℕ × Option Boxed) → entries ≡ entry ∷ rest → is_some entry.1 ≡ true →
+pub listed_page : (keys pushed : List ℕ) (entries rest : List (ℕ × Option Boxed)) (entry : ℕ × Option Boxed) → entries ≡ entry ∷ rest →
+    is_some entry.1 ≡ true →
     pushed ≡ keys ++ entry.0 ∷ [] → pushed ++ page_keys rest ≡ keys ++ page_keys entries
 unfolding page_keys
 listed_page keys pushed entries rest entry more some push =

@@ -19,7 +19,8 @@ module _ {X Y S : Type 0} (view : X → Y) where
   viewed_same old new same = fun_ext (λ at. ap (option_map view) (same at))
 
   -- an update of a table is the update of the function
-  pub viewed_update : (old new : HashMap ℕ X S) (at : ℕ) (value : Option X) → hash.Updates nat_eq old new at value → viewed new ≡ set_at at (option_map view value) (viewed old)
+  pub viewed_update : (old new : HashMap ℕ X S) (at : ℕ) (value : Option X) → hash.Updates nat_eq old new at value →
+      viewed new ≡ set_at at (option_map view value) (viewed old)
   viewed_update old new at value updates = fun_ext (λ other.
       ⊎_elim
       (λ e. grind (arith, common_steps, nat_tests, updates.0 other, updates.1, e))

@@ -1,5 +1,6 @@
 -- What a store tells after a page is put or taken out.
-use Rattle.std.proofs.Common.{◌≡◌, ◌+◌, ◌==◌, ℕ, List, Bool, true, false, if◌then◌else◌, Option, Some, None, option_map, unwrap_or, is_some, refl, ap, ◌∙◌, arith}
+use Rattle.std.proofs.Common.{◌≡◌, ◌+◌, ◌==◌, ℕ, List, Bool, true, false, if◌then◌else◌, Option, Some, None, option_map, unwrap_or, is_some, refl, ap}
+use Rattle.std.proofs.Common.{◌∙◌, arith}
 use Rattle.std.proofs.lemmas.Bool.Decides.{nat_tests}
 use Rattle.std.proofs.lemmas.Grind.{common_steps}
 use mathlib.Core.Path.{fun_ext}
@@ -14,11 +15,13 @@ over_here : (here : Bool) (page : Option (List ℕ)) (change : Option (Option (L
 over_here true page change below = refl
 over_here false page change below = refl
 
-pub over_set : (at : ℕ) (page : Option (List ℕ)) (changes : ChangeMap) (map : PageMap) → over (set_at at (Some page) changes) map ≡ set_at at page (over changes map)
+pub over_set : (at : ℕ) (page : Option (List ℕ)) (changes : ChangeMap) (map : PageMap) →
+    over (set_at at (Some page) changes) map ≡ set_at at page (over changes map)
 over_set at page changes map = fun_ext (λ other. over_here (other == at) page (changes other) (map other))
 
 -- one offset more was changed
-changed_here : (here : Bool) (page : Option (List ℕ)) (change : Option (Option (List ℕ))) → is_some (if here then Some page else change) ≡ (if here then true else is_some change)
+changed_here : (here : Bool) (page : Option (List ℕ)) (change : Option (Option (List ℕ))) →
+    is_some (if here then Some page else change) ≡ (if here then true else is_some change)
 changed_here true page change = refl
 changed_here false page change = refl
 

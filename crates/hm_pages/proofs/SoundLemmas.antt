@@ -19,7 +19,8 @@ put_there None below put = absurd (grind (arith, put))
 put_there (Some None) below put = absurd (grind (arith, put))
 put_there (Some (Some bytes)) below put = refl
 
-below_there : (change : Option (Option (List ℕ))) (below : Option (List ℕ)) → is_page change ≡ false → is_some (unwrap_or change below) ≡ true → unwrap_or change below ≡ below
+below_there : (change : Option (Option (List ℕ))) (below : Option (List ℕ)) → is_page change ≡ false → is_some (unwrap_or change below) ≡ true →
+    unwrap_or change below ≡ below
 below_there None below put there = refl
 below_there (Some None) below put there = absurd (grind (arith, there))
 below_there (Some (Some bytes)) below put there = absurd (grind (arith, put))
@@ -59,8 +60,10 @@ sound s =
             nothing_set (change_at s.call) s.call.pages none (omega (arith, s.call.counted, pages-le-length s.call.places.entries, call_len s closed)),
             λ at same. ap (λ (k : ChangeMap). over k kept at) none ∙ unchanged (change_at s.group at) (frozen at) same,
           );
-      call = in_open s.is_open kept (λ map. AgreeBeside (λ at. is_some (change_at s.call at)) (over (change_at s.call) kept) map) (λ at same. unchanged (change_at s.call at) (kept at) same);
-      group = in_open s.is_open kept (λ map. AgreeBeside (λ at. is_some (change_at s.group at)) map frozen) (λ at same. unchanged (change_at s.group at) (frozen at) same);
+      call = in_open s.is_open kept (λ map. AgreeBeside (λ at. is_some (change_at s.call at)) (over (change_at s.call) kept) map)
+          (λ at same. unchanged (change_at s.call at) (kept at) same);
+      group = in_open s.is_open kept (λ map. AgreeBeside (λ at. is_some (change_at s.group at)) map frozen)
+          (λ at same. unchanged (change_at s.group at) (frozen at) same);
       few = omega (arith, s.few, s.most_few);
       few_frozen = omega (arith, s.len, s.few_frozen);
       layer2 = λ at holds. (grind (arith, (there s).in_frozen at holds), grind (arith, (there s).in_current at holds));

@@ -14,7 +14,8 @@ use Rattle.hm_pages.specs.Maps.{ChangeMap, no_changes, over, joined, is_page}
 use Rattle.hm_pages.specs.Sets.{no_set, set_of, takes_out, KeepsFreemap}
 
 -- later changes over earlier ones
-over_both : (later earlier : Option (Option (List ℕ))) (page : Option (List ℕ)) → unwrap_or (option_or later earlier) page ≡ unwrap_or later (unwrap_or earlier page)
+over_both : (later earlier : Option (Option (List ℕ))) (page : Option (List ℕ)) →
+    unwrap_or (option_or later earlier) page ≡ unwrap_or later (unwrap_or earlier page)
 over_both None earlier page = refl
 over_both (Some change) earlier page = refl
 
@@ -30,7 +31,8 @@ pub changed_joined : (later earlier both : ChangeMap) → both ≡ joined later 
 changed_joined later earlier both is = fun_ext (λ at. ap (λ (f : ChangeMap). is_some (f at)) is ∙ either_set (later at) (earlier at))
 
 -- the map stays where the open call's changes are joined to the group's
-pub kept_map : (left later earlier both : ChangeMap) (map : PageMap) → left ≡ no_changes → both ≡ joined later earlier → over left (over both map) ≡ over later (over earlier map)
+pub kept_map : (left later earlier both : ChangeMap) (map : PageMap) → left ≡ no_changes → both ≡ joined later earlier →
+    over left (over both map) ≡ over later (over earlier map)
 kept_map left later earlier both map none is = (λ i. over (none i) (over (is i) map)) ∙ over_joined later earlier map
 
 -- nothing is left

@@ -1,8 +1,10 @@
 -- Which offsets were changed.
 use Rattle.std.specs.Prelude.{◌≡◌, ℕ, ◌+◌, ◌==◌, Bool, true, false, List, Option, Some, None, is_some, if◌then◌else◌}
+use Rattle.std.specs.Prelude.{nat_eq}
+use Rattle.std.specs.Set.{is_member}
 use Rattle.hm_types.specs.Offset.{zone_of}
 use Rattle.hm_types.specs.declared.zone.TheConstants.{FREEMAP_ZONE}
-use Rattle.hm_pages.specs.Maps.{ChangeMap, set_at}
+use Rattle.hm_pages.specs.Maps.{ChangeMap, is_page, set_at}
 
 -- the offsets that were changed, and at how many of them a page was put
 pub record ChangeSet : Type 0 where
@@ -40,3 +42,7 @@ in_freemap at = zone_of at == FREEMAP_ZONE
 -- no page of the freemap was taken out
 abbrev pub KeepsFreemap : ChangeMap → Type 0
 KeepsFreemap changes = (at : ℕ) → in_freemap at ≡ true → takes_out (changes at) ≡ false
+
+-- a list has exactly the offsets at which a page was put
+abbrev pub IsListed : List ℕ → ChangeMap → Type 0
+IsListed list changes = (at : ℕ) → is_member nat_eq list at ≡ is_page (changes at)

@@ -25,7 +25,8 @@ both true false holds = absurd (grind (arith, holds))
 both false b holds = absurd (grind (arith, holds))
 
 -- a page that is not taken out is there
-stays : (change : Option (Option (List ℕ))) (below : Option (List ℕ)) → takes_out change ≡ false → is_some below ≡ true → is_some (unwrap_or change below) ≡ true
+stays : (change : Option (Option (List ℕ))) (below : Option (List ℕ)) → takes_out change ≡ false → is_some below ≡ true →
+    is_some (unwrap_or change below) ≡ true
 stays None below kept there = there
 stays (Some None) below kept there = absurd (grind (arith, kept))
 stays (Some (Some bytes)) below kept there = refl

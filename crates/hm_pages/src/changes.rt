@@ -18,7 +18,8 @@ pub(crate) struct Changes {
 }
 
 impl Changes {
-    ghost use Rattle.std.specs.Prelude.{◌+◌, ◌<◌, ◌≤◌, ◌^◌, ℕ, Some, None, OnOk, OnErr, IsOk, IfOk, option_map, length, nat_eq};
+    ghost use Rattle.std.specs.Prelude.{◌+◌, ◌<◌, ◌≤◌, ◌^◌, ℕ, length, nat_eq};
+    ghost use Rattle.std.specs.Prelude.{Some, None, OnOk, OnErr, IsOk, IfOk};
     ghost use Rattle.std.specs.List.Sorted.{IsStrictlyIncreasing};
     ghost use Rattle.std.specs.Set.{is_member};
     ghost use Rattle.std.specs.HashMap.{spare, hash_map_len};

@@ -26,7 +26,8 @@ impl Pages for PageStore {
 
     ghost rest = { λ _. tt };
 
-    /// Reads the page at `at` as calls see it. One that is not there reads as zeros. It never fails.
+    /// Reads the page at `at` as calls see it. One that is not there reads as zeros. It never
+    /// fails.
     fn page(&mut self, at: HOff, into: &mut Page) -> Result<(), Fault>
         ensures succeeds { IsOk result }
         ensures value { into.new ≡ page_in ((contents self.old).current at) }
@@ -36,9 +37,9 @@ impl Pages for PageStore {
         Ok(())
     }
 
-    /// Puts a page at `at`, in the open call, or straight in the group where none is open. It answers
-    /// `NoMemory` where the group and the open call would have more than 16,128 pages together. After
-    /// an error the store is as before.
+    /// Puts a page at `at`, in the open call, or straight in the group where none is open. It
+    /// answers `NoMemory` where the group and the open call would have more than 16,128 pages
+    /// together. After an error the store is as before.
     fn change(&mut self, at: HOff, with: &Page) -> Result<(), Fault>
         ensures changed { OnOk result (IsChanged at (Some with.now)
             (contents self.old) (contents self.new)) }

@@ -6,7 +6,7 @@ ghost use Rattle.std.specs.HashMap.{spare, hash_map_len};
 ghost use Rattle.std.proofs.Props.{props};
 ghost use Rattle.hm_types.specs.declared.limits.TheConstants.{MOST_GROUP_PAGES};
 ghost use Rattle.hm_pages.specs.Maps.{is_page};
-ghost use Rattle.hm_pages.specs.Sets.{KeepsFreemap};
+ghost use Rattle.hm_pages.specs.Sets.{IsListed, KeepsFreemap};
 ghost use Rattle.hm_pages.specs.Changes.{change_at};
 
 use crate::changes::Changes;
@@ -16,8 +16,8 @@ use hm_types::{HOff, Id, MOST_GROUP_PAGES, NoMemory};
 use std::alloc::Global;
 use std::mem;
 
-/// Every page of a volume in memory, in three states. A contract sees its `contents`: the committed,
-/// the frozen and the current map, and which offsets were changed since.
+/// Every page of a volume in memory, in three states. A contract sees its `contents`: the
+/// committed, the frozen and the current map, and which offsets were changed since.
 #[derive(Drop)]
 pub struct PageStore {
     alloc: Global,
@@ -43,7 +43,7 @@ pub struct PageStore {
     ghost closed: { (if is_open then 0 else hash_map_len call.places) ≡ 0 },
     ghost idle: { (if is_some boundary then 0 else hash_map_len frozen.places) ≡ 0 },
     ghost rising: { IsStrictlyIncreasing places.items } by { Prim.hlevel props },
-    ghost listed: { (at : ℕ) → is_member nat_eq places.items at ≡ is_page (change_at frozen at) } by { Prim.hlevel props },
+    ghost listed: { IsListed places.items (change_at frozen) } by { Prim.hlevel props },
     ghost len: { length places.items ≡ frozen.pages },
     ghost call_keeps: { KeepsFreemap (change_at call) } by { Prim.hlevel props },
     ghost group_keeps: { KeepsFreemap (change_at group) } by { Prim.hlevel props },
@@ -51,14 +51,16 @@ pub struct PageStore {
 }
 
 impl PageStore {
-    ghost use Rattle.std.specs.Prelude.{None, Some, true, false, OnOk, OnErr, IsSome, ◌<◌, ◌≢◌, option_map, slice_index};
+    ghost use Rattle.std.specs.Prelude.{None, Some, true, false, OnOk, OnErr, IsSome};
+    ghost use Rattle.std.specs.Prelude.{◌<◌, ◌≢◌, option_map, slice_index};
     ghost use Rattle.hm_types.specs.Offset.{zone_of};
     ghost use Rattle.hm_types.specs.declared.zone.TheConstants.{FREEMAP_ZONE};
     ghost use Rattle.hm_pages.specs.Maps.{pages_at};
     ghost use Rattle.hm_pages.specs.Counts.{bytes_of};
     ghost use Rattle.hm_pages.specs.Sets.{in_freemap};
     ghost use Rattle.hm_pages.specs.Store.{contents, empty_store, frame_of, in_state};
-    ghost use Rattle.hm_pages.specs.Calls.{IsBegun, IsChanged, IsCommitted, IsFrozen, IsKept, IsLoaded, IsUndone};
+    ghost use Rattle.hm_pages.specs.Calls.{IsBegun, IsChanged, IsCommitted, IsFrozen};
+    ghost use Rattle.hm_pages.specs.Calls.{IsKept, IsLoaded, IsUndone};
 
     /// No page, and nothing frozen. It takes no memory.
     pub fn new(alloc: Global) -> PageStore
@@ -118,8 +120,8 @@ impl PageStore {
         self.is_open = false;
     }
 
-    /// Makes the current map the frozen one, with the last id that is in it as its boundary, and the
-    /// current group the frozen one. Nothing may be frozen, and no call open. It takes all memory
+    /// Makes the current map the frozen one, with the last id that is in it as its boundary, and
+    /// the current group the frozen one. Nothing may be frozen, and no call open. It takes all memory
     /// that `commit` needs; after an error the store is as before.
     #[tactic(auto, unfolding(crate::specs::Store::contents))]
     pub fn freeze(&mut self, boundary: Id) -> Result<(), NoMemory>
@@ -149,8 +151,8 @@ impl PageStore {
         self.boundary = None;
     }
 
-    /// Puts a page that was read from the disk into all three maps. None of them may have one there,
-    /// and no call may be open. After an error the store is as before.
+    /// Puts a page that was read from the disk into all three maps. None of them may have one
+    /// there, and no call may be open. After an error the store is as before.
     #[tactic(auto, unfolding(crate::specs::Store::contents))]
     pub fn load(&mut self, at: HOff, page: &Page) -> Result<(), NoMemory>
         requires committed { (contents self.old).committed at ≡ None }
@@ -242,8 +244,8 @@ impl PageStore {
         page.is_some() && !stands && self.group.pages() + self.call.pages() >= self.most
     }
 
-    /// How many pages the current group has: those that were put since the last freeze by calls that
-    /// were kept, and not taken out again.
+    /// How many pages the current group has: those that were put since the last freeze by calls
+    /// that were kept, and not taken out again.
     #[tactic(auto, unfolding(crate::specs::Store::contents))]
     pub fn group_len(&self) -> u32
         ensures { result ≡ (contents self.now).group.pages }

@@ -21,7 +21,8 @@ loop-at-preserved c =
     let pages = on_ok c.put.result fits c.put.ensures.pages in
     let counted = ap pages_in more ∙ pages-cons entry rest in
     record {
-      value = folded_more put_change (change_at c.loop-at.self) (change_at c.put.new.self) c.loop-at.at-iterator rest entry more value ∙ c.loop-at.invariant.value;
+      value = folded_more put_change (change_at c.loop-at.self) (change_at c.put.new.self) c.loop-at.at-iterator rest entry more value ∙
+          c.loop-at.invariant.value;
       room = omega (arith, long, c.loop-at.invariant.room, c.put.ensures.spare);
       pages = omega (arith, pages, counted, pages_put c.in-Some.page, c.loop-at.invariant.pages);
     }

@@ -27,8 +27,10 @@ returns-clause-rising c =
     let keys = page_keys c.args.self.now.places.entries in
     let distinct = distinct-page_keys c.args.self.now.places.entries c.into_iter-at-iterator.ensures.into_iter_gives.4 in
     let before = subst (λ (ks : List ℕ). IsDistinct nat_eq ks) (sym (listed c)) distinct in
-    let after = IsDistinct-IsPermutation nat_eq (λ x y. grind (arith, nat_tests)) c.loop-at.list.items c.sort_unstable.new.self.items c.sort_unstable.ensures.permutation before in
-    IsStrictlyIncreasing-from_distinct c.sort_unstable.new.self.items (IsNonDecreasingBy-from_sort (λ x. x) c.sort_unstable.new.self.items c.sort_unstable.ensures.sorted) after
+    let after = IsDistinct-IsPermutation nat_eq (λ x y. grind (arith, nat_tests))
+    c.loop-at.list.items c.sort_unstable.new.self.items c.sort_unstable.ensures.permutation before in
+    IsStrictlyIncreasing-from_distinct c.sort_unstable.new.self.items
+    (IsNonDecreasingBy-from_sort (λ x. x) c.sort_unstable.new.self.items c.sort_unstable.ensures.sorted) after
 
 pub returns-clause-each : goal.returns-clause-each
 returns-clause-each c = λ at.

@@ -12,12 +12,14 @@ prove-unreachable-requires c = absurd (omega (arith, c.args.self.now.counted, pa
 
 pub overflow_sub-self : goal.overflow_sub-self
 overflow_sub-self c =
-    let put = sum_by_puts_entry page_count nat_eq c.args.self.now.places c.insert.new.self c.args.at c.args.page c.in_ok-before.before c.in_ok-before.ensures.old c.in_ok-before.ensures.entries in
+    let put = sum_by_puts_entry page_count nat_eq c.args.self.now.places c.insert.new.self c.args.at c.args.page
+    c.in_ok-before.before c.in_ok-before.ensures.old c.in_ok-before.ensures.entries in
     omega (arith, put, c.args.self.now.counted, c.count_before.ensures, c.count-puts.ensures)
 
 pub invariant_of-self-2 : goal.invariant_of-self-2
 invariant_of-self-2 c =
-    let put = sum_by_puts_entry page_count nat_eq c.args.self.now.places c.insert.new.self c.args.at c.args.page c.in_ok-before.before c.in_ok-before.ensures.old c.in_ok-before.ensures.entries in
+    let put = sum_by_puts_entry page_count nat_eq c.args.self.now.places c.insert.new.self c.args.at c.args.page
+    c.in_ok-before.before c.in_ok-before.ensures.old c.in_ok-before.ensures.entries in
     record { counted = omega (arith, put, c.args.self.now.counted, c.count_before.ensures, c.count-puts.ensures) }
 
 pub returns-clause-ok : goal.returns-clause-ok
@@ -25,7 +27,8 @@ returns-clause-ok c = viewed_update (option_map bytes_of) c.args.self.now.places
 
 pub returns-clause-pages : goal.returns-clause-pages
 returns-clause-pages c =
-    let put = sum_by_puts_entry page_count nat_eq c.args.self.now.places c.insert.new.self c.args.at c.args.page c.in_ok-before.before c.in_ok-before.ensures.old c.in_ok-before.ensures.entries in
+    let put = sum_by_puts_entry page_count nat_eq c.args.self.now.places c.insert.new.self c.args.at c.args.page
+    c.in_ok-before.before c.in_ok-before.ensures.old c.in_ok-before.ensures.entries in
     let before = pages_before c.in_ok-before.before in
     let same = ap (λ o. pages_at (option_map (option_map bytes_of) o)) c.in_ok-before.ensures.old in
     omega (arith, put, before, same, pages_put c.args.page, c.args.self.now.counted, c.count_before.ensures, c.count-puts.ensures)

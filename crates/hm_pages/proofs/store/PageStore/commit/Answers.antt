@@ -12,7 +12,8 @@ unfolding contents
 returns c =
     let left = emptied c.replace-frozen.new.dest c.new.result c.replace-frozen.ensures.after c.new.ensures.none c.new.ensures.len c.new.ensures.pages in
     let value = c.apply.ensures ∙ ap (λ d. over (change_at d) (page_at c.args.self.now.committed)) c.replace-frozen.ensures.value in
-    let frozen : over (change_at c.replace-frozen.new.dest) (page_at c.apply.new.self) ≡ over (change_at c.args.self.now.frozen) (page_at c.args.self.now.committed) =
+    let frozen : over (change_at c.replace-frozen.new.dest) (page_at c.apply.new.self) ≡
+    over (change_at c.args.self.now.frozen) (page_at c.args.self.now.committed) =
     λ i. over (left.none i) (value i) in
     record {
       committed = value;

@@ -42,14 +42,16 @@ returns-clause-ok c =
     let none = none_from_len s.call (call_len s c.requires.closed) in
     let current : over (change_at s.call) (over (change_at c.replace.new.dest) (over (change_at c.replace.result) (page_at c.reserve.new.self))) ≡
     over (change_at s.call) (over (change_at s.group) (over (change_at s.frozen) (page_at s.committed))) =
-    (λ i. over (change_at s.call) (over (left.none i) (over (moved i) (same i)))) ∙ sym (λ i. over (change_at s.call) (over (change_at s.group) (over (idle i) (page_at s.committed)))) in
+    (λ i. over (change_at s.call) (over (left.none i) (over (moved i) (same i)))) ∙
+    sym (λ i. over (change_at s.call) (over (change_at s.group) (over (idle i) (page_at s.committed)))) in
     record {
       committed = same;
       frozen = (λ i. over (moved i) (same i)) ∙ sym (λ i. over (none i) (over (change_at s.group) (over (idle i) (page_at s.committed))));
       current = current;
       group = nothing_set (change_at c.replace.new.dest) c.replace.new.dest.pages left.none left.pages;
       each = λ at. c.in_ok-places.ensures.each at ∙ page_there (change_at s.group at) (over (change_at s.frozen) (page_at s.committed) at) ∙
-          ap (λ (k : ChangeMap). is_some (change_at s.group at) && is_some (over k (over (change_at s.group) (over (change_at s.frozen) (page_at s.committed))) at)) (sym none);
+          ap (λ (k : ChangeMap). is_some (change_at s.group at) &&
+          is_some (over k (over (change_at s.group) (over (change_at s.frozen) (page_at s.committed))) at)) (sym none);
       len = c.in_ok-places.ensures.len;
       boundary_is = refl;
       call = (

@@ -19,7 +19,8 @@ no_group : (s : PageStore) (at : ℕ) → (contents s).current at ≡ None → (
 unfolding contents
 no_group s at none closed =
     no_page (change_at s.group at) (over (change_at s.frozen) (page_at s.committed) at)
-    (sym (ap (λ (k : ChangeMap). over k (over (change_at s.group) (over (change_at s.frozen) (page_at s.committed))) at) (none_from_len s.call (call_len s closed))) ∙ none)
+    (sym (ap (λ (k : ChangeMap). over k (over (change_at s.group) (over (change_at s.frozen) (page_at s.committed))) at)
+    (none_from_len s.call (call_len s closed))) ∙ none)
 
 pub invariant_of-self-2 : goal.invariant_of-self-2
 invariant_of-self-2 c =
@@ -55,12 +56,14 @@ returns-clause-ok c =
     let committed : page_at c.put.new.self ≡ set_at at (Some page) (page_at s.committed) =
     c.put.ensures.value ∙ (λ i. set_at at (Some (c.in_ok-page.ensures.ok i)) (c.reserve.ensures.same i)) in
     let frozen = (λ i. over (c.forget.ensures.value i) (committed i)) ∙ over_load at (Some page) (change_at s.frozen) (page_at s.committed) in
-    let group = (λ i. over (c.forget-2.ensures.value i) (frozen i)) ∙ over_load at (Some page) (change_at s.group) (over (change_at s.frozen) (page_at s.committed)) in
+    let group = (λ i. over (c.forget-2.ensures.value i) (frozen i)) ∙
+    over_load at (Some page) (change_at s.group) (over (change_at s.frozen) (page_at s.committed)) in
     let count = no_pages_at (change_at s.group at) (no_group s at c.requires.current c.requires.closed) in
     record {
       committed = committed;
       frozen = frozen;
-      current = (λ i. over (none i) (group i)) ∙ sym (λ i. set_at at (Some page) (over (none i) (over (change_at s.group) (over (change_at s.frozen) (page_at s.committed)))));
+      current = (λ i. over (none i) (group i)) ∙
+          sym (λ i. set_at at (Some page) (over (none i) (over (change_at s.group) (over (change_at s.frozen) (page_at s.committed)))));
       changed = changed_forget at (change_at s.group) (change_at c.forget-2.new.self) c.forget-2.ensures.value;
       pages = omega (arith, c.forget-2.ensures.pages, count);
       call = (

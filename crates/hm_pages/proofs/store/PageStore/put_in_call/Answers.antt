@@ -78,7 +78,8 @@ returns-clause-ok c =
           (set_of (change_at s.call) s.call.pages) (set_of (change_at c.put.new.self) c.put.new.self.pages)
           × (set_of (change_at c.reserve.new.self) c.reserve.new.self.pages ≡ set_of (change_at s.group) s.group.pages)))
           (sym c.requires.opened) (
-            has_changed c.args.at page (change_at s.call) (change_at c.put.new.self) s.call.pages c.put.new.self.pages (over (change_at s.group) frozen) value count,
+            has_changed c.args.at page (change_at s.call) (change_at c.put.new.self)
+                s.call.pages c.put.new.self.pages (over (change_at s.group) frozen) value count,
             λ i. set_of (same i) (c.reserve.ensures.pages i),
           );
     })

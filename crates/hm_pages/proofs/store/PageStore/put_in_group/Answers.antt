@@ -53,7 +53,8 @@ returns-clause-ok c =
       flush = record { committed = refl; frozen = refl; frozen_group = refl; boundary = refl };
       current = (λ i. over (none i) (over (value i) frozen)) ∙ over_set c.args.at page (change_at s.group) frozen ∙
           sym (λ i. set_at c.args.at page (over (none i) (over (change_at s.group) frozen)));
-      begin = (λ i. if shut i then Some (over (change_at c.put.new.self) frozen) else None) ∙ sym (λ i. if shut i then Some (over (change_at s.group) frozen) else None);
+      begin = (λ i. if shut i then Some (over (change_at c.put.new.self) frozen) else None) ∙
+          sym (λ i. if shut i then Some (over (change_at s.group) frozen) else None);
       sets = subst (λ (b : Bool). MatchOption (if b then Some (over (change_at s.group) frozen) else None)
           (HasChanged c.args.at (over (change_at s.call) (over (change_at s.group) frozen) c.args.at) page
           (set_of (change_at s.group) s.group.pages) (set_of (change_at c.put.new.self) c.put.new.self.pages)

@@ -17,7 +17,8 @@ loop-at-preserved-in-Some-change c =
     let long = ap length more in
     let value = c.put.ensures.value ∙ ap (λ change. set_at c.in-Some.at (option_map bytes_of change) (page_at c.loop-at.self)) (sym c.in-Some-change.is) in
     record {
-      value = folded_more (option_map bytes_of) (page_at c.loop-at.self) (page_at c.put.new.self) c.loop-at.at-iterator rest entry more value ∙ c.loop-at.invariant.value;
+      value = folded_more (option_map bytes_of) (page_at c.loop-at.self) (page_at c.put.new.self) c.loop-at.at-iterator rest entry more value ∙
+          c.loop-at.invariant.value;
       room = omega (arith, long, c.loop-at.invariant.room, c.put.ensures.spare);
     }
 
@@ -29,7 +30,8 @@ loop-at-preserved c =
     let long = ap length more in
     let value = c.remove.ensures.value ∙ ap (λ change. set_at c.in-Some.at (option_map bytes_of change) (page_at c.loop-at.self)) (sym c.in-None-change.is) in
     record {
-      value = folded_more (option_map bytes_of) (page_at c.loop-at.self) (page_at c.remove.new.self) c.loop-at.at-iterator rest entry more value ∙ c.loop-at.invariant.value;
+      value = folded_more (option_map bytes_of) (page_at c.loop-at.self) (page_at c.remove.new.self) c.loop-at.at-iterator rest entry more value ∙
+          c.loop-at.invariant.value;
       room = omega (arith, long, c.loop-at.invariant.room, c.remove.ensures.spare);
     }
 
