@@ -5,8 +5,10 @@ pub mod CountLemmas
 pub mod EntryLemmas
 pub mod ExtentLemmas
 pub mod FreeLemmas
+pub mod FreshLemmas
 pub mod GrantLemmas
 pub mod ListLemmas
+pub mod OnePageLemmas
 pub mod PlaceLemmas
 pub mod PutLemmas
 pub mod RenewLemmas

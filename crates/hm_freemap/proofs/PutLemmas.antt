@@ -31,7 +31,7 @@ module _ (at : ℕ) (bytes : List ℕ) (old new : PageMap) (put : HasPut at byte
   put_other x other = put x ∙ rw (other_test x at other) refl
 
 -- an entry is what its three fields are
-same_entry : (p q : List ℕ) (at : ℕ) → get p at 4 ≡ get q at 4 → get p (at + 4) 4 ≡ get q (at + 4) 4 → get p (at + 8) 4 ≡ get q (at + 8) 4 → entry_in p at ≡ entry_in q at
+pub same_entry : (p q : List ℕ) (at : ℕ) → get p at 4 ≡ get q at 4 → get p (at + 4) 4 ≡ get q (at + 4) 4 → get p (at + 8) 4 ≡ get q (at + 8) 4 → entry_in p at ≡ entry_in q at
 unfolding entry_in
 same_entry p q at zone append free = rw (zone, append, free) refl
 

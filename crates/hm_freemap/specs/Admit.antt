@@ -28,13 +28,6 @@ lacking zones room = does_lack zones room 8 ∷ does_lack zones room 9 ∷ does_
 abbrev pub begun : ℕ → Entry
 begun zone = record { zone = zone; append_off = 0; bytes_free = pos BIGBLOCK_BYTES }
 
--- the append big-blocks, of which those of the zones that lack room are replaced by other big-blocks, in order
-abbrev pub replaced : List Bool → List ℕ → List ℕ → List ℕ
-replaced [] append fresh = append
-replaced (lacks ∷ more) [] fresh = []
-replaced (lacks ∷ more) (b ∷ append) fresh =
-    if lacks then slice_index fresh 0 ∷ replaced more append (drop 1 fresh) else b ∷ replaced more append fresh
-
 -- the append big-blocks and the maps of a freemap
 pub record Space : Type 0 where
   pub append : List ℕ
@@ -46,8 +39,8 @@ room_at space = room_in space.append space.maps.current
 abbrev pub free_at : ℕ → Space → ℕ
 free_at bigblocks space = free_by bigblocks space.append space.maps
 
--- The zones have the room that they need: each that lacked it appends to a free big-block, the lowest ones in the
--- order of zones. The freemap stands for the same states, and only pages of the freemap changed.
+-- The zones have the room that they need: each that lacked it appends to a free big-block. The freemap stands for the
+-- same states, and only pages of the freemap changed.
 pub record IsAdmitted (bigblocks : ℕ) (zones : Zones) (held : ℕ) (append append' : List ℕ) (maps : Maps) (now : PageMap) : Type 0 where
   pub pages : (at : ℕ) → zone_of at ≢ FREEMAP_ZONE → now at ≡ maps.current at
   pub stand : (states : References) → StandBy bigblocks append maps states → StandBy bigblocks append' (with_current now maps) states

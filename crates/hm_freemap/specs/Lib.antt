@@ -9,3 +9,5 @@ pub mod Change
 pub mod Extents
 pub mod Admit
 pub mod Renew
+pub mod Fresh
+pub mod OnePage

@@ -5,6 +5,7 @@ ghost use Rattle.hm_types.specs.declared.limits.TheConstants.{PAGE_BYTES, MOST_B
 ghost use Rattle.hm_fields.specs.Fields.{Apart, get};
 ghost use Rattle.hm_freemap.specs.Admit.{begun};
 ghost use Rattle.hm_freemap.specs.Change.{HasRoomFor, appended, shared, given};
+ghost use Rattle.hm_freemap.specs.Fresh.{unused_entry};
 ghost use Rattle.hm_freemap.specs.Entry.{
   entry_in,
   HoldsEntry,
@@ -41,7 +42,7 @@ pub struct Entry {
 impl Entry {
     /// The entry of a big-block of the pool that was never begun.
     pub fn unused() -> Entry
-        ensures { IsUnused result }
+        ensures { result ≡ unused_entry }
     {
         Entry {
             zone: UNUSED,

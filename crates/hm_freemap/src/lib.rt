@@ -6,15 +6,23 @@ mod admit;
 mod entry;
 mod extents;
 mod freemap;
+mod fresh;
 mod layer1;
+#[cfg(test)]
+mod made;
+#[cfg(test)]
+mod one_page;
 mod pages;
 mod place;
 mod pool_entry;
 mod scan;
 mod sheets;
+#[cfg(test)]
+mod tests;
 
 pub use entry::{Entry, UNUSED};
 pub use freemap::Freemap;
+pub use fresh::{fresh_entry, fresh_page};
 pub use layer1::{layer1_offset, read_layer1, write_layer1};
 pub use pages::FreemapPages;
 pub use place::{page_of, place_of};

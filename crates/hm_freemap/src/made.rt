@@ -1,0 +1,72 @@
+// A volume of any size for tests, as it was just made: each page is made as it is read.
+ghost use Rattle.std.specs.Prelude.{◌≤◌};
+ghost use Rattle.hm_types.specs.declared.limits.TheConstants.{LEAST_BIGBLOCKS, MOST_BIGBLOCKS};
+
+use crate::fresh::fresh_page;
+use crate::pages::FreemapPages;
+use hm_fields::{Page, Pages, State, States};
+use hm_types::{BIGBLOCK_BYTES, Counted, Fault, HOff, PAGE_BYTES};
+
+/// The pages of layer 2 of a volume of so many big-blocks, of which nothing is told, with a count of
+/// reads. They do not change.
+#[derive(Drop)]
+pub(crate) struct Made {
+    pub(crate) bigblocks: u32,
+    pub(crate) reads: u64,
+    ghost least: { LEAST_BIGBLOCKS ≤ bigblocks },
+    ghost most: { bigblocks ≤ MOST_BIGBLOCKS },
+}
+
+impl Counted for Made {
+    ghost faults = { λ _. 0 };
+
+    ghost name = { λ _. 0 };
+
+    ghost frame = { λ _. tt };
+}
+
+impl Pages for Made {
+    ghost use Rattle.std.specs.Prelude.{None};
+
+    ghost pages = { λ _. None };
+
+    ghost rest = { λ _. tt };
+
+    fn page(&mut self, at: HOff, into: &mut Page) -> Result<(), Fault> {
+        self.reads = self.reads.saturating_add(1);
+        let number = at.byte().saturating_sub(2 * BIGBLOCK_BYTES) / PAGE_BYTES as u64;
+        fresh_page(
+            self.bigblocks,
+            &[4_096, 80, 0, 0],
+            (number % 8_192) as u32 * 256,
+            into,
+        );
+        Ok(())
+    }
+
+    fn change(&mut self, _at: HOff, _with: &Page) -> Result<(), Fault> {
+        Err(Fault::NoMemory)
+    }
+}
+
+impl States for Made {
+    ghost use Rattle.std.specs.Prelude.{None, true, refl};
+
+    ghost committed = { λ _. None };
+
+    ghost frozen = { λ _. None };
+
+    ghost layer2 = { λ _ _. true };
+
+    ghost framed = { λ s t same. (refl, refl, refl) };
+
+    ghost there = { λ s. record { in_committed = tt; in_frozen = tt; in_current = tt; together = (refl, refl) } };
+
+    fn page_in(&mut self, _state: State, at: HOff, into: &mut Page) -> Result<(), Fault> {
+        self.page(at, into)
+    }
+}
+
+impl FreemapPages for Made {
+    ghost freemap_is_kept = { λ at bytes zone. tt };
+}

@@ -1,0 +1,280 @@
+// Entries, places and calls on small volumes, which were reckoned by hand.
+ghost use Rattle.std.specs.Prelude.{◌≤◌};
+
+use crate::made::Made;
+use crate::one_page::{OnePage, Quiet};
+use crate::{
+    Entry, Freemap, fresh_page, layer1_offset, page_of, place_of, read_layer1, write_layer1,
+};
+use bitflags::Flags;
+use hm_fields::{Page, put_u8, put_u64};
+use hm_types::{BAD_FREEMAP, Fault, HOff, SpaceFault, Zones};
+use std::process::Abort;
+use std::test::Fail;
+
+// A volume of 24 big-blocks as it was made.
+fn volume() -> Freemap<Quiet> {
+    let mut page = Page::zero();
+    fresh_page(24, &[4_096, 80, 0, 0], 0, &mut page);
+    again(Quiet(OnePage {
+        committed: page,
+        frozen: page,
+        current: page,
+        reads: 0,
+        changes: 0,
+    }))
+}
+
+// The entry of a big-block of the pool that belongs to a zone.
+fn owned(zone: u8, append_off: u32, bytes_free: i32) -> Entry {
+    Entry {
+        zone,
+        append_off,
+        bytes_free,
+    }
+}
+
+// Puts an entry of a big-block into the current page of a small volume.
+fn put(freemap: Freemap<Quiet>, block: u64, entry: &Entry) -> Freemap<Quiet> {
+    let (mut pages, _) = freemap.into_parts();
+    entry.write(&mut pages.0.current, place_of(block));
+    again(pages)
+}
+
+// A freemap over the pages of a small volume.
+fn again(pages: Quiet) -> Freemap<Quiet> {
+    Freemap::over(pages, 24, [11, 12, 13, 14])
+}
+
+// The same, where zone 10 appends to big-block 15.
+fn moved(pages: Quiet) -> Freemap<Quiet> {
+    Freemap::over(pages, 24, [11, 12, 15, 14])
+}
+
+#[test]
+fn entries_out_of_range_are_not_read(rt: HostRuntime) {
+    for (zone, append_off, bytes_free, want) in [
+        (0u8, 0u32, 8_388_608i32, true),
+        (0, 16, 8_388_608, false),
+        (0, 0, 8_388_592, false),
+        (1, 0, 0, true),
+        (1, 0, 16, false),
+        (2, 0, 0, false),
+        (3, 16, 0, false),
+        (4, 0, 0, true),
+        (7, 0, 0, false),
+        (8, 4_096, -1, true),
+        (8, 16, 0, false),
+        (9, 16, -2_147_483_648, true),
+        (10, 8_388_608, 0, true),
+        (10, 8_388_624, 0, false),
+        (11, 8, 0, false),
+        (12, 0, 0, false),
+        (15, 0, 0, true),
+        (16, 0, 0, false),
+    ] {
+        let mut page = Page::zero();
+        let entry = owned(zone, append_off, bytes_free);
+        entry.write(&mut page, 32);
+        let wanted = if want { Some(entry) } else { None };
+        assert_eq!(rt;
+            Entry::read(&page, 32),
+            wanted,
+            "{zone} {append_off} {bytes_free}"
+        );
+        assert!(rt; Entry::read(&page, 48).is_none());
+        for place in [33usize, 34, 35, 44, 45, 46, 47] {
+            let mut bad = page;
+            assert!(rt; place <= 47);
+            put_u8(&mut bad, place, 1);
+            assert!(rt; Entry::read(&bad, 32).is_none(), "{place}");
+        }
+    }
+}
+
+#[test]
+fn an_entry_stands_with_its_lowest_bytes_first(rt: HostRuntime) {
+    let mut page = Page::zero();
+    owned(9, 0x0001_0250, -2).write(&mut page, 16);
+    assert_eq!(rt;
+        &page.bytes()[16..32],
+        [
+            9, 0, 0, 0, 0x50, 2, 1, 0, 0xFE, 0xFF, 0xFF, 0xFF, 0, 0, 0, 0
+        ]
+        .as_slice()
+    );
+}
+
+#[test]
+fn layer_1_tells_where_layer_2_is(rt: HostRuntime) {
+    for (bigblocks, i, want) in [
+        (24, 0, 0x4000_0000_0100_0000u64),
+        (24, 1, 0xF000_0000_0000_0000),
+        (524_288, 1, 0xF000_0000_0000_0000),
+        (524_289, 1, 0x4000_0000_0180_0000),
+        (1_048_576, 2, 0xF000_0000_0000_0000),
+    ] {
+        let offset = layer1_offset(bigblocks, i);
+        assert_eq!(rt; offset.raw(), want);
+        let mut page = Page::zero();
+        write_layer1(&mut page, 64, offset);
+        assert_eq!(rt; read_layer1(&page, 64), Some(offset));
+        for place in [72usize, 80, 95] {
+            let mut bad = page;
+            assert!(rt; place <= 95);
+            put_u8(&mut bad, place, 1);
+            assert!(rt; read_layer1(&bad, 64).is_none(), "{place}");
+        }
+    }
+    for raw in [
+        0u64,
+        0x4000_0000_0100_1000,
+        0x3000_0000_0100_0000,
+        0xF000_0000_0000_0010,
+    ] {
+        let mut page = Page::zero();
+        put_u64(&mut page, 0, raw);
+        assert!(rt; read_layer1(&page, 0).is_none(), "{raw:x}");
+    }
+}
+
+#[test]
+fn entries_stand_in_order_of_their_big_blocks(rt: HostRuntime) {
+    for (block, page, place) in [
+        (0u64, 16_777_216u64, 0usize),
+        (255, 16_777_216, 4_080),
+        (256, 16_781_312, 0),
+        (524_287, 25_161_728, 4_080),
+        (524_288, 25_165_824, 0),
+        (1_048_575, 33_550_336, 4_080),
+    ] {
+        assert_eq!(rt; Some(page_of(block)), HOff::make(4, page), "{block}");
+        assert_eq!(rt; place_of(block), place, "{block}");
+    }
+}
+
+#[test]
+fn a_small_volume_has_nine_free_big_blocks(rt: HostRuntime) -> Result<(), Fail> {
+    let mut freemap = volume();
+    assert_eq!(rt; freemap.free_blocks()?, 9);
+    assert_eq!(rt; freemap.live_bytes(11)?, 4_096);
+    assert_eq!(rt; freemap.live_bytes(12)?, 80);
+    assert_eq!(rt; freemap.live_bytes(23)?, 0);
+    let (pages, _) = freemap.into_parts();
+    assert_eq!(rt; (pages.0.reads, pages.0.changes), (6, 0));
+    Ok(())
+}
+
+#[test]
+fn a_large_volume_is_counted_page_by_page(rt: HostRuntime) -> Result<(), Fail> {
+    let pages = Made {
+        bigblocks: 524_289,
+        reads: 0,
+    };
+    let mut freemap = Freemap::over(pages, 524_289, [12, 13, 14, 15]);
+    assert_eq!(rt; freemap.free_blocks()?, 524_273);
+    let (pages, _) = freemap.into_parts();
+    assert_eq!(rt; pages.reads, 3 * 2_049);
+    Ok(())
+}
+
+#[test]
+fn bad_entries_are_told_at_their_page(rt: HostRuntime) {
+    let want = Err(Fault::Damaged {
+        at: page_of(0),
+        kind: BAD_FREEMAP,
+    });
+    for (block, entry) in [
+        (23u64, owned(4, 0, 0)),
+        (16, owned(8, 16, 0)),
+        (20, owned(0, 0, 0)),
+    ] {
+        let mut freemap = put(volume(), block, &entry);
+        assert_eq!(rt; freemap.free_blocks(), want, "{block}");
+    }
+    assert!(rt; volume().live_bytes(10).is_err());
+    assert!(rt; volume().live_bytes(24).is_err());
+}
+
+// Takes an extent.
+fn take(freemap: &mut Freemap<Quiet>, zone: u8, len: u32) -> Result<HOff, Fault>
+    requires some { 1 ≤ len }
+    requires few { len ≤ 65536 }
+    requires zone { (8 ≤ zone) × (zone ≤ 11) }
+{
+    freemap.take_extent(zone, len)
+}
+
+#[test]
+fn extents_follow_one_another_and_are_given_back(rt: HostRuntime) -> Result<(), Fail> {
+    let mut freemap = volume();
+    let first = take(&mut freemap, 9, 33)?;
+    let second = take(&mut freemap, 9, 100)?;
+    let node = take(&mut freemap, 8, 4_096)?;
+    assert_eq!(rt; Some(first), HOff::make(9, 12 * 8_388_608 + 80));
+    assert_eq!(rt; Some(second), HOff::make(9, 12 * 8_388_608 + 128));
+    assert_eq!(rt; Some(node), HOff::make(8, 11 * 8_388_608 + 4_096));
+    assert_eq!(rt; freemap.live_bytes(12)?, 240);
+    freemap.share_extent(second, 100)?;
+    assert_eq!(rt; freemap.live_bytes(12)?, 352);
+    freemap.give_extent(second, 100)?;
+    assert_eq!(rt; freemap.live_bytes(12)?, 240);
+    freemap.give_extent(second, 100)?;
+    freemap.give_extent(first, 33)?;
+    assert_eq!(rt; freemap.live_bytes(12)?, 80);
+    Ok(())
+}
+
+#[test]
+fn taking_and_giving_touch_one_page(rt: HostRuntime) -> Result<(), Fail> {
+    let mut freemap = volume();
+    let at = take(&mut freemap, 10, 16_384)?;
+    let (pages, _) = freemap.into_parts();
+    assert_eq!(rt; (pages.0.reads, pages.0.changes), (1, 1));
+    let mut freemap = again(pages);
+    freemap.give_extent(at, 16_384)?;
+    let (pages, _) = freemap.into_parts();
+    assert_eq!(rt; (pages.0.reads, pages.0.changes), (2, 2));
+    Ok(())
+}
+
+#[test]
+fn a_zone_that_lacks_room_begins_the_lowest_free_big_block(rt: HostRuntime) -> Result<(), Fail> {
+    let all = Zones::TREE
+        .union(Zones::META)
+        .union(Zones::LARGE)
+        .union(Zones::SMALL);
+    let mut freemap = volume();
+    assert!(rt; freemap.admit(all, 4).is_ok());
+    let full = owned(10, 8_257_552, 131_056);
+    let mut freemap = put(freemap, 13, &full);
+    assert!(rt; freemap.admit(Zones::TREE, 4).is_ok());
+    assert!(rt; freemap.admit(all, 9).is_err());
+    assert_eq!(rt;
+        freemap.admit(all, 9),
+        Err(SpaceFault::NoSpace { free: 9, needed: 1 })
+    );
+    assert!(rt; freemap.admit(all, 8).is_ok());
+    let (pages, append) = freemap.into_parts();
+    assert_eq!(rt; append, [11, 12, 15, 14]);
+    let mut freemap = moved(pages);
+    let at = take(&mut freemap, 10, 16)?;
+    assert_eq!(rt; Some(at), HOff::make(10, 15 * 8_388_608));
+    assert_eq!(rt; freemap.free_blocks()?, 8);
+    Ok(())
+}
+
+#[test]
+fn a_big_block_that_is_live_in_the_frozen_state_alone_is_kept(rt: HostRuntime) -> Result<(), Fail> {
+    let full = owned(10, 8_388_608, 0);
+    let freemap = put(volume(), 13, &full);
+    let (mut pages, _) = freemap.into_parts();
+    owned(9, 16, 8_388_592).write(&mut pages.0.frozen, place_of(15));
+    owned(9, 16, 8_388_592).write(&mut pages.0.committed, place_of(16));
+    let mut freemap = again(pages);
+    assert_eq!(rt; freemap.free_blocks()?, 7);
+    assert!(rt; freemap.admit(Zones::LARGE, 4).is_ok());
+    let (_, append) = freemap.into_parts();
+    assert_eq!(rt; append, [11, 12, 17, 14]);
+    Ok(())
+}
