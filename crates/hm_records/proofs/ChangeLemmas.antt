@@ -53,7 +53,7 @@ takes_out_unseen e es es' t takes unseen s bytes = (shown s es' es t t bytes bac
 
 -- ---- closing
 
-about_is : (s : Subject) (k : Key) → is_about s k ≡ true → subject_of k ≡ s
+pub about_is : (s : Subject) (k : Key) → is_about s k ≡ true → subject_of k ≡ s
 about_is s k is =
     let last = and_parts _ _ is in
     let third = and_parts _ _ last.0 in
@@ -64,7 +64,7 @@ about_is s k is =
     let n : k.key ≡ s.key = eqb-true k.key s.key last.1 in
     λ i. record { localization = l i; obj = o i; rec_type = r i; key = n i }
 
-is_about_of : (s : Subject) (k : Key) → subject_of k ≡ s → is_about s k ≡ true
+pub is_about_of : (s : Subject) (k : Key) → subject_of k ≡ s → is_about s k ≡ true
 is_about_of s k same =
     let l : (k.localization == s.localization) ≡ true = eq-eqb k.localization s.localization (ap (λ (z : Subject). z.localization) same) in
     let o : (k.obj == s.obj) ≡ true = eq-eqb k.obj s.obj (ap (λ (z : Subject). z.obj) same) in

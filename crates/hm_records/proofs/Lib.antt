@@ -17,3 +17,5 @@ pub mod EntryChangeLemmas
 pub mod ObjectChangeLemmas
 pub mod MadeLemmas
 pub mod LookupLemmas
+pub mod PlainLemmas
+pub mod PlainTreeLemmas

@@ -25,7 +25,7 @@ module _ {X : Type 0} (p : X → Bool) where
     by_test false fails here rest = (has_tail y x xs (rest here).0, (rest here).1)
 
   -- where nothing is found, nothing passes
-  find_none : (xs : List X) (x : X) → find p xs ≡ None → Contains xs x → p x ≡ true → ⊥
+  pub find_none : (xs : List X) (x : X) → find p xs ≡ None → Contains xs x → p x ≡ true → ⊥
   find_none [] x is has passes = absurd (has_none x has)
   find_none (y ∷ xs) x is has passes = by_test (p y) refl is (find_none xs x) where
     by_test : (b : Bool) → p y ≡ b → cond b (Some y) (find p xs) ≡ None → (find p xs ≡ None → Contains xs x → p x ≡ true → ⊥) → ⊥
@@ -35,7 +35,7 @@ module _ {X : Type 0} (p : X → Bool) where
       | inr later ↦ rest here later passes
     ]
 
-  any_none : (xs : List X) → list_any p xs ≡ false → find p xs ≡ None
+  pub any_none : (xs : List X) → list_any p xs ≡ false → find p xs ≡ None
   any_none [] is = refl
   any_none (y ∷ xs) is = by_test (p y) refl is (any_none xs) where
     by_test : (b : Bool) → p y ≡ b → (b || list_any p xs) ≡ false → (list_any p xs ≡ false → find p xs ≡ None) → cond b (Some y) (find p xs) ≡ None

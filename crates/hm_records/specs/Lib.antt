@@ -7,5 +7,6 @@ pub mod KeysFit
 pub mod Laws
 pub mod Payload
 pub mod PfsRecord
+pub mod PlainView
 pub mod Target
 pub mod View

@@ -8,6 +8,7 @@ mod inode;
 mod kind;
 mod laws;
 mod pfs_record;
+mod plain;
 mod target;
 #[cfg(test)]
 mod tests;
@@ -22,6 +23,7 @@ pub use laws::{
     payload_is_neither_empty_nor_large, payloads_have_their_sizes,
 };
 pub use pfs_record::{PfsRecord, decode_pfs, encode_pfs};
+pub use plain::{FullElement, PlainTree, have_own_keys, view_of};
 pub use target::{decode_target, encode_target};
 pub use views::{
     additions_count_from_their_id, changed_objects_are_shown, changes_leave_the_past,
