@@ -1,6 +1,6 @@
 -- What a change of a list does to what counts, as of an id before it and as of one from it on.
 use Rattle.std.proofs.Common.{◌≡◌, ◌≢◌, ℕ, ◌+◌, ◌<◌, ◌≤◌, Bool, true, false, List, refl, sym, ap, subst, ◌∙◌, inl, inr, arith}
-use Rattle.std.specs.Prelude.{◌↔◌, ◌⊎◌, ◌==◌, ◌&&◌, if◌then◌else◌, Option, Some, None}
+use Rattle.std.specs.Prelude.{◌⊎◌, ◌==◌, ◌&&◌, if◌then◌else◌, Option, Some, None}
 use Rattle.std.specs.List.{Contains}
 use Rattle.std.proofs.lemmas.Bool.{false≢true, eqb-true, eq-eqb, and_parts}
 use Rattle.hm_types.specs.Elements.{FullElement, Key}
@@ -171,7 +171,8 @@ adds_from e es es' t adds open' late older = record {
     ];
   }
 
-pub closes_from : (s : Subject) (i : ℕ) (es es' : List FullElement) (t : ℕ) → Closes s i es es' → IsBelow i es → i ≤ t → Overrides s None (Counts es t) (Counts es' t)
+pub closes_from : (s : Subject) (i : ℕ) (es es' : List FullElement) (t : ℕ) → Closes s i es es' → IsBelow i es → i ≤ t
+    → Overrides s None (Counts es t) (Counts es' t)
 closes_from s i es es' t closes below late = record {
   about = λ bytes. (λ c. absurd (none bytes c), λ is. absurd (none_some bytes is));
   elsewhere = λ other bytes not. (shown other es' es t t bytes (back other not) (on other not), shown other es es' t t bytes (on other not) (back other not));

@@ -1,14 +1,14 @@
 -- For each subject one payload counts at most, and a pseudo file system has one record at most.
-use Rattle.std.proofs.Common.{◌≡◌, ◌≢◌, ℕ, ◌+◌, ◌<◌, ◌≤◌, List, [], ◌∷◌, refl, sym, ap, subst, ◌∙◌, inl, inr, true≢false, arith}
+use Rattle.std.proofs.Common.{◌≡◌, ◌≢◌, ℕ, ◌+◌, ◌≤◌, List, [], ◌∷◌, sym, ap, ◌∙◌, inl, inr, true≢false, arith}
 use Rattle.std.specs.Prelude.{◌↔◌, ◌⊎◌}
 use Rattle.std.specs.List.{Contains, AllByRecursion}
 use Rattle.std.specs.List.Sorted.{IsStrictlySortedBy}
-use Rattle.std.specs.Ordering.{is_lt, on}
+use Rattle.std.specs.Ordering.{is_lt}
 use Rattle.std.specs.declared.cmp.Ordering.TheVariants.{Less, Equal}
 use Rattle.std.proofs.lemmas.List.Elements.{All-contains, All-from_recursion}
 use Rattle.hm_types.specs.Elements.{FullElement, Key, key_cmp}
 use Rattle.hm_key.proofs.KeyLemmas.{key_itself}
-use Rattle.hm_records.specs.Counts.{Counts, IsRecordOf, IsSeen, Subject, record_subject, subject_of}
+use Rattle.hm_records.specs.Counts.{Counts, IsRecordOf, IsSeen, record_subject, subject_of}
 use Rattle.hm_records.specs.Changes.{AreSorted, HaveOwnKeys, IsBelow, IsSettled}
 use Rattle.hm_records.proofs.MemberLemmas.{has_cases, has_none}
 

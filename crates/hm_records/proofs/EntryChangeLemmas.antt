@@ -1,15 +1,15 @@
 -- An entry more or less, and the view.
-use Rattle.std.proofs.Common.{◌≡◌, ◌≢◌, ℕ, ◌<◌, ◌≤◌, List, refl, sym, ap, subst, ◌∙◌, inl, inr, arith}
-use Rattle.std.specs.Prelude.{◌↔◌, ◌⊎◌, Option, None, Some}
+use Rattle.std.proofs.Common.{◌≡◌, ◌≢◌, ℕ, ◌<◌, ◌≤◌, List, refl, sym, ap, subst, inl, inr, arith}
+use Rattle.std.specs.Prelude.{◌↔◌, None, Some}
 use Rattle.std.proofs.lemmas.Bool.{cases_eq}
 use Rattle.hm_types.specs.declared.id.Obj.{Obj}
 use Rattle.hm_types.specs.declared.object.Triple.{Triple}
 use Rattle.hm_types.specs.Tree.{FileTree, with_name, without_name}
 use Rattle.hm_records.specs.declared.entry.DirEntry.{DirEntry}
-use Rattle.hm_records.specs.Entry.{IsEntry, entry_bytes}
+use Rattle.hm_records.specs.Entry.{entry_bytes}
 use Rattle.hm_records.specs.Counts.{Content, Subject, entry_subject}
 use Rattle.hm_records.specs.View.{HasEntry, IsTriple, IsView}
-use Rattle.hm_records.specs.Changes.{AgreeOnObject, IsSettled, LacksName, Overrides}
+use Rattle.hm_records.specs.Changes.{AgreeOnObject, IsSettled, LacksName}
 use Rattle.hm_records.specs.Laws.{GetsEntry, HasEarlier, HasView, IsFirstOf, IsNext, IsOnly, LosesEntry}
 use Rattle.hm_records.proofs.NameLemmas.{OthersAgree, Stands, has_moved, name_gone, name_one, name_shown, stands_or_not, without_none}
 use Rattle.hm_records.proofs.ObjectLemmas.{name_back, triple_kept}

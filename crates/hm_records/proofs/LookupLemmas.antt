@@ -1,5 +1,5 @@
 -- What is found in a view, by its number or by its name.
-use Rattle.std.proofs.Common.{◌≡◌, ◌≢◌, ℕ, zero, suc, ◌<◌, ◌≤◌, Bool, true, false, List, [], ◌∷◌, cond, refl, sym, ap, subst, ◌∙◌, inl, inr, arith}
+use Rattle.std.proofs.Common.{◌≡◌, ℕ, zero, suc, ◌<◌, Bool, true, false, List, [], ◌∷◌, cond, refl, sym, ap, subst, ◌∙◌, inl, inr, arith}
 use Rattle.std.specs.Prelude.{◌==◌, ◌||◌, Option, None, Some, find, option_map}
 use Rattle.std.specs.List.{Contains, list_any}
 use Rattle.std.proofs.lemmas.Bool.{false≢true, cases_lt, eqb-true, eq-eqb}
@@ -8,7 +8,7 @@ use Rattle.hm_types.specs.declared.object.Object.{Object}
 use Rattle.hm_types.specs.declared.object.Triple.{Triple}
 use Rattle.hm_types.specs.Tree.{FileTree, has_name, is_named, named_in, object_in}
 use Rattle.hm_records.specs.Counts.{Content}
-use Rattle.hm_records.specs.View.{HasEntry, IsObject, IsTriple, IsView}
+use Rattle.hm_records.specs.View.{HasEntry, IsObject, IsTriple}
 use Rattle.hm_records.specs.Changes.{LacksName}
 use Rattle.hm_records.specs.Laws.{HasView, triple_of}
 use Rattle.hm_records.proofs.MemberLemmas.{has_cases, has_head, has_none, has_tail}
@@ -20,7 +20,8 @@ module _ {X : Type 0} (p : X → Bool) where
   find_some : (xs : List X) (x : X) → find p xs ≡ Some x → Contains xs x × (p x ≡ true)
   find_some [] x is = absurd (cc)
   find_some (y ∷ xs) x is = by_test (p y) refl is (find_some xs x) where
-    by_test : (b : Bool) → p y ≡ b → cond b (Some y) (find p xs) ≡ Some x → (find p xs ≡ Some x → Contains xs x × (p x ≡ true)) → Contains (y ∷ xs) x × (p x ≡ true)
+    by_test : (b : Bool) → p y ≡ b → cond b (Some y) (find p xs) ≡ Some x → (find p xs ≡ Some x → Contains xs x × (p x ≡ true))
+        → Contains (y ∷ xs) x × (p x ≡ true)
     by_test true passes here rest = let e : y ≡ x = cc in (subst (λ (z : X). Contains (y ∷ xs) z) e (has_head y xs), subst (λ (z : X). p z ≡ true) e passes)
     by_test false fails here rest = (has_tail y x xs (rest here).0, (rest here).1)
 

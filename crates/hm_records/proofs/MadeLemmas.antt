@@ -1,9 +1,8 @@
 -- Which objects inodes make, and what changes nothing of them.
-use Rattle.std.proofs.Common.{◌≡◌, ◌≢◌, ℕ, ◌^◌, ◌<◌, ◌≤◌, List, [], length, slice_index, refl, sym, ap, subst, ◌∙◌, arith}
+use Rattle.std.proofs.Common.{◌≡◌, ℕ, ◌^◌, ◌<◌, List, [], refl, sym, ap, subst, ◌∙◌, arith}
 use Rattle.std.specs.Prelude.{◌↔◌, Option, Some}
 use Rattle.std.specs.List.{Contains}
 use Rattle.hm_types.specs.declared.id.Obj.{Obj}
-use Rattle.hm_types.specs.declared.id.Pfs.{Pfs}
 use Rattle.hm_types.specs.declared.object.Object.{Object}
 use Rattle.hm_types.specs.declared.object.Kind.{Kind}
 use Rattle.hm_types.specs.declared.object.Kind.TheVariants.{Directory, File, Softlink, PfsLink}
@@ -15,7 +14,7 @@ use Rattle.hm_records.specs.declared.kind.TheConstants.{DIRECTORY, FILE, SOFTLIN
 use Rattle.hm_records.specs.Inode.{IsInode, inode_bytes}
 use Rattle.hm_records.specs.Counts.{Content, Subject, inode_subject, bytes_subject, target_subject}
 use Rattle.hm_records.specs.View.{AreFileBytes, IsHeld, IsObject, IsTargetOf, kind_number}
-use Rattle.hm_records.specs.Changes.{AgreeButObject, AgreeOnObject, ChangesObject, CountsNothing, HasInode, IsBeside, IsNotOfKind, IsSettled, Overrides}
+use Rattle.hm_records.specs.Changes.{ChangesObject, HasInode, IsBeside, IsNotOfKind, IsSettled, Overrides}
 use Rattle.hm_records.specs.Laws.{HasView, made_of}
 use Rattle.hm_records.proofs.ObjectLemmas.{SameBytes, SameTarget, held_kept, inode_one}
 use Rattle.hm_records.proofs.ObjectChangeLemmas.{known_changed, object_changed, object_same_view}
@@ -62,13 +61,15 @@ inode_changes pfs obj now C D settled overrides = record {
   settled = settled_still (inode_subject pfs obj) now C D overrides settled;
 }
 
-pub bytes_changes : (pfs obj end : ℕ) (now : Option (List ℕ)) (C D : Content) → IsSettled C → Overrides (bytes_subject pfs obj end) now C D → ChangesObject pfs obj C D
+pub bytes_changes : (pfs obj end : ℕ) (now : Option (List ℕ)) (C D : Content) → IsSettled C → Overrides (bytes_subject pfs obj end) now C D
+    → ChangesObject pfs obj C D
 bytes_changes pfs obj end now C D settled overrides = record {
   agree = bytes_one_object pfs obj end C D overrides.elsewhere;
   settled = settled_still (bytes_subject pfs obj end) now C D overrides settled;
 }
 
-pub target_changes : (pfs obj : ℕ) (now : Option (List ℕ)) (C D : Content) → IsSettled C → Overrides (target_subject pfs obj) now C D → ChangesObject pfs obj C D
+pub target_changes : (pfs obj : ℕ) (now : Option (List ℕ)) (C D : Content) → IsSettled C → Overrides (target_subject pfs obj) now C D
+    → ChangesObject pfs obj C D
 target_changes pfs obj now C D settled overrides = record {
   agree = target_one_object pfs obj C D overrides.elsewhere;
   settled = settled_still (target_subject pfs obj) now C D overrides settled;

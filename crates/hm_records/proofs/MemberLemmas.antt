@@ -1,9 +1,9 @@
 -- Which elements a list has after an edit, and in which order.
-use Rattle.std.proofs.Common.{◌≡◌, ℕ, zero, suc, ◌+◌, ◌<◌, ◌≤◌, Bool, true, false, cond, List, [], ◌∷◌, length, get_or, refl, sym, ap, subst, ◌∙◌, inl, inr, arith}
+use Rattle.std.proofs.Common.{◌≡◌, zero, suc, Bool, true, false, cond, List, [], ◌∷◌, refl, sym, ap, subst, ◌∙◌, inl, inr, arith}
 use Rattle.std.proofs.lemmas.Bool.{false≢true}
-use Rattle.std.specs.Prelude.{◌⊎◌, ◌↔◌, IsTrue, filter, map, if◌then◌else◌}
+use Rattle.std.specs.Prelude.{◌⊎◌, IsTrue, filter, map, if◌then◌else◌}
 use Rattle.std.specs.List.{Contains, All}
-use Rattle.std.proofs.lemmas.List.Elements.{All-cons, All-nil, All-head, All-tail, All-contains, Contains-append_left, Contains-append_right, Contains-append_cases}
+use Rattle.std.proofs.lemmas.List.Elements.{All-cons, All-nil, All-contains, Contains-append_right, Contains-append_cases}
 use Rattle.hm_types.specs.Tree.{insert_by}
 use Rattle.hm_records.specs.View.{AreInOrder}
 

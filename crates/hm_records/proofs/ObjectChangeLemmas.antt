@@ -1,16 +1,15 @@
 -- A change of one object, and the view.
-use Rattle.std.proofs.Common.{◌≡◌, ◌≢◌, ℕ, ◌<◌, ◌≤◌, Bool, true, false, List, refl, sym, ap, subst, ◌∙◌, inl, inr}
-use Rattle.std.specs.Prelude.{◌↔◌, ◌⊎◌, ◌==◌, if◌then◌else◌, map}
+use Rattle.std.proofs.Common.{◌≡◌, ◌≢◌, ℕ, Bool, true, false, refl, sym, ap, subst, ◌∙◌, inl, inr}
+use Rattle.std.specs.Prelude.{◌↔◌, ◌==◌, if◌then◌else◌, map}
 use Rattle.std.specs.List.{Contains}
-use Rattle.std.specs.Bool.{nat_lt}
-use Rattle.std.proofs.lemmas.Bool.{false≢true, eqb-true, eqb-false, eq-eqb, cases_eq, ne_eqb}
+use Rattle.std.proofs.lemmas.Bool.{false≢true, eqb-true, eq-eqb, cases_eq, ne_eqb}
 use Rattle.hm_types.specs.declared.id.Obj.{Obj}
 use Rattle.hm_types.specs.declared.object.Object.{Object}
 use Rattle.hm_types.specs.Tree.{FileTree, is_object_before, with_change, without, without_object}
 use Rattle.hm_records.specs.Counts.{Content, inode_subject}
 use Rattle.hm_records.specs.Inode.{inode_bytes}
-use Rattle.hm_records.specs.View.{IsObject, IsView}
-use Rattle.hm_records.specs.Changes.{AgreeButObject, ChangesObject, CountsNothing, IsSettled}
+use Rattle.hm_records.specs.View.{IsObject}
+use Rattle.hm_records.specs.Changes.{ChangesObject, CountsNothing}
 use Rattle.hm_records.specs.Laws.{HasView, with_inode}
 use Rattle.hm_records.proofs.MemberLemmas.{filter_has, has_filter, has_insert, has_map, insert_has, map_has, order_filter, order_insert, order_map}
 use Rattle.hm_records.proofs.NameLemmas.{opposite_false, opposite_true}

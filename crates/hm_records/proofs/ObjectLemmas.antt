@@ -1,9 +1,8 @@
 -- What counts decides which objects and triples there are, and of one number there is at most one object.
-use Rattle.std.proofs.Common.{◌≡◌, ◌≢◌, ℕ, ◌+◌, ◌-◌, ◌<◌, ◌≤◌, List, [], length, slice_index, refl, sym, ap, subst, ◌∙◌, arith}
+use Rattle.std.proofs.Common.{◌≡◌, ℕ, ◌<◌, List, length, slice_index, refl, sym, ap, subst, ◌∙◌, arith}
 use Rattle.std.specs.Prelude.{◌↔◌}
 use Rattle.std.proofs.lemmas.Grind.{same_number_lists}
 use Rattle.hm_types.specs.declared.id.Obj.{Obj}
-use Rattle.hm_types.specs.declared.id.Pfs.{Pfs}
 use Rattle.hm_types.specs.declared.object.Object.{Object}
 use Rattle.hm_types.specs.declared.object.Triple.{Triple}
 use Rattle.hm_types.specs.declared.object.Kind.{Kind}
@@ -51,7 +50,8 @@ byte_kept pfs obj x byte C D same (covered end bytes first reaches is) = covered
 byte_kept pfs obj x byte C D same (hole end bytes first short is) = hole end bytes (first_kept pfs obj x end bytes C D same first) short is
 byte_kept pfs obj x byte C D same (past none is) = past (λ end bytes there. none end bytes ((same end bytes).0 there)) is
 
-bytes_kept : (pfs obj size : ℕ) (bytes : List ℕ) (C D : Content) → SameBytes pfs obj C D → AreFileBytes C pfs obj size bytes → AreFileBytes D pfs obj size bytes
+bytes_kept : (pfs obj size : ℕ) (bytes : List ℕ) (C D : Content) → SameBytes pfs obj C D → AreFileBytes C pfs obj size bytes
+    → AreFileBytes D pfs obj size bytes
 bytes_kept pfs obj size bytes C D same are =
     record { sized = are.sized; each = λ x below. byte_kept pfs obj x (slice_index bytes x) C D same (are.each x below) }
 

@@ -1,11 +1,11 @@
 -- Which element is the newest of several, and which bytes end first.
-use Rattle.std.proofs.Common.{◌≡◌, ◌≢◌, ℕ, ◌+◌, ◌-◌, ◌<◌, ◌≤◌, Bool, true, false, List, [], ◌∷◌, ◌++◌, length, get_or, slice_index, take, refl, sym, ap, subst, ◌∙◌, inl, inr, arith, length-append}
-use Rattle.std.specs.Prelude.{◌↔◌, ◌⊎◌, ◌&&◌, IsTrue, Option, None, Some}
+use Rattle.std.proofs.Common.{◌≡◌, ℕ, ◌+◌, ◌-◌, ◌<◌, ◌≤◌, true, false, List, [], ◌∷◌, ◌++◌, length, get_or, slice_index, take, refl, sym, ap, subst, ◌∙◌, inl, inr, arith, length-append}
+use Rattle.std.specs.Prelude.{◌⊎◌, Option, None, Some}
 use Rattle.std.specs.List.{Contains, list_any}
 use Rattle.std.specs.Ordering.{is_eq}
 use Rattle.hm_key.proofs.KeyLemmas.{key_itself}
 use Rattle.hm_records.proofs.LookupLemmas.{any_none, find_none}
-use Rattle.std.proofs.lemmas.Bool.{cases_eq, cases_lt}
+use Rattle.std.proofs.lemmas.Bool.{cases_lt}
 use Rattle.std.proofs.lemmas.List.{get_or_append_left, get_or_push, take_more}
 use Rattle.std.proofs.lemmas.List.Elements.{Contains-append_cases, Contains-append_left, Contains-append_right}
 use Rattle.hm_types.specs.Elements.{FullElement, Key, key_cmp}
@@ -18,7 +18,7 @@ use Rattle.hm_records.specs.Inode.{IsInode, inode_bytes}
 use Rattle.hm_records.specs.Changes.{HaveOwnKeys}
 use Rattle.hm_records.specs.Laws.{made_of}
 use Rattle.hm_records.specs.View.{AreFileBytes, IsFileByte, covered, hole, past, IsFirstAfter, IsObject}
-use Rattle.hm_records.specs.PlainView.{is_at_key, IsEarlierEnd, IsHeldAs, IsObjectAt, IsLeastEnd, IsNewerVersion, IsNewest, IsNewestOf, IsNewestSince, IsNextEnd, IsUnseen}
+use Rattle.hm_records.specs.PlainView.{is_at_key, IsEarlierEnd, IsHeldAs, IsObjectAt, IsLeastEnd, IsNewerVersion, IsNewestOf, IsNewestSince, IsNextEnd, IsUnseen}
 use Rattle.hm_records.proofs.CountsLemmas.{settled}
 use Rattle.hm_records.proofs.MadeLemmas.{object_made}
 use Rattle.hm_records.proofs.MemberLemmas.{has_cases, has_head, has_none}

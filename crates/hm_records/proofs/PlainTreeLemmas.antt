@@ -1,6 +1,6 @@
 -- Which objects and triples the plain program has after one more element.
-use Rattle.std.proofs.Common.{◌≡◌, ◌≢◌, ℕ, ◌+◌, ◌<◌, ◌≤◌, Bool, true, false, List, [], ◌∷◌, length, get_or, take, refl, sym, ap, subst, ◌∙◌, inl, inr, arith}
-use Rattle.std.specs.Prelude.{◌↔◌, ◌⊎◌, IsTrue, Option, None, Some, Result, Ok, Err, IfOk}
+use Rattle.std.proofs.Common.{◌≡◌, ℕ, ◌+◌, ◌<◌, List, [], length, get_or, take, sym, ap, subst, ◌∙◌, inl, inr, arith}
+use Rattle.std.specs.Prelude.{◌↔◌, IsTrue, Option, None, Some, Result, Ok, Err, IfOk}
 use Rattle.std.specs.List.{Contains}
 use Rattle.std.specs.Str.{bytes_eq}
 use Rattle.std.proofs.lemmas.Bool.{cases_lt}
@@ -12,14 +12,14 @@ use Rattle.hm_types.specs.declared.object.Triple.{Triple}
 use Rattle.hm_types.specs.Tree.{insert_by, is_object_before, is_triple_before}
 use Rattle.hm_records.specs.declared.entry.DirEntry.{DirEntry}
 use Rattle.hm_records.specs.Entry.{IsEntry, entry_bytes}
-use Rattle.hm_records.specs.Counts.{Content, Counts, IsSeen, Subject, entry_subject, inode_subject, subject_of}
+use Rattle.hm_records.specs.Counts.{Content, Counts, Subject, entry_subject, inode_subject, subject_of}
 use Rattle.hm_records.specs.Changes.{HaveOwnKeys, IsSettled, LacksName}
 use Rattle.hm_records.specs.Laws.{triple_of}
 use Rattle.hm_records.specs.View.{HasEntry, IsObject, IsTriple, IsView}
-use Rattle.hm_records.specs.PlainView.{HasName, HasNumber, HasTriple, HoldsObjects, HoldsTriples, IsAddedObject, IsAddedTriple, IsEarlierEntry, IsEntryAt, IsEntryOf, IsFirstEntry, IsFirstKey, IsInodeOf, IsLeastKey, IsLess, IsNewObject, IsNewTriple, IsObjectAt, IsUnseen}
+use Rattle.hm_records.specs.PlainView.{HasName, HasNumber, HasTriple, HoldsObjects, HoldsTriples, IsAddedObject, IsAddedTriple, IsEarlierEntry, IsEntryAt, IsEntryOf, IsFirstKey, IsInodeOf, IsLeastKey, IsLess, IsNewObject, IsNewTriple, IsObjectAt, IsUnseen}
 use Rattle.hm_records.proofs.CountsLemmas.{settled}
 use Rattle.hm_records.proofs.MemberLemmas.{has_insert, has_none, insert_has, order_insert}
-use Rattle.hm_records.proofs.NameLemmas.{entry_one, has_moved, same_obj, triple_one}
+use Rattle.hm_records.proofs.NameLemmas.{entry_one, same_obj, triple_one}
 use Rattle.hm_records.proofs.ObjectLemmas.{object_one}
 use Rattle.hm_records.proofs.OrderLemmas.{object_apart, object_trans, triple_apart, triple_trans}
 use Rattle.hm_records.proofs.PlainLemmas.{more_cases, unseen_none}

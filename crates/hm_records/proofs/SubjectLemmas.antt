@@ -1,9 +1,9 @@
 -- Subjects differ, so that what is overridden for one leaves the others as they were.
-use Rattle.std.proofs.Common.{◌≡◌, ◌≢◌, ℕ, ◌+◌, ◌*◌, ◌^◌, ◌≤◌, List, refl, sym, ap, subst, ◌∙◌, inl, inr, arith}
+use Rattle.std.proofs.Common.{◌≡◌, ◌≢◌, ℕ, List, sym, ap, subst, inl, inr, arith}
 use Rattle.std.specs.Prelude.{◌↔◌, ◌⊎◌, Option, Some}
 use Rattle.std.proofs.lemmas.Bool.{cases_eq}
 use Rattle.hm_types.specs.declared.id.Obj.{Obj}
-use Rattle.hm_key.specs.declared.rec_type.TheConstants.{INODE, FILE_BYTES, DIRECTORY_ENTRY, SOFTLINK_TARGET, PFS_RECORD}
+use Rattle.hm_key.specs.declared.rec_type.TheConstants.{INODE, FILE_BYTES, DIRECTORY_ENTRY, SOFTLINK_TARGET}
 use Rattle.hm_records.specs.Entry.{entry_bytes}
 use Rattle.hm_records.specs.Counts.{Content, Subject, inode_subject, bytes_subject, entry_subject, target_subject, inodes_of, others_of}
 use Rattle.hm_records.specs.Changes.{AgreeButObject, AgreeOnName, AgreeOnObject, IsBeside, IsSettled, Overrides}

@@ -1,5 +1,5 @@
 -- A view is one, and what counts decides it.
-use Rattle.std.proofs.Common.{◌≡◌, ℕ, List, refl}
+use Rattle.std.proofs.Common.{◌≡◌, ℕ, List}
 use Rattle.std.specs.Prelude.{◌↔◌}
 use Rattle.std.specs.List.{Contains}
 use Rattle.hm_types.specs.declared.id.Obj.{Obj}

@@ -1,6 +1,6 @@
 -- The tree of a pseudo file system, by what counts. It is said as sets: which objects and which triples there are,
 -- and not how any of them is found.
-use Rattle.std.specs.Prelude.{◌≡◌, ◌↔◌, ◌⊎◌, ℕ, ◌+◌, ◌-◌, ◌<◌, ◌≤◌, Bool, List, [], ◌∷◌, length, slice_index, IsTrue}
+use Rattle.std.specs.Prelude.{◌≡◌, ◌↔◌, ℕ, ◌+◌, ◌-◌, ◌<◌, ◌≤◌, Bool, List, [], ◌∷◌, length, slice_index, IsTrue}
 use Rattle.std.specs.List.{All, Contains}
 use Rattle.hm_types.specs.Elements.{FullElement}
 use Rattle.hm_types.specs.Tree.{FileTree, is_object_before, is_triple_before}
@@ -14,7 +14,6 @@ use Rattle.hm_types.specs.declared.object.Content.TheVariants.{Nothing, File as 
 use Rattle.hm_records.specs.Counts.{Content, Counts, inode_subject, bytes_subject, entry_subject, target_subject}
 use Rattle.hm_records.specs.Entry.{IsEntry, entry_bytes}
 use Rattle.hm_records.specs.Inode.{IsInode, inode_bytes}
-use Rattle.hm_records.specs.declared.entry.DirEntry.{DirEntry}
 use Rattle.hm_records.specs.declared.inode.Inode.{Inode}
 use Rattle.hm_records.specs.declared.kind.TheConstants.{DIRECTORY, FILE, SOFTLINK, PFS_LINK}
 

@@ -1,5 +1,5 @@
-//! What follows from the definitions of what counts and of views alone: each function states one law, and
-//! does nothing.
+//! What follows from the definitions of what counts and of views alone: each function states one
+//! law, and does nothing.
 
 mod changes;
 mod contents;

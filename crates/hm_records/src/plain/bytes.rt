@@ -59,8 +59,8 @@ fn next_end(elements: &[FullElement], pfs: Pfs, obj: Obj, place: u64, id: u64) -
     next
 }
 
-// Whether an element has bytes of the file that are seen, and that end after the place and before an
-// end.
+// Whether an element has bytes of the file that are seen, and that end after the place and before
+// an end.
 fn is_earlier_end(
     element: &FullElement,
     pfs: Pfs,

@@ -41,7 +41,8 @@ pub(crate) fn triples_of(
     Ok(triples)
 }
 
-// The triple of the name that an element's entry has, if it has one and the triple is not among these.
+// The triple of the name that an element's entry has, if it has one and the triple is not among
+// these.
 fn new_triple_of(
     alloc: Global,
     elements: &[FullElement],

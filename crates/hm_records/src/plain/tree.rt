@@ -19,9 +19,9 @@ pub struct PlainTree {
     pub triples: Vec<Triple>,
 }
 
-/// The tree that a list of elements shows of a pseudo file system as of an id. No two elements may have
-/// one key. Slow: its work grows
-/// with the square of the number of elements, and with that number for each byte of a file.
+/// The tree that a list of elements shows of a pseudo file system as of an id. No two elements may
+/// have one key. Slow: its work grows with the square of the number of elements, and with that
+/// number for each byte of a file.
 pub fn view_of(
     alloc: Global,
     elements: &[FullElement],

@@ -14,9 +14,9 @@ ghost use Rattle.hm_records.specs.Changes.{
 };
 ghost use Rattle.hm_records.specs.Laws.{IsUpTo, Replaces};
 
-/// As of an id below that of a change the same counts as before: below the one that made an added element,
-/// and below the one at which elements were closed. As of an id that did not see it, an element that is
-/// taken out is not missed.
+/// As of an id below that of a change the same counts as before: below the one that made an added
+/// element, and below the one at which elements were closed. As of an id that did not see it, an
+/// element that is taken out is not missed.
 pub fn changes_leave_the_past()
     ensures adds { (e : FullElement) (es es' : List FullElement) (t : ℕ) → Adds e es es' →
         t < e.key.create → CountSame (Counts es t) (Counts es' t) }
@@ -26,8 +26,8 @@ pub fn changes_leave_the_past()
         TakesOut e es es' → (IsSeen t e → ⊥) → CountSame (Counts es t) (Counts es' t) }
 {}
 
-/// From its id on an open element that is newer than all others counts for what it is about, and nothing
-/// else does.
+/// From its id on an open element that is newer than all others counts for what it is about, and
+/// nothing else does.
 pub fn additions_count_from_their_id()
     ensures { (e : FullElement) (es es' : List FullElement) (t : ℕ) → Adds e es es' →
         e.delete ≡ 0 → e.key.create ≤ t →
@@ -35,7 +35,8 @@ pub fn additions_count_from_their_id()
         Overrides (subject_of e.key) (Some e.bytes) (Counts es t) (Counts es' t) }
 {}
 
-/// From an id above all on, nothing counts for a subject of which the open elements were closed at it.
+/// From an id above all on, nothing counts for a subject of which the open elements were closed at
+/// it.
 pub fn closed_versions_count_no_more()
     ensures { (s : Subject) (i : ℕ) (es es' : List FullElement) (t : ℕ) → Closes s i es es' →
         IsBelow i es → i ≤ t → Overrides s None (Counts es t) (Counts es' t) }

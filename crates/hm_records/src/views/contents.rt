@@ -26,15 +26,15 @@ pub fn views_are_one()
         IsView (counts_of shown) pfs one → IsView (counts_of shown) pfs other → one ≡ other }
 {}
 
-/// In a list that is sorted by its keys no two elements have one key, and then as of each id at most one
-/// payload counts for each subject.
+/// In a list that is sorted by its keys no two elements have one key, and then as of each id at
+/// most one payload counts for each subject.
 pub fn keys_settle_what_counts()
     ensures sorted { (es : List FullElement) → AreSorted es → HaveOwnKeys es }
     ensures settled { (es : List FullElement) (t : ℕ) → HaveOwnKeys es → IsSettled (Counts es t) }
 {}
 
-/// A pseudo file system has at most one record, no closed element is one, and it is what counts as of an
-/// id that no id of the list is above.
+/// A pseudo file system has at most one record, no closed element is one, and it is what counts as
+/// of an id that no id of the list is above.
 pub fn records_are_what_counts_last()
     ensures one { (es : List FullElement) (pfs : ℕ) (a b : List ℕ) → HaveOwnKeys es →
         IsRecordOf es pfs a → IsRecordOf es pfs b → a ≡ b }

@@ -31,8 +31,8 @@ ghost use Rattle.hm_records.specs.Changes.{
 ghost use Rattle.hm_records.specs.Laws.{AsOf, counts_of, made_of};
 ghost use Rattle.hm_records.specs.View.{AreFileBytes, IsObject, IsTargetOf};
 
-/// An inode that counts makes an object of its kind: a directory; a file of its bytes, which is empty where
-/// its size is 0, whatever else counts of it; a softlink; a PFS link.
+/// An inode that counts makes an object of its kind: a directory; a file of its bytes, which is
+/// empty where its size is 0, whatever else counts of it; a softlink; a PFS link.
 pub fn inodes_make_objects()
     ensures directory { (shown : AsOf) (pfs : ℕ) (number : Obj) (inode : Inode) →
         HasInode (counts_of shown) pfs number.0 inode → inode.kind ≡ DIRECTORY →
@@ -53,7 +53,8 @@ pub fn inodes_make_objects()
         IsObject (counts_of shown) pfs (made_of number PfsLink (Linked inode.pfs) inode) }
 {}
 
-/// What counts for an inode, for some bytes or for a target is about one object, and about no entry.
+/// What counts for an inode, for some bytes or for a target is about one object, and about no
+/// entry.
 pub fn inodes_bytes_and_targets_are_of_one_object()
     ensures inode { (old new : AsOf) (pfs obj : ℕ) (now : Option (List ℕ)) →
         IsSettled (counts_of old) →

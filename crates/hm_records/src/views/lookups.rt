@@ -7,8 +7,8 @@ ghost use Rattle.hm_records.specs.Changes.{LacksName};
 ghost use Rattle.hm_records.specs.Laws.{AsOf, HasView, counts_of, triple_of};
 ghost use Rattle.hm_records.specs.View.{IsObject, IsTriple};
 
-/// A directory has an object under a name in a view exactly where its triple is there, and none exactly
-/// where it has no entry of the name at all.
+/// A directory has an object under a name in a view exactly where its triple is there, and none
+/// exactly where it has no entry of the name at all.
 pub fn names_in_views_are_those_of_entries()
     ensures some { (shown : AsOf) (pfs : ℕ) (tree : FileTree) (directory object : Obj)
         (name : List ℕ) → HasView (counts_of shown) pfs tree →

@@ -16,9 +16,9 @@ ghost use Rattle.hm_records.specs.Laws.{
   counts_of,
 };
 
-/// A new entry, under a key that no entry had. Where the directory has none of its name, the view gets the
-/// name. Where the new one comes before all others of its name, the name leads to its object. Where there
-/// is an earlier one, nothing changes.
+/// A new entry, under a key that no entry had. Where the directory has none of its name, the view
+/// gets the name. Where the new one comes before all others of its name, the name leads to its
+/// object. Where there is an earlier one, nothing changes.
 pub fn new_entries_are_shown_where_they_come_first()
     ensures new { (old new : AsOf) (pfs : ℕ) (tree : FileTree) (directory : Obj) (key : ℕ)
         (entry : DirEntry) → HasView (counts_of old) pfs tree →
@@ -38,9 +38,9 @@ pub fn new_entries_are_shown_where_they_come_first()
         HasView (counts_of new) pfs tree }
 {}
 
-/// An entry that counts no more. Where it was the only one of its name, the view loses the name. Where it
-/// was not, the name leads to the object of the first one that is left. Where an earlier one is there,
-/// nothing changes.
+/// An entry that counts no more. Where it was the only one of its name, the view loses the name.
+/// Where it was not, the name leads to the object of the first one that is left. Where an earlier
+/// one is there, nothing changes.
 pub fn entries_that_go_show_the_next_of_their_name()
     ensures only { (old new : AsOf) (pfs : ℕ) (tree : FileTree) (directory : Obj) (key : ℕ)
         (entry : DirEntry) → HasView (counts_of old) pfs tree →

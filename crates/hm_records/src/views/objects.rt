@@ -51,7 +51,8 @@ pub fn lost_inodes_take_their_objects()
         HasView (counts_of new) pfs (without_object tree number) }
 {}
 
-/// Where an object of the view has become another one of its number, the view has that one in its place.
+/// Where an object of the view has become another one of its number, the view has that one in its
+/// place.
 pub fn changed_objects_are_shown()
     ensures { (old new : AsOf) (pfs : ℕ) (tree : FileTree) (held : Object)
         (change : Object → Object) → HasView (counts_of old) pfs tree →
@@ -71,7 +72,8 @@ pub fn new_links_are_shown()
         HasView (counts_of new) pfs (with_change tree number (with_links links)) }
 {}
 
-/// Where a file's inode has another size, and the bytes that go with it count, the file holds these.
+/// Where a file's inode has another size, and the bytes that go with it count, the file holds
+/// these.
 pub fn new_bytes_are_shown()
     ensures { (old new : AsOf) (pfs : ℕ) (tree : FileTree) (file : Object) (inode : Inode)
         (bytes : List ℕ) → HasView (counts_of old) pfs tree →

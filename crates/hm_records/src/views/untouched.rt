@@ -26,8 +26,8 @@ ghost use Rattle.hm_records.specs.Changes.{
 ghost use Rattle.hm_records.specs.Laws.{AsOf, HasView, counts_of};
 ghost use Rattle.hm_records.specs.View.{IsView};
 
-/// A target makes no difference where the object has no inode or is no softlink, and bytes make none where
-/// it has none or is no file.
+/// A target makes no difference where the object has no inode or is no softlink, and bytes make
+/// none where it has none or is no file.
 pub fn targets_and_bytes_need_their_inodes()
     ensures target { (old new : AsOf) (pfs obj : ℕ) (now : Option (List ℕ)) (tree : FileTree) →
         HasView (counts_of old) pfs tree →
@@ -39,8 +39,8 @@ pub fn targets_and_bytes_need_their_inodes()
         IsNotOfKind (counts_of old) pfs obj FILE → HasView (counts_of new) pfs tree }
 {}
 
-/// What counts beside a tree makes no difference to it: an element of another pseudo file system, and one
-/// that is neither an inode nor an entry nor bytes nor a target.
+/// What counts beside a tree makes no difference to it: an element of another pseudo file system,
+/// and one that is neither an inode nor an entry nor bytes nor a target.
 pub fn trees_are_of_their_own_elements()
     ensures beside { (old new : AsOf) (pfs : ℕ) (s : Subject) (now : Option (List ℕ))
         (tree : FileTree) → HasView (counts_of old) pfs tree → IsBeside pfs s →
@@ -51,8 +51,8 @@ pub fn trees_are_of_their_own_elements()
         s.rec_type ≢ DIRECTORY_ENTRY → s.rec_type ≢ SOFTLINK_TARGET → IsBeside pfs s }
 {}
 
-/// The triples are those of the entries, whether or not a directory or an object has an inode, and the
-/// objects those of the inodes, whether or not a name leads to them.
+/// The triples are those of the entries, whether or not a directory or an object has an inode, and
+/// the objects those of the inodes, whether or not a name leads to them.
 pub fn entries_and_inodes_need_not_fit()
     ensures triples { (one other : AsOf) (pfs : ℕ) (t u : FileTree) →
         ((directory : Obj) (name : List ℕ) →

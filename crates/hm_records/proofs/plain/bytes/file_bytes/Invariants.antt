@@ -1,6 +1,5 @@
-use Rattle.std.proofs.Common.{◌≡◌, ℕ, ◌<◌, length, slice_index}
 use Rattle.hm_records.specs.Counts.{Counts}
-use Rattle.hm_records.specs.View.{AreFileBytes, IsFileByte}
+use Rattle.hm_records.specs.View.{AreFileBytes}
 use Rattle.hm_records.proofs.plain.bytes.file_bytes.Given as goal
 
 -- as many bytes as places were passed are those of a file of this size

@@ -1,4 +1,4 @@
-use Rattle.std.proofs.Common.{◌∙◌, sym, subst, Ok, Err}
+use Rattle.std.proofs.Common.{subst}
 use Rattle.hm_records.specs.Counts.{Counts, Subject}
 use Rattle.hm_records.specs.PlainView.{IsUnseen}
 use Rattle.hm_records.proofs.PlainLemmas.{no_inode_at, no_object_at}

@@ -1,5 +1,4 @@
-use Rattle.std.proofs.Common.{◌≡◌, List, false, sym, subst, ◌∙◌}
-use Rattle.std.specs.List.{list_any}
+use Rattle.std.proofs.Common.{List, sym, subst, ◌∙◌}
 use Rattle.std.proofs.lemmas.List.{take_all}
 use Rattle.hm_types.specs.Elements.{FullElement}
 use Rattle.hm_records.specs.Changes.{HaveOwnKeys}

@@ -1,6 +1,5 @@
-use Rattle.std.proofs.Common.{◌≡◌, take, option_map}
+use Rattle.std.proofs.Common.{take}
 use Rattle.std.specs.Option.{option_copied}
-use Rattle.hm_types.specs.Elements.{FullElement}
 use Rattle.hm_records.specs.PlainView.{IsNewestSince}
 use Rattle.hm_records.proofs.plain.element.newest.Given as goal
 

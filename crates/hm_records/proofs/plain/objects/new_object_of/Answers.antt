@@ -1,4 +1,4 @@
-use Rattle.std.proofs.Common.{◌≡◌, sym, ap, subst, ◌∙◌}
+use Rattle.std.proofs.Common.{◌≡◌, sym, ◌∙◌}
 use Rattle.std.proofs.lemmas.Bool.{false≢true}
 use Rattle.hm_records.specs.Counts.{Counts, inode_subject, subject_of}
 use Rattle.hm_records.specs.PlainView.{IsNewObject, IsObjectAt}

@@ -1,5 +1,5 @@
-use Rattle.std.proofs.Common.{◌≡◌, ◌+◌, List, take, sym, ap, subst, ◌∙◌}
-use Rattle.std.specs.Prelude.{Option, None, Some, insert}
+use Rattle.std.proofs.Common.{◌≡◌, ◌+◌, List, take, sym, subst}
+use Rattle.std.specs.Prelude.{Option, insert}
 use Rattle.hm_types.specs.declared.object.Object.{Object}
 use Rattle.hm_types.specs.Tree.{insert_by, is_object_before}
 use Rattle.hm_records.specs.Counts.{Counts}
