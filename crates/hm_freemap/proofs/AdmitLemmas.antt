@@ -1,29 +1,24 @@
 -- Zones that a call names get the room that they need.
-use Rattle.std.proofs.Common.{◌≡◌, ◌≢◌, Bool, true, false, true≢false, ℕ, zero, suc, ◌+◌, ◌-◌, ◌^◌, ◌<◌, ◌≤◌, ◌⊎◌, min, inl, inr, ⊎_elim, List, [], ◌∷◌, length, get_or, slice_index, refl, sym, ap, subst, ◌∙◌, arith, cond, ◌&&◌, nat_eq, nat_lt, Option, Some, None}
-use Rattle.std.specs.Prelude.{count_by, filter, IfSome}
+use Rattle.std.proofs.Common.{◌≡◌, ◌≢◌, Bool, true, false, true≢false, ℕ, zero, suc, ◌+◌, ◌-◌, ◌<◌, ◌≤◌, ⊎_elim, List, [], ◌∷◌, length, slice_index, refl, sym, ap, subst, ◌∙◌, arith, cond, ◌&&◌, nat_lt}
+use Rattle.std.specs.Prelude.{count_by, filter}
 use Rattle.std.specs.List.{range_with_len}
-use Rattle.std.proofs.lemmas.Bool.{cases_eq, cases_lt}
+use Rattle.std.proofs.lemmas.Bool.{cases_eq}
 use Rattle.std.proofs.lemmas.Bool.Decides.{nat_tests}
-use Rattle.std.proofs.lemmas.List.FromFn.{length-range_with_len}
-use Rattle.std.proofs.lemmas.List.Sums.{count_by-le-length, length-filter}
-use Rattle.hm_types.specs.Layout.{IsPool, first_pool}
-use Rattle.hm_types.specs.References.{References, is_free, free_blocks, pool}
-use Rattle.hm_types.specs.Space.{names_zone, reserve_of, needed, Admits}
-use Rattle.hm_types.specs.Told.{BothTell}
-use Rattle.hm_types.specs.declared.limits.TheConstants.{BIGBLOCK_BYTES, MOST_BIGBLOCKS}
+use Rattle.std.proofs.lemmas.List.Sums.{length-filter}
+use Rattle.hm_types.specs.Layout.{first_pool}
+use Rattle.hm_types.specs.References.{References, pool}
+use Rattle.hm_types.specs.Space.{names_zone, reserve_of, needed}
 use Rattle.hm_types.specs.declared.zone.TheConstants.{TREE_ZONE, SMALL_ZONE}
 use Rattle.hm_types.specs.declared.zones.Zones.{Zones}
-use Rattle.hm_fields.specs.Pages.{PageMap}
-use Rattle.hm_freemap.specs.Admit.{IsAdmitted, Space, does_lack, lacking, room_at, free_at}
-use Rattle.hm_freemap.specs.Extents.{Moves, with_current}
-use Rattle.hm_freemap.specs.Renew.{AreFresh, RenewedFor, Renewing, count_of, lacks_at}
+use Rattle.hm_freemap.specs.Admit.{IsAdmitted, does_lack, lacking}
+use Rattle.hm_freemap.specs.Renew.{AreFresh, count_of, lacks_at}
 use Rattle.hm_freemap.specs.Scan.{Finds}
-use Rattle.hm_freemap.specs.Stand.{Maps, StandBy, WhereTold, free_by, is_free_by, room_in}
+use Rattle.hm_freemap.specs.Stand.{Maps, StandBy, is_free_by, room_in}
 use Rattle.hm_freemap.specs.declared.scan.Found.{Found}
 use Rattle.hm_freemap.proofs.CountLemmas.{bit, count-cons}
-use Rattle.hm_freemap.proofs.FreeLemmas.{free_is_unused, free_same}
+use Rattle.hm_freemap.proofs.FreeLemmas.{free_is_unused}
 use Rattle.hm_freemap.proofs.PutLemmas.{other_test, fails}
-use Rattle.hm_freemap.proofs.StepLemmas.{count_first, first_few, first_more}
+use Rattle.hm_freemap.proofs.StepLemmas.{first_few, first_more}
 
 -- the elements of a range that pass a test
 record Passes (p : ℕ → Bool) (a n x : ℕ) : Type 0 where

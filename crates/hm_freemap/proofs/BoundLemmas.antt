@@ -1,11 +1,11 @@
 -- How many bytes of a big-block may be live: each byte is referred to at most 64 times.
-use Rattle.std.proofs.Common.{◌≡◌, Bool, true, false, true≢false, ℕ, zero, suc, ◌+◌, ◌-◌, ◌*◌, ◌/◌, ◌<◌, ◌≤◌, max, inl, inr, ⊎_elim, List, [], ◌∷◌, ◌++◌, refl, sym, ap, subst, ◌∙◌, arith, cond, ◌&&◌, nat_le, nat_lt, nat_eq, eqb-true, eq-eqb}
+use Rattle.std.proofs.Common.{◌≡◌, Bool, true, false, ℕ, zero, suc, ◌+◌, ◌-◌, ◌*◌, ◌<◌, ◌≤◌, max, inl, inr, ⊎_elim, List, [], ◌∷◌, refl, ap, arith, cond, ◌&&◌, nat_le, nat_lt, eqb-true, eq-eqb}
 use Rattle.std.specs.Prelude.{count_by, All}
 use Rattle.std.proofs.lemmas.Bool.{cases_lt}
 use Rattle.std.proofs.lemmas.Bool.Decides.{nat_tests}
 use Rattle.std.proofs.lemmas.List.Elements.{All-head, All-tail, All-cons, All-weaker}
 use Rattle.hm_types.specs.Layout.{block_of, start_of}
-use Rattle.hm_types.specs.References.{Reference, begin_of, end_of, IsPlaced, NoneOverlap, DoNotOverlap, IsOneExtent, AreFew, is_there, is_in, live_bytes}
+use Rattle.hm_types.specs.References.{Reference, begin_of, end_of, IsPlaced, NoneOverlap, DoNotOverlap, AreFew, is_there, is_in, live_bytes}
 use Rattle.hm_types.specs.Space.{rounded}
 use Rattle.hm_types.specs.declared.limits.TheConstants.{BIGBLOCK_BYTES}
 use Rattle.hm_types.specs.declared.space.TheConstants.{MOST_REFERENCES}

@@ -1,7 +1,7 @@
 -- Why calls of a freemap fail, from why the calls of its pages do.
-use Rattle.std.proofs.Common.{◌≡◌, ℕ, ◌+◌, ◌-◌, ◌<◌, ◌≤◌, List, refl, sym, ap, subst, ◌∙◌, arith, Option, Some, None, Result, Ok, Err}
-use Rattle.std.specs.Prelude.{IfSome, IfErr}
-use Rattle.hm_types.specs.Faults.{HasFaultCause, HasStoreCause, IsCaused, IsUndamaged}
+use Rattle.std.proofs.Common.{◌≡◌, ℕ, ◌-◌, ◌<◌, ◌≤◌, List, refl, sym, ap, subst, ◌∙◌, arith, Option, Some, None, Result, Ok, Err}
+use Rattle.std.specs.Prelude.{IfSome}
+use Rattle.hm_types.specs.Faults.{HasStoreCause, IsCaused, IsUndamaged}
 use Rattle.hm_types.specs.declared.fault.Fault.{Fault}
 use Rattle.hm_types.specs.declared.fault.Fault.TheVariants.{Media, Damaged, NoMemory}
 use Rattle.hm_types.specs.declared.damage.TheConstants.{BAD_FREEMAP}

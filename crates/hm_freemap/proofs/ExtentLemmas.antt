@@ -1,5 +1,5 @@
 -- Extents that are shared and given back: the freemap stands for one reference more, and for one less.
-use Rattle.std.proofs.Common.{◌≡◌, ◌≢◌, Bool, true, false, true≢false, ℕ, ◌+◌, ◌-◌, ◌*◌, ◌%◌, ◌<◌, ◌≤◌, inl, inr, ⊎_elim, List, [], ◌∷◌, ◌++◌, refl, sym, ap, subst, ◌∙◌, arith, cond, nat_eq, eqb-true, eq-eqb, ◌||◌, ℤ, pos, ◌+ℤ◌}
+use Rattle.std.proofs.Common.{◌≡◌, ◌≢◌, Bool, true, false, true≢false, ℕ, ◌+◌, ◌-◌, ◌*◌, ◌%◌, ◌<◌, ◌≤◌, inl, inr, ⊎_elim, List, [], ◌∷◌, ◌++◌, refl, sym, ap, subst, ◌∙◌, arith, cond, nat_eq, eq-eqb, pos, ◌+ℤ◌}
 use Rattle.std.specs.Prelude.{All, count_by}
 use Rattle.std.specs.List.{list_any}
 use Rattle.std.proofs.lemmas.Bool.{cases_eq}
@@ -16,7 +16,7 @@ use Rattle.hm_freemap.specs.Change.{shared, given}
 use Rattle.hm_freemap.specs.Entry.{IsOwned, IsPoolEntry}
 use Rattle.hm_freemap.specs.Extents.{Changes, IsReferred, IsShareable, is_extent, referred, unreferred, without_one, with_current, OnlyPage}
 use Rattle.hm_freemap.specs.Places.{page_of}
-use Rattle.hm_freemap.specs.Stand.{Maps, StandBy, HoldsPoolEntry, IsBelow, EntryPut, all_of, home_of, entry_of, entry_page}
+use Rattle.hm_freemap.specs.Stand.{Maps, StandBy, IsBelow, EntryPut, all_of, home_of, entry_of}
 use Rattle.hm_freemap.specs.declared.entry.Entry.{Entry}
 use Rattle.hm_freemap.proofs.BoundLemmas.{live_few, placed_size}
 use Rattle.hm_freemap.proofs.CountLemmas.{bit, count-cons}

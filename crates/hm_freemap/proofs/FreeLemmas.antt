@@ -1,13 +1,11 @@
 -- Free big-blocks by entries, and by references.
-use Rattle.std.proofs.Common.{◌≡◌, Bool, true, false, ℕ, zero, suc, ◌+◌, ◌-◌, ◌<◌, ◌≤◌, inl, inr, ⊎_elim, List, [], ◌∷◌, refl, sym, ap, ◌∙◌, arith, not, ◌&&◌, cond, nat_eq, eq-eqb, ℤ, pos, negsuc, ◌+ℤ◌}
-use Rattle.std.specs.Prelude.{count_by}
-use Rattle.std.specs.List.{range_with_len}
+use Rattle.std.proofs.Common.{◌≡◌, Bool, true, false, ℕ, ◌-◌, ⊎_elim, List, refl, sym, ap, ◌∙◌, arith, not, ◌&&◌, nat_eq, eq-eqb, ℤ, pos, negsuc, ◌+ℤ◌}
 use Rattle.std.proofs.lemmas.Int.{ints}
 use Rattle.std.proofs.lemmas.Bool.{cases_eq}
 use Rattle.hm_types.specs.Layout.{IsPool, first_pool}
 use Rattle.hm_types.specs.References.{References, is_append, is_free, live_bytes, free_blocks, pool}
 use Rattle.hm_types.specs.declared.limits.TheConstants.{BIGBLOCK_BYTES}
-use Rattle.hm_freemap.specs.Stand.{Maps, StandBy, TellsBlock, entry_of, entry_page, is_whole_block, is_clear_in, is_free_by, free_by}
+use Rattle.hm_freemap.specs.Stand.{Maps, StandBy, entry_of, entry_page, is_whole_block, is_clear_in, is_free_by, free_by}
 use Rattle.std.proofs.lemmas.List.FromFn.{length-range_with_len}
 use Rattle.std.proofs.lemmas.List.Sums.{count_by-le-length}
 use Rattle.hm_freemap.specs.Calls.{CountsFree}

@@ -1,5 +1,5 @@
 -- Zones that lacked room have begun new big-blocks: the call is admitted.
-use Rattle.std.proofs.Common.{◌≡◌, ◌≢◌, Bool, true, false, ℕ, ◌+◌, ◌-◌, ◌^◌, ◌<◌, ◌≤◌, min, inl, inr, ⊎_elim, List, length, refl, sym, ap, subst, ◌∙◌, arith, cond, nat_eq, Option, Some, None}
+use Rattle.std.proofs.Common.{◌≡◌, Bool, true, false, ℕ, ◌+◌, ◌-◌, ◌^◌, ◌<◌, ◌≤◌, min, inr, List, refl, sym, ap, ◌∙◌, arith, cond, nat_eq, Option, Some, None}
 use Rattle.std.specs.Prelude.{IfSome}
 use Rattle.std.proofs.lemmas.List.FromFn.{length-range_with_len}
 use Rattle.std.proofs.lemmas.List.Sums.{count_by-le-length}
@@ -8,12 +8,12 @@ use Rattle.hm_types.specs.References.{References, pool}
 use Rattle.hm_types.specs.Space.{names_zone, reserve_of, needed, Admits}
 use Rattle.hm_types.specs.Told.{BothTell}
 use Rattle.hm_types.specs.declared.limits.TheConstants.{BIGBLOCK_BYTES, MOST_BIGBLOCKS}
-use Rattle.hm_types.specs.declared.zone.TheConstants.{TREE_ZONE, SMALL_ZONE}
+use Rattle.hm_types.specs.declared.zone.TheConstants.{TREE_ZONE}
 use Rattle.hm_types.specs.declared.zones.Zones.{Zones}
 use Rattle.hm_fields.specs.Pages.{PageMap}
 use Rattle.hm_freemap.specs.Admit.{IsAdmitted, does_lack, lacking, room_at, free_at}
 use Rattle.hm_freemap.specs.Extents.{Moves, with_current}
-use Rattle.hm_freemap.specs.Renew.{AreFresh, RenewedFor, Renewing, count_of, lacks_at}
+use Rattle.hm_freemap.specs.Renew.{RenewedFor, Renewing, count_of, lacks_at}
 use Rattle.hm_freemap.specs.Scan.{Finds}
 use Rattle.hm_freemap.specs.Stand.{Maps, StandBy, WhereTold, free_by, is_free_by, room_in}
 use Rattle.hm_freemap.specs.declared.scan.Found.{Found}

@@ -1,15 +1,13 @@
 -- Lists of references: parts of them, one more and one less.
-use Rattle.std.proofs.Common.{◌≡◌, ◌≢◌, Bool, true, false, true≢false, ℕ, suc, ◌+◌, ◌-◌, ◌<◌, ◌≤◌, ◌⊎◌, inl, inr, ⊎_elim, List, [], ◌∷◌, ◌++◌, refl, sym, ap, subst, ◌∙◌, arith, cond, ◌&&◌, ◌||◌, nat_eq, eqb-true, eq-eqb}
-use Rattle.std.specs.Prelude.{count_by, All, IsTrue}
+use Rattle.std.proofs.Common.{◌≡◌, Bool, true, false, true≢false, ℕ, ◌+◌, ◌≤◌, List, [], ◌∷◌, ◌++◌, refl, sym, arith, cond, ◌&&◌, ◌||◌, nat_eq, eqb-true}
+use Rattle.std.specs.Prelude.{count_by, All}
 use Rattle.std.specs.List.{list_any}
 use Rattle.std.proofs.lemmas.List.Elements.{All-head, All-tail, All-cons, All-nil, All-weaker}
-use Rattle.hm_types.specs.References.{Reference, begin_of, end_of, IsPlaced, NoneOverlap, DoNotOverlap, IsOneExtent, AreFew, is_there, is_in, live_bytes}
+use Rattle.hm_types.specs.References.{Reference, NoneOverlap, DoNotOverlap, IsOneExtent, AreFew, is_there, is_in, live_bytes}
 use Rattle.hm_types.specs.Space.{rounded}
 use Rattle.hm_types.specs.declared.space.TheConstants.{MOST_REFERENCES}
-use Rattle.hm_freemap.specs.Extents.{IsApart, is_extent, without_one}
-use Rattle.hm_freemap.specs.Stand.{home_of}
-use Rattle.hm_freemap.proofs.CountLemmas.{bit, count-cons}
-use Rattle.hm_freemap.proofs.PutLemmas.{other_test, same_test}
+use Rattle.hm_freemap.specs.Extents.{is_extent, without_one}
+use Rattle.hm_freemap.proofs.CountLemmas.{count-cons}
 
 pub all_left : {X : Type 0} (P : X → Type 0) (xs ys : List X) → All P (xs ++ ys) → All P xs
 all_left P [] ys each = All-nil P

@@ -1,5 +1,5 @@
 -- A volume with one page of layer 2, for tests.
-use Rattle.std.proofs.Common.{◌≡◌, ℕ, arith, eq-eqb}
+use Rattle.std.proofs.Common.{arith, eq-eqb}
 use Rattle.hm_freemap.specs.OnePage.{is_page}
 use Rattle.hm_freemap.specs.Places.{HasLayer2, page_of}
 use Rattle.hm_freemap.proofs.SheetLemmas.{one_page}

@@ -1,7 +1,6 @@
 -- What a page that is put makes of the entries of a map.
-use Rattle.std.proofs.Common.{◌≡◌, ◌≢◌, Bool, true, false, true≢false, ℕ, ◌+◌, ◌≤◌, ◌⊎◌, inl, inr, ⊎_elim, List, refl, sym, ap, subst, ◌∙◌, nat_eq, eqb-true, eq-eqb, Option, Some, None, Result, Ok, Err, arith}
+use Rattle.std.proofs.Common.{◌≡◌, ◌≢◌, Bool, true, false, ℕ, ◌+◌, ◌≤◌, ⊎_elim, List, refl, sym, ap, subst, ◌∙◌, nat_eq, eqb-true, eq-eqb, Option, Some, None, Result, Ok, Err, arith}
 use Rattle.std.proofs.lemmas.Bool.{cases_eq}
-use Rattle.std.specs.Int.{w32, cast_signed}
 use Rattle.std.specs.Prelude.{IfSome, OnOk}
 use Rattle.hm_types.specs.Told.{BothTell}
 use Rattle.hm_types.specs.declared.fault.Fault.{Fault}
@@ -9,7 +8,7 @@ use Rattle.hm_fields.specs.Fields.{Apart, get}
 use Rattle.hm_fields.specs.Pages.{PageMap, HasPut, page_in}
 use Rattle.hm_freemap.specs.Entry.{entry_in}
 use Rattle.hm_freemap.specs.Places.{page_of, place_of}
-use Rattle.hm_freemap.specs.Stand.{EntryPut, entry_of, entry_page}
+use Rattle.hm_freemap.specs.Stand.{EntryPut, entry_page}
 use Rattle.hm_freemap.specs.declared.entry.Entry.{Entry}
 use Rattle.hm_freemap.proofs.PlaceLemmas.{places_apart}
 

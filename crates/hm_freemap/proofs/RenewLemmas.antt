@@ -1,16 +1,16 @@
 -- A zone begins a big-block that is free: the freemap stands for the same states.
-use Rattle.std.proofs.Common.{◌≡◌, ◌≢◌, Bool, true, false, true≢false, ℕ, zero, suc, ◌+◌, ◌-◌, ◌*◌, ◌%◌, ◌<◌, ◌≤◌, inl, inr, ⊎_elim, List, [], ◌∷◌, ◌++◌, length, set, slice_index, slice_set, refl, sym, ap, subst, ◌∙◌, arith, cond, not, ◌&&◌, ◌||◌, nat_eq, eqb-true, eq-eqb, ℤ, pos, ◌+ℤ◌}
+use Rattle.std.proofs.Common.{◌≡◌, ◌≢◌, Bool, true, false, true≢false, ℕ, zero, suc, ◌+◌, ◌-◌, ◌%◌, ◌<◌, ◌≤◌, inl, ⊎_elim, List, [], ◌∷◌, ◌++◌, length, set, slice_index, slice_set, refl, sym, ap, subst, ◌∙◌, arith, cond, not, ◌&&◌, ◌||◌, nat_eq, eqb-true, eq-eqb, pos, ◌+ℤ◌}
 use Rattle.std.specs.Prelude.{All, count_by}
-use Rattle.std.specs.List.{list_any, range_with_len}
-use Rattle.std.proofs.lemmas.Bool.{cases_eq, cases_lt}
+use Rattle.std.specs.List.{range_with_len}
+use Rattle.std.proofs.lemmas.Bool.{cases_eq}
 use Rattle.std.proofs.lemmas.List.{get_or-set_same, get_or-set_other, length-set}
-use Rattle.std.proofs.lemmas.List.Elements.{All-head, All-tail, All-cons, All-nil, All-weaker}
+use Rattle.std.proofs.lemmas.List.Elements.{All-head, All-tail, All-cons, All-nil}
 use Rattle.std.proofs.lemmas.Int.{ints}
 use Rattle.hm_types.specs.Layout.{IsPool, first_pool}
-use Rattle.hm_types.specs.References.{Reference, References, IsPlaced, is_in, unit_of, is_append, is_unused, is_free, free_blocks, live_bytes, pool}
+use Rattle.hm_types.specs.References.{Reference, References, IsPlaced, is_in, unit_of, is_append, is_unused, is_free, free_blocks, live_bytes}
 use Rattle.hm_types.specs.Space.{rounded}
 use Rattle.hm_types.specs.declared.limits.TheConstants.{BIGBLOCK_BYTES}
-use Rattle.hm_types.specs.declared.zone.TheConstants.{TREE_ZONE, SMALL_ZONE}
+use Rattle.hm_types.specs.declared.zone.TheConstants.{TREE_ZONE}
 use Rattle.hm_fields.specs.Pages.{PageMap}
 use Rattle.hm_freemap.specs.Admit.{begun}
 use Rattle.hm_freemap.specs.Entry.{IsPoolEntry}
@@ -20,7 +20,7 @@ use Rattle.hm_freemap.specs.declared.entry.Entry.{Entry}
 use Rattle.hm_freemap.proofs.BoundLemmas.{placed_size}
 use Rattle.hm_freemap.proofs.CountLemmas.{bit, count-range}
 use Rattle.hm_freemap.proofs.ListLemmas.{all_left, all_right, and_left, and_right}
-use Rattle.hm_freemap.proofs.PutLemmas.{other_test, same_test, fails}
+use Rattle.hm_freemap.proofs.PutLemmas.{other_test, same_test}
 use Rattle.hm_freemap.proofs.StandLemmas.{tells_after}
 use Rattle.hm_freemap.proofs.TakeLemmas.{all_both, handed_out}
 

@@ -1,8 +1,8 @@
 -- What three pages tell of the big-blocks that have their entries on them.
-use Rattle.std.proofs.Common.{◌≡◌, Bool, ℕ, ◌+◌, ◌-◌, ◌*◌, ◌/◌, ◌<◌, ◌≤◌, List, [], refl, sym, ap, subst, ◌∙◌, arith, Result, Err}
+use Rattle.std.proofs.Common.{◌≡◌, ℕ, ◌+◌, ◌-◌, ◌*◌, ◌/◌, ◌<◌, ◌≤◌, List, [], refl, sym, ap, subst, ◌∙◌, arith, Err}
 use Rattle.std.specs.Prelude.{Option}
 use Rattle.std.specs.List.{range_with_len}
-use Rattle.hm_types.specs.Faults.{HasFaultCause, IsCaused}
+use Rattle.hm_types.specs.Faults.{IsCaused}
 use Rattle.hm_types.specs.Layout.{IsPool, first_pool}
 use Rattle.hm_types.specs.declared.damage.TheConstants.{BAD_FREEMAP}
 use Rattle.hm_types.specs.declared.fault.Fault.{Fault}
@@ -10,9 +10,8 @@ use Rattle.hm_types.specs.declared.fault.Fault.TheVariants.{Damaged}
 use Rattle.hm_fields.specs.Pages.{PageMap, page_in}
 use Rattle.hm_freemap.specs.Faults.{IsGoodBlock, IsFreemapDamage, HasFreemapCause}
 use Rattle.hm_freemap.specs.Places.{page_of}
-use Rattle.hm_freemap.specs.Scan.{AreRead, AllHold, IsAgreed, Finds}
+use Rattle.hm_freemap.specs.Scan.{AreRead, AllHold, IsAgreed}
 use Rattle.hm_freemap.specs.Stand.{Maps, WhereTold, HoldsPoolEntry, entry_page, is_free_by, is_free_in}
-use Rattle.hm_freemap.specs.declared.scan.Found.{Found}
 use Rattle.hm_freemap.specs.declared.sheets.Sheets.{Sheets}
 use Rattle.hm_freemap.proofs.ToldLemmas.{where_map}
 

@@ -1,17 +1,16 @@
 -- A freemap still stands for its states after the entry of one big-block and the current state changed together.
-use Rattle.std.proofs.Common.{◌≡◌, ◌≢◌, Bool, ℕ, ◌+◌, ◌-◌, ◌<◌, ◌≤◌, inl, inr, ⊎_elim, List, ◌++◌, length, slice_index, refl, sym, ap, subst, ◌∙◌, arith, cond, ℤ, pos, ◌+ℤ◌}
+use Rattle.std.proofs.Common.{◌≡◌, ◌≢◌, ℕ, ◌+◌, ◌-◌, ◌≤◌, ⊎_elim, List, ◌++◌, slice_index, refl, sym, ap, subst, ◌∙◌, arith, cond, pos, ◌+ℤ◌}
 use Rattle.std.specs.Prelude.{All}
 use Rattle.std.proofs.lemmas.Bool.{cases_eq}
 use Rattle.std.proofs.lemmas.List.Elements.{All-weaker}
-use Rattle.hm_types.specs.Layout.{IsPool, start_of}
-use Rattle.hm_types.specs.References.{Reference, References, end_of, IsPlaced, NoneOverlap, AreFew, live_bytes}
+use Rattle.hm_types.specs.References.{Reference, References, IsPlaced, NoneOverlap, AreFew, live_bytes}
 use Rattle.hm_types.specs.declared.limits.TheConstants.{BIGBLOCK_BYTES}
 use Rattle.hm_fields.specs.Fields.{get}
 use Rattle.hm_fields.specs.Pages.{PageMap}
-use Rattle.hm_freemap.specs.Entry.{IsOwned, IsPoolEntry, entry_in}
+use Rattle.hm_freemap.specs.Entry.{IsPoolEntry}
 use Rattle.hm_freemap.specs.Extents.{with_current}
 use Rattle.hm_freemap.specs.Places.{place_of}
-use Rattle.hm_freemap.specs.Stand.{Maps, StandBy, TellsBlock, Tells, HoldsPoolEntry, IsBelow, AreAppended, EntryPut, all_of, home_of, entry_of, entry_page, room_in, is_handed_out, append_of}
+use Rattle.hm_freemap.specs.Stand.{Maps, StandBy, Tells, HoldsPoolEntry, IsBelow, AreAppended, EntryPut, all_of, home_of, entry_of, entry_page, room_in, is_handed_out, append_of}
 use Rattle.hm_freemap.specs.declared.entry.Entry.{Entry}
 
 module _ (block : ℕ) (next : Entry) (was now : PageMap) (put : EntryPut block next was now) where

@@ -1,22 +1,19 @@
 -- One zone after the other begins a big-block.
-use Rattle.std.proofs.Common.{◌≡◌, ◌≢◌, Bool, true, false, true≢false, ℕ, suc, ◌+◌, ◌-◌, ◌^◌, ◌<◌, ◌≤◌, ◌⊎◌, inl, inr, ⊎_elim, List, length, take, get_or, slice_index, slice_set, refl, sym, ap, subst, ◌∙◌, arith, cond, Option, Some, None}
+use Rattle.std.proofs.Common.{◌≡◌, ◌≢◌, Bool, true, false, true≢false, ℕ, ◌+◌, ◌^◌, ◌<◌, ◌≤◌, inl, inr, ⊎_elim, List, length, take, slice_index, slice_set, refl, sym, ap, subst, ◌∙◌, arith, cond, Option, Some, None}
 use Rattle.std.specs.Prelude.{count_by}
-use Rattle.std.proofs.lemmas.Bool.{cases_eq, cases_lt}
-use Rattle.std.proofs.lemmas.List.Sums.{count_by_more_yes, count_by_more_no, count_by-le-length, sum_by-take-le}
-use Rattle.hm_types.specs.Layout.{IsPool}
+use Rattle.std.proofs.lemmas.Bool.{cases_eq}
+use Rattle.std.proofs.lemmas.List.Sums.{count_by_more_yes, count_by_more_no, sum_by-take-le}
 use Rattle.hm_types.specs.Offset.{zone_of}
-use Rattle.hm_types.specs.References.{References, is_append, is_free, free_blocks}
+use Rattle.hm_types.specs.References.{is_free}
 use Rattle.hm_types.specs.Told.{BothTell}
-use Rattle.hm_types.specs.declared.limits.TheConstants.{BIGBLOCK_BYTES}
-use Rattle.hm_types.specs.declared.zone.TheConstants.{TREE_ZONE, FREEMAP_ZONE}
+use Rattle.hm_types.specs.declared.zone.TheConstants.{TREE_ZONE}
 use Rattle.hm_fields.specs.Pages.{PageMap}
 use Rattle.hm_freemap.specs.Admit.{begun}
-use Rattle.hm_freemap.specs.Places.{page_of}
-use Rattle.hm_freemap.specs.Renew.{AreFresh, Begins, RenewedFor, Renewing, count_of, lacks_at}
-use Rattle.hm_freemap.specs.Stand.{Maps, StandBy, EntryPut, room_in}
+use Rattle.hm_freemap.specs.Renew.{Begins, Renewing, count_of, lacks_at}
+use Rattle.hm_freemap.specs.Stand.{Maps, EntryPut, room_in}
 use Rattle.hm_freemap.proofs.CountLemmas.{bit}
 use Rattle.hm_freemap.proofs.PlaceLemmas.{page_zone}
-use Rattle.hm_freemap.proofs.RenewLemmas.{IsFreeBlock, free_block, free_is, set_none, begun_stands, no_more, one_less, room_begun, room_other}
+use Rattle.hm_freemap.proofs.RenewLemmas.{free_block, free_is, set_none, begun_stands, no_more, one_less, room_begun, room_other}
 
 -- how many of the first k zones lack room
 abbrev pub count_first : List Bool → ℕ → ℕ

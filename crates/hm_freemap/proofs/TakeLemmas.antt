@@ -1,5 +1,5 @@
 -- An extent that is taken: it stands behind all that is live in its big-block.
-use Rattle.std.proofs.Common.{◌≡◌, ◌≢◌, Bool, true, false, ℕ, ◌+◌, ◌-◌, ◌*◌, ◌/◌, ◌%◌, ◌^◌, ◌<◌, ◌≤◌, inl, inr, ⊎_elim, List, [], ◌∷◌, ◌++◌, slice_index, Option, Some, None, Result, Err, refl, sym, ap, subst, ◌∙◌, arith, cond, nat_eq, eq-eqb, ℤ, pos, ◌+ℤ◌}
+use Rattle.std.proofs.Common.{◌≡◌, ◌≢◌, Bool, true, false, ℕ, ◌+◌, ◌-◌, ◌%◌, ◌<◌, ◌≤◌, inl, inr, ⊎_elim, List, [], ◌∷◌, ◌++◌, Option, Some, None, Err, refl, sym, ap, subst, ◌∙◌, arith, cond, nat_eq, eq-eqb, pos, ◌+ℤ◌}
 use Rattle.std.specs.Prelude.{All, count_by, IfSome}
 use Rattle.std.proofs.lemmas.Bool.{cases_eq, cases_lt}
 use Rattle.std.proofs.lemmas.Bool.Decides.{nat_tests}
@@ -9,11 +9,10 @@ use Rattle.hm_types.specs.declared.damage.TheConstants.{BAD_FREEMAP}
 use Rattle.hm_types.specs.declared.fault.Fault.{Fault}
 use Rattle.hm_types.specs.declared.fault.Fault.TheVariants.{Damaged}
 use Rattle.hm_types.specs.Layout.{IsPool, block_of, start_of}
-use Rattle.hm_types.specs.Offset.{zone_of, volume_of, byte_of, raw_of}
-use Rattle.hm_types.specs.References.{Reference, References, begin_of, end_of, IsPlaced, NoneOverlap, DoNotOverlap, AreFew, is_there, is_in, unit_of, live_bytes}
+use Rattle.hm_types.specs.Offset.{zone_of, byte_of, raw_of}
+use Rattle.hm_types.specs.References.{Reference, References, end_of, IsPlaced, NoneOverlap, DoNotOverlap, AreFew, is_there, unit_of, live_bytes}
 use Rattle.hm_types.specs.Space.{rounded, in_zone}
 use Rattle.hm_types.specs.declared.limits.TheConstants.{BIGBLOCK_BYTES, MOST_BIGBLOCKS}
-use Rattle.hm_types.specs.declared.space.TheConstants.{MOST_REFERENCES}
 use Rattle.hm_types.specs.declared.zone.TheConstants.{TREE_ZONE, SMALL_ZONE}
 use Rattle.hm_fields.specs.Pages.{PageMap, page_in}
 use Rattle.hm_freemap.specs.Change.{HasRoomFor, appended}
@@ -28,7 +27,7 @@ use Rattle.hm_freemap.proofs.CountLemmas.{bit, count-cons}
 use Rattle.hm_freemap.proofs.EntryLemmas.{free_less}
 use Rattle.hm_freemap.proofs.ExtentLemmas.{few_more, owned, here, elsewhere}
 use Rattle.hm_freemap.proofs.ListLemmas.{all_left, apart_left}
-use Rattle.hm_freemap.proofs.PutLemmas.{other_test, same_test}
+use Rattle.hm_freemap.proofs.PutLemmas.{other_test}
 use Rattle.hm_freemap.proofs.StandLemmas.{stand_after, all_below}
 
 pub all_both : (P Q R : Reference → Type 0) (xs : List Reference) → ((x : Reference) → P x → Q x → R x) → All P xs → All Q xs → All R xs

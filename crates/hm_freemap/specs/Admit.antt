@@ -1,19 +1,18 @@
 -- What `admit` does: zones that lack room begin a new big-block each.
-use Rattle.std.specs.Prelude.{◌≡◌, ◌≢◌, ◌⊎◌, ℕ, zero, suc, ◌+◌, ◌-◌, ◌<◌, ◌≤◌, Bool, true, false, ◌&&◌, nat_lt, if◌then◌else◌, List, [], ◌∷◌, length, take, drop, slice_index, get_or, Option, Result, IfSome, IsSomeAnd, IfErr, pos, count_by, filter}
+use Rattle.std.specs.Prelude.{◌≡◌, ◌≢◌, ℕ, ◌<◌, Bool, ◌&&◌, nat_lt, List, [], ◌∷◌, Option, Result, IfErr, pos}
 use Rattle.hm_types.specs.Faults.{HasSpaceCause}
-use Rattle.hm_types.specs.Layout.{IsPool}
 use Rattle.hm_types.specs.Offset.{zone_of}
-use Rattle.hm_types.specs.References.{References, is_free, is_append, free_blocks, pool}
+use Rattle.hm_types.specs.References.{References}
 use Rattle.hm_types.specs.Space.{names_zone, reserve_of, Admits, LacksSpace}
 use Rattle.hm_types.specs.declared.fault.SpaceFault.{SpaceFault}
 use Rattle.hm_types.specs.declared.fault.SpaceFault.TheVariants.{NoSpace, Fault as of_store}
 use Rattle.hm_types.specs.declared.limits.TheConstants.{BIGBLOCK_BYTES}
-use Rattle.hm_types.specs.declared.zone.TheConstants.{TREE_ZONE, FREEMAP_ZONE}
+use Rattle.hm_types.specs.declared.zone.TheConstants.{FREEMAP_ZONE}
 use Rattle.hm_types.specs.declared.zones.Zones.{Zones}
 use Rattle.hm_fields.specs.Pages.{PageMap}
 use Rattle.hm_freemap.specs.Extents.{with_current}
 use Rattle.hm_freemap.specs.Faults.{IsFreemapDamage}
-use Rattle.hm_freemap.specs.Stand.{Maps, WhereTold, StandBy, room_in, free_by, is_free_by}
+use Rattle.hm_freemap.specs.Stand.{Maps, WhereTold, StandBy, room_in, free_by}
 use Rattle.hm_freemap.specs.declared.entry.Entry.{Entry}
 
 -- a zone is named and has less room than its reserve

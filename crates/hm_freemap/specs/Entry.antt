@@ -2,7 +2,7 @@
 use Rattle.std.specs.Prelude.{◌≡◌, ◌⊎◌, ℕ, ◌+◌, ◌%◌, ◌<◌, ◌≤◌, List, ◌++◌, slice_range, pos}
 use Rattle.std.specs.Int.{w32, cast_signed, cast_unsigned}
 use Rattle.byteorder.specs.Endian.{little_bytes}
-use Rattle.hm_types.specs.Layout.{IsLayer2, IsPool, first_undo, first_pool}
+use Rattle.hm_types.specs.Layout.{IsPool, first_undo, first_pool}
 use Rattle.hm_types.specs.References.{unit_of}
 use Rattle.hm_types.specs.declared.limits.TheConstants.{BIGBLOCK_BYTES}
 use Rattle.hm_types.specs.declared.zone.TheConstants.{VOLUME_ZONE, UNDO_ZONE, FREEMAP_ZONE, TREE_ZONE, SMALL_ZONE, UNAVAILABLE_ZONE}

@@ -7,7 +7,7 @@ use Rattle.hm_types.specs.Space.{rounded, in_zone}
 use Rattle.hm_types.specs.declared.space.TheConstants.{MOST_REFERENCES}
 use Rattle.hm_fields.specs.Pages.{PageMap}
 use Rattle.hm_freemap.specs.Places.{page_of}
-use Rattle.hm_freemap.specs.Stand.{Maps, WhereTold, StandBy, append_of, all_of, home_of, room_in, free_by}
+use Rattle.hm_freemap.specs.Stand.{Maps, WhereTold, StandBy, append_of, all_of, home_of, room_in}
 
 -- a reference to so many bytes at an offset
 abbrev pub reference : ℕ → ℕ → Reference

@@ -1,5 +1,5 @@
 -- Layer 1: where the big-blocks of layer 2 are.
-use Rattle.std.specs.Prelude.{◌≡◌, ◌⊎◌, ℕ, ◌+◌, ◌%◌, ◌<◌, List, [], ◌++◌, if◌then◌else◌, nat_lt, replicate, slice_range}
+use Rattle.std.specs.Prelude.{◌≡◌, ◌⊎◌, ℕ, ◌+◌, ◌%◌, List, ◌++◌, if◌then◌else◌, nat_lt, replicate}
 use Rattle.byteorder.specs.Endian.{little_bytes}
 use Rattle.hm_types.specs.Layout.{first_layer2, layer2_blocks, start_of}
 use Rattle.hm_types.specs.Offset.{zone_of, volume_of, byte_of, raw_of}

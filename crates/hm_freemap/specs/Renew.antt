@@ -1,5 +1,5 @@
 -- How zones begin new big-blocks, one after the other.
-use Rattle.std.specs.Prelude.{◌≡◌, ◌≢◌, ◌⊎◌, ℕ, ◌+◌, ◌<◌, ◌≤◌, Bool, true, false, List, take, slice_index, slice_set, get_or, count_by}
+use Rattle.std.specs.Prelude.{◌≡◌, ◌≢◌, ◌⊎◌, ℕ, ◌+◌, ◌<◌, ◌≤◌, Bool, true, false, List, slice_index, slice_set, get_or, count_by}
 use Rattle.hm_types.specs.Layout.{IsPool}
 use Rattle.hm_types.specs.Offset.{zone_of}
 use Rattle.hm_types.specs.References.{References, is_append, is_free, free_blocks}

@@ -1,9 +1,8 @@
 -- When the freemap of a volume stands for what the trees of three states refer to.
-use Rattle.std.specs.Prelude.{◌≡◌, ◌≢◌, ◌⊎◌, ℕ, ◌+◌, ◌-◌, ◌%◌, ◌<◌, ◌≤◌, Bool, ◌&&◌, not, nat_le, nat_eq, if◌then◌else◌, false, List, [], ◌∷◌, ◌++◌, length, slice_index, Option, None, Some, IfSome, All, ℤ, pos, negsuc, ◌+ℤ◌, count_by}
+use Rattle.std.specs.Prelude.{◌≡◌, ◌≢◌, ℕ, ◌+◌, ◌-◌, ◌<◌, ◌≤◌, Bool, ◌&&◌, not, nat_le, nat_eq, if◌then◌else◌, false, List, ◌++◌, length, slice_index, Option, None, Some, IfSome, All, ℤ, pos, negsuc, ◌+ℤ◌, count_by}
 use Rattle.hm_types.specs.Layout.{IsPool, block_of, start_of}
 use Rattle.hm_types.specs.Offset.{zone_of}
-use Rattle.hm_types.specs.References.{Reference, References, IsPlaced, NoneOverlap, AreFew, begin_of, end_of, live_bytes, is_append, pool, unit_of}
-use Rattle.hm_types.specs.Space.{rounded}
+use Rattle.hm_types.specs.References.{Reference, References, IsPlaced, NoneOverlap, AreFew, begin_of, end_of, live_bytes, is_append, pool}
 use Rattle.hm_types.specs.declared.limits.TheConstants.{BIGBLOCK_BYTES}
 use Rattle.hm_types.specs.declared.zone.TheConstants.{TREE_ZONE, SMALL_ZONE}
 use Rattle.hm_fields.specs.Fields.{get}

@@ -1,4 +1,4 @@
-use Rattle.std.proofs.Common.{◌≡◌, ◌∙◌, ◌<◌, ℕ, ◌-◌, List, slice_index, nat_lt, refl, sym, ap, subst, Ok, Err, rules, arith}
+use Rattle.std.proofs.Common.{◌≡◌, ◌∙◌, ◌<◌, ◌-◌, slice_index, nat_lt, ap, Err, rules, arith}
 use Rattle.hm_types.specs.declared.zone.TheConstants.{TREE_ZONE}
 use Rattle.hm_freemap.specs.Stand.{append_of}
 use Rattle.hm_freemap.specs.declared.entry.Entry.{Entry}

@@ -1,9 +1,8 @@
-use Rattle.std.proofs.Common.{◌≡◌, ◌∙◌, ℕ, ◌+◌, ◌^◌, ◌<◌, Bool, List, cond, slice_index, refl, sym, ap, subst, arith}
-use Rattle.hm_types.specs.Told.{BothTell}
-use Rattle.hm_freemap.specs.Renew.{Renewing, lacks_at}
+use Rattle.std.proofs.Common.{◌≡◌, ◌∙◌, ◌^◌, ◌<◌, slice_index, refl, arith}
+use Rattle.hm_freemap.specs.Renew.{lacks_at}
 use Rattle.hm_freemap.proofs.CountLemmas.{bit, bool_bit}
 use Rattle.hm_freemap.proofs.RenewLemmas.{bit_one}
-use Rattle.hm_freemap.proofs.StepLemmas.{count_first, first_more, told_step}
+use Rattle.hm_freemap.proofs.StepLemmas.{first_more, told_step}
 use Rattle.hm_freemap.proofs.admit.renew.Goals as goal
 
 pub loop-k-preserved : goal.loop-k-preserved

@@ -1,4 +1,4 @@
-use Rattle.std.proofs.Common.{◌≡◌, ◌≤◌, ℕ, length}
+use Rattle.std.proofs.Common.{◌≡◌, ◌≤◌}
 use Rattle.hm_types.specs.Told.{BothTell}
 use Rattle.hm_freemap.specs.Renew.{Renewing}
 use Rattle.hm_freemap.specs.Stand.{AreBelow}

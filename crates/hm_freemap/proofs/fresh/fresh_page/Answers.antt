@@ -1,4 +1,4 @@
-use Rattle.std.proofs.Common.{◌≡◌, ◌∙◌, ℕ}
+use Rattle.std.proofs.Common.{◌∙◌}
 use Rattle.hm_freemap.proofs.FreshLemmas.{fresh_more}
 use Rattle.hm_freemap.proofs.fresh.fresh_page.Goals as goal
 

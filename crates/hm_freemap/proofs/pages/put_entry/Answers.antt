@@ -1,8 +1,3 @@
-use Rattle.std.proofs.Common.{◌≡◌, ℕ, List, Some, None, Ok, Err, Result, arith}
-use Rattle.std.specs.Prelude.{Option, OnOk, IfSome}
-use Rattle.hm_types.specs.Told.{BothTell}
-use Rattle.hm_fields.specs.Pages.{PageMap, HasPut}
-use Rattle.hm_freemap.specs.Stand.{EntryPut}
 use Rattle.hm_freemap.proofs.PlaceLemmas.{page_zone}
 use Rattle.hm_freemap.proofs.PutLemmas.{told_put}
 use Rattle.hm_freemap.proofs.pages.put_entry.Goals as goal

@@ -1,4 +1,4 @@
-use Rattle.std.proofs.Common.{◌≡◌, ◌≤◌, ◌+◌, ◌-◌, ◌*◌, ◌/◌, ℕ, List, [], refl, sym, arith, subst, ◌∙◌}
+use Rattle.std.proofs.Common.{◌≡◌, ◌≤◌, ◌+◌, ◌-◌, ◌*◌, ◌/◌, ℕ, refl, arith, subst, ◌∙◌}
 use Rattle.std.specs.List.{range_with_len}
 use Rattle.hm_types.specs.Layout.{first_pool}
 use Rattle.hm_types.specs.References.{pool}

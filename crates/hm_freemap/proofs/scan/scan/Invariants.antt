@@ -1,4 +1,4 @@
-use Rattle.std.proofs.Common.{◌≡◌, ◌≤◌, ◌-◌, ℕ, List}
+use Rattle.std.proofs.Common.{◌≡◌, ◌≤◌, ◌-◌}
 use Rattle.std.specs.List.{range_with_len}
 use Rattle.hm_types.specs.Layout.{first_pool}
 use Rattle.hm_freemap.specs.Scan.{Finds}

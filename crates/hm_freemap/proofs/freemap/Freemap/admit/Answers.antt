@@ -1,7 +1,6 @@
-use Rattle.std.proofs.Common.{◌≡◌, ◌∙◌, ◌+◌, ◌-◌, ◌^◌, min, ℕ, sym, ap, subst, arith}
+use Rattle.std.proofs.Common.{◌≡◌, ◌∙◌, ◌+◌, ◌-◌, ◌^◌, min, ℕ, ap, arith}
 use Rattle.hm_types.specs.References.{pool}
-use Rattle.hm_types.specs.Told.{BothTell}
-use Rattle.hm_freemap.specs.Renew.{Renewing, count_of}
+use Rattle.hm_freemap.specs.Renew.{count_of}
 use Rattle.hm_freemap.specs.Scan.{Finds}
 use Rattle.hm_freemap.specs.Stand.{WhereTold, is_free_by}
 use Rattle.hm_freemap.proofs.GrantLemmas.{told_none, told_some}

@@ -1,4 +1,3 @@
-use Rattle.std.proofs.Common.{ℕ}
 use Rattle.hm_types.specs.References.{pool}
 use Rattle.hm_freemap.specs.Calls.{CountsFree}
 use Rattle.hm_freemap.specs.Scan.{Finds}

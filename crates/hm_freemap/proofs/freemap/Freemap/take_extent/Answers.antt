@@ -1,8 +1,7 @@
-use Rattle.std.proofs.Common.{◌≡◌, ◌∙◌, ◌<◌, ℕ, ◌-◌, List, slice_index, sym, ap, subst, true≢false, refl, Ok, Err, rules, arith}
+use Rattle.std.proofs.Common.{◌≡◌, ◌∙◌, ◌<◌, ℕ, List, slice_index, sym, ap, subst, true≢false, refl, Ok, Err, rules, arith}
 use Rattle.hm_fields.specs.Pages.{PageMap}
 use Rattle.hm_types.specs.Space.{rounded}
 use Rattle.hm_types.specs.declared.limits.TheConstants.{MOST_BIGBLOCKS}
-use Rattle.hm_types.specs.declared.zone.TheConstants.{TREE_ZONE}
 use Rattle.hm_freemap.specs.Change.{HasRoomFor, appended}
 use Rattle.hm_freemap.specs.Entry.{IsPoolEntry, entry_in}
 use Rattle.hm_freemap.specs.Extents.{Takes}
@@ -11,7 +10,7 @@ use Rattle.hm_freemap.specs.Stand.{Maps, EntryPut, append_of, entry_page}
 use Rattle.hm_freemap.specs.declared.entry.Entry.{Entry}
 use Rattle.hm_freemap.proofs.CauseLemmas.{cause_later, cause_ok, cause_on}
 use Rattle.hm_freemap.proofs.TakeLemmas.{bad_append, take_takes, zone_of_room}
-use Rattle.hm_freemap.proofs.ToldLemmas.{told_moves, ok_moves, moves_map}
+use Rattle.hm_freemap.proofs.ToldLemmas.{told_moves, moves_map}
 use Rattle.hm_freemap.proofs.freemap.Freemap.take_extent.Goals as goal
 
 pub returns-in_err-entry-clause-cause : goal.returns-in_err-entry-clause-cause

@@ -1,4 +1,4 @@
-use Rattle.std.proofs.Common.{◌≡◌, ◌≢◌, ◌<◌, ℕ, Bool, true, refl, arith, slice_index, slice_set, List, rules, length, ⊎_elim}
+use Rattle.std.proofs.Common.{◌≡◌, refl, arith, slice_set, rules, length, ⊎_elim}
 use Rattle.std.proofs.lemmas.Bool.{cases_eq}
 use Rattle.std.proofs.lemmas.List.{get_or-set_same, get_or-set_other}
 use Rattle.hm_freemap.proofs.ScanLemmas.{finds_one}

@@ -1,4 +1,4 @@
-use Rattle.std.proofs.Common.{◌≡◌, ◌≤◌, ℕ, Bool, List, ◌-◌, arith}
+use Rattle.std.proofs.Common.{◌-◌, arith}
 use Rattle.std.specs.List.{range_with_len}
 use Rattle.hm_freemap.proofs.ScanLemmas.{finds_rest, range-one}
 use Rattle.hm_freemap.proofs.scan.Found.look.Goals as goal

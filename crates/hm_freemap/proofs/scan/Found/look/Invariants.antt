@@ -1,4 +1,4 @@
-use Rattle.std.proofs.Common.{◌≡◌, ◌≤◌, ◌<◌, ◌-◌, ℕ, Bool, List}
+use Rattle.std.proofs.Common.{◌≤◌, ◌-◌, ℕ, Bool}
 use Rattle.std.specs.List.{range_with_len}
 use Rattle.hm_freemap.specs.Scan.{Finds, IsAgreed}
 use Rattle.hm_freemap.specs.Stand.{AreBelow}

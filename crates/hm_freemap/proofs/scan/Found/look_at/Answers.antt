@@ -1,4 +1,4 @@
-use Rattle.std.proofs.Common.{◌≡◌, ◌∙◌, ℕ, Bool, List, true, false, sym, arith}
+use Rattle.std.proofs.Common.{◌≡◌, false}
 use Rattle.hm_freemap.proofs.ScanLemmas.{finds_none}
 use Rattle.hm_freemap.proofs.scan.Found.look_at.Goals as goal
 
