@@ -6,6 +6,7 @@ pub mod EntryLemmas
 pub mod ExtentLemmas
 pub mod FreeLemmas
 pub mod FreshLemmas
+pub mod GoodLemmas
 pub mod GrantLemmas
 pub mod ListLemmas
 pub mod OnePageLemmas

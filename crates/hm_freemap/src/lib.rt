@@ -7,6 +7,7 @@ mod entry;
 mod extents;
 mod freemap;
 mod fresh;
+mod laws;
 mod layer1;
 #[cfg(test)]
 mod made;
@@ -23,6 +24,7 @@ mod tests;
 pub use entry::{Entry, UNUSED};
 pub use freemap::Freemap;
 pub use fresh::{fresh_entry, fresh_page};
+pub use laws::{each_block_is_good_where_the_freemap_stands, free_blocks_are_those_of_the_states};
 pub use layer1::{layer1_offset, read_layer1, write_layer1};
 pub use pages::FreemapPages;
 pub use place::{page_of, place_of};
