@@ -1,8 +1,13 @@
 // What follows from the definitions alone: each function states one law, and does nothing.
-ghost use Rattle.std.specs.Prelude.{◌≡◌, ℕ, List};
+ghost use Rattle.std.specs.Prelude.{◌≡◌, ◌≤◌, ◌+◌, ℕ, List, length, slice_range, FitsSigned};
+ghost use Rattle.std.specs.Int.{w32};
 ghost use Rattle.hm_types.specs.Layout.{IsPool};
 ghost use Rattle.hm_types.specs.References.{References, free_blocks};
+ghost use Rattle.hm_fields.specs.Fields.{AreBytes, get};
+ghost use Rattle.hm_freemap.specs.declared.entry.Entry.{Entry};
+ghost use Rattle.hm_freemap.specs.Entry.{entry_in, HoldsEntry, IsEntry, SpellsEntry};
 ghost use Rattle.hm_freemap.specs.Faults.{IsGoodBlock};
+ghost use Rattle.hm_freemap.specs.Layer1.{layer1_bytes, HoldsLayer1, IsLayer1};
 ghost use Rattle.hm_freemap.specs.Stand.{Maps, StandBy, free_by};
 
 /// Where the freemap stands for some states, each big-block of the pool is good, so that no call
@@ -19,4 +24,50 @@ pub fn free_blocks_are_those_of_the_states()
     ensures { (bigblocks : ℕ) (append : List ℕ) (maps : Maps) (states : References) →
         StandBy bigblocks append maps states →
         free_by bigblocks append maps ≡ free_blocks bigblocks append states }
+{}
+
+/// Where the bytes of an entry in range stand in a page, its fields are read there, and the page
+/// holds it.
+pub fn bytes_of_an_entry_are_its_fields()
+    ensures fields { (page : List ℕ) (at : ℕ) (e : Entry) → IsEntry e → FitsSigned w32 e.bytes_free →
+        SpellsEntry page at e → entry_in page at ≡ e }
+    ensures held { (page : List ℕ) (at : ℕ) (e : Entry) → IsEntry e → FitsSigned w32 e.bytes_free →
+        SpellsEntry page at e → HoldsEntry page at }
+{}
+
+/// Where a page holds an entry, the bytes of that entry stand in it.
+#[tactic(auto, using(crate::proofs::SpellLemmas::entry_spelled))]
+pub fn fields_of_an_entry_are_its_bytes()
+    ensures { (page : List ℕ) (at : ℕ) → AreBytes page → at + 16 ≤ length page →
+        HoldsEntry page at → SpellsEntry page at (entry_in page at) }
+{}
+
+/// Bytes are those of one entry in range at most.
+pub fn bytes_are_of_one_entry()
+    ensures { (page : List ℕ) (at : ℕ) (e f : Entry) → IsEntry e → IsEntry f →
+        FitsSigned w32 e.bytes_free → FitsSigned w32 f.bytes_free →
+        SpellsEntry page at e → SpellsEntry page at f → e ≡ f }
+{}
+
+/// Where the bytes of an offset in range stand in a page as an entry of layer 1, it is read there,
+/// and the page holds it.
+pub fn bytes_of_layer1_are_its_fields()
+    ensures fields { (page : List ℕ) (at raw : ℕ) → IsLayer1 raw →
+        slice_range page at (at + 32) ≡ layer1_bytes raw → get page at 8 ≡ raw }
+    ensures held { (page : List ℕ) (at raw : ℕ) → IsLayer1 raw →
+        slice_range page at (at + 32) ≡ layer1_bytes raw → HoldsLayer1 page at }
+{}
+
+/// Where a page holds an entry of layer 1, the bytes of its offset stand in it.
+#[tactic(auto, using(crate::proofs::SpellLemmas::layer1_spelled))]
+pub fn fields_of_layer1_are_its_bytes()
+    ensures { (page : List ℕ) (at : ℕ) → AreBytes page → at + 32 ≤ length page →
+        HoldsLayer1 page at → slice_range page at (at + 32) ≡ layer1_bytes (get page at 8) }
+{}
+
+/// Bytes are those of one entry of layer 1 in range at most.
+pub fn bytes_are_of_one_layer1()
+    ensures { (page : List ℕ) (at raw other : ℕ) → IsLayer1 raw → IsLayer1 other →
+        slice_range page at (at + 32) ≡ layer1_bytes raw →
+        slice_range page at (at + 32) ≡ layer1_bytes other → raw ≡ other }
 {}
