@@ -6,7 +6,7 @@ use Rattle.std.proofs.lemmas.Bool.{cases_lt}
 use Rattle.std.proofs.lemmas.Int.{of_z-to_z, to_z-of_z}
 use Rattle.std.proofs.lemmas.List.{drop-drop, get_or-take, get_or-drop, get_or_past, length-take-le}
 use Rattle.std.proofs.Math.Seq.{take-add}
-use mir.ValLaws.{of_z_fits}
+use Rattle.std.proofs.Math.Facts.{sfits_to_z, Fits-of_z}
 use Rattle.byteorder.specs.Endian.{little_bytes, little_from}
 use Rattle.byteorder.specs.Numbers.{little_from-lt, little_from-take, little_number-reads_back, length-bytes_low_first}
 use Rattle.hm_fields.specs.Fields.{get, AreBytes}
@@ -87,7 +87,7 @@ append_back e small = omega arith
 free_back : (e : Entry) → FitsSigned w32 e.bytes_free → cast_signed w32 (get (entry_bytes e) 8 4) ≡ e.bytes_free
 unfolding get entry_bytes
 free_back e fits =
-    let small : cast_unsigned w32 e.bytes_free < 2 ^ 32 = (of_z_fits w32 e.bytes_free fits).fits in
+    let small : cast_unsigned w32 e.bytes_free < 2 ^ 32 = (Fits-of_z fits).fits in
     let read : little_from 8 4 (entry_bytes e) ≡ cast_unsigned w32 e.bytes_free = omega arith in
     ap (cast_signed w32) read ∙ to_z-of_z w32 e.bytes_free fits
 
@@ -166,6 +166,11 @@ entry_spelled page at small fits held =
     ++ (little_bytes 4 (cast_unsigned w32 (cast_signed w32 number)) ++ little_bytes 4 0)) =
     rw (first, second, third, zone, append, free, zero) refl in
     ap (λ (n : ℕ). take n (drop at page)) exact ∙ all
+
+-- the free bytes of an entry fit their field
+pub entry_fits : (page : List ℕ) (at : ℕ) → AreBytes page → FitsSigned w32 (entry_in page at).bytes_free
+unfolding entry_in
+entry_fits page at small = sfits_to_z (record { fits = get_small page (at + 8) 4 small })
 
 -- bytes are those of one entry
 pub entry_alone : (page : List ℕ) (at : ℕ) (e f : Entry) → IsEntry e → IsEntry f

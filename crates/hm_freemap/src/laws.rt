@@ -35,11 +35,13 @@ pub fn bytes_of_an_entry_are_its_fields()
         SpellsEntry page at e → HoldsEntry page at }
 {}
 
-/// Where a page holds an entry, the bytes of that entry stand in it.
-#[tactic(auto, using(crate::proofs::SpellLemmas::entry_spelled))]
+/// Where a page holds an entry, the bytes of that entry stand in it. The free bytes that are read in
+/// any page fit their field.
 pub fn fields_of_an_entry_are_its_bytes()
-    ensures { (page : List ℕ) (at : ℕ) → AreBytes page → at + 16 ≤ length page →
+    ensures bytes { (page : List ℕ) (at : ℕ) → AreBytes page → at + 16 ≤ length page →
         HoldsEntry page at → SpellsEntry page at (entry_in page at) }
+    ensures fits { (page : List ℕ) (at : ℕ) → AreBytes page →
+        FitsSigned w32 (entry_in page at).bytes_free }
 {}
 
 /// Bytes are those of one entry in range at most.
