@@ -103,12 +103,12 @@ object_is o is =
 -- and no triple
 no_triple : (t : Triple) → IsTriple (Counts full_elements 1) 0 t → ⊥
 no_triple t is =
-    elim (one_of_two full_inode full_record is.there.element is.there.there) [
+    elim (one_of_two full_inode full_record is.there.there.element is.there.there.there) [
       | inl same ↦
-          let type = ap (λ (x : FullElement). x.key.rec_type) same ∙ ap (λ (x : Subject). x.rec_type) is.there.about in
+          let type = ap (λ (x : FullElement). x.key.rec_type) same ∙ ap (λ (x : Subject). x.rec_type) is.there.there.about in
           omega arith
       | inr same ↦
-          let type = ap (λ (x : FullElement). x.key.rec_type) same ∙ ap (λ (x : Subject). x.rec_type) is.there.about in
+          let type = ap (λ (x : FullElement). x.key.rec_type) same ∙ ap (λ (x : Subject). x.rec_type) is.there.there.about in
           omega arith
     ]
 
