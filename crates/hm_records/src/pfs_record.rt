@@ -1,8 +1,10 @@
 // The records of pseudo file systems.
-ghost use Rattle.std.specs.Prelude.{◌≡◌, ◌↔◌, ◌^◌, ◌%◌, ◌++◌, ◌<◌, length, IfOk, IfErr, IfSome, IsTrue, OnOk};
+ghost use Rattle.std.specs.Prelude.{◌≡◌, ◌↔◌, ◌^◌, ◌%◌, ◌++◌, ◌<◌, length};
+ghost use Rattle.std.specs.Prelude.{IfOk, IfErr, IfSome, IsTrue, OnOk};
 ghost use Rattle.hm_retain.specs.Intervals.{numbers_of};
 ghost use Rattle.hm_records.specs.Faults.{IsReadFault, Reads};
-ghost use Rattle.hm_records.specs.PfsRecord.{AreIds, FitsRole, IsPfsRecord, IsPfsSize, head_bytes, interval_bytes, intervals_bytes, pfs_bytes, role_of};
+ghost use Rattle.hm_records.specs.PfsRecord.{AreIds, FitsRole, IsPfsRecord, IsPfsSize, role_of};
+ghost use Rattle.hm_records.specs.PfsRecord.{head_bytes, interval_bytes, intervals_bytes, pfs_bytes};
 
 use crate::fault::bad_payload;
 use byteorder::{ByteOrder, LittleEndian};

@@ -4,7 +4,7 @@ use crate::{
     decode_pfs, decode_target, encode_entry, encode_inode, encode_pfs, encode_target,
 };
 use hm_retain::Retention;
-use hm_types::{Fault, HOff, Id, Name, Obj, Pfs, Text};
+use hm_types::{BAD_PAYLOAD, Fault, HOff, Id, META_ZONE, Name, Obj, Pfs, Text};
 use std::alloc::{AllocError, Global};
 use std::test::Fail;
 
@@ -72,13 +72,13 @@ const SLAVE_OF_TWO: [u8; 64] = [
 
 // Where the payloads stand: in zone 9.
 fn place() -> HOff {
-    HOff::make(9, 100_663_296).unwrap_or_default()
+    HOff::make(META_ZONE, 100_663_296).unwrap_or_default()
 }
 
 fn damaged() -> Fault {
     Fault::Damaged {
         at: place(),
-        kind: 6,
+        kind: BAD_PAYLOAD,
     }
 }
 
