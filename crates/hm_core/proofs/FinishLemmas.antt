@@ -8,7 +8,7 @@ use Rattle.byteorder.specs.Numbers.{length-bytes_low_first}
 use Rattle.hm_types.specs.declared.limits.TheConstants.{BIGBLOCK_BYTES, GREATEST_ID}
 use Rattle.hm_types.specs.declared.fault.Failed.{Failed}
 use Rattle.hm_disk.specs.Crash.{Told}
-use Rattle.hm_disk.specs.Disk.{BothTell}
+use Rattle.hm_types.specs.Told.{BothTell}
 use Rattle.hm_header.specs.declared.header.Header.{Header}
 use Rattle.hm_header.specs.Range.{IsHeader, IsRoot, IsSize}
 use Rattle.hm_core.specs.declared.directory.Directory.{Directory}

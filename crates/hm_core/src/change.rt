@@ -2,7 +2,7 @@
 ghost use Rattle.std.specs.Prelude.{◌≤◌, IfSome, OnOk, OnErr, length};
 ghost use Rattle.hm_types.specs.declared.limits.TheConstants.{BIGBLOCK_BYTES};
 ghost use Rattle.hm_types.specs.Faults.{HasCause};
-ghost use Rattle.hm_disk.specs.Disk.{BothTell};
+ghost use Rattle.hm_types.specs.Told.{BothTell};
 ghost use Rattle.hm_header.specs.Change.{IsNext};
 ghost use Rattle.hm_header.specs.OnDisk.{HasHeader};
 ghost use Rattle.hm_header.specs.Range.{IsHeader};

@@ -2,7 +2,7 @@
 ghost use Rattle.std.specs.Prelude.{◌≡◌, ◌≤◌, IfOk, IfErr, IfSome, OnOk, OnErr};
 ghost use Rattle.hm_types.specs.declared.limits.TheConstants.{GREATEST_ID};
 ghost use Rattle.hm_types.specs.Faults.{HasFaultCause};
-ghost use Rattle.hm_disk.specs.Disk.{BothTell};
+ghost use Rattle.hm_types.specs.Told.{BothTell};
 ghost use Rattle.hm_header.specs.Range.{IsHeader};
 ghost use Rattle.hm_core.specs.Directories.{AreDirectories};
 ghost use Rattle.hm_core.specs.Finish.{IsBefore, IsWritten, IsEither, IsNoDamage};

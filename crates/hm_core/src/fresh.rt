@@ -1,7 +1,8 @@
 // Making a volume.
 ghost use Rattle.std.specs.Prelude.{◌≡◌, ◌≤◌, ◌*◌, [], ◌∷◌, IfErr, IfSome, OnOk, length};
 ghost use Rattle.hm_types.specs.Faults.{HasCause};
-ghost use Rattle.hm_disk.specs.Disk.{BothTell, overwritten};
+ghost use Rattle.hm_disk.specs.Disk.{overwritten};
+ghost use Rattle.hm_types.specs.Told.{BothTell};
 ghost use Rattle.hm_disk.specs.Transfer.{WrittenSynced};
 ghost use Rattle.hm_header.specs.declared.header.TheConstants.{GATE_OPEN};
 ghost use Rattle.hm_header.specs.Layout.{body_of};

@@ -1,6 +1,5 @@
 -- What a call makes of what a disk tells.
 use Rattle.std.specs.Prelude.{◌≡◌, ◌⊎◌, ℕ, ◌+◌, ◌<◌, List, [], ◌∷◌, ◌++◌, length, take, drop, Option, option_map}
-pub use Rattle.hm_types.specs.Told.{BothTell}
 use Rattle.hm_disk.specs.Crash.{Told, MayLeave}
 
 -- the moment, where it is told

@@ -1,7 +1,7 @@
 -- The stages of a header change, one after the other.
 use Rattle.std.proofs.Common.{◌≡◌, ◌⊎◌, inl, inr, ℕ, ◌+◌, ◌-◌, ◌<◌, ◌≤◌, List, [], ◌∷◌, sym, subst, arith, Option, IfSome}
 use Rattle.hm_disk.specs.Crash.{Told, MayLeave, Outside}
-use Rattle.hm_disk.specs.Disk.{BothTell}
+use Rattle.hm_types.specs.Told.{BothTell}
 use Rattle.hm_disk.specs.Moments.{LeftSince}
 use Rattle.hm_disk.proofs.CrashLemmas.{MayLeave-fewer, MayLeave-same, MayLeave-settled, MayLeave-through}
 use Rattle.hm_disk.proofs.DiskLemmas.{BothTell-and, BothTell-then}

@@ -1,7 +1,8 @@
 -- The first stage, by the gate that was read.
 use Rattle.std.proofs.Common.{◌≡◌, ℕ, ◌+◌, ◌-◌, ◌≤◌, List, [], ◌∷◌, sym, ap, subst, ◌∙◌, get_or, slice_index, slice_range, Option, IfSome}
 use Rattle.hm_disk.specs.Crash.{Told}
-use Rattle.hm_disk.specs.Disk.{BothTell, Synced}
+use Rattle.hm_disk.specs.Disk.{Synced}
+use Rattle.hm_types.specs.Told.{BothTell}
 use Rattle.hm_disk.specs.Moments.{LeftSince, SameLeft, SyncElapses, WriteElapses}
 use Rattle.hm_disk.specs.Transfer.{TornAll, WrittenSynced}
 use Rattle.hm_disk.proofs.DiskLemmas.{BothTell-map, BothTell-same}

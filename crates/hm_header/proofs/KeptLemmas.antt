@@ -1,7 +1,8 @@
 -- What keeps the two slots keeps what the stages of a header change ask for.
 use Rattle.std.proofs.Common.{◌≡◌, ◌⊎◌, inl, inr, ⊎_elim, ℕ, zero, suc, ◌+◌, ◌-◌, ◌*◌, ◌<◌, ◌≤◌, List, subst, sym, arith, length, get_or, Option, Some, None, IfSome}
 use Rattle.hm_disk.specs.Crash.{Told}
-use Rattle.hm_disk.specs.Disk.{BothTell, Synced}
+use Rattle.hm_disk.specs.Disk.{Synced}
+use Rattle.hm_types.specs.Told.{BothTell}
 use Rattle.hm_disk.specs.Transfer.{TornAll}
 use Rattle.hm_header.specs.declared.header.Header.{Header}
 use Rattle.hm_header.specs.declared.header.TheConstants.{SLOT_BYTES}

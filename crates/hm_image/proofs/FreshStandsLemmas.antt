@@ -8,7 +8,7 @@ use Rattle.hm_types.specs.declared.object.Object.{Object}
 use Rattle.hm_header.specs.Range.{IsSize}
 use Rattle.hm_key.specs.Element.{pfs_of}
 use Rattle.hm_model.specs.Volume.{PseudoFileSystem, at, fresh, new_master, open_end, system_of}
-use Rattle.hm_records.specs.Counts.{Subject, record_subject}
+use Rattle.hm_key.specs.Counts.{Subject, record_subject}
 use Rattle.hm_records.specs.View.{IsViewOf}
 use Rattle.hm_records.specs.declared.pfs_record.PfsRecord.{PfsRecord}
 use Rattle.hm_image.specs.Fresh.{IsFresh, fresh_header, fresh_record}

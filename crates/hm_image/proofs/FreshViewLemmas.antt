@@ -10,7 +10,7 @@ use Rattle.hm_types.specs.declared.object.Kind.{Kind}
 use Rattle.hm_types.specs.declared.object.Kind.TheVariants.{Directory, File, Softlink, PfsLink}
 use Rattle.hm_types.specs.declared.object.Content.{Content as Held}
 use Rattle.hm_types.specs.declared.object.Content.TheVariants.{Nothing, File as of_file, Target, Linked}
-use Rattle.hm_records.specs.Counts.{Content, Counts, Subject, inode_subject, subject_of}
+use Rattle.hm_key.specs.Counts.{Content, Counts, Subject, inode_subject, subject_of}
 use Rattle.hm_records.specs.Inode.{inode_bytes}
 use Rattle.hm_records.specs.View.{IsHeld, IsObject, IsTriple, IsView, kind_number}
 use Rattle.hm_records.specs.declared.inode.Inode.{Inode}

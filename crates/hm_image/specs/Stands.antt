@@ -7,7 +7,7 @@ use Rattle.hm_types.specs.declared.object.Object.{Object}
 use Rattle.hm_header.specs.declared.header.Header.{Header}
 use Rattle.hm_key.specs.Element.{pfs_of}
 use Rattle.hm_model.specs.Volume.{PseudoFileSystem, Role, Volume, Master, Slave, at, system_of}
-use Rattle.hm_records.specs.Counts.{IsRecordOf}
+use Rattle.hm_key.specs.Counts.{IsRecordOf}
 use Rattle.hm_records.specs.PfsRecord.{IsPfsRecord, pfs_bytes}
 use Rattle.hm_records.specs.View.{IsViewOf}
 use Rattle.hm_records.specs.declared.pfs_record.PfsRecord.{PfsRecord}

@@ -1,4 +1,5 @@
 pub mod Balance
+pub mod Counts
 pub mod Element
 pub mod Elements
 pub mod Extents
@@ -11,5 +12,6 @@ pub mod Marks
 pub mod Calls
 pub mod Stores
 pub mod Sweep
+pub mod Versions
 pub mod ToyDisk
 pub mod LogStore

@@ -4,8 +4,9 @@ use Rattle.std.specs.Prelude.{◌⊎◌, ◌==◌, ◌&&◌, if◌then◌else◌
 use Rattle.std.specs.List.{Contains}
 use Rattle.std.proofs.lemmas.Bool.{false≢true, eqb-true, eq-eqb, and_parts}
 use Rattle.hm_types.specs.Elements.{FullElement, Key}
-use Rattle.hm_records.specs.Counts.{Content, Counts, IsSeen, Subject, subject_of}
-use Rattle.hm_records.specs.Changes.{Adds, Closes, CountSame, HaveOwnKeys, IsBelow, Overrides, TakesOut, closed_for, is_about}
+use Rattle.hm_key.specs.Counts.{Content, Counts, IsSeen, Subject, subject_of}
+use Rattle.hm_key.specs.Versions.{Adds, Closes, HaveOwnKeys, IsBelow, TakesOut, closed_for, is_about}
+use Rattle.hm_records.specs.Changes.{CountSame, Overrides}
 use Rattle.hm_records.proofs.CountsLemmas.{open-seen, seen-open}
 
 -- what one list shows about a subject as of an id, another shows as of another id

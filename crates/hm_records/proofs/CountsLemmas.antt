@@ -8,8 +8,9 @@ use Rattle.std.specs.declared.cmp.Ordering.TheVariants.{Less, Equal}
 use Rattle.std.proofs.lemmas.List.Elements.{All-contains, All-from_recursion}
 use Rattle.hm_types.specs.Elements.{FullElement, Key, key_cmp}
 use Rattle.hm_key.proofs.KeyLemmas.{key_itself}
-use Rattle.hm_records.specs.Counts.{Counts, IsRecordOf, IsSeen, record_subject, subject_of}
-use Rattle.hm_records.specs.Changes.{AreSorted, HaveOwnKeys, IsBelow, IsSettled}
+use Rattle.hm_key.specs.Counts.{Counts, IsRecordOf, IsSeen, record_subject, subject_of}
+use Rattle.hm_key.specs.Versions.{AreSorted, HaveOwnKeys, IsBelow}
+use Rattle.hm_records.specs.Changes.{IsSettled}
 use Rattle.hm_records.proofs.MemberLemmas.{has_cases, has_none}
 
 -- an element stands before all that follow it, so at another key

@@ -7,7 +7,7 @@ use Rattle.hm_types.specs.declared.object.Triple.{Triple}
 use Rattle.hm_types.specs.Tree.{FileTree, with_name, without_name}
 use Rattle.hm_records.specs.declared.entry.DirEntry.{DirEntry}
 use Rattle.hm_records.specs.Entry.{entry_bytes}
-use Rattle.hm_records.specs.Counts.{Content, Subject, entry_subject}
+use Rattle.hm_key.specs.Counts.{Content, Subject, entry_subject}
 use Rattle.hm_records.specs.View.{HasEntry, IsTriple, IsView}
 use Rattle.hm_records.specs.Changes.{AgreeOnObject, IsSettled, LacksName}
 use Rattle.hm_records.specs.Laws.{GetsEntry, HasEarlier, HasView, IsFirstOf, IsNext, IsOnly, LosesEntry}

@@ -7,7 +7,7 @@ use Rattle.hm_types.specs.declared.id.Obj.{Obj}
 use Rattle.hm_types.specs.declared.object.Object.{Object}
 use Rattle.hm_types.specs.declared.object.Triple.{Triple}
 use Rattle.hm_types.specs.Tree.{FileTree, has_name, is_named, named_in, object_in}
-use Rattle.hm_records.specs.Counts.{Content}
+use Rattle.hm_key.specs.Counts.{Content}
 use Rattle.hm_records.specs.View.{HasEntry, IsObject, IsTriple}
 use Rattle.hm_records.specs.Changes.{LacksName}
 use Rattle.hm_records.specs.Laws.{HasView, triple_of}

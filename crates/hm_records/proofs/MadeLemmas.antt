@@ -12,7 +12,7 @@ use Rattle.hm_types.specs.Tree.{FileTree, holding, with_change, with_links}
 use Rattle.hm_records.specs.declared.inode.Inode.{Inode}
 use Rattle.hm_records.specs.declared.kind.TheConstants.{DIRECTORY, FILE, SOFTLINK, PFS_LINK}
 use Rattle.hm_records.specs.Inode.{IsInode, inode_bytes}
-use Rattle.hm_records.specs.Counts.{Content, Subject, inode_subject, bytes_subject, target_subject}
+use Rattle.hm_key.specs.Counts.{Content, Subject, inode_subject, bytes_subject, target_subject}
 use Rattle.hm_records.specs.View.{AreFileBytes, IsHeld, IsObject, IsTargetOf, kind_number}
 use Rattle.hm_records.specs.Changes.{ChangesObject, HasInode, IsBeside, IsNotOfKind, IsSettled, Overrides}
 use Rattle.hm_records.specs.Laws.{HasView, made_of}

@@ -10,7 +10,7 @@ use Rattle.hm_types.specs.declared.object.Triple.{Triple}
 use Rattle.hm_types.specs.Tree.{FileTree, is_named, is_triple_before, with_name, without, without_name}
 use Rattle.hm_records.specs.declared.entry.DirEntry.{DirEntry}
 use Rattle.hm_records.specs.Entry.{IsEntry, entry_bytes}
-use Rattle.hm_records.specs.Counts.{Content, entry_subject}
+use Rattle.hm_key.specs.Counts.{Content, entry_subject}
 use Rattle.hm_records.specs.View.{HasEntry, IsTriple, IsView}
 use Rattle.hm_records.specs.Changes.{AgreeOnName, AgreeOnObject, IsSettled, LacksName}
 use Rattle.hm_records.proofs.EntryLemmas.{entry_back, entry_in, name_back as name_in_bytes}

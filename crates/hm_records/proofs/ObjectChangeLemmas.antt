@@ -6,7 +6,7 @@ use Rattle.std.proofs.lemmas.Bool.{false≢true, eqb-true, eq-eqb, cases_eq, ne_
 use Rattle.hm_types.specs.declared.id.Obj.{Obj}
 use Rattle.hm_types.specs.declared.object.Object.{Object}
 use Rattle.hm_types.specs.Tree.{FileTree, is_object_before, with_change, without, without_object}
-use Rattle.hm_records.specs.Counts.{Content, inode_subject}
+use Rattle.hm_key.specs.Counts.{Content, inode_subject}
 use Rattle.hm_records.specs.Inode.{inode_bytes}
 use Rattle.hm_records.specs.View.{IsObject}
 use Rattle.hm_records.specs.Changes.{ChangesObject, CountsNothing}

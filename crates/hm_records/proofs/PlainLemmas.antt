@@ -9,13 +9,13 @@ use Rattle.std.proofs.lemmas.Bool.{cases_lt}
 use Rattle.std.proofs.lemmas.List.{get_or_append_left, get_or_push, take_more}
 use Rattle.std.proofs.lemmas.List.Elements.{Contains-append_cases, Contains-append_left, Contains-append_right}
 use Rattle.hm_types.specs.Elements.{FullElement, Key, key_cmp}
-use Rattle.hm_records.specs.Counts.{Counts, IsSeen, Subject, bytes_subject, inode_subject, subject_of}
+use Rattle.hm_key.specs.Counts.{Counts, IsSeen, Subject, bytes_subject, inode_subject, subject_of}
 use Rattle.hm_types.specs.declared.id.Obj.{Obj}
 use Rattle.hm_types.specs.declared.object.Kind.{Kind}
 use Rattle.hm_types.specs.declared.object.Content.{Content as Held}
 use Rattle.hm_records.specs.declared.inode.Inode.{Inode}
 use Rattle.hm_records.specs.Inode.{IsInode, inode_bytes}
-use Rattle.hm_records.specs.Changes.{HaveOwnKeys}
+use Rattle.hm_key.specs.Versions.{HaveOwnKeys}
 use Rattle.hm_records.specs.Laws.{made_of}
 use Rattle.hm_records.specs.View.{AreFileBytes, IsFileByte, covered, hole, past, IsFirstAfter, IsObject}
 use Rattle.hm_records.specs.PlainView.{is_at_key, IsEarlierEnd, IsHeldAs, IsObjectAt, IsLeastEnd, IsNewerVersion, IsNewestOf, IsNewestSince, IsNextEnd, IsUnseen}

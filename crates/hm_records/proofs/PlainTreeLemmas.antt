@@ -12,8 +12,9 @@ use Rattle.hm_types.specs.declared.object.Triple.{Triple}
 use Rattle.hm_types.specs.Tree.{insert_by, is_object_before, is_triple_before}
 use Rattle.hm_records.specs.declared.entry.DirEntry.{DirEntry}
 use Rattle.hm_records.specs.Entry.{IsEntry, entry_bytes}
-use Rattle.hm_records.specs.Counts.{Content, Counts, Subject, entry_subject, inode_subject, subject_of}
-use Rattle.hm_records.specs.Changes.{HaveOwnKeys, IsSettled, LacksName}
+use Rattle.hm_key.specs.Counts.{Content, Counts, Subject, entry_subject, inode_subject, subject_of}
+use Rattle.hm_key.specs.Versions.{HaveOwnKeys}
+use Rattle.hm_records.specs.Changes.{IsSettled, LacksName}
 use Rattle.hm_records.specs.Laws.{triple_of}
 use Rattle.hm_records.specs.View.{HasEntry, IsObject, IsTriple, IsView}
 use Rattle.hm_records.specs.PlainView.{HasName, HasNumber, HasTriple, HoldsObjects, HoldsTriples, IsAddedObject, IsAddedTriple, IsEarlierEntry, IsEntryAt, IsEntryOf, IsFirstKey, IsInodeOf, IsLeastKey, IsLess, IsNewObject, IsNewTriple, IsObjectAt, IsUnseen}

@@ -5,7 +5,7 @@ use Rattle.std.proofs.lemmas.Bool.{cases_eq}
 use Rattle.hm_types.specs.declared.id.Obj.{Obj}
 use Rattle.hm_key.specs.declared.rec_type.TheConstants.{INODE, FILE_BYTES, DIRECTORY_ENTRY, SOFTLINK_TARGET}
 use Rattle.hm_records.specs.Entry.{entry_bytes}
-use Rattle.hm_records.specs.Counts.{Content, Subject, inode_subject, bytes_subject, entry_subject, target_subject, inodes_of, others_of}
+use Rattle.hm_key.specs.Counts.{Content, Subject, inode_subject, bytes_subject, entry_subject, target_subject, inodes_of, others_of}
 use Rattle.hm_records.specs.Changes.{AgreeButObject, AgreeOnName, AgreeOnObject, IsBeside, IsSettled, Overrides}
 
 -- for all but one subject the same counts

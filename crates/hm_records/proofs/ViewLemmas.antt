@@ -6,7 +6,7 @@ use Rattle.hm_types.specs.declared.id.Obj.{Obj}
 use Rattle.hm_types.specs.declared.object.Object.{Object}
 use Rattle.hm_types.specs.declared.object.Triple.{Triple}
 use Rattle.hm_types.specs.Tree.{FileTree, is_object_before, is_triple_before}
-use Rattle.hm_records.specs.Counts.{Content, inode_subject, bytes_subject, entry_subject, target_subject}
+use Rattle.hm_key.specs.Counts.{Content, inode_subject, bytes_subject, entry_subject, target_subject}
 use Rattle.hm_records.specs.Entry.{entry_bytes}
 use Rattle.hm_records.specs.View.{IsObject, IsTriple, IsView}
 use Rattle.hm_records.specs.Changes.{AgreeOnName, AgreeOnObject, CountSame}

@@ -1,49 +1,10 @@
--- What a call does to a list of elements, as sets, and what that does to what counts.
-use Rattle.std.specs.Prelude.{◌≡◌, ◌≢◌, ◌↔◌, ◌⊎◌, ℕ, ◌<◌, Bool, ◌==◌, ◌&&◌, if◌then◌else◌, List, Option, Some}
-use Rattle.std.specs.List.{Contains}
-use Rattle.std.specs.List.Sorted.{IsStrictlySortedBy}
-use Rattle.std.specs.Ordering.{on}
-use Rattle.hm_types.specs.Elements.{FullElement, Key, key_cmp}
+-- What a change of a list of elements does to what counts.
+use Rattle.std.specs.Prelude.{◌≡◌, ◌≢◌, ◌↔◌, ℕ, List, Option, Some}
 use Rattle.hm_types.specs.declared.id.Obj.{Obj}
-use Rattle.hm_records.specs.Counts.{Content, Subject, inode_subject, bytes_subject, entry_subject, target_subject}
+use Rattle.hm_key.specs.Counts.{Content, Subject, inode_subject, bytes_subject, entry_subject, target_subject}
 use Rattle.hm_records.specs.View.{HasEntry}
 use Rattle.hm_records.specs.declared.inode.Inode.{Inode}
 use Rattle.hm_records.specs.Inode.{IsInode, inode_bytes}
-
--- the elements rise by their keys, as the leaves of a sound tree hold them
-abbrev pub AreSorted : List FullElement → Type 0
-AreSorted es = IsStrictlySortedBy (on (λ (e : FullElement). e.key) key_cmp) es
-
--- no two elements have one key
-abbrev pub HaveOwnKeys : List FullElement → Type 0
-HaveOwnKeys es = (x y : FullElement) → Contains es x → Contains es y → x.key ≡ y.key → x ≡ y
-
--- all ids in a list are below `i`: those that made its elements, and those that closed them
-pub record IsBelow (i : ℕ) (es : List FullElement) : Type 0 where
-  pub made : (x : FullElement) → Contains es x → x.key.create < i
-  pub closed : (x : FullElement) → Contains es x → x.delete < i
-
--- one element more
-abbrev pub Adds : FullElement → List FullElement → List FullElement → Type 0
-Adds e es es' = (x : FullElement) → Contains es' x ↔ ((x ≡ e) ⊎ Contains es x)
-
--- one element less
-abbrev pub TakesOut : FullElement → List FullElement → List FullElement → Type 0
-TakesOut e es es' = (x : FullElement) → Contains es' x ↔ (Contains es x × (x ≢ e))
-
--- whether a key is about a subject
-abbrev pub is_about : Subject → Key → Bool
-is_about s k = (k.localization == s.localization) && (k.obj == s.obj) && (k.rec_type == s.rec_type) && (k.key == s.key)
-
--- an element as it is once the open ones about a subject were closed at `i`
-abbrev pub closed_for : Subject → ℕ → FullElement → FullElement
-closed_for s i e = if is_about s e.key && (e.delete == 0) then record e { delete = i } else e
-
--- the open elements about a subject are closed at `i`, and all else is as it was
-abbrev pub Closes : Subject → ℕ → List FullElement → List FullElement → Type 0
-Closes s i es es' = (x : FullElement) → Contains es' x ↔ ((e : FullElement) × Contains es e × (closed_for s i e ≡ x))
-
--- ---- what counts
 
 -- the same counts for every subject
 abbrev pub CountSame : Content → Content → Type 0

@@ -2,7 +2,7 @@
 use Rattle.std.specs.Prelude.{◌≡◌, ◌≢◌, ℕ, ◌+◌, ◌<◌, ◌≤◌, List, None, Some}
 use Rattle.hm_types.specs.declared.id.Obj.{Obj}
 use Rattle.hm_types.specs.Elements.{FullElement}
-use Rattle.hm_records.specs.Counts.{Content, Counts, entry_subject, subject_of}
+use Rattle.hm_key.specs.Counts.{Content, Counts, entry_subject}
 use Rattle.hm_types.specs.Tree.{FileTree, insert_by, is_object_before}
 use Rattle.hm_types.specs.declared.object.Object.{Object}
 use Rattle.hm_types.specs.declared.object.Triple.{Triple}
@@ -13,7 +13,8 @@ use Rattle.hm_types.specs.declared.object.Kind.{Kind}
 use Rattle.hm_records.specs.declared.inode.Inode.{Inode}
 use Rattle.hm_records.specs.declared.kind.TheConstants.{FILE}
 use Rattle.hm_records.specs.View.{AreFileBytes, HasEntry, IsView}
-use Rattle.hm_records.specs.Changes.{Adds, Closes, CountsNothing, HasInode, IsBelow, IsSettled, Overrides}
+use Rattle.hm_key.specs.Versions.{IsBelow}
+use Rattle.hm_records.specs.Changes.{CountsNothing, HasInode, IsSettled, Overrides}
 
 -- a list of elements as of an id
 pub record AsOf : Type 0 where
@@ -23,15 +24,6 @@ pub record AsOf : Type 0 where
 -- what counts then
 abbrev pub counts_of : AsOf → Content
 counts_of shown = Counts shown.elements shown.id
-
--- A new version of what an element is about, made by an id above all: the open one is closed at that id, where there
--- is one, and the element is added.
-pub record Replaces (e : FullElement) (es es' : List FullElement) : Type 0 where
-  pub below : IsBelow e.key.create es
-  pub between : List FullElement
-  pub closes : Closes (subject_of e.key) e.key.create es between
-  pub adds : Adds e between es'
-  pub unclosed : e.delete ≡ 0
 
 -- no id of a list is above `t`
 abbrev pub IsUpTo : ℕ → List FullElement → Type 0

@@ -1,5 +1,4 @@
 pub mod Changes
-pub mod Counts
 pub mod Entry
 pub mod Faults
 pub mod Inode

@@ -9,7 +9,7 @@ use Rattle.hm_types.specs.declared.object.Content.{Content as Held}
 use Rattle.hm_key.specs.Key.{key_of}
 use Rattle.hm_key.specs.declared.base.Base.{Base}
 use Rattle.hm_records.specs.declared.inode.Inode.{Inode}
-use Rattle.hm_records.specs.Counts.{Content, Counts, IsSeen, Subject, bytes_subject, entry_subject, inode_subject, subject_of}
+use Rattle.hm_key.specs.Counts.{Content, Counts, IsSeen, Subject, bytes_subject, entry_subject, inode_subject, subject_of}
 use Rattle.hm_types.specs.declared.id.Obj.{Obj}
 use Rattle.hm_types.specs.declared.object.Triple.{Triple}
 use Rattle.hm_types.specs.Tree.{FileTree, is_object_before, is_triple_before}

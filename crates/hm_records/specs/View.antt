@@ -11,7 +11,7 @@ use Rattle.hm_types.specs.declared.object.Kind.{Kind}
 use Rattle.hm_types.specs.declared.object.Kind.TheVariants.{Directory, File, Softlink, PfsLink}
 use Rattle.hm_types.specs.declared.object.Content.{Content as Held}
 use Rattle.hm_types.specs.declared.object.Content.TheVariants.{Nothing, File as of_file, Target, Linked}
-use Rattle.hm_records.specs.Counts.{Content, Counts, inode_subject, bytes_subject, entry_subject, target_subject}
+use Rattle.hm_key.specs.Counts.{Content, Counts, inode_subject, bytes_subject, entry_subject, target_subject}
 use Rattle.hm_records.specs.Entry.{IsEntry, entry_bytes}
 use Rattle.hm_records.specs.Inode.{IsInode, inode_bytes}
 use Rattle.hm_records.specs.declared.inode.Inode.{Inode}

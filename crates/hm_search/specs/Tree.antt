@@ -155,12 +155,9 @@ IsWhole map root =
     (at : ℕ) → IsSome (map at)
     → IsTrue (nat_eq at root || reaches map (height_of (node_at map root)) (node_at map root) at)
 
--- the elements, the marks and the offsets of the leaves of the tree from a root on
+-- the elements and the marks of the tree from a root on
 abbrev pub elements_of : PageMap → ℕ → List Element
 elements_of map root = elements_in map (height_of (node_at map root)) (node_at map root)
 
 abbrev pub mark_of : PageMap → ℕ → Key → ℕ
 mark_of map root = mark_in map (height_of (node_at map root)) (node_at map root)
-
-abbrev pub leaf_offset_of : PageMap → ℕ → Key → ℕ
-leaf_offset_of map root = leaf_offset_in map (height_of (node_at map root)) root (node_at map root)

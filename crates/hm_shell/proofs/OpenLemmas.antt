@@ -3,7 +3,7 @@ use Rattle.std.proofs.Common.{◌≡◌, ℕ, ◌≤◌, refl, sym, ◌∙◌, s
 use Rattle.std.specs.Prelude.{Err, IfSome, None, Ok, OnOk, Option, Result, Some}
 use Rattle.hm_types.specs.declared.fault.Fault.TheVariants.{Media as media, Damaged as damage, NoMemory as no_memory}
 use Rattle.hm_disk.specs.Crash.{Told}
-use Rattle.hm_disk.specs.Disk.{BothTell}
+use Rattle.hm_types.specs.Told.{BothTell}
 use Rattle.hm_model.specs.Volume.{Volume, fresh}
 use Rattle.hm_core.specs.declared.fault.OpenFault.{OpenFault}
 use Rattle.hm_core.specs.declared.fault.OpenFault.TheVariants.{NotVolume as no_volume, BadField as bad_field, Fault as of_disk}

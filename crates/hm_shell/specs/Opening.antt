@@ -3,7 +3,7 @@ use Rattle.std.specs.Prelude.{◌≡◌, ℕ, Option, None, Some, IfSome}
 use Rattle.hm_types.specs.Faults.{IsMedia}
 use Rattle.hm_types.specs.declared.fault.Fault.TheVariants.{Damaged as damage}
 use Rattle.hm_disk.specs.Crash.{Told}
-use Rattle.hm_disk.specs.Disk.{BothTell}
+use Rattle.hm_types.specs.Told.{BothTell}
 use Rattle.hm_model.specs.Volume.{Volume, fresh}
 use Rattle.hm_core.specs.declared.fault.OpenFault.TheVariants.{NotVolume as no_volume, BadField as bad_field}
 use Rattle.hm_core.specs.Open.{IsListDamage, IsOpenFault, IsSettled, IsTooSmall}

@@ -4,7 +4,7 @@ use Rattle.hm_types.specs.declared.limits.TheConstants.{LEAST_BIGBLOCKS, MOST_BI
 use Rattle.hm_types.specs.Faults.{IsMedia}
 use Rattle.hm_pipe.specs.Pipe.{Gains}
 use Rattle.hm_disk.specs.Crash.{Told}
-use Rattle.hm_disk.specs.Disk.{BothTell}
+use Rattle.hm_types.specs.Told.{BothTell}
 use Rattle.hm_model.specs.declared.entry.Entry.{Entry}
 use Rattle.hm_model.specs.Lines.{texts_of}
 use Rattle.hm_model.specs.Volume.{Volume}

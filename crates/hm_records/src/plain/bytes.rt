@@ -1,6 +1,6 @@
 // The bytes of a file.
 ghost use Rattle.std.specs.Prelude.{◌↔◌, IfOk, IsTrue};
-ghost use Rattle.hm_records.specs.Counts.{Counts};
+ghost use Rattle.hm_key.specs.Counts.{Counts};
 ghost use Rattle.hm_records.specs.View.{AreFileBytes, IsFileByte};
 ghost use Rattle.hm_records.specs.PlainView.{IsEarlierEnd, IsLess, IsNextEnd};
 

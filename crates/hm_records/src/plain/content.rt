@@ -1,7 +1,7 @@
 // What an object holds.
 ghost use Rattle.std.specs.Prelude.{◌≡◌, IfOk};
-ghost use Rattle.hm_records.specs.Counts.{Counts};
-ghost use Rattle.hm_records.specs.Changes.{HaveOwnKeys};
+ghost use Rattle.hm_key.specs.Counts.{Counts};
+ghost use Rattle.hm_key.specs.Versions.{HaveOwnKeys};
 ghost use Rattle.hm_records.specs.Inode.{IsInode};
 ghost use Rattle.hm_records.specs.View.{IsTargetOf};
 ghost use Rattle.hm_records.specs.PlainView.{IsHeldAs, IsObjectAt};

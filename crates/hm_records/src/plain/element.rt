@@ -4,8 +4,8 @@ ghost use Rattle.std.specs.List.{list_any};
 ghost use Rattle.std.specs.Option.{option_copied};
 ghost use Rattle.std.specs.Ordering.{is_eq};
 ghost use Rattle.hm_types.specs.Elements.{key_cmp};
-ghost use Rattle.hm_records.specs.Counts.{IsSeen};
-ghost use Rattle.hm_records.specs.Changes.{HaveOwnKeys, is_about};
+ghost use Rattle.hm_key.specs.Counts.{IsSeen};
+ghost use Rattle.hm_key.specs.Versions.{HaveOwnKeys, is_about};
 ghost use Rattle.hm_records.specs.PlainView.{
   IsAtLeast,
   IsCounted,

@@ -1,8 +1,8 @@
 // The triples of a tree.
 ghost use Rattle.std.specs.Prelude.{◌≡◌, ◌≢◌, ◌≤◌, ◌↔◌, IfOk, IsTrue, None, insert, length};
 ghost use Rattle.hm_types.specs.Tree.{insert_by, is_triple_before};
-ghost use Rattle.hm_records.specs.Counts.{Counts};
-ghost use Rattle.hm_records.specs.Changes.{HaveOwnKeys};
+ghost use Rattle.hm_key.specs.Counts.{Counts};
+ghost use Rattle.hm_key.specs.Versions.{HaveOwnKeys};
 ghost use Rattle.hm_records.specs.PlainView.{
   HasTriple,
   HoldsTriples,

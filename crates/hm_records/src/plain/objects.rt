@@ -1,8 +1,8 @@
 // The objects of a tree.
 ghost use Rattle.std.specs.Prelude.{◌≡◌, ◌≤◌, ◌↔◌, IfOk, IsTrue, insert, length};
 ghost use Rattle.hm_types.specs.Tree.{insert_by, is_object_before};
-ghost use Rattle.hm_records.specs.Counts.{Counts};
-ghost use Rattle.hm_records.specs.Changes.{HaveOwnKeys};
+ghost use Rattle.hm_key.specs.Counts.{Counts};
+ghost use Rattle.hm_key.specs.Versions.{HaveOwnKeys};
 ghost use Rattle.hm_records.specs.PlainView.{HasNumber, HoldsObjects, IsNewObject};
 
 use crate::plain::content::object_at;

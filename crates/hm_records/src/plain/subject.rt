@@ -1,6 +1,6 @@
 // What an element is about.
 ghost use Rattle.std.specs.Prelude.{◌≡◌};
-ghost use Rattle.hm_records.specs.Counts.{
+ghost use Rattle.hm_key.specs.Counts.{
   bytes_subject,
   entry_subject,
   inode_subject,
@@ -21,7 +21,7 @@ pub(crate) struct Subject {
 }
 
 impl Model for Subject {
-    ghost use Rattle.hm_records.specs.Counts.{Subject as Named};
+    ghost use Rattle.hm_key.specs.Counts.{Subject as Named};
 
     ghost Value = { Named };
 

@@ -1,6 +1,6 @@
 // The whole tree.
 ghost use Rattle.std.specs.Prelude.{IfOk};
-ghost use Rattle.hm_records.specs.Changes.{HaveOwnKeys};
+ghost use Rattle.hm_key.specs.Versions.{HaveOwnKeys};
 ghost use Rattle.hm_records.specs.PlainView.{tree_of};
 ghost use Rattle.hm_records.specs.View.{IsViewOf};
 

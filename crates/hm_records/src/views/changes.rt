@@ -2,17 +2,10 @@
 ghost use Rattle.std.specs.Prelude.{◌≡◌, ◌≢◌, ℕ, ◌+◌, ◌<◌, ◌≤◌, List, None, Some};
 ghost use Rattle.std.specs.List.{Contains};
 ghost use Rattle.hm_types.specs.Elements.{FullElement};
-ghost use Rattle.hm_records.specs.Counts.{Counts, IsSeen, Subject, subject_of};
-ghost use Rattle.hm_records.specs.Changes.{
-  Adds,
-  Closes,
-  CountSame,
-  HaveOwnKeys,
-  IsBelow,
-  Overrides,
-  TakesOut,
-};
-ghost use Rattle.hm_records.specs.Laws.{IsUpTo, Replaces};
+ghost use Rattle.hm_key.specs.Counts.{Counts, IsSeen, Subject, subject_of};
+ghost use Rattle.hm_key.specs.Versions.{Adds, Closes, HaveOwnKeys, IsBelow, TakesOut, Replaces};
+ghost use Rattle.hm_records.specs.Changes.{CountSame, Overrides};
+ghost use Rattle.hm_records.specs.Laws.{IsUpTo};
 
 /// As of an id below that of a change the same counts as before: below the one that made an added
 /// element, and below the one at which elements were closed. As of an id that did not see it, an

@@ -3,13 +3,14 @@ ghost use Rattle.std.specs.Prelude.{◌≡◌, ◌≢◌, ◌↔◌, ℕ, List};
 ghost use Rattle.std.specs.List.{Contains};
 ghost use Rattle.hm_types.specs.Elements.{FullElement};
 ghost use Rattle.hm_types.specs.Tree.{FileTree};
-ghost use Rattle.hm_records.specs.Counts.{
+ghost use Rattle.hm_key.specs.Counts.{
   Counts,
   IsRecordOf,
   record_subject,
   subject_of,
 };
-ghost use Rattle.hm_records.specs.Changes.{AreSorted, CountSame, HaveOwnKeys, IsSettled};
+ghost use Rattle.hm_key.specs.Versions.{AreSorted, HaveOwnKeys};
+ghost use Rattle.hm_records.specs.Changes.{CountSame, IsSettled};
 ghost use Rattle.hm_records.specs.Laws.{AsOf, IsUpTo, counts_of};
 ghost use Rattle.hm_records.specs.View.{IsView};
 

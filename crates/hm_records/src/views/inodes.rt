@@ -20,14 +20,8 @@ ghost use Rattle.hm_records.specs.declared.kind.TheConstants.{
   PFS_LINK,
   SOFTLINK,
 };
-ghost use Rattle.hm_records.specs.Counts.{bytes_subject, inode_subject, target_subject};
-ghost use Rattle.hm_records.specs.Changes.{
-  AgreeButObject,
-  ChangesObject,
-  HasInode,
-  IsSettled,
-  Overrides,
-};
+ghost use Rattle.hm_key.specs.Counts.{bytes_subject, inode_subject, target_subject};
+ghost use Rattle.hm_records.specs.Changes.{AgreeButObject, ChangesObject, HasInode, IsSettled, Overrides};
 ghost use Rattle.hm_records.specs.Laws.{AsOf, counts_of, made_of};
 ghost use Rattle.hm_records.specs.View.{AreFileBytes, IsObject, IsTargetOf};
 

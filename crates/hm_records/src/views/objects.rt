@@ -13,13 +13,8 @@ ghost use Rattle.hm_types.specs.Tree.{
   without_object,
 };
 ghost use Rattle.hm_records.specs.declared.inode.Inode.{Inode};
-ghost use Rattle.hm_records.specs.Counts.{inode_subject};
-ghost use Rattle.hm_records.specs.Changes.{
-  ChangesObject,
-  CountsNothing,
-  HasInode,
-  Overrides,
-};
+ghost use Rattle.hm_key.specs.Counts.{inode_subject};
+ghost use Rattle.hm_records.specs.Changes.{ChangesObject, CountsNothing, HasInode, Overrides};
 ghost use Rattle.hm_records.specs.Inode.{inode_bytes};
 ghost use Rattle.hm_records.specs.Laws.{
   AsOf,

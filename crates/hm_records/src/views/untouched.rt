@@ -9,20 +9,14 @@ ghost use Rattle.hm_key.specs.declared.rec_type.TheConstants.{
   SOFTLINK_TARGET,
 };
 ghost use Rattle.hm_records.specs.declared.kind.TheConstants.{FILE, SOFTLINK};
-ghost use Rattle.hm_records.specs.Counts.{
+ghost use Rattle.hm_key.specs.Counts.{
   Subject,
   bytes_subject,
   inodes_of,
   others_of,
   target_subject,
 };
-ghost use Rattle.hm_records.specs.Changes.{
-  AgreeOnName,
-  AgreeOnObject,
-  IsBeside,
-  IsNotOfKind,
-  Overrides,
-};
+ghost use Rattle.hm_records.specs.Changes.{AgreeOnName, AgreeOnObject, IsBeside, IsNotOfKind, Overrides};
 ghost use Rattle.hm_records.specs.Laws.{AsOf, HasView, counts_of};
 ghost use Rattle.hm_records.specs.View.{IsView};
 

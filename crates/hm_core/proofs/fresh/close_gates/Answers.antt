@@ -1,5 +1,6 @@
 use Rattle.std.proofs.Common.{ℕ, [], ◌∷◌, subst}
-use Rattle.hm_disk.specs.Disk.{BothTell, Written}
+use Rattle.hm_disk.specs.Disk.{Written}
+use Rattle.hm_types.specs.Told.{BothTell}
 use Rattle.hm_disk.proofs.DiskLemmas.{BothTell-then}
 use Rattle.hm_header.specs.OnDisk.{HasSlots}
 use Rattle.hm_header.proofs.AnswerLemmas.{OnOk-map}

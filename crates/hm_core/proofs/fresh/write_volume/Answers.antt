@@ -1,5 +1,6 @@
 use Rattle.std.proofs.Common.{[], ◌≡◌, arith, subst, sym, IfSome}
-use Rattle.hm_disk.specs.Disk.{BothTell, overwritten}
+use Rattle.hm_disk.specs.Disk.{overwritten}
+use Rattle.hm_types.specs.Told.{BothTell}
 use Rattle.hm_disk.proofs.DiskLemmas.{BothTell-then, IfSome-then}
 use Rattle.hm_header.specs.declared.header.Header.{Header}
 use Rattle.hm_header.specs.Layout.{body_of}

@@ -1,5 +1,5 @@
 use Rattle.std.proofs.Common.{ℕ, ◌-◌, List, length, subst}
-use Rattle.hm_disk.specs.Disk.{BothTell}
+use Rattle.hm_types.specs.Told.{BothTell}
 use Rattle.hm_disk.specs.Moments.{WriteElapses}
 use Rattle.hm_disk.specs.Transfer.{TornAll, WrittenSynced}
 use Rattle.hm_disk.proofs.DiskLemmas.{BothTell-map}

@@ -1,5 +1,5 @@
 use Rattle.std.proofs.Common.{subst}
-use Rattle.hm_records.specs.Counts.{Counts, Subject}
+use Rattle.hm_key.specs.Counts.{Counts, Subject}
 use Rattle.hm_records.specs.PlainView.{IsUnseen}
 use Rattle.hm_records.proofs.PlainLemmas.{byte_covered, byte_in_hole, byte_past, end_seen}
 use Rattle.hm_records.proofs.plain.bytes.byte_at.Goals as goal

@@ -1,5 +1,5 @@
 use Rattle.std.proofs.Common.{◌≡◌, ℕ, subst, arith}
-use Rattle.hm_records.specs.Counts.{Counts}
+use Rattle.hm_key.specs.Counts.{Counts}
 use Rattle.hm_records.specs.View.{AreFileBytes}
 use Rattle.hm_records.proofs.PlainLemmas.{bytes_more}
 use Rattle.hm_records.proofs.plain.bytes.file_bytes.Goals as goal

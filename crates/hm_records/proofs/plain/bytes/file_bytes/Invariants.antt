@@ -1,4 +1,4 @@
-use Rattle.hm_records.specs.Counts.{Counts}
+use Rattle.hm_key.specs.Counts.{Counts}
 use Rattle.hm_records.specs.View.{AreFileBytes}
 use Rattle.hm_records.proofs.plain.bytes.file_bytes.Given as goal
 

@@ -1,5 +1,5 @@
 use Rattle.std.proofs.Common.{subst}
-use Rattle.hm_records.specs.Counts.{Counts, Subject}
+use Rattle.hm_key.specs.Counts.{Counts, Subject}
 use Rattle.hm_records.specs.PlainView.{IsUnseen}
 use Rattle.hm_records.proofs.PlainLemmas.{no_inode_at, no_object_at}
 use Rattle.hm_records.proofs.plain.content.object_at.Goals as goal

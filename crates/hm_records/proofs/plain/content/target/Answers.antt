@@ -1,5 +1,5 @@
 use Rattle.std.proofs.Common.{◌∙◌, subst}
-use Rattle.hm_records.specs.Counts.{Subject, target_subject}
+use Rattle.hm_key.specs.Counts.{Subject, target_subject}
 use Rattle.hm_records.specs.PlainView.{IsUnseen}
 use Rattle.hm_records.specs.View.{missing}
 use Rattle.hm_records.proofs.PlainLemmas.{unseen_none}

@@ -1,7 +1,7 @@
 use Rattle.std.proofs.Common.{List, sym, subst, ◌∙◌}
 use Rattle.std.proofs.lemmas.List.{take_all}
 use Rattle.hm_types.specs.Elements.{FullElement}
-use Rattle.hm_records.specs.Changes.{HaveOwnKeys}
+use Rattle.hm_key.specs.Versions.{HaveOwnKeys}
 use Rattle.hm_records.proofs.PlainLemmas.{own_more}
 use Rattle.hm_records.proofs.plain.element.have_own_keys.Goals as goal
 

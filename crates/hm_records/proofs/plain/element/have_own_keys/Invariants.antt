@@ -1,5 +1,5 @@
 use Rattle.std.proofs.Common.{take}
-use Rattle.hm_records.specs.Changes.{HaveOwnKeys}
+use Rattle.hm_key.specs.Versions.{HaveOwnKeys}
 use Rattle.hm_records.proofs.plain.element.have_own_keys.Given as goal
 
 -- those that were looked at have keys of their own

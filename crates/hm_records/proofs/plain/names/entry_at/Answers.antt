@@ -3,7 +3,7 @@ use Rattle.std.specs.Prelude.{Option, None, Result}
 use Rattle.hm_types.specs.declared.fault.Fault.{Fault}
 use Rattle.hm_types.specs.declared.fault.Fault.TheVariants.{NoMemory}
 use Rattle.hm_records.specs.declared.entry.DirEntry.{DirEntry}
-use Rattle.hm_records.specs.Counts.{Counts, Subject}
+use Rattle.hm_key.specs.Counts.{Counts, Subject}
 use Rattle.hm_records.specs.Faults.{Reads}
 use Rattle.hm_records.specs.PlainView.{IsEntryAt}
 use Rattle.hm_records.proofs.PlainTreeLemmas.{no_bytes_at, ok_weaker}

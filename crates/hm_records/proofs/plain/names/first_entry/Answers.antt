@@ -4,7 +4,7 @@ use Rattle.std.proofs.lemmas.Bool.{false≢true}
 use Rattle.std.proofs.lemmas.List.{take_all}
 use Rattle.hm_types.specs.Elements.{FullElement}
 use Rattle.hm_records.specs.declared.entry.DirEntry.{DirEntry}
-use Rattle.hm_records.specs.Counts.{Counts}
+use Rattle.hm_key.specs.Counts.{Counts}
 use Rattle.hm_records.specs.PlainView.{IsEntryAt, IsFirstKey}
 use Rattle.hm_records.proofs.PlainTreeLemmas.{first_none, first_some, key_passed, key_taken}
 use Rattle.hm_records.proofs.plain.names.first_entry.Goals as goal

@@ -1,5 +1,5 @@
 use Rattle.std.proofs.Common.{take}
-use Rattle.hm_records.specs.Counts.{Counts}
+use Rattle.hm_key.specs.Counts.{Counts}
 use Rattle.hm_records.specs.PlainView.{IsFirstKey}
 use Rattle.hm_records.proofs.plain.names.first_entry.Given as goal
 

@@ -1,7 +1,7 @@
 use Rattle.std.proofs.Common.{◌≡◌, ℕ, sym, ap, subst, ◌∙◌}
 use Rattle.std.specs.Prelude.{Option}
 use Rattle.hm_records.specs.declared.entry.DirEntry.{DirEntry}
-use Rattle.hm_records.specs.Counts.{Counts, entry_subject, subject_of}
+use Rattle.hm_key.specs.Counts.{Counts, entry_subject, subject_of}
 use Rattle.hm_records.specs.View.{HasEntry}
 use Rattle.hm_records.specs.PlainView.{IsEntryAt, IsLess}
 use Rattle.hm_records.proofs.ChangeLemmas.{about_is}

@@ -2,7 +2,7 @@ use Rattle.std.proofs.Common.{◌≡◌, ◌+◌, List, take, sym, subst}
 use Rattle.std.specs.Prelude.{Option, insert}
 use Rattle.hm_types.specs.declared.object.Triple.{Triple}
 use Rattle.hm_types.specs.Tree.{insert_by, is_triple_before}
-use Rattle.hm_records.specs.Counts.{Counts}
+use Rattle.hm_key.specs.Counts.{Counts}
 use Rattle.hm_records.specs.PlainView.{HoldsTriples, IsNewTriple}
 use Rattle.hm_records.proofs.CountsLemmas.{settled}
 use Rattle.hm_records.proofs.PlainTreeLemmas.{triples_added, triples_passed}

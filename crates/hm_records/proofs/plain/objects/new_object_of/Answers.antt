@@ -1,6 +1,6 @@
 use Rattle.std.proofs.Common.{◌≡◌, sym, ◌∙◌}
 use Rattle.std.proofs.lemmas.Bool.{false≢true}
-use Rattle.hm_records.specs.Counts.{Counts, inode_subject, subject_of}
+use Rattle.hm_key.specs.Counts.{Counts, inode_subject, subject_of}
 use Rattle.hm_records.specs.PlainView.{IsNewObject, IsObjectAt}
 use Rattle.hm_records.proofs.ChangeLemmas.{about_is}
 use Rattle.hm_records.proofs.PlainTreeLemmas.{object_new, ok_weaker}

@@ -1,5 +1,5 @@
 use Rattle.std.proofs.Common.{take}
-use Rattle.hm_records.specs.Counts.{Counts}
+use Rattle.hm_key.specs.Counts.{Counts}
 use Rattle.hm_records.specs.PlainView.{HoldsObjects}
 use Rattle.hm_records.proofs.plain.objects.objects_of.Given as goal
 
