@@ -1,6 +1,6 @@
 // Directory entries.
-ghost use Rattle.std.specs.Prelude.{◌≡◌, IfOk, IfErr};
-ghost use Rattle.hm_records.specs.Entry.{IsEntry, entry_bytes};
+ghost use Rattle.std.specs.Prelude.{◌≡◌, IfOk, IfErr, IfSome, IsSomeAnd};
+ghost use Rattle.hm_records.specs.Entry.{IsEntry, IsSpelled, entry_bytes};
 ghost use Rattle.hm_records.specs.Faults.{IsReadFault, Reads};
 
 use crate::fault::bad_payload;
@@ -41,15 +41,30 @@ pub fn decode_entry(alloc: Global, at: HOff, bytes: &[u8]) -> Result<DirEntry, F
     // All else is damage of the payload.
     ensures err { IfErr result (IsReadFault at) }
 {
-    if bytes.len() < OBJ_BYTES {
+    let Some((obj, name)) = entry_parts(bytes) else {
         return Err(bad_payload(at));
+    };
+    Ok(DirEntry {
+        obj,
+        name: Name::of(Vec::from_slice(alloc, name)?),
+    })
+}
+
+/// The object and the name of the entry that a payload spells, and None where it spells none. Takes
+/// no memory.
+pub fn entry_parts(bytes: &[u8]) -> Option<(Obj, &[u8])>
+    // What is read is spelled so.
+    ensures some { IfSome result (λ parts. IsSpelled bytes.now parts.0 parts.1.now) }
+    // What is spelled so is read.
+    ensures only { (entry : DirEntry) → IsEntry entry → bytes.now ≡ entry_bytes entry →
+        IsSomeAnd result (λ parts. (parts.0 ≡ entry.obj) × (parts.1.now ≡ entry.name)) }
+{
+    if bytes.len() < OBJ_BYTES {
+        return None;
     }
     let (obj, name) = bytes.split_at(OBJ_BYTES);
     if !is_name(name) {
-        return Err(bad_payload(at));
+        return None;
     }
-    Ok(DirEntry {
-        obj: Obj(LittleEndian::read_u64(obj)),
-        name: Name::of(Vec::from_slice(alloc, name)?),
-    })
+    Some((Obj(LittleEndian::read_u64(obj)), name))
 }

@@ -14,7 +14,7 @@ mod target;
 mod tests;
 mod views;
 
-pub use entry::{DirEntry, decode_entry, encode_entry};
+pub use entry::{DirEntry, decode_entry, encode_entry, entry_parts};
 pub use inode::{Inode, decode_inode, encode_inode};
 pub use kind::{DIRECTORY, FILE, PFS_LINK, SOFTLINK};
 pub use laws::{

@@ -1,0 +1,12 @@
+pub mod CloseLemmas
+pub mod FullLemmas
+pub mod KeyLemmas
+pub mod PayloadLemmas
+pub mod RewriteLemmas
+pub mod SearchLemmas
+pub mod ShownLemmas
+pub mod SpanLemmas
+pub mod StoreLemmas
+pub mod ToldLemmas
+pub mod VersionLemmas
+pub mod WriteLemmas

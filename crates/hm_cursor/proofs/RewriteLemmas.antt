@@ -1,0 +1,330 @@
+-- What counts after some open versions of a subject were closed, and after a new one was added.
+use Rattle.std.proofs.Common.{◌≡◌, ◌≢◌, ℕ, ◌+◌, ◌<◌, ◌≤◌, List, refl, sym, ap, subst, ◌∙◌, inl, inr, arith}
+use Rattle.std.specs.Prelude.{◌↔◌, ◌⊎◌, Option, Some, None}
+use Rattle.std.specs.List.{Contains}
+use Rattle.hm_types.specs.Elements.{FullElement, Key}
+use Rattle.hm_key.specs.Counts.{Counts, IsSeen, Subject, subject_of}
+use Rattle.hm_key.specs.Versions.{Adds, IsBelow}
+use Rattle.hm_records.specs.Changes.{CountSame, Overrides}
+use Rattle.hm_cursor.specs.Write.{CameFrom, IsFreshFor, Rewrites}
+
+-- ---- what lists show
+
+-- what one list shows about a subject as of an id, another shows too
+abbrev Shows : Subject → ℕ → List FullElement → List FullElement → Type 0
+Shows s t es fs =
+    (x : FullElement) → Contains es x → subject_of x.key ≡ s → IsSeen t x
+    → (y : FullElement) × Contains fs y × IsSeen t y × (y.key ≡ x.key) × (y.bytes ≡ x.bytes)
+
+-- and if the other shows no more, the same counts
+shown : (s : Subject) (es fs : List FullElement) (t : ℕ) (bytes : List ℕ) → Shows s t es fs → Shows s t fs es → Counts es t s bytes → Counts fs t s bytes
+shown s es fs t bytes to from counts =
+    let (y, there, seen, key, same) = to counts.element counts.there counts.about counts.seen in
+    record {
+      element = y;
+      there = there;
+      about = ap subject_of key ∙ counts.about;
+      holds = same ∙ counts.holds;
+      seen = seen;
+      newest = λ other has about' seen'.
+          let (z, there', seen'', key', same') = from other has about' seen' in
+          let newest = counts.newest z there' (ap subject_of key' ∙ about') seen'' in
+          omega (arith, newest, ap (λ (k : Key). k.create) key, ap (λ (k : Key). k.create) key');
+    }
+
+-- ---- closing
+
+-- an open element about a subject was closed at an id, or an element stayed
+pub data Shut (s : Subject) (i : ℕ) (e : FullElement) : FullElement → Type 0 where
+  closed : subject_of e.key ≡ s → e.delete ≡ 0 → Shut s i e (record e { delete = i })
+  stays : Shut s i e e
+
+-- some open elements about a subject were closed at an id, and all others stayed
+pub record Shuts (s : Subject) (i : ℕ) (es es' : List FullElement) : Type 0 where
+  pub on : (x : FullElement) → Contains es x → (y : FullElement) × Contains es' y × Shut s i x y
+  pub back : (y : FullElement) → Contains es' y → (x : FullElement) × Contains es x × Shut s i x y
+
+pub shuts_none : (s : Subject) (i : ℕ) (es : List FullElement) → Shuts s i es es
+shuts_none s i es = record { on = λ x has. (x, has, stays); back = λ y has. (y, has, stays) }
+
+twice : (s : Subject) (i : ℕ) (x y z : FullElement) → Shut s i x y → Shut s i y z → Shut s i x z
+twice s i x _ z stays second = second
+twice s i x _ _ (closed about open') stays = closed about open'
+twice s i x _ _ (closed about open') (closed about' open'') = closed about open'
+
+pub shuts_twice : (s : Subject) (i : ℕ) (es mid es' : List FullElement) → Shuts s i es mid → Shuts s i mid es' → Shuts s i es es'
+shuts_twice s i es mid es' first second = record {
+  on = λ x has.
+      let (y, there, step) = first.on x has in
+      let (z, there', step') = second.on y there in
+      (z, there', twice s i x y z step step');
+  back = λ z has.
+      let (y, there, step) = second.back z has in
+      let (x, there', step') = first.back y there in
+      (x, there', twice s i x y z step' step);
+}
+
+-- an element keeps all but its delete id
+pub record IsLike (e f : FullElement) : Type 0 where
+  pub key : f.key ≡ e.key
+  pub obj_type : f.obj_type ≡ e.obj_type
+  pub bytes : f.bytes ≡ e.bytes
+
+pub like : (s : Subject) (i : ℕ) (e f : FullElement) → Shut s i e f → IsLike e f
+like s i e _ (closed about open') = record { key = refl; obj_type = refl; bytes = refl }
+like s i e _ stays = record { key = refl; obj_type = refl; bytes = refl }
+
+elsewhere_stays : (s : Subject) (i : ℕ) (e f : FullElement) → Shut s i e f → subject_of e.key ≢ s → f ≡ e
+elsewhere_stays s i e _ (closed about open') not = absurd (not about)
+elsewhere_stays s i e _ stays not = refl
+
+-- the delete id is another one only if it is the given one
+deleted : (s : Subject) (i : ℕ) (e f : FullElement) → Shut s i e f → (f.delete ≡ i) ⊎ (f.delete ≡ e.delete)
+deleted s i e _ (closed about open') = inl refl
+deleted s i e _ stays = inr refl
+
+seen_stays : (s : Subject) (i t : ℕ) (e f : FullElement) → t < i → Shut s i e f → IsSeen t e → IsSeen t f
+seen_stays s i t e _ below (closed about open') seen = (seen.0, inr below)
+seen_stays s i t e _ below stays seen = seen
+
+seen_was : (s : Subject) (i t : ℕ) (e f : FullElement) → Shut s i e f → IsSeen t f → IsSeen t e
+seen_was s i t e _ (closed about open') seen = (seen.0, inl open')
+seen_was s i t e _ stays seen = seen
+
+module _ (s : Subject) (i : ℕ) (es es' : List FullElement) (shuts : Shuts s i es es') where
+  -- as of an id below, the same counts
+  shuts_past : (t : ℕ) → t < i → CountSame (Counts es t) (Counts es' t)
+  shuts_past t below s' bytes = (shown s' es' es t bytes back on, shown s' es es' t bytes on back) where
+    on : Shows s' t es es'
+    on x has about seen =
+        let (y, there, step) = shuts.on x has in
+        let alike = like s i x y step in
+        (y, there, seen_stays s i t x y below step seen, alike.key, alike.bytes)
+
+    back : Shows s' t es' es
+    back y has about seen =
+        let (x, there, step) = shuts.back y has in
+        let alike = like s i x y step in
+        (x, there, seen_was s i t x y step seen, sym alike.key, sym alike.bytes)
+
+  -- for other subjects the same counts
+  shuts_elsewhere : (t : ℕ) (other : Subject) (bytes : List ℕ) → other ≢ s
+      → (Counts es' t other bytes → Counts es t other bytes) × (Counts es t other bytes → Counts es' t other bytes)
+  shuts_elsewhere t other bytes not = (shown other es' es t bytes back on, shown other es es' t bytes on back) where
+    on : Shows other t es es'
+    on x has about seen =
+        let (y, there, step) = shuts.on x has in
+        let same : y ≡ x = elsewhere_stays s i x y step (λ is. not (sym about ∙ is)) in
+        let alike = like s i x y step in
+        (y, there, subst (λ (z : FullElement). IsSeen t z) (sym same) seen, alike.key, alike.bytes)
+
+    back : Shows other t es' es
+    back y has about seen =
+        let (x, there, step) = shuts.back y has in
+        let alike = like s i x y step in
+        let about' : subject_of x.key ≡ other = ap subject_of (sym alike.key) ∙ about in
+        let same : y ≡ x = elsewhere_stays s i x y step (λ is. not (sym about' ∙ is)) in
+        (x, there, subst (λ (z : FullElement). IsSeen t z) same seen, sym alike.key, sym alike.bytes)
+
+  -- versions were made when they were made
+  pub shuts_made : ((x : FullElement) → Contains es x → subject_of x.key ≡ s → x.key.create < i)
+      → (y : FullElement) → Contains es' y → subject_of y.key ≡ s → y.key.create < i
+  shuts_made made y has about =
+      let (x, there, step) = shuts.back y has in
+      let key = (like s i x y step).key in
+      let before = made x there (ap subject_of (sym key) ∙ about) in
+      omega (arith, before, ap (λ (k : Key). k.create) key)
+
+  -- what is about other subjects stays
+  shuts_beside : (x : FullElement) → subject_of x.key ≢ s → Contains es' x ↔ Contains es x
+  shuts_beside x not = (back, on) where
+    back : Contains es' x → Contains es x
+    back has =
+        let (e, there, step) = shuts.back x has in
+        let other = λ (is : subject_of e.key ≡ s). not (ap subject_of (like s i e x step).key ∙ is) in
+        subst (Contains es) (sym (elsewhere_stays s i e x step other)) there
+
+    on : Contains es x → Contains es' x
+    on has =
+        let (f, there, step) = shuts.on x has in
+        subst (Contains es') (elsewhere_stays s i x f step not) there
+
+  -- the versions of the subject stay as old as they were
+  shuts_closed : IsFreshFor s i es → IsFreshFor s i es'
+  shuts_closed fresh = record {
+    made = shuts_made fresh.made;
+    closed = λ y has about.
+        let (x, there, step) = shuts.back y has in
+        let gone = fresh.closed x there (ap subject_of (sym (like s i x y step).key) ∙ about) in
+        elim (deleted s i x y step) [
+          | inl now ↦ omega (arith, now)
+          | inr was ↦ omega (arith, was, gone)
+        ];
+  }
+
+  -- all ids stay up to this one
+  shuts_up_to : IsBelow (i + 1) es → IsBelow (i + 1) es'
+  shuts_up_to below = record {
+    made = λ y has.
+        let (x, there, step) = shuts.back y has in
+        let made = below.made x there in
+        omega (arith, made, ap (λ (k : Key). k.create) (like s i x y step).key);
+    closed = λ y has.
+        let (x, there, step) = shuts.back y has in
+        let gone = below.closed x there in
+        elim (deleted s i x y step) [
+          | inl now ↦ omega (arith, now)
+          | inr was ↦ omega (arith, was, gone)
+        ];
+  }
+
+  shuts_came : (now : Option (List ℕ)) (y : FullElement) → Contains es' y → CameFrom s now i es y
+  shuts_came now y has =
+      let (x, there, step) = shuts.back y has in
+      let alike = like s i x y step in
+      inr (x, there, alike.key, alike.obj_type, alike.bytes)
+
+  -- no version that was closed is seen from the id on
+  shut_unseen : IsFreshFor s i es → (t : ℕ) → i ≤ t → (y : FullElement) → Contains es' y → subject_of y.key ≡ s → y.delete ≢ 0 → IsSeen t y → ⊥
+  shut_unseen fresh t late y has about gone seen =
+      let (x, there, step) = shuts.back y has in
+      let about' : subject_of x.key ≡ s = ap subject_of (sym (like s i x y step).key) ∙ about in
+      let before = fresh.closed x there about' in
+      elim seen.1 [
+        | inl open' ↦ gone open'
+        | inr later ↦ elim (deleted s i x y step) [
+          | inl now ↦ absurd (omega (arith, now, later))
+          | inr was ↦ absurd (omega (arith, was, later, before))
+        ]
+      ]
+
+none_some : (b : List ℕ) → None ≡ Some b → ⊥
+none_some b is = cc
+
+-- where no open version is left, nothing counts from the id on
+pub rewrites_shut : (s : Subject) (i : ℕ) (es es' : List FullElement) → Shuts s i es es' → IsFreshFor s i es
+    → ((y : FullElement) → Contains es' y → subject_of y.key ≡ s → y.delete ≢ 0) → Rewrites s None i es es'
+rewrites_shut s i es es' shuts fresh gone = record {
+  past = shuts_past s i es es' shuts;
+  present = λ t late. record {
+    about = λ bytes. (λ c. absurd (none t late bytes c), λ is. absurd (none_some bytes is));
+    elsewhere = λ other bytes not. shuts_elsewhere s i es es' shuts t other bytes not;
+  };
+  beside = shuts_beside s i es es' shuts;
+  closed = λ _ was. shuts_closed s i es es' shuts was;
+  up_to = shuts_up_to s i es es' shuts;
+  came = shuts_came s i es es' shuts None;
+} where
+  none : (t : ℕ) → i ≤ t → (bytes : List ℕ) → Counts es' t s bytes → ⊥
+  none t late bytes c = shut_unseen s i es es' shuts fresh t late c.element c.there c.about (gone c.element c.there c.about) c.seen
+
+-- ---- adding
+
+some_none : (a : List ℕ) → Some a ≡ None → ⊥
+some_none a is = cc
+
+same_some : (a b : List ℕ) → Some a ≡ Some b → a ≡ b
+same_some a b is = cc
+
+module _ (e : FullElement) (es es' : List FullElement) (adds : Adds e es es') where
+  adds_past : (t : ℕ) → t < e.key.create → CountSame (Counts es t) (Counts es' t)
+  adds_past t below s bytes = (shown s es' es t bytes back on, shown s es es' t bytes on back) where
+    on : Shows s t es es'
+    on x has about seen = (x, (adds x).1 (inr has), seen, refl, refl)
+
+    back : Shows s t es' es
+    back x has about seen = elim ((adds x).0 has) [
+      | inl new ↦ let made : e.key.create ≤ t = subst (λ (z : FullElement). z.key.create ≤ t) new seen.0 in absurd (omega (arith, made))
+      | inr old ↦ (x, old, seen, refl, refl)
+    ]
+
+  -- from its id on the new version counts, if it is the newest one of its subject
+  adds_present : (t : ℕ) → e.delete ≡ 0 → e.key.create ≤ t → ((x : FullElement) → Contains es x → subject_of x.key ≡ subject_of e.key → x.key.create < e.key.create)
+      → Overrides (subject_of e.key) (Some e.bytes) (Counts es t) (Counts es' t)
+  adds_present t open' late older = record {
+    about = λ bytes. (only bytes, λ is. counts bytes (same_some e.bytes bytes is));
+    elsewhere = λ other bytes not. (shown other es' es t bytes (back other not) (on other), shown other es es' t bytes (on other) (back other not));
+  } where
+    on : (other : Subject) → Shows other t es es'
+    on other x has about seen = (x, (adds x).1 (inr has), seen, refl, refl)
+
+    back : (other : Subject) → other ≢ subject_of e.key → Shows other t es' es
+    back other not x has about seen = elim ((adds x).0 has) [
+      | inl new ↦ absurd (not (sym about ∙ ap (λ (z : FullElement). subject_of z.key) new))
+      | inr old ↦ (x, old, seen, refl, refl)
+    ]
+
+    only : (bytes : List ℕ) → Counts es' t (subject_of e.key) bytes → Some e.bytes ≡ Some bytes
+    only bytes c = elim ((adds c.element).0 c.there) [
+      | inl new ↦ ap Some (ap (λ (z : FullElement). z.bytes) (sym new) ∙ c.holds)
+      | inr old ↦ absurd (omega (arith, older c.element old c.about, c.newest e ((adds e).1 (inl refl)) refl (late, inl open')))
+    ]
+
+    counts : (bytes : List ℕ) → e.bytes ≡ bytes → Counts es' t (subject_of e.key) bytes
+    counts bytes is = record {
+      element = e;
+      there = (adds e).1 (inl refl);
+      about = refl;
+      holds = is;
+      seen = (late, inl open');
+      newest = λ other has about seen. elim ((adds other).0 has) [
+        | inl new ↦ omega (arith, ap (λ (z : FullElement). z.key.create) new)
+        | inr old ↦ omega (arith, older other old about)
+      ];
+    }
+
+  adds_beside : (x : FullElement) → subject_of x.key ≢ subject_of e.key → Contains es' x ↔ Contains es x
+  adds_beside x not = (
+    λ has. elim ((adds x).0 has) [
+      | inl new ↦ absurd (not (ap (λ (z : FullElement). subject_of z.key) new))
+      | inr old ↦ old
+    ],
+    λ has. (adds x).1 (inr has),
+  )
+
+  adds_up_to : e.delete ≡ 0 → IsBelow (e.key.create + 1) es → IsBelow (e.key.create + 1) es'
+  adds_up_to open' below = record {
+    made = λ x has. elim ((adds x).0 has) [
+      | inl new ↦ omega (arith, ap (λ (z : FullElement). z.key.create) new)
+      | inr old ↦ below.made x old
+    ];
+    closed = λ x has. elim ((adds x).0 has) [
+      | inl new ↦ omega (arith, ap (λ (z : FullElement). z.delete) new)
+      | inr old ↦ below.closed x old
+    ];
+  }
+
+  -- an element of the new list, where those of the old one came from an older one
+  adds_came : (was : List FullElement) → ((x : FullElement) → Contains es x → CameFrom (subject_of e.key) (Some e.bytes) e.key.create was x)
+      → (x : FullElement) → Contains es' x → CameFrom (subject_of e.key) (Some e.bytes) e.key.create was x
+  adds_came was came x has = elim ((adds x).0 has) [
+    | inl new ↦
+        inl (ap (λ (z : FullElement). subject_of z.key) new, ap (λ (z : FullElement). z.key.create) new, ap (λ (z : FullElement). Some z.bytes) (sym new))
+    | inr old ↦ came x old
+  ]
+
+-- some open versions were closed as a new one was made
+pub rewrites_added : (e : FullElement) (es mid es' : List FullElement) → Shuts (subject_of e.key) e.key.create es mid → Adds e mid es' → e.delete ≡ 0
+    → IsFreshFor (subject_of e.key) e.key.create es → Rewrites (subject_of e.key) (Some e.bytes) e.key.create es es'
+rewrites_added e es mid es' shuts adds open' fresh = record {
+  past = λ t below s bytes.
+      let first = shuts_past (subject_of e.key) e.key.create es mid shuts t below s bytes in
+      let second = adds_past e mid es' adds t below s bytes in
+      (λ c. first.0 (second.0 c), λ c. second.1 (first.1 c));
+  present = λ t late.
+      let now = adds_present e mid es' adds t open' late (shuts_made (subject_of e.key) e.key.create es mid shuts fresh.made) in
+      record {
+        about = now.about;
+        elsewhere = λ other bytes not.
+            let first = shuts_elsewhere (subject_of e.key) e.key.create es mid shuts t other bytes not in
+            let second = now.elsewhere other bytes not in
+            (λ c. first.0 (second.0 c), λ c. second.1 (first.1 c));
+      };
+  beside = λ x not.
+      let first = shuts_beside (subject_of e.key) e.key.create es mid shuts x not in
+      let second = adds_beside e mid es' adds x not in
+      (λ has. first.0 (second.0 has), λ has. second.1 (first.1 has));
+  closed = λ is. absurd (some_none e.bytes is);
+  up_to = λ below. adds_up_to e mid es' adds open' (shuts_up_to (subject_of e.key) e.key.create es mid shuts below);
+  came = adds_came e mid es' adds es (shuts_came (subject_of e.key) e.key.create es mid shuts (Some e.bytes));
+}

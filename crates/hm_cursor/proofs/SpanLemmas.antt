@@ -1,0 +1,130 @@
+-- Spans of keys of one object and type, by searches in a list in order.
+use Rattle.std.proofs.Common.{◌≡◌, ℕ, ◌+◌, ◌≤◌, ◌<◌, List, Option, Some, None, ap, sym, ◌∙◌, subst, arith, inl, inr}
+use Rattle.std.specs.Prelude.{◌⊎◌}
+use Rattle.std.specs.List.{Contains}
+use Rattle.hm_types.specs.Elements.{Key}
+use Rattle.hm_key.specs.Counts.{Subject, subject_of}
+use Rattle.hm_key.specs.Elements.{element_key, first_from}
+use Rattle.hm_key.specs.Key.{IsFrom}
+use Rattle.hm_key.specs.declared.element.Element.{Element}
+use Rattle.hm_key.proofs.KeyLemmas.{key_from_fields}
+use Rattle.hm_retain.proofs.SetLemmas.{less_or_not}
+use Rattle.hm_cursor.specs.Version.{AreOfOneKind, IsFirst, IsFirstIn, IsFirstMadeOf, IsFoundAbout, IsFoundIn, IsInSpan, IsNewestOf, IsSeenAbout, IsSeenIn, IsVersion}
+use Rattle.hm_cursor.proofs.KeyLemmas.{create_rises, key_rises, kind_between, kind_same, subject_same}
+use Rattle.hm_cursor.proofs.SearchLemmas.{IsFirstFrom, found_none}
+use Rattle.hm_cursor.proofs.VersionLemmas.{first_before}
+
+-- where the elements with a number stand, of the object and the type of a key
+abbrev pub span_start : Key → ℕ → Key
+span_start at key = record at { key = key; create = 0 }
+
+-- what is seen in a span has at least this number
+abbrev pub NoneBelow : List Element → Key → ℕ → ℕ → ℕ → Type 0
+NoneBelow es at last t key = (e : Element) → Contains es e → IsSeenIn at last t e → key ≤ e.base.key
+
+-- a key in a span is from the start of the numbers on that are not above its own
+start_from : (at : Key) (last key : ℕ) (k : Key) → IsInSpan at last k → key ≤ k.key → IsFrom (span_start at key) k
+start_from at last key k place up =
+    key_from_fields (span_start at key) k (omega (arith, place.localization)) (omega (arith, place.obj)) (omega (arith, place.rec_type)) up (omega arith)
+
+-- a key of that kind from the start of the numbers on has one of them
+pub number_from : (at : Key) (key : ℕ) (k : Key) → AreOfOneKind k at → IsFrom (span_start at key) k → key ≤ k.key
+number_from at key k kind = key_rises (span_start at key) k (record { localization = sym kind.localization; obj = sym kind.obj; rec_type = sym kind.rec_type })
+
+-- nothing is seen in a span that is passed
+pub span_over : (es : List Element) (at : Key) (last t key : ℕ) → last < key → NoneBelow es at last t key → IsFirst es at last t None
+span_over es at last t key past below e has seen = let up = below e has seen in let to = seen.place.to in absurd (omega arith)
+
+-- nothing is seen in a span from which on there is nothing
+pub span_empty : (es : List Element) (at : Key) (last t key : ℕ) → first_from (span_start at key) es ≡ None → NoneBelow es at last t key → IsFirst es at last t None
+span_empty es at last t key found below e has seen = start_from at last key (element_key e) seen.place (below e has seen) (found_none (span_start at key) es found e has)
+
+module _ (es : List Element) (at : Key) (last t key : ℕ) (oldest : Element) (search : IsFirstFrom es (span_start at key) oldest) where
+  -- what is seen in the span is not before the first element of it
+  after_first : NoneBelow es at last t key → (e : Element) → Contains es e → IsSeenIn at last t e → IsFrom (element_key oldest) (element_key e)
+  after_first below e has seen = first_before es (span_start at key) oldest e search has (start_from at last key (element_key e) seen.place (below e has seen))
+
+  -- nothing is seen in a span where what a search finds is outside of it
+  pub span_outside : ((AreOfOneKind (element_key oldest) at → ⊥) ⊎ (last < oldest.base.key)) → NoneBelow es at last t key → IsFirst es at last t None
+  span_outside outside below e has seen =
+      let after = after_first below e has seen in
+      let place = seen.place in
+      let kind : AreOfOneKind (span_start at key) (element_key e) = record { localization = sym place.localization; obj = sym place.obj; rec_type = sym place.rec_type } in
+      let between = kind_between (span_start at key) (element_key oldest) (element_key e) kind search.from after in
+      elim outside [
+        | inl unlike ↦ unlike (record {
+          localization = between.localization ∙ place.localization;
+          obj = between.obj ∙ place.obj;
+          rec_type = between.rec_type ∙ place.rec_type;
+        })
+        | inr past ↦ let up = key_rises (element_key oldest) (element_key e) between after in let to = place.to in absurd (omega arith)
+      ]
+
+  module _ (kind : AreOfOneKind (element_key oldest) at) where
+    -- its number is not below the one that the search began at
+    first_number : key ≤ oldest.base.key
+    first_number = number_from at key (element_key oldest) kind search.from
+
+    -- the first element of a span is the oldest version of what it is about
+    pub span_oldest : IsFirstMadeOf es (subject_of (element_key oldest)) 0 oldest
+    span_oldest = record {
+      there = search.there;
+      first = λ other has about later.
+          let alike = kind_same (element_key other) (element_key oldest) about in
+          let number : other.base.key ≡ oldest.base.key = ap (λ (s : Subject). s.key) about in
+          let least = first_number in
+          let from = key_from_fields (span_start at key) (element_key other)
+          (omega (arith, kind.localization, alike.localization)) (omega (arith, kind.obj, alike.obj)) (omega (arith, kind.rec_type, alike.rec_type)) (omega arith) (omega arith) in
+          create_rises (element_key oldest) (element_key other) about (first_before es (span_start at key) oldest other search has from);
+    }
+
+    -- numbers do not fall from it on
+    up_from : NoneBelow es at last t key → (e : Element) → Contains es e → IsSeenIn at last t e → oldest.base.key ≤ e.base.key
+    up_from below e has seen =
+        let place = seen.place in
+        let alike : AreOfOneKind (element_key oldest) (element_key e) = record {
+          localization = kind.localization ∙ sym place.localization;
+          obj = kind.obj ∙ sym place.obj;
+          rec_type = kind.rec_type ∙ sym place.rec_type;
+        } in
+        key_rises (element_key oldest) (element_key e) alike (after_first below e has seen)
+
+    -- where none of its versions is seen, what is seen has a greater number
+    pub span_passed : IsVersion es (subject_of (element_key oldest)) t None → NoneBelow es at last t key → NoneBelow es at last t (oldest.base.key + 1)
+    span_passed none below e has seen = elim (less_or_not oldest.base.key e.base.key) [
+      | inl above ↦ omega arith
+      | inr here ↦
+          let up = up_from below e has seen in
+          let place = seen.place in
+          absurd (none e has (record {
+            about = subject_same (element_key e) (element_key oldest)
+                (record { localization = place.localization ∙ sym kind.localization; obj = place.obj ∙ sym kind.obj; rec_type = place.rec_type ∙ sym kind.rec_type })
+                (omega arith);
+            seen = seen.seen;
+          }))
+    ]
+
+    -- a version of what it is about stands in the span
+    place_of : at.key ≤ key → oldest.base.key ≤ last → (e : Element) → subject_of (element_key e) ≡ subject_of (element_key oldest) → IsInSpan at last (element_key e)
+    place_of low high e about =
+        let alike = kind_same (element_key e) (element_key oldest) about in
+        let number : e.base.key ≡ oldest.base.key = ap (λ (s : Subject). s.key) about in
+        let least = first_number in
+        record {
+          localization = alike.localization ∙ kind.localization;
+          obj = alike.obj ∙ kind.obj;
+          rec_type = alike.rec_type ∙ kind.rec_type;
+          from = omega arith;
+          to = omega arith;
+        }
+
+    -- the version that counts there is the first of the span
+    pub span_first : at.key ≤ key → oldest.base.key ≤ last → (e : Element) → IsNewestOf es (subject_of (element_key oldest)) t e → NoneBelow es at last t key → IsFirstIn es at last t e
+    span_first low high e counts below =
+        let about = counts.version.about in
+        let number : e.base.key ≡ oldest.base.key = ap (λ (s : Subject). s.key) about in
+        record {
+          counts = subst (λ (s : Subject). IsNewestOf es s t e) (sym about) counts;
+          place = place_of low high e about;
+          first = λ other has seen. let up = up_from below other has seen in omega arith;
+        }

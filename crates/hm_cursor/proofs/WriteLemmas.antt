@@ -1,0 +1,180 @@
+-- What writing calls do to a store, over what it may tell.
+use Rattle.std.proofs.Common.{◌≡◌, ◌≢◌, ℕ, ◌+◌, ◌<◌, ◌≤◌, List, [], ◌∷◌, true, false, true≢false, Bool, Option, Some, None, refl, ap, sym, subst, ◌∙◌, inl, inr, arith, length}
+use Rattle.std.specs.Prelude.{◌⊎◌, ◌==◌, if◌then◌else◌, IfSome, IsNone, IsSomeAnd, OnOk, Result, Ok, Err, is_some, option_map}
+use Rattle.std.specs.List.{AllByRecursion, Contains}
+use Rattle.std.proofs.lemmas.Bool.{eqb-true, eqb-false}
+use Rattle.std.proofs.lemmas.List.Elements.{recursion_from_All}
+use Rattle.hm_types.specs.Elements.{FullElement, Key}
+use Rattle.hm_types.specs.Told.{BothTell}
+use Rattle.hm_key.specs.Balance.{Balanced, IsBalanced, content_of, full_of}
+use Rattle.hm_key.specs.Counts.{Subject, subject_of}
+use Rattle.hm_key.specs.Elements.{IsContent, closed_at, element_at, element_key, inserted, stands_at, with_delete}
+use Rattle.hm_key.specs.Extents.{AreExtents, Extent, PlacesAt}
+use Rattle.hm_key.specs.Key.{key_of}
+use Rattle.hm_key.specs.Stores.{ElementsChange, ExtentsChange}
+use Rattle.hm_key.specs.Versions.{Adds}
+use Rattle.hm_key.specs.declared.base.Base.{Base}
+use Rattle.hm_key.specs.declared.element.Element.{Element}
+use Rattle.hm_key.proofs.AddLemmas.{balanced_added}
+use Rattle.hm_key.proofs.ElementLemmas.{each_changed}
+use Rattle.hm_records.proofs.MemberLemmas.{All-from_has, has_map, map_has}
+use Rattle.hm_cursor.specs.Told.{fulls}
+use Rattle.hm_cursor.specs.Version.{IsFirstMade}
+use Rattle.hm_cursor.specs.Write.{ClosesIfOpen, IsFresh, IsFreshFor, Rewrites, Writes, full_with}
+use Rattle.hm_cursor.proofs.RewriteLemmas.{Shuts, rewrites_added, rewrites_shut, shuts_made, shuts_none, shuts_twice}
+use Rattle.hm_cursor.proofs.FullLemmas.{adds_placed, balanced_closed, closed_has, element_at-changed, element_at-has, has-element_at, shuts_closed}
+
+-- what became of balanced lists that are told: others, balanced too, with this change of the full elements
+abbrev pub Became : (List FullElement → List FullElement → Type 0) → Option (List Element) → Option (List Extent) → Option (List Element) → Option (List Extent) → Type 0
+Became Change es xs es' xs' =
+    IfSome (content_of es xs) (λ was. IsBalanced was.0 was.1
+    → IsSomeAnd (content_of es' xs') (λ now. IsBalanced now.0 now.1 × Change (fulls was) (fulls now)))
+
+-- ---- one more element
+
+-- an element with this base, whose payload stands at this place and is so long
+abbrev placed_element : Base → ℕ → ℕ → Element
+placed_element base at len = record { base = base; payload = at; len = len }
+
+added : (base : Base) (bytes : List ℕ) (at : ℕ) (es mid_es new_es : Option (List Element)) (xs mid_xs new_xs : Option (List Extent)) → mid_es ≡ es
+    → BothTell xs mid_xs (PlacesAt at bytes) → new_es ≡ option_map (inserted (placed_element base at (length bytes))) mid_es → new_xs ≡ mid_xs
+    → IfSome mid_xs AreExtents → 1 ≤ length bytes → Became (Adds (full_with base bytes)) es xs new_es new_xs
+added base bytes at None mid_es new_es xs mid_xs new_xs kept placed list others live some = tt
+added base bytes at (Some es) mid_es new_es None mid_xs new_xs kept placed list others live some = tt
+added base bytes at (Some es) mid_es new_es (Some xs) None new_xs kept placed list others live some = absurd placed
+added base bytes at (Some es) mid_es new_es (Some xs) (Some ys) new_xs kept placed list others live some = λ balanced. rw (list, kept, others) (
+  balanced_added (placed_element base at (length bytes)) es xs ys bytes placed some refl live balanced,
+  adds_placed (placed_element base at (length bytes)) es xs ys bytes placed some refl live balanced,
+)
+
+pub inserted_ok : {S A E : Type 0} (elements_of : S → Option (List Element)) (mark_of : S → Key → ℕ) (extents_of : S → Option (List Extent)) (base : Base) (bytes : List ℕ) (at : ℕ)
+    (Marked : (Key → ℕ) → (Key → ℕ) → Type 0) (old mid new : S) (result : Result A E) → ExtentsChange elements_of mark_of extents_of (PlacesAt at bytes) old mid
+    → OnOk result (ElementsChange elements_of mark_of extents_of (inserted (placed_element base at (length bytes))) Marked mid new) → IfSome (extents_of mid) AreExtents
+    → 1 ≤ length bytes → OnOk result (Writes elements_of extents_of (Adds (full_with base bytes)) old new)
+inserted_ok elements_of mark_of extents_of base bytes at Marked old mid new (Err error) placed done live some = tt
+inserted_ok elements_of mark_of extents_of base bytes at Marked old mid new (Ok value) placed done live some =
+    added base bytes at (elements_of old) (elements_of mid) (elements_of new) (extents_of old) (extents_of mid) (extents_of new) placed.elements placed.extents
+    done.elements done.extents live some
+
+-- ---- a key that no element has
+
+none_at : (at : Key) (es : List Element) → ((x : Element) → Contains es x → element_key x ≢ at) → IsNone (element_at at es)
+none_at at es lacks = by_found (element_at at es) refl where
+  by_found : (o : Option Element) → element_at at es ≡ o → IsNone o
+  by_found None is = refl
+  by_found (Some e) is = let found = element_at-has at e es is in absurd (lacks e found.0 found.1)
+
+-- where all versions of a subject are older, none has a key
+older_lacks : (at : Key) (es : List Element) (xs : List Extent) → IsFreshFor (subject_of at) at.create (fulls (es, xs)) → (x : Element) → Contains es x → element_key x ≢ at
+older_lacks at es xs fresh x has same =
+    let made = fresh.made (full_of xs x) (has_map (full_of xs) es x has) (ap subject_of same) in
+    omega (arith, made, ap (λ (k : Key). k.create) same)
+
+pub fresh_lacks : (at : Key) (es : Option (List Element)) (xs : Option (List Extent)) → is_some xs ≡ is_some es → IsFresh es xs (subject_of at) at.create
+    → IfSome es (λ list. IsNone (element_at at list))
+fresh_lacks at None xs together fresh = tt
+fresh_lacks at (Some es) None together fresh = absurd (true≢false (sym together))
+fresh_lacks at (Some es) (Some xs) together fresh = none_at at es (older_lacks at es xs fresh)
+
+-- ---- the element at a key is closed
+
+-- an open element stands at a key
+abbrev pub IsOpenAt : Key → List Element → Type 0
+IsOpenAt at es = IsSomeAnd (element_at at es) (λ e. e.base.delete ≡ 0)
+
+module _ (at : Key) (i : ℕ) where
+  became_closed_list : (es : List Element) (xs : List Extent) → IsOpenAt at es → IsBalanced es xs
+      → IsBalanced (with_delete at i es) xs × Shuts (subject_of at) i (fulls (es, xs)) (fulls (with_delete at i es, xs))
+  became_closed_list es xs open' balanced = by_found (element_at at es) refl open' where
+    by_found : (o : Option Element) → element_at at es ≡ o → IsSomeAnd o (λ e. e.base.delete ≡ 0)
+        → IsBalanced (with_delete at i es) xs × Shuts (subject_of at) i (fulls (es, xs)) (fulls (with_delete at i es, xs))
+    by_found None is open' = absurd open'
+    by_found (Some e) is open' = (balanced_closed at i es xs balanced, shuts_closed at i e es xs is open')
+
+  pub became_closed : (es es' : Option (List Element)) (xs xs' : Option (List Extent)) → es' ≡ option_map (with_delete at i) es → xs' ≡ xs → IfSome es (IsOpenAt at)
+      → Became (Shuts (subject_of at) i) es xs es' xs'
+  became_closed None es' xs xs' list others open' = tt
+  became_closed (Some es) es' None xs' list others open' = tt
+  became_closed (Some es) es' (Some xs) xs' list others open' = λ balanced. rw (list, others) (became_closed_list es xs open' balanced)
+
+  pub still_balanced : (es es' : Option (List Element)) (xs xs' : Option (List Extent)) → es' ≡ option_map (with_delete at i) es → xs' ≡ xs → Balanced es xs → Balanced es' xs'
+  still_balanced None es' xs xs' list others balanced = rw list tt
+  still_balanced (Some es) es' None xs' list others balanced = rw (list, others) tt
+  still_balanced (Some es) es' (Some xs) xs' list others balanced = rw (list, others) (balanced_closed at i es xs balanced)
+
+  -- a key that no element had none has
+  closed_lacks : (new : Key) (es : List Element) → IsOpenAt at es → ((x : Element) → Contains es x → element_key x ≢ new)
+      → (x : Element) → Contains (with_delete at i es) x → element_key x ≢ new
+  closed_lacks new es open' lacks x has = by_found (element_at at es) refl open' where
+    by_found : (o : Option Element) → element_at at es ≡ o → IsSomeAnd o (λ e. e.base.delete ≡ 0) → element_key x ≢ new
+    by_found None is open' = absurd open'
+    by_found (Some e) is open' = elim (closed_has at i e x es is has) [
+      | inl old ↦ lacks x old
+      | inr now ↦ λ same. lacks e (element_at-has at e es is).0 (ap element_key (sym now) ∙ same)
+    ]
+
+  pub fresh_lacks_closed : (new : Key) (es es' : Option (List Element)) (xs : Option (List Extent)) → is_some xs ≡ is_some es → es' ≡ option_map (with_delete at i) es
+      → IfSome es (IsOpenAt at) → IsFresh es xs (subject_of new) new.create → IfSome es' (λ list. IsNone (element_at new list))
+  fresh_lacks_closed new None es' xs together list open' fresh = rw list tt
+  fresh_lacks_closed new (Some es) es' None together list open' fresh = absurd (true≢false (sym together))
+  fresh_lacks_closed new (Some es) es' (Some xs) together list open' fresh =
+      rw list (none_at new (with_delete at i es) (closed_lacks new es open' (older_lacks new es xs fresh)))
+
+-- ---- a new version
+
+pub became_none : (s : Subject) (i : ℕ) (es : Option (List Element)) (xs : Option (List Extent)) → Became (Shuts s i) es xs es xs
+became_none s i None xs = tt
+became_none s i (Some es) None = tt
+became_none s i (Some es) (Some xs) = λ balanced. (balanced, shuts_none s i (fulls (es, xs)))
+
+renewed : (base : Base) (bytes : List ℕ) (es mid_es new_es : Option (List Element)) (xs mid_xs new_xs : Option (List Extent)) → base.delete ≡ 0
+    → IsFresh es xs (subject_of (key_of base)) base.create → Became (Shuts (subject_of (key_of base)) base.create) es xs mid_es mid_xs
+    → Became (Adds (full_with base bytes)) mid_es mid_xs new_es new_xs → Became (Rewrites (subject_of (key_of base)) (Some bytes) base.create) es xs new_es new_xs
+renewed base bytes None mid_es new_es xs mid_xs new_xs open' fresh first second = tt
+renewed base bytes (Some es) mid_es new_es None mid_xs new_xs open' fresh first second = tt
+renewed base bytes (Some es) mid_es new_es (Some xs) mid_xs new_xs open' fresh first second =
+    λ balanced. by_content (content_of mid_es mid_xs) (content_of new_es new_xs) (first balanced) second where
+      by_content : (mid new : Option (List Element × List Extent))
+          → IsSomeAnd mid (λ now. IsBalanced now.0 now.1 × Shuts (subject_of (key_of base)) base.create (fulls (es, xs)) (fulls now))
+          → IfSome mid (λ was. IsBalanced was.0 was.1 → IsSomeAnd new (λ now. IsBalanced now.0 now.1 × Adds (full_with base bytes) (fulls was) (fulls now)))
+          → IsSomeAnd new (λ now. IsBalanced now.0 now.1 × Rewrites (subject_of (key_of base)) (Some bytes) base.create (fulls (es, xs)) (fulls now))
+      by_content None new first second = absurd first
+      by_content (Some mid) None first second = absurd (second first.0)
+      by_content (Some mid) (Some now) first second =
+          let done = second first.0 in (done.0, rewrites_added (full_with base bytes) (fulls (es, xs)) (fulls mid) (fulls now) first.1 done.1 open' fresh)
+
+module _ {S A E : Type 0} (elements_of : S → Option (List Element)) (extents_of : S → Option (List Extent)) (base : Base) (bytes : List ℕ) where
+  -- some open versions were closed, and one was added
+  pub renewed_ok : (old mid new : S) (result : Result A E) → base.delete ≡ 0 → IsFresh (elements_of old) (extents_of old) (subject_of (key_of base)) base.create
+      → Writes elements_of extents_of (Shuts (subject_of (key_of base)) base.create) old mid
+      → OnOk result (Writes elements_of extents_of (Adds (full_with base bytes)) mid new)
+      → OnOk result (Writes elements_of extents_of (Rewrites (subject_of (key_of base)) (Some bytes) base.create) old new)
+  renewed_ok old mid new (Err error) open' fresh first second = tt
+  renewed_ok old mid new (Ok value) open' fresh first second =
+      renewed base bytes (elements_of old) (elements_of mid) (elements_of new) (extents_of old) (extents_of mid) (extents_of new) open' fresh first second
+
+  pub added_ok : (old new : S) (result : Result A E) → base.delete ≡ 0 → IsFresh (elements_of old) (extents_of old) (subject_of (key_of base)) base.create
+      → OnOk result (Writes elements_of extents_of (Adds (full_with base bytes)) old new)
+      → OnOk result (Writes elements_of extents_of (Rewrites (subject_of (key_of base)) (Some bytes) base.create) old new)
+  added_ok old new result open' fresh added =
+      renewed_ok old old new result open' fresh (became_none (subject_of (key_of base)) base.create (elements_of old) (extents_of old)) added
+
+-- ---- an older version is closed
+
+-- a version that is there is older than an id that all versions of its subject are older than
+pub there_older : (at : Key) (i : ℕ) (s : Subject) (es : Option (List Element)) (xs : Option (List Extent)) → is_some xs ≡ is_some es → subject_of at ≡ s
+    → IfSome es (IsOpenAt at) → IsFresh es xs s i → IfSome es (λ _. at.create < i)
+there_older at i s None xs together about open' fresh = tt
+there_older at i s (Some es) None together about open' fresh = absurd (true≢false (sym together))
+there_older at i s (Some es) (Some xs) together about open' fresh = by_found (element_at at es) refl open' where
+  by_found : (o : Option Element) → element_at at es ≡ o → IsSomeAnd o (λ e. e.base.delete ≡ 0) → at.create < i
+  by_found None is open' = absurd open'
+  by_found (Some e) is open' =
+      let found = element_at-has at e es is in
+      let made = fresh.made (full_of xs e) (has_map (full_of xs) es e found.0) (ap subject_of found.1 ∙ about) in
+      omega (arith, made, ap (λ (k : Key). k.create) found.1)
+
+-- where nothing is told, nothing changes in what is told
+pub untold_stays : (at : Key) (i : ℕ) (es : Option (List Element)) → IfSome es (λ _. at.create < i) → i ≤ at.create → es ≡ option_map (with_delete at i) es
+untold_stays at i None older not = refl
+untold_stays at i (Some es) older not = absurd (omega (arith, older, not))

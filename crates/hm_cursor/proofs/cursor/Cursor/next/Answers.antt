@@ -1,0 +1,1 @@
+use Rattle.hm_cursor.proofs.cursor.Cursor.next.Goals as goal

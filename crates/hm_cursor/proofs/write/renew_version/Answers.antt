@@ -1,0 +1,33 @@
+use Rattle.std.proofs.Common.{subst}
+use Rattle.hm_key.specs.Counts.{Subject, subject_of}
+use Rattle.hm_key.specs.Key.{key_of}
+use Rattle.hm_cursor.specs.Write.{Writes}
+use Rattle.hm_cursor.proofs.RewriteLemmas.{Shuts}
+use Rattle.hm_cursor.proofs.WriteLemmas.{became_closed, fresh_lacks_closed, renewed_ok, still_balanced, there_older}
+use Rattle.hm_cursor.proofs.write.renew_version.Goals as goal
+
+pub insert_with_payload-requires-clause-balanced : goal.insert_with_payload-requires-clause-balanced
+insert_with_payload-requires-clause-balanced g c = let done = c.in_ok-close_older.ensures.ok in
+    still_balanced (key_of c.args.old.now) c.args.base.now.create (g.T.HasElements.elements c.args.store.now) (g.T.HasElements.elements c.close_older.new.store)
+    (g.T.HasRoom.extents c.args.store.now) (g.T.HasRoom.extents c.close_older.new.store) done.elements done.extents c.requires.balanced
+
+pub insert_with_payload-requires-clause-lacks : goal.insert_with_payload-requires-clause-lacks
+insert_with_payload-requires-clause-lacks g c =
+    fresh_lacks_closed (key_of c.args.old.now) c.args.base.now.create (key_of c.args.base.now) (g.T.HasElements.elements c.args.store.now)
+    (g.T.HasElements.elements c.close_older.new.store) (g.T.HasRoom.extents c.args.store.now) (g.met.T.Extents.together c.args.store.now)
+    c.in_ok-close_older.ensures.ok.elements c.requires.there c.requires.fresh
+
+pub returns-clause-ok : goal.returns-clause-ok
+returns-clause-ok g c =
+    let done = c.in_ok-close_older.ensures.ok in
+    let closed = became_closed (key_of c.args.old.now) c.args.base.now.create (g.T.HasElements.elements c.args.store.now) (g.T.HasElements.elements c.close_older.new.store)
+    (g.T.HasRoom.extents c.args.store.now) (g.T.HasRoom.extents c.close_older.new.store) done.elements done.extents c.requires.there in
+    renewed_ok g.T.HasElements.elements g.T.HasRoom.extents c.args.base.now c.args.bytes.now c.args.store.now c.close_older.new.store c.insert_with_payload.new.store
+    c.insert_with_payload.result c.requires.new.unclosed c.requires.fresh
+    (subst (λ (s : Subject). Writes g.T.HasElements.elements g.T.HasRoom.extents (Shuts s c.args.base.now.create) c.args.store.now c.close_older.new.store) c.requires.about closed)
+    c.insert_with_payload.ensures.ok
+
+pub close_older-requires-clause-older : goal.close_older-requires-clause-older
+close_older-requires-clause-older g c =
+    there_older (key_of c.args.old.now) c.args.base.now.create (subject_of (key_of c.args.base.now)) (g.T.HasElements.elements c.args.store.now)
+    (g.T.HasRoom.extents c.args.store.now) (g.met.T.Extents.together c.args.store.now) c.requires.about c.requires.there c.requires.fresh

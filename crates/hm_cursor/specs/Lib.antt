@@ -1,0 +1,5 @@
+pub mod Shown
+pub mod Version
+pub mod Read
+pub mod Told
+pub mod Write

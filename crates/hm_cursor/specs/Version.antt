@@ -1,0 +1,105 @@
+-- Which element counts about a subject, as of an id.
+use Rattle.std.specs.Prelude.{◌≡◌, ℕ, ◌≤◌, List, Option, None, Some, IfSome}
+use Rattle.std.specs.List.{Contains}
+use Rattle.hm_types.specs.Elements.{Key, Sees}
+use Rattle.hm_key.specs.Counts.{Subject, subject_of}
+use Rattle.hm_key.specs.Element.{IsElement}
+use Rattle.hm_key.specs.Elements.{element_key}
+use Rattle.hm_key.specs.declared.element.Element.{Element}
+
+-- an element is a version of a subject that is seen as of `t`
+pub record IsSeenAbout (s : Subject) (t : ℕ) (e : Element) : Type 0 where
+  pub about : subject_of (element_key e) ≡ s
+  pub seen : Sees e.base.create e.base.delete t
+
+-- of the versions of a subject that are seen this is the newest
+pub record IsNewestOf (es : List Element) (s : Subject) (t : ℕ) (e : Element) : Type 0 where
+  pub there : Contains es e
+  pub version : IsSeenAbout s t e
+  pub newest : (other : Element) → Contains es other → IsSeenAbout s t other → other.base.create ≤ e.base.create
+
+-- the version that counts: the newest one that is seen, and none exactly where none is seen
+abbrev pub IsVersion : List Element → Subject → ℕ → Option Element → Type 0
+IsVersion es s t None = (e : Element) → Contains es e → IsSeenAbout s t e → ⊥
+IsVersion es s t (Some e) = IsNewestOf es s t e
+
+-- an element that may be answered as the version that counts, over any store
+pub record IsFoundAbout (s : Subject) (t : ℕ) (e : Element) : Type 0 where
+  pub element : IsElement e
+  pub version : IsSeenAbout s t e
+
+-- a key is about the object and of the type of another one, and has a number from that one's to `last`
+pub record IsInSpan (at : Key) (last : ℕ) (key : Key) : Type 0 where
+  pub localization : key.localization ≡ at.localization
+  pub obj : key.obj ≡ at.obj
+  pub rec_type : key.rec_type ≡ at.rec_type
+  pub from : at.key ≤ key.key
+  pub to : key.key ≤ last
+
+-- an element in such a span is seen as of `t`
+pub record IsSeenIn (at : Key) (last t : ℕ) (e : Element) : Type 0 where
+  pub place : IsInSpan at last (element_key e)
+  pub seen : Sees e.base.create e.base.delete t
+
+-- of the elements in a span that count this is the first
+pub record IsFirstIn (es : List Element) (at : Key) (last t : ℕ) (e : Element) : Type 0 where
+  pub counts : IsNewestOf es (subject_of (element_key e)) t e
+  pub place : IsInSpan at last (element_key e)
+  pub first : (other : Element) → Contains es other → IsSeenIn at last t other → e.base.key ≤ other.base.key
+
+-- the first element in a span that counts, and none exactly where none is seen there
+abbrev pub IsFirst : List Element → Key → ℕ → ℕ → Option Element → Type 0
+IsFirst es at last t None = (e : Element) → Contains es e → IsSeenIn at last t e → ⊥
+IsFirst es at last t (Some e) = IsFirstIn es at last t e
+
+-- an element that may be answered as the first one in a span, over any store
+pub record IsFoundIn (at : Key) (last t : ℕ) (e : Element) : Type 0 where
+  pub element : IsElement e
+  pub seen : IsSeenIn at last t e
+
+-- an element is a version of a subject that was made from one id to another
+pub record IsMadeIn (s : Subject) (create last : ℕ) (e : Element) : Type 0 where
+  pub element : IsElement e
+  pub about : subject_of (element_key e) ≡ s
+  pub from : create ≤ e.base.create
+  pub to : e.base.create ≤ last
+
+-- of the versions of a subject that were made from an id on this is the first
+pub record IsFirstMadeOf (es : List Element) (s : Subject) (create : ℕ) (e : Element) : Type 0 where
+  pub there : Contains es e
+  pub first : (other : Element) → Contains es other → subject_of (element_key other) ≡ s → create ≤ other.base.create
+      → e.base.create ≤ other.base.create
+
+-- the first version of a subject that was made from one id to another, and none exactly where there is none
+abbrev pub IsFirstMade : List Element → Subject → ℕ → ℕ → Option Element → Type 0
+IsFirstMade es s create last None =
+    (e : Element) → Contains es e → subject_of (element_key e) ≡ s → create ≤ e.base.create → e.base.create ≤ last → ⊥
+IsFirstMade es s create last (Some e) = IsFirstMadeOf es s create e
+
+-- of the versions of a subject that were made by `t` this is the newest
+pub record IsNewestMade (es : List Element) (s : Subject) (t : ℕ) (e : Element) : Type 0 where
+  pub there : Contains es e
+  pub newest : (other : Element) → Contains es other → subject_of (element_key other) ≡ s → other.base.create ≤ t
+      → other.base.create ≤ e.base.create
+
+-- an element is the oldest version of what it is about, over a store that may tell its elements
+pub record IsOldest (told : Option (List Element)) (e : Element) : Type 0 where
+  pub element : IsElement e
+  pub first : IfSome told (λ es. IsFirstMadeOf es (subject_of (element_key e)) 0 e)
+
+-- it is, and was made by `t`
+pub record IsOldestBy (told : Option (List Element)) (t : ℕ) (e : Element) : Type 0 where
+  pub oldest : IsOldest told e
+  pub made : e.base.create ≤ t
+
+-- an element was made by `t`, and stands in a store that may tell its elements
+pub record IsKnownBy (told : Option (List Element)) (t : ℕ) (e : Element) : Type 0 where
+  pub element : IsElement e
+  pub there : IfSome told (λ es. Contains es e)
+  pub made : e.base.create ≤ t
+
+-- two keys are about one object of one localization, and of one type
+pub record AreOfOneKind (a b : Key) : Type 0 where
+  pub localization : a.localization ≡ b.localization
+  pub obj : a.obj ≡ b.obj
+  pub rec_type : a.rec_type ≡ b.rec_type

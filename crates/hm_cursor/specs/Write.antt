@@ -1,0 +1,86 @@
+-- What writing calls need of a store, and what they do to its elements with their payloads.
+use Rattle.std.specs.Prelude.{◌≡◌, ◌≢◌, ◌↔◌, ◌⊎◌, ℕ, ◌+◌, ◌<◌, ◌≤◌, List, Option, None, Some, ◌==◌, if◌then◌else◌, length, option_map, IfSome, IsNone, IsSomeAnd}
+use Rattle.std.specs.List.{Contains}
+use Rattle.hm_types.specs.Elements.{FullElement, Key}
+use Rattle.hm_types.specs.Space.{IsPayloadZone, rounded, in_zone}
+use Rattle.hm_types.specs.declared.space.TheConstants.{INSERT_ROOM}
+use Rattle.hm_types.specs.declared.zone.TheConstants.{TREE_ZONE}
+use Rattle.hm_key.specs.Balance.{IsBalanced, content_of}
+use Rattle.hm_key.specs.Counts.{Counts, Subject, subject_of}
+use Rattle.hm_key.specs.Element.{IsElement}
+use Rattle.hm_key.specs.Elements.{element_key, with_delete}
+use Rattle.hm_key.specs.Extents.{Extent}
+use Rattle.hm_key.specs.Key.{key_of}
+use Rattle.hm_key.specs.Versions.{IsBelow}
+use Rattle.hm_key.specs.declared.base.Base.{Base}
+use Rattle.hm_key.specs.declared.element.Element.{Element}
+use Rattle.hm_records.specs.Changes.{CountSame, Overrides}
+use Rattle.hm_cursor.specs.Told.{Lists, fulls}
+
+-- a subject's versions were made before `i`, and none was closed later than `i`
+pub record IsFreshFor (s : Subject) (i : ℕ) (es : List FullElement) : Type 0 where
+  pub made : (x : FullElement) → Contains es x → subject_of x.key ≡ s → x.key.create < i
+  pub closed : (x : FullElement) → Contains es x → subject_of x.key ≡ s → x.delete ≤ i
+
+-- an element of a changed list: a new one about the subject, made by `i`, or one that was there, perhaps closed since
+abbrev pub CameFrom : Subject → Option (List ℕ) → ℕ → List FullElement → FullElement → Type 0
+CameFrom s now i es x =
+    ((subject_of x.key ≡ s) × (x.key.create ≡ i) × (now ≡ Some x.bytes))
+    ⊎ ((e : FullElement) × Contains es e × (x.key ≡ e.key) × (x.obj_type ≡ e.obj_type) × (x.bytes ≡ e.bytes))
+
+-- From `i` on these bytes count for a subject, or nothing does. Before `i` there counts what counted, and for other
+-- subjects at any time: their elements stay.
+pub record Rewrites (s : Subject) (now : Option (List ℕ)) (i : ℕ) (es es' : List FullElement) : Type 0 where
+  pub past : (t : ℕ) → t < i → CountSame (Counts es t) (Counts es' t)
+  pub present : (t : ℕ) → i ≤ t → Overrides s now (Counts es t) (Counts es' t)
+  pub beside : (x : FullElement) → subject_of x.key ≢ s → Contains es' x ↔ Contains es x
+  pub came : (x : FullElement) → Contains es' x → CameFrom s now i es x
+  pub closed : now ≡ None → IsFreshFor s i es → IsFreshFor s i es'
+  pub up_to : IsBelow (i + 1) es → IsBelow (i + 1) es'
+
+-- A call that wrote left a balanced store that tells its content, where it found one, and did this to the elements with
+-- their payloads.
+abbrev pub Writes : {S : Type 0} → (S → Option (List Element)) → (S → Option (List Extent)) → (List FullElement → List FullElement → Type 0) → S → S → Type 0
+Writes elements_of extents_of Change old new =
+    IfSome (content_of (elements_of old) (extents_of old)) (λ was. IsBalanced was.0 was.1
+    → IsSomeAnd (content_of (elements_of new) (extents_of new))
+    (λ now. IsBalanced now.0 now.1 × Change (fulls was) (fulls now)))
+
+-- the most bytes that a payload has
+abbrev pub most_payload : ℕ
+most_payload = 65568
+
+-- an element with this base and so long a payload may be added: it is open, and its zone takes the payload
+pub record IsNew (base : Base) (zone : ℕ) (bytes : List ℕ) : Type 0 where
+  pub element : (payload : ℕ) → IsElement (record { base = base; payload = payload; len = length bytes })
+  pub unclosed : base.delete ≡ 0
+  pub payload_zone : IsPayloadZone zone
+  pub some : 1 ≤ length bytes
+  pub few : length bytes ≤ most_payload
+
+-- a store has room for one more element and its payload
+pub record HasRoomFor (room : ℕ → ℕ) (zone : ℕ) (bytes : List ℕ) : Type 0 where
+  pub tree : INSERT_ROOM ≤ room TREE_ZONE
+  pub payload : rounded (length bytes) ≤ room zone
+
+-- an element with this base and these bytes for a payload
+abbrev pub full_with : Base → List ℕ → FullElement
+full_with base bytes = record { key = key_of base; delete = base.delete; obj_type = base.obj_type; bytes = bytes }
+
+-- what one more element and its payload take of each zone at most
+abbrev pub taken : ℕ → List ℕ → ℕ → ℕ
+taken zone bytes other = in_zone TREE_ZONE INSERT_ROOM other + in_zone zone (rounded (length bytes)) other
+
+-- where a store tells its content, the versions of a subject are older than `i`
+abbrev pub IsFresh : Option (List Element) → Option (List Extent) → Subject → ℕ → Type 0
+IsFresh es xs s i = IfSome (content_of es xs) (λ lists. IsFreshFor s i (fulls lists))
+
+-- a version was closed at `i` if it was open, and all else stayed
+pub record ClosesIfOpen {S : Type 0} (elements_of : S → Option (List Element)) (extents_of : S → Option (List Extent)) (version : Element) (i : ℕ) (old new : S) : Type 0 where
+  pub elements : elements_of new ≡ option_map (λ es. if version.base.delete == 0 then with_delete (element_key version) i es else es) (elements_of old)
+  pub extents : extents_of new ≡ extents_of old
+
+-- the version at a key was closed at `i`, and all else stayed
+pub record ClosesAt {S : Type 0} (elements_of : S → Option (List Element)) (extents_of : S → Option (List Extent)) (at : Key) (i : ℕ) (old new : S) : Type 0 where
+  pub elements : elements_of new ≡ option_map (with_delete at i) (elements_of old)
+  pub extents : extents_of new ≡ extents_of old

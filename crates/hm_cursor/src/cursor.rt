@@ -1,0 +1,159 @@
+// A walk along the elements that are seen as of an id.
+ghost use Rattle.std.specs.Prelude.{◌≡◌, ◌↔◌, IfSome, IfOk, OnErr, OnOk, IsTrue};
+ghost use Rattle.hm_types.specs.Elements.{Sees};
+ghost use Rattle.hm_types.specs.Faults.{HasStoreCause};
+ghost use Rattle.hm_key.specs.Key.{key_of, least_key};
+ghost use Rattle.hm_key.specs.Stores.{Same};
+ghost use Rattle.hm_cursor.specs.Shown.{IsAfter, IsNext, Passes, StandsAt};
+
+use hm_key::{Base, Element, ElementStore};
+use hm_types::{Counted, Fault, Id, Obj};
+
+/// Goes through the elements of one localization that are seen as of an id, in the order of their
+/// keys, each once. It keeps no place in the store but the key that it came to, so the store may
+/// change between two calls.
+#[derive(Clone, Copy, Debug)]
+pub struct Cursor {
+    pub(crate) localization: u32,
+    pub(crate) as_of: Id,
+    // The key from which on elements are still to come, and None where the last one has come.
+    pub(crate) from: Option<Base>,
+}
+
+impl Cursor {
+    /// A cursor before the first element of a localization. Takes no memory.
+    pub fn new(localization: u32, as_of: Id) -> Cursor
+        ensures { StandsAt localization as_of.0 least_key result }
+    {
+        Cursor {
+            localization,
+            as_of,
+            from: Some(Base {
+                localization,
+                ..Base::least()
+            }),
+        }
+    }
+
+    /// Goes to a key: what comes next stands at it or after it. It asks nothing of the store.
+    pub fn seek<T: ElementStore>(&mut self, store: &mut T, at: &Base) -> Result<(), Fault>
+        ensures ok { OnOk result (StandsAt self.old.localization self.old.as_of.0 (key_of at.now)
+            self.new) }
+        ensures keeps { Same T.elements T.mark T.extents T.room T.free store.old store.new }
+        ensures name { T.name store.new ≡ T.name store.old }
+        ensures frame { T.frame store.new ≡ T.frame store.old }
+        ensures cause { HasStoreCause (T.elements store.old)
+            (T.faults store.old) (T.faults store.new) result }
+    {
+        self.from = Some(if at.localization < self.localization {
+            Base {
+                localization: self.localization,
+                ..Base::least()
+            }
+        } else {
+            *at
+        });
+        Ok(())
+    }
+
+    /// The next element that is seen, and None exactly where no further one is. After an error and
+    /// after None the cursor stands where it stood. The faults are those of the store.
+    pub fn next<T: ElementStore>(&mut self, store: &mut T) -> Result<Option<Element>, Fault>
+        ensures ok { IfSome (T.elements store.old) (λ es.
+            IfOk result (IsNext es self.old)) }
+        ensures passes { IfOk result (λ found. Passes self.old found self.new) }
+        ensures err { OnErr result (self.new ≡ self.old) }
+        ensures keeps { Same T.elements T.mark T.extents T.room T.free store.old store.new }
+        ensures borrowed { (T.name store.new ≡ T.name store.old)
+            × (T.frame store.new ≡ T.frame store.old) }
+        ensures cause { HasStoreCause (T.elements store.old)
+            (T.faults store.old) (T.faults store.new) result }
+    {
+        let mut from = self.from;
+        while let Some(at) = from {
+            let Some(element) = store.first_at_or_after(&at)? else {
+                return Ok(None);
+            };
+            if element.base.localization > self.localization {
+                return Ok(None);
+            }
+            from = after(&element.base);
+            if element.base.localization == self.localization
+                && is_seen(&element.base, self.as_of)
+            {
+                self.from = from;
+                return Ok(Some(element));
+            }
+        }
+        Ok(None)
+    }
+}
+
+/// Whether an element with these ids is seen as of an id: it was made by then, and is open, or was
+/// closed later.
+pub(crate) fn is_seen(base: &Base, as_of: Id) -> bool
+    ensures { IsTrue result ↔ Sees base.now.create base.now.delete as_of.0 }
+{
+    base.create <= as_of.0 && (base.delete == 0 || as_of.0 < base.delete)
+}
+
+// The key just after that of a base, and None where that is the greatest one.
+fn after(base: &Base) -> Option<Base>
+    ensures { IsAfter base.now result }
+{
+    if base.create < u64::MAX {
+        return Some(Base {
+            create: base.create + 1,
+            ..*base
+        });
+    }
+    next_number(base)
+}
+
+// The first key about the next number of the same type, or else of the next type.
+fn next_number(base: &Base) -> Option<Base>
+    requires { base.now.create ≡ u64.MAX }
+    ensures { IsAfter base.now result }
+{
+    if base.key < u64::MAX {
+        return Some(Base {
+            key: base.key + 1,
+            create: 0,
+            ..*base
+        });
+    }
+    if base.rec_type < u16::MAX {
+        return Some(Base {
+            rec_type: base.rec_type + 1,
+            key: 0,
+            create: 0,
+            ..*base
+        });
+    }
+    next_object(base)
+}
+
+// The first key of the next object, or else of the next localization.
+fn next_object(base: &Base) -> Option<Base>
+    requires create { base.now.create ≡ u64.MAX }
+    requires number { base.now.key ≡ u64.MAX }
+    requires rec_type { base.now.rec_type ≡ u16.MAX }
+    ensures after { IsAfter base.now result }
+{
+    if base.obj.0 < u64::MAX {
+        return Some(Base {
+            obj: Obj(base.obj.0 + 1),
+            rec_type: 0,
+            key: 0,
+            create: 0,
+            ..*base
+        });
+    }
+    if base.localization < u32::MAX {
+        return Some(Base {
+            localization: base.localization + 1,
+            ..Base::least()
+        });
+    }
+    None
+}

@@ -1,0 +1,17 @@
+//! The elements of a store as of an id: a cursor over those that are seen, the one that counts about
+//! a subject, its payload, and new versions in place of old ones.
+#![tactic(auto)]
+
+mod cursor;
+mod find;
+mod payload;
+mod subject;
+mod version;
+mod write;
+
+pub use cursor::Cursor;
+pub use find::{find_inode, find_payload, find_record};
+pub use payload::read_payload;
+pub use subject::{entry_base, inode_base, record_base, target_base};
+pub use version::{first_version, version_at};
+pub use write::{add_version, close_versions, renew_version};

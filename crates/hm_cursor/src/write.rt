@@ -1,0 +1,190 @@
+// New versions, and old ones that are closed.
+ghost use Rattle.std.specs.Prelude.{◌≡◌, ◌<◌, None, Some, IfSome, IsNone, IsSome, IsSomeAnd, OnOk};
+ghost use Rattle.hm_types.specs.Faults.{HasStoreCause};
+ghost use Rattle.hm_types.specs.Space.{Spends, nothing};
+ghost use Rattle.hm_key.specs.Balance.{Balanced, content_of};
+ghost use Rattle.hm_key.specs.Counts.{subject_of};
+ghost use Rattle.hm_key.specs.Elements.{element_at};
+ghost use Rattle.hm_key.specs.Key.{key_of};
+ghost use Rattle.hm_key.specs.Stores.{Keeps};
+ghost use Rattle.hm_key.specs.Versions.{Adds};
+ghost use Rattle.hm_cursor.specs.Write.{
+  ClosesAt,
+  ClosesIfOpen,
+  HasRoomFor,
+  IsFresh,
+  IsNew,
+  Rewrites,
+  Writes,
+  full_with,
+  taken,
+};
+
+use crate::version::version_from;
+use hm_key::{Base, Element, ElementStore, Extents, HasElements, HasRoom};
+use hm_types::{Counted, Fault, Id};
+
+/// Adds an element and its payload, which is put into a new extent of a zone. The versions of its
+/// subject are older. From its create id on it counts, and nothing else does about that
+/// subject. The faults are those of the store; after one nothing is known of the content.
+pub fn add_version<T: ElementStore + Extents>(
+    store: &mut T,
+    base: &Base,
+    zone: u8,
+    bytes: &[u8],
+) -> Result<(), Fault>
+    requires new { IsNew base.now zone bytes.now }
+    requires balanced { Balanced (T.elements store.old) (T.extents store.old) }
+    requires fresh { IsFresh (T.elements store.old) (T.extents store.old)
+        (subject_of (key_of base.now)) base.now.create }
+    requires room { HasRoomFor (T.room store.old) zone bytes.now }
+    ensures ok { OnOk result (Writes T.elements T.extents
+        (Rewrites (subject_of (key_of base.now)) (Some bytes.now) base.now.create)
+        store.old store.new) }
+    ensures keeps { Keeps T.elements T.extents store.old store.new result }
+    ensures space { Spends T.room T.free (taken zone bytes.now) store.old store.new }
+    ensures borrowed { (T.name store.new ≡ T.name store.old)
+        × (T.frame store.new ≡ T.frame store.old) }
+    ensures cause { HasStoreCause (content_of (T.elements store.old) (T.extents store.old))
+        (T.faults store.old) (T.faults store.new) result }
+{
+    insert_with_payload(store, base, zone, bytes)
+}
+
+/// Closes the open version at the key of `old` and adds an element about the same subject with its
+/// payload, as `add_version` does. From the new one's create id on it counts.
+pub fn renew_version<T: ElementStore + Extents>(
+    store: &mut T,
+    old: &Base,
+    base: &Base,
+    zone: u8,
+    bytes: &[u8],
+) -> Result<(), Fault>
+    requires new { IsNew base.now zone bytes.now }
+    requires about { subject_of (key_of old.now) ≡ subject_of (key_of base.now) }
+    requires there { IfSome (T.elements store.old) (λ es.
+        IsSomeAnd (element_at (key_of old.now) es) (λ e. e.base.delete ≡ 0)) }
+    requires balanced { Balanced (T.elements store.old) (T.extents store.old) }
+    requires fresh { IsFresh (T.elements store.old) (T.extents store.old)
+        (subject_of (key_of base.now)) base.now.create }
+    requires room { HasRoomFor (T.room store.old) zone bytes.now }
+    ensures ok { OnOk result (Writes T.elements T.extents
+        (Rewrites (subject_of (key_of base.now)) (Some bytes.now) base.now.create)
+        store.old store.new) }
+    ensures keeps { Keeps T.elements T.extents store.old store.new result }
+    ensures space { Spends T.room T.free (taken zone bytes.now) store.old store.new }
+    ensures borrowed { (T.name store.new ≡ T.name store.old)
+        × (T.frame store.new ≡ T.frame store.old) }
+    ensures cause { HasStoreCause (content_of (T.elements store.old) (T.extents store.old))
+        (T.faults store.old) (T.faults store.new) result }
+{
+    close_older(store, old, Id(base.create))?;
+    insert_with_payload(store, base, zone, bytes)
+}
+
+/// Closes each open version of what `at` is about at an id above theirs, whatever the create id of
+/// `at`. From that id on nothing counts about it. It takes a search for each version. The faults are
+/// those of the store; after one nothing is known of the content.
+pub fn close_versions<T: ElementStore + Extents>(
+    store: &mut T,
+    at: &Base,
+    id: Id,
+) -> Result<(), Fault>
+    requires balanced { Balanced (T.elements store.old) (T.extents store.old) }
+    requires fresh { IsFresh (T.elements store.old) (T.extents store.old)
+        (subject_of (key_of at.now)) id.0 }
+    ensures ok { OnOk result (Writes T.elements T.extents
+        (Rewrites (subject_of (key_of at.now)) None id.0) store.old store.new) }
+    ensures keeps { Keeps T.elements T.extents store.old store.new result }
+    ensures space { Spends T.room T.free nothing store.old store.new }
+    ensures borrowed { (T.name store.new ≡ T.name store.old)
+        × (T.frame store.new ≡ T.frame store.old) }
+    ensures cause { HasStoreCause (content_of (T.elements store.old) (T.extents store.old))
+        (T.faults store.old) (T.faults store.new) result }
+{
+    let mut version = version_from(store, at, 0, id)?;
+    while let Some(this) = version {
+        version = if this.base.create < id.0 {
+            close_if_open(store, &this, id)?;
+            version_from(store, &this.base, this.base.create + 1, id)?
+        } else {
+            None
+        };
+    }
+    Ok(())
+}
+
+// Puts bytes into a new extent of a zone, and adds an element that refers to it. No element stands
+// at its key.
+fn insert_with_payload<T: ElementStore + Extents>(
+    store: &mut T,
+    base: &Base,
+    zone: u8,
+    bytes: &[u8],
+) -> Result<(), Fault>
+    requires new { IsNew base.now zone bytes.now }
+    requires balanced { Balanced (T.elements store.old) (T.extents store.old) }
+    requires lacks { IfSome (T.elements store.old) (λ es.
+        IsNone (element_at (key_of base.now) es)) }
+    requires room { HasRoomFor (T.room store.old) zone bytes.now }
+    ensures ok { OnOk result (Writes T.elements T.extents (Adds (full_with base.now bytes.now))
+        store.old store.new) }
+    ensures keeps { Keeps T.elements T.extents store.old store.new result }
+    ensures space { Spends T.room T.free (taken zone bytes.now) store.old store.new }
+    ensures borrowed { (T.name store.new ≡ T.name store.old)
+        × (T.frame store.new ≡ T.frame store.old) }
+    ensures cause { HasStoreCause (content_of (T.elements store.old) (T.extents store.old))
+        (T.faults store.old) (T.faults store.new) result }
+{
+    let payload = store.place(zone, bytes)?;
+    store.insert(&Element {
+        base: *base,
+        payload,
+        len: bytes.len() as u32,
+    })
+}
+
+// Closes a version at an id above the one that made it, if it is open.
+fn close_if_open<T: ElementStore + Extents>(
+    store: &mut T,
+    version: &Element,
+    id: Id,
+) -> Result<(), Fault>
+    requires there { IfSome (T.elements store.old) (λ es.
+        element_at (key_of version.now.base) es ≡ Some version.now) }
+    requires later { version.now.base.create < id.0 }
+    ensures ok { OnOk result (ClosesIfOpen T.elements T.extents version.now id.0
+        store.old store.new) }
+    ensures keeps { Keeps T.elements T.extents store.old store.new result }
+    ensures space { Spends T.room T.free nothing store.old store.new }
+    ensures borrowed { (T.name store.new ≡ T.name store.old)
+        × (T.frame store.new ≡ T.frame store.old) }
+    ensures cause { HasStoreCause (content_of (T.elements store.old) (T.extents store.old))
+        (T.faults store.old) (T.faults store.new) result }
+{
+    if version.base.delete != 0 {
+        return Ok(());
+    }
+    store.set_delete(&version.base, id.0)
+}
+
+// Closes the version at a key at an id. Where the store tells its content the version is older than
+// the id; where it does not, one that is no older stays.
+fn close_older<T: ElementStore + Extents>(store: &mut T, at: &Base, id: Id) -> Result<(), Fault>
+    requires there { IfSome (T.elements store.old) (λ es.
+        IsSome (element_at (key_of at.now) es)) }
+    requires older { IfSome (T.elements store.old) (λ _. at.now.create < id.0) }
+    ensures ok { OnOk result (ClosesAt T.elements T.extents (key_of at.now) id.0
+        store.old store.new) }
+    ensures keeps { Keeps T.elements T.extents store.old store.new result }
+    ensures space { Spends T.room T.free nothing store.old store.new }
+    ensures borrowed { (T.name store.new ≡ T.name store.old)
+        × (T.frame store.new ≡ T.frame store.old) }
+    ensures cause { HasStoreCause (content_of (T.elements store.old) (T.extents store.old))
+        (T.faults store.old) (T.faults store.new) result }
+{
+    if at.create >= id.0 {
+        return Ok(());
+    }
+    store.set_delete(at, id.0)
+}
