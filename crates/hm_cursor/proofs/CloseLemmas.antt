@@ -36,7 +36,8 @@ below_or a b = by_test (nat_lt a b) refl where
   by_test false is = inr (ltb-false a b is)
 
 -- a search for the version that comes next
-next_list : (s : Subject) (from i : ℕ) (found : Option Element) (es : List Element) → AreShutBelow s from es → IsFirstMade es s from i found → AreShutUpTo s i found es
+next_list : (s : Subject) (from i : ℕ) (found : Option Element) (es : List Element) → AreShutBelow s from es → IsFirstMade es s from i found
+    → AreShutUpTo s i found es
 next_list s from i None es shut none = left where
   left : AreShutBelow s i es
   left x has about below = elim (below_or x.base.create from) [
@@ -56,7 +57,8 @@ shut_next s from i found None es' same shut first = rw same tt
 shut_next s from i found (Some es) es' same shut first = rw same (next_list s from i found es shut first)
 
 -- a version that is found is about the subject
-pub next_about : (s about : Subject) (from i : ℕ) (found : Option Element) → about ≡ s → IfSome found (IsMadeIn about from i) → IfSome found (λ e. subject_of (element_key e) ≡ s)
+pub next_about : (s about : Subject) (from i : ℕ) (found : Option Element) → about ≡ s → IfSome found (IsMadeIn about from i)
+    → IfSome found (λ e. subject_of (element_key e) ≡ s)
 next_about s about from i None same made = tt
 next_about s about from i (Some e) same made = made.about ∙ same
 
@@ -70,7 +72,8 @@ shut_none s None = tt
 shut_none s (Some es) = λ x has about below. absurd (omega (arith, below))
 
 -- where the next version was made at the last id or later, none is left
-pub shut_over : (s : Subject) (i : ℕ) (this : Element) (es : Option (List Element)) → i ≤ this.base.create → IfSome es (AreShutUpTo s i (Some this)) → IfSome es (AreShutUpTo s i None)
+pub shut_over : (s : Subject) (i : ℕ) (this : Element) (es : Option (List Element)) → i ≤ this.base.create → IfSome es (AreShutUpTo s i (Some this))
+    → IfSome es (AreShutUpTo s i None)
 shut_over s i this None late shut = tt
 shut_over s i this (Some es) late shut = λ x has about below. shut.1 x has about (omega (arith, below, late))
 
@@ -135,7 +138,8 @@ module _ (s : Subject) (i : ℕ) (this : Element) (about_this : subject_of (elem
       | inr before ↦ shut x has about before
     ]
 
-  pub shut_closed : (es es' : Option (List Element)) → this.base.create < i → IfSome es IsContent → IfSome es' IsContent → es' ≡ option_map (if_closed this i) es
+  pub shut_closed : (es es' : Option (List Element)) → this.base.create < i → IfSome es IsContent → IfSome es' IsContent
+      → es' ≡ option_map (if_closed this i) es
       → IfSome es (AreShutUpTo s i (Some this)) → IfSome es' (AreShutBelow s (this.base.create + 1))
   shut_closed None es' later content content' list shut = rw list tt
   shut_closed (Some es) es' later content content' list shut = rw list (shut_more es later content (rw list at content') shut.0 shut.1)
@@ -154,13 +158,15 @@ module _ (s : Subject) (i : ℕ) (this : Element) (about_this : subject_of (elem
     stay None o' is = is
     stay (Some list) o' is = is
 
-    by_test : (b : Bool) → (this.base.delete == 0) ≡ b → es' ≡ option_map (λ list. if b then with_delete (element_key this) i list else list) es → Became (Shuts s i) es xs es' xs'
+    by_test : (b : Bool) → (this.base.delete == 0) ≡ b → es' ≡ option_map (λ list. if b then with_delete (element_key this) i list else list) es
+        → Became (Shuts s i) es xs es' xs'
     by_test true is list =
         subst (λ (about : Subject). Became (Shuts about i) es xs es' xs') about_this
         (became_closed (element_key this) i es es' xs xs' list others (open-at es (eqb-true this.base.delete 0 is) there))
     by_test false is list = rw (stay es es' list, others) (became_none s i es xs)
 
-became_twice : (s : Subject) (i : ℕ) (es mid_es new_es : Option (List Element)) (xs mid_xs new_xs : Option (List Extent)) → Became (Shuts s i) es xs mid_es mid_xs
+became_twice : (s : Subject) (i : ℕ) (es mid_es new_es : Option (List Element)) (xs mid_xs new_xs : Option (List Extent))
+    → Became (Shuts s i) es xs mid_es mid_xs
     → Became (Shuts s i) mid_es mid_xs new_es new_xs → Became (Shuts s i) es xs new_es new_xs
 became_twice s i None mid_es new_es xs mid_xs new_xs first second = tt
 became_twice s i (Some es) mid_es new_es None mid_xs new_xs first second = tt
@@ -171,17 +177,21 @@ became_twice s i (Some es) mid_es new_es (Some xs) mid_xs new_xs first second =
           → IsSomeAnd new (λ now. IsBalanced now.0 now.1 × Shuts s i (fulls (es, xs)) (fulls now))
       by_content None new first second = absurd first
       by_content (Some mid) None first second = absurd (second first.0)
-      by_content (Some mid) (Some now) first second = let done = second first.0 in (done.0, shuts_twice s i (fulls (es, xs)) (fulls mid) (fulls now) first.1 done.1)
+      by_content (Some mid) (Some now) first second =
+          let done = second first.0 in
+          (done.0, shuts_twice s i (fulls (es, xs)) (fulls mid) (fulls now) first.1 done.1)
 
 -- a step of the loop: a version is closed, if it is open, and the next one is searched for
 pub became_more : (s : Subject) (i : ℕ) (this : Element) (es mid_es next_es new_es : Option (List Element)) (xs mid_xs next_xs new_xs : Option (List Extent))
     → subject_of (element_key this) ≡ s → Became (Shuts s i) es xs mid_es mid_xs → next_es ≡ option_map (if_closed this i) mid_es → next_xs ≡ mid_xs
     → IfSome mid_es (λ list. element_at (element_key this) list ≡ Some this) → new_es ≡ next_es → new_xs ≡ next_xs → Became (Shuts s i) es xs new_es new_xs
 became_more s i this es mid_es next_es new_es xs mid_xs next_xs new_xs about first list others there same same' =
-    rw (same, same') (became_twice s i es mid_es next_es xs mid_xs next_xs first (became_if_closed s i this about mid_es next_es mid_xs next_xs list others there))
+    let second = became_if_closed s i this about mid_es next_es mid_xs next_xs list others there in
+    rw (same, same') (became_twice s i es mid_es next_es xs mid_xs next_xs first second)
 
 -- before the first step
-pub became_searched : (s : Subject) (i : ℕ) (es es' : Option (List Element)) (xs xs' : Option (List Extent)) → es' ≡ es → xs' ≡ xs → Became (Shuts s i) es xs es' xs'
+pub became_searched : (s : Subject) (i : ℕ) (es es' : Option (List Element)) (xs xs' : Option (List Extent)) → es' ≡ es → xs' ≡ xs
+    → Became (Shuts s i) es xs es' xs'
 became_searched s i es es' xs xs' same same' = rw (same, same') (became_none s i es xs)
 
 -- ---- when none is left

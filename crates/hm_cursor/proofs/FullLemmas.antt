@@ -33,7 +33,8 @@ at_itself e = ap is_eq (key_itself (element_key e))
 pub element_at-has : (at : Key) (e : Element) (es : List Element) → element_at at es ≡ Some e → Contains es e × (element_key e ≡ at)
 element_at-has at e [] found = absurd (cc)
 element_at-has at e (y ∷ es) found = by_test (stands_at at y) refl found (element_at-has at e es) where
-  by_test : (b : Bool) → stands_at at y ≡ b → (if b then Some y else element_at at es) ≡ Some e → (element_at at es ≡ Some e → Contains es e × (element_key e ≡ at))
+  by_test : (b : Bool) → stands_at at y ≡ b → (if b then Some y else element_at at es) ≡ Some e
+      → (element_at at es ≡ Some e → Contains es e × (element_key e ≡ at))
       → Contains (y ∷ es) e × (element_key e ≡ at)
   by_test true is found more =
       let same : y ≡ e = cc in
@@ -49,7 +50,8 @@ has-element_at e (y ∷ es) rising has = elim (has_cases y e es has) [
       let here : stands_at (element_key e) y ≡ true = subst (λ (z : Element). stands_at (element_key z) y ≡ true) (sym first) (at_itself y) in
       rw here (ap Some (sym first))
   | inr later ↦
-      let after : element_cmp y e ≡ Less = All-contains (λ (z : Element). element_cmp y z ≡ Less) es e (All-from_recursion (λ (z : Element). element_cmp y z ≡ Less) es rising.0) later in
+      let after : element_cmp y e ≡ Less =
+      All-contains (λ (z : Element). element_cmp y z ≡ Less) es e (All-from_recursion (λ (z : Element). element_cmp y z ≡ Less) es rising.0) later in
       let elsewhere : stands_at (element_key e) y ≡ false = ap is_eq after in
       rw elsewhere (has-element_at e es rising.1 later)
 ]
@@ -216,15 +218,18 @@ module _ (at : Key) (i : ℕ) where
     by_test true more = refer_to-cons place (closed_at i y) es ∙ sym (refer_to-cons place y es)
     by_test false more = omega (arith, refer_to-cons place y es, refer_to-cons place y (with_delete at i es))
 
-  counted : (es : List Element) (xs : List Extent) → AllByRecursion (λ x. x.refs ≡ references es x) xs → AllByRecursion (λ x. x.refs ≡ references (with_delete at i es) x) xs
+  counted : (es : List Element) (xs : List Extent) → AllByRecursion (λ x. x.refs ≡ references es x) xs
+      → AllByRecursion (λ x. x.refs ≡ references (with_delete at i es) x) xs
   counted es [] each = tt
   counted es (x ∷ xs) each = (each.0 ∙ sym (refer_to-closed x.at es), counted es xs each.1)
 
   -- the store is balanced still
   pub balanced_closed : (es : List Element) (xs : List Extent) → IsBalanced es xs → IsBalanced (with_delete at i es) xs
   balanced_closed es xs balanced = record {
-    held = All-from_recursion (IsHeld xs) (with_delete at i es) (each_changed (IsHeld xs) at (closed_at i) es (λ e stands held. held) (recursion_from_All (IsHeld xs) es balanced.held));
-    counted = All-from_recursion (λ x. x.refs ≡ references (with_delete at i es) x) xs (counted es xs (recursion_from_All (λ x. x.refs ≡ references es x) xs balanced.counted));
+    held = All-from_recursion (IsHeld xs) (with_delete at i es)
+        (each_changed (IsHeld xs) at (closed_at i) es (λ e stands held. held) (recursion_from_All (IsHeld xs) es balanced.held));
+    counted = All-from_recursion (λ x. x.refs ≡ references (with_delete at i es) x) xs
+        (counted es xs (recursion_from_All (λ x. x.refs ≡ references es x) xs balanced.counted));
   }
 
   -- the full elements are the old ones, but that the one at the key was closed
@@ -237,11 +242,14 @@ module _ (at : Key) (i : ℕ) where
     shut : Shut (subject_of at) i (full_of xs e) (full_of xs (closed_at i e))
     shut = closed (ap subject_of key) open'
 
-    on : (f : FullElement) → Contains (full_elements es xs) f → (g : FullElement) × Contains (full_elements (with_delete at i es) xs) g × Shut (subject_of at) i f g
+    on : (f : FullElement) → Contains (full_elements es xs) f
+        → (g : FullElement) × Contains (full_elements (with_delete at i es) xs) g × Shut (subject_of at) i f g
     on f has =
         let (x, there, is) = map_has (full_of xs) es f has in
         elim (has_closed e x es found there) [
-          | inl still ↦ (f, subst (λ (z : FullElement). Contains (full_elements (with_delete at i es) xs) z) is (has_map (full_of xs) (with_delete at i es) x still), stays)
+          | inl still ↦
+              let same : Contains (full_elements (with_delete at i es) xs) (full_of xs x) = has_map (full_of xs) (with_delete at i es) x still in
+              (f, subst (λ (z : FullElement). Contains (full_elements (with_delete at i es) xs) z) is same, stays)
           | inr gone ↦ (
             full_of xs (closed_at i e),
             has_map (full_of xs) (with_delete at i es) (closed_at i e) gone.1,
@@ -249,7 +257,8 @@ module _ (at : Key) (i : ℕ) where
           )
         ]
 
-    back : (g : FullElement) → Contains (full_elements (with_delete at i es) xs) g → (f : FullElement) × Contains (full_elements es xs) f × Shut (subject_of at) i f g
+    back : (g : FullElement) → Contains (full_elements (with_delete at i es) xs) g
+        → (f : FullElement) × Contains (full_elements es xs) f × Shut (subject_of at) i f g
     back g has =
         let (x, there, is) = map_has (full_of xs) (with_delete at i es) g has in
         elim (closed_has e x es found there) [

@@ -9,4 +9,5 @@ pub mod SpanLemmas
 pub mod StoreLemmas
 pub mod ToldLemmas
 pub mod VersionLemmas
+pub mod ViewsLemmas
 pub mod WriteLemmas

@@ -1,5 +1,6 @@
 -- Payloads of balanced stores: how long they are, and which are broken.
-use Rattle.std.proofs.Common.{◌≡◌, ℕ, ◌<◌, ◌≤◌, List, [], ◌∷◌, Option, Some, None, Err, refl, ap, sym, ◌∙◌, subst, inl, inr, arith, length, map, take, ◌++◌}
+use Rattle.std.proofs.Common.{◌≡◌, refl, ap, sym, ◌∙◌, subst, inl, inr, arith, ℕ, ◌<◌, ◌≤◌, Option, Some, None, Err}
+use Rattle.std.proofs.Common.{List, [], ◌∷◌, ◌++◌, drop, length, map, take}
 use Rattle.std.specs.Prelude.{IfSome, IsSomeAnd}
 use Rattle.std.specs.List.{AllByRecursion, Contains}
 use Rattle.std.specs.List.Sorted.{IsStrictlySortedBy}
@@ -42,7 +43,8 @@ length-payload xs e live held = by_extent (extent_at e.payload xs) refl held whe
       rw is (omega (arith, length-take e.len x.bytes))
 
 -- so has the payload of each element of a balanced store
-length-balanced : (es : List Element) (xs : List Extent) (e : Element) → AreExtents xs → IsBalanced es xs → Contains es e → length (payload_of xs e) ≡ e.len
+length-balanced : (es : List Element) (xs : List Extent) (e : Element) → AreExtents xs → IsBalanced es xs → Contains es e
+    → length (payload_of xs e) ≡ e.len
 length-balanced es xs e live balanced has = length-payload xs e live (All-contains (IsHeld xs) es e balanced.held has)
 
 -- what holds of what a function gives for each of a list
@@ -83,10 +85,10 @@ long_inode lists s pfs obj (Damaged at kind) live balanced about long =
     )
 
 -- a fault of a search for an inode
-pub searched_inode : {A B : Type 0} (es : Option (List Element)) (xs : Option (List Extent)) (s : Subject) (pfs obj old new : ℕ) (fault : Fault)
+pub searched_inode : {A B : Type 0} {es : Option (List Element)} {xs : Option (List Extent)} {old new : ℕ} (s : Subject) (pfs obj : ℕ) (fault : Fault)
     → IfSome xs AreExtents → s ≡ inode_subject pfs obj
     → HasSearchingCause {T = A} es xs s 32 old new (Err fault) → HasReadingCause {T = B} es xs old new (Err fault)
-searched_inode es xs s pfs obj old new fault live about cause = record {
+searched_inode {A} {B} {es} {xs} s pfs obj fault live about cause = record {
   counted = record { never_falls = cause.counted.never_falls; caused = cause.counted.caused };
   damage = by_told es xs fault live cause.damage;
 } where
@@ -108,11 +110,12 @@ unspelled lists e P bytes at fault there place grammar read none bad =
     (refl, record { element = e; there = there; place = place; broken = λ is. none (subst P (sym read) (grammar is)) })
 
 -- the payload of an inode that spells none
-pub unread_inode : {B : Type 0} (es : Option (List Element)) (xs : Option (List Extent)) (s : Subject) (t pfs obj old new len : ℕ) (buffer : List ℕ) (found : Option (Element × ℕ)) (e : Element) (fault : Fault)
+pub unread_inode : {B : Type 0} {es : Option (List Element)} {xs : Option (List Extent)} {old new : ℕ} (s : Subject) (t pfs obj len : ℕ)
+    (buffer : List ℕ) (found : Option (Element × ℕ)) (e : Element) (fault : Fault)
     → IfSome es IsContent → s ≡ inode_subject pfs obj → OnBalanced es xs (λ lists. CountsBytes lists t s buffer found)
     → found ≡ Some (e, len) → old ≤ new → (SpellsInode (take len buffer) → ⊥) → IsBadPayload e.payload fault
     → HasReadingCause {T = B} es xs old new (Err fault)
-unread_inode es xs s t pfs obj old new len buffer found e fault content about told is rises none bad = record {
+unread_inode {B} {es} {xs} {old} {new} s t pfs obj len buffer found e fault content about told is rises none bad = record {
   counted = record { never_falls = rises; caused = subst (IsCaused old new) (sym bad) tt };
   damage = by_told es xs content told;
 } where
@@ -121,17 +124,19 @@ unread_inode es xs s t pfs obj old new len buffer found e fault content about to
   by_told None xs content told = tt
   by_told (Some es) None content told = tt
   by_told (Some es) (Some xs) content told = λ balanced.
-      let here : CountsBytes (es, xs) t s buffer (Some (e, len)) = subst (λ (o : Option (Element × ℕ)). CountsBytes (es, xs) t s buffer o) is (told balanced) in
+      let here : CountsBytes (es, xs) t s buffer (Some (e, len)) =
+      subst (λ (o : Option (Element × ℕ)). CountsBytes (es, xs) t s buffer o) is (told balanced) in
       let type : e.base.rec_type ≡ INODE = ap (λ (s : Subject). s.rec_type) (here.0.version.about ∙ about) in
       unspelled (es, xs) e SpellsInode (take len buffer) e.payload fault here.0.there refl (λ is. is.inode type)
       (counted_bytes es xs s t len buffer e content here) none bad
 
 -- a fault of a record's payload has its cause, where that breaks the grammar of records
-broken_record : {B : Type 0} (es : Option (List Element)) (xs : Option (List Extent)) (s : Subject) (t pfs old new : ℕ) (found : Option Element) (e : Element) (fault : Fault)
+broken_record : {B : Type 0} {es : Option (List Element)} {xs : Option (List Extent)} {old new : ℕ} (s : Subject) (t pfs : ℕ)
+    (found : Option Element) (e : Element) (fault : Fault)
     → s ≡ record_subject pfs → IfSome es (λ list. IsVersion list s t found) → found ≡ Some e → old ≤ new → IsBadPayload e.payload fault
     → OnBalanced es xs (λ lists. Contains lists.0 e → e.base.rec_type ≡ PFS_RECORD → IsPayload (full_of lists.1 e) → ⊥)
     → HasReadingCause {T = B} es xs old new (Err fault)
-broken_record es xs s t pfs old new found e fault about told is rises bad broken = record {
+broken_record {B} {es} {xs} {old} {new} s t pfs found e fault about told is rises bad broken = record {
   counted = record { never_falls = rises; caused = subst (IsCaused old new) (sym bad) tt };
   damage = by_told es xs told broken;
 } where
@@ -147,11 +152,13 @@ broken_record es xs s t pfs old new found e fault about told is rises bad broken
       (refl, record { element = e; there = newest.there; place = refl; broken = broken balanced newest.there type })
 
 -- the payload of a record that is longer than any
-pub long_record : {B : Type 0} (es : Option (List Element)) (xs : Option (List Extent)) (s : Subject) (t pfs old new : ℕ) (found : Option Element) (e : Element)
-    → IfSome xs AreExtents → s ≡ record_subject pfs → IfSome es (λ list. IsVersion list s t found) → found ≡ Some e → old ≤ new → 65568 < e.len
+pub long_record : {B : Type 0} {es : Option (List Element)} {xs : Option (List Extent)} {old new : ℕ} (s : Subject) (t pfs : ℕ)
+    (found : Option Element) (e : Element)
+    → IfSome xs AreExtents → s ≡ record_subject pfs → IfSome es (λ list. IsVersion list s t found) → found ≡ Some e
+    → old ≤ new → 65568 < e.len
     → HasReadingCause {T = B} es xs old new (Err (Damaged e.payload BAD_PAYLOAD))
-long_record es xs s t pfs old new found e live about told is rises long =
-    broken_record es xs s t pfs old new found e (Damaged e.payload BAD_PAYLOAD) about told is rises refl (by_told es xs live) where
+long_record {B} {es} {xs} s t pfs found e live about told is rises long =
+    broken_record s t pfs found e (Damaged e.payload BAD_PAYLOAD) about told is rises refl (by_told es xs live) where
       by_told : (es : Option (List Element)) (xs : Option (List Extent)) → IfSome xs AreExtents
           → OnBalanced es xs (λ lists. Contains lists.0 e → e.base.rec_type ≡ PFS_RECORD → IsPayload (full_of lists.1 e) → ⊥)
       by_told None xs live = tt
@@ -160,19 +167,22 @@ long_record es xs s t pfs old new found e live about told is rises long =
           omega (arith, length-balanced es xs e live balanced there, (payload_short (full_of xs e) payload).1)
 
 -- the payload of a record that spells none
-pub unread_record : {B : Type 0} (es : Option (List Element)) (xs read : Option (List Extent)) (s : Subject) (t pfs old new len : ℕ) (buffer : List ℕ) (found : Option Element) (e : Element) (fault : Fault)
-    → s ≡ record_subject pfs → read ≡ xs → IfSome es (λ list. IsVersion list s t found) → found ≡ Some e → IfSome read (λ list. IsReadInto list e buffer len)
-    → old ≤ new → (IsBadPayload e.payload fault → SpellsPfs (take len buffer) → ⊥) → IsReadFault e.payload fault
+pub unread_record : {B : Type 0} {es : Option (List Element)} {xs : Option (List Extent)} {old new : ℕ} (read : Option (List Extent))
+    (s : Subject) (t pfs len : ℕ) (buffer : List ℕ) (found : Option Element) (e : Element) (fault : Fault)
+    → s ≡ record_subject pfs → read ≡ xs → IfSome es (λ list. IsVersion list s t found) → found ≡ Some e
+    → IfSome read (λ list. IsReadInto list e buffer len) → old ≤ new
+    → (IsBadPayload e.payload fault → SpellsPfs (take len buffer) → ⊥) → IsReadFault e.payload fault
     → HasReadingCause {T = B} es xs old new (Err fault)
-unread_record {B} es xs read s t pfs old new len buffer found e fault about same told is into rises none (inl bad) =
-    broken_record es xs s t pfs old new found e fault about told is rises bad
+unread_record {B} {es} {xs} {old} {new} read s t pfs len buffer found e fault about same told is into rises none (inl bad) =
+    broken_record s t pfs found e fault about told is rises bad
     (by_told es xs (subst (λ (o : Option (List Extent)). IfSome o (λ list. IsReadInto list e buffer len)) same into)) where
       by_told : (es : Option (List Element)) (xs : Option (List Extent)) → IfSome xs (λ list. IsReadInto list e buffer len)
           → OnBalanced es xs (λ lists. Contains lists.0 e → e.base.rec_type ≡ PFS_RECORD → IsPayload (full_of lists.1 e) → ⊥)
       by_told None xs into = tt
       by_told (Some es) None into = tt
-      by_told (Some es) (Some xs) into = λ balanced there type payload. none bad (subst SpellsPfs (sym into.bytes) (payload.pfs type))
-unread_record {B} es xs read s t pfs old new len buffer found e fault about same told is into rises none (inr short) = record {
+      by_told (Some es) (Some xs) into = λ balanced there type payload.
+          none bad (subst SpellsPfs (sym into.bytes) (payload.pfs type))
+unread_record {B} {es} {xs} {old} {new} read s t pfs len buffer found e fault about same told is into rises none (inr short) = record {
   counted = record { never_falls = rises; caused = subst (IsCaused old new) (sym short) tt };
   damage = subst (λ (f : Fault). OnBalanced es xs (λ lists. IsPayloadDamage lists f)) (sym short) (by_told es xs);
 } where
@@ -181,6 +191,7 @@ unread_record {B} es xs read s t pfs old new len buffer found e fault about same
   by_told (Some es) None = tt
   by_told (Some es) (Some xs) = λ balanced. tt
 
--- a vector that was read into as a whole holds what was read
-pub read_whole : (n : ℕ) (whole front rest : List ℕ) → whole ≡ take n (front ++ rest) → length front ≡ n → whole ≡ front
-read_whole n whole front rest is size = is ∙ subst (λ (m : ℕ). take m (front ++ rest) ≡ front) size (take-append_seam front rest)
+-- a vector of a length, all of which was written over, holds what was written
+pub read_whole : (n : ℕ) (whole front old : List ℕ) → whole ≡ take n (front ++ drop (length front) old) → length front ≡ n → whole ≡ front
+read_whole n whole front old is size =
+    is ∙ subst (λ (m : ℕ). take m (front ++ drop (length front) old) ≡ front) size (take-append_seam front (drop (length front) old))

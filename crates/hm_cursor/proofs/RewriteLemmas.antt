@@ -239,7 +239,8 @@ module _ (e : FullElement) (es es' : List FullElement) (adds : Adds e es es') wh
     ]
 
   -- from its id on the new version counts, if it is the newest one of its subject
-  adds_present : (t : ℕ) → e.delete ≡ 0 → e.key.create ≤ t → ((x : FullElement) → Contains es x → subject_of x.key ≡ subject_of e.key → x.key.create < e.key.create)
+  adds_present : (t : ℕ) → e.delete ≡ 0 → e.key.create ≤ t
+      → ((x : FullElement) → Contains es x → subject_of x.key ≡ subject_of e.key → x.key.create < e.key.create)
       → Overrides (subject_of e.key) (Some e.bytes) (Counts es t) (Counts es' t)
   adds_present t open' late older = record {
     about = λ bytes. (only bytes, λ is. counts bytes (same_some e.bytes bytes is));

@@ -1,13 +1,14 @@
 -- Keys one after the other, and what a cursor shows of a list in order.
 use Rattle.std.proofs.Common.{◌≡◌, ℕ, ◌+◌, ◌-◌, ◌*◌, ◌^◌, ◌<◌, ◌≤◌, List, Option, Some, None, ap, sym, subst, ◌∙◌, arith, inl, inr}
-use Rattle.std.specs.Prelude.{◌↔◌, ◌⊎◌}
+use Rattle.std.specs.Prelude.{◌↔◌, ◌⊎◌, IfSome}
+use Rattle.std.proofs.lemmas.Nat.{mul-add-lt}
 use Rattle.std.specs.List.{Contains}
 use Rattle.hm_types.specs.Elements.{Key, Sees}
 use Rattle.hm_key.specs.Elements.{element_key, first_from}
 use Rattle.hm_key.specs.Key.{IsBefore, IsFrom, key_of}
 use Rattle.hm_key.specs.declared.base.Base.{Base}
 use Rattle.hm_key.specs.declared.element.Element.{Element}
-use Rattle.hm_key.proofs.KeyLemmas.{key_before_from, key_not_before}
+use Rattle.hm_key.proofs.KeyLemmas.{key_before_from, key_from_before, key_not_before}
 use Rattle.hm_cursor.specs.Shown.{IsAfter, IsNext, IsNextOf, IsShown, IsToCome, IsWide}
 use Rattle.hm_cursor.specs.declared.cursor.Cursor.{Cursor}
 use Rattle.hm_cursor.proofs.KeyLemmas.{before_rises, before_unless, from_rises}
@@ -66,22 +67,57 @@ module _ (es : List Element) (cursor : Cursor) (at : Base) (e : Element) (search
 
 -- a key by one number, in which the first field weighs most
 unfoldable pub rank : Key → ℕ
-rank k = (((k.localization * 2 ^ 64 + k.obj) * 2 ^ 16 + k.rec_type) * 2 ^ 64 + k.key) * 2 ^ 64 + k.create
+rank k = k.localization * 2 ^ 208 + (k.obj * 2 ^ 144 + (k.rec_type * 2 ^ 128 + (k.key * 2 ^ 64 + k.create)))
 
--- how many keys there are
-abbrev pub all_keys : ℕ
-all_keys = 2 ^ 32 * 2 ^ 64 * 2 ^ 16 * 2 ^ 64 * 2 ^ 64
-
--- a number of two digits
+-- a number of two digits is below one more of the first
 digits : (M m r n : ℕ) → m < n → r < M → m * M + r < n * M
-digits M m r n above few = ?
+digits M m r n above few = omega (arith, mul-add-lt m M r n above few)
 
-rank_few : (k : Key) → IsWide k → rank k < all_keys
+-- and below a number whose first digit, or else whose second, is greater
+digits_up : (M m r n s : ℕ) → r < M → (m < n) ⊎ ((m ≡ n) × (r < s)) → m * M + r < n * M + s
+digits_up M m r n s few (inl above) = let up = digits M m r n above few in omega arith
+digits_up M m r n s few (inr (same, above)) = rw same (omega arith)
+
+ids_few : (k : Key) → IsWide k → k.key * 2 ^ 64 + k.create < 2 ^ 128
+ids_few k wide = digits (2 ^ 64) k.key k.create (2 ^ 64) wide.number wide.create
+
+types_few : (k : Key) → IsWide k → k.rec_type * 2 ^ 128 + (k.key * 2 ^ 64 + k.create) < 2 ^ 144
+types_few k wide = digits (2 ^ 128) k.rec_type _ (2 ^ 16) wide.rec_type (ids_few k wide)
+
+objects_few : (k : Key) → IsWide k → k.obj * 2 ^ 144 + (k.rec_type * 2 ^ 128 + (k.key * 2 ^ 64 + k.create)) < 2 ^ 208
+objects_few k wide = digits (2 ^ 144) k.obj _ (2 ^ 64) wide.obj (types_few k wide)
+
+rank_few : (k : Key) → IsWide k → rank k < 2 ^ 240
 unfolding rank
-rank_few k wide =
-    digits (2 ^ 64) _ _ _ (digits (2 ^ 64) _ _ _ (digits (2 ^ 16) _ _ _ (digits (2 ^ 64) _ _ _ wide.localization wide.obj) wide.rec_type) wide.number) wide.create
+rank_few k wide = digits (2 ^ 208) k.localization _ (2 ^ 32) wide.localization (objects_few k wide)
 
--- how many keys are from here on
+rank_up : (a b : Key) → IsWide a → IsBefore a b → rank a < rank b
+unfolding rank
+rank_up a b wide before =
+    digits_up (2 ^ 208) a.localization _ b.localization _ (objects_few a wide) (map (before_rises a b before) (λ objects.
+    digits_up (2 ^ 144) a.obj _ b.obj _ (types_few a wide) (map objects (λ types.
+    digits_up (2 ^ 128) a.rec_type _ b.rec_type _ (ids_few a wide) (map types (λ ids. digits_up (2 ^ 64) a.key a.create b.key b.create wide.create ids)))))) where
+      map : {P Q R S : Type 0} → P ⊎ (Q × R) → (R → S) → P ⊎ (Q × S)
+      map (inl p) step = inl p
+      map (inr (q, r)) step = inr (q, step r)
+
+-- how many keys there may be from here on
 abbrev pub keys_left : Option Base → ℕ
 keys_left None = 0
-keys_left (Some at) = all_keys - rank (key_of at)
+keys_left (Some at) = 2 ^ 240 - rank (key_of at)
+
+-- what is after a key that is from another one on, is from that one on
+pub passes : (at e key : Key) → IsFrom at e → IsBefore e key → IsFrom at key
+passes at e key onward before back = onward (key_before_from e key at before (key_from_before key at back))
+
+-- fewer are left after one that a search found
+pub fewer_keys : (at base : Base) (from : Option Base) → IsWide (key_of at) → IfSome from (λ b. IsWide (key_of b)) → IsFrom (key_of at) (key_of base)
+    → IsAfter base from → keys_left from < keys_left (Some at)
+fewer_keys at base None wide widths onward after = let few = rank_few (key_of at) wide in omega arith
+fewer_keys at base (Some b) wide width onward after =
+    let before : IsBefore (key_of base) (key_of b) = (after (key_of b) width).0 (key_not_before (key_of b)) in
+    let passed : IsBefore (key_of at) (key_of b) =
+    before_unless (key_of at) (key_of b) (λ back. onward (key_before_from (key_of base) (key_of b) (key_of at) before back)) in
+    let up = rank_up (key_of at) (key_of b) wide passed in
+    let few = rank_few (key_of b) width in
+    omega arith

@@ -44,7 +44,8 @@ searched_none (Some es) (Some xs) s t buffer found is told =
     λ balanced. counts_none es xs s t (subst (λ (o : Option Element). IsVersion es s t o) is told)
 
 -- what it answers where an element was found and its payload read
-pub searched_some : (es : Option (List Element)) (xs read : Option (List Extent)) (s : Subject) (t : ℕ) (buffer : List ℕ) (found : Option Element) (e : Element) (len : ℕ)
+pub searched_some : (es : Option (List Element)) (xs read : Option (List Extent)) (s : Subject) (t : ℕ)
+    (buffer : List ℕ) (found : Option Element) (e : Element) (len : ℕ)
     → found ≡ Some e → read ≡ xs → IfSome es (λ list. IsVersion list s t found) → IfSome read (λ list. IsReadInto list e buffer len)
     → OnBalanced es xs (λ lists. CountsBytes lists t s buffer (Some (e, len)))
 searched_some None xs read s t buffer found e len is same told into = tt
@@ -75,7 +76,8 @@ record_none (Some es) (Some xs) s pfs found about is told =
     (counts_none es xs s open_end (subst (λ (o : Option Element). IsVersion es s open_end o) is told))
 
 -- the record where one was found and read
-pub record_some : (es : Option (List Element)) (xs read : Option (List Extent)) (s : Subject) (pfs : ℕ) (buffer : List ℕ) (found : Option Element) (e : Element) (len : ℕ) (r : PfsRecord)
+pub record_some : (es : Option (List Element)) (xs read : Option (List Extent)) (s : Subject) (pfs : ℕ)
+    (buffer : List ℕ) (found : Option Element) (e : Element) (len : ℕ) (r : PfsRecord)
     → s ≡ record_subject pfs → found ≡ Some e → read ≡ xs → IfSome es (λ list. IsVersion list s open_end found)
     → IfSome read (λ list. IsReadInto list e buffer len) → IsPfsRecord r → take len buffer ≡ pfs_bytes r
     → OnBalanced es xs (λ lists. IsRecordNow lists pfs (Some r))

@@ -47,10 +47,11 @@ added base bytes at (Some es) mid_es new_es (Some xs) (Some ys) new_xs kept plac
   adds_placed (placed_element base at (length bytes)) es xs ys bytes placed some refl live balanced,
 )
 
-pub inserted_ok : {S A E : Type 0} (elements_of : S → Option (List Element)) (mark_of : S → Key → ℕ) (extents_of : S → Option (List Extent)) (base : Base) (bytes : List ℕ) (at : ℕ)
-    (Marked : (Key → ℕ) → (Key → ℕ) → Type 0) (old mid new : S) (result : Result A E) → ExtentsChange elements_of mark_of extents_of (PlacesAt at bytes) old mid
-    → OnOk result (ElementsChange elements_of mark_of extents_of (inserted (placed_element base at (length bytes))) Marked mid new) → IfSome (extents_of mid) AreExtents
-    → 1 ≤ length bytes → OnOk result (Writes elements_of extents_of (Adds (full_with base bytes)) old new)
+pub inserted_ok : {S A E : Type 0} (elements_of : S → Option (List Element)) (mark_of : S → Key → ℕ) (extents_of : S → Option (List Extent)) (base : Base)
+    (bytes : List ℕ) (at : ℕ) (Marked : (Key → ℕ) → (Key → ℕ) → Type 0) (old mid new : S) (result : Result A E)
+    → ExtentsChange elements_of mark_of extents_of (PlacesAt at bytes) old mid
+    → OnOk result (ElementsChange elements_of mark_of extents_of (inserted (placed_element base at (length bytes))) Marked mid new)
+    → IfSome (extents_of mid) AreExtents → 1 ≤ length bytes → OnOk result (Writes elements_of extents_of (Adds (full_with base bytes)) old new)
 inserted_ok elements_of mark_of extents_of base bytes at Marked old mid new (Err error) placed done live some = tt
 inserted_ok elements_of mark_of extents_of base bytes at Marked old mid new (Ok value) placed done live some =
     added base bytes at (elements_of old) (elements_of mid) (elements_of new) (extents_of old) (extents_of mid) (extents_of new) placed.elements placed.extents
@@ -65,7 +66,8 @@ none_at at es lacks = by_found (element_at at es) refl where
   by_found (Some e) is = let found = element_at-has at e es is in absurd (lacks e found.0 found.1)
 
 -- where all versions of a subject are older, none has a key
-older_lacks : (at : Key) (es : List Element) (xs : List Extent) → IsFreshFor (subject_of at) at.create (fulls (es, xs)) → (x : Element) → Contains es x → element_key x ≢ at
+older_lacks : (at : Key) (es : List Element) (xs : List Extent) → IsFreshFor (subject_of at) at.create (fulls (es, xs)) → (x : Element) → Contains es x
+    → element_key x ≢ at
 older_lacks at es xs fresh x has same =
     let made = fresh.made (full_of xs x) (has_map (full_of xs) es x has) (ap subject_of same) in
     omega (arith, made, ap (λ (k : Key). k.create) same)
@@ -91,13 +93,15 @@ module _ (at : Key) (i : ℕ) where
     by_found None is open' = absurd open'
     by_found (Some e) is open' = (balanced_closed at i es xs balanced, shuts_closed at i e es xs is open')
 
-  pub became_closed : (es es' : Option (List Element)) (xs xs' : Option (List Extent)) → es' ≡ option_map (with_delete at i) es → xs' ≡ xs → IfSome es (IsOpenAt at)
+  pub became_closed : (es es' : Option (List Element)) (xs xs' : Option (List Extent)) → es' ≡ option_map (with_delete at i) es → xs' ≡ xs
+      → IfSome es (IsOpenAt at)
       → Became (Shuts (subject_of at) i) es xs es' xs'
   became_closed None es' xs xs' list others open' = tt
   became_closed (Some es) es' None xs' list others open' = tt
   became_closed (Some es) es' (Some xs) xs' list others open' = λ balanced. rw (list, others) (became_closed_list es xs open' balanced)
 
-  pub still_balanced : (es es' : Option (List Element)) (xs xs' : Option (List Extent)) → es' ≡ option_map (with_delete at i) es → xs' ≡ xs → Balanced es xs → Balanced es' xs'
+  pub still_balanced : (es es' : Option (List Element)) (xs xs' : Option (List Extent)) → es' ≡ option_map (with_delete at i) es → xs' ≡ xs
+      → Balanced es xs → Balanced es' xs'
   still_balanced None es' xs xs' list others balanced = rw list tt
   still_balanced (Some es) es' None xs' list others balanced = rw (list, others) tt
   still_balanced (Some es) es' (Some xs) xs' list others balanced = rw (list, others) (balanced_closed at i es xs balanced)
@@ -113,7 +117,8 @@ module _ (at : Key) (i : ℕ) where
       | inr now ↦ λ same. lacks e (element_at-has at e es is).0 (ap element_key (sym now) ∙ same)
     ]
 
-  pub fresh_lacks_closed : (new : Key) (es es' : Option (List Element)) (xs : Option (List Extent)) → is_some xs ≡ is_some es → es' ≡ option_map (with_delete at i) es
+  pub fresh_lacks_closed : (new : Key) (es es' : Option (List Element)) (xs : Option (List Extent)) → is_some xs ≡ is_some es
+      → es' ≡ option_map (with_delete at i) es
       → IfSome es (IsOpenAt at) → IsFresh es xs (subject_of new) new.create → IfSome es' (λ list. IsNone (element_at new list))
   fresh_lacks_closed new None es' xs together list open' fresh = rw list tt
   fresh_lacks_closed new (Some es) es' None together list open' fresh = absurd (true≢false (sym together))
@@ -129,7 +134,8 @@ became_none s i (Some es) (Some xs) = λ balanced. (balanced, shuts_none s i (fu
 
 renewed : (base : Base) (bytes : List ℕ) (es mid_es new_es : Option (List Element)) (xs mid_xs new_xs : Option (List Extent)) → base.delete ≡ 0
     → IsFresh es xs (subject_of (key_of base)) base.create → Became (Shuts (subject_of (key_of base)) base.create) es xs mid_es mid_xs
-    → Became (Adds (full_with base bytes)) mid_es mid_xs new_es new_xs → Became (Rewrites (subject_of (key_of base)) (Some bytes) base.create) es xs new_es new_xs
+    → Became (Adds (full_with base bytes)) mid_es mid_xs new_es new_xs
+    → Became (Rewrites (subject_of (key_of base)) (Some bytes) base.create) es xs new_es new_xs
 renewed base bytes None mid_es new_es xs mid_xs new_xs open' fresh first second = tt
 renewed base bytes (Some es) mid_es new_es None mid_xs new_xs open' fresh first second = tt
 renewed base bytes (Some es) mid_es new_es (Some xs) mid_xs new_xs open' fresh first second =
@@ -145,7 +151,8 @@ renewed base bytes (Some es) mid_es new_es (Some xs) mid_xs new_xs open' fresh f
 
 module _ {S A E : Type 0} (elements_of : S → Option (List Element)) (extents_of : S → Option (List Extent)) (base : Base) (bytes : List ℕ) where
   -- some open versions were closed, and one was added
-  pub renewed_ok : (old mid new : S) (result : Result A E) → base.delete ≡ 0 → IsFresh (elements_of old) (extents_of old) (subject_of (key_of base)) base.create
+  pub renewed_ok : (old mid new : S) (result : Result A E) → base.delete ≡ 0
+      → IsFresh (elements_of old) (extents_of old) (subject_of (key_of base)) base.create
       → Writes elements_of extents_of (Shuts (subject_of (key_of base)) base.create) old mid
       → OnOk result (Writes elements_of extents_of (Adds (full_with base bytes)) mid new)
       → OnOk result (Writes elements_of extents_of (Rewrites (subject_of (key_of base)) (Some bytes) base.create) old new)
@@ -162,8 +169,8 @@ module _ {S A E : Type 0} (elements_of : S → Option (List Element)) (extents_o
 -- ---- an older version is closed
 
 -- a version that is there is older than an id that all versions of its subject are older than
-pub there_older : (at : Key) (i : ℕ) (s : Subject) (es : Option (List Element)) (xs : Option (List Extent)) → is_some xs ≡ is_some es → subject_of at ≡ s
-    → IfSome es (IsOpenAt at) → IsFresh es xs s i → IfSome es (λ _. at.create < i)
+pub there_older : (at : Key) (i : ℕ) (s : Subject) (es : Option (List Element)) (xs : Option (List Extent)) → is_some xs ≡ is_some es
+    → subject_of at ≡ s → IfSome es (IsOpenAt at) → IsFresh es xs s i → IfSome es (λ _. at.create < i)
 there_older at i s None xs together about open' fresh = tt
 there_older at i s (Some es) None together about open' fresh = absurd (true≢false (sym together))
 there_older at i s (Some es) (Some xs) together about open' fresh = by_found (element_at at es) refl open' where
@@ -173,8 +180,3 @@ there_older at i s (Some es) (Some xs) together about open' fresh = by_found (el
       let found = element_at-has at e es is in
       let made = fresh.made (full_of xs e) (has_map (full_of xs) es e found.0) (ap subject_of found.1 ∙ about) in
       omega (arith, made, ap (λ (k : Key). k.create) found.1)
-
--- where nothing is told, nothing changes in what is told
-pub untold_stays : (at : Key) (i : ℕ) (es : Option (List Element)) → IfSome es (λ _. at.create < i) → i ≤ at.create → es ≡ option_map (with_delete at i) es
-untold_stays at i None older not = refl
-untold_stays at i (Some es) older not = absurd (omega (arith, older, not))

@@ -3,3 +3,4 @@ pub mod Version
 pub mod Read
 pub mod Told
 pub mod Write
+pub mod Views

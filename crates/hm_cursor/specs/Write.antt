@@ -1,5 +1,5 @@
 -- What writing calls need of a store, and what they do to its elements with their payloads.
-use Rattle.std.specs.Prelude.{◌≡◌, ◌≢◌, ◌↔◌, ◌⊎◌, ℕ, ◌+◌, ◌<◌, ◌≤◌, List, Option, None, Some, ◌==◌, if◌then◌else◌, length, option_map, IfSome, IsNone, IsSomeAnd}
+use Rattle.std.specs.Prelude.{◌↔◌, ◌≡◌, ◌≢◌, ◌⊎◌, ℕ, ◌+◌, ◌<◌, ◌≤◌, ◌==◌, if◌then◌else◌, List, Option, None, Some, length, option_map, IfSome, IsNone, IsSomeAnd}
 use Rattle.std.specs.List.{Contains}
 use Rattle.hm_types.specs.Elements.{FullElement, Key}
 use Rattle.hm_types.specs.Space.{IsPayloadZone, rounded, in_zone}
@@ -77,7 +77,8 @@ IsFresh es xs s i = IfSome (content_of es xs) (λ lists. IsFreshFor s i (fulls l
 
 -- a version was closed at `i` if it was open, and all else stayed
 pub record ClosesIfOpen {S : Type 0} (elements_of : S → Option (List Element)) (extents_of : S → Option (List Extent)) (version : Element) (i : ℕ) (old new : S) : Type 0 where
-  pub elements : elements_of new ≡ option_map (λ es. if version.base.delete == 0 then with_delete (element_key version) i es else es) (elements_of old)
+  pub elements : elements_of new
+      ≡ option_map (λ es. if version.base.delete == 0 then with_delete (element_key version) i es else es) (elements_of old)
   pub extents : extents_of new ≡ extents_of old
 
 -- the version at a key was closed at `i`, and all else stayed

@@ -4,7 +4,7 @@ ghost use Rattle.hm_types.specs.Elements.{Sees};
 ghost use Rattle.hm_types.specs.Faults.{HasStoreCause};
 ghost use Rattle.hm_key.specs.Key.{key_of, least_key};
 ghost use Rattle.hm_key.specs.Stores.{Same};
-ghost use Rattle.hm_cursor.specs.Shown.{IsAfter, IsNext, Passes, StandsAt};
+ghost use Rattle.hm_cursor.specs.Shown.{IsAfter, IsNext, IsWide, Passes, StandsAt};
 
 use hm_key::{Base, Element, ElementStore};
 use hm_types::{Counted, Fault, Id, Obj};
@@ -99,7 +99,8 @@ pub(crate) fn is_seen(base: &Base, as_of: Id) -> bool
 
 // The key just after that of a base, and None where that is the greatest one.
 fn after(base: &Base) -> Option<Base>
-    ensures { IsAfter base.now result }
+    ensures after { IsAfter base.now result }
+    ensures wide { IfSome result (λ at. IsWide (key_of at)) }
 {
     if base.create < u64::MAX {
         return Some(Base {
@@ -113,7 +114,8 @@ fn after(base: &Base) -> Option<Base>
 // The first key about the next number of the same type, or else of the next type.
 fn next_number(base: &Base) -> Option<Base>
     requires { base.now.create ≡ u64.MAX }
-    ensures { IsAfter base.now result }
+    ensures after { IsAfter base.now result }
+    ensures wide { IfSome result (λ at. IsWide (key_of at)) }
 {
     if base.key < u64::MAX {
         return Some(Base {
@@ -139,6 +141,7 @@ fn next_object(base: &Base) -> Option<Base>
     requires number { base.now.key ≡ u64.MAX }
     requires rec_type { base.now.rec_type ≡ u16.MAX }
     ensures after { IsAfter base.now result }
+    ensures wide { IfSome result (λ at. IsWide (key_of at)) }
 {
     if base.obj.0 < u64::MAX {
         return Some(Base {

@@ -4,6 +4,8 @@
 
 mod cursor;
 mod find;
+#[cfg(test)]
+mod find_tests;
 mod payload;
 mod subject;
 mod version;

@@ -4,7 +4,8 @@ use Rattle.hm_key.specs.Counts.{subject_of}
 use Rattle.hm_key.specs.Elements.{element_key}
 use Rattle.hm_key.specs.Key.{key_of}
 use Rattle.hm_key.specs.declared.element.Element.{Element}
-use Rattle.hm_cursor.proofs.CloseLemmas.{AreShutUpTo, all_closed, became_more, became_searched, next_about, next_stands, shut_closed, shut_next, shut_none, shut_over, first_about}
+use Rattle.hm_cursor.proofs.CloseLemmas.{AreShutUpTo, all_closed, became_more, became_searched, first_about}
+use Rattle.hm_cursor.proofs.CloseLemmas.{next_about, next_stands, shut_closed, shut_next, shut_none, shut_over}
 use Rattle.hm_cursor.proofs.write.close_versions.Goals as goal
 
 pub loop-version-init : goal.loop-version-init
@@ -30,31 +31,40 @@ pub close_if_open-requires-clause-there : goal.close_if_open-requires-clause-the
 close_if_open-requires-clause-there g c =
     let s = subject_of (key_of c.args.at.now) in
     let shut : IfSome (g.T.HasElements.elements c.loop-version.store) (AreShutUpTo s c.args.id.0 (Some c.in-Some.this)) =
-    subst (λ (o : Option Element). IfSome (g.T.HasElements.elements c.loop-version.store) (AreShutUpTo s c.args.id.0 o)) c.in-Some.is c.loop-version.invariant.shut in
+    subst (λ (o : Option Element). IfSome (g.T.HasElements.elements c.loop-version.store) (AreShutUpTo s c.args.id.0 o)) c.in-Some.is
+    c.loop-version.invariant.shut in
     next_stands s c.args.id.0 c.in-Some.this (g.T.HasElements.elements c.loop-version.store) (g.met.T.ElementStore.sorted c.loop-version.store) shut
 
 pub loop-version-preserved-in_ok-version-2 : goal.loop-version-preserved-in_ok-version-2
 loop-version-preserved-in_ok-version-2 g c =
     let s = subject_of (key_of c.args.at.now) in
+    let i = c.args.id.0 in
     let this = c.in-Some.this in
+    let next = c.in_ok-version-2.version in
     let was = c.loop-version.invariant in
     let closed = c.in_ok-close_if_open.ensures in
     let searched = c.in_ok-version-2.ensures in
     let same = searched.keeps in
+    let start = g.T.HasElements.elements c.args.store.now in
     let es = g.T.HasElements.elements c.loop-version.store in
     let mid = g.T.HasElements.elements c.close_if_open.new.store in
     let new = g.T.HasElements.elements c.version_from-then-this-id.new.store in
+    let start_xs = g.T.HasRoom.extents c.args.store.now in
+    let xs = g.T.HasRoom.extents c.loop-version.store in
+    let mid_xs = g.T.HasRoom.extents c.close_if_open.new.store in
+    let new_xs = g.T.HasRoom.extents c.version_from-then-this-id.new.store in
+    let sorted = g.met.T.ElementStore.sorted c.loop-version.store in
+    let sorted_mid = g.met.T.ElementStore.sorted c.close_if_open.new.store in
     let about : subject_of (element_key this) ≡ s = subst (λ (o : Option Element). IfSome o (λ e. subject_of (element_key e) ≡ s)) c.in-Some.is was.about in
-    let shut : IfSome es (AreShutUpTo s c.args.id.0 (Some this)) = subst (λ (o : Option Element). IfSome es (AreShutUpTo s c.args.id.0 o)) c.in-Some.is was.shut in
+    let shut : IfSome es (AreShutUpTo s i (Some this)) = subst (λ (o : Option Element). IfSome es (AreShutUpTo s i o)) c.in-Some.is was.shut in
+    let there = next_stands s i this es sorted shut in
+    let first = first_about s (subject_of (element_key this)) (this.base.create + 1) i next mid about searched.ok in
+    let below = shut_closed s i this about es mid c.if-this-id.true sorted sorted_mid closed.ok.elements shut in
     record {
-      about = next_about s (subject_of (element_key this)) (this.base.create + 1) c.args.id.0 c.in_ok-version-2.version about searched.found;
-      became = became_more s c.args.id.0 this (g.T.HasElements.elements c.args.store.now) es mid new (g.T.HasRoom.extents c.args.store.now) (g.T.HasRoom.extents c.loop-version.store)
-          (g.T.HasRoom.extents c.close_if_open.new.store) (g.T.HasRoom.extents c.version_from-then-this-id.new.store) about was.became closed.ok.elements closed.ok.extents
-          (next_stands s c.args.id.0 this es (g.met.T.ElementStore.sorted c.loop-version.store) shut) same.elements same.extents;
-      shut = shut_next s (this.base.create + 1) c.args.id.0 c.in_ok-version-2.version mid new same.elements
-          (shut_closed s c.args.id.0 this about es mid c.if-this-id.true (g.met.T.ElementStore.sorted c.loop-version.store) (g.met.T.ElementStore.sorted c.close_if_open.new.store)
-          closed.ok.elements shut)
-          (first_about s (subject_of (element_key this)) (this.base.create + 1) c.args.id.0 c.in_ok-version-2.version mid about searched.ok);
+      about = next_about s (subject_of (element_key this)) (this.base.create + 1) i next about searched.found;
+      became = became_more s i this start es mid new start_xs xs mid_xs new_xs about was.became closed.ok.elements closed.ok.extents there
+          same.elements same.extents;
+      shut = shut_next s (this.base.create + 1) i next mid new same.elements below first;
       elements = ap is_some same.elements ∙ closed.keeps.elements ∙ was.elements;
       extents = ap is_some same.extents ∙ closed.keeps.extents ∙ was.extents;
       space = record {
@@ -71,7 +81,8 @@ loop-version-preserved g c =
     let s = subject_of (key_of c.args.at.now) in
     let was = c.loop-version.invariant in
     let es = g.T.HasElements.elements c.loop-version.store in
-    let shut : IfSome es (AreShutUpTo s c.args.id.0 (Some c.in-Some.this)) = subst (λ (o : Option Element). IfSome es (AreShutUpTo s c.args.id.0 o)) c.in-Some.is was.shut in
+    let shut : IfSome es (AreShutUpTo s c.args.id.0 (Some c.in-Some.this)) =
+    subst (λ (o : Option Element). IfSome es (AreShutUpTo s c.args.id.0 o)) c.in-Some.is was.shut in
     record {
       about = tt;
       became = was.became;
@@ -90,5 +101,6 @@ returns-clause-ok g c =
     let es = g.T.HasElements.elements c.loop-version.store in
     let shut : IfSome es (AreShutUpTo s c.args.id.0 None) =
     subst (λ (o : Option Element). IfSome es (AreShutUpTo s c.args.id.0 o)) c.in_default.is c.loop-version.invariant.shut in
-    all_closed s c.args.id.0 (g.T.HasElements.elements c.args.store.now) es (g.T.HasRoom.extents c.args.store.now) (g.T.HasRoom.extents c.loop-version.store) c.requires.fresh
+    all_closed s c.args.id.0 (g.T.HasElements.elements c.args.store.now) es (g.T.HasRoom.extents c.args.store.now)
+    (g.T.HasRoom.extents c.loop-version.store) c.requires.fresh
     c.loop-version.invariant.became shut

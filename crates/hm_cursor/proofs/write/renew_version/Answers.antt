@@ -20,12 +20,15 @@ insert_with_payload-requires-clause-lacks g c =
 pub returns-clause-ok : goal.returns-clause-ok
 returns-clause-ok g c =
     let done = c.in_ok-close_older.ensures.ok in
-    let closed = became_closed (key_of c.args.old.now) c.args.base.now.create (g.T.HasElements.elements c.args.store.now) (g.T.HasElements.elements c.close_older.new.store)
-    (g.T.HasRoom.extents c.args.store.now) (g.T.HasRoom.extents c.close_older.new.store) done.elements done.extents c.requires.there in
-    renewed_ok g.T.HasElements.elements g.T.HasRoom.extents c.args.base.now c.args.bytes.now c.args.store.now c.close_older.new.store c.insert_with_payload.new.store
-    c.insert_with_payload.result c.requires.new.unclosed c.requires.fresh
-    (subst (λ (s : Subject). Writes g.T.HasElements.elements g.T.HasRoom.extents (Shuts s c.args.base.now.create) c.args.store.now c.close_older.new.store) c.requires.about closed)
-    c.insert_with_payload.ensures.ok
+    let i = c.args.base.now.create in
+    let es = g.T.HasElements.elements in
+    let xs = g.T.HasRoom.extents in
+    let old = c.args.store.now in
+    let mid = c.close_older.new.store in
+    let closed = became_closed (key_of c.args.old.now) i (es old) (es mid) (xs old) (xs mid) done.elements done.extents c.requires.there in
+    let shuts = subst (λ (s : Subject). Writes es xs (Shuts s i) old mid) c.requires.about closed in
+    renewed_ok es xs c.args.base.now c.args.bytes.now old mid c.insert_with_payload.new.store c.insert_with_payload.result c.requires.new.unclosed
+    c.requires.fresh shuts c.insert_with_payload.ensures.ok
 
 pub close_older-requires-clause-older : goal.close_older-requires-clause-older
 close_older-requires-clause-older g c =

@@ -9,6 +9,7 @@ use Rattle.hm_cursor.proofs.cursor.Cursor.next.Given as goal
 -- no element that the cursor shows was passed
 abbrev pub invariant-loop-from : goal.invariant-loop-from
 invariant-loop-from g l = record {
+  self : l.self ≡ l.fn.self;
   passed : IfSome (g.T.HasElements.elements l.fn.store) (λ es. NonePassed es l.fn.self l.from);
   onward : (key : Key) → IsWide key → IsToCome l.from key → IsToCome l.fn.self.from key;
   keeps : Same g.T.HasElements.elements g.T.HasElements.mark g.T.HasRoom.extents g.T.HasRoom.room g.T.HasRoom.free l.fn.store l.store;

@@ -1,0 +1,168 @@
+-- From what counts for one subject after a call that wrote, to the trees of all pseudo file systems.
+use Rattle.std.proofs.Common.{◌≡◌, ◌≢◌, ℕ, List, refl, sym, ap, subst, ◌∙◌, inl, inr, arith}
+use Rattle.std.specs.Prelude.{◌↔◌, ◌⊎◌, Option, None, Some}
+use Rattle.std.specs.List.{Contains}
+use Rattle.hm_types.specs.Elements.{FullElement}
+use Rattle.hm_types.specs.Tree.{FileTree}
+use Rattle.hm_key.specs.declared.rec_type.TheConstants.{PFS_RECORD}
+use Rattle.hm_key.specs.Counts.{Counts, IsRecordOf, Subject, inodes_of, others_of, record_subject, subject_of}
+use Rattle.hm_records.specs.Changes.{IsBeside}
+use Rattle.hm_records.proofs.MadeLemmas.{beside_alone}
+use Rattle.hm_records.proofs.SubjectLemmas.{beside_other, same_subject}
+use Rattle.hm_cursor.specs.Views.{CameAs, Shows, WritesIn}
+use Rattle.hm_cursor.specs.Write.{CameFrom, IsFreshFor, Rewrites}
+
+-- a subject is of a pseudo file system, and is none of the records
+pub record IsWithin (pfs : ℕ) (s : Subject) : Type 0 where
+  pub place : (s.localization ≡ inodes_of pfs) ⊎ (s.localization ≡ others_of pfs)
+  pub no_record : s.rec_type ≢ PFS_RECORD
+
+pub beside_others : (pfs other : ℕ) (s : Subject) → IsWithin pfs s → other ≢ pfs → IsBeside other s
+beside_others pfs other s within differ = elim within.place [
+  | inl is ↦ beside_other other s (λ is'. differ (omega (arith, is, is'))) (λ is'. absurd (omega (arith, is, is')))
+  | inr is ↦ beside_other other s (λ is'. absurd (omega (arith, is, is'))) (λ is'. differ (omega (arith, is, is')))
+]
+
+-- what makes a new element one: it is about a subject, was made by `i`, and has the bytes that count now
+abbrev pub Makes : Subject → Option (List ℕ) → ℕ → (FullElement → Type 0) → Type 0
+Makes s now i New = (x : FullElement) → subject_of x.key ≡ s → x.key.create ≡ i → now ≡ Some x.bytes → New x
+
+-- one such element
+abbrev sample : Subject → ℕ → List ℕ → FullElement
+sample s i bytes = record {
+  key = record { localization = s.localization; obj = s.obj; rec_type = s.rec_type; key = s.key; create = i };
+  delete = 0;
+  obj_type = 0;
+  bytes = bytes;
+}
+
+-- elements about another subject stay, so their ids do
+pub fresh_beside : (s other : Subject) (now : Option (List ℕ)) (i j : ℕ) (es es' : List FullElement) → Rewrites s now i es es' → other ≢ s
+    → IsFreshFor other j es → IsFreshFor other j es'
+fresh_beside s other now i j es es' rewrites differ fresh = record {
+  made = λ x has about. fresh.made x (was x has about) about;
+  closed = λ x has about. fresh.closed x (was x has about) about;
+} where
+  was : (x : FullElement) → Contains es' x → subject_of x.key ≡ other → Contains es x
+  was x has about = (rewrites.beside x (λ is. differ (sym about ∙ is))).0 has
+
+-- the records are about other subjects
+records_stay : (pfs i : ℕ) (s : Subject) (now : Option (List ℕ)) (es es' : List FullElement) → IsWithin pfs s → Rewrites s now i es es'
+    → (other : ℕ) (bytes : List ℕ) → IsRecordOf es' other bytes ↔ IsRecordOf es other bytes
+records_stay pfs i s now es es' within rewrites other bytes = (
+  on es' es (λ x about. (same x about).0) (λ x about. (same x about).1),
+  on es es' (λ x about. (same x about).1) (λ x about. (same x about).0),
+) where
+  same : (x : FullElement) → subject_of x.key ≡ record_subject other → Contains es' x ↔ Contains es x
+  same x about = rewrites.beside x (λ is. within.no_record (ap (λ (z : Subject). z.rec_type) (sym is ∙ about)))
+
+  on : (xs ys : List FullElement) → ((x : FullElement) → subject_of x.key ≡ record_subject other → Contains xs x → Contains ys x)
+      → ((x : FullElement) → subject_of x.key ≡ record_subject other → Contains ys x → Contains xs x) → IsRecordOf xs other bytes
+      → IsRecordOf ys other bytes
+  on xs ys to from is = record {
+    element = is.element;
+    there = to is.element is.about is.there;
+    about = is.about;
+    holds = is.holds;
+    unclosed = is.unclosed;
+    newest = λ x has about open'. is.newest x (from x about has) about open';
+  }
+
+-- Writing about a subject within a pseudo file system is writing in it.
+pub writes_within : (pfs i : ℕ) (s : Subject) (now : Option (List ℕ)) (New : FullElement → Type 0) (es es' : List FullElement) → IsWithin pfs s
+    → Makes s now i New → Rewrites s now i es es' → WritesIn pfs i New es es'
+writes_within pfs i s now New es es' within makes rewrites = record {
+  past = rewrites.past;
+  others = λ t other tree late differ has.
+      beside_alone other s now tree (Counts es t) (Counts es' t) has (beside_others pfs other s within differ) (rewrites.present t late);
+  records = records_stay pfs i s now es es' within rewrites;
+  came = λ x has. came x (rewrites.came x has);
+  fresh = fresh;
+  up_to = rewrites.up_to;
+} where
+  came : (x : FullElement) → CameFrom s now i es x → CameAs New es x
+  came x (inl (about, made, is)) = inr (makes x about made is)
+  came x (inr was) = inl was
+
+  fresh : (other : Subject) → ((x : FullElement) → New x → subject_of x.key ≢ other) → IsFreshFor other i es → IsFreshFor other i es'
+  fresh other apart is = elim (same_subject other s) [
+    | inr differ ↦ fresh_beside s other now i i es es' rewrites differ is
+    | inl same ↦ about same now refl
+  ] where
+    about : other ≡ s → (is_now : Option (List ℕ)) → now ≡ is_now → IsFreshFor other i es'
+    about same None none =
+        subst (λ (z : Subject). IsFreshFor z i es') (sym same) (rewrites.closed none (subst (λ (z : Subject). IsFreshFor z i es) same is))
+    about same (Some bytes) some = absurd (apart (sample s i bytes) (makes (sample s i bytes) refl refl some) (sym same))
+
+-- ---- several writes
+
+-- nothing was written
+pub nothing_written : (pfs i : ℕ) (New : FullElement → Type 0) (es : List FullElement) → WritesIn pfs i New es es
+nothing_written pfs i New es = record {
+  past = λ t below s bytes. (λ h. h, λ h. h);
+  others = λ t other tree late differ has. has;
+  records = λ other bytes. (λ h. h, λ h. h);
+  came = λ x has. inl (x, has, refl, refl, refl);
+  fresh = λ s apart is. is;
+  up_to = λ below. below;
+}
+
+-- an element that is closed stays new
+abbrev pub IsSteady : (FullElement → Type 0) → Type 0
+IsSteady New = (x e : FullElement) → x.key ≡ e.key → x.obj_type ≡ e.obj_type → x.bytes ≡ e.bytes → New e → New x
+
+-- Two writes after one another are one: what is new is so by either.
+pub writes_twice : (pfs i : ℕ) (First Second : FullElement → Type 0) (es mid es' : List FullElement) → IsSteady First
+    → WritesIn pfs i First es mid → WritesIn pfs i Second mid es' → WritesIn pfs i (λ x. First x ⊎ Second x) es es'
+writes_twice pfs i First Second es mid es' steady first second = record {
+  past = λ t below s bytes. (
+    λ h. (first.past t below s bytes).0 ((second.past t below s bytes).0 h),
+    λ h. (second.past t below s bytes).1 ((first.past t below s bytes).1 h),
+  );
+  others = λ t other tree late differ has. second.others t other tree late differ (first.others t other tree late differ has);
+  records = λ other bytes. (
+    λ h. (first.records other bytes).0 ((second.records other bytes).0 h),
+    λ h. (second.records other bytes).1 ((first.records other bytes).1 h),
+  );
+  came = λ x has. later x (second.came x has);
+  fresh = λ s apart is. second.fresh s (λ x new. apart x (inr new)) (first.fresh s (λ x new. apart x (inl new)) is);
+  up_to = λ below. second.up_to (first.up_to below);
+} where
+  earlier : (x e : FullElement) → x.key ≡ e.key → x.obj_type ≡ e.obj_type → x.bytes ≡ e.bytes → CameAs First es e
+      → CameAs (λ x. First x ⊎ Second x) es x
+  earlier x e key kind bytes (inl (d, there, key', kind', bytes')) = inl (d, there, key ∙ key', kind ∙ kind', bytes ∙ bytes')
+  earlier x e key kind bytes (inr new) = inr (inl (steady x e key kind bytes new))
+
+  later : (x : FullElement) → CameAs Second mid x → CameAs (λ x. First x ⊎ Second x) es x
+  later x (inl (e, there, key, kind, bytes)) = earlier x e key kind bytes (first.came e there)
+  later x (inr new) = inr (inr new)
+
+-- What is new may be said in wider words.
+pub writes_wider : (pfs i : ℕ) (New Wider : FullElement → Type 0) (es es' : List FullElement) → ((x : FullElement) → New x → Wider x)
+    → WritesIn pfs i New es es' → WritesIn pfs i Wider es es'
+writes_wider pfs i New Wider es es' wider writes = record {
+  past = writes.past;
+  others = writes.others;
+  records = writes.records;
+  came = λ x has. widened x (writes.came x has);
+  fresh = λ s apart is. writes.fresh s (λ x new. apart x (wider x new)) is;
+  up_to = writes.up_to;
+} where
+  widened : (x : FullElement) → CameAs New es x → CameAs Wider es x
+  widened x (inl was) = inl was
+  widened x (inr new) = inr (wider x new)
+
+-- Two writes of one kind of elements are one.
+pub writes_again : (pfs i : ℕ) (New : FullElement → Type 0) (es mid es' : List FullElement) → IsSteady New
+    → WritesIn pfs i New es mid → WritesIn pfs i New mid es' → WritesIn pfs i New es es'
+writes_again pfs i New es mid es' steady first second =
+    writes_wider pfs i (λ x. New x ⊎ New x) New es es' either (writes_twice pfs i New New es mid es' steady first second)
+  where
+    either : (x : FullElement) → New x ⊎ New x → New x
+    either x (inl new) = new
+    either x (inr new) = new
+
+-- and their changes of the tree are one
+pub shows_twice : (pfs i : ℕ) (first second : FileTree → FileTree) (es mid es' : List FullElement) → Shows pfs i first es mid
+    → Shows pfs i second mid es' → Shows pfs i (λ tree. second (first tree)) es es'
+shows_twice pfs i first second es mid es' one two t tree late has = two t (first tree) late (one t tree late has)
