@@ -5,6 +5,7 @@ use Rattle.std.specs.Prelude.{IsSome, is_some, Option, IfSome, All, slice_get, s
 use Rattle.std.specs.List.{AllByRecursion}
 use Rattle.std.proofs.lemmas.Grind.{flat_map-append}
 use Rattle.std.proofs.lemmas.List.Elements.{All-from_recursion, recursion_from_All}
+use Rattle.std.proofs.lemmas.Option.{IfSome_then}
 use Rattle.hm_types.specs.Elements.{Key}
 use Rattle.hm_types.specs.Faults.{HasFaultCause, HasStoreCause, IsUndamaged}
 use Rattle.hm_types.specs.declared.fault.Fault.{Fault}
@@ -39,6 +40,7 @@ use Rattle.hm_btree.proofs.ChangeLemmas.{inside_under}
 use Rattle.hm_btree.proofs.LocalLemmas.{before_not_at, after_not_at}
 use Rattle.hm_btree.proofs.NodeLemmas.{holder_inside, changed_written, changed_within, changed_above}
 use Rattle.hm_btree.proofs.OrderLemmas.{each_front, each_back, rising_back, rising_front, rising_next}
+use Rattle.hm_btree.proofs.ToldLemmas.{IfSome_both, IfSome_kept}
 use Rattle.hm_btree.proofs.UnderLemmas.{stored_front, stored_back}
 
 -- the child that holds a key is one of the node's
@@ -87,21 +89,12 @@ pub cause_read : (told : Option PageMap) (node : Node) (inner : Inner) (i : ℕ)
     → HasEditCause {T = Unit {0}} told node old new (Err fault)
 cause_read told node inner i s old new fault is at counted damage = record {
   counted = record { never_falls = counted.never_falls; caused = counted.caused };
-  damage = below told damage;
-  undamaged = if_told told damage;
-} where
-  below : (o : Option PageMap) → IfSome o (λ map. TellsDamage s (map s.at) fault) → IfSome o (λ map. (place : Subtree)
-      → StandsHere map place node → IsFaultBelow map place fault)
-  below None damage = tt
-  below (Some map) damage = λ place here. fault_below map place s fault
-      (leads map place inner i s (subst (λ (n : Node). StandsHere map place n) is here) at) (fault_here map s fault damage)
-
-  if_told : (o : Option PageMap) → IfSome o (λ map. TellsDamage s (map s.at) fault)
-      → IfSome o (λ map. (place : Subtree) (height : ℕ) → IsTree map height place node → IsUndamaged fault)
-  if_told None damage = tt
-  if_told (Some map) damage = λ place height tree.
+  damage = IfSome_then told damage (λ map damage place here. fault_below map place s fault
+      (leads map place inner i s (subst (λ (n : Node). StandsHere map place n) is here) at) (fault_here map s fault damage));
+  undamaged = IfSome_then told damage (λ map damage place height tree.
       let below = stored_below map height place node inner i s tree is at in
-      tells_undamaged s (map s.at) (node_at map s.at) fault below.stored.there (stored_here map below.lower s below.stored) damage
+      tells_undamaged s (map s.at) (node_at map s.at) fault below.stored.there (stored_here map below.lower s below.stored) damage);
+}
 
 pub cause_below : {T : Type 0} (told now : Option PageMap) (node child : Node) (inner : Inner) (i : ℕ) (s : Subtree)
     (old mid new : ℕ) (fault : Fault) → node ≡ inner_node inner → slice_get (children_of inner) i ≡ Some s
@@ -109,25 +102,14 @@ pub cause_below : {T : Type 0} (told now : Option PageMap) (node child : Node) (
     → HasEditCause {T = T} told node old new (Err fault)
 cause_below told now node child inner i s old mid new fault is at same low here cause = record {
   counted = record { never_falls = omega (arith, cause.counted.never_falls); caused = caused_since old mid new fault low cause.counted.caused };
-  damage = below told here (subst (λ (o : Option PageMap). IfSome o (λ map. (place : Subtree) → StandsHere map place child
-      → IsFaultBelow map place fault)) same cause.damage);
-  undamaged = if_told told here (subst (λ (o : Option PageMap). IfSome o (λ map. (place : Subtree) (height : ℕ)
-      → IsTree map height place child → IsUndamaged fault)) same cause.undamaged);
-} where
-  below : (o : Option PageMap) → IfSome o (λ map. StandsHere map s child) → IfSome o (λ map. (place : Subtree)
-      → StandsHere map place child → IsFaultBelow map place fault)
-      → IfSome o (λ map. (place : Subtree) → StandsHere map place node → IsFaultBelow map place fault)
-  below None read more = tt
-  below (Some map) read more = λ place here. fault_below map place s fault
-      (leads map place inner i s (subst (λ (n : Node). StandsHere map place n) is here) at) (more s read)
-
-  if_told : (o : Option PageMap) → IfSome o (λ map. StandsHere map s child) → IfSome o (λ map. (place : Subtree) (height : ℕ)
-      → IsTree map height place child → IsUndamaged fault)
-      → IfSome o (λ map. (place : Subtree) (height : ℕ) → IsTree map height place node → IsUndamaged fault)
-  if_told None here more = tt
-  if_told (Some map) here more = λ place height tree.
+  damage = IfSome_both told here (subst (λ (o : Option PageMap). IfSome o (λ map. (place : Subtree) → StandsHere map place child
+      → IsFaultBelow map place fault)) same cause.damage) (λ map here more place stands. fault_below map place s fault
+      (leads map place inner i s (subst (λ (n : Node). StandsHere map place n) is stands) at) (more s here));
+  undamaged = IfSome_both told here (subst (λ (o : Option PageMap). IfSome o (λ map. (place : Subtree) (height : ℕ)
+      → IsTree map height place child → IsUndamaged fault)) same cause.undamaged) (λ map here more place height tree.
       let below = stored_below map height place node inner i s tree is at in
-      more s below.lower (tree_read map below.lower s child below.stored here)
+      more s below.lower (tree_read map below.lower s child below.stored here));
+}
 
 -- a fault that tells of no damage
 pub undamaged_below : (map : PageMap) (s : Subtree) (fault : Fault) → IsUndamaged fault → IsFaultBelow map s fault
@@ -137,22 +119,13 @@ undamaged_below map s NoMemory is = tt
 
 pub cause_write : {T U : Type 0} (told mid : Option PageMap) (node : Node) (old middle new : ℕ) (fault : Fault)
     → is_some mid ≡ is_some told → old ≤ middle → HasStoreCause {T = U} mid middle new (Err fault) → HasEditCause {T = T} told node old new (Err fault)
-cause_write told mid node old middle new fault same low cause = record {
-  counted = record { never_falls = omega (arith, low, cause.counted.never_falls); caused = caused_since old middle new fault low cause.counted.caused };
-  damage = below told mid same cause.undamaged;
-  undamaged = sound told mid same cause.undamaged;
-} where
-  below : (o p : Option PageMap) → is_some p ≡ is_some o → IfSome p (λ _. IsUndamaged fault) → IfSome o (λ map. (place : Subtree)
-      → StandsHere map place node → IsFaultBelow map place fault)
-  below None p same is = tt
-  below (Some map) None same is = absurd (true≢false (sym same))
-  below (Some map) (Some other) same is = λ place here. undamaged_below map place fault is
-
-  sound : (o p : Option PageMap) → is_some p ≡ is_some o → IfSome p (λ _. IsUndamaged fault)
-      → IfSome o (λ map. (place : Subtree) (height : ℕ) → IsTree map height place node → IsUndamaged fault)
-  sound None p same is = tt
-  sound (Some map) None same is = absurd (true≢false (sym same))
-  sound (Some map) (Some other) same is = λ place height tree. is
+cause_write told mid node old middle new fault same low cause =
+    let undamaged : IfSome told (λ _. IsUndamaged fault) = IfSome_kept mid told _ (sym same) cause.undamaged in
+    record {
+      counted = record { never_falls = omega (arith, low, cause.counted.never_falls); caused = caused_since old middle new fault low cause.counted.caused };
+      damage = IfSome_then told undamaged (λ map is place here. undamaged_below map place fault is);
+      undamaged = IfSome_then told undamaged (λ map is place height tree. is);
+    }
 
 -- a list at a place
 pub split_at : {A : Type 0} (xs : List A) (i : ℕ) (x : A) → slice_get xs i ≡ Some x → (xs ≡ take i xs ++ x ∷ drop (suc i) xs) × (length (take i xs) ≡ i)

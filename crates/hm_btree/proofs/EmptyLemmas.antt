@@ -17,6 +17,7 @@ use Rattle.hm_btree.specs.Edits.{leaf_of}
 use Rattle.hm_btree.specs.Space.{HasAdded, IsSpot}
 use Rattle.hm_btree.specs.Tree.{HasNoPage, HasNothing, HoldsTree, IsTreeSpace, told_elements, told_mark}
 use Rattle.hm_btree.proofs.PutLemmas.{put_at, put_other, test_other}
+use Rattle.hm_btree.proofs.ToldLemmas.{IfSome_both, told_after}
 
 no_order : IsStrictlySortedBy element_cmp []
 unfolding IsStrictlySortedBy
@@ -72,10 +73,7 @@ module _ (root : ℕ) (old new : PageMap) (none : HasNoPage old) (spot : IsSpot 
 
 -- the same where the pages are told
 pub empty_holds : (root : ℕ) (p q : Option PageMap) → IfSome p HasNoPage → IsSpot root → BothTell p q (HasAdded root no_elements) → HoldsTree q root
-empty_holds root None None none spot added = ∣ tt ∣₁
-empty_holds root None (Some new) none spot added = absurd added
-empty_holds root (Some old) None none spot added = absurd added
-empty_holds root (Some old) (Some new) none spot added = ∣ (empty_tree root old new none spot added).0 ∣₁
+empty_holds root p q none spot added = ∣ told_after p q added none (λ old new added none. (empty_tree root old new none spot added).0) ∣₁
 
 pub empty_told : (root : ℕ) (intact : Bool) (p q : Option PageMap) → IsTrue intact → IfSome p HasNoPage → IsSpot root
     → BothTell p q (HasAdded root no_elements) → IfSome p (λ _. told_elements intact q root ≡ Some [])
@@ -93,5 +91,4 @@ empty_marks root (Some old) (Some new) none spot added = (empty_tree root old ne
 pub has_nothing : (was told : Option PageMap) (intact : Bool) (root : ℕ)
     → IfSome was (λ _. told_elements intact told root ≡ Some []) → IfSome was (λ _. (key : Key) → told_mark told root key ≡ 0)
     → IfSome was (λ _. HasNothing intact told root)
-has_nothing None told intact root elements marks = tt
-has_nothing (Some pages) told intact root elements marks = record { elements = elements; marks = marks }
+has_nothing was told intact root elements marks = IfSome_both was elements marks (λ pages elements marks. record { elements = elements; marks = marks })

@@ -13,6 +13,7 @@ use Rattle.hm_key.proofs.PlaceLemmas.{first_from-leading, got}
 use Rattle.hm_key.proofs.SearchLemmas.{has_found, has_none}
 use Rattle.hm_node.specs.Leaf.{HasLeafOrder}
 use Rattle.hm_node.specs.declared.leaf.Leaf.{Leaf}
+use Rattle.hm_btree.proofs.ToldLemmas.{IfSome_both}
 
 module _ (leaf : Leaf) (key : Key) (i : ℕ) (lent : Option (Bor Element)) where
   first_is : (xs : List Element) → i ≡ leading key leaf.places.items → IsItemAt xs i lent → xs ≡ leaf.places.items
@@ -35,12 +36,11 @@ pub stands_there : (at : Key) (e : Element) (found : Option Element) (old new : 
     (test : Bool) → new ≡ old → IfSome old IsContent
     → IfSome old (λ es. found ≡ first_from at es) → found ≡ Some e → o ≡ key_cmp (element_key e) at
     → test ≡ (ordering_index o == 1) → IfSome new (λ es. test ≡ is_some (element_at at es))
-stands_there at e found None new o test same content search is order tested = rw same tt
-stands_there at e found (Some es) new o test same content search is order tested =
-    rw same (has_found at e es o test content.rising (sym search ∙ is) order tested)
+stands_there at e found old new o test same content search is order tested = rw same (IfSome_both old content search (λ es content search.
+    has_found at e es o test content.rising (sym search ∙ is) order tested))
 
 pub stands_nowhere : (at : Key) (found : Option Element) (old new : Option (List Element)) → new ≡ old → IfSome old IsContent
     → IfSome old (λ es. found ≡ first_from at es) → found ≡ None
     → IfSome new (λ es. false ≡ is_some (element_at at es))
-stands_nowhere at found None new same content search is = rw same tt
-stands_nowhere at found (Some es) new same content search is = rw same (has_none at es content.rising (sym search ∙ is))
+stands_nowhere at found old new same content search is = rw same (IfSome_both old content search (λ es content search.
+    has_none at es content.rising (sym search ∙ is)))

@@ -29,6 +29,7 @@ use Rattle.hm_btree.specs.Grow.{Split, GrownTo, Grows, LeafBecomes, InnerBecomes
 use Rattle.hm_btree.specs.declared.upper.Upper.{Upper}
 use Rattle.hm_btree.proofs.EditLemmas.{read_there, split_at, set_at_place, child_inside, child_tree, child_element}
 use Rattle.hm_btree.proofs.GrowLemmas.{grown_leaf, grown_parent}
+use Rattle.hm_btree.proofs.ToldLemmas.{IfSome_both, both_after, told_after}
 
 -- a leaf got an element
 pub leaf_grows : (e : Element) (node after : Node) (leaf leaf' : Leaf) (p : Option PageMap) (o : Option Upper) → IsElement e
@@ -56,19 +57,19 @@ becomes_same l l' m m' cs cs' r r' x o a b c d becomes =
 module _ (f : List Element → List Element) (key : Key) (marking : Marking) (Needs : Option Element → Type 0)
     (local : IsLocal f key) (inner inner1 inner2 : Inner) (i : ℕ) (s : Subtree) (child after : Node) (m : ℕ) (upper : Upper)
     (at : ℕ) (mu : ℕ) (o : Option Upper) where
-  parent_grown : (old mid new1 new2 : PageMap) (lower : ℕ) (place : Subtree) → IsTree old (suc lower) place (inner_node inner)
+  parent_grown : (old : PageMap) (p2 p3 p4 : Option PageMap) (height : ℕ) (place : Subtree) → IsTree old height place (inner_node inner)
       → IsInside place.left place.right key → i ≡ holder_place key inner.places.items
-      → IsChildAt inner.level inner.right inner.places.items i s → StandsHere old s child → HasWritten s.at after mid new1
-      → HasAdded at upper.node new1 new2 → IsSpot at
-      → ((place : Subtree) (height : ℕ) → IsTree old height place child → IsInside place.left place.right key
-      → Needs (element_at key (elements_in old height child)) → Split f key marking place height old mid child after upper.node upper.left)
-      → Needs (element_at key (elements_in old (suc lower) (inner_node inner)))
+      → IsChildAt inner.level inner.right inner.places.items i s → StandsHere old s child → BothTell p2 p3 (HasWritten s.at after)
+      → BothTell p3 p4 (HasAdded at upper.node) → IsSpot at → Grows f key marking Needs (Some old) p2 child after (Some upper)
+      → Needs (element_at key (elements_in old height (inner_node inner)))
       → inner1.level ≡ inner.level → inner1.mirror ≡ max inner.mirror m → m ≡ mirror_of after → mu ≡ mirror_of upper.node
       → ChildChange (with_mirror m) inner.places.items i inner1.places.items → inner1.right ≡ inner.right
       → InnerBecomes inner1.level (max inner1.mirror mu) (insert inner1.places.items (i + 1)
       (record { left = upper.left; child = at; mirror = mu })) inner1.right inner2 o
-      → GrownTo f key marking place (suc lower) old new2 (inner_node inner) (inner_node inner2) o
-  parent_grown old mid new1 new2 lower place tree inside at_holder there here written added spot rec needs level mirror is is_up items right becomes =
+      → IfSome p4 (λ new. GrownTo f key marking place height old new (inner_node inner) (inner_node inner2) o)
+  parent_grown old p2 p3 p4 zero place tree inside at_holder there here written added spot grows needs level mirror is is_up items right becomes =
+      absurd (omega (arith, tree.level, tree.sound.level.0))
+  parent_grown old p2 p3 p4 (suc lower) place tree inside at_holder there here written added spot grows needs level mirror is is_up items right becomes =
       let cs : List Child = inner.places.items in
       let c : Child = there.child in
       let pre : List Child = take i cs in
@@ -84,8 +85,8 @@ module _ (f : List Element → List Element) (key : Key) (marking : Marking) (Ne
       let spot_of : Subtree = child_place inner.level (next_left inner.right post) c in
       let stored : IsStoredTree old lower spot_of = child_tree key place lower inner.level inner.mirror inner.right old pre c post tree' held inside in
       let read : node_at old c.child ≡ child = read_there old s c.child child where_is stored.there here in
-      let below : Split f key marking spot_of lower old mid child after upper.node upper.left =
-      rec spot_of lower (subst (λ (n : Node). IsTree old lower spot_of n) read stored.tree)
+      let below : IfSome p2 (λ mid. Split f key marking spot_of lower old mid child after upper.node upper.left) =
+      grows spot_of lower (subst (λ (n : Node). IsTree old lower spot_of n) read stored.tree)
       (child_inside key place lower inner.level inner.mirror inner.right old pre c post tree' held inside)
       (subst (λ (n : Node). Needs (element_at key (elements_in old lower n))) read
       (subst Needs (child_element key place lower inner.level inner.mirror inner.right old pre c post tree' held inside) needs')) in
@@ -101,12 +102,15 @@ module _ (f : List Element → List Element) (key : Key) (marking : Marking) (Ne
       (pre ++ with_mirror (mirror_of after) c ∷ record { left = upper.left; child = at; mirror = mirror_of upper.node } ∷ post)
       inner1.right inner.right inner2 o level
       (ap (λ (n : ℕ). max n mu) (mirror ∙ ap (max inner.mirror) is) ∙ ap (max (max inner.mirror (mirror_of after))) is_up) list right becomes in
-      subst (λ (l : List Child). GrownTo f key marking place (suc lower) old new2
+      let both : BothTell p2 p4 (λ mid new. (part : PageMap) × HasWritten s.at after mid part × HasAdded at upper.node part new) =
+      both_after p2 p3 p4 written added (λ mid part new written added. (part, written, added)) in
+      told_after p2 p4 both below (λ mid new pages below.
+      subst (λ (l : List Child). GrownTo f key marking place (suc lower) old new
       (inner_node (inner_of inner.level inner.mirror l inner.right)) (inner_node inner2) o) (sym split.0)
-      (grown_parent key place lower inner.level inner.mirror inner.right old pre c post tree' held inside f marking mid new1 new2
+      (grown_parent key place lower inner.level inner.mirror inner.right old pre c post tree' held inside f marking mid pages.0 new
       after upper.node upper.left at inner2 o local
       (subst (λ (n : Node). Split f key marking spot_of lower old mid n after upper.node upper.left) (sym read) below)
-      (subst (λ (a : ℕ). HasWritten a after mid new1) where_is written) added spot end)
+      (subst (λ (a : ℕ). HasWritten a after mid pages.0) where_is pages.1) pages.2 spot end))
 
   pub inner_grows : (node : Node) (p0 p1 p2 p3 p4 : Option PageMap) → node ≡ inner_node inner
       → i ≡ holder_place key inner.places.items → slice_get (children_of inner) i ≡ Some s → p1 ≡ p0 → IfSome p0 (λ map. StandsHere map s child)
@@ -116,31 +120,10 @@ module _ (f : List Element → List Element) (key : Key) (marking : Marking) (Ne
       → InnerBecomes inner1.level (max inner1.mirror mu) (insert inner1.places.items (i + 1)
       (record { left = upper.left; child = at; mirror = mu })) inner1.right inner2 o
       → Grows f key marking Needs p0 p4 node (inner_node inner2) o
-  inner_grows node None p1 p2 p3 p4 is at_holder there same here rec written added spot level mirror m_is mu_is items right becomes = tt
-  inner_grows node (Some old) p1 p2 p3 p4 is at_holder there same here rec written added spot level mirror m_is mu_is items right becomes =
-      let told : Grows f key marking Needs (Some old) p2 child after (Some upper) =
-      subst (λ (p : Option PageMap). Grows f key marking Needs p p2 child after (Some upper)) same rec in
-      λ place height tree inside needs.
+  inner_grows node p0 p1 p2 p3 p4 is at_holder there same here grows written added spot level mirror m_is mu_is items right becomes =
+      IfSome_both p0 here (subst (λ (p : Option PageMap). Grows f key marking Needs p p2 child after (Some upper)) same grows)
+      (λ old here grows place height tree inside needs.
       subst (λ (n : Node). IfSome p4 (λ new. GrownTo f key marking place height old new n (inner_node inner2) o)) (sym is)
-      (by_pages p2 p3 p4 told written added height place (subst (λ (n : Node). IsTree old height place n) is tree) inside
-      (subst (λ (n : Node). Needs (element_at key (elements_in old height n))) is needs)) where
-        by_height : (mid new1 new2 : PageMap) → Grows f key marking Needs (Some old) (Some mid) child after (Some upper)
-            → HasWritten s.at after mid new1 → HasAdded at upper.node new1 new2 → (height : ℕ) (place : Subtree) → IsTree old height place (inner_node inner)
-            → IsInside place.left place.right key → Needs (element_at key (elements_in old height (inner_node inner)))
-            → GrownTo f key marking place height old new2 (inner_node inner) (inner_node inner2) o
-        by_height mid new1 new2 told written added zero place tree inside needs = absurd (omega (arith, tree.level, tree.sound.level.0))
-        by_height mid new1 new2 told written added (suc lower) place tree inside needs =
-            parent_grown old mid new1 new2 lower place tree inside at_holder (place_is inner.level inner.right inner.places.items
-            i s there) here written added spot
-            told needs level mirror m_is mu_is items right becomes
-
-        by_pages : (p2 p3 p4 : Option PageMap) → Grows f key marking Needs (Some old) p2 child after (Some upper) → BothTell p2 p3
-            (HasWritten s.at after) → BothTell p3 p4 (HasAdded at upper.node) → (height : ℕ) (place : Subtree)
-            → IsTree old height place (inner_node inner) → IsInside place.left place.right key
-            → Needs (element_at key (elements_in old height (inner_node inner)))
-            → IfSome p4 (λ new. GrownTo f key marking place height old new (inner_node inner) (inner_node inner2) o)
-        by_pages p2 p3 None told written added height place tree inside needs = tt
-        by_pages p2 None (Some new2) told written added height place tree inside needs = absurd added
-        by_pages None (Some new1) (Some new2) told written added height place tree inside needs = absurd written
-        by_pages (Some mid) (Some new1) (Some new2) told written added height place tree inside needs =
-            by_height mid new1 new2 told written added height place tree inside needs
+      (parent_grown old p2 p3 p4 height place (subst (λ (n : Node). IsTree old height place n) is tree) inside at_holder
+      (place_is inner.level inner.right inner.places.items i s there) here written added spot grows
+      (subst (λ (n : Node). Needs (element_at key (elements_in old height n))) is needs) level mirror m_is mu_is items right becomes))

@@ -1,6 +1,7 @@
 -- The child that holds the key of an element.
 use Rattle.std.proofs.Common.{◌≡◌, true≢false, ℕ, zero, suc, List, ◌∷◌, ◌++◌, length, take, drop, refl, sym, ap, subst, ◌∙◌, arith, Some, None}
 use Rattle.std.specs.Prelude.{Option, IsSome, is_some, IfSome, slice_get}
+use Rattle.std.proofs.lemmas.Option.{IfSome_then}
 use Rattle.hm_types.specs.Elements.{Key}
 use Rattle.hm_fields.specs.Pages.{PageMap}
 use Rattle.hm_key.specs.Elements.{element_at}
@@ -21,6 +22,7 @@ use Rattle.hm_btree.specs.Below.{IsLocal, Changed}
 use Rattle.hm_btree.specs.Edits.{inner_of}
 use Rattle.hm_btree.specs.Shrink.{loose, Shrinks, HoldsElement, HasNeighbours, IsShrunk}
 use Rattle.hm_btree.proofs.EditLemmas.{split_at, stored_below, child_inside, child_tree, child_element, read_there}
+use Rattle.hm_btree.proofs.ToldLemmas.{IfSome_alike, IfSome_both}
 
 -- a child that was read, inside whose boundaries a key lies
 pub record IsHolderBelow (map : PageMap) (height : ℕ) (key : Key) (inner : Inner) (i : ℕ) (s : Subtree) (child : Node) : Type 0 where
@@ -69,60 +71,67 @@ module _ (key : Key) (inner : Inner) (i : ℕ) (s : Subtree) (child : Node) (hol
 
   -- where the pages are told
   module _ (node : Node) (p0 p1 : Option PageMap) (is : node ≡ inner_node inner) (same : p1 ≡ p0) where
+    -- the child and its node, where the element stands below this one
+    held_below : IfSome p0 (HoldsElement key node) → IfSome p0 (λ map. StandsHere map s child)
+        → IfSome p0 (λ map. (holds : HoldsElement key node map) × IsHolderBelow map holds.height key inner i s child)
+    held_below holds here = IfSome_both p0 holds here (λ map holds here. (
+      holds,
+      holder_below map holds.height holds.place
+          (subst (λ (n : Node). IsTree map holds.height holds.place n) is holds.tree) holds.inside here,
+    ))
+
+    -- the element is there in the child's node
+    there_below : (map : PageMap) (holds : HoldsElement key node map) (below : IsHolderBelow map holds.height key inner i s child)
+        → IsSome (element_at key (elements_in map below.lower child))
+    there_below map holds below = subst (λ (o : Option Element). IsSome o)
+        (ap (λ (n : Node). element_at key (elements_in map holds.height n)) is ∙ below.same) holds.there
+
     pub holds_below : IfSome p0 (HoldsElement key node) → IfSome p0 (λ map. StandsHere map s child) → IfSome p1 (HoldsElement key child)
-    holds_below holds here = subst (λ (p : Option PageMap). IfSome p (HoldsElement key child)) (sym same) (by_told p0 holds here) where
-      by_told : (p : Option PageMap) → IfSome p (HoldsElement key node) → IfSome p (λ map. StandsHere map s child) → IfSome p (HoldsElement key child)
-      by_told None holds here = tt
-      by_told (Some map) holds here =
-          let tree : IsTree map holds.height holds.place (inner_node inner) = subst (λ (n : Node). IsTree map holds.height holds.place n) is holds.tree in
-          let below = holder_below map holds.height holds.place tree holds.inside here in
-          let spot : Subtree = child_place inner.level (next_left inner.right (drop (suc i) inner.places.items)) below.one in
-          record {
-            place = spot;
-            height = below.lower;
-            tree = subst (λ (n : Node). IsTree map below.lower spot n) below.read below.stored.tree;
-            inside = below.inside;
-            there = subst (λ (o : Option Element). IsSome o) (ap (λ (n : Node). element_at key (elements_in map holds.height n)) is ∙ below.same) holds.there;
-          }
+    holds_below holds here = subst (λ (p : Option PageMap). IfSome p (HoldsElement key child)) (sym same)
+        (IfSome_then p0 (held_below holds here) (λ map held.
+        let below = held.1 in
+        let spot : Subtree = child_place inner.level (next_left inner.right (drop (suc i) inner.places.items)) below.one in
+        record {
+          place = spot;
+          height = below.lower;
+          tree = subst (λ (n : Node). IsTree map below.lower spot n) below.read below.stored.tree;
+          inside = below.inside;
+          there = there_below map held.0 below;
+        }))
 
     -- and the child lost places
     pub shrunk_told : (f : List Element → List Element) (p2 : Option PageMap) (after : Node) → IsLocal f key
         → IfSome p0 (HoldsElement key node) → IfSome p0 (λ map. StandsHere map s child)
         → Shrinks f key TakesOut (λ o. IsSome o) p1 p2 child after → is_some p2 ≡ is_some p1 → IfSome p2 (IsShrunk inner i after)
-    shrunk_told f p2 after local holds here shrinks told = by_told p0 p2 holds here
-        (subst (λ (p : Option PageMap). Shrinks f key TakesOut (λ o. IsSome o) p p2 child after) same shrinks) (told ∙ ap is_some same) where
-          by_told : (p q : Option PageMap) → IfSome p (HoldsElement key node) → IfSome p (λ map. StandsHere map s child)
-              → Shrinks f key TakesOut (λ o. IsSome o) p q child after → is_some q ≡ is_some p → IfSome q (IsShrunk inner i after)
-          by_told p None holds here shrinks told = tt
-          by_told None (Some mid) holds here shrinks told = absurd (true≢false told)
-          by_told (Some map) (Some mid) holds here shrinks told =
-              let tree : IsTree map holds.height holds.place (inner_node inner) = subst (λ (n : Node). IsTree map holds.height holds.place n) is holds.tree in
-              let below = holder_below map holds.height holds.place tree holds.inside here in
-              let spot : Subtree = child_place inner.level (next_left inner.right (drop (suc i) inner.places.items)) below.one in
-              let there : IsSome (element_at key (elements_in map below.lower child)) = subst (λ (o : Option Element). IsSome o)
-              (ap (λ (n : Node). element_at key (elements_in map holds.height n)) is ∙ below.same) holds.there in
-              let change = shrinks spot below.lower (subst (λ (n : Node). IsTree map below.lower spot n) below.read below.stored.tree) below.inside there in
-              record {
-                f = f;
-                key = key;
-                local = local;
-                old = map;
-                place = holds.place;
-                height = below.lower;
-                tree = subst (λ (n : ℕ). IsTree map n holds.place (inner_node inner)) below.high tree;
-                inside = holds.inside;
-                holder = holder;
-                child = below.one;
-                at = below.at;
-                change = subst (λ (n : Node). Changed f key TakesOut (loose spot) below.lower map mid n after) (sym below.read) change;
-              }
+    shrunk_told f p2 after local holds here shrinks told = IfSome_alike p0 p2 _ (told ∙ ap is_some same)
+        (IfSome_both p0 (held_below holds here)
+        (subst (λ (p : Option PageMap). Shrinks f key TakesOut (λ o. IsSome o) p p2 child after) same shrinks) (λ map held shrinks.
+        let holds = held.0 in
+        let below = held.1 in
+        let spot : Subtree = child_place inner.level (next_left inner.right (drop (suc i) inner.places.items)) below.one in
+        IfSome_then p2 (shrinks spot below.lower (subst (λ (n : Node). IsTree map below.lower spot n) below.read below.stored.tree)
+        below.inside (there_below map holds below)) (λ mid change. record {
+          f = f;
+          key = key;
+          local = local;
+          old = map;
+          place = holds.place;
+          height = below.lower;
+          tree = subst (λ (n : ℕ). IsTree map n holds.place (inner_node inner)) below.high
+              (subst (λ (n : Node). IsTree map holds.height holds.place n) is holds.tree);
+          inside = holds.inside;
+          holder = holder;
+          child = below.one;
+          at = below.at;
+          change = subst (λ (n : Node). Changed f key TakesOut (loose spot) below.lower map mid n after) (sym below.read) change;
+        })))
 
 -- the child that is read is stored
 pub holds_read : (key : Key) (inner : Inner) (i : ℕ) (s : Subtree) (node : Node) (p : Option PageMap) → node ≡ inner_node inner
     → slice_get (children_of inner) i ≡ Some s → IfSome p (HoldsElement key node) → IfSome p (λ map. (height : ℕ) × IsStoredTree map height s)
-holds_read key inner i s node None is at holds = tt
-holds_read key inner i s node (Some map) is at holds = let below = stored_below map holds.height holds.place node inner i s
-    holds.tree is at in (below.lower, below.stored)
+holds_read key inner i s node p is at holds = IfSome_then p holds (λ map holds.
+    let below = stored_below map holds.height holds.place node inner i s holds.tree is at in
+    (below.lower, below.stored))
 
 -- below an inner node each inner node has two children at least
 pub neighbours_below : (inner : Inner) (i : ℕ) (s : Subtree) (child : Node) → slice_get (children_of inner) i ≡ Some s → Fits s child → HasNeighbours child

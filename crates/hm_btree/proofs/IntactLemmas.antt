@@ -4,13 +4,12 @@ use Rattle.std.specs.Prelude.{Option, IfSome, IsTrue}
 use Rattle.std.proofs.Math.Logic.{∥∥₁_elim}
 use Rattle.std.proofs.Props.{props}
 use Rattle.hm_types.specs.declared.fault.Fault.{Fault}
-use Rattle.hm_types.specs.declared.fault.Fault.TheVariants.{Media, Damaged, NoMemory}
 use Rattle.hm_fields.specs.Pages.{PageMap}
 use Rattle.hm_types.specs.Faults.{HasStoreCause, IsUndamaged}
 use Rattle.hm_key.specs.declared.element.Element.{Element}
 use Rattle.hm_node.specs.Props.{IsZone-prop}
 use Rattle.hm_search.specs.Props.{IsSoundTree-prop, IsWhole-prop}
-use Rattle.hm_search.specs.Tree.{elements_of}
+use Rattle.hm_search.specs.Tree.{IsSoundTree, elements_of}
 use Rattle.hm_btree.specs.Space.{IsSpot}
 use Rattle.hm_btree.specs.Tree.{IsTreeSpace, IsIntact, told_elements}
 
@@ -34,19 +33,25 @@ intact_elements Needs false told root is needs = absurd (true≢false (sym is))
 intact_elements Needs true None root is needs = tt
 intact_elements Needs true (Some map) root is needs = needs
 
-page_undamaged : (fault : Fault) → IsUndamaged fault → IsUndamaged fault
-page_undamaged (Media before after) is = tt
-page_undamaged (Damaged at kind) is = is
-page_undamaged NoMemory is = tt
+-- what holds of its elements where the pages are told, holds of those that it tells
+elements_told : (P : List Element → Type 0) (intact : Bool) (told : Option PageMap) (root : ℕ)
+    → IfSome told (λ pages. P (elements_of pages root)) → IfSome (told_elements intact told root) P
+elements_told P false told root is = tt
+elements_told P true None root is = tt
+elements_told P true (Some map) root is = is
+
+-- and so does what holds where they are a sound tree
+pub told_intact : (P : Option PageMap → List Element → Type 0) (intact : Bool) (told : Option PageMap) (root : ℕ)
+    → ((pages : PageMap) → IsProp (P (Some pages) (elements_of pages root))) → ∥ IsIntact intact told root ∥₁
+    → IfSome told (λ pages. IsSoundTree pages root → P (Some pages) (elements_of pages root)) → IfSome (told_elements intact told root) (P told)
+told_intact P false told root prop sound more = tt
+told_intact P true None root prop sound more = tt
+told_intact P true (Some map) root prop sound more = ∥∥₁_elim sound (prop map) (λ tree. more tree.sound)
 
 -- the cause of a fault of a call that needs the tree sound where its pages are told
 pub cause_in_tree : {T U : Type 0} (intact : Bool) (told : Option PageMap) (root old new : ℕ) (fault : Fault)
     → HasStoreCause {T = T} told old new (Err fault) → HasStoreCause {T = U} (told_elements intact told root) old new (Err fault)
 cause_in_tree intact told root old new fault cause = record {
   counted = record { never_falls = cause.counted.never_falls; caused = cause.counted.caused };
-  undamaged = by_told intact told cause.undamaged;
-} where
-  by_told : (b : Bool) (o : Option PageMap) → IfSome o (λ _. IsUndamaged fault) → IfSome (told_elements b o root) (λ _. IsUndamaged fault)
-  by_told false o is = tt
-  by_told true None is = tt
-  by_told true (Some map) is = page_undamaged fault is
+  undamaged = elements_told (λ _. IsUndamaged fault) intact told root cause.undamaged;
+}

@@ -2,6 +2,7 @@
 use Rattle.std.proofs.Common.{◌≡◌, Bool, true, false, ℕ, zero, suc, ◌+◌, ◌<◌, List, [], ◌∷◌, ◌++◌, length, take, drop, remove, refl, sym}
 use Rattle.std.proofs.Common.{ap, subst, ◌∙◌, arith, max, Some, None}
 use Rattle.std.specs.Prelude.{Option, IsSome, IfSome, slice_get, slice_set, slice_index_or, ◌==◌, if◌then◌else◌}
+use Rattle.std.proofs.lemmas.Option.{IfSome_then}
 use Rattle.hm_fields.specs.Pages.{PageMap}
 use Rattle.hm_types.specs.Told.{BothTell}
 use Rattle.hm_node.specs.declared.inner.Child.{Child}
@@ -12,7 +13,8 @@ use Rattle.hm_btree.specs.Edits.{inner_of, with_mirror, with_left, ChildChange}
 use Rattle.hm_btree.specs.Space.{HasWritten, HasLost}
 use Rattle.hm_btree.specs.Shrink.{Joins, IsPairJoined}
 use Rattle.hm_btree.specs.declared.upper.Upper.{Upper}
-use Rattle.hm_btree.proofs.ToldLemmas.{inner_is}
+use Rattle.hm_btree.proofs.ToldLemmas.{both_after, both_then, told_after}
+use Rattle.hm_btree.proofs.WorksLemmas.{inner_is}
 
 -- a list at two places in turn
 pair_at : {A : Type 0} (xs : List A) (i : ℕ) (a b : A) → slice_get xs i ≡ Some a → slice_get xs (suc i) ≡ Some b
@@ -104,12 +106,10 @@ first_changed {A = A} xs i a b d change first second =
 -- a page that is there stays when one is written
 pub there_written : (p0 p1 : Option PageMap) (at x : ℕ) (node : Node) → IfSome p0 (λ map. IsSome (map x)) → BothTell p0 p1
     (HasWritten at node) → IfSome p1 (λ map. IsSome (map x))
-there_written p0 None at x node there both = tt
-there_written None (Some new) at x node there both = absurd both
-there_written (Some old) (Some new) at x node there (page, spells, put) = by_test (x == at) (put x) where
-  by_test : (b : Bool) → new x ≡ (if b then Some page else old x) → IsSome (new x)
-  by_test true is = rw is refl
-  by_test false is = rw is there
+there_written p0 p1 at x node there both = told_after p0 p1 both there (λ old new written there. by_test old new written.0 there (x == at) (written.2 x)) where
+  by_test : (old new : PageMap) (page : List ℕ) → IsSome (old x) → (b : Bool) → new x ≡ (if b then Some page else old x) → IsSome (new x)
+  by_test old new page there true is = rw is refl
+  by_test old new page there false is = rw is there
 
 module _ (before one : Inner) (i m : ℕ) (left right lower : Node) (d e : Child) (xs ys : List Child) (xs_is : xs ≡ before.places.items)
     (level : one.level ≡ before.level) (mirror : one.mirror ≡ max before.mirror m)
@@ -148,40 +148,39 @@ module _ (before one : Inner) (i m : ℕ) (left right lower : Node) (d e : Child
   -- the page of the second one is there
   pub second_page : (p : Option PageMap) → i + 1 < length before.places.items
       → IfSome p (λ map. (c : Child) → slice_get before.places.items (i + 1) ≡ Some c → IsSome (map c.child)) → IfSome p (λ map. IsSome (map second.child))
-  second_page None low there = tt
-  second_page (Some map) low there =
+  second_page p low there =
       let a = got_place before.places.items i (omega arith) in
       let b = got_place before.places.items (i + 1) low in
-      subst (λ (c : Child). IsSome (map c.child)) (sym (second_child a.0 b.0 a.1 b.1)) (there b.0 b.1)
+      IfSome_then p there (λ map there. subst (λ (c : Child). IsSome (map c.child)) (sym (second_child a.0 b.0 a.1 b.1)) (there b.0 b.1))
 
   -- they are one node
   pub joined_one : (after : Inner) (p0 p1 p2 : Option PageMap) → Joins left right lower None → BothTell p0 p1
       (HasWritten first.child lower) → BothTell p1 p2 (HasLost second.child)
       → after ≡ inner_of one.level one.mirror (remove one.places.items (i + 1)) one.right
       → IfSome p0 (λ old. IfSome p2 (λ new. IsPairJoined before i left right old new after))
-  joined_one after None p1 p2 joins written lost is = tt
-  joined_one after (Some old) p1 None joins written lost is = tt
-  joined_one after (Some old) None (Some new) joins written lost is = absurd written
-  joined_one after (Some old) (Some mid) (Some new) joins written lost is = record {
-    lower = lower;
-    upper = None;
-    joins = joins;
-    rejoined = λ a b a_at b_at.
-        let pre : List Child = take i before.places.items in
-        let post : List Child = drop (i + 2) before.places.items in
-        let c : Child = with_mirror (mirror_of lower) a in
-        let list : remove one.places.items (i + 1) ≡ pre ++ c ∷ post =
-        ap (λ (l : List Child). remove l (i + 1)) (one_items a b a_at b_at) ∙ second_gone c b post pre i (long a b a_at b_at) in (
-          (
-            mid,
-            subst (λ (x : Child). HasWritten x.child lower old mid) (first_child a b a_at b_at) written,
-            subst (λ (x : Child). HasLost x.child mid new) (second_child a b a_at b_at) lost,
-          ),
-          inner_is after before.level (max before.mirror (mirror_of lower)) (pre ++ c ∷ post) before.right
-              (ap (λ (x : Inner). x.level) is ∙ level) (ap (λ (x : Inner). x.mirror) is ∙ mirror ∙ ap (max before.mirror) m_is)
-              (ap (λ (x : Inner). x.places.items) is ∙ list) (ap (λ (x : Inner). x.right) is ∙ end),
-        );
-  }
+  joined_one after p0 p1 p2 joins written lost is =
+      let both : BothTell p0 p2 (λ old new. (mid : PageMap) × HasWritten first.child lower old mid × HasLost second.child mid new) =
+      both_after p0 p1 p2 written lost (λ old mid new written lost. (mid, written, lost)) in
+      both_then p0 p2 both (λ old new pages. record {
+        lower = lower;
+        upper = None;
+        joins = joins;
+        rejoined = λ a b a_at b_at.
+            let pre : List Child = take i before.places.items in
+            let post : List Child = drop (i + 2) before.places.items in
+            let c : Child = with_mirror (mirror_of lower) a in
+            let list : remove one.places.items (i + 1) ≡ pre ++ c ∷ post =
+            ap (λ (l : List Child). remove l (i + 1)) (one_items a b a_at b_at) ∙ second_gone c b post pre i (long a b a_at b_at) in (
+              (
+                pages.0,
+                subst (λ (x : Child). HasWritten x.child lower old pages.0) (first_child a b a_at b_at) pages.1,
+                subst (λ (x : Child). HasLost x.child pages.0 new) (second_child a b a_at b_at) pages.2,
+              ),
+              inner_is after before.level (max before.mirror (mirror_of lower)) (pre ++ c ∷ post) before.right
+                  (ap (λ (x : Inner). x.level) is ∙ level) (ap (λ (x : Inner). x.mirror) is ∙ mirror ∙ ap (max before.mirror) m_is)
+                  (ap (λ (x : Inner). x.places.items) is ∙ list) (ap (λ (x : Inner). x.right) is ∙ end),
+            );
+      })
 
   -- they are two
   pub joined_two : (two after : Inner) (n : ℕ) (upper : Upper) (p0 p1 p2 : Option PageMap) → Joins left right lower (Some upper)
@@ -191,33 +190,33 @@ module _ (before one : Inner) (i m : ℕ) (left right lower : Node) (d e : Child
       → after.level ≡ two.level → after.mirror ≡ two.mirror → ChildChange (with_left upper.left) two.places.items
       (i + 1) after.places.items → after.right ≡ two.right
       → IfSome p0 (λ old. IfSome p2 (λ new. IsPairJoined before i left right old new after))
-  joined_two two after n upper None p1 p2 joins written more n_is level2 mirror2 items2 end2 level3 mirror3 items3 end3 = tt
-  joined_two two after n upper (Some old) p1 None joins written more n_is level2 mirror2 items2 end2 level3 mirror3 items3 end3 = tt
-  joined_two two after n upper (Some old) None (Some new) joins written more n_is level2 mirror2 items2 end2 level3 mirror3 items3 end3 = absurd written
-  joined_two two after n upper (Some old) (Some mid) (Some new) joins written more n_is level2 mirror2 items2 end2 level3 mirror3 items3 end3 = record {
-    lower = lower;
-    upper = Some upper;
-    joins = joins;
-    rejoined = λ a b a_at b_at.
-        let pre : List Child = take i before.places.items in
-        let post : List Child = drop (i + 2) before.places.items in
-        let c : Child = with_mirror (mirror_of lower) a in
-        let b1 : Child = with_mirror n b in
-        let list1 : two.places.items ≡ pre ++ c ∷ b1 ∷ post =
-        items2 b ∙ ap (λ (l : List Child). slice_set l (i + 1) (with_mirror n (slice_index_or l (i + 1) b)))
-        (one_items a b a_at b_at) ∙ second_changed c b post pre i (long a b a_at b_at) b (with_mirror n) in
-        let list : after.places.items ≡ pre ++ c ∷ record { left = upper.left; child = b.child; mirror = mirror_of upper.node } ∷ post =
-        items3 b ∙ ap (λ (l : List Child). slice_set l (i + 1) (with_left upper.left (slice_index_or l (i + 1) b))) list1
-        ∙ second_changed c b1 post pre i (long a b a_at b_at) b (with_left upper.left)
-        ∙ ap (λ (k : ℕ). pre ++ c ∷ record { left = upper.left; child = b.child; mirror = k } ∷ post) n_is in (
-          (
-            mid,
-            subst (λ (x : Child). HasWritten x.child lower old mid) (first_child a b a_at b_at) written,
-            subst (λ (x : Child). HasWritten x.child upper.node mid new) (second_child a b a_at b_at) more,
-          ),
-          inner_is after before.level (max (max before.mirror (mirror_of lower)) (mirror_of upper.node))
-              (pre ++ c ∷ record { left = upper.left; child = b.child; mirror = mirror_of upper.node } ∷ post) before.right
-              (level3 ∙ level2 ∙ level) (mirror3 ∙ mirror2 ∙ ap (max one.mirror) n_is
-              ∙ ap (λ (k : ℕ). max k (mirror_of upper.node)) (mirror ∙ ap (max before.mirror) m_is)) list (end3 ∙ end2 ∙ end),
-        );
-  }
+  joined_two two after n upper p0 p1 p2 joins written more n_is level2 mirror2 items2 end2 level3 mirror3 items3 end3 =
+      let both : BothTell p0 p2 (λ old new. (mid : PageMap) × HasWritten first.child lower old mid × HasWritten second.child upper.node mid new) =
+      both_after p0 p1 p2 written more (λ old mid new written more. (mid, written, more)) in
+      both_then p0 p2 both (λ old new pages. record {
+        lower = lower;
+        upper = Some upper;
+        joins = joins;
+        rejoined = λ a b a_at b_at.
+            let pre : List Child = take i before.places.items in
+            let post : List Child = drop (i + 2) before.places.items in
+            let c : Child = with_mirror (mirror_of lower) a in
+            let b1 : Child = with_mirror n b in
+            let list1 : two.places.items ≡ pre ++ c ∷ b1 ∷ post =
+            items2 b ∙ ap (λ (l : List Child). slice_set l (i + 1) (with_mirror n (slice_index_or l (i + 1) b)))
+            (one_items a b a_at b_at) ∙ second_changed c b post pre i (long a b a_at b_at) b (with_mirror n) in
+            let list : after.places.items ≡ pre ++ c ∷ record { left = upper.left; child = b.child; mirror = mirror_of upper.node } ∷ post =
+            items3 b ∙ ap (λ (l : List Child). slice_set l (i + 1) (with_left upper.left (slice_index_or l (i + 1) b))) list1
+            ∙ second_changed c b1 post pre i (long a b a_at b_at) b (with_left upper.left)
+            ∙ ap (λ (k : ℕ). pre ++ c ∷ record { left = upper.left; child = b.child; mirror = k } ∷ post) n_is in (
+              (
+                pages.0,
+                subst (λ (x : Child). HasWritten x.child lower old pages.0) (first_child a b a_at b_at) pages.1,
+                subst (λ (x : Child). HasWritten x.child upper.node pages.0 new) (second_child a b a_at b_at) pages.2,
+              ),
+              inner_is after before.level (max (max before.mirror (mirror_of lower)) (mirror_of upper.node))
+                  (pre ++ c ∷ record { left = upper.left; child = b.child; mirror = mirror_of upper.node } ∷ post) before.right
+                  (level3 ∙ level2 ∙ level) (mirror3 ∙ mirror2 ∙ ap (max one.mirror) n_is
+                  ∙ ap (λ (k : ℕ). max k (mirror_of upper.node)) (mirror ∙ ap (max before.mirror) m_is)) list (end3 ∙ end2 ∙ end),
+            );
+      })

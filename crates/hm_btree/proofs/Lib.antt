@@ -41,3 +41,4 @@ pub mod ToldLemmas
 pub mod TopLemmas
 pub mod UnderLemmas
 pub mod UnrootLemmas
+pub mod WorksLemmas

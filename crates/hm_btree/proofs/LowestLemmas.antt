@@ -1,8 +1,9 @@
 -- A tree without a root that had one child alone.
 use Rattle.std.proofs.Common.{◌≡◌, ◌≢◌, Bool, true, false, true≢false, ◌||◌, ℕ, zero, suc, List, [], ◌∷◌, length, refl, sym, ap, subst}
 use Rattle.std.proofs.Common.{◌∙◌, arith, nat_eq, Some, None, append-nil}
-use Rattle.std.specs.Prelude.{Option, IsSome, IfSome, slice_get}
+use Rattle.std.specs.Prelude.{Option, IsSome, is_some, IfSome, slice_get}
 use Rattle.std.proofs.lemmas.List.Elements.{All-from_recursion, recursion_from_All}
+use Rattle.std.proofs.lemmas.Option.{IfSome_then}
 use Rattle.hm_types.specs.Elements.{Key}
 use Rattle.hm_fields.specs.Pages.{PageMap}
 use Rattle.hm_types.specs.Told.{BothTell}
@@ -30,8 +31,9 @@ use Rattle.hm_btree.specs.Tree.{IsTreeSpace}
 use Rattle.hm_btree.proofs.EditLemmas.{stored_below}
 use Rattle.hm_btree.proofs.PutLemmas.{lost_other, replaces_lost, replaces_none, same_test}
 use Rattle.hm_btree.proofs.RootLemmas.{whole_after, spots_after, turned}
-use Rattle.hm_btree.proofs.ToldLemmas.{inner_is}
+use Rattle.hm_btree.proofs.ToldLemmas.{IfSome_alike, IfSome_both, IfSome_where, both_then, told_written}
 use Rattle.hm_btree.proofs.UnderLemmas.{or_false_left, or_false_right, reached_there}
+use Rattle.hm_btree.proofs.WorksLemmas.{inner_is}
 
 -- boundaries with the same keys
 bounds_same : (l r left right : Base) (node : Node) → key_of l ≡ key_of left → key_of r ≡ key_of right → FitsBounds l r node → FitsBounds left right node
@@ -185,53 +187,48 @@ one_child inner s long at =
       by_list (d ∷ []) c is long = let same : d ≡ c = cc in ap (λ (x : Child). x ∷ []) same
       by_list (d ∷ e ∷ ds) c is long = absurd (omega (arith, long))
 
-module _ (p0 p1 p2 : Option PageMap) (root : ℕ) (node child : Node) (inner : Inner) (s : Subtree) (is : node ≡ inner_node inner)
-    (same : p1 ≡ p0) (lost : BothTell p1 p2 (HasLost root)) where
-  -- where the pages are told
-  pub lowered_told : length inner.places.items ≡ 1 → slice_get (children_of inner) 0 ≡ Some s
-      → IfSome p0 (λ was. IsTreeSpace was root) → IfSome p0 (λ was. node_at was root ≡ node) → IfSome p0 (λ map. StandsHere map s child)
-      → IfSome p0 (λ was. IfSome p2 (λ map. IsLowered was map root s.at child))
-  lowered_told long at tree here read = by_pages p0 p2 tree here read (subst (λ (p : Option PageMap). BothTell p p2 (HasLost root)) same lost) where
-    by_pages : (p q : Option PageMap) → IfSome p (λ was. IsTreeSpace was root) → IfSome p (λ was. node_at was root ≡ node)
-        → IfSome p (λ map. StandsHere map s child) → BothTell p q (HasLost root)
-        → IfSome p (λ was. IfSome q (λ map. IsLowered was map root s.at child))
-    by_pages None q tree here read lost = tt
-    by_pages (Some old) None tree here read lost = tt
-    by_pages (Some old) (Some new) tree here read lost =
-        let one = one_child inner s long at in
-        let place : s.at ≡ one.0.child = one.2 in
-        let below = stored_below old (height_of (node_at old root)) (root_place root) (node_at old root) inner 0 s tree.sound.tree (here ∙ is) at in
-        subst (λ (x : ℕ). IsLowered old new root x child) (sym place)
-        (subst (λ (n : Node). IsLowered old new root one.0.child n) (ap (node_at old) (sym place)
-        ∙ (read.spelled below.stored.there).value) (lowered old new root inner one.0 tree (here ∙ is) one.1 lost))
-
-  pub lowered_tree : IfSome p0 (λ was. IfSome p2 (λ map. IsLowered was map root s.at child))
-      → IfSome p2 (λ map. IsTreeSpace map s.at) × IfSome p2 (λ map. node_at map s.at ≡ child)
-  lowered_tree lowered = by_pages p0 p2 (subst (λ (p : Option PageMap). BothTell p p2 (HasLost root)) same lost) lowered where
-    by_pages : (p q : Option PageMap) → BothTell p q (HasLost root)
-        → IfSome p (λ was. IfSome q (λ map. IsLowered was map root s.at child)) → IfSome q (λ map. IsTreeSpace map s.at)
-        × IfSome q (λ map. node_at map s.at ≡ child)
-    by_pages p None lost lowered = (tt, tt)
-    by_pages None (Some new) lost lowered = absurd lost
-    by_pages (Some old) (Some new) lost lowered = (lowered.tree, lowered.here)
-
-  pub lowered_then : (p3 : Option PageMap) (last : ℕ) (below : Node)
-      → IfSome p0 (λ was. IfSome p2 (λ map. IsLowered was map root s.at child)) → IfSome p2 (λ map. IfSome p3 (λ new. IsLowered map new s.at last below))
-      → IfSome p0 (λ was. IfSome p3 (λ new. IsLowered was new root last below))
-  lowered_then p3 last below first second = by_pages p0 p2 p3 (subst (λ (p : Option PageMap). BothTell p p2 (HasLost root)) same lost) first second where
-    by_pages : (p q r : Option PageMap) → BothTell p q (HasLost root)
-        → IfSome p (λ was. IfSome q (λ map. IsLowered was map root s.at child))
-        → IfSome q (λ map. IfSome r (λ new. IsLowered map new s.at last below)) → IfSome p (λ was. IfSome r (λ new. IsLowered was new root last below))
-    by_pages None q r lost first second = tt
-    by_pages (Some old) q None lost first second = tt
-    by_pages (Some old) None (Some new) lost first second = absurd lost
-    by_pages (Some old) (Some map) (Some new) lost first second = lowered_on old map new root s.at last child below first second
-
 -- the child that is read is sound
 pub lowered_read : (p0 : Option PageMap) (root : ℕ) (node : Node) (inner : Inner) (s : Subtree) → node ≡ inner_node inner
     → slice_get (children_of inner) 0 ≡ Some s → IfSome p0 (λ was. IsTreeSpace was root) → IfSome p0 (λ was. node_at was root ≡ node)
     → IfSome p0 (λ map. (height : ℕ) × IsStoredTree map height s)
-lowered_read None root node inner s is at tree here = tt
-lowered_read (Some map) root node inner s is at tree here =
+lowered_read p0 root node inner s is at tree here = IfSome_both p0 tree here (λ map tree here.
     let below = stored_below map (height_of (node_at map root)) (root_place root) (node_at map root) inner 0 s tree.sound.tree (here ∙ is) at in
-    (below.lower, below.stored)
+    (below.lower, below.stored))
+
+module _ (p0 p1 p2 : Option PageMap) (root : ℕ) (node child : Node) (inner : Inner) (s : Subtree) (is : node ≡ inner_node inner)
+    (same : p1 ≡ p0) (lost : BothTell p1 p2 (HasLost root)) where
+  lost_first : BothTell p0 p2 (HasLost root)
+  lost_first = subst (λ (p : Option PageMap). BothTell p p2 (HasLost root)) same lost
+
+  told_first : is_some p2 ≡ is_some p0
+  told_first = told_written p0 p2 (HasLost root) lost_first
+
+  -- where the pages are told
+  pub lowered_told : length inner.places.items ≡ 1 → slice_get (children_of inner) 0 ≡ Some s
+      → IfSome p0 (λ was. IsTreeSpace was root) → IfSome p0 (λ was. node_at was root ≡ node) → IfSome p0 (λ map. StandsHere map s child)
+      → IfSome p0 (λ was. IfSome p2 (λ map. IsLowered was map root s.at child))
+  lowered_told long at tree here read =
+      let one = one_child inner s long at in
+      let place : s.at ≡ one.0.child = one.2 in
+      let below : IfSome p0 (λ old. node_at old s.at ≡ child) = IfSome_both p0 (lowered_read p0 root node inner s is at tree here) read
+      (λ old stored read. (read.spelled stored.1.there).value) in
+      let drops : IfSome p0 (λ old. IfSome p2 (λ new. IsLowered old new root one.0.child (node_at old one.0.child))) =
+      IfSome_both p0 (IfSome_both p0 tree here (λ old tree here new lost. lowered old new root inner one.0 tree (here ∙ is) one.1 lost))
+      (both_then p0 p2 lost_first (λ old new lost. lost)) (λ old drops lost. IfSome_then p2 lost drops) in
+      IfSome_both p0 below drops (λ old below drops. IfSome_then p2 drops (λ new drop.
+      subst (λ (x : ℕ). IsLowered old new root x child) (sym place)
+      (subst (λ (n : Node). IsLowered old new root one.0.child n) (ap (node_at old) (sym place) ∙ below) drop)))
+
+  pub lowered_tree : IfSome p0 (λ was. IfSome p2 (λ map. IsLowered was map root s.at child))
+      → IfSome p2 (λ map. IsTreeSpace map s.at) × IfSome p2 (λ map. node_at map s.at ≡ child)
+  lowered_tree lowered = (
+    IfSome_alike p0 p2 _ told_first (IfSome_then p0 lowered (λ old lowered. IfSome_then p2 lowered (λ map one. one.tree))),
+    IfSome_alike p0 p2 _ told_first (IfSome_then p0 lowered (λ old lowered. IfSome_then p2 lowered (λ map one. one.here))),
+  )
+
+  pub lowered_then : (p3 : Option PageMap) (last : ℕ) (below : Node)
+      → IfSome p0 (λ was. IfSome p2 (λ map. IsLowered was map root s.at child)) → IfSome p2 (λ map. IfSome p3 (λ new. IsLowered map new s.at last below))
+      → IfSome p0 (λ was. IfSome p3 (λ new. IsLowered was new root last below))
+  lowered_then p3 last below first second = IfSome_where p0 p2 _ told_first (IfSome_then p0 first (λ old first.
+      IfSome_both p2 first second (λ map first second. IfSome_then p3 second (λ new second.
+      lowered_on old map new root s.at last child below first second))))

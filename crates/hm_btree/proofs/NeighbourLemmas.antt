@@ -1,6 +1,7 @@
 -- The neighbour of a child that lost places is as it was, and is read.
 use Rattle.std.proofs.Common.{◌≡◌, ℕ, suc, ◌+◌, ◌-◌, ◌<◌, ◌≤◌, inl, inr, List, ◌∷◌, ◌++◌, length, take, drop, sym, ap, subst, ◌∙◌, arith, Some, None, Err}
 use Rattle.std.specs.Prelude.{Option, IsSome, IfSome, slice_get}
+use Rattle.std.proofs.lemmas.Option.{IfSome_then}
 use Rattle.hm_types.specs.Faults.{HasFaultCause, HasStoreCause}
 use Rattle.hm_types.specs.declared.fault.Fault.{Fault}
 use Rattle.hm_fields.specs.Pages.{PageMap}
@@ -24,6 +25,7 @@ use Rattle.hm_btree.proofs.BesideLemmas.{upper_stays, lower_stays, upper_there}
 use Rattle.hm_btree.proofs.JoinAtLemmas.{split_pair, rest_pair}
 use Rattle.hm_btree.proofs.ShrinkLemmas.{upper_child, pair_rising, pair_stored}
 use Rattle.hm_btree.proofs.ShapeLemmas.{node_shaped}
+use Rattle.hm_btree.proofs.ToldLemmas.{IfSome_both}
 
 module _ (inner : Inner) (i : ℕ) (node : Node) (mid : PageMap) (shrunk : IsShrunk inner i node mid) where
   abbrev cs : List Child
@@ -123,16 +125,10 @@ level_below inner i s child at sound fits =
 pub stored_cause : {T : Type 0} (told : Option PageMap) (s : Subtree) (old new : ℕ) (fault : Fault) → IfSome told
     (λ map. (height : ℕ) × IsStoredTree map height s) → HasFaultCause {T = Node} old new (Err fault) → IfSome told (λ map. TellsDamage s (map s.at) fault)
     → HasStoreCause {T = T} told old new (Err fault)
-stored_cause None s old new fault stored counted damage = record {
-  counted = record {
-    never_falls = counted.never_falls;
-    caused = counted.caused;
-  };
-  undamaged = tt;
-}
-stored_cause (Some map) s old new fault (height, stored) counted damage = record {
+stored_cause told s old new fault stored counted damage = record {
   counted = record { never_falls = counted.never_falls; caused = counted.caused };
-  undamaged = tells_undamaged s (map s.at) (node_at map s.at) fault stored.there (stored_here map height s stored) damage;
+  undamaged = IfSome_both told stored damage (λ map stored damage.
+      tells_undamaged s (map s.at) (node_at map s.at) fault stored.1.there (stored_here map stored.0 s stored.1) damage);
 }
 
 -- the node that was read is the child's
@@ -149,60 +145,41 @@ module _ (inner after : Inner) (i : ℕ) (child other : Node) (s : Subtree) (p0 
   -- where the pages are told
   pub right_read : IfSome p0 (IsShrunk inner i child) → slice_get (children_of inner) (i + 1) ≡ Some s
       → IfSome p0 (λ map. (height : ℕ) × IsStoredTree map height s)
-  right_read shrunk at = by_told p0 shrunk where
-    by_told : (p : Option PageMap) → IfSome p (IsShrunk inner i child) → IfSome p (λ map. (height : ℕ) × IsStoredTree map height s)
-    by_told None shrunk = tt
-    by_told (Some map) shrunk = (shrunk.height, right_stored inner i child map shrunk s at)
+  right_read shrunk at = IfSome_then p0 shrunk (λ map shrunk. (shrunk.height, right_stored inner i child map shrunk s at))
 
   pub left_read : (j : ℕ) → j + 1 ≡ i → IfSome p0 (IsShrunk inner i child) → slice_get (children_of inner) j ≡ Some s
       → IfSome p0 (λ map. (height : ℕ) × IsStoredTree map height s)
-  left_read j next shrunk at = by_told p0 shrunk where
-    by_told : (p : Option PageMap) → IfSome p (IsShrunk inner i child) → IfSome p (λ map. (height : ℕ) × IsStoredTree map height s)
-    by_told None shrunk = tt
-    by_told (Some map) shrunk = (shrunk.height, left_stored inner i child map shrunk j next s at)
+  left_read j next shrunk at = IfSome_then p0 shrunk (λ map shrunk. (shrunk.height, left_stored inner i child map shrunk j next s at))
 
   pub right_page : IfSome p0 (IsShrunk inner i child) → IfSome p1 (λ map. (c : Child) → slice_get inner.places.items (i + 1) ≡ Some c → IsSome (map c.child))
-  right_page shrunk = subst (λ (p : Option PageMap). IfSome p (λ map. (c : Child) → slice_get inner.places.items (i + 1) ≡ Some c
-      → IsSome (map c.child))) (sym same) (by_told p0 shrunk) where
-        by_told : (p : Option PageMap) → IfSome p (IsShrunk inner i child)
-            → IfSome p (λ map. (c : Child) → slice_get inner.places.items (i + 1) ≡ Some c → IsSome (map c.child))
-        by_told None shrunk = tt
-        by_told (Some map) shrunk = right_there inner i child map shrunk
+  right_page shrunk = IfSome_then p1 (subst (λ (p : Option PageMap). IfSome p (IsShrunk inner i child)) (sym same) shrunk) (right_there inner i child)
 
   pub left_page : (j : ℕ) → j + 1 ≡ i → slice_get (children_of inner) j ≡ Some s → IfSome p0 (IsShrunk inner i child)
       → IfSome p1 (λ map. (c : Child) → slice_get inner.places.items (j + 1) ≡ Some c → IsSome (map c.child))
-  left_page j next at shrunk = subst (λ (p : Option PageMap). IfSome p (λ map. (c : Child) → slice_get inner.places.items
-      (j + 1) ≡ Some c → IsSome (map c.child))) (sym same) (by_told p0 shrunk) where
-        by_told : (p : Option PageMap) → IfSome p (IsShrunk inner i child)
-            → IfSome p (λ map. (c : Child) → slice_get inner.places.items (j + 1) ≡ Some c → IsSome (map c.child))
-        by_told None shrunk = tt
-        by_told (Some map) shrunk = λ c is. let there = place_is inner.level inner.right inner.places.items j s at in
-            own_page inner i child map shrunk j next there.child c there.is is
+  left_page j next at shrunk =
+      let there = place_is inner.level inner.right inner.places.items j s at in
+      IfSome_then p1 (subst (λ (p : Option PageMap). IfSome p (IsShrunk inner i child)) (sym same) shrunk)
+      (λ map shrunk c is. own_page inner i child map shrunk j next there.child c there.is is)
+
+  -- the node that was read is the neighbour's
+  read_told : (j : ℕ) → slice_get (children_of inner) j ≡ Some s → IfSome p0 (λ map. (height : ℕ) × IsStoredTree map height s)
+      → IfSome p0 (λ map. StandsHere map s other) → IfSome p0 (λ map. IsChildNode inner j map other)
+  read_told j at stored here = IfSome_both p0 stored here (λ map stored here. read_child map inner j s other at stored.1.there here)
 
   pub right_joined : i + 1 < length inner.places.items → slice_get (children_of inner) (i + 1) ≡ Some s
       → IfSome p0 (λ map. (height : ℕ) × IsStoredTree map height s) → IfSome p0 (λ map. StandsHere map s other)
       → IfSome p1 (λ old. IfSome p2 (λ new. IsPairJoined inner i child other old new after))
       → IfSome p0 (λ old. IfSome p2 (λ new. IsJoinedAt inner i child old new after))
-  right_joined low at stored here joined = by_told p0 p2 stored here
-      (subst (λ (p : Option PageMap). IfSome p (λ old. IfSome p2 (λ new. IsPairJoined inner i child other old new after))) same joined) where
-        by_told : (p q : Option PageMap) → IfSome p (λ map. (height : ℕ) × IsStoredTree map height s)
-            → IfSome p (λ map. StandsHere map s other)
-            → IfSome p (λ old. IfSome q (λ new. IsPairJoined inner i child other old new after))
-            → IfSome p (λ old. IfSome q (λ new. IsJoinedAt inner i child old new after))
-        by_told None q stored here joined = tt
-        by_told (Some old) None stored here joined = tt
-        by_told (Some old) (Some new) stored here joined = inl (low, other, read_child old inner (i + 1) s other at stored.1.there here, joined)
+  right_joined low at stored here joined =
+      IfSome_both p0 (read_told (i + 1) at stored here)
+      (subst (λ (p : Option PageMap). IfSome p (λ old. IfSome p2 (λ new. IsPairJoined inner i child other old new after))) same joined)
+      (λ old read joined. IfSome_then p2 joined (λ new joined. inl (low, other, read, joined)))
 
   pub left_joined : (j : ℕ) → j + 1 ≡ i → slice_get (children_of inner) j ≡ Some s → IfSome p0 (λ map. (height : ℕ)
       × IsStoredTree map height s) → IfSome p0 (λ map. StandsHere map s other)
       → IfSome p1 (λ old. IfSome p2 (λ new. IsPairJoined inner j other child old new after))
       → IfSome p0 (λ old. IfSome p2 (λ new. IsJoinedAt inner i child old new after))
-  left_joined j next at stored here joined = by_told p0 p2 stored here
-      (subst (λ (p : Option PageMap). IfSome p (λ old. IfSome p2 (λ new. IsPairJoined inner j other child old new after))) same joined) where
-        by_told : (p q : Option PageMap) → IfSome p (λ map. (height : ℕ) × IsStoredTree map height s)
-            → IfSome p (λ map. StandsHere map s other)
-            → IfSome p (λ old. IfSome q (λ new. IsPairJoined inner j other child old new after))
-            → IfSome p (λ old. IfSome q (λ new. IsJoinedAt inner i child old new after))
-        by_told None q stored here joined = tt
-        by_told (Some old) None stored here joined = tt
-        by_told (Some old) (Some new) stored here joined = inr (j, next, other, read_child old inner j s other at stored.1.there here, joined)
+  left_joined j next at stored here joined =
+      IfSome_both p0 (read_told j at stored here)
+      (subst (λ (p : Option PageMap). IfSome p (λ old. IfSome p2 (λ new. IsPairJoined inner j other child old new after))) same joined)
+      (λ old read joined. IfSome_then p2 joined (λ new joined. inr (j, next, other, read, joined)))

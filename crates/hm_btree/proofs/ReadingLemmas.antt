@@ -1,7 +1,7 @@
 -- What a search in the tree finds, as a store of elements tells it.
-use Rattle.std.proofs.Common.{◌≡◌, Bool, true, false, ℕ, Some, None, Result, Ok, Err}
+use Rattle.std.proofs.Common.{◌≡◌, Bool, ℕ, List, Some, None, Result, Ok, Err}
 use Rattle.std.specs.Prelude.{Option, IfSome, IfOk, IfErr}
-use Rattle.std.proofs.Math.Logic.{∥∥₁_elim}
+use Rattle.std.proofs.lemmas.Option.{IfSome_then}
 use Rattle.std.proofs.Props.{props}
 use Rattle.hm_types.specs.Elements.{Key}
 use Rattle.hm_types.specs.declared.fault.Fault.{Fault}
@@ -14,40 +14,39 @@ use Rattle.hm_key.specs.declared.element.Element.{Element}
 use Rattle.hm_search.specs.Descent.{HasSearchCause}
 use Rattle.hm_search.specs.Tree.{IsSoundTree, elements_of, mark_of, root_place, height_of, node_at, IsStoredTree}
 use Rattle.hm_btree.specs.Tree.{HasTreeCause, IsIntact, told_elements, told_mark}
+use Rattle.hm_btree.proofs.IntactLemmas.{told_intact}
 use Rattle.hm_btree.proofs.StoreLemmas.{store_cause}
 
 -- the first element from a key on
 pub first_in_store : (intact : Bool) (told : Option PageMap) (root : ℕ) (key : Key) (r : Result (Option Element) Fault) → ∥ IsIntact intact told root ∥₁
     → IfSome told (λ pages. IsSoundTree pages root → IfOk r (λ found. found ≡ first_from key (elements_of pages root)))
     → IfSome (told_elements intact told root) (λ es. IfOk r (λ found. found ≡ first_from key es))
-first_in_store false told root key r sound found = tt
-first_in_store true None root key r sound found = tt
-first_in_store true (Some pages) root key r sound found = ∥∥₁_elim sound (by_result r) (λ tree. found tree.sound) where
-  by_result : (q : Result (Option Element) Fault) → IsProp (IfOk q (λ f. f ≡ first_from key (elements_of pages root)))
-  by_result (Ok f) = hlevel props
-  by_result (Err fault) = hlevel props
+first_in_store intact told root key r sound found =
+    told_intact (λ _ es. IfOk r (λ f. f ≡ first_from key es)) intact told root (λ pages. by_result (elements_of pages root) r) sound found where
+      by_result : (es : List Element) (q : Result (Option Element) Fault) → IsProp (IfOk q (λ f. f ≡ first_from key es))
+      by_result es (Ok f) = hlevel props
+      by_result es (Err fault) = hlevel props
 
 -- how far nothing changed
 pub quiet_in_store : (intact : Bool) (told : Option PageMap) (root : ℕ) (at : Key) (since : ℕ) (r : Result (Option Base) Fault)
     → ∥ IsIntact intact told root ∥₁
     → IfSome told (λ pages. IsSoundTree pages root → IfOk r (IsQuiet (mark_of pages root) at since))
     → IfSome (told_elements intact told root) (λ _. IfOk r (IsQuiet (told_mark told root) at since))
-quiet_in_store false told root at since r sound quiet = tt
-quiet_in_store true None root at since r sound quiet = tt
-quiet_in_store true (Some pages) root at since r sound quiet = ∥∥₁_elim sound (by_result r) (λ tree. quiet tree.sound) where
-  by_result : (q : Result (Option Base) Fault) → IsProp (IfOk q (IsQuiet (mark_of pages root) at since))
-  by_result (Ok None) = hlevel props
-  by_result (Ok (Some end)) = hlevel props
-  by_result (Err fault) = hlevel props
+quiet_in_store intact told root at since r sound quiet =
+    told_intact (λ o _. IfOk r (IsQuiet (told_mark o root) at since)) intact told root (λ pages. by_result (mark_of pages root) r) sound quiet where
+      by_result : (mark : Key → ℕ) (q : Result (Option Base) Fault) → IsProp (IfOk q (IsQuiet mark at since))
+      by_result mark (Ok None) = hlevel props
+      by_result mark (Ok (Some end)) = hlevel props
+      by_result mark (Err fault) = hlevel props
 
 -- the cause of each fault
 search_cause : {T : Type 0} (told : Option PageMap) (root old new : ℕ) (r : Result T Fault) → HasSearchCause told
     (root_place root) old new r → HasTreeCause told root old new r
-search_cause told root old new r cause = record { counted = cause.counted; damage = cause.damage; undamaged = by_told told cause.undamaged } where
-  by_told : (o : Option PageMap) → IfSome o (λ map. (height : ℕ) → IsStoredTree map height (root_place root)
-      → IfErr r IsUndamaged) → IfSome o (λ pages. IsSoundTree pages root → IfErr r IsUndamaged)
-  by_told None undamaged = tt
-  by_told (Some pages) undamaged = λ sound. undamaged (height_of (node_at pages root)) sound
+search_cause told root old new r cause = record {
+  counted = cause.counted;
+  damage = cause.damage;
+  undamaged = IfSome_then told cause.undamaged (λ pages undamaged sound. undamaged (height_of (node_at pages root)) sound);
+}
 
 pub cause_in_store : {T : Type 0} (intact : Bool) (told : Option PageMap) (root old new : ℕ) (r : Result T Fault)
     → ∥ IsIntact intact told root ∥₁ → HasSearchCause told (root_place root) old new r → HasStoreCause (told_elements intact told root) old new r

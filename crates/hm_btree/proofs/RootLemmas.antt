@@ -2,6 +2,7 @@
 use Rattle.std.proofs.Common.{◌≡◌, Bool, true, false, true≢false, ◌||◌, ℕ, ◌≤◌, inl, inr, List, refl, sym, ap, subst, ◌∙◌, arith, nat_eq}
 use Rattle.std.proofs.Common.{eqb-true, eq-eqb, Some, None, Result, Ok, Err}
 use Rattle.std.specs.Prelude.{Option, IsSome, is_some, IfSome, ⊤}
+use Rattle.std.proofs.lemmas.Option.{IfSome_then}
 use Rattle.hm_types.specs.Elements.{Key}
 use Rattle.hm_types.specs.Faults.{HasFaultCause, HasStoreCause, IsUndamaged}
 use Rattle.hm_types.specs.declared.fault.Fault.{Fault}
@@ -29,7 +30,8 @@ use Rattle.hm_btree.proofs.LocalLemmas.{element_each}
 use Rattle.hm_btree.proofs.MarkLemmas.{same_marks, marks_whole}
 use Rattle.hm_btree.proofs.NodeLemmas.{not_reached}
 use Rattle.hm_btree.proofs.PutLemmas.{put_at, put_other, replaces_put, other_test}
-use Rattle.hm_btree.proofs.ToldLemmas.{Works}
+use Rattle.hm_btree.proofs.ToldLemmas.{IfSome_all, IfSome_both, IfSome_kept, told_after}
+use Rattle.hm_btree.proofs.WorksLemmas.{Works}
 
 -- pages that are all that a call leaves
 pub whole_after : (olds news : ℕ → Bool) (old new : PageMap) → Replaces olds news old new
@@ -97,23 +99,15 @@ pub root_works : (f : List Element → List Element) (key : Key) (marking : Mark
     → ((old : PageMap) → IsTreeSpace old root → Needs (element_at key (elements_of old root)) → IsInside (root_place root).left (root_place root).right key)
     → p1 ≡ p0 → IfSome p0 (λ map. StandsHere map (root_place root) node) → Works f key marking Needs p1 p2 node after → BothTell p2 p3 (HasWritten root after)
     → ChangesTree f key marking (λ es. Needs (element_at key es)) p0 p3 root root
-root_works f key marking root Needs None p1 p2 p3 node after inside same here works written = tt
-root_works f key marking root Needs (Some old) p1 p2 p3 node after inside same here works written = λ tree needs.
-    by_pages p2 p3 (subst (λ (p : Option PageMap). Works f key marking Needs p p2 node after) same works) written tree needs where
-      by_pages : (p2 p3 : Option PageMap) → Works f key marking Needs (Some old) p2 node after → BothTell p2 p3
-          (HasWritten root after) → IsTreeSpace old root → Needs (element_at key (elements_of old root))
-          → IfSome p3 (λ new. TreeChanged f key marking old new root root)
-      by_pages None None works written tree needs = tt
-      by_pages None (Some new) works written tree needs = absurd written
-      by_pages (Some mid) None works written tree needs = tt
-      by_pages (Some mid) (Some new) works written tree needs =
-          let read : node_at old root ≡ node = (here.spelled tree.sound.there).value in
-          let h : ℕ = height_of (node_at old root) in
-          let change : Changed f key marking (root_place root) h old mid node after =
-          works (root_place root) h (subst (λ (n : Node). IsTree old h (root_place root) n) read tree.sound.tree) (inside old tree needs)
-          (subst (λ (n : Node). Needs (element_at key (elements_in old h n))) read needs) in
-          root_written f key marking root old mid new after tree
-          (subst (λ (n : Node). Changed f key marking (root_place root) h old mid n after) (sym read) change) written
+root_works f key marking root Needs p0 p1 p2 p3 node after inside same here works written =
+    IfSome_both p0 here (subst (λ (p : Option PageMap). Works f key marking Needs p p2 node after) same works) (λ old here works tree needs.
+    let read : node_at old root ≡ node = (here.spelled tree.sound.there).value in
+    let h : ℕ = height_of (node_at old root) in
+    let change : IfSome p2 (λ mid. Changed f key marking (root_place root) h old mid node after) =
+    works (root_place root) h (subst (λ (n : Node). IsTree old h (root_place root) n) read tree.sound.tree) (inside old tree needs)
+    (subst (λ (n : Node). Needs (element_at key (elements_in old h n))) read needs) in
+    told_after p2 p3 written change (λ mid new written change. root_written f key marking root old mid new after tree
+    (subst (λ (n : Node). Changed f key marking (root_place root) h old mid n after) (sym read) change) written))
 
 -- an element that is there stands inside the boundaries of the whole tree
 pub there_inside : (root : ℕ) (key : Key) (old : PageMap) → IsTreeSpace old root → IsSome (element_at key (elements_of old root))
@@ -126,21 +120,19 @@ there_inside root key old tree there =
 -- the cause of each fault, where damage is told of what stands below the root alone
 root_cause : {T : Type 0} (told : Option PageMap) (root old new : ℕ) (fault : Fault) → HasFaultCause {T = T} old new (Err fault)
     → IfSome told (λ map. IsFaultBelow map (root_place root) fault) → HasTreeCause {T = T} told root old new (Err fault)
-root_cause told root old new fault counted damage = record { counted = counted; damage = damage; undamaged = if_told told damage } where
-  if_told : (o : Option PageMap) → IfSome o (λ map. IsFaultBelow map (root_place root) fault) → IfSome o (λ map. IsSoundTree map root → IsUndamaged fault)
-  if_told None damage = tt
-  if_told (Some map) damage = λ sound. sound_undamaged map (height_of (node_at map root)) (root_place root) fault sound damage
+root_cause told root old new fault counted damage = record {
+  counted = counted;
+  damage = damage;
+  undamaged = IfSome_then told damage (λ map damage sound. sound_undamaged map (height_of (node_at map root)) (root_place root) fault sound damage);
+}
 
 -- of the first read, of one further down, and of a write
 pub root_cause_read : {T : Type 0} (told : Option PageMap) (root old new : ℕ) (s : Subtree) (fault : Fault) → s ≡ root_place root
     → HasFaultCause {T = Node} old new (Err fault) → IfSome told (λ map. TellsDamage s (map s.at) fault) → HasTreeCause {T = T} told root old new (Err fault)
 root_cause_read told root old new s fault is counted damage =
     root_cause told root old new fault (record { never_falls = counted.never_falls; caused = counted.caused })
-    (if_told told (subst (λ (t : Subtree). IfSome told (λ map. TellsDamage t (map t.at) fault)) is damage)) where
-      if_told : (o : Option PageMap) → IfSome o (λ map. TellsDamage (root_place root) (map root) fault)
-          → IfSome o (λ map. IsFaultBelow map (root_place root) fault)
-      if_told None damage = tt
-      if_told (Some map) damage = fault_here map (root_place root) fault damage
+    (IfSome_then told (subst (λ (t : Subtree). IfSome told (λ map. TellsDamage t (map t.at) fault)) is damage)
+    (λ map damage. fault_here map (root_place root) fault damage))
 
 pub root_cause_below : {T U : Type 0} (told now : Option PageMap) (root old mid new : ℕ) (s : Subtree) (node : Node)
     (fault : Fault) → s ≡ root_place root → now ≡ told → old ≤ mid → IfSome told (λ map. StandsHere map s node)
@@ -150,32 +142,19 @@ root_cause_below told now root old mid new s node fault is same low here cause =
       never_falls = omega (arith, cause.counted.never_falls);
       caused = caused_since old mid new fault low cause.counted.caused;
     })
-    (if_told told (subst (λ (t : Subtree). IfSome told (λ map. StandsHere map t node)) is here)
+    (IfSome_both told (subst (λ (t : Subtree). IfSome told (λ map. StandsHere map t node)) is here)
     (subst (λ (o : Option PageMap). IfSome o (λ map. (place : Subtree) → StandsHere map place node
-    → IsFaultBelow map place fault)) same cause.damage)) where
-      if_told : (o : Option PageMap) → IfSome o (λ map. StandsHere map (root_place root) node)
-          → IfSome o (λ map. (place : Subtree) → StandsHere map place node → IsFaultBelow map place fault)
-          → IfSome o (λ map. IsFaultBelow map (root_place root) fault)
-      if_told None here more = tt
-      if_told (Some map) here more = more (root_place root) here
+    → IsFaultBelow map place fault)) same cause.damage) (λ map here more. more (root_place root) here))
 
 pub root_cause_write : {T : Type 0} (told mid : Option PageMap) (root old middle new : ℕ) (result : Result T Fault)
     → is_some mid ≡ is_some told → old ≤ middle → HasStoreCause mid middle new result → HasTreeCause told root old new result
-root_cause_write told mid root old middle new (Ok x) same low cause =
-    record { counted = record { never_falls = omega (arith, low, cause.counted.never_falls); caused = tt }; damage = none told; undamaged = sound told } where
-      none : (o : Option PageMap) → IfSome o (λ map. ⊤)
-      none None = tt
-      none (Some map) = tt
-
-      sound : (o : Option PageMap) → IfSome o (λ map. IsSoundTree map root → ⊤)
-      sound None = tt
-      sound (Some map) = λ is. tt
+root_cause_write told mid root old middle new (Ok x) same low cause = record {
+  counted = record { never_falls = omega (arith, low, cause.counted.never_falls); caused = tt };
+  damage = IfSome_all told (λ map. tt);
+  undamaged = IfSome_all told (λ map sound. tt);
+}
 root_cause_write {T = T} told mid root old middle new (Err fault) same low cause =
     root_cause {T = T} told root old new fault (record {
       never_falls = omega (arith, low, cause.counted.never_falls);
       caused = caused_since old middle new fault low cause.counted.caused;
-    }) (if_told told mid same cause.undamaged) where
-      if_told : (o p : Option PageMap) → is_some p ≡ is_some o → IfSome p (λ _. IsUndamaged fault) → IfSome o (λ map. IsFaultBelow map (root_place root) fault)
-      if_told None p same is = tt
-      if_told (Some map) None same is = absurd (true≢false (sym same))
-      if_told (Some map) (Some other) same is = undamaged_below map (root_place root) fault is
+    }) (IfSome_then told (IfSome_kept mid told _ (sym same) cause.undamaged) (λ map is. undamaged_below map (root_place root) fault is))

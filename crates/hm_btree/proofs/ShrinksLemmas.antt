@@ -3,6 +3,7 @@ use Rattle.std.proofs.Common.{◌≡◌, Bool, true, false, true≢false, ℕ, z
 use Rattle.std.proofs.Common.{remove, sym, ap, subst, ◌∙◌, arith, max, Some, None}
 use Rattle.std.proofs.lemmas.Bool.{cases_lt}
 use Rattle.std.specs.Prelude.{◌↔◌, Option, IsTrue, IsSome, is_some, IfSome, slice_get}
+use Rattle.std.proofs.lemmas.Option.{IfSome_then}
 use Rattle.hm_types.specs.Elements.{Key}
 use Rattle.hm_fields.specs.Pages.{PageMap}
 use Rattle.hm_types.specs.Told.{BothTell}
@@ -31,56 +32,48 @@ use Rattle.hm_btree.proofs.HoldsLemmas.{holder_below}
 use Rattle.hm_btree.proofs.PairJoinedLemmas.{joined_changed}
 use Rattle.hm_btree.proofs.RemoveLemmas.{removed_leaf}
 use Rattle.hm_btree.proofs.ShrinkLemmas.{as_written}
-use Rattle.hm_btree.proofs.ToldLemmas.{inner_is}
+use Rattle.hm_btree.proofs.ToldLemmas.{IfSome_all, IfSome_both, IfSome_where, both_then}
+use Rattle.hm_btree.proofs.WorksLemmas.{inner_is}
 
 module _ (f : List Element → List Element) (key : Key) (local : IsLocal f key) (inner inner' : Inner) (i : ℕ) (s : Subtree) (child after : Node)
     (holder : i ≡ holder_place key inner.places.items) (at : slice_get (children_of inner) i ≡ Some s) where
   -- the child that holds the key, and what became of it
-  below_shrinks : (Result : Subtree → ℕ → PageMap → PageMap → PageMap → Type 0)
+  below_shrinks : (Result : PageMap → PageMap → Type 0)
       → ((old mid new : PageMap) (place : Subtree) (lower : ℕ) (one : Child) → IsTree old (suc lower) place (inner_node inner)
       → IsInside place.left place.right key → slice_get inner.places.items i ≡ Some one → s.at ≡ one.child
       → IsInside one.left (next_left inner.right (drop (suc i) inner.places.items)) key
       → Changed f key TakesOut (loose (child_place inner.level (next_left inner.right (drop (suc i) inner.places.items)) one))
-      lower old mid (node_at old one.child) after → Result place lower old mid new
+      lower old mid (node_at old one.child) after → Result mid new
       → Changed f key TakesOut (loose place) (suc lower) old new (inner_node inner) (inner_node inner'))
       → (node : Node) (p0 p1 p2 p3 : Option PageMap) → node ≡ inner_node inner → p1 ≡ p0
       → IfSome p0 (λ map. StandsHere map s child) → Shrinks f key TakesOut (λ o. IsSome o) p1 p2 child after → is_some p2 ≡ is_some p1
-      → IfSome p2 (λ mid. IfSome p3 (λ new. (place : Subtree) (lower : ℕ) (old : PageMap) → Result place lower old mid new))
-      → Shrinks f key TakesOut (λ o. IsSome o) p0 p3 node (inner_node inner')
+      → IfSome p2 (λ mid. IfSome p3 (Result mid)) → Shrinks f key TakesOut (λ o. IsSome o) p0 p3 node (inner_node inner')
   below_shrinks Result step node None p1 p2 p3 is same here shrinks told result = tt
   below_shrinks Result step node (Some old) p1 p2 p3 is same here shrinks told result =
       λ place height tree inside there.
       subst (λ (n : Node). IfSome p3 (λ new. Changed f key TakesOut (loose place) height old new n (inner_node inner'))) (sym is)
-      (by_pages p2 p3 (subst (λ (p : Option PageMap). Shrinks f key TakesOut (λ o. IsSome o) p p2 child after) same shrinks)
-      (told ∙ ap is_some same) result height place
-      (subst (λ (n : Node). IsTree old height place n) is tree) inside
+      (by_height height place (subst (λ (n : Node). IsTree old height place n) is tree) inside
       (subst (λ (n : Node). IsSome (element_at key (elements_in old height n))) is there)) where
-        by_height : (mid new : PageMap) → Shrinks f key TakesOut (λ o. IsSome o) (Some old) (Some mid) child after
-            → ((place : Subtree) (lower : ℕ) (old : PageMap) → Result place lower old mid new) → (height : ℕ) (place : Subtree)
-            → IsTree old height place (inner_node inner)
-            → IsInside place.left place.right key → IsSome (element_at key (elements_in old height (inner_node inner)))
-            → Changed f key TakesOut (loose place) height old new (inner_node inner) (inner_node inner')
-        by_height mid new shrinks result zero place tree inside there = absurd (omega (arith, tree.level, tree.sound.level.0))
-        by_height mid new shrinks result (suc height) place tree inside there =
+        by_height : (height : ℕ) (place : Subtree) → IsTree old height place (inner_node inner) → IsInside place.left place.right key
+            → IsSome (element_at key (elements_in old height (inner_node inner)))
+            → IfSome p3 (λ new. Changed f key TakesOut (loose place) height old new (inner_node inner) (inner_node inner'))
+        by_height zero place tree inside there = absurd (omega (arith, tree.level, tree.sound.level.0))
+        by_height (suc height) place tree inside there =
             let below = holder_below key inner i s child holder at old (suc height) place tree inside here in
             let lower : height ≡ below.lower = omega (arith, below.high) in
             let spot : Subtree = child_place inner.level (next_left inner.right (drop (suc i) inner.places.items)) below.one in
             let some : IsSome (element_at key (elements_in old below.lower child)) = subst (λ (o : Option Element). IsSome o) below.same there in
-            let change = shrinks spot below.lower (subst (λ (n : Node). IsTree old below.lower spot n) below.read below.stored.tree) below.inside some in
+            let was : Shrinks f key TakesOut (λ o. IsSome o) (Some old) p2 child after =
+            subst (λ (p : Option PageMap). Shrinks f key TakesOut (λ o. IsSome o) p p2 child after) same shrinks in
+            let change = was spot below.lower (subst (λ (n : Node). IsTree old below.lower spot n) below.read below.stored.tree) below.inside some in
+            IfSome_where (Some old) p2
+            (λ _. IfSome p3 (λ new. Changed f key TakesOut (loose place) (suc height) old new (inner_node inner) (inner_node inner')))
+            (told ∙ ap is_some same) (IfSome_both p2 change result (λ mid change result.
             let change' : Changed f key TakesOut (loose spot) height old mid (node_at old below.one.child) after =
             subst (λ (n : ℕ). Changed f key TakesOut (loose spot) n old mid (node_at old below.one.child) after) (sym lower)
             (subst (λ (n : Node). Changed f key TakesOut (loose spot) below.lower old mid n after) (sym below.read) change) in
-            step old mid new place height below.one tree inside below.at below.where_is below.inside change' (result place height old)
-
-        by_pages : (p2 p3 : Option PageMap) → Shrinks f key TakesOut (λ o. IsSome o) (Some old) p2 child after → is_some p2 ≡ true
-            → IfSome p2 (λ mid. IfSome p3 (λ new. (place : Subtree) (lower : ℕ) (old : PageMap) → Result place lower old mid new))
-            → (height : ℕ) (place : Subtree)
-            → IsTree old height place (inner_node inner) → IsInside place.left place.right key
-            → IsSome (element_at key (elements_in old height (inner_node inner)))
-            → IfSome p3 (λ new. Changed f key TakesOut (loose place) height old new (inner_node inner) (inner_node inner'))
-        by_pages p2 None shrinks told result height place tree inside there = tt
-        by_pages None (Some new) shrinks told result height place tree inside there = absurd (true≢false (sym told))
-        by_pages (Some mid) (Some new) shrinks told result height place tree inside there = by_height mid new shrinks result height place tree inside there
+            IfSome_then p3 result (λ new result.
+            step old mid new place height below.one tree inside below.at below.where_is below.inside change' result)))
 
   -- it has too few places, and was joined with a neighbour
   pub small_shrinks : (node : Node) (p0 p1 p2 p3 : Option PageMap) → node ≡ inner_node inner → p1 ≡ p0
@@ -88,15 +81,10 @@ module _ (f : List Element → List Element) (key : Key) (local : IsLocal f key)
       → count_of after < 16 → IfSome p2 (λ mid. IfSome p3 (λ new. IsJoinedAt inner i after mid new inner'))
       → Shrinks f key TakesOut (λ o. IsSome o) p0 p3 node (inner_node inner')
   small_shrinks node p0 p1 p2 p3 is same here shrinks told small result =
-      below_shrinks (λ place lower old mid new. IsJoinedAt inner i after mid new inner')
+      below_shrinks (λ mid new. IsJoinedAt inner i after mid new inner')
       (λ old mid new place lower one tree inside one_at where_is one_inside change joined. joined_changed f key local place lower
       inner inner' old mid new tree i one after one_at one_inside change small joined)
-      node p0 p1 p2 p3 is same here shrinks told (each p2 p3 result) where
-        each : (p2 p3 : Option PageMap) → IfSome p2 (λ mid. IfSome p3 (λ new. IsJoinedAt inner i after mid new inner'))
-            → IfSome p2 (λ mid. IfSome p3 (λ new. (place : Subtree) (lower : ℕ) (old : PageMap) → IsJoinedAt inner i after mid new inner'))
-        each None p3 result = tt
-        each (Some mid) None result = tt
-        each (Some mid) (Some new) result = λ place lower old. result
+      node p0 p1 p2 p3 is same here shrinks told result
 
   -- it has enough, and was written
   pub large_shrinks : (m : ℕ) (node : Node) (p0 p1 p2 p3 : Option PageMap) → node ≡ inner_node inner → p1 ≡ p0
@@ -106,8 +94,8 @@ module _ (f : List Element → List Element) (key : Key) (local : IsLocal f key)
       inner.places.items i inner'.places.items → inner'.right ≡ inner.right
       → Shrinks f key TakesOut (λ o. IsSome o) p0 p3 node (inner_node inner')
   large_shrinks m node p0 p1 p2 p3 same_node same here shrinks told many written level mirror is items right =
-      below_shrinks (λ place lower old mid new. HasWritten s.at after mid new) step node p0 p1 p2 p3 same_node same here shrinks
-      told (each p2 p3 written) where
+      below_shrinks (HasWritten s.at after) step node p0 p1 p2 p3 same_node same here shrinks told
+      (both_then p2 p3 written (λ mid new written. written)) where
         enough : (n : Node) → 16 ≤ count_of n → least_count n ≤ count_of n
         enough (leaf_node leaf) many = omega arith
         enough (inner_node below) many = many
@@ -139,12 +127,6 @@ module _ (f : List Element → List Element) (key : Key) (local : IsLocal f key)
             (inner_node (inner_of inner.level (max inner.mirror (mirror_of after)) (pre ++ with_mirror (mirror_of after) c ∷ post) inner.right)))
             (sym split.0) whole)
 
-        each : (p2 p3 : Option PageMap) → BothTell p2 p3 (HasWritten s.at after)
-            → IfSome p2 (λ mid. IfSome p3 (λ new. (place : Subtree) (lower : ℕ) (old : PageMap) → HasWritten s.at after mid new))
-        each None p3 written = tt
-        each (Some mid) None written = tt
-        each (Some mid) (Some new) written = λ place lower old. written
-
 -- a leaf that has the element loses it
 pub leaf_shrinks : (key : Key) (node after : Node) (leaf leaf' : Leaf) (i : ℕ) (p : Option PageMap) → node ≡ leaf_node leaf
     → after ≡ leaf_node leaf' → i ≡ leading key leaf.places.items → leaf' ≡ leaf_of leaf.mirror (remove leaf.places.items i)
@@ -159,9 +141,8 @@ leaf_shrinks key node after leaf leaf' i (Some old) is now at items = λ place h
 -- and one that has not does not come
 pub leaf_has_none : (key : Key) (node after : Node) (leaf : Leaf) (p : Option PageMap) → node ≡ leaf_node leaf
     → is_some (element_at key leaf.places.items) ≡ false → Shrinks (removed key) key TakesOut (λ o. IsSome o) p p node after
-leaf_has_none key node after leaf None is none = tt
-leaf_has_none key node after leaf (Some old) is none = λ place height tree inside there.
-    absurd (true≢false (sym (subst (λ (n : Node). IsSome (element_at key (elements_in old height n))) is there) ∙ none))
+leaf_has_none key node after leaf p is none = IfSome_all p (λ old place height tree inside there.
+    absurd (true≢false (sym (subst (λ (n : Node). IsSome (element_at key (elements_in old height n))) is there) ∙ none)))
 
 -- the level of a node that has that of another
 pub level_kept : (level : ℕ) (child after : Node) → IsLevelBelow level child → level_of after ≡ level_of child → IsShaped after → IsLevelBelow level after

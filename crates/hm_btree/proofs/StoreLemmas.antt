@@ -1,7 +1,6 @@
 -- What a tree tells as a store of elements.
 use Rattle.std.proofs.Common.{◌≡◌, Bool, true, false, true≢false, ℕ, ◌+◌, ◌≤◌, List, refl, sym, ap, ◌∙◌, arith, Some, None, Result, Ok, Err}
 use Rattle.std.specs.Prelude.{Option, option_map, IsTrue, is_some, IfSome, IfErr}
-use Rattle.std.proofs.Math.Logic.{∥∥₁_elim}
 use Rattle.std.proofs.Props.{props}
 use Rattle.hm_types.specs.Elements.{Key}
 use Rattle.hm_types.specs.declared.fault.Fault.{Fault}
@@ -9,10 +8,9 @@ use Rattle.hm_types.specs.declared.fault.Fault.TheVariants.{Media, Damaged, NoMe
 use Rattle.hm_fields.specs.Pages.{PageMap}
 use Rattle.hm_types.specs.Faults.{IsUndamaged, HasStoreCause}
 use Rattle.hm_key.specs.declared.element.Element.{Element}
-use Rattle.hm_search.specs.Tree.{IsSoundTree}
 use Rattle.hm_btree.specs.Marking.{Marking, MarksBy}
 use Rattle.hm_btree.specs.Tree.{ChangesTree, HasTreeCause, IsIntact, told_elements, told_mark}
-use Rattle.hm_btree.proofs.IntactLemmas.{intact_tree}
+use Rattle.hm_btree.proofs.IntactLemmas.{intact_tree, told_intact}
 
 -- what a call that changes the tree leaves
 pub record StoreChanged (f : List Element → List Element) (key : Key) (marking : Marking) (intact : Bool)
@@ -43,17 +41,11 @@ pub store_cause : {T : Type 0} (intact : Bool) (told : Option PageMap) (root old
     → ∥ IsIntact intact told root ∥₁ → HasTreeCause told root old new result → HasStoreCause (told_elements intact told root) old new result
 store_cause intact told root old new result sound cause = record {
   counted = cause.counted;
-  undamaged = by_told intact told sound cause.undamaged result;
+  undamaged = told_intact (λ _ _. IfErr result IsUndamaged) intact told root (λ pages. by_result result) sound cause.undamaged;
 } where
   by_result : {T : Type 0} (r : Result T Fault) → IsProp (IfErr r IsUndamaged)
   by_result (Ok x) = hlevel props
   by_result (Err fault) = undamaged_prop fault
-
-  by_told : {T : Type 0} (b : Bool) (o : Option PageMap) → ∥ IsIntact b o root ∥₁ → IfSome o (λ pages. IsSoundTree pages root
-      → IfErr result IsUndamaged) → (r : Result T Fault) → IfSome (told_elements b o root) (λ _. IfErr result IsUndamaged)
-  by_told false o sound more r = tt
-  by_told true None sound more r = tt
-  by_told true (Some pages) sound more r = ∥∥₁_elim sound (by_result result) (λ tree. more tree.sound)
 
 -- the number of told lists stays
 pub told_kept : (f : List Element → List Element) (intact : Bool) (old new : Option PageMap) (root root' : ℕ)

@@ -1,153 +1,62 @@
--- Calls below a node, where the pages are told.
-use Rattle.std.proofs.Common.{◌≡◌, false, true≢false, ℕ, zero, suc, List, ◌∷◌, ◌++◌, length, take, drop, refl, sym, ap, subst, ◌∙◌, arith, max, Some, None}
-use Rattle.std.specs.Prelude.{Option, IsSome, is_some, IfSome, slice_get}
-use Rattle.hm_types.specs.Elements.{Key}
-use Rattle.hm_fields.specs.Pages.{PageMap}
+-- Facts of content that is told, or not.
+use Rattle.std.proofs.Common.{◌≡◌, true≢false, refl, sym, Some, None}
+use Rattle.std.specs.Prelude.{Option, is_some, IfSome}
+use Rattle.std.proofs.lemmas.Option.{IfSome_then}
 use Rattle.hm_types.specs.Told.{BothTell}
-use Rattle.hm_key.specs.Elements.{element_at, element_key}
-use Rattle.hm_key.specs.Places.{leading}
-use Rattle.hm_key.specs.declared.base.Base.{Base}
-use Rattle.hm_key.specs.declared.element.Element.{Element}
-use Rattle.hm_node.specs.declared.inner.Child.{Child}
-use Rattle.hm_node.specs.declared.inner.Inner.{Inner}
-use Rattle.hm_node.specs.declared.leaf.Leaf.{Leaf}
-use Rattle.hm_node.specs.declared.node.Node.{Node}
-use Rattle.hm_node.specs.declared.node.Node.TheVariants.{Leaf as leaf_node, Inner as inner_node}
-use Rattle.hm_search.specs.Descent.{StandsHere}
-use Rattle.hm_search.specs.Place.{IsInside, mirror_of}
-use Rattle.hm_search.specs.Search.{holder_place}
-use Rattle.hm_search.specs.Tree.{node_at, elements_in, next_left, child_place, children_of, IsTree, IsStoredTree}
-use Rattle.hm_search.specs.declared.subtree.Subtree.{Subtree}
-use Rattle.hm_search.proofs.ChildLemmas.{IsChildAt, place_is}
-use Rattle.hm_btree.specs.Marking.{Marking}
-use Rattle.hm_btree.specs.Edits.{inner_of, with_mirror, ChildChange, ElementChange}
-use Rattle.hm_btree.specs.Space.{HasWritten}
-use Rattle.hm_btree.specs.Below.{IsLocal, Changed}
-use Rattle.hm_btree.specs.Change.{change_of, id_of, marking_of, MayChange, with_change}
-use Rattle.hm_btree.specs.declared.change.Change.{Change}
-use Rattle.hm_btree.proofs.EditLemmas.{read_there, split_at, set_at_place, child_inside, child_tree, child_element, changed_parent}
-use Rattle.hm_search.proofs.ContentLemmas.{elements_inside}
-use Rattle.hm_btree.proofs.LeafLemmas.{element_changed}
-use Rattle.hm_btree.proofs.LocalLemmas.{element_each}
 
--- an inner node by its fields
-pub inner_is : (x : Inner) (level mirror : ℕ) (cs : List Child) (right : Base) → x.level ≡ level → x.mirror ≡ mirror
-    → x.places.items ≡ cs → x.right ≡ right → x ≡ inner_of level mirror cs right
-inner_is x level mirror cs right a b c d i = record { level = a i; mirror = b i; places = record { items = c i }; right = d i }
+-- what holds of any
+pub IfSome_all : {A : Type 0} (o : Option A) {P : A → Type 0} → ((x : A) → P x) → IfSome o P
+IfSome_all None all = tt
+IfSome_all (Some x) all = all x
 
--- what a call that works at one key makes of a node, where the pages are told: it needs a fact of what stands at
--- the key
-abbrev pub Works : (List Element → List Element) → Key → Marking → (Option Element → Type 0) → Option PageMap → Option PageMap → Node → Node → Type 0
-Works f key marking Needs old new before after =
-    IfSome old (λ was. (place : Subtree) (height : ℕ) → IsTree was height place before → IsInside place.left place.right key
-    → Needs (element_at key (elements_in was height before))
-    → IfSome new (λ is. Changed f key marking place height was is before after))
+-- what follows from two facts of it
+pub IfSome_both : {A : Type 0} (o : Option A) {P Q R : A → Type 0} → IfSome o P → IfSome o Q → ((x : A) → P x → Q x → R x) → IfSome o R
+IfSome_both None first second step = tt
+IfSome_both (Some x) first second step = step x first second
 
-module _ (f : List Element → List Element) (key : Key) (marking : Marking) (Needs : Option Element → Type 0)
-    (local : IsLocal f key) (inner inner' : Inner) (i : ℕ) (s : Subtree) (child after : Node) (m : ℕ) where
-  -- the child that holds the key changed, and was written
-  parent_changed : (old mid new : PageMap) (lower : ℕ) (place : Subtree) → IsTree old (suc lower) place (inner_node inner)
-      → IsInside place.left place.right key → i ≡ holder_place key inner.places.items
-      → IsChildAt inner.level inner.right inner.places.items i s → StandsHere old s child → HasWritten s.at after mid new
-      → ((place : Subtree) (height : ℕ) → IsTree old height place child → IsInside place.left place.right key
-      → Needs (element_at key (elements_in old height child)) → Changed f key marking place height old mid child after)
-      → Needs (element_at key (elements_in old (suc lower) (inner_node inner)))
-      → inner'.level ≡ inner.level → inner'.mirror ≡ max inner.mirror m → m ≡ mirror_of after → ChildChange (with_mirror m)
-      inner.places.items i inner'.places.items → inner'.right ≡ inner.right
-      → Changed f key marking place (suc lower) old new (inner_node inner) (inner_node inner')
-  parent_changed old mid new lower place tree inside at there here written rec needs level mirror is items right =
-      let cs : List Child = inner.places.items in
-      let c : Child = there.child in
-      let pre : List Child = take i cs in
-      let post : List Child = drop (suc i) cs in
-      let split = split_at cs i c there.is in
-      let tree' : IsTree old (suc lower) place (inner_node (inner_of inner.level inner.mirror (pre ++ c ∷ post) inner.right)) =
-      subst (λ (l : List Child). IsTree old (suc lower) place (inner_node (inner_of inner.level inner.mirror l inner.right))) split.0 tree in
-      let needs' : Needs (element_at key (elements_in old (suc lower) (inner_node (inner_of inner.level inner.mirror (pre ++ c ∷ post) inner.right)))) =
-      subst (λ (l : List Child). Needs
-      (element_at key (elements_in old (suc lower) (inner_node (inner_of inner.level inner.mirror l inner.right))))) split.0 needs in
-      let held : length pre ≡ holder_place key (pre ++ c ∷ post) = split.1 ∙ at ∙ ap (holder_place key) split.0 in
-      let where_is : s.at ≡ c.child = ap (λ (t : Subtree). t.at) there.place in
-      let stored : IsStoredTree old lower (child_place inner.level (next_left inner.right post) c) = child_tree key place lower
-      inner.level inner.mirror inner.right old pre c post tree' held inside in
-      let read : node_at old c.child ≡ child = read_there old s c.child child where_is stored.there here in
-      let below : Changed f key marking (child_place inner.level (next_left inner.right post) c) lower old mid child after =
-      rec (child_place inner.level (next_left inner.right post) c) lower
-      (subst (λ (n : Node). IsTree old lower (child_place inner.level (next_left inner.right post) c) n) read stored.tree)
-      (child_inside key place lower inner.level inner.mirror inner.right old pre c post tree' held inside)
-      (subst (λ (n : Node). Needs (element_at key (elements_in old lower n))) read
-      (subst Needs (child_element key place lower inner.level inner.mirror inner.right old pre c post tree' held inside) needs')) in
-      let whole = changed_parent key place lower inner.level inner.mirror inner.right old pre c post tree' held inside f marking mid new after local
-      (subst (λ (n : Node). Changed f key marking (child_place inner.level (next_left inner.right post) c) lower old mid n after)
-      (sym read) below) (subst (λ (a : ℕ). HasWritten a after mid new) where_is written) in
-      let items' : inner'.places.items ≡ pre ++ with_mirror (mirror_of after) c ∷ post =
-      items c ∙ set_at_place (with_mirror m) cs i c there.is ∙ ap (λ (n : ℕ). pre ++ with_mirror n c ∷ post) is in
-      let end : inner' ≡ inner_of inner.level (max inner.mirror (mirror_of after)) (pre ++ with_mirror (mirror_of after) c ∷ post) inner.right =
-      inner_is inner' inner.level (max inner.mirror (mirror_of after)) (pre ++ with_mirror (mirror_of after) c ∷ post) inner.right
-      level (mirror ∙ ap (max inner.mirror) is) items' right in
-      subst (λ (x : Inner). Changed f key marking place (suc lower) old new (inner_node inner) (inner_node x)) (sym end)
-      (subst (λ (l : List Child). Changed f key marking place (suc lower) old new
-      (inner_node (inner_of inner.level inner.mirror l inner.right))
-      (inner_node (inner_of inner.level (max inner.mirror (mirror_of after)) (pre ++ with_mirror (mirror_of after) c ∷ post) inner.right)))
-      (sym split.0) whole)
+-- of two that are told alike, what holds of the second if the first is told
+pub IfSome_alike : {A B : Type 0} (p : Option A) (q : Option B) (Q : B → Type 0) → is_some q ≡ is_some p → IfSome p (λ _. IfSome q Q) → IfSome q Q
+IfSome_alike p None Q same more = tt
+IfSome_alike None (Some y) Q same more = absurd (true≢false same)
+IfSome_alike (Some x) (Some y) Q same more = more
 
-  pub inner_works : (node : Node) (p0 p1 p2 p3 : Option PageMap) → node ≡ inner_node inner
-      → i ≡ holder_place key inner.places.items → slice_get (children_of inner) i ≡ Some s → p1 ≡ p0 → IfSome p0 (λ map. StandsHere map s child)
-      → Works f key marking Needs p1 p2 child after → BothTell p2 p3 (HasWritten s.at after)
-      → inner'.level ≡ inner.level → inner'.mirror ≡ max inner.mirror m → m ≡ mirror_of after → ChildChange (with_mirror m)
-      inner.places.items i inner'.places.items → inner'.right ≡ inner.right
-      → Works f key marking Needs p0 p3 node (inner_node inner')
-  inner_works node None p1 p2 p3 is at there same here rec written level mirror m_is items right = tt
-  inner_works node (Some old) p1 p2 p3 is at there same here rec written level mirror m_is items right =
-      let told : Works f key marking Needs (Some old) p2 child after = subst (λ (p : Option PageMap). Works f key marking Needs p p2 child after) same rec in
-      λ place height tree inside needs.
-      subst (λ (n : Node). IfSome p3 (λ new. Changed f key marking place height old new n (inner_node inner'))) (sym is)
-      (by_pages p2 p3 told written height place (subst (λ (n : Node). IsTree old height place n) is tree) inside
-      (subst (λ (n : Node). Needs (element_at key (elements_in old height n))) is needs)) where
-        by_height : (mid new : PageMap) → Works f key marking Needs (Some old) (Some mid) child after → HasWritten s.at after mid
-            new → (height : ℕ) (place : Subtree) → IsTree old height place (inner_node inner) → IsInside place.left place.right key
-            → Needs (element_at key (elements_in old height (inner_node inner))) → Changed f key marking place height old new
-            (inner_node inner) (inner_node inner')
-        by_height mid new told written zero place tree inside needs = absurd (omega (arith, tree.level, tree.sound.level.0))
-        by_height mid new told written (suc lower) place tree inside needs =
-            parent_changed old mid new lower place tree inside at (place_is inner.level inner.right inner.places.items i s there) here written
-            told needs level mirror m_is items right
+-- and what holds of the first if the second is
+pub IfSome_where : {A B : Type 0} (p : Option A) (q : Option B) (P : A → Type 0) → is_some q ≡ is_some p
+    → IfSome p (λ x. IfSome q (λ _. P x)) → IfSome p P
+IfSome_where None q P same more = tt
+IfSome_where (Some x) None P same more = absurd (true≢false (sym same))
+IfSome_where (Some x) (Some y) P same more = more
 
-        by_pages : (p2 p3 : Option PageMap) → Works f key marking Needs (Some old) p2 child after → BothTell p2 p3
-            (HasWritten s.at after) → (height : ℕ) (place : Subtree) → IsTree old height place (inner_node inner) → IsInside place.left place.right key
-            → Needs (element_at key (elements_in old height (inner_node inner)))
-            → IfSome p3 (λ new. Changed f key marking place height old new (inner_node inner) (inner_node inner'))
-        by_pages None None told written height place tree inside needs = tt
-        by_pages None (Some new) told written height place tree inside needs = absurd written
-        by_pages (Some mid) None told written height place tree inside needs = tt
-        by_pages (Some mid) (Some new) told written height place tree inside needs = by_height mid new told written height place tree inside needs
+-- a fact that speaks of neither
+pub IfSome_kept : {A B : Type 0} (p : Option A) (q : Option B) (X : Type 0) → is_some q ≡ is_some p → IfSome p (λ _. X) → IfSome q (λ _. X)
+IfSome_kept p q X same is = IfSome_alike p q (λ _. X) same (IfSome_then p is (λ x is. IfSome_all q (λ y. is)))
 
--- whether the pages are told, after a page was written
-pub told_written : (p q : Option PageMap) (R : PageMap → PageMap → Type 0) → BothTell p q R → is_some q ≡ is_some p
-told_written None None R both = refl
-told_written None (Some new) R both = absurd both
-told_written (Some old) None R both = absurd both
-told_written (Some old) (Some new) R both = refl
+module _ {A : Type 0} where
+  -- two that both tell are told alike
+  pub told_written : (p q : Option A) (R : A → A → Type 0) → BothTell p q R → is_some q ≡ is_some p
+  told_written None None R both = refl
+  told_written None (Some new) R both = absurd both
+  told_written (Some old) None R both = absurd both
+  told_written (Some old) (Some new) R both = refl
 
--- an element of a leaf changed
-pub leaf_works : (key : Key) (change : Change) (node after : Node) (leaf leaf' : Leaf) (i : ℕ) (p : Option PageMap)
-    → MayChange key change → node ≡ leaf_node leaf → after ≡ leaf_node leaf' → i ≡ leading key leaf.places.items
-    → leaf'.mirror ≡ max leaf.mirror (id_of change) → ElementChange (change_of change) leaf.places.items i leaf'.places.items
-    → Works (with_change key change) key (marking_of change) (λ o. IsSome o) p p node after
-leaf_works key change node after leaf leaf' i None may is now at mirror items = tt
-leaf_works key change node after leaf leaf' i (Some old) may is now at mirror items = λ place height tree inside there.
-    let tree' : IsTree old height place (leaf_node leaf) = subst (λ (n : Node). IsTree old height place n) is tree in
-    let there' : IsSome (element_at key leaf.places.items) = subst (λ (n : Node). IsSome (element_at key (elements_in old height n))) is there in
-    let some = element_each (λ e. IsInside place.left place.right (element_key e)) key leaf.places.items
-    (elements_inside old height place (leaf_node leaf) tree') there' in
-    subst (λ (n : Node). Changed (with_change key change) key (marking_of change) place height old old n after) (sym is)
-    (subst (λ (n : Node). Changed (with_change key change) key (marking_of change) place height old old (leaf_node leaf) n) (sym now)
-    (element_changed place height old key change leaf leaf' some.0 i tree' may there' at items mirror))
+  -- what follows of both
+  pub both_then : (p q : Option A) {R S : A → A → Type 0} → BothTell p q R → ((x y : A) → R x y → S x y) → IfSome p (λ x. IfSome q (S x))
+  both_then None q both step = tt
+  both_then (Some x) None both step = tt
+  both_then (Some x) (Some y) both step = step x y both
 
--- no element stands at the key
-pub leaf_without : (key : Key) (change : Change) (node after : Node) (leaf : Leaf) (p : Option PageMap) → node ≡ leaf_node leaf
-    → is_some (element_at key leaf.places.items) ≡ false
-    → Works (with_change key change) key (marking_of change) (λ o. IsSome o) p p node after
-leaf_without key change node after leaf None is none = tt
-leaf_without key change node after leaf (Some old) is none = λ place height tree inside there.
-    absurd (true≢false (sym (subst (λ (n : Node). IsSome (element_at key (elements_in old height n))) is there) ∙ none))
+  -- and of the second one
+  pub told_after : (p q : Option A) {R : A → A → Type 0} {P Q : A → Type 0} → BothTell p q R → IfSome p P
+      → ((x y : A) → R x y → P x → Q y) → IfSome q Q
+  told_after p q {R = R} {Q = Q} both is step = IfSome_alike p q Q (told_written p q R both)
+      (IfSome_both p (both_then p q both (λ x y both. both)) is (λ x more is. IfSome_then q more (λ y both. step x y both is)))
+
+  -- one after another
+  pub both_after : (p q r : Option A) {R S T : A → A → Type 0} → BothTell p q R → BothTell q r S
+      → ((x y z : A) → R x y → S y z → T x z) → BothTell p r T
+  both_after None None None first second step = tt
+  both_after None None (Some z) first second step = absurd second
+  both_after None (Some y) r first second step = absurd first
+  both_after (Some x) None r first second step = absurd first
+  both_after (Some x) (Some y) None first second step = absurd second
+  both_after (Some x) (Some y) (Some z) first second step = step x y z first second

@@ -33,6 +33,7 @@ use Rattle.hm_btree.proofs.MarkLemmas.{same_marks, marks_whole}
 use Rattle.hm_btree.proofs.PairLemmas.{split_written, stored_there}
 use Rattle.hm_btree.proofs.PutLemmas.{put_at, put_other, replaces_new}
 use Rattle.hm_btree.proofs.RootLemmas.{whole_after, spots_after, turned}
+use Rattle.hm_btree.proofs.ToldLemmas.{IfSome_both, both_after, told_after}
 use Rattle.hm_btree.proofs.UnderLemmas.{under_there, under_elements, under_mark, under_has, under_stored}
 
 module _ (f : List Element → List Element) (key : Key) (marking : Marking) (root : ℕ) (old mid new1 new3 : PageMap) (lower : Node)
@@ -121,22 +122,18 @@ pub root_grows : (f : List Element → List Element) (key : Key) (marking : Mark
     → BothTell p2 p3 (HasWritten root lower)
     → BothTell p3 p4 (HasTop (root_place root) lower upper top) → IsSpot top → level_of lower ≤ 8
     → ChangesTree f key marking (λ es. Needs (element_at key es)) p0 p4 root top
-root_grows f key marking root Needs None p1 p2 p3 p4 node lower upper top inside same here grows written added spot shallow = tt
-root_grows f key marking root Needs (Some old) p1 p2 p3 p4 node lower upper top inside same here grows written added spot shallow = λ tree needs.
-    by_pages p2 p3 p4 (subst (λ (p : Option PageMap). Grows f key marking Needs p p2 node lower (Some upper)) same grows) written added tree needs where
-      by_pages : (p2 p3 p4 : Option PageMap) → Grows f key marking Needs (Some old) p2 node lower (Some upper) → BothTell p2 p3
-          (HasWritten root lower) → BothTell p3 p4 (HasTop (root_place root) lower upper top) → IsTreeSpace old root
-          → Needs (element_at key (elements_of old root)) → IfSome p4 (λ new. TreeChanged f key marking old new root top)
-      by_pages p2 p3 None grows written added tree needs = tt
-      by_pages p2 None (Some new3) grows written added tree needs = absurd added
-      by_pages None (Some new1) (Some new3) grows written added tree needs = absurd written
-      by_pages (Some mid) (Some new1) (Some new3) grows written added tree needs =
-          let read : node_at old root ≡ node = (here.spelled tree.sound.there).value in
-          let h : ℕ = height_of (node_at old root) in
-          let split = grows (root_place root) h (subst (λ (n : Node). IsTree old h (root_place root) n) read tree.sound.tree) (inside old tree needs)
-          (subst (λ (n : Node). Needs (element_at key (elements_in old h n))) read needs) in
-          root_split f key marking root old mid new1 new3 lower upper top tree
-          (subst (λ (n : Node). Split f key marking (root_place root) h old mid n lower upper.node upper.left) (sym read) split) written added spot shallow
+root_grows f key marking root Needs p0 p1 p2 p3 p4 node lower upper top inside same here grows written added spot shallow =
+    IfSome_both p0 here (subst (λ (p : Option PageMap). Grows f key marking Needs p p2 node lower (Some upper)) same grows) (λ old here grows tree needs.
+    let read : node_at old root ≡ node = (here.spelled tree.sound.there).value in
+    let h : ℕ = height_of (node_at old root) in
+    let split : IfSome p2 (λ mid. Split f key marking (root_place root) h old mid node lower upper.node upper.left) =
+    grows (root_place root) h (subst (λ (n : Node). IsTree old h (root_place root) n) read tree.sound.tree) (inside old tree needs)
+    (subst (λ (n : Node). Needs (element_at key (elements_in old h n))) read needs) in
+    let both : BothTell p2 p4 (λ mid new. (part : PageMap) × HasWritten root lower mid part × HasTop (root_place root) lower upper top part new) =
+    both_after p2 p3 p4 written added (λ mid part new written added. (part, written, added)) in
+    told_after p2 p4 both split (λ mid new pages split. root_split f key marking root old mid pages.0 new lower upper top tree
+    (subst (λ (n : Node). Split f key marking (root_place root) h old mid n lower upper.node upper.left) (sym read) split)
+    pages.1 pages.2 spot shallow))
 
 -- and where a root was added, or none
 pub top_result : (f : List Element → List Element) (key : Key) (marking : Marking) (root : ℕ) (Needs : Option Element → Type 0)

@@ -1,6 +1,7 @@
 -- The root of a tree that lost an element: it is written, or goes where it has one child alone.
 use Rattle.std.proofs.Common.{◌≡◌, Bool, true, false, true≢false, ◌||◌, ℕ, zero, suc, List, [], ◌∷◌, refl, sym, ap, subst, ◌∙◌, arith, nat_eq, Some, None}
 use Rattle.std.specs.Prelude.{Option, IsSome, is_some, IfSome}
+use Rattle.std.proofs.lemmas.Option.{IfSome_then}
 use Rattle.hm_types.specs.Elements.{Key}
 use Rattle.hm_fields.specs.Pages.{PageMap}
 use Rattle.hm_types.specs.Told.{BothTell}
@@ -21,7 +22,8 @@ use Rattle.hm_btree.proofs.MarkLemmas.{as_marks, same_marks, marks_whole}
 use Rattle.hm_btree.proofs.NodeLemmas.{not_reached}
 use Rattle.hm_btree.proofs.PutLemmas.{replaces_lost}
 use Rattle.hm_btree.proofs.RootLemmas.{root_written, there_inside, whole_after, spots_after, turned}
-use Rattle.hm_btree.proofs.ToldLemmas.{inner_is}
+use Rattle.hm_btree.proofs.ToldLemmas.{IfSome_alike, IfSome_both, told_after, told_written}
+use Rattle.hm_btree.proofs.WorksLemmas.{inner_is}
 
 -- the root has one child alone, and its page goes
 module _ (f : List Element → List Element) (key : Key) (marking : Marking) (root : ℕ) (old mid new : PageMap) where
@@ -73,75 +75,68 @@ changed_lowered f key marking old mid new root low root' node lowered change = r
   mark = same_marks (λ (o : Key → ℕ). MarksBy marking key o (mark_of new root')) (mark_of mid low) (mark_of old root) (λ k. sym (lowered.mark k)) change.mark;
 }
 
+-- the tree from a lower root on, whose node this is, has an element at a key
+record HoldsLow (key : Key) (low : ℕ) (node : Node) (map : PageMap) : Type 0 where
+  pub tree : IsTreeSpace map low
+  pub here : node_at map low ≡ node
+  pub there : IsSome (element_at key (elements_of map low))
+
+holds_low : (key : Key) (root low : ℕ) (node : Node) (old mid : PageMap) → IsLowered old mid root low node
+    → IsSome (element_at key (elements_of old root)) → HoldsLow key low node mid
+holds_low key root low node old mid lowered there = record {
+  tree = lowered.tree;
+  here = lowered.here;
+  there = subst (λ (l : List Element). IsSome (element_at key l)) (sym lowered.elements) there;
+}
+
 module _ (key : Key) (root low : ℕ) (node : Node) (p0 p1 p2 : Option PageMap) (same : p1 ≡ p0)
     (lowered : IfSome p1 (λ was. IfSome p2 (λ is. IsLowered was is root low node))) (told : is_some p2 ≡ is_some p1) where
+  lowered_first : IfSome p0 (λ was. IfSome p2 (λ is. IsLowered was is root low node))
+  lowered_first = subst (λ (p : Option PageMap). IfSome p (λ was. IfSome p2 (λ is. IsLowered was is root low node))) same lowered
+
+  low_told : IfSome p0 (λ was. IsSome (element_at key (elements_of was root))) → IfSome p2 (HoldsLow key low node)
+  low_told there = IfSome_alike p0 p2 _ (told ∙ ap is_some same) (IfSome_both p0 there lowered_first (λ old there lowered.
+      IfSome_then p2 lowered (λ mid lowered. holds_low key root low node old mid lowered there)))
+
   -- the element is there from the lower root on
   pub holds_lowered : IfSome p0 (λ was. IsSome (element_at key (elements_of was root))) → IfSome p2 (HoldsElement key node)
-  holds_lowered there = by_pages p0 p2 there
-      (subst (λ (p : Option PageMap). IfSome p (λ was. IfSome p2 (λ is. IsLowered was is root low node))) same lowered) (told ∙ ap is_some same) where
-        by_pages : (p q : Option PageMap) → IfSome p (λ was. IsSome (element_at key (elements_of was root)))
-            → IfSome p (λ was. IfSome q (λ is. IsLowered was is root low node)) → is_some q ≡ is_some p → IfSome q (HoldsElement key node)
-        by_pages p None there lowered told = tt
-        by_pages None (Some mid) there lowered told = absurd (true≢false told)
-        by_pages (Some old) (Some mid) there lowered told =
-            let some : IsSome (element_at key (elements_of mid low)) = subst (λ (l : List Element). IsSome (element_at key l)) (sym lowered.elements) there in
-            record {
-              place = root_place low;
-              height = height_of (node_at mid low);
-              tree = subst (λ (n : Node). IsTree mid (height_of (node_at mid low)) (root_place low) n) lowered.here lowered.tree.sound.tree;
-              inside = there_inside low key mid lowered.tree some;
-              there = subst (λ (n : Node). IsSome (element_at key (elements_in mid (height_of (node_at mid low)) n))) lowered.here some;
-            }
+  holds_lowered there = IfSome_then p2 (low_told there) (λ mid holds.
+      let h : ℕ = height_of (node_at mid low) in
+      record {
+        place = root_place low;
+        height = h;
+        tree = subst (λ (n : Node). IsTree mid h (root_place low) n) holds.here holds.tree.sound.tree;
+        inside = there_inside low key mid holds.tree holds.there;
+        there = subst (λ (n : Node). IsSome (element_at key (elements_in mid h n))) holds.here holds.there;
+      })
 
   module _ (f : List Element → List Element) (marking : Marking) (p3 : Option PageMap) (after : Node)
       (shrinks : Shrinks f key marking (λ o. IsSome o) p2 p3 node after) (told3 : is_some p3 ≡ is_some p2) where
     -- what became of its node
-    change_of : (old mid now : PageMap) → IsLowered old mid root low node → IsSome (element_at key (elements_of old root))
-        → Shrinks f key marking (λ o. IsSome o) (Some mid) (Some now) node after
-        → Changed f key marking (root_place low) (height_of (node_at mid low)) mid now (node_at mid low) after
-    change_of old mid now lowered there shrinks =
-        let some : IsSome (element_at key (elements_of mid low)) = subst (λ (l : List Element). IsSome (element_at key l)) (sym lowered.elements) there in
+    change_of : (mid : PageMap) → HoldsLow key low node mid → Shrinks f key marking (λ o. IsSome o) (Some mid) p3 node after
+        → IfSome p3 (λ now. Changed f key marking (root_place low) (height_of (node_at mid low)) mid now (node_at mid low) after)
+    change_of mid holds shrinks =
         let h : ℕ = height_of (node_at mid low) in
-        subst (λ (n : Node). Changed f key marking (root_place low) h mid now n after) (sym lowered.here)
-        (shrinks (root_place low) h (subst (λ (n : Node). IsTree mid h (root_place low) n) lowered.here lowered.tree.sound.tree)
-        (there_inside low key mid lowered.tree some)
-        (subst (λ (n : Node). IsSome (element_at key (elements_in mid h n))) lowered.here some))
+        subst (λ (n : Node). IfSome p3 (λ now. Changed f key marking (root_place low) h mid now n after)) (sym holds.here)
+        (shrinks (root_place low) h (subst (λ (n : Node). IsTree mid h (root_place low) n) holds.here holds.tree.sound.tree)
+        (there_inside low key mid holds.tree holds.there)
+        (subst (λ (n : Node). IsSome (element_at key (elements_in mid h n))) holds.here holds.there))
 
     -- the page of the lower root stays
     pub low_there : IfSome p0 (λ was. IsSome (element_at key (elements_of was root))) → IfSome p3 (λ map. IsSome (map low))
-    low_there there = by_pages p0 p2 p3 there
-        (subst (λ (p : Option PageMap). IfSome p (λ was. IfSome p2 (λ is. IsLowered was is root low node))) same lowered)
-        (told ∙ ap is_some same) shrinks told3 where
-          by_pages : (p q r : Option PageMap) → IfSome p (λ was. IsSome (element_at key (elements_of was root)))
-              → IfSome p (λ was. IfSome q (λ is. IsLowered was is root low node)) → is_some q ≡ is_some p → Shrinks f key marking
-              (λ o. IsSome o) q r node after → is_some r ≡ is_some q
-              → IfSome r (λ map. IsSome (map low))
-          by_pages p q None there lowered told shrinks told3 = tt
-          by_pages p None (Some now) there lowered told shrinks told3 = absurd (true≢false told3)
-          by_pages None (Some mid) (Some now) there lowered told shrinks told3 = absurd (true≢false told)
-          by_pages (Some old) (Some mid) (Some now) there lowered told shrinks told3 =
-              let change = change_of old mid now lowered there shrinks in
-              let h : ℕ = height_of (node_at mid low) in
-              let itself = not_below_itself mid h (root_place low) (node_at mid low) low lowered.tree.sound.tree refl in
-              subst (λ (o : Option (List ℕ)). IsSome o) (sym (change.pages.kept low itself lowered.tree.sound.there)) lowered.tree.sound.there
+    low_there there = IfSome_alike p2 p3 _ told3 (IfSome_both p2 (low_told there) shrinks (λ mid holds shrinks.
+        let itself = not_below_itself mid (height_of (node_at mid low)) (root_place low) (node_at mid low) low holds.tree.sound.tree refl in
+        IfSome_then p3 (change_of mid holds shrinks) (λ now change.
+        subst (λ (o : Option (List ℕ)). IsSome o) (sym (change.pages.kept low itself holds.tree.sound.there)) holds.tree.sound.there)))
 
     by_result : (p4 : Option PageMap) (root' : ℕ) (Ends : PageMap → PageMap → Type 0)
         → ((mid now new : PageMap) → IsTreeSpace mid low → Changed f key marking (root_place low) (height_of (node_at mid low))
         mid now (node_at mid low) after → Ends now new → TreeChanged f key marking mid new low root')
         → BothTell p3 p4 Ends → ChangesTree f key marking (λ es. IsSome (element_at key es)) p0 p4 root root'
-    by_result p4 root' Ends step ended = by_pages p0 p2 p3 p4
-        (subst (λ (p : Option PageMap). IfSome p (λ was. IfSome p2 (λ is. IsLowered was is root low node))) same lowered)
-        (told ∙ ap is_some same) shrinks told3 ended where
-          by_pages : (p q r s : Option PageMap) → IfSome p (λ was. IfSome q (λ is. IsLowered was is root low node))
-              → is_some q ≡ is_some p → Shrinks f key marking (λ o. IsSome o) q r node after → is_some r ≡ is_some q → BothTell r s Ends
-              → ChangesTree f key marking (λ es. IsSome (element_at key es)) p s root root'
-          by_pages None q r s lowered told shrinks told3 ended = tt
-          by_pages (Some old) q r None lowered told shrinks told3 ended = λ tree there. tt
-          by_pages (Some old) q None (Some new) lowered told shrinks told3 ended = absurd ended
-          by_pages (Some old) None (Some now) (Some new) lowered told shrinks told3 ended = absurd (true≢false told3)
-          by_pages (Some old) (Some mid) (Some now) (Some new) lowered told shrinks told3 ended = λ tree there.
-              changed_lowered f key marking old mid new root low root' node lowered
-              (step mid now new lowered.tree (change_of old mid now lowered there shrinks) ended)
+    by_result p4 root' Ends step ended = IfSome_then p0 lowered_first (λ old lowered tree there.
+        IfSome_alike p2 p4 _ (told_written p3 p4 Ends ended ∙ told3) (IfSome_both p2 lowered shrinks (λ mid lowered shrinks.
+        told_after p3 p4 ended (change_of mid (holds_low key root low node old mid lowered there) shrinks) (λ now new ended change.
+        changed_lowered f key marking old mid new root low root' node lowered (step mid now new lowered.tree change ended)))))
 
     -- it is written
     pub written_result : (p4 : Option PageMap) → BothTell p3 p4 (HasWritten low after) → ChangesTree f key marking

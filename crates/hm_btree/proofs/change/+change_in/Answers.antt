@@ -14,7 +14,7 @@ use Rattle.hm_btree.specs.Shape.{IsShaped}
 use Rattle.hm_btree.proofs.EditLemmas.{place_within, child_lower, cause_read, cause_below, cause_write}
 use Rattle.hm_btree.proofs.LocalLemmas.{changed_local}
 use Rattle.hm_btree.proofs.ShapeLemmas.{node_shaped, child_offset, mirror_shaped, element_shaped}
-use Rattle.hm_btree.proofs.ToldLemmas.{inner_works, leaf_works, leaf_without}
+use Rattle.hm_btree.proofs.WorksLemmas.{inner_works, leaf_works, leaf_without}
 use Rattle.hm_btree.proofs.change.+change_in.Goals as goal
 use Rattle.hm_btree.proofs.change.+change_in.Goals.{then-has_element, else-has_element}
 

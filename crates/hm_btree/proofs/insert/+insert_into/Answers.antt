@@ -24,7 +24,8 @@ use Rattle.hm_btree.proofs.InsertLemmas.{next_within, two_levels, one_more, spen
 use Rattle.hm_btree.proofs.KeptLemmas.{kept_read, kept_change, kept_both}
 use Rattle.hm_btree.proofs.LocalLemmas.{inserted_local}
 use Rattle.hm_btree.proofs.ShapeLemmas.{node_shaped, child_offset, mirror_shaped, inserted_shaped, beside_shaped}
-use Rattle.hm_btree.proofs.ToldLemmas.{inner_works, told_written}
+use Rattle.hm_btree.proofs.ToldLemmas.{told_written}
+use Rattle.hm_btree.proofs.WorksLemmas.{inner_works}
 use Rattle.hm_btree.proofs.insert.+insert_into.Goals as goal
 
 pub child-place-requires : goal.child-place-requires
