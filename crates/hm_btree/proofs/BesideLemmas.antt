@@ -18,6 +18,7 @@ use Rattle.hm_node.specs.declared.node.Node.TheVariants.{Leaf as leaf_node, Inne
 use Rattle.hm_search.specs.Place.{IsInside}
 use Rattle.hm_search.specs.Tree.{node_at, elements_in, mark_in, reaches, starts_after, child_place, IsTree, IsStoredTree}
 use Rattle.hm_search.specs.declared.subtree.Subtree.{Subtree}
+use Rattle.hm_search.proofs.ChildLemmas.{begins_before, later_sorted}
 use Rattle.hm_search.proofs.ContentLemmas.{elements_inside}
 use Rattle.hm_search.proofs.FrameLemmas.{IsSameBelow, frame_elements, frame_mark, frame_reaches, frame_stored}
 use Rattle.hm_search.proofs.ListLemmas.{each_so}
@@ -28,7 +29,6 @@ use Rattle.hm_btree.specs.Below.{Replaces, elements_under, mark_under, AreStored
 use Rattle.hm_btree.specs.Shrink.{loose, between, below_both, Beside, LeavesHave}
 use Rattle.hm_btree.proofs.ChangeLemmas.{mark_cons}
 use Rattle.hm_btree.proofs.MarkLemmas.{as_marks, both_sides, marks_low, marks_high, takes_same}
-use Rattle.hm_btree.proofs.OrderLemmas.{rising_next, rising_rest}
 use Rattle.hm_btree.proofs.PutLemmas.{same_test, test_other}
 use Rattle.hm_btree.proofs.UnderLemmas.{or_false, or_false_left, or_false_right, reached_there, first_apart, replaces_same, replaces_front, replaces_back}
 
@@ -146,14 +146,14 @@ module _ (old : PageMap) (height level : ℕ) (next : Base) (a b : Child) (risin
                 (both_sides b.left (mark_in mid height lower) (mark_in mid height (node_at mid b.child)))
                 (λ k. mark_cons old height k a b []) (λ k. ap (λ (n : ℕ). if starts_after k b then mark_in mid height lower k else n) (upper_stays.mark k))
                 (marks_low b.left (mark_in old height lower_was) (mark_in mid height lower) (mark_in old height upper_was) key
-                before marking a.left next (rising_next next b [] (rising_rest next a (b ∷ []) rising)) change.mark);
+                before marking a.left next (begins_before next b [] (later_sorted next a (b ∷ []) rising)) change.mark);
             pages = replaces_same old mid (below_both old height a b) (λ x. reaches mid height lower x || reaches old height upper_was x)
                 (below_both old height a b) (λ x. reaches mid height lower x || reaches mid height (node_at mid b.child) x)
                 (λ x. refl) (λ x. ap (λ (t : Bool). reaches mid height lower x || t) (upper_stays.pages x))
                 (replaces_back old mid (reaches old height upper_was) (reaches old height lower_was) (reaches mid height lower) change.pages);
             bound = child.left;
-            from = rising_next next a (b ∷ []) rising;
-            to = rising_next next b [] (rising_rest next a (b ∷ []) rising);
+            from = begins_before next a (b ∷ []) rising;
+            to = begins_before next b [] (later_sorted next a (b ∷ []) rising);
           }
 
     -- the upper one changed
@@ -187,14 +187,14 @@ module _ (old : PageMap) (height level : ℕ) (next : Base) (a b : Child) (risin
                 (both_sides b.left (mark_in mid height (node_at mid a.child)) (mark_in mid height upper))
                 (λ k. mark_cons old height k a b []) (λ k. ap (λ (n : ℕ). if starts_after k b then n else mark_in mid height upper k) (lower_stays.mark k))
                 (marks_high b.left (mark_in old height lower_was) (mark_in old height upper_was) (mark_in mid height upper) key
-                from marking a.left next (rising_next next a (b ∷ []) rising) change.mark);
+                from marking a.left next (begins_before next a (b ∷ []) rising) change.mark);
             pages = replaces_same old mid (below_both old height a b) (λ x. reaches old height lower_was x || reaches mid height upper x)
                 (below_both old height a b) (λ x. reaches mid height (node_at mid a.child) x || reaches mid height upper x)
                 (λ x. refl) (λ x. ap (λ (t : Bool). t || reaches mid height upper x) (lower_stays.pages x))
                 (replaces_front old mid (reaches old height lower_was) (reaches old height upper_was) (reaches mid height upper) change.pages);
             bound = child.left;
-            from = rising_next next a (b ∷ []) rising;
-            to = rising_next next b [] (rising_rest next a (b ∷ []) rising);
+            from = begins_before next a (b ∷ []) rising;
+            to = begins_before next b [] (later_sorted next a (b ∷ []) rising);
           }
 
   -- where leaves lose an element, and their marks stay

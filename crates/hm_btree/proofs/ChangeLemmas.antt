@@ -15,6 +15,7 @@ use Rattle.hm_node.specs.Inner.{IsChild}
 use Rattle.hm_node.specs.declared.inner.Child.{Child}
 use Rattle.hm_search.specs.Place.{IsInside}
 use Rattle.hm_search.specs.Tree.{node_at, elements_in, mark_in, holder, starts_after, next_left, child_place, places_of, IsStoredTree}
+use Rattle.hm_search.proofs.ChildLemmas.{begins_before, later_sorted}
 use Rattle.hm_search.proofs.ListLemmas.{each_so, each_append}
 use Rattle.hm_search.proofs.OrderLemmas.{from_is, from_not, from_trans}
 use Rattle.hm_search.proofs.ContentLemmas.{AreInside, from_next_on, elements_inside}
@@ -23,7 +24,7 @@ use Rattle.hm_search.proofs.ReachLemmas.{is_under}
 use Rattle.hm_btree.specs.Marking.{Marking, MarksWithin}
 use Rattle.hm_btree.specs.Below.{elements_under, mark_under, has_under, AreStored, AreRising, IsLocal, ChangedUnder}
 use Rattle.hm_btree.proofs.MarkLemmas.{as_marks, both_sides, marks_low, marks_high}
-use Rattle.hm_btree.proofs.OrderLemmas.{before_before, ends_after, rising_rest, rising_cons, rising_next, before_all, rising_append, rising_back}
+use Rattle.hm_btree.proofs.OrderLemmas.{before_before, ends_after, rising_cons, before_all, rising_append, rising_back}
 use Rattle.hm_btree.proofs.UnderLemmas.{under_there, first_apart, later_apart, under_append, stored_append, stored_back, under_elements}
 use Rattle.hm_btree.proofs.UnderLemmas.{under_mark, under_has, under_stored, replaces_same, replaces_front, replaces_back}
 
@@ -52,19 +53,19 @@ module _ (key : Key) where
       → starts_after key d ≡ false → holder key b (bs ++ d ∷ ds) ≡ holder key d ds
   holder_back right b d [] ds rising begun = rw begun refl
   holder_back right b d (q ∷ qs) ds rising begun =
-      let later = rising_rest right b ((q ∷ qs) ++ d ∷ ds) rising in
+      let later = later_sorted right b ((q ∷ qs) ++ d ∷ ds) rising in
       let before : IsBefore (key_of q.left) (key_of d.left) = between qs later in
       let here : starts_after key q ≡ false = from_not key (key_of q.left) (from_trans (key_of q.left) (key_of d.left) key
       (key_from_before (key_of q.left) (key_of d.left) before) (from_is key (key_of d.left) begun)) in
       rw here (holder_back right q d qs ds later begun) where
         between : (qs : List Child) → AreRising right (q ∷ (qs ++ d ∷ ds)) → IsBefore (key_of q.left) (key_of d.left)
-        between [] rising = rising_next right q (d ∷ ds) rising
+        between [] rising = begins_before right q (d ∷ ds) rising
         between (p ∷ ps) rising = before_before (key_of q.left) (key_of p.left) (key_of d.left)
-            (rising_next right q ((p ∷ ps) ++ d ∷ ds) rising) (further p ps (rising_rest right q ((p ∷ ps) ++ d ∷ ds) rising)) where
+            (begins_before right q ((p ∷ ps) ++ d ∷ ds) rising) (further p ps (later_sorted right q ((p ∷ ps) ++ d ∷ ds) rising)) where
               further : (p : Child) (ps : List Child) → AreRising right (p ∷ (ps ++ d ∷ ds)) → IsBefore (key_of p.left) (key_of d.left)
-              further p [] rising = rising_next right p (d ∷ ds) rising
+              further p [] rising = begins_before right p (d ∷ ds) rising
               further p (r ∷ rs) rising = before_before (key_of p.left) (key_of r.left) (key_of d.left)
-                  (rising_next right p ((r ∷ rs) ++ d ∷ ds) rising) (further r rs (rising_rest right p ((r ∷ rs) ++ d ∷ ds) rising))
+                  (begins_before right p ((r ∷ rs) ++ d ∷ ds) rising) (further r rs (later_sorted right p ((r ∷ rs) ++ d ∷ ds) rising))
 
 -- the mark among a child and those after it
 pub mark_cons : (map : PageMap) (height : ℕ) (k : Key) (c d : Child) (ds : List Child) → mark_under map height
@@ -151,7 +152,7 @@ module _ (f : List Element → List Element) (key : Key) (marking : Marking) (le
             (λ k. mark_cons new height k c e es ∙ ap (λ (t : Bool). if t then mark_under new height (c ∷ []) k else mark_under new height (e ∷ es) k) (later k)
             ∙ ap (λ (n : ℕ). if starts_after k d then n else mark_under new height (e ∷ es) k) (under_mark old new height d.left (c ∷ []) same k))
             (marks_high d.left (mark_under old height (c ∷ [])) (mark_under old height (d ∷ ds)) (mark_under new height (e ∷ es))
-            key from marking c.left right (rising_next right c (d ∷ ds) rising) change.mark);
+            key from marking c.left right (begins_before right c (d ∷ ds) rising) change.mark);
         pages = replaces_same old new (λ x. is_under old height x c || has_under old height (d ∷ ds) x)
             (λ x. is_under old height x c || has_under new height (e ∷ es) x)
             (has_under old height (c ∷ d ∷ ds)) (has_under new height (c ∷ e ∷ es)) (λ x. refl)
@@ -160,7 +161,7 @@ module _ (f : List Element → List Element) (key : Key) (marking : Marking) (le
             (replaces_front old new (λ x. is_under old height x c) (has_under old height (d ∷ ds)) (has_under new height (e ∷ es)) change.pages);
         left = refl;
         rising = rising_cons right c (e ∷ es) (before_all c.left right (e ∷ es) change.rising
-            (subst (λ (b : Base). IsBefore (key_of c.left) (key_of b)) (sym change.left) (rising_next right c (d ∷ ds) rising))) change.rising;
+            (subst (λ (b : Base). IsBefore (key_of c.left) (key_of b)) (sym change.left) (begins_before right c (d ∷ ds) rising))) change.rising;
         fields = (child, change.fields);
       }
 

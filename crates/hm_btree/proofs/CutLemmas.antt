@@ -5,7 +5,7 @@ use Rattle.std.specs.List.{AllByRecursion}
 use Rattle.std.proofs.lemmas.List.{take-append-drop, take-append-le}
 use Rattle.hm_search.proofs.ListLemmas.{each_so, each_append}
 use Rattle.hm_btree.specs.Shrink.{share_of}
-use Rattle.hm_btree.proofs.ListLemmas.{drop_past}
+use Rattle.hm_btree.proofs.ListLemmas.{drop_across}
 use Rattle.hm_btree.proofs.OrderLemmas.{each_front, each_back}
 
 -- where two lists that share their values out are cut, and whether the first one gains some
@@ -58,5 +58,5 @@ module _ {A : Type 0} (P : ℕ → A → Type 0) (rise : (m n : ℕ) (x : A) →
     by_test : (b : Bool) → nat_lt (length xs) count ≡ b → AllByRecursion (P (high_of b m n)) (drop count (xs ++ ys))
     by_test true is =
         let below = ltb-true (length xs) count is in
-        subst (λ (l : List A). AllByRecursion (P n) l) (sym (drop_past count xs ys (omega (arith, below)))) (each_drop (P n) (count - length xs) ys second)
+        subst (λ (l : List A). AllByRecursion (P n) l) (sym (drop_across count xs ys (omega (arith, below)))) (each_drop (P n) (count - length xs) ys second)
     by_test false is = each_drop (P (max m n)) count (xs ++ ys) each_most

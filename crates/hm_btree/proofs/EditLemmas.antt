@@ -1,5 +1,5 @@
 -- A step of a call down to a child, and back.
-use Rattle.std.proofs.Common.{◌≡◌, true≢false, ℕ, zero, suc, ◌+◌, ◌<◌, ◌≤◌, List, [], ◌∷◌, ◌++◌, length, take, drop, refl, sym, ap, subst}
+use Rattle.std.proofs.Common.{◌≡◌, ℕ, zero, suc, ◌+◌, ◌<◌, ◌≤◌, List, [], ◌∷◌, ◌++◌, length, take, drop, refl, sym, ap, subst}
 use Rattle.std.proofs.Common.{◌∙◌, arith, max, Some, None, Err, length-append}
 use Rattle.std.specs.Prelude.{IsSome, is_some, Option, IfSome, All, slice_get, slice_set, slice_index_or}
 use Rattle.std.specs.List.{AllByRecursion}
@@ -17,7 +17,7 @@ use Rattle.hm_key.specs.declared.base.Base.{Base}
 use Rattle.hm_key.specs.declared.element.Element.{Element}
 use Rattle.hm_key.proofs.KeyLemmas.{key_before_from}
 use Rattle.hm_node.specs.Inner.{IsChild}
-use Rattle.hm_node.specs.Node.{level_of, IsNode}
+use Rattle.hm_node.specs.Node.{level_of}
 use Rattle.hm_node.specs.declared.inner.Child.{Child}
 use Rattle.hm_node.specs.declared.inner.Inner.{Inner}
 use Rattle.hm_node.specs.declared.node.Node.{Node}
@@ -28,9 +28,9 @@ use Rattle.hm_search.specs.Search.{holder_place}
 use Rattle.hm_search.specs.Tree.{node_at, elements_in, next_left, child_place, children_of, IsTree, IsStoredTree}
 use Rattle.hm_search.specs.declared.subtree.Parent.{Parent}
 use Rattle.hm_search.specs.declared.subtree.Subtree.{Subtree}
-use Rattle.hm_search.proofs.ChildLemmas.{holder_place_within, place_is}
+use Rattle.hm_search.proofs.ChildLemmas.{place_is, begins_before}
 use Rattle.hm_search.proofs.DamageLemmas.{tells_undamaged, stored_here, caused_since}
-use Rattle.hm_search.proofs.DescentLemmas.{fault_below, fault_here, leads}
+use Rattle.hm_search.proofs.DescentLemmas.{IsStoredBelow, fault_below, fault_here, leads}
 use Rattle.hm_search.proofs.ListLemmas.{each_so, each_append, each_get}
 use Rattle.hm_btree.specs.Marking.{Marking}
 use Rattle.hm_btree.specs.Edits.{inner_of, with_mirror}
@@ -39,40 +39,33 @@ use Rattle.hm_btree.specs.Below.{elements_under, IsLocal, Changed, HasEditCause}
 use Rattle.hm_btree.proofs.ChangeLemmas.{inside_under}
 use Rattle.hm_btree.proofs.LocalLemmas.{before_not_at, after_not_at}
 use Rattle.hm_btree.proofs.NodeLemmas.{holder_inside, changed_written, changed_within, changed_above}
-use Rattle.hm_btree.proofs.OrderLemmas.{each_front, each_back, rising_back, rising_front, rising_next}
+use Rattle.hm_btree.proofs.OrderLemmas.{each_front, each_back, rising_back, rising_front}
 use Rattle.hm_btree.proofs.ToldLemmas.{IfSome_both, IfSome_kept}
 use Rattle.hm_btree.proofs.UnderLemmas.{stored_front, stored_back}
 
--- the child that holds a key is one of the node's
-pub place_within : (node : Node) (inner : Inner) (key : Key) (i : ℕ) → IsNode node → node ≡ inner_node inner
-    → i ≡ holder_place key inner.places.items → i < length inner.places.items
-place_within node inner key i sound is at =
-    let some = (subst (λ (n : Node). IsNode n) is sound).count.0 in
-    subst (λ (n : ℕ). n < length inner.places.items) (sym at) (holder_place_within key inner.places.items some)
-
 -- a child that was read is one level lower
-pub child_lower : (node child : Node) (inner : Inner) (i : ℕ) (s : Subtree) → node ≡ inner_node inner
-    → slice_get (children_of inner) i ≡ Some s → Fits s child → level_of child < level_of node
-child_lower node child inner i s is at fits =
+pub child_level : (inner : Inner) (i : ℕ) (s : Subtree) (child : Node) → slice_get (children_of inner) i ≡ Some s → Fits s child
+    → level_of child + 1 ≡ inner.level
+child_level inner i s child at fits =
     let there = place_is inner.level inner.right inner.places.items i s at in
-    let level : level_of child + 1 ≡ inner.level = by_place s there.place fits in
-    let same : level_of node ≡ inner.level = ap level_of is in
-    omega arith where
+    by_place s there.place fits where
       by_place : (s : Subtree) {b : Base} {c : Child} → s ≡ child_place inner.level b c → Fits s child → level_of child + 1 ≡ inner.level
       by_place s {b = b} {c = c} same fits = (subst (λ (t : Subtree). Fits t child) same fits).level
 
--- a child of a sound node stands in its page
-pub record IsStoredBelow (map : PageMap) (height : ℕ) (s : Subtree) : Type 0 where
-  pub lower : ℕ
-  pub is : height ≡ suc lower
-  pub stored : IsStoredTree map lower s
+pub child_lower : (node child : Node) (inner : Inner) (i : ℕ) (s : Subtree) → node ≡ inner_node inner
+    → slice_get (children_of inner) i ≡ Some s → Fits s child → level_of child < level_of node
+child_lower node child inner i s is at fits =
+    let level : level_of child + 1 ≡ inner.level = child_level inner i s child at fits in
+    let same : level_of node ≡ inner.level = ap level_of is in
+    omega arith
 
+-- a child of a sound node stands in its page
 pub stored_below : (map : PageMap) (height : ℕ) (place : Subtree) (node : Node) (inner : Inner) (i : ℕ) (s : Subtree)
-    → IsTree map height place node → node ≡ inner_node inner → slice_get (children_of inner) i ≡ Some s → IsStoredBelow map height s
+    → IsTree map height place node → node ≡ inner_node inner → slice_get (children_of inner) i ≡ Some s → IsStoredBelow map height place inner s
 stored_below map height place node inner i s tree is at = by_height height (subst (λ (n : Node). IsTree map height place n) is tree) where
-  by_height : (h : ℕ) → IsTree map h place (inner_node inner) → IsStoredBelow map h s
+  by_height : (h : ℕ) → IsTree map h place (inner_node inner) → IsStoredBelow map h place inner s
   by_height zero tree = absurd (omega (arith, tree.level, tree.sound.level.0))
-  by_height (suc h) tree = record { lower = h; is = refl; stored = each_get (IsStoredTree map h) (children_of inner) i s at tree.below }
+  by_height (suc h) tree = record { lower = h; is = refl; tree = tree; stored = each_get (IsStoredTree map h) (children_of inner) i s at tree.below }
 
 -- the node that was read there
 pub tree_read : (map : PageMap) (lower : ℕ) (s : Subtree) (child : Node) → IsStoredTree map lower s → StandsHere map s child → IsTree map lower s child
@@ -83,11 +76,11 @@ pub read_there : (map : PageMap) (s : Subtree) (at : ℕ) (child : Node) → s.a
 read_there map s at child same there here = ap (node_at map) (sym same) ∙ (here.spelled (subst (λ (x : ℕ). IsSome (map x)) (sym same) there)).value
 
 -- the cause of a fault of the read, and of one further down
-pub cause_read : (told : Option PageMap) (node : Node) (inner : Inner) (i : ℕ) (s : Subtree) (old new : ℕ) (fault : Fault)
+pub edit_cause_read : (told : Option PageMap) (node : Node) (inner : Inner) (i : ℕ) (s : Subtree) (old new : ℕ) (fault : Fault)
     → node ≡ inner_node inner → slice_get (children_of inner) i ≡ Some s
     → HasFaultCause {T = Node} old new (Err fault) → IfSome told (λ map. TellsDamage s (map s.at) fault)
     → HasEditCause {T = Unit {0}} told node old new (Err fault)
-cause_read told node inner i s old new fault is at counted damage = record {
+edit_cause_read told node inner i s old new fault is at counted damage = record {
   counted = record { never_falls = counted.never_falls; caused = counted.caused };
   damage = IfSome_then told damage (λ map damage place here. fault_below map place s fault
       (leads map place inner i s (subst (λ (n : Node). StandsHere map place n) is here) at) (fault_here map s fault damage));
@@ -96,11 +89,11 @@ cause_read told node inner i s old new fault is at counted damage = record {
       tells_undamaged s (map s.at) (node_at map s.at) fault below.stored.there (stored_here map below.lower s below.stored) damage);
 }
 
-pub cause_below : {T : Type 0} (told now : Option PageMap) (node child : Node) (inner : Inner) (i : ℕ) (s : Subtree)
+pub edit_cause_below : {T : Type 0} (told now : Option PageMap) (node child : Node) (inner : Inner) (i : ℕ) (s : Subtree)
     (old mid new : ℕ) (fault : Fault) → node ≡ inner_node inner → slice_get (children_of inner) i ≡ Some s
     → now ≡ told → old ≤ mid → IfSome told (λ map. StandsHere map s child) → HasEditCause {T = T} now child mid new (Err fault)
     → HasEditCause {T = T} told node old new (Err fault)
-cause_below told now node child inner i s old mid new fault is at same low here cause = record {
+edit_cause_below told now node child inner i s old mid new fault is at same low here cause = record {
   counted = record { never_falls = omega (arith, cause.counted.never_falls); caused = caused_since old mid new fault low cause.counted.caused };
   damage = IfSome_both told here (subst (λ (o : Option PageMap). IfSome o (λ map. (place : Subtree) → StandsHere map place child
       → IsFaultBelow map place fault)) same cause.damage) (λ map here more place stands. fault_below map place s fault
@@ -117,9 +110,9 @@ undamaged_below map s (Media before after) is = tt
 undamaged_below map s (Damaged at kind) is = absurd is
 undamaged_below map s NoMemory is = tt
 
-pub cause_write : {T U : Type 0} (told mid : Option PageMap) (node : Node) (old middle new : ℕ) (fault : Fault)
+pub edit_cause_write : {T U : Type 0} (told mid : Option PageMap) (node : Node) (old middle new : ℕ) (fault : Fault)
     → is_some mid ≡ is_some told → old ≤ middle → HasStoreCause {T = U} mid middle new (Err fault) → HasEditCause {T = T} told node old new (Err fault)
-cause_write told mid node old middle new fault same low cause =
+edit_cause_write told mid node old middle new fault same low cause =
     let undamaged : IfSome told (λ _. IsUndamaged fault) = IfSome_kept mid told _ (sym same) cause.undamaged in
     record {
       counted = record { never_falls = omega (arith, low, cause.counted.never_falls); caused = caused_since old middle new fault low cause.counted.caused };
@@ -197,7 +190,7 @@ module _ (key : Key) (place : Subtree) (height level mirror : ℕ) (right : Base
     changed_parent f marking mid new after local change (page, spells, put) =
         let children = recursion_from_All IsChild (pre ++ c ∷ post) tree.sound.fields.children in
         let one = (each_back IsChild pre (c ∷ post) children).0 in
-        let next = rising_next right c post (rising_back right pre (c ∷ post) tree.sound.order) in
+        let next = begins_before right c post (rising_back right pre (c ∷ post) tree.sound.order) in
         let segment = changed_written f key marking level (next_left right post) height old mid new c after page one next child_tree change spells put in
         let all = changed_within f key marking level right height old new local c (with_mirror (mirror_of after) c) [] [] post pre
         children tree.sound.order tree.below child_inside.from child_inside.before segment in

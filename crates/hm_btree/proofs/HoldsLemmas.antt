@@ -1,5 +1,5 @@
 -- The child that holds the key of an element.
-use Rattle.std.proofs.Common.{◌≡◌, true≢false, ℕ, zero, suc, List, ◌∷◌, ◌++◌, length, take, drop, refl, sym, ap, subst, ◌∙◌, arith, Some, None}
+use Rattle.std.proofs.Common.{◌≡◌, ℕ, zero, suc, List, ◌∷◌, ◌++◌, length, take, drop, refl, sym, ap, subst, ◌∙◌, arith, Some}
 use Rattle.std.specs.Prelude.{Option, IsSome, is_some, IfSome, slice_get}
 use Rattle.std.proofs.lemmas.Option.{IfSome_then}
 use Rattle.hm_types.specs.Elements.{Key}

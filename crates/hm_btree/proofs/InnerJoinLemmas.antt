@@ -21,6 +21,7 @@ use Rattle.hm_node.specs.declared.node.Node.{Node}
 use Rattle.hm_node.specs.declared.node.Node.TheVariants.{Leaf as leaf_node, Inner as inner_node}
 use Rattle.hm_search.specs.Place.{IsInside, BeginsAt, FitsBounds}
 use Rattle.hm_search.specs.Tree.{node_at, elements_in, next_left, child_place, IsTree, IsStoredTree}
+use Rattle.hm_search.proofs.ChildLemmas.{begins_before, later_sorted}
 use Rattle.hm_search.proofs.ListLemmas.{each_so, each_append}
 use Rattle.hm_btree.specs.Marking.{Marking, MarksWithin}
 use Rattle.hm_btree.specs.Edits.{inner_of}
@@ -29,7 +30,7 @@ use Rattle.hm_btree.specs.Shrink.{Beside, Joined, Shared, between}
 use Rattle.hm_btree.proofs.ChangeLemmas.{mark_cut}
 use Rattle.hm_btree.proofs.CutLemmas.{each_take, each_drop, each_most, cut_low, cut_high, cut_of, gains_of, low_of, high_of, low_part, high_part}
 use Rattle.hm_btree.proofs.MarkLemmas.{both_sides, same_marks}
-use Rattle.hm_btree.proofs.OrderLemmas.{ends_after, rising_rest, rising_cons, rising_next, rising_front, rising_back, rising_append, before_all}
+use Rattle.hm_btree.proofs.OrderLemmas.{ends_after, rising_cons, rising_front, rising_back, rising_append, before_all}
 use Rattle.hm_btree.proofs.UnderLemmas.{replaces_same, stored_append, stored_front, stored_back, under_append}
 
 -- A right boundary matters by its key alone.
@@ -68,10 +69,10 @@ module _ (old new : Base) (same : key_of old ≡ key_of new) where
   pub rising_to : (cs : List Child) → AreRising old cs → AreRising new cs
   unfolding IsStrictlySortedBy
   rising_to [] rising = (tt, tt)
-  rising_to (c ∷ []) rising = ((subst (λ (k : Key). IsBefore (key_of c.left) k) same (rising_next old c [] rising), tt), (tt, tt))
+  rising_to (c ∷ []) rising = ((subst (λ (k : Key). IsBefore (key_of c.left) k) same (begins_before old c [] rising), tt), (tt, tt))
   rising_to (c ∷ d ∷ ds) rising =
-      let more = rising_to (d ∷ ds) (rising_rest old c (d ∷ ds) rising) in
-      rising_cons new c (d ∷ ds) (before_all c.left new (d ∷ ds) more (rising_next old c (d ∷ ds) rising)) more
+      let more = rising_to (d ∷ ds) (later_sorted old c (d ∷ ds) rising) in
+      rising_cons new c (d ∷ ds) (before_all c.left new (d ∷ ds) more (begins_before old c (d ∷ ds) rising)) more
 
 -- where some children begin
 module _ (left : Base) where
@@ -88,9 +89,9 @@ module _ (left : Base) where
   begins_take zero (c ∷ cs) some begins = absurd (omega arith)
   begins_take (suc n) (c ∷ cs) some begins = begins
 
-begins_before : (left right : Base) (cs : List Child) → BeginsAt left cs → AreRising right cs → IsBefore (key_of left) (key_of right)
-begins_before left right [] begins rising = absurd begins
-begins_before left right (c ∷ cs) begins rising = subst (λ (k : Key). IsBefore k (key_of right)) begins (ends_after right c cs rising)
+left_before_right : (left right : Base) (cs : List Child) → BeginsAt left cs → AreRising right cs → IsBefore (key_of left) (key_of right)
+left_before_right left right [] begins rising = absurd begins
+left_before_right left right (c ∷ cs) begins rising = subst (λ (k : Key). IsBefore k (key_of right)) begins (ends_after right c cs rising)
 
 mirror_rise : (m n : ℕ) (c : Child) → m ≤ n → c.mirror ≤ m → c.mirror ≤ n
 mirror_rise m n c le up = omega (arith, le, up)
@@ -293,7 +294,7 @@ module _ (key : Key) (marking : Marking) (height : ℕ) (old mid : PageMap) (old
             (λ x. refl) (λ x. sym (under_append mid height x lo (c ∷ hi)) ∙ ap (λ (l : List Child). has_under mid height l x) both
             ∙ under_append mid height x a.places.items b.places.items) beside.pages;
         bound = upper_children.0.left;
-        from = begins_before left c.left lo lower_begins (rising_front b.right lo (c ∷ hi) rising);
+        from = left_before_right left c.left lo lower_begins (rising_front b.right lo (c ∷ hi) rising);
         to = subst (λ (k : Key). IsBefore (key_of c.left) k) beside.upper_tree.fits.bounds.1
             (ends_after b.right c hi (rising_back b.right lo (c ∷ hi) rising));
       };

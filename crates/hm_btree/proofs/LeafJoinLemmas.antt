@@ -29,7 +29,7 @@ use Rattle.hm_btree.specs.Grow.{Split}
 use Rattle.hm_btree.specs.Shrink.{Beside, Joined, Shared, between}
 use Rattle.hm_btree.proofs.CutLemmas.{each_drop, each_most, cut_low, cut_high, cut_of, gains_of, low_of, high_of, low_part, high_part}
 use Rattle.hm_btree.proofs.LeafLemmas.{below_leaf, leaf_sound, leaf_content, leaf_offsets}
-use Rattle.hm_btree.proofs.ListLemmas.{drop_past}
+use Rattle.hm_btree.proofs.ListLemmas.{drop_across}
 use Rattle.hm_btree.proofs.MarkLemmas.{both_sides, same_marks, writes_leaf, marks_joined, marks_gain_low, marks_gain_high}
 use Rattle.hm_btree.proofs.OrderLemmas.{before_before}
 use Rattle.hm_btree.proofs.SplitLemmas.{split_leaf}
@@ -158,7 +158,7 @@ module _ (key : Key) (height : ℕ) (old mid : PageMap) (olds : ℕ → Bool) (w
     moved_up is =
         let below = ltb-true (length a.places.items) count is in
         let items : drop (count - length a.places.items) b.places.items ≡ e ∷ hi =
-        sym (drop_past count a.places.items b.places.items (omega (arith, below))) ∙ cut in
+        sym (drop_across count a.places.items b.places.items (omega (arith, below))) ∙ cut in
         let each = subst (λ (l : List Element). AllByRecursion (λ x. IsFrom (key_of at) (element_key x)) l) items
         (each_drop (λ x. IsFrom (key_of at) (element_key x)) (count - length a.places.items) b.places.items upper_from) in
         subst (λ (k : Key). IsFrom (key_of at) k) (sym bound.key) each.0

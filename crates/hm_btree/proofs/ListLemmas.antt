@@ -1,18 +1,17 @@
 -- Lists that are cut in two, and lists of which one part changes.
 use Rattle.std.proofs.Common.{◌≡◌, ℕ, suc, ◌+◌, ◌-◌, ◌<◌, ◌≤◌, List, ◌++◌, length, take, drop, insert, ap, sym, ◌∙◌, arith}
 use Rattle.std.proofs.Math.Seq.{take-append-add, drop-append-add}
-use Rattle.std.proofs.lemmas.List.{take-append-le, drop-append-le, take-append-drop, length-take, length-take-le, length-drop}
-use Rattle.std.proofs.lemmas.List.{length-append, append_assoc, drop-drop, take_at, drop_at}
+use Rattle.std.proofs.lemmas.List.{take-append-le, drop-append-le, take-append-drop, length-take-le, take_at, drop_at}
 use Rattle.std.proofs.lemmas.List.Edits.{insert-append_left, insert-append_right, length-insert}
 
 -- the front of two lists reaches into the second one
-pub take_past : {A : Type 0} (n : ℕ) (xs ys : List A) → length xs ≤ n → take n (xs ++ ys) ≡ xs ++ take (n - length xs) ys
-take_past n xs ys le =
+pub take_across : {A : Type 0} (n : ℕ) (xs ys : List A) → length xs ≤ n → take n (xs ++ ys) ≡ xs ++ take (n - length xs) ys
+take_across n xs ys le =
     let same : n ≡ length xs + (n - length xs) = omega arith in
     ap (λ (k : ℕ). take k (xs ++ ys)) same ∙ take-append-add xs ys (n - length xs)
 
-pub drop_past : {A : Type 0} (n : ℕ) (xs ys : List A) → length xs ≤ n → drop n (xs ++ ys) ≡ drop (n - length xs) ys
-drop_past n xs ys le =
+pub drop_across : {A : Type 0} (n : ℕ) (xs ys : List A) → length xs ≤ n → drop n (xs ++ ys) ≡ drop (n - length xs) ys
+drop_across n xs ys le =
     let same : n ≡ length xs + (n - length xs) = omega arith in
     ap (λ (k : ℕ). drop k (xs ++ ys)) same ∙ drop-append-add xs ys (n - length xs)
 
@@ -48,4 +47,4 @@ drop_insert_high x n at xs past within =
     ap (λ (l : List _). insert l at x) (sym (take-append-drop n xs)) ∙ insert-append_right (take n xs) (drop n xs) n at x cut past in
     ap (drop n) there ∙ drop_at (take n xs) (insert (drop n xs) (at - n) x) n cut
 
-pub ruleset halves = (take_past, drop_past, take_insert_low, drop_insert_low, take_insert_high, drop_insert_high, take-append-le, drop-append-le)
+pub ruleset halves = (take_across, drop_across, take_insert_low, drop_insert_low, take_insert_high, drop_insert_high, take-append-le, drop-append-le)

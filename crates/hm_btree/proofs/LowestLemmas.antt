@@ -1,6 +1,6 @@
 -- A tree without a root that had one child alone.
 use Rattle.std.proofs.Common.{◌≡◌, ◌≢◌, Bool, true, false, true≢false, ◌||◌, ℕ, zero, suc, List, [], ◌∷◌, length, refl, sym, ap, subst}
-use Rattle.std.proofs.Common.{◌∙◌, arith, nat_eq, Some, None, append-nil}
+use Rattle.std.proofs.Common.{◌∙◌, arith, nat_eq, Some, append-nil}
 use Rattle.std.specs.Prelude.{Option, IsSome, is_some, IfSome, slice_get}
 use Rattle.std.proofs.lemmas.List.Elements.{All-from_recursion, recursion_from_All}
 use Rattle.std.proofs.lemmas.Option.{IfSome_then}

@@ -1,12 +1,11 @@
 -- The neighbour of a child that lost places is as it was, and is read.
-use Rattle.std.proofs.Common.{◌≡◌, ℕ, suc, ◌+◌, ◌-◌, ◌<◌, ◌≤◌, inl, inr, List, ◌∷◌, ◌++◌, length, take, drop, sym, ap, subst, ◌∙◌, arith, Some, None, Err}
+use Rattle.std.proofs.Common.{◌≡◌, ℕ, suc, ◌+◌, ◌-◌, ◌<◌, ◌≤◌, inl, inr, List, ◌∷◌, ◌++◌, length, take, drop, sym, ap, subst, ◌∙◌, arith, Some, Err}
 use Rattle.std.specs.Prelude.{Option, IsSome, IfSome, slice_get}
-use Rattle.std.proofs.lemmas.Option.{IfSome_then}
+use Rattle.std.proofs.lemmas.Option.{IfSome_then, same_Some}
 use Rattle.hm_types.specs.Faults.{HasFaultCause, HasStoreCause}
 use Rattle.hm_types.specs.declared.fault.Fault.{Fault}
 use Rattle.hm_fields.specs.Pages.{PageMap}
-use Rattle.hm_key.specs.declared.base.Base.{Base}
-use Rattle.hm_node.specs.Node.{IsNode, level_of}
+use Rattle.hm_node.specs.Node.{IsNode}
 use Rattle.hm_node.specs.declared.inner.Child.{Child}
 use Rattle.hm_node.specs.declared.inner.Inner.{Inner}
 use Rattle.hm_node.specs.declared.node.Node.{Node}
@@ -22,6 +21,7 @@ use Rattle.hm_btree.specs.Below.{Changed}
 use Rattle.hm_btree.specs.Edits.{inner_of}
 use Rattle.hm_btree.specs.Shrink.{loose, IsLevelBelow, IsChildNode, IsPairJoined, IsJoinedAt, IsShrunk}
 use Rattle.hm_btree.proofs.BesideLemmas.{upper_stays, lower_stays, upper_there}
+use Rattle.hm_btree.proofs.EditLemmas.{child_level}
 use Rattle.hm_btree.proofs.JoinAtLemmas.{split_pair, rest_pair}
 use Rattle.hm_btree.proofs.ShrinkLemmas.{upper_child, pair_rising, pair_stored}
 use Rattle.hm_btree.proofs.ShapeLemmas.{node_shaped}
@@ -103,10 +103,8 @@ module _ (inner : Inner) (i : ℕ) (node : Node) (mid : PageMap) (shrunk : IsShr
 
     pub own_page : (a c : Child) → slice_get cs j ≡ Some a → slice_get cs (j + 1) ≡ Some c → IsSome (mid c.child)
     own_page a c first is =
-        let same : shrunk.child ≡ c = by_option (sym here ∙ is) in
-        subst (λ (x : Child). IsSome (mid x.child)) same (before_stored a first).1 where
-          by_option : {x y : Child} → Some x ≡ Some y → x ≡ y
-          by_option is = cc
+        let same : shrunk.child ≡ c = same_Some shrunk.child c (sym here ∙ is) in
+        subst (λ (x : Child). IsSome (mid x.child)) same (before_stored a first).1
 
 -- the last child has one before it
 pub before_last : (i count n : ℕ) → count ≤ i + 1 → count ≡ n → 2 ≤ n → i - 1 + 1 ≡ i
@@ -115,11 +113,7 @@ before_last i count n last is many = omega arith
 -- a node that was read below an inner node
 pub level_below : (inner : Inner) (i : ℕ) (s : Subtree) (child : Node) → slice_get (children_of inner) i ≡ Some s → IsNode child
     → Fits s child → IsLevelBelow inner.level child
-level_below inner i s child at sound fits =
-    let there = place_is inner.level inner.right inner.places.items i s at in
-    (node_shaped child sound, by_place s there.place fits) where
-      by_place : (s : Subtree) {b : Base} {c : Child} → s ≡ child_place inner.level b c → Fits s child → level_of child + 1 ≡ inner.level
-      by_place s {b = b} {c = c} same fits = (subst (λ (t : Subtree). Fits t child) same fits).level
+level_below inner i s child at sound fits = (node_shaped child sound, child_level inner i s child at fits)
 
 -- no damage is told of it
 pub stored_cause : {T : Type 0} (told : Option PageMap) (s : Subtree) (old new : ℕ) (fault : Fault) → IfSome told
@@ -136,10 +130,8 @@ pub read_child : (map : PageMap) (inner : Inner) (i : ℕ) (s : Subtree) (node :
     → IsSome (map s.at) → StandsHere map s node → IsChildNode inner i map node
 read_child map inner i s node at page here c is =
     let there = place_is inner.level inner.right inner.places.items i s at in
-    let same : c ≡ there.child = by_option (sym is ∙ there.is) in
-    ap (λ (x : Child). node_at map x.child) same ∙ ap (λ (t : Subtree). node_at map t.at) (sym there.place) ∙ (here.spelled page).value where
-      by_option : {x y : Child} → Some x ≡ Some y → x ≡ y
-      by_option is = cc
+    let same : c ≡ there.child = same_Some c there.child (sym is ∙ there.is) in
+    ap (λ (x : Child). node_at map x.child) same ∙ ap (λ (t : Subtree). node_at map t.at) (sym there.place) ∙ (here.spelled page).value
 
 module _ (inner after : Inner) (i : ℕ) (child other : Node) (s : Subtree) (p0 p1 p2 : Option PageMap) (same : p1 ≡ p0) where
   -- where the pages are told

@@ -21,13 +21,14 @@ use Rattle.hm_search.specs.Search.{begun, holder_place}
 use Rattle.hm_search.specs.Tree.{node_at, elements_in, mark_in, reaches, starts_after, next_left, child_place, IsTree, IsStoredTree}
 use Rattle.hm_search.specs.declared.subtree.Parent.{Parent}
 use Rattle.hm_search.specs.declared.subtree.Subtree.{Subtree}
+use Rattle.hm_search.proofs.ChildLemmas.{begins_before, later_sorted}
 use Rattle.hm_search.proofs.FrameLemmas.{IsSameBelow, frame_elements, frame_mark, frame_reaches, frame_tree}
 use Rattle.hm_search.proofs.ReachLemmas.{fails, not_below_itself}
 use Rattle.hm_search.proofs.OrderLemmas.{before_is, from_is, from_trans}
 use Rattle.hm_btree.specs.Marking.{Marking, MarksWithin}
 use Rattle.hm_btree.specs.Edits.{inner_of, with_mirror}
 use Rattle.hm_btree.specs.Below.{Replaces, mark_under, has_under, AreStored, AreRising, IsLocal, Changed, ChangedUnder}
-use Rattle.hm_btree.proofs.OrderLemmas.{begins_left, rising_rest, rising_next, each_back}
+use Rattle.hm_btree.proofs.OrderLemmas.{begins_left, each_back}
 use Rattle.hm_btree.proofs.ChangeLemmas.{changed_later, changed_before}
 use Rattle.hm_btree.proofs.MarkLemmas.{same_marks, marks_bounds}
 use Rattle.hm_btree.proofs.PutLemmas.{put_at, put_other, replaces_put}
@@ -119,11 +120,11 @@ module _ (f : List Element → List Element) (key : Key) (marking : Marking) (le
   -- the first child of some begins at or before the key
   first_by : (q : Child) (qs : List Child) → AreRising right (q ∷ (qs ++ ((b ∷ bs) ++ ds))) → IsFrom (key_of b.left) key → IsFrom (key_of q.left) key
   first_by q [] rising from = from_trans (key_of q.left) (key_of b.left) key (key_from_before (key_of q.left) (key_of b.left)
-      (rising_next right q ((b ∷ bs) ++ ds) rising)) from
+      (begins_before right q ((b ∷ bs) ++ ds) rising)) from
   first_by q (p ∷ ps) rising from =
       from_trans (key_of q.left) (key_of p.left) key (key_from_before (key_of q.left) (key_of p.left)
-      (rising_next right q ((p ∷ ps) ++ ((b ∷ bs) ++ ds)) rising))
-      (first_by p ps (rising_rest right q ((p ∷ ps) ++ ((b ∷ bs) ++ ds)) rising) from)
+      (begins_before right q ((p ∷ ps) ++ ((b ∷ bs) ++ ds)) rising))
+      (first_by p ps (later_sorted right q ((p ∷ ps) ++ ((b ∷ bs) ++ ds)) rising) from)
 
   pub changed_within : (pre : List Child) → AllByRecursion IsChild (pre ++ ((b ∷ bs) ++ ds)) → AreRising right
       (pre ++ ((b ∷ bs) ++ ds)) → AreStored old height level right (pre ++ ((b ∷ bs) ++ ds))
@@ -134,9 +135,9 @@ module _ (f : List Element → List Element) (key : Key) (marking : Marking) (le
       changed_before f key marking level right height old new local b c bs cs ds (each_back IsChild (b ∷ bs) ds children) rising stored before change
   changed_within (p ∷ []) children rising stored from before change =
       changed_later f key marking level right height old new local p b c (bs ++ ds) (cs ++ ds) children.0 rising stored from
-      (changed_within [] children.1 (rising_rest right p ((b ∷ bs) ++ ds) rising) stored.1 from before change)
+      (changed_within [] children.1 (later_sorted right p ((b ∷ bs) ++ ds) rising) stored.1 from before change)
   changed_within (p ∷ q ∷ qs) children rising stored from before change =
-      let later = rising_rest right p ((q ∷ qs) ++ ((b ∷ bs) ++ ds)) rising in
+      let later = later_sorted right p ((q ∷ qs) ++ ((b ∷ bs) ++ ds)) rising in
       changed_later f key marking level right height old new local p q q (qs ++ ((b ∷ bs) ++ ds)) (qs ++ ((c ∷ cs) ++ ds))
       children.0 rising stored (first_by q qs later from)
       (changed_within (q ∷ qs) children.1 later stored.1 from before change)

@@ -11,6 +11,7 @@ use Rattle.hm_node.specs.Base.{base_cmp}
 use Rattle.hm_node.specs.declared.inner.Child.{Child}
 use Rattle.hm_search.specs.Place.{BeginsAt}
 use Rattle.hm_search.specs.Tree.{next_left}
+use Rattle.hm_search.proofs.ChildLemmas.{begins_before, later_sorted}
 use Rattle.hm_btree.specs.Below.{bounds_of, AreRising}
 
 pub before_before : (a b c : Key) → IsBefore a b → IsBefore b c → IsBefore a c
@@ -31,19 +32,10 @@ pub rising_first : (right : Base) (c : Child) (cs : List Child) → AreRising ri
 unfolding IsStrictlySortedBy
 rising_first right c cs rising = rising.0
 
-pub rising_rest : (right : Base) (c : Child) (cs : List Child) → AreRising right (c ∷ cs) → AreRising right cs
-unfolding IsStrictlySortedBy
-rising_rest right c cs rising = rising.1
-
 pub rising_cons : (right : Base) (c : Child) (cs : List Child) → AllByRecursion (λ y. base_cmp c.left y ≡ Less)
     (bounds_of right cs) → AreRising right cs → AreRising right (c ∷ cs)
 unfolding IsStrictlySortedBy
 rising_cons right c cs first rest = (first, rest)
-
--- a child begins before the next one
-pub rising_next : (right : Base) (c : Child) (cs : List Child) → AreRising right (c ∷ cs) → IsBefore (key_of c.left) (key_of (next_left right cs))
-rising_next right c [] rising = (rising_first right c [] rising).0
-rising_next right c (d ∷ ds) rising = (rising_first right c (d ∷ ds) rising).0
 
 -- what is before the first of some boundaries is before all of them
 pub before_all : (a : Base) (right : Base) (cs : List Child) → AreRising right cs → IsBefore (key_of a)
@@ -51,8 +43,8 @@ pub before_all : (a : Base) (right : Base) (cs : List Child) → AreRising right
 before_all a right [] rising before = (before, tt)
 before_all a right (c ∷ cs) rising before = (
   before,
-  before_all a right cs (rising_rest right c cs rising) (before_before (key_of a) (key_of c.left)
-      (key_of (next_left right cs)) before (rising_next right c cs rising)),
+  before_all a right cs (later_sorted right c cs rising) (before_before (key_of a) (key_of c.left)
+      (key_of (next_left right cs)) before (begins_before right c cs rising)),
 )
 
 -- the first boundary of children and others after them
@@ -64,21 +56,21 @@ next_append right (c ∷ cs) ds = refl
 pub rising_append : (right : Base) (cs ds : List Child) → AreRising (next_left right ds) cs → AreRising right ds → AreRising right (cs ++ ds)
 rising_append right [] ds first second = second
 rising_append right (c ∷ cs) ds first second =
-    let more = rising_append right cs ds (rising_rest (next_left right ds) c cs first) second in
+    let more = rising_append right cs ds (later_sorted (next_left right ds) c cs first) second in
     rising_cons right c (cs ++ ds) (before_all c.left right (cs ++ ds) more
-    (subst (λ (b : Base). IsBefore (key_of c.left) (key_of b)) (sym (next_append right cs ds)) (rising_next (next_left right ds) c cs first))) more
+    (subst (λ (b : Base). IsBefore (key_of c.left) (key_of b)) (sym (next_append right cs ds)) (begins_before (next_left right ds) c cs first))) more
 
 pub rising_back : (right : Base) (cs ds : List Child) → AreRising right (cs ++ ds) → AreRising right ds
 rising_back right [] ds rising = rising
-rising_back right (c ∷ cs) ds rising = rising_back right cs ds (rising_rest right c (cs ++ ds) rising)
+rising_back right (c ∷ cs) ds rising = rising_back right cs ds (later_sorted right c (cs ++ ds) rising)
 
 pub rising_front : (right : Base) (cs ds : List Child) → AreRising right (cs ++ ds) → AreRising (next_left right ds) cs
 unfolding IsStrictlySortedBy
 rising_front right [] ds rising = (tt, tt)
 rising_front right (c ∷ cs) ds rising =
-    let more = rising_front right cs ds (rising_rest right c (cs ++ ds) rising) in
+    let more = rising_front right cs ds (later_sorted right c (cs ++ ds) rising) in
     rising_cons (next_left right ds) c cs (before_all c.left (next_left right ds) cs more
-    (subst (λ (b : Base). IsBefore (key_of c.left) (key_of b)) (next_append right cs ds) (rising_next right c (cs ++ ds) rising))) more
+    (subst (λ (b : Base). IsBefore (key_of c.left) (key_of b)) (next_append right cs ds) (begins_before right c (cs ++ ds) rising))) more
 
 -- children end after the first of them begins
 pub ends_after : (right : Base) (c : Child) (cs : List Child) → AreRising right (c ∷ cs) → IsBefore (key_of c.left) (key_of right)

@@ -1,6 +1,6 @@
 -- What a search in the tree finds, as a store of elements tells it.
 use Rattle.std.proofs.Common.{◌≡◌, Bool, ℕ, List, Some, None, Result, Ok, Err}
-use Rattle.std.specs.Prelude.{Option, IfSome, IfOk, IfErr}
+use Rattle.std.specs.Prelude.{Option, IfSome, IfOk}
 use Rattle.std.proofs.lemmas.Option.{IfSome_then}
 use Rattle.std.proofs.Props.{props}
 use Rattle.hm_types.specs.Elements.{Key}
@@ -8,11 +8,11 @@ use Rattle.hm_types.specs.declared.fault.Fault.{Fault}
 use Rattle.hm_fields.specs.Pages.{PageMap}
 use Rattle.hm_key.specs.Elements.{first_from}
 use Rattle.hm_key.specs.Marks.{IsQuiet}
-use Rattle.hm_types.specs.Faults.{IsUndamaged, HasStoreCause}
+use Rattle.hm_types.specs.Faults.{HasStoreCause}
 use Rattle.hm_key.specs.declared.base.Base.{Base}
 use Rattle.hm_key.specs.declared.element.Element.{Element}
 use Rattle.hm_search.specs.Descent.{HasSearchCause}
-use Rattle.hm_search.specs.Tree.{IsSoundTree, elements_of, mark_of, root_place, height_of, node_at, IsStoredTree}
+use Rattle.hm_search.specs.Tree.{IsSoundTree, elements_of, mark_of, root_place, height_of, node_at}
 use Rattle.hm_btree.specs.Tree.{HasTreeCause, IsIntact, told_elements, told_mark}
 use Rattle.hm_btree.proofs.IntactLemmas.{told_intact}
 use Rattle.hm_btree.proofs.StoreLemmas.{store_cause}
@@ -40,9 +40,9 @@ quiet_in_store intact told root at since r sound quiet =
       by_result mark (Err fault) = hlevel props
 
 -- the cause of each fault
-search_cause : {T : Type 0} (told : Option PageMap) (root old new : ℕ) (r : Result T Fault) → HasSearchCause told
+tree_cause : {T : Type 0} (told : Option PageMap) (root old new : ℕ) (r : Result T Fault) → HasSearchCause told
     (root_place root) old new r → HasTreeCause told root old new r
-search_cause told root old new r cause = record {
+tree_cause told root old new r cause = record {
   counted = cause.counted;
   damage = cause.damage;
   undamaged = IfSome_then told cause.undamaged (λ pages undamaged sound. undamaged (height_of (node_at pages root)) sound);
@@ -50,4 +50,4 @@ search_cause told root old new r cause = record {
 
 pub cause_in_store : {T : Type 0} (intact : Bool) (told : Option PageMap) (root old new : ℕ) (r : Result T Fault)
     → ∥ IsIntact intact told root ∥₁ → HasSearchCause told (root_place root) old new r → HasStoreCause (told_elements intact told root) old new r
-cause_in_store intact told root old new r sound cause = store_cause intact told root old new r sound (search_cause told root old new r cause)
+cause_in_store intact told root old new r sound cause = store_cause intact told root old new r sound (tree_cause told root old new r cause)

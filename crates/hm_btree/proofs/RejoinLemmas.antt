@@ -15,6 +15,7 @@ use Rattle.hm_node.specs.declared.node.Node.{Node}
 use Rattle.hm_search.specs.Place.{mirror_of}
 use Rattle.hm_search.specs.Tree.{node_at, elements_in, mark_in, reaches, child_place, IsTree, IsStoredTree}
 use Rattle.hm_search.specs.declared.subtree.Subtree.{Subtree}
+use Rattle.hm_search.proofs.ChildLemmas.{begins_before, later_sorted}
 use Rattle.hm_search.proofs.FrameLemmas.{IsSameBelow, frame_elements, frame_mark, frame_reaches}
 use Rattle.hm_btree.specs.Marking.{Marking, MarksWithin}
 use Rattle.hm_btree.specs.Edits.{with_mirror}
@@ -24,7 +25,7 @@ use Rattle.hm_btree.specs.Shrink.{between, below_both, Joined, Shared}
 use Rattle.hm_btree.proofs.BesideLemmas.{lower_itself, upper_itself, not_same}
 use Rattle.hm_btree.proofs.ChangeLemmas.{mark_cons}
 use Rattle.hm_btree.proofs.MarkLemmas.{both_sides, same_marks}
-use Rattle.hm_btree.proofs.OrderLemmas.{before_before, rising_next, rising_rest}
+use Rattle.hm_btree.proofs.OrderLemmas.{before_before}
 use Rattle.hm_btree.proofs.PairLemmas.{as_child, not_come, shuffle, or_nil, stored_there}
 use Rattle.hm_btree.proofs.PutLemmas.{put_at, put_other, lost_other, replaces_put, replaces_lost}
 use Rattle.hm_btree.proofs.UnderLemmas.{or_false_left, or_false_right, replaces_same}
@@ -105,8 +106,8 @@ module _ (f : List Element → List Element) (key : Key) (marking : Marking) (le
             fields = (record { left = child.left; child = child.child }, tt);
           } where
             before : IsBefore (key_of a.left) (key_of next)
-            before = before_before (key_of a.left) (key_of b.left) (key_of next) (rising_next next a (b ∷ []) rising)
-                (rising_next next b [] (rising_rest next a (b ∷ []) rising))
+            before = before_before (key_of a.left) (key_of b.left) (key_of next) (begins_before next a (b ∷ []) rising)
+                (begins_before next b [] (later_sorted next a (b ∷ []) rising))
 
     -- they are two still
     module _ (lower upper : Node) (at : Base) (child : IsChild a) (second : IsChild b) where

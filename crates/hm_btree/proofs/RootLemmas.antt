@@ -1,10 +1,10 @@
 -- The root of a tree that changed.
 use Rattle.std.proofs.Common.{◌≡◌, Bool, true, false, true≢false, ◌||◌, ℕ, ◌≤◌, inl, inr, List, refl, sym, ap, subst, ◌∙◌, arith, nat_eq}
-use Rattle.std.proofs.Common.{eqb-true, eq-eqb, Some, None, Result, Ok, Err}
-use Rattle.std.specs.Prelude.{Option, IsSome, is_some, IfSome, ⊤}
+use Rattle.std.proofs.Common.{eqb-true, eq-eqb, Some, Result, Ok, Err}
+use Rattle.std.specs.Prelude.{Option, IsSome, is_some, IfSome}
 use Rattle.std.proofs.lemmas.Option.{IfSome_then}
 use Rattle.hm_types.specs.Elements.{Key}
-use Rattle.hm_types.specs.Faults.{HasFaultCause, HasStoreCause, IsUndamaged}
+use Rattle.hm_types.specs.Faults.{HasFaultCause, HasStoreCause}
 use Rattle.hm_types.specs.declared.fault.Fault.{Fault}
 use Rattle.hm_fields.specs.Pages.{PageMap, page_in}
 use Rattle.hm_types.specs.Told.{BothTell}
@@ -14,7 +14,7 @@ use Rattle.hm_node.specs.Node.{node_in, Spells}
 use Rattle.hm_node.specs.declared.node.Node.{Node}
 use Rattle.hm_search.specs.Descent.{IsFaultBelow, StandsHere}
 use Rattle.hm_search.specs.Place.{IsInside, TellsDamage}
-use Rattle.hm_search.specs.Tree.{node_at, elements_in, mark_in, reaches, height_of, root_place, IsTree, IsStoredTree, IsSoundTree, elements_of, mark_of}
+use Rattle.hm_search.specs.Tree.{node_at, elements_in, mark_in, reaches, height_of, root_place, IsTree, IsStoredTree, elements_of, mark_of}
 use Rattle.hm_search.specs.declared.subtree.Subtree.{Subtree}
 use Rattle.hm_search.proofs.ContentLemmas.{elements_inside}
 use Rattle.hm_search.proofs.DamageLemmas.{caused_since}

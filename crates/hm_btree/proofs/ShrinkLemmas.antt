@@ -17,6 +17,7 @@ use Rattle.hm_search.specs.Place.{IsInside, least_count, mirror_of}
 use Rattle.hm_search.specs.Search.{holder_place}
 use Rattle.hm_search.specs.Tree.{node_at, next_left, child_place, IsTree}
 use Rattle.hm_search.specs.declared.subtree.Subtree.{Subtree}
+use Rattle.hm_search.proofs.ChildLemmas.{begins_before, later_sorted}
 use Rattle.hm_search.proofs.ListLemmas.{each_so, each_append}
 use Rattle.hm_search.proofs.OrderLemmas.{from_trans}
 use Rattle.hm_btree.specs.Marking.{Marking}
@@ -26,7 +27,7 @@ use Rattle.hm_btree.specs.Below.{AreStored, AreRising, IsLocal, Changed, Changed
 use Rattle.hm_btree.specs.Shrink.{loose}
 use Rattle.hm_btree.proofs.EditLemmas.{changed_parent}
 use Rattle.hm_btree.proofs.NodeLemmas.{changed_within, changed_above}
-use Rattle.hm_btree.proofs.OrderLemmas.{before_before, each_front, each_back, rising_front, rising_back, rising_next, rising_rest}
+use Rattle.hm_btree.proofs.OrderLemmas.{before_before, each_front, each_back, rising_front, rising_back}
 use Rattle.hm_btree.proofs.PairLemmas.{as_child}
 use Rattle.hm_btree.proofs.RemoveLemmas.{loose_tree}
 use Rattle.hm_btree.proofs.UnderLemmas.{stored_front, stored_back}
@@ -60,13 +61,13 @@ module _ (place : Subtree) (height level mirror : ℕ) (right : Base) (old : Pag
     lower_inside key inside = record {
       from = inside.from;
       before = before_before key (key_of b.left) (key_of (next_left right post)) inside.before
-          (rising_next (next_left right post) b [] (rising_rest (next_left right post) a (b ∷ []) pair_rising));
+          (begins_before (next_left right post) b [] (later_sorted (next_left right post) a (b ∷ []) pair_rising));
     }
 
     pub upper_inside : (key : Key) → IsInside b.left (next_left right post) key → IsInside a.left (next_left right post) key
     upper_inside key inside = record {
       from = from_trans (key_of a.left) (key_of b.left) key (key_from_before (key_of a.left) (key_of b.left)
-          (rising_next (next_left right post) a (b ∷ []) pair_rising)) inside.from;
+          (begins_before (next_left right post) a (b ∷ []) pair_rising)) inside.from;
       before = inside.before;
     }
 

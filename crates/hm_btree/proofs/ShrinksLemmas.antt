@@ -1,5 +1,5 @@
 -- Calls that take an element out below a node, where the pages are told.
-use Rattle.std.proofs.Common.{◌≡◌, Bool, true, false, true≢false, ℕ, zero, suc, ◌<◌, ◌≤◌, inl, inr, List, ◌∷◌, ◌++◌, length, take, drop}
+use Rattle.std.proofs.Common.{◌≡◌, Bool, false, true≢false, ℕ, zero, suc, ◌<◌, ◌≤◌, inl, inr, List, ◌∷◌, ◌++◌, length, take, drop}
 use Rattle.std.proofs.Common.{remove, sym, ap, subst, ◌∙◌, arith, max, Some, None}
 use Rattle.std.proofs.lemmas.Bool.{cases_lt}
 use Rattle.std.specs.Prelude.{◌↔◌, Option, IsTrue, IsSome, is_some, IfSome, slice_get}

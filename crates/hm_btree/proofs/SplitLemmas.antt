@@ -28,6 +28,7 @@ use Rattle.hm_search.specs.Place.{IsInside, BeginsAt, FitsCount}
 use Rattle.hm_search.specs.Tree.{node_at, elements_in, next_left, IsTree}
 use Rattle.hm_search.specs.declared.subtree.Parent.{Parent}
 use Rattle.hm_search.specs.declared.subtree.Subtree.{Subtree}
+use Rattle.hm_search.proofs.ChildLemmas.{begins_before, later_sorted}
 use Rattle.hm_search.proofs.ListLemmas.{each_so}
 use Rattle.hm_search.proofs.OrderLemmas.{from_then_before}
 use Rattle.hm_btree.specs.Marking.{Marking, MarksWithin}
@@ -38,7 +39,7 @@ use Rattle.hm_btree.proofs.ChangeLemmas.{mark_cut}
 use Rattle.hm_btree.proofs.LeafLemmas.{leaf_sound}
 use Rattle.hm_btree.proofs.MarkLemmas.{both_sides, same_marks, marks_bounds}
 use Rattle.hm_btree.proofs.NodeLemmas.{placed_level, placed_count, placed_mirror}
-use Rattle.hm_btree.proofs.OrderLemmas.{begins_left, each_front, each_back, rising_first, rising_rest, rising_back, rising_front, rising_next, before_before}
+use Rattle.hm_btree.proofs.OrderLemmas.{begins_left, each_front, each_back, rising_first, rising_back, rising_front, before_before}
 use Rattle.hm_btree.proofs.PutLemmas.{replaces_none}
 use Rattle.hm_btree.proofs.UnderLemmas.{replaces_same, stored_front, stored_back, under_append}
 
@@ -206,9 +207,9 @@ module _ (f : List Element → List Element) (key : Key) (marking : Marking) (pl
             (rising_first right c hi (rising_back right lo (c ∷ hi) change.rising))).0;
       } where
         further : (b : Child) (bs : List Child) → AreRising right (b ∷ (bs ++ c ∷ hi)) → IsBefore (key_of b.left) (key_of c.left)
-        further b [] rising = rising_next right b (c ∷ hi) rising
+        further b [] rising = begins_before right b (c ∷ hi) rising
         further b (d ∷ ds) rising = before_before (key_of b.left) (key_of d.left) (key_of c.left)
-            (rising_next right b ((d ∷ ds) ++ c ∷ hi) rising) (further d ds (rising_rest right b ((d ∷ ds) ++ c ∷ hi) rising))
+            (begins_before right b ((d ∷ ds) ++ c ∷ hi) rising) (further d ds (later_sorted right b ((d ∷ ds) ++ c ∷ hi) rising))
 
         starts : (bs cs : List Child) → 1 ≤ length cs → next_left right (cs ++ c ∷ hi) ≡ next_left right bs
             → BeginsAt place.left bs → AreRising right (cs ++ c ∷ hi) → IsBefore (key_of place.left) (key_of c.left)

@@ -1,6 +1,6 @@
 -- A root above two nodes.
 use Rattle.std.proofs.Common.{◌≡◌, Bool, true, false, true≢false, ◌||◌, ℕ, suc, ◌+◌, ◌≤◌, List, [], ◌∷◌, refl, sym, ap, subst, ◌∙◌, arith}
-use Rattle.std.proofs.Common.{max, nat_eq, Some, None, Result, Ok, Err, append-nil}
+use Rattle.std.proofs.Common.{max, nat_eq, Some, Result, Ok, Err, append-nil}
 use Rattle.std.specs.Prelude.{Option, is_some, IfSome, IfOk, OnOk}
 use Rattle.std.proofs.lemmas.List.Elements.{All-from_recursion}
 use Rattle.hm_types.specs.Elements.{Key}

@@ -9,11 +9,12 @@ use Rattle.hm_node.specs.declared.node.Node.{Node}
 use Rattle.hm_node.specs.declared.node.Node.TheVariants.{Leaf, Inner as inner_node}
 use Rattle.hm_search.specs.Tree.{node_at, Reaches, next_left, child_place, IsTree, IsStoredTree}
 use Rattle.hm_search.specs.declared.subtree.Subtree.{Subtree}
+use Rattle.hm_search.proofs.ChildLemmas.{later_sorted}
 use Rattle.hm_search.proofs.FrameLemmas.{IsSameBelow, IsSameUnder, frame_elements, frame_mark, frame_reaches, frame_each, frame_children}
 use Rattle.hm_search.proofs.ReachLemmas.{is_under, or_right, fails, one_under, apart_children}
 use Rattle.hm_btree.specs.Edits.{inner_of}
 use Rattle.hm_btree.specs.Below.{Replaces, elements_under, mark_under, has_under, AreStored, AreRising}
-use Rattle.hm_btree.proofs.OrderLemmas.{next_append, rising_rest}
+use Rattle.hm_btree.proofs.OrderLemmas.{next_append}
 
 -- an `or` that fails
 pub or_false_left : (a b : Bool) → (a || b) ≡ false → a ≡ false
@@ -69,7 +70,7 @@ module _ (map : PageMap) (height : ℕ) where
       (fails (is_under map height x c)
       (λ here. true≢false (sym (under_append x cs ds ∙ or_right (has_under map height cs x) (has_under map height ds x) is)
       ∙ apart_children map height x level right c (cs ++ ds) rising stored here)))
-      (later_apart x level right cs ds (rising_rest right c (cs ++ ds) rising) stored.1 is)
+      (later_apart x level right cs ds (later_sorted right c (cs ++ ds) rising) stored.1 is)
 
   -- children and others after them
   pub stored_append : (level : ℕ) (right : Base) (cs ds : List Child) → AreStored map height level (next_left right ds) cs

@@ -1,5 +1,5 @@
 -- The root of a tree that lost an element: it is written, or goes where it has one child alone.
-use Rattle.std.proofs.Common.{◌≡◌, Bool, true, false, true≢false, ◌||◌, ℕ, zero, suc, List, [], ◌∷◌, refl, sym, ap, subst, ◌∙◌, arith, nat_eq, Some, None}
+use Rattle.std.proofs.Common.{◌≡◌, Bool, true, false, ◌||◌, ℕ, zero, suc, List, [], ◌∷◌, refl, sym, ap, subst, ◌∙◌, arith, nat_eq, Some}
 use Rattle.std.specs.Prelude.{Option, IsSome, is_some, IfSome}
 use Rattle.std.proofs.lemmas.Option.{IfSome_then}
 use Rattle.hm_types.specs.Elements.{Key}

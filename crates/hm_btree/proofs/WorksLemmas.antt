@@ -1,5 +1,5 @@
 -- Calls below a node, where the pages are told.
-use Rattle.std.proofs.Common.{◌≡◌, false, true≢false, ℕ, zero, suc, List, ◌∷◌, ◌++◌, length, take, drop, refl, sym, ap, subst, ◌∙◌, arith, max, Some, None}
+use Rattle.std.proofs.Common.{◌≡◌, false, true≢false, ℕ, zero, suc, List, ◌∷◌, ◌++◌, length, take, drop, sym, ap, subst, ◌∙◌, arith, max, Some, None}
 use Rattle.std.specs.Prelude.{Option, IsSome, is_some, IfSome, slice_get}
 use Rattle.hm_types.specs.Elements.{Key}
 use Rattle.hm_fields.specs.Pages.{PageMap}

@@ -11,7 +11,8 @@ use Rattle.hm_node.specs.declared.node.Node.TheVariants.{Leaf as leaf_node}
 use Rattle.hm_btree.specs.Below.{HasEditCause}
 use Rattle.hm_btree.specs.Change.{change_of, with_change, marking_of}
 use Rattle.hm_btree.specs.Shape.{IsShaped}
-use Rattle.hm_btree.proofs.EditLemmas.{place_within, child_lower, cause_read, cause_below, cause_write}
+use Rattle.hm_search.proofs.SearchLemmas.{place_within}
+use Rattle.hm_btree.proofs.EditLemmas.{child_lower, edit_cause_read, edit_cause_below, edit_cause_write}
 use Rattle.hm_btree.proofs.LocalLemmas.{changed_local}
 use Rattle.hm_btree.proofs.ShapeLemmas.{node_shaped, child_offset, mirror_shaped, element_shaped}
 use Rattle.hm_btree.proofs.WorksLemmas.{inner_works, leaf_works, leaf_without}
@@ -29,7 +30,7 @@ returns-in_err-child-in-Inner-clause-cause g t c =
     let old = g.S.Counted.faults c.args.space.now in
     let new = g.S.Counted.faults c.read_node.new.pages in
     let p = err_from_is_err_and c.from_residual.result c.from_residual.ensures.1 in
-    let whole = cause_read told c.args.node.now c.in-Inner.inner c.holder_place-i.result c.child-place.result old new fault c.in-Inner.is c.child-place.ensures
+    let whole = edit_cause_read told c.args.node.now c.in-Inner.inner c.holder_place-i.result c.child-place.result old new fault c.in-Inner.is c.child-place.ensures
     (subst (λ (r : Result Node Fault). HasFaultCause old new r) c.in_err-child-in-Inner.was c.read_node.ensures.cause)
     c.in_err-child-in-Inner.ensures.damage in
     rw (p.1, p.2) whole
@@ -51,7 +52,7 @@ returns-in_err-change_in-in-Inner-clause-cause g t c =
     let mid = g.S.Counted.faults c.read_node.new.pages in
     let new = g.S.Counted.faults c.change_in.new.space in
     let p = err_from_is_err_and c.from_residual-in_err-change_in-in-Inner.result c.from_residual-in_err-change_in-in-Inner.ensures.1 in
-    let whole = cause_below told now c.args.node.now c.in_ok-child-in-Inner.child c.in-Inner.inner c.holder_place-i.result
+    let whole = edit_cause_below told now c.args.node.now c.in_ok-child-in-Inner.child c.in-Inner.inner c.holder_place-i.result
     c.child-place.result old mid new fault c.in-Inner.is c.child-place.ensures
     c.read_node.ensures.same.pages c.read_node.ensures.cause.never_falls c.in_ok-child-in-Inner.ensures.ok
     (subst (λ (r : Result (Unit {0}) Fault). HasEditCause now c.in_ok-child-in-Inner.child mid new r)
@@ -112,7 +113,7 @@ returns-in_err-write_node-in-Inner-clause-cause g t c =
     let middle = g.S.Counted.faults c.change_in.new.space in
     let new = g.S.Counted.faults c.write_node.new.space in
     let p = err_from_is_err_and c.from_residual-in_err-write_node-in-Inner.result c.from_residual-in_err-write_node-in-Inner.ensures.1 in
-    let whole = cause_write {T = Unit {0}} told mid c.args.node.now old middle new c.in_err-write_node-in-Inner.field-0.0
+    let whole = edit_cause_write {T = Unit {0}} told mid c.args.node.now old middle new c.in_err-write_node-in-Inner.field-0.0
     (c.in_ok-change_in-in-Inner.ensures.told ∙ ap (λ (o : Option PageMap). is_some o) c.read_node.ensures.same.pages)
     (omega (arith, c.read_node.ensures.cause.never_falls, c.change_in.ensures.cause.counted.never_falls))
     (subst (λ (r : Result (Unit {0}) Fault). HasStoreCause mid middle new r) c.in_err-write_node-in-Inner.was c.write_node.ensures.cause) in

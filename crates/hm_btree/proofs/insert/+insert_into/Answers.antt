@@ -18,7 +18,8 @@ use Rattle.hm_btree.specs.Shape.{IsShaped, AreShaped}
 use Rattle.hm_btree.specs.Space.{HasAdded, HasWritten}
 use Rattle.hm_btree.specs.declared.space.TheConstants.{NODE_BYTES}
 use Rattle.hm_btree.specs.declared.upper.Upper.{Upper}
-use Rattle.hm_btree.proofs.EditLemmas.{place_within, child_lower, cause_read, cause_below, cause_write}
+use Rattle.hm_search.proofs.SearchLemmas.{place_within}
+use Rattle.hm_btree.proofs.EditLemmas.{child_lower, edit_cause_read, edit_cause_below, edit_cause_write}
 use Rattle.hm_btree.proofs.GrowsLemmas.{leaf_grows, inner_grows}
 use Rattle.hm_btree.proofs.InsertLemmas.{next_within, two_levels, one_more, spends_add, spends_none, room_left}
 use Rattle.hm_btree.proofs.KeptLemmas.{kept_read, kept_change, kept_both}
@@ -44,7 +45,7 @@ returns-in_err-child-in-Inner-clause-cause g t c =
     let old = g.S.Counted.faults c.args.space.now in
     let new = g.S.Counted.faults c.read_node.new.pages in
     let p = err_from_is_err_and c.from_residual.result c.from_residual.ensures.1 in
-    let whole = cause_read told c.args.node.now c.in-Inner.inner c.holder_place-i.result c.child-place.result old new fault c.in-Inner.is c.child-place.ensures
+    let whole = edit_cause_read told c.args.node.now c.in-Inner.inner c.holder_place-i.result c.child-place.result old new fault c.in-Inner.is c.child-place.ensures
     (subst (λ (r : Result Node Fault). HasFaultCause old new r) c.in_err-child-in-Inner.was c.read_node.ensures.cause)
     c.in_err-child-in-Inner.ensures.damage in
     let other : HasEditCause {T = Option Upper} told c.args.node.now old new (Err fault) =
@@ -85,7 +86,7 @@ returns-in_err-upper-in-Inner-clause-cause g t c =
     let mid = g.S.Counted.faults c.read_node.new.pages in
     let new = g.S.Counted.faults c.insert_into.new.space in
     let p = err_from_is_err_and c.from_residual-in_err-upper-in-Inner.result c.from_residual-in_err-upper-in-Inner.ensures.1 in
-    let whole = cause_below told now c.args.node.now c.in_ok-child-in-Inner.child c.in-Inner.inner c.holder_place-i.result
+    let whole = edit_cause_below told now c.args.node.now c.in_ok-child-in-Inner.child c.in-Inner.inner c.holder_place-i.result
     c.child-place.result old mid new fault c.in-Inner.is c.child-place.ensures
     c.read_node.ensures.same.pages c.read_node.ensures.cause.never_falls c.in_ok-child-in-Inner.ensures.ok
     (subst (λ (r : Result (Option Upper) Fault). HasEditCause now c.in_ok-child-in-Inner.child mid new r)
@@ -288,7 +289,7 @@ returns-in_err-write_node-in-Inner-clause-cause g t c =
     let middle = g.S.Counted.faults c.insert_into.new.space in
     let new = g.S.Counted.faults c.write_node.new.space in
     let p = err_from_is_err_and c.from_residual-in_err-write_node-in-Inner.result c.from_residual-in_err-write_node-in-Inner.ensures.1 in
-    let whole = cause_write {T = Option Upper} told mid c.args.node.now old middle new c.in_err-write_node-in-Inner.field-0.0
+    let whole = edit_cause_write {T = Option Upper} told mid c.args.node.now old middle new c.in_err-write_node-in-Inner.field-0.0
     (c.in_ok-upper-in-Inner.ensures.kept.told ∙ ap (λ (o : Option PageMap). is_some o) c.read_node.ensures.same.pages)
     (omega (arith, c.read_node.ensures.cause.never_falls, c.insert_into.ensures.cause.counted.never_falls))
     (subst (λ (r : Result (Unit {0}) Fault). HasStoreCause mid middle new r) c.in_err-write_node-in-Inner.was c.write_node.ensures.cause) in
@@ -304,7 +305,7 @@ returns-in_err-at-in-Some-clause-cause g t c =
     let p = err_from_is_err_and c.from_residual-in_err-at-in-Some.result c.from_residual-in_err-at-in-Some.ensures.1 in
     let written = told_written (g.S.Pages.pages c.insert_into.new.space) mid
     (HasWritten c.child-place.result.at c.insert_into.new.node) c.in_ok-write_node-in-Inner.ensures.ok in
-    let whole = cause_write {T = Option Upper} told mid c.args.node.now old middle new c.in_err-at-in-Some.field-0.0
+    let whole = edit_cause_write {T = Option Upper} told mid c.args.node.now old middle new c.in_err-at-in-Some.field-0.0
     (written ∙ c.in_ok-upper-in-Inner.ensures.kept.told ∙ ap (λ (o : Option PageMap). is_some o) c.read_node.ensures.same.pages)
     (omega (arith, c.read_node.ensures.cause.never_falls, c.insert_into.ensures.cause.counted.never_falls, c.write_node.ensures.cause.counted.never_falls))
     (subst (λ (r : Result ℕ Fault). HasStoreCause mid middle new r) c.in_err-at-in-Some.was c.add_node.ensures.cause) in

@@ -9,7 +9,8 @@ use Rattle.hm_node.specs.declared.node.Node.{Node}
 use Rattle.hm_btree.specs.Shape.{IsShaped}
 use Rattle.hm_btree.specs.Shrink.{HasNeighbours}
 use Rattle.hm_btree.specs.Space.{HasWritten}
-use Rattle.hm_btree.proofs.EditLemmas.{place_within, child_lower}
+use Rattle.hm_search.proofs.SearchLemmas.{place_within}
+use Rattle.hm_btree.proofs.EditLemmas.{child_lower}
 use Rattle.hm_btree.proofs.HoldsLemmas.{holds_below, holds_read, neighbours_below, shrunk_told}
 use Rattle.hm_btree.proofs.KeptLemmas.{kept_read, kept_change, kept_both, kept_then}
 use Rattle.hm_btree.proofs.LocalLemmas.{removed_local}
