@@ -1,6 +1,6 @@
 -- A tree whose one page is a leaf without elements.
-use Rattle.std.proofs.Common.{◌≡◌, Bool, true, false, true≢false, ℕ, List, [], refl, sym, ap, subst, ◌∙◌, arith, nat_eq, eqb-true, eq-eqb, Some, None}
-use Rattle.std.specs.Prelude.{Option, IsSome, IsTrue, is_some, IfSome, ◌||◌}
+use Rattle.std.proofs.Common.{◌≡◌, Bool, true, false, ℕ, List, [], refl, sym, ap, subst, ◌∙◌, arith, nat_eq, eqb-true, eq-eqb, Some, None}
+use Rattle.std.specs.Prelude.{Option, IsSome, IsTrue, IfSome, ◌||◌}
 use Rattle.std.specs.List.Sorted.{IsStrictlySortedBy}
 use Rattle.std.proofs.lemmas.List.Elements.{All-from_recursion}
 use Rattle.hm_types.specs.Elements.{Key}
@@ -16,7 +16,7 @@ use Rattle.hm_search.specs.Tree.{node_at, elements_in, elements_of, mark_in, mar
 use Rattle.hm_btree.specs.Edits.{leaf_of}
 use Rattle.hm_btree.specs.Space.{HasAdded, IsSpot}
 use Rattle.hm_btree.specs.Tree.{HasNoPage, HasNothing, HoldsTree, IsTreeSpace, told_elements, told_mark}
-use Rattle.hm_btree.proofs.PutLemmas.{put_at, put_other, test_other}
+use Rattle.hm_btree.proofs.PutLemmas.{not_there, put_at, put_other, test_other}
 use Rattle.hm_btree.proofs.ToldLemmas.{IfSome_both, told_after}
 
 no_order : IsStrictlySortedBy element_cmp []
@@ -64,9 +64,6 @@ module _ (root : ℕ) (old new : PageMap) (none : HasNoPage old) (spot : IsSpot 
         ap (λ (n : Node). elements_in new (height_of n) n) here,
         λ key. ap (λ (n : Node). mark_in new (height_of n) n key) here,
       ) where
-        not_there : (o : Option (List ℕ)) → o ≡ None → IsSome o → ⊥
-        not_there o is some = true≢false (sym some ∙ ap (λ (p : Option (List ℕ)). is_some p) is)
-
         by_test : (at : ℕ) → IsSome (new at) → (b : Bool) → nat_eq at root ≡ b → at ≡ root
         by_test at some true is = eqb-true at root is
         by_test at some false is = absurd (not_there (new at) (put_other root page old new come.put at (test_other at root is) ∙ none at) some)

@@ -7,7 +7,7 @@ use Rattle.hm_fields.specs.Pages.{PageMap}
 use Rattle.hm_fields.specs.declared.pages.Pages.{Ghosts as Tells}
 use Rattle.hm_key.specs.declared.room.HasRoom.{Ghosts as Rooms}
 use Rattle.hm_btree.specs.Calls.Space.{HasKept}
-use Rattle.hm_btree.proofs.ToldLemmas.{told_written}
+use Rattle.hm_btree.proofs.ToldLemmas.{both_alike}
 
 module _ {S : Type 0} (p : Tells S) (g : Rooms S) where
   -- a read
@@ -17,7 +17,7 @@ module _ {S : Type 0} (p : Tells S) (g : Rooms S) where
   -- a call that changes pages
   pub kept_change : (a b : S) (R : PageMap → PageMap → Type 0) → g.extents b ≡ g.extents a
       → BothTell (p.pages a) (p.pages b) R → HasKept p.pages g.extents a b
-  kept_change a b R extents both = record { told = told_written (p.pages a) (p.pages b) R both; extents = extents }
+  kept_change a b R extents both = record { told = both_alike (p.pages a) (p.pages b) R both; extents = extents }
 
   -- a call after another
   pub kept_both : (a b c : S) → HasKept p.pages g.extents a b → HasKept p.pages g.extents b c → HasKept p.pages g.extents a c

@@ -31,8 +31,8 @@ use Rattle.hm_btree.specs.Tree.{IsTreeSpace}
 use Rattle.hm_btree.proofs.EditLemmas.{stored_below}
 use Rattle.hm_btree.proofs.PutLemmas.{lost_other, replaces_lost, replaces_none, same_test}
 use Rattle.hm_btree.proofs.RootLemmas.{whole_after, spots_after, turned}
-use Rattle.hm_btree.proofs.ToldLemmas.{IfSome_alike, IfSome_both, IfSome_where, both_then, told_written}
-use Rattle.hm_btree.proofs.UnderLemmas.{or_false_left, or_false_right, reached_there}
+use Rattle.hm_btree.proofs.ToldLemmas.{IfSome_alike, IfSome_both, IfSome_where, both_alike, both_then}
+use Rattle.hm_btree.proofs.UnderLemmas.{or_nil, or_false_left, or_false_right, reached_there}
 use Rattle.hm_btree.proofs.WorksLemmas.{inner_is}
 
 -- boundaries with the same keys
@@ -50,10 +50,6 @@ bounds_same l r left right (inner_node inner) first last fits = (begins inner.pl
   begins : (cs : List Child) → BeginsAt l cs → BeginsAt left cs
   begins [] at = absurd at
   begins (c ∷ cs) at = at ∙ first
-
-or_nil : (b : Bool) → (b || false) ≡ b
-or_nil true = refl
-or_nil false = refl
 
 -- the tree below the one child of a root, whose page goes
 module _ (map new : PageMap) (h root level mirror : ℕ) (c : Child) (right : Base) (tree : IsTree map (suc h) (root_place root)
@@ -201,7 +197,7 @@ module _ (p0 p1 p2 : Option PageMap) (root : ℕ) (node child : Node) (inner : I
   lost_first = subst (λ (p : Option PageMap). BothTell p p2 (HasLost root)) same lost
 
   told_first : is_some p2 ≡ is_some p0
-  told_first = told_written p0 p2 (HasLost root) lost_first
+  told_first = both_alike p0 p2 (HasLost root) lost_first
 
   -- where the pages are told
   pub lowered_told : length inner.places.items ≡ 1 → slice_get (children_of inner) 0 ≡ Some s

@@ -31,7 +31,7 @@ module _ (at : ℕ) (old new : PageMap) (lost : HasLost at old new) where
   pub lost_other : (x : ℕ) → x ≢ at → new x ≡ old x
   lost_other x other = lost x ∙ rw (other_test x at other) refl
 
-not_there : (o : Option (List ℕ)) → o ≡ None → IsSome o → ⊥
+pub not_there : (o : Option (List ℕ)) → o ≡ None → IsSome o → ⊥
 not_there o none some = true≢false (sym some ∙ ap (λ (p : Option (List ℕ)). is_some p) none)
 
 -- one of the call's pages is written

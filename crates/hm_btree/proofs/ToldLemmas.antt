@@ -33,11 +33,11 @@ IfSome_kept p q X same is = IfSome_alike p q (λ _. X) same (IfSome_then p is (�
 
 module _ {A : Type 0} where
   -- two that both tell are told alike
-  pub told_written : (p q : Option A) (R : A → A → Type 0) → BothTell p q R → is_some q ≡ is_some p
-  told_written None None R both = refl
-  told_written None (Some new) R both = absurd both
-  told_written (Some old) None R both = absurd both
-  told_written (Some old) (Some new) R both = refl
+  pub both_alike : (p q : Option A) (R : A → A → Type 0) → BothTell p q R → is_some q ≡ is_some p
+  both_alike None None R both = refl
+  both_alike None (Some new) R both = absurd both
+  both_alike (Some old) None R both = absurd both
+  both_alike (Some old) (Some new) R both = refl
 
   -- what follows of both
   pub both_then : (p q : Option A) {R S : A → A → Type 0} → BothTell p q R → ((x y : A) → R x y → S x y) → IfSome p (λ x. IfSome q (S x))
@@ -48,7 +48,7 @@ module _ {A : Type 0} where
   -- and of the second one
   pub told_after : (p q : Option A) {R : A → A → Type 0} {P Q : A → Type 0} → BothTell p q R → IfSome p P
       → ((x y : A) → R x y → P x → Q y) → IfSome q Q
-  told_after p q {R = R} {Q = Q} both is step = IfSome_alike p q Q (told_written p q R both)
+  told_after p q {R = R} {Q = Q} both is step = IfSome_alike p q Q (both_alike p q R both)
       (IfSome_both p (both_then p q both (λ x y both. both)) is (λ x more is. IfSome_then q more (λ y both. step x y both is)))
 
   -- one after another

@@ -1,5 +1,5 @@
 -- A root above two nodes.
-use Rattle.std.proofs.Common.{◌≡◌, Bool, true, false, true≢false, ◌||◌, ℕ, suc, ◌+◌, ◌≤◌, List, [], ◌∷◌, refl, sym, ap, subst, ◌∙◌, arith}
+use Rattle.std.proofs.Common.{◌≡◌, Bool, false, true≢false, ◌||◌, ℕ, suc, ◌+◌, ◌≤◌, List, [], ◌∷◌, refl, sym, ap, subst, ◌∙◌, arith}
 use Rattle.std.proofs.Common.{max, nat_eq, Some, Result, Ok, Err, append-nil}
 use Rattle.std.specs.Prelude.{Option, is_some, IfSome, IfOk, OnOk}
 use Rattle.std.proofs.lemmas.List.Elements.{All-from_recursion}
@@ -34,7 +34,7 @@ use Rattle.hm_btree.proofs.PairLemmas.{split_written, stored_there}
 use Rattle.hm_btree.proofs.PutLemmas.{put_at, put_other, replaces_new}
 use Rattle.hm_btree.proofs.RootLemmas.{whole_after, spots_after, turned}
 use Rattle.hm_btree.proofs.ToldLemmas.{IfSome_both, both_after, told_after}
-use Rattle.hm_btree.proofs.UnderLemmas.{under_there, under_elements, under_mark, under_has, under_stored}
+use Rattle.hm_btree.proofs.UnderLemmas.{or_nil, under_there, under_elements, under_mark, under_has, under_stored}
 
 module _ (f : List Element → List Element) (key : Key) (marking : Marking) (root : ℕ) (old mid new1 new3 : PageMap) (lower : Node)
     (upper : Upper) (top : ℕ) where
@@ -109,10 +109,7 @@ module _ (f : List Element → List Element) (key : Key) (marking : Marking) (ro
         elements = elements;
         mark = same_marks (MarksBy marking key (mark_of old root)) (mark_under new2 h cs) (mark_of new3 top) marks
             (marks_whole marking key place.left place.right (mark_of old root) (mark_under new2 h cs) change.mark);
-      } where
-        or_nil : (b : Bool) → (b || false) ≡ b
-        or_nil true = refl
-        or_nil false = refl
+      }
 
 -- the same where the pages are told
 pub root_grows : (f : List Element → List Element) (key : Key) (marking : Marking) (root : ℕ) (Needs : Option Element → Type 0)

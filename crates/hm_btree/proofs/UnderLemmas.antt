@@ -25,6 +25,10 @@ pub or_false_right : (a b : Bool) → (a || b) ≡ false → b ≡ false
 or_false_right true b is = absurd (true≢false is)
 or_false_right false b is = is
 
+pub or_nil : (b : Bool) → (b || false) ≡ b
+or_nil true = refl
+or_nil false = refl
+
 pub or_false : (a b : Bool) → a ≡ false → b ≡ false → (a || b) ≡ false
 or_false a b first second = rw (first, second) refl
 

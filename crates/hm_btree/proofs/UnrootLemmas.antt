@@ -22,7 +22,7 @@ use Rattle.hm_btree.proofs.MarkLemmas.{as_marks, same_marks, marks_whole}
 use Rattle.hm_btree.proofs.NodeLemmas.{not_reached}
 use Rattle.hm_btree.proofs.PutLemmas.{replaces_lost}
 use Rattle.hm_btree.proofs.RootLemmas.{root_written, there_inside, whole_after, spots_after, turned}
-use Rattle.hm_btree.proofs.ToldLemmas.{IfSome_alike, IfSome_both, told_after, told_written}
+use Rattle.hm_btree.proofs.ToldLemmas.{IfSome_alike, IfSome_both, both_alike, told_after}
 use Rattle.hm_btree.proofs.WorksLemmas.{inner_is}
 
 -- the root has one child alone, and its page goes
@@ -134,7 +134,7 @@ module _ (key : Key) (root low : ℕ) (node : Node) (p0 p1 p2 : Option PageMap) 
         mid now (node_at mid low) after → Ends now new → TreeChanged f key marking mid new low root')
         → BothTell p3 p4 Ends → ChangesTree f key marking (λ es. IsSome (element_at key es)) p0 p4 root root'
     by_result p4 root' Ends step ended = IfSome_then p0 lowered_first (λ old lowered tree there.
-        IfSome_alike p2 p4 _ (told_written p3 p4 Ends ended ∙ told3) (IfSome_both p2 lowered shrinks (λ mid lowered shrinks.
+        IfSome_alike p2 p4 _ (both_alike p3 p4 Ends ended ∙ told3) (IfSome_both p2 lowered shrinks (λ mid lowered shrinks.
         told_after p3 p4 ended (change_of mid (holds_low key root low node old mid lowered there) shrinks) (λ now new ended change.
         changed_lowered f key marking old mid new root low root' node lowered (step mid now new lowered.tree change ended)))))
 

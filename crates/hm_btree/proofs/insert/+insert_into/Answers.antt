@@ -25,7 +25,7 @@ use Rattle.hm_btree.proofs.InsertLemmas.{next_within, two_levels, one_more, spen
 use Rattle.hm_btree.proofs.KeptLemmas.{kept_read, kept_change, kept_both}
 use Rattle.hm_btree.proofs.LocalLemmas.{inserted_local}
 use Rattle.hm_btree.proofs.ShapeLemmas.{node_shaped, child_offset, mirror_shaped, inserted_shaped, beside_shaped}
-use Rattle.hm_btree.proofs.ToldLemmas.{told_written}
+use Rattle.hm_btree.proofs.ToldLemmas.{both_alike}
 use Rattle.hm_btree.proofs.WorksLemmas.{inner_works}
 use Rattle.hm_btree.proofs.insert.+insert_into.Goals as goal
 
@@ -303,7 +303,7 @@ returns-in_err-at-in-Some-clause-cause g t c =
     let middle = g.S.Counted.faults c.write_node.new.space in
     let new = g.S.Counted.faults c.add_node.new.space in
     let p = err_from_is_err_and c.from_residual-in_err-at-in-Some.result c.from_residual-in_err-at-in-Some.ensures.1 in
-    let written = told_written (g.S.Pages.pages c.insert_into.new.space) mid
+    let written = both_alike (g.S.Pages.pages c.insert_into.new.space) mid
     (HasWritten c.child-place.result.at c.insert_into.new.node) c.in_ok-write_node-in-Inner.ensures.ok in
     let whole = edit_cause_write {T = Option Upper} told mid c.args.node.now old middle new c.in_err-at-in-Some.field-0.0
     (written ∙ c.in_ok-upper-in-Inner.ensures.kept.told ∙ ap (λ (o : Option PageMap). is_some o) c.read_node.ensures.same.pages)

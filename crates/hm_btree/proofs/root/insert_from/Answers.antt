@@ -6,7 +6,7 @@ use Rattle.hm_types.specs.declared.fault.Fault.{Fault}
 use Rattle.hm_node.specs.declared.node.Node.{Node}
 use Rattle.hm_btree.specs.Below.{HasEditCause}
 use Rattle.hm_btree.specs.Space.{HasWritten}
-use Rattle.hm_btree.proofs.ToldLemmas.{told_written}
+use Rattle.hm_btree.proofs.ToldLemmas.{both_alike}
 use Rattle.hm_fields.specs.Pages.{PageMap}
 use Rattle.hm_key.specs.Elements.{inserted, last_id}
 use Rattle.hm_key.specs.Key.{key_of}
@@ -156,7 +156,7 @@ returns-in_err-write_node-clause-cause g c =
 
 pub returns-in-Some-clause-cause : goal.returns-in-Some-clause-cause
 returns-in-Some-clause-cause g c =
-    let written = told_written (g.S.Pages.pages c.insert_into.new.space) (g.S.Pages.pages c.write_node.new.space)
+    let written = both_alike (g.S.Pages.pages c.insert_into.new.space) (g.S.Pages.pages c.write_node.new.space)
     (HasWritten c.args.root c.insert_into.new.node) c.in_ok-write_node.ensures.ok in
     root_cause_write (g.S.Pages.pages c.args.space.now) (g.S.Pages.pages c.write_node.new.space) c.args.root
     (g.S.Counted.faults c.args.space.now) (g.S.Counted.faults c.write_node.new.space) (g.S.Counted.faults c.add_root.new.space) c.add_root.result
