@@ -45,7 +45,8 @@ returns-in_err-child-in-Inner-clause-cause g t c =
     let old = g.S.Counted.faults c.args.space.now in
     let new = g.S.Counted.faults c.read_node.new.pages in
     let p = err_from_is_err_and c.from_residual.result c.from_residual.ensures.1 in
-    let whole = edit_cause_read told c.args.node.now c.in-Inner.inner c.holder_place-i.result c.child-place.result old new fault c.in-Inner.is c.child-place.ensures
+    let whole = edit_cause_read told c.args.node.now c.in-Inner.inner c.holder_place-i.result c.child-place.result old new fault
+    c.in-Inner.is c.child-place.ensures
     (subst (λ (r : Result Node Fault). HasFaultCause old new r) c.in_err-child-in-Inner.was c.read_node.ensures.cause)
     c.in_err-child-in-Inner.ensures.damage in
     let other : HasEditCause {T = Option Upper} told c.args.node.now old new (Err fault) =
