@@ -175,14 +175,14 @@ module _ (pfs : ℕ) (directory : Obj) (key : ℕ) (entry : DirEntry) (C D : Con
   nothing_loses : (bytes : List ℕ) → D (entry_subject pfs directory.0 key) bytes → ⊥
   nothing_loses bytes has = none_some bytes ((loses.counts.about bytes).0 has)
 
-  agree_loses : IsSettled C → OthersAgree pfs directory entry.name C D
+  pub agree_loses : IsSettled C → OthersAgree pfs directory entry.name C D
   agree_loses settled =
       others_agree pfs key directory entry.name C D same_loses
       (λ other object has. name_one (record { obj = object; name = other }) entry
       (settled (entry_subject pfs directory.0 key) (entry_bytes (record { obj = object; name = other })) (entry_bytes entry) has.there loses.there.there))
       (λ other object has. absurd (nothing_loses (entry_bytes (record { obj = object; name = other })) has.there))
 
-  objects_loses : (obj : ℕ) → AgreeOnObject pfs obj C D
+  pub objects_loses : (obj : ℕ) → AgreeOnObject pfs obj C D
   objects_loses obj = entry_no_object pfs directory.0 key obj C D same_loses
 
   settled_loses : IsSettled C → IsSettled D
