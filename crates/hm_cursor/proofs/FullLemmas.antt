@@ -1,22 +1,21 @@
 -- Elements with their payloads, as sets, after one was added with a new extent, and after one was closed.
-use Rattle.std.proofs.Common.{◌≡◌, ◌≢◌, ℕ, ◌+◌, ◌<◌, ◌≤◌, List, [], ◌∷◌, true, false, Bool, Option, Some, None, refl, ap, sym, subst, ◌∙◌, inl, inr, arith, nat_eq, nat_lt, length, true≢false}
+use Rattle.std.proofs.Common.{◌≡◌, ℕ, ◌+◌, ◌≤◌, List, [], ◌∷◌, true, false, Bool, Option, Some, None, refl, ap, sym, subst, ◌∙◌, inl, inr, arith, nat_eq, nat_lt, length}
 use Rattle.std.specs.Prelude.{◌⊎◌, if◌then◌else◌}
 use Rattle.std.specs.List.{AllByRecursion, Contains}
 use Rattle.std.specs.List.Sorted.{IsStrictlySortedBy}
-use Rattle.std.specs.Ordering.{is_eq, is_lt}
+use Rattle.std.specs.Ordering.{is_eq}
 use Rattle.std.specs.declared.cmp.Ordering.TheVariants.{Less}
-use Rattle.std.proofs.lemmas.Bool.{eq-eqb, eqb-true, eqb-false}
+use Rattle.std.proofs.lemmas.Bool.{eqb-true, eqb-false}
 use Rattle.std.proofs.lemmas.List.Elements.{All-contains, All-from_recursion, recursion_from_All}
 use Rattle.hm_types.specs.Elements.{FullElement, Key, key_cmp}
 use Rattle.hm_types.specs.Offset.{byte_of}
-use Rattle.hm_types.specs.Space.{rounded}
-use Rattle.hm_key.specs.Balance.{IsBalanced, IsHeld, first_bytes, full_elements, full_of, payload_of, references}
-use Rattle.hm_key.specs.Counts.{Subject, subject_of}
+use Rattle.hm_key.specs.Balance.{IsBalanced, IsHeld, first_bytes, full_elements, full_of, references}
+use Rattle.hm_key.specs.Counts.{subject_of}
 use Rattle.hm_key.specs.Elements.{changed, closed_at, element_at, element_cmp, element_key, inserted, stands_at, stands_before, with_delete}
-use Rattle.hm_key.specs.Extents.{AreApart, AreExtents, Extent, IsExtent, PlacesAt, extent_at, with_extent}
+use Rattle.hm_key.specs.Extents.{AreApart, AreExtents, Extent, PlacesAt, extent_at, with_extent}
 use Rattle.hm_key.specs.Versions.{Adds}
 use Rattle.hm_key.specs.declared.element.Element.{Element}
-use Rattle.hm_key.proofs.AddLemmas.{balanced_added, payload_added}
+use Rattle.hm_key.proofs.AddLemmas.{payload_added}
 use Rattle.hm_key.proofs.BalanceLemmas.{all_elsewhere, extent_each, refer_to, refer_to-cons}
 use Rattle.hm_key.proofs.ElementLemmas.{each_changed, stands_same}
 use Rattle.hm_key.proofs.KeyLemmas.{key_itself}

@@ -1,3 +1,4 @@
+pub mod CallLemmas
 pub mod CloseLemmas
 pub mod FullLemmas
 pub mod KeyLemmas

@@ -1,7 +1,7 @@
 -- What a search in a list in order finds.
-use Rattle.std.proofs.Common.{◌≡◌, ◌<◌, zero, suc, arith, List, [], ◌∷◌, true, false, Bool, Option, Some, None, refl, ap, sym, ◌∙◌, subst, true≢false, inl, inr}
+use Rattle.std.proofs.Common.{◌≡◌, zero, suc, arith, List, [], ◌∷◌, true, false, Bool, Some, None, refl, ap, sym, ◌∙◌, subst, true≢false, inl, inr}
 use Rattle.std.specs.Prelude.{◌⊎◌, if◌then◌else◌}
-use Rattle.std.specs.List.{AllByRecursion, All, Contains}
+use Rattle.std.specs.List.{Contains}
 use Rattle.std.specs.List.Sorted.{IsStrictlySortedBy}
 use Rattle.std.specs.Ordering.{is_lt}
 use Rattle.std.specs.declared.cmp.Ordering.{Ordering}
@@ -39,7 +39,8 @@ pub found_first : (at : Key) (e : Element) (es : List Element) → IsStrictlySor
 unfolding IsStrictlySortedBy
 found_first at e [] rising found = absurd (cc)
 found_first at e (x ∷ es) rising found = by_test (stands_before at x) refl found (found_first at e es rising.1) where
-  by_test : (b : Bool) → stands_before at x ≡ b → (if b then first_from at es else Some x) ≡ Some e → (first_from at es ≡ Some e → IsFirstFrom es at e) → IsFirstFrom (x ∷ es) at e
+  by_test : (b : Bool) → stands_before at x ≡ b → (if b then first_from at es else Some x) ≡ Some e → (first_from at es ≡ Some e → IsFirstFrom es at e)
+      → IsFirstFrom (x ∷ es) at e
   by_test true is found more = let later = more found in record {
     there = Contains-append_right (x ∷ []) es e later.there;
     from = later.from;
@@ -73,7 +74,8 @@ found_none at (x ∷ es) found other has = by_test (stands_before at x) refl fou
   by_test false is none more = absurd (cc)
 
 -- elements of a list in order with one key are one
-pub one_at_key : (es : List Element) (x y : Element) → IsStrictlySortedBy element_cmp es → Contains es x → Contains es y → element_key x ≡ element_key y → x ≡ y
+pub one_at_key : (es : List Element) (x y : Element) → IsStrictlySortedBy element_cmp es → Contains es x → Contains es y → element_key x ≡ element_key y
+    → x ≡ y
 unfolding IsStrictlySortedBy
 one_at_key [] x y rising (k, inside, is) has same = absurd (omega arith)
 one_at_key (e ∷ es) x y rising has_x has_y same = elim (first_or_later e es x has_x) [

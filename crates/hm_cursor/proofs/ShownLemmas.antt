@@ -1,9 +1,9 @@
 -- Keys one after the other, and what a cursor shows of a list in order.
-use Rattle.std.proofs.Common.{◌≡◌, ℕ, ◌+◌, ◌-◌, ◌*◌, ◌^◌, ◌<◌, ◌≤◌, List, Option, Some, None, ap, sym, subst, ◌∙◌, arith, inl, inr}
+use Rattle.std.proofs.Common.{◌≡◌, ℕ, ◌+◌, ◌-◌, ◌*◌, ◌^◌, ◌<◌, List, Option, Some, None, sym, subst, arith, inl, inr}
 use Rattle.std.specs.Prelude.{◌↔◌, ◌⊎◌, IfSome}
 use Rattle.std.proofs.lemmas.Nat.{mul-add-lt}
 use Rattle.std.specs.List.{Contains}
-use Rattle.hm_types.specs.Elements.{Key, Sees}
+use Rattle.hm_types.specs.Elements.{Key}
 use Rattle.hm_key.specs.Elements.{element_key, first_from}
 use Rattle.hm_key.specs.Key.{IsBefore, IsFrom, key_of}
 use Rattle.hm_key.specs.declared.base.Base.{Base}
@@ -16,7 +16,8 @@ use Rattle.hm_cursor.proofs.SearchLemmas.{IsFirstFrom, found_none}
 use Rattle.hm_cursor.proofs.VersionLemmas.{first_before}
 
 -- a key comes next after another one where none stands between them
-next_is : (a b : Key) → IsBefore a b → ((key : Key) → IsWide key → IsBefore a key → IsBefore key b → ⊥) → (key : Key) → IsWide key → IsFrom b key ↔ IsBefore a key
+next_is : (a b : Key) → IsBefore a b → ((key : Key) → IsWide key → IsBefore a key → IsBefore key b → ⊥) → (key : Key) → IsWide key
+    → IsFrom b key ↔ IsBefore a key
 next_is a b up none key wide = (key_before_from a b key up, λ before less. none key wide before less)
 
 -- the next id
@@ -30,40 +31,33 @@ abbrev pub NonePassed : List Element → Cursor → Option Base → Type 0
 NonePassed es cursor from = (other : Element) → Contains es other → IsShown cursor.localization cursor.as_of.0 other
     → IsToCome cursor.from (element_key other) → IsToCome from (element_key other)
 
--- nothing is passed before the first look
-pub none_passed : (es : List Element) (cursor : Cursor) → NonePassed es cursor cursor.from
-none_passed es cursor other has shown come = come
-
--- nothing is to come where all was passed
-pub next_none : (es : List Element) (cursor : Cursor) → NonePassed es cursor None → IsNext es cursor None
-next_none es cursor passed = passed
-
 -- nothing is to come where a search finds nothing
 pub next_empty : (es : List Element) (cursor : Cursor) (at : Base) → first_from (key_of at) es ≡ None → NonePassed es cursor (Some at) → IsNext es cursor None
 next_empty es cursor at found passed other has shown come = passed other has shown come (found_none (key_of at) es found other has)
 
-module _ (es : List Element) (cursor : Cursor) (at : Base) (e : Element) (search : IsFirstFrom es (key_of at) e) (passed : NonePassed es cursor (Some at)) where
-  -- nothing that is to come stands before what a search finds
-  pub next_from : (other : Element) → Contains es other → IsShown cursor.localization cursor.as_of.0 other → IsToCome cursor.from (element_key other)
-      → IsFrom (element_key e) (element_key other)
-  next_from other has shown come = first_before es (key_of at) e other search has (passed other has shown come)
+module _ (es : List Element) (cursor : Cursor) (at : Base) (e : Element) (search : IsFirstFrom es (key_of at) e) (passed : NonePassed es cursor (Some at))
+  where
+    -- nothing that is to come stands before what a search finds
+    pub next_from : (other : Element) → Contains es other → IsShown cursor.localization cursor.as_of.0 other → IsToCome cursor.from (element_key other)
+        → IsFrom (element_key e) (element_key other)
+    next_from other has shown come = first_before es (key_of at) e other search has (passed other has shown come)
 
-  -- what a search finds is the next one, if it is shown
-  pub next_found : IsNextOf es cursor e
-  next_found = record { there = search.there; first = next_from }
+    -- what a search finds is the next one, if it is shown
+    pub next_found : IsNextOf es cursor e
+    next_found = record { there = search.there; first = next_from }
 
-  -- nothing is to come where a search finds an element of a later localization
-  pub next_beyond : cursor.localization < e.base.localization → IsNext es cursor None
-  next_beyond beyond other has shown come =
-      let up = from_rises (element_key e) (element_key other) (next_from other has shown come) in
-      let place = shown.place in absurd (omega arith)
+    -- nothing is to come where a search finds an element of a later localization
+    pub next_beyond : cursor.localization < e.base.localization → IsNext es cursor None
+    next_beyond beyond other has shown come =
+        let up = from_rises (element_key e) (element_key other) (next_from other has shown come) in
+        let place = shown.place in absurd (omega arith)
 
-  -- where what a search finds is not shown, the search goes on after it
-  pub passed_after : (from : Option Base) → IsAfter e.base from → (IsShown cursor.localization cursor.as_of.0 e → ⊥) → NonePassed es cursor from
-  passed_after from after unshown other has shown come = elim (search.rest other has (passed other has shown come)) [
-    | inl same ↦ absurd (unshown (subst (λ (x : Element). IsShown cursor.localization cursor.as_of.0 x) (sym same) shown))
-    | inr before ↦ (after (element_key other) shown.wide).1 before
-  ]
+    -- where what a search finds is not shown, the search goes on after it
+    pub passed_after : (from : Option Base) → IsAfter e.base from → (IsShown cursor.localization cursor.as_of.0 e → ⊥) → NonePassed es cursor from
+    passed_after from after unshown other has shown come = elim (search.rest other has (passed other has shown come)) [
+      | inl same ↦ absurd (unshown (subst (λ (x : Element). IsShown cursor.localization cursor.as_of.0 x) (sym same) shown))
+      | inr before ↦ (after (element_key other) shown.wide).1 before
+    ]
 
 -- a key by one number, in which the first field weighs most
 unfoldable pub rank : Key → ℕ
@@ -96,7 +90,8 @@ unfolding rank
 rank_up a b wide before =
     digits_up (2 ^ 208) a.localization _ b.localization _ (objects_few a wide) (map (before_rises a b before) (λ objects.
     digits_up (2 ^ 144) a.obj _ b.obj _ (types_few a wide) (map objects (λ types.
-    digits_up (2 ^ 128) a.rec_type _ b.rec_type _ (ids_few a wide) (map types (λ ids. digits_up (2 ^ 64) a.key a.create b.key b.create wide.create ids)))))) where
+    digits_up (2 ^ 128) a.rec_type _ b.rec_type _ (ids_few a wide)
+    (map types (λ ids. digits_up (2 ^ 64) a.key a.create b.key b.create wide.create ids)))))) where
       map : {P Q R S : Type 0} → P ⊎ (Q × R) → (R → S) → P ⊎ (Q × S)
       map (inl p) step = inl p
       map (inr (q, r)) step = inr (q, step r)

@@ -1,5 +1,5 @@
 -- Spans of keys of one object and type, by searches in a list in order.
-use Rattle.std.proofs.Common.{◌≡◌, ℕ, ◌+◌, ◌≤◌, ◌<◌, List, Option, Some, None, ap, sym, ◌∙◌, subst, arith, inl, inr}
+use Rattle.std.proofs.Common.{◌≡◌, ℕ, ◌+◌, ◌≤◌, ◌<◌, List, None, ap, sym, ◌∙◌, subst, arith, inl, inr}
 use Rattle.std.specs.Prelude.{◌⊎◌}
 use Rattle.std.specs.List.{Contains}
 use Rattle.hm_types.specs.Elements.{Key}
@@ -9,7 +9,7 @@ use Rattle.hm_key.specs.Key.{IsFrom}
 use Rattle.hm_key.specs.declared.element.Element.{Element}
 use Rattle.hm_key.proofs.KeyLemmas.{key_from_fields}
 use Rattle.hm_retain.proofs.SetLemmas.{less_or_not}
-use Rattle.hm_cursor.specs.Version.{AreOfOneKind, IsFirst, IsFirstIn, IsFirstMadeOf, IsFoundAbout, IsFoundIn, IsInSpan, IsNewestOf, IsSeenAbout, IsSeenIn, IsVersion}
+use Rattle.hm_cursor.specs.Version.{AreOfOneKind, IsFirst, IsFirstIn, IsFirstMadeOf, IsInSpan, IsNewestOf, IsSeenIn, IsVersion}
 use Rattle.hm_cursor.proofs.KeyLemmas.{create_rises, key_rises, kind_between, kind_same, subject_same}
 use Rattle.hm_cursor.proofs.SearchLemmas.{IsFirstFrom, found_none}
 use Rattle.hm_cursor.proofs.VersionLemmas.{first_before}
@@ -36,8 +36,10 @@ pub span_over : (es : List Element) (at : Key) (last t key : ℕ) → last < key
 span_over es at last t key past below e has seen = let up = below e has seen in let to = seen.place.to in absurd (omega arith)
 
 -- nothing is seen in a span from which on there is nothing
-pub span_empty : (es : List Element) (at : Key) (last t key : ℕ) → first_from (span_start at key) es ≡ None → NoneBelow es at last t key → IsFirst es at last t None
-span_empty es at last t key found below e has seen = start_from at last key (element_key e) seen.place (below e has seen) (found_none (span_start at key) es found e has)
+pub span_empty : (es : List Element) (at : Key) (last t key : ℕ) → first_from (span_start at key) es ≡ None → NoneBelow es at last t key
+    → IsFirst es at last t None
+span_empty es at last t key found below e has seen = start_from at last key (element_key e) seen.place (below e has seen)
+    (found_none (span_start at key) es found e has)
 
 module _ (es : List Element) (at : Key) (last t key : ℕ) (oldest : Element) (search : IsFirstFrom es (span_start at key) oldest) where
   -- what is seen in the span is not before the first element of it
@@ -49,7 +51,8 @@ module _ (es : List Element) (at : Key) (last t key : ℕ) (oldest : Element) (s
   span_outside outside below e has seen =
       let after = after_first below e has seen in
       let place = seen.place in
-      let kind : AreOfOneKind (span_start at key) (element_key e) = record { localization = sym place.localization; obj = sym place.obj; rec_type = sym place.rec_type } in
+      let kind : AreOfOneKind (span_start at key) (element_key e) =
+      record { localization = sym place.localization; obj = sym place.obj; rec_type = sym place.rec_type } in
       let between = kind_between (span_start at key) (element_key oldest) (element_key e) kind search.from after in
       elim outside [
         | inl unlike ↦ unlike (record {
@@ -74,7 +77,8 @@ module _ (es : List Element) (at : Key) (last t key : ℕ) (oldest : Element) (s
           let number : other.base.key ≡ oldest.base.key = ap (λ (s : Subject). s.key) about in
           let least = first_number in
           let from = key_from_fields (span_start at key) (element_key other)
-          (omega (arith, kind.localization, alike.localization)) (omega (arith, kind.obj, alike.obj)) (omega (arith, kind.rec_type, alike.rec_type)) (omega arith) (omega arith) in
+          (omega (arith, kind.localization, alike.localization)) (omega (arith, kind.obj, alike.obj))
+          (omega (arith, kind.rec_type, alike.rec_type)) (omega arith) (omega arith) in
           create_rises (element_key oldest) (element_key other) about (first_before es (span_start at key) oldest other search has from);
     }
 
@@ -98,14 +102,19 @@ module _ (es : List Element) (at : Key) (last t key : ℕ) (oldest : Element) (s
           let place = seen.place in
           absurd (none e has (record {
             about = subject_same (element_key e) (element_key oldest)
-                (record { localization = place.localization ∙ sym kind.localization; obj = place.obj ∙ sym kind.obj; rec_type = place.rec_type ∙ sym kind.rec_type })
+                (record {
+                  localization = place.localization ∙ sym kind.localization;
+                  obj = place.obj ∙ sym kind.obj;
+                  rec_type = place.rec_type ∙ sym kind.rec_type;
+                })
                 (omega arith);
             seen = seen.seen;
           }))
     ]
 
     -- a version of what it is about stands in the span
-    place_of : at.key ≤ key → oldest.base.key ≤ last → (e : Element) → subject_of (element_key e) ≡ subject_of (element_key oldest) → IsInSpan at last (element_key e)
+    place_of : at.key ≤ key → oldest.base.key ≤ last → (e : Element) → subject_of (element_key e) ≡ subject_of (element_key oldest)
+        → IsInSpan at last (element_key e)
     place_of low high e about =
         let alike = kind_same (element_key e) (element_key oldest) about in
         let number : e.base.key ≡ oldest.base.key = ap (λ (s : Subject). s.key) about in
@@ -119,7 +128,8 @@ module _ (es : List Element) (at : Key) (last t key : ℕ) (oldest : Element) (s
         }
 
     -- the version that counts there is the first of the span
-    pub span_first : at.key ≤ key → oldest.base.key ≤ last → (e : Element) → IsNewestOf es (subject_of (element_key oldest)) t e → NoneBelow es at last t key → IsFirstIn es at last t e
+    pub span_first : at.key ≤ key → oldest.base.key ≤ last → (e : Element) → IsNewestOf es (subject_of (element_key oldest)) t e
+        → NoneBelow es at last t key → IsFirstIn es at last t e
     span_first low high e counts below =
         let about = counts.version.about in
         let number : e.base.key ≡ oldest.base.key = ap (λ (s : Subject). s.key) about in

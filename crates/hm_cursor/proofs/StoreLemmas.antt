@@ -1,9 +1,6 @@
--- What stores tell before and after calls that change nothing, and why such calls fail.
-use Rattle.std.proofs.Common.{◌≡◌, ℕ, ◌≤◌, List, Option, Some, None, Result, Ok, Err, sym, subst, ◌∙◌, arith}
-use Rattle.std.specs.Prelude.{IfSome, IfErr}
-use Rattle.hm_types.specs.Faults.{HasStoreCause, IsCaused, IsUndamaged}
-use Rattle.hm_types.specs.declared.fault.Fault.{Fault}
-use Rattle.hm_types.specs.declared.fault.Fault.TheVariants.{Media, Damaged, NoMemory}
+-- What stores tell before and after calls that change nothing.
+use Rattle.std.proofs.Common.{◌≡◌, ℕ, List, Option, Some, None, sym, subst, ◌∙◌}
+use Rattle.std.specs.Prelude.{IfSome}
 use Rattle.hm_types.specs.Elements.{Key}
 use Rattle.hm_key.specs.Extents.{Extent}
 use Rattle.hm_key.specs.Stores.{Same}
@@ -36,7 +33,8 @@ told_first now was at found e same content read is =
     told_both was (λ es sorted here. found_first at e es sorted.rising (sym here ∙ is)) content (told_still now was (λ es. found ≡ first_from at es) same read)
 
 -- what two calls in turn keep, both keep
-pub same_both : {S : Type 0} {elements_of : S → Option (List Element)} {mark_of : S → Key → ℕ} {extents_of : S → Option (List Extent)} {room_of : S → ℕ → ℕ} {free_of : S → ℕ} {old mid new : S}
+pub same_both : {S : Type 0} {elements_of : S → Option (List Element)} {mark_of : S → Key → ℕ} {extents_of : S → Option (List Extent)}
+    {room_of : S → ℕ → ℕ} {free_of : S → ℕ} {old mid new : S}
     → Same elements_of mark_of extents_of room_of free_of old mid → Same elements_of mark_of extents_of room_of free_of mid new
     → Same elements_of mark_of extents_of room_of free_of old new
 same_both first second = record {
@@ -45,21 +43,4 @@ same_both first second = record {
   extents = second.extents ∙ first.extents;
   room = second.room ∙ first.room;
   free = second.free ∙ first.free;
-}
-
-caused_later : (old mid new : ℕ) (fault : Fault) → old ≤ mid → IsCaused mid new fault → IsCaused old new fault
-caused_later old mid new (Media before after) grows cause = record { begin = omega (arith, cause.begin); rose = cause.rose; end = cause.end }
-caused_later old mid new (Damaged at kind) grows cause = tt
-caused_later old mid new NoMemory grows cause = tt
-
--- a call after others that changed nothing has its cause in all of them
-pub cause_later : {A T : Type 0} (was told : Option A) (old mid new : ℕ) (result : Result T Fault) → was ≡ told → old ≤ mid
-    → HasStoreCause was mid new result → HasStoreCause told old new result
-cause_later was told old mid new (Ok x) same grows cause = record {
-  counted = record { never_falls = omega (arith, cause.counted.never_falls); caused = tt };
-  undamaged = told_still was told (λ _. Unit {0}) same cause.undamaged;
-}
-cause_later was told old mid new (Err fault) same grows cause = record {
-  counted = record { never_falls = omega (arith, cause.counted.never_falls); caused = caused_later old mid new fault grows cause.counted.caused };
-  undamaged = told_still was told (λ _. IsUndamaged fault) same cause.undamaged;
 }

@@ -1,11 +1,11 @@
 -- Versions of a subject, by searches in a list in order.
-use Rattle.std.proofs.Common.{◌≡◌, ℕ, ◌+◌, ◌-◌, ◌≤◌, ◌<◌, List, Option, Some, None, refl, ap, sym, ◌∙◌, subst, arith, inl, inr}
+use Rattle.std.proofs.Common.{◌≡◌, ℕ, ◌+◌, ◌-◌, ◌≤◌, ◌<◌, List, Option, Some, None, sym, ◌∙◌, subst, arith, inl, inr}
 use Rattle.std.specs.Prelude.{◌⊎◌, IfSome, IsSomeAnd}
 use Rattle.std.specs.List.{Contains}
 use Rattle.hm_types.specs.Elements.{Key, Sees}
 use Rattle.hm_key.specs.Counts.{Subject, subject_of}
 use Rattle.hm_key.specs.Elements.{IsContent, element_key, first_from}
-use Rattle.hm_key.specs.Key.{IsBefore, IsFrom}
+use Rattle.hm_key.specs.Key.{IsFrom}
 use Rattle.hm_key.specs.declared.element.Element.{Element}
 use Rattle.hm_key.proofs.KeyLemmas.{key_from_before, key_not_before}
 use Rattle.hm_cursor.specs.Version.{IsFirstMade, IsFirstMadeOf, IsFoundAbout, IsMadeIn, IsNewestMade, IsNewestOf, IsSeenAbout, IsVersion}
@@ -14,7 +14,8 @@ use Rattle.hm_cursor.proofs.KeyLemmas.{subject_from, subject_between, create_ris
 use Rattle.hm_cursor.proofs.SearchLemmas.{IsFirstFrom, found_first, found_none, one_at_key}
 
 -- an element from a key on is not before the first one from there on
-pub first_before : (es : List Element) (at : Key) (e other : Element) → IsFirstFrom es at e → Contains es other → IsFrom at (element_key other) → IsFrom (element_key e) (element_key other)
+pub first_before : (es : List Element) (at : Key) (e other : Element) → IsFirstFrom es at e → Contains es other → IsFrom at (element_key other)
+    → IsFrom (element_key e) (element_key other)
 first_before es at e other first has from = elim (first.rest other has from) [
   | inl same ↦ subst (λ (x : Element). IsFrom (element_key e) (element_key x)) same (key_not_before (element_key e))
   | inr before ↦ key_from_before (element_key e) (element_key other) before
@@ -38,7 +39,8 @@ other_made at last es e content found other x has about later to =
     ]
 
 -- a search that finds a version finds the first one
-pub one_made : (at : Key) (last : ℕ) (es : List Element) (e : Element) → IsContent es → first_from at es ≡ Some e → subject_of (element_key e) ≡ subject_of at → IsFirstMadeOf es (subject_of at) at.create e
+pub one_made : (at : Key) (last : ℕ) (es : List Element) (e : Element) → IsContent es → first_from at es ≡ Some e
+    → subject_of (element_key e) ≡ subject_of at → IsFirstMadeOf es (subject_of at) at.create e
 one_made at last es e content found same =
     let search = found_first at e es content.rising found in
     record {
@@ -60,14 +62,16 @@ none_in_half es s e t middle end end' about near none later other has same made 
 ]
 
 -- a version that no later one follows is the newest made
-pub newest_at_end : (es : List Element) (s : Subject) (e : Element) (t end : ℕ) → end ≤ e.base.create → Contains es e → NoneLater es s t end → IsNewestMade es s t e
+pub newest_at_end : (es : List Element) (s : Subject) (e : Element) (t end : ℕ) → end ≤ e.base.create → Contains es e → NoneLater es s t end
+    → IsNewestMade es s t e
 newest_at_end es s e t end here has later = record {
   there = has;
   newest = λ other there about made. let up = later other there about made in omega arith;
 }
 
 -- the oldest version is the newest one made by `t` where none follows it by then
-pub newest_alone : (es : List Element) (s : Subject) (t : ℕ) (e : Element) → IsFirstMadeOf es s 0 e → IsFirstMade es s (e.base.create + 1) t None → IsNewestMade es s t e
+pub newest_alone : (es : List Element) (s : Subject) (t : ℕ) (e : Element) → IsFirstMadeOf es s 0 e → IsFirstMade es s (e.base.create + 1) t None
+    → IsNewestMade es s t e
 newest_alone es s t e oldest none = record {
   there = oldest.there;
   newest = λ other has about made. elim (less_or_not e.base.create other.base.create) [
@@ -118,7 +122,8 @@ looked_none es s t e oldest = record {
 }
 
 -- where all were looked at, the last one that was seen counts
-pub looked_all : (es : List Element) (s : Subject) (t : ℕ) (seen : Option Element) → IfSome seen (IsFoundAbout s t) → IsLooked es s t None seen → IsVersion es s t seen
+pub looked_all : (es : List Element) (s : Subject) (t : ℕ) (seen : Option Element) → IfSome seen (IsFoundAbout s t) → IsLooked es s t None seen
+    → IsVersion es s t seen
 looked_all es s t None found looked = λ other has version. elim (looked.rest other has version) [
   | inl none ↦ none
   | inr none ↦ none
@@ -196,13 +201,8 @@ looked_unseen es s t this next seen content about unseen found made looked = rec
     below (Some later) more = omega arith
 
 -- a later version is one
-pub next_made : (s : Subject) (t : ℕ) (this : Element) (next : Option Element) → subject_of (element_key this) ≡ s → IfSome next (IsMadeIn (subject_of (element_key this)) (this.base.create + 1) t)
+pub next_made : (s : Subject) (t : ℕ) (this : Element) (next : Option Element) → subject_of (element_key this) ≡ s
+    → IfSome next (IsMadeIn (subject_of (element_key this)) (this.base.create + 1) t)
     → IfSome next (IsMadeIn s 0 t)
 next_made s t this None about made = tt
 next_made s t this (Some e) about made = record { element = made.element; about = made.about ∙ about; from = omega arith; to = made.to }
-
--- fewer are left to look at
-pub fewer_left : (s : Subject) (t : ℕ) (this : Element) (next : Option Element) → this.base.create ≤ t → IfSome next (IsMadeIn s (this.base.create + 1) t)
-    → left_to_look t next < left_to_look t (Some this)
-fewer_left s t this None by made = omega arith
-fewer_left s t this (Some e) by made = let from = made.from in let to = made.to in omega arith

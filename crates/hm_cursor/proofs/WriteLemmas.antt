@@ -1,14 +1,12 @@
 -- What writing calls do to a store, over what it may tell.
-use Rattle.std.proofs.Common.{◌≡◌, ◌≢◌, ℕ, ◌+◌, ◌<◌, ◌≤◌, List, [], ◌∷◌, true, false, true≢false, Bool, Option, Some, None, refl, ap, sym, subst, ◌∙◌, inl, inr, arith, length}
-use Rattle.std.specs.Prelude.{◌⊎◌, ◌==◌, if◌then◌else◌, IfSome, IsNone, IsSomeAnd, OnOk, Result, Ok, Err, is_some, option_map}
-use Rattle.std.specs.List.{AllByRecursion, Contains}
-use Rattle.std.proofs.lemmas.Bool.{eqb-true, eqb-false}
-use Rattle.std.proofs.lemmas.List.Elements.{recursion_from_All}
+use Rattle.std.proofs.Common.{◌≡◌, ◌≢◌, ℕ, ◌≤◌, List, true≢false, Option, Some, None, refl, ap, sym, ◌∙◌, inl, inr, arith, length, ◌<◌}
+use Rattle.std.specs.Prelude.{IfSome, IsNone, IsSomeAnd, OnOk, Result, Ok, Err, is_some, option_map, if◌then◌else◌, ◌==◌, Bool, true, false}
+use Rattle.std.specs.List.{Contains}
 use Rattle.hm_types.specs.Elements.{FullElement, Key}
 use Rattle.hm_types.specs.Told.{BothTell}
 use Rattle.hm_key.specs.Balance.{Balanced, IsBalanced, content_of, full_of}
 use Rattle.hm_key.specs.Counts.{Subject, subject_of}
-use Rattle.hm_key.specs.Elements.{IsContent, closed_at, element_at, element_key, inserted, stands_at, with_delete}
+use Rattle.hm_key.specs.Elements.{element_at, element_key, inserted, with_delete}
 use Rattle.hm_key.specs.Extents.{AreExtents, Extent, PlacesAt}
 use Rattle.hm_key.specs.Key.{key_of}
 use Rattle.hm_key.specs.Stores.{ElementsChange, ExtentsChange}
@@ -16,13 +14,11 @@ use Rattle.hm_key.specs.Versions.{Adds}
 use Rattle.hm_key.specs.declared.base.Base.{Base}
 use Rattle.hm_key.specs.declared.element.Element.{Element}
 use Rattle.hm_key.proofs.AddLemmas.{balanced_added}
-use Rattle.hm_key.proofs.ElementLemmas.{each_changed}
-use Rattle.hm_records.proofs.MemberLemmas.{All-from_has, has_map, map_has}
+use Rattle.hm_records.proofs.MemberLemmas.{has_map}
 use Rattle.hm_cursor.specs.Told.{fulls}
-use Rattle.hm_cursor.specs.Version.{IsFirstMade}
-use Rattle.hm_cursor.specs.Write.{ClosesIfOpen, IsFresh, IsFreshFor, Rewrites, Writes, full_with}
-use Rattle.hm_cursor.proofs.RewriteLemmas.{Shuts, rewrites_added, rewrites_shut, shuts_made, shuts_none, shuts_twice}
-use Rattle.hm_cursor.proofs.FullLemmas.{adds_placed, balanced_closed, closed_has, element_at-changed, element_at-has, has-element_at, shuts_closed}
+use Rattle.hm_cursor.specs.Write.{IsFresh, IsFreshFor, KeepPlaces, Rewrites, Writes, full_with}
+use Rattle.hm_cursor.proofs.RewriteLemmas.{Shuts, rewrites_added, shuts_none}
+use Rattle.hm_cursor.proofs.FullLemmas.{adds_placed, balanced_closed, closed_has, element_at-has, shuts_closed}
 
 -- what became of balanced lists that are told: others, balanced too, with this change of the full elements
 abbrev pub Became : (List FullElement → List FullElement → Type 0) → Option (List Element) → Option (List Extent) → Option (List Element) → Option (List Extent) → Type 0
@@ -180,3 +176,51 @@ there_older at i s (Some es) (Some xs) together about open' fresh = by_found (el
       let found = element_at-has at e es is in
       let made = fresh.made (full_of xs e) (has_map (full_of xs) es e found.0) (ap subject_of found.1 ∙ about) in
       omega (arith, made, ap (λ (k : Key). k.create) found.1)
+
+-- ---- payloads stay where they stand
+
+-- the same of what two moments of a store tell
+abbrev pub Placed : Option (List Element) → Option (List Extent) → Option (List Element) → Option (List Extent) → Type 0
+Placed es xs es' xs' = IfSome (content_of es xs) (λ was. IsSomeAnd (content_of es' xs') (KeepPlaces was))
+
+pub placed_same : (es es' : Option (List Element)) (xs xs' : Option (List Extent)) → es' ≡ es → xs' ≡ xs → Placed es xs es' xs'
+placed_same None es' xs xs' same others = tt
+placed_same (Some es) es' None xs' same others = tt
+placed_same (Some es) es' (Some xs) xs' same others = rw (same, others) (record { extents = refl; elements = λ x has. (x, has, refl, refl, refl) })
+
+pub placed_twice : (es mid es' : Option (List Element)) (xs mid_xs xs' : Option (List Extent)) → Placed es xs mid mid_xs → Placed mid mid_xs es' xs'
+    → Placed es xs es' xs'
+placed_twice None mid es' xs mid_xs xs' first second = tt
+placed_twice (Some es) mid es' None mid_xs xs' first second = tt
+placed_twice (Some es) None es' (Some xs) mid_xs xs' first second = absurd first
+placed_twice (Some es) (Some mid) es' (Some xs) None xs' first second = absurd first
+placed_twice (Some es) (Some mid) None (Some xs) (Some mid_xs) xs' first second = absurd second
+placed_twice (Some es) (Some mid) (Some es') (Some xs) (Some mid_xs) None first second = absurd second
+placed_twice (Some es) (Some mid) (Some es') (Some xs) (Some mid_xs) (Some xs') first second = record {
+  extents = second.extents ∙ first.extents;
+  elements = λ x has.
+      let (e, there, key, payload, len) = second.elements x has in
+      let (f, there', key', payload', len') = first.elements e there in
+      (f, there', key ∙ key', payload ∙ payload', len ∙ len');
+}
+
+-- a version that is closed, where it is open, stays where it stands
+pub placed_closed : (this : Element) (i : ℕ) (es es' : Option (List Element)) (xs xs' : Option (List Extent))
+    → es' ≡ option_map (λ list. if this.base.delete == 0 then with_delete (element_key this) i list else list) es → xs' ≡ xs
+    → IfSome es (λ list. element_at (element_key this) list ≡ Some this) → Placed es xs es' xs'
+placed_closed this i None es' xs xs' list others there = tt
+placed_closed this i (Some es) es' None xs' list others there = tt
+placed_closed this i (Some es) es' (Some xs) xs' list others there = rw (list, others) (record { extents = refl; elements = by_test (this.base.delete == 0) }) where
+  by_test : (b : Bool) (x : Element) → Contains (if b then with_delete (element_key this) i es else es) x
+      → (e : Element) × Contains es e × (element_key x ≡ element_key e) × (x.payload ≡ e.payload) × (x.len ≡ e.len)
+  by_test false x has = (x, has, refl, refl, refl)
+  by_test true x has = elim (closed_has (element_key this) i this x es there has) [
+    | inl old ↦ (x, old, refl, refl, refl)
+    | inr new ↦ (
+      this,
+      (element_at-has (element_key this) this es there).0,
+      ap element_key new,
+      ap (λ (e : Element). e.payload) new,
+      ap (λ (e : Element). e.len) new,
+    )
+  ]

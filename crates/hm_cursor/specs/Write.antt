@@ -1,5 +1,5 @@
 -- What writing calls need of a store, and what they do to its elements with their payloads.
-use Rattle.std.specs.Prelude.{◌↔◌, ◌≡◌, ◌≢◌, ◌⊎◌, ℕ, ◌+◌, ◌<◌, ◌≤◌, ◌==◌, if◌then◌else◌, List, Option, None, Some, length, option_map, IfSome, IsNone, IsSomeAnd}
+use Rattle.std.specs.Prelude.{◌↔◌, ◌≡◌, ◌≢◌, ◌⊎◌, ℕ, ◌+◌, ◌<◌, ◌≤◌, ◌==◌, if◌then◌else◌, List, Option, None, Some, length, option_map, IfSome, IsSomeAnd}
 use Rattle.std.specs.List.{Contains}
 use Rattle.hm_types.specs.Elements.{FullElement, Key}
 use Rattle.hm_types.specs.Space.{IsPayloadZone, rounded, in_zone}
@@ -85,3 +85,14 @@ pub record ClosesIfOpen {S : Type 0} (elements_of : S → Option (List Element))
 pub record ClosesAt {S : Type 0} (elements_of : S → Option (List Element)) (extents_of : S → Option (List Extent)) (at : Key) (i : ℕ) (old new : S) : Type 0 where
   pub elements : elements_of new ≡ option_map (with_delete at i) (elements_of old)
   pub extents : extents_of new ≡ extents_of old
+
+-- the extents stay, and each element stands for one that was there, whose key and whose payload's place and length it has
+pub record KeepPlaces (was now : Lists) : Type 0 where
+  pub extents : now.1 ≡ was.1
+  pub elements : (x : Element) → Contains now.0 x
+      → (e : Element) × Contains was.0 e × (element_key x ≡ element_key e) × (x.payload ≡ e.payload) × (x.len ≡ e.len)
+
+-- a call that wrote left a store that tells its content, where it found one, and each payload where it stood
+abbrev pub StayPlaced : {S : Type 0} → (S → Option (List Element)) → (S → Option (List Extent)) → S → S → Type 0
+StayPlaced elements_of extents_of old new =
+    IfSome (content_of (elements_of old) (extents_of old)) (λ was. IsSomeAnd (content_of (elements_of new) (extents_of new)) (KeepPlaces was))

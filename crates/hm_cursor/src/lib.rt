@@ -2,12 +2,16 @@
 //! a subject, its payload, and new versions in place of old ones.
 #![tactic(auto)]
 
+#[cfg(test)]
+mod counting;
 mod cursor;
 mod find;
 #[cfg(test)]
 mod find_tests;
 mod payload;
 mod subject;
+#[cfg(test)]
+mod tests;
 mod version;
 mod write;
 

@@ -51,9 +51,9 @@ pub fn version_at<T: ElementStore>(
 }
 
 /// The first element that counts as of an id among those about the object and of the type of `at`
-/// with a key from its own to `last`. None exactly where none of them is seen. It takes the searches
-/// of `version_at` for each key in the span up to the one that is found. The faults are those of the
-/// store.
+/// with a key from its own to `last`. None exactly where none of them is seen. It takes the
+/// searches of `version_at` for each key in the span up to the one that is found. The faults are
+/// those of the store.
 pub fn first_version<T: ElementStore>(
     store: &mut T,
     at: &Base,

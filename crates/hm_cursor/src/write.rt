@@ -15,6 +15,7 @@ ghost use Rattle.hm_cursor.specs.Write.{
   IsFresh,
   IsNew,
   Rewrites,
+  StayPlaced,
   Writes,
   full_with,
   taken,
@@ -83,7 +84,8 @@ pub fn renew_version<T: ElementStore + Extents>(
 }
 
 /// Closes each open version of what `at` is about at an id above theirs, whatever the create id of
-/// `at`. From that id on nothing counts about it. It takes a search for each version. The faults are
+/// `at`. From that id on nothing counts about it, and each payload stays where it stands. It takes a
+/// search for each version. The faults are
 /// those of the store; after one nothing is known of the content.
 pub fn close_versions<T: ElementStore + Extents>(
     store: &mut T,
@@ -95,6 +97,7 @@ pub fn close_versions<T: ElementStore + Extents>(
         (subject_of (key_of at.now)) id.0 }
     ensures ok { OnOk result (Writes T.elements T.extents
         (Rewrites (subject_of (key_of at.now)) None id.0) store.old store.new) }
+    ensures placed { OnOk result (StayPlaced T.elements T.extents store.old store.new) }
     ensures keeps { Keeps T.elements T.extents store.old store.new result }
     ensures space { Spends T.room T.free nothing store.old store.new }
     ensures borrowed { (T.name store.new ≡ T.name store.old)

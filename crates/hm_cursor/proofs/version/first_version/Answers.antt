@@ -1,7 +1,7 @@
-use Rattle.std.proofs.Common.{◌≡◌, ◌+◌, ◌<◌, List, None, Some, Option, subst, sym, ◌∙◌, inl, inr, true≢false, arith, rules}
+use Rattle.std.proofs.Common.{◌≡◌, ◌+◌, Some, Option, subst, sym, ◌∙◌, inl, inr, true≢false, arith, rules}
 use Rattle.std.specs.Prelude.{IfSome}
-use Rattle.hm_key.specs.Counts.{Subject, subject_of}
-use Rattle.hm_key.specs.Elements.{IsContent, element_key, first_from}
+use Rattle.hm_key.specs.Counts.{subject_of}
+use Rattle.hm_key.specs.Elements.{element_key, first_from}
 use Rattle.hm_key.specs.Key.{key_of}
 use Rattle.hm_key.specs.Stores.{IsFound}
 use Rattle.hm_key.specs.declared.element.Element.{Element}
@@ -53,7 +53,8 @@ seen_from-requires g c =
     record {
       element = element.element;
       first = told (elements now)
-          (λ es search. span_oldest es (key_of c.args.at.now) c.args.last c.args.as_of.0 c.loop-key.key oldest search (c.is_of_one_kind.ensures.0 c.if-not-is_of_one_kind.false)) found;
+          (λ es search. span_oldest es (key_of c.args.at.now) c.args.last c.args.as_of.0 c.loop-key.key oldest search
+          (c.is_of_one_kind.ensures.0 c.if-not-is_of_one_kind.false)) found;
     }
 
 pub returns-in-Some-2-clause-ok : goal.returns-in-Some-2-clause-ok
@@ -71,9 +72,11 @@ returns-in-Some-2-clause-ok g c =
     (g.met.T.ElementStore.sorted was) c.in_ok-oldest.ensures.ok c.in-Some.is in
     let read : IfSome (elements now) (λ es. IsVersion es s t c.in_ok-seen.field-0) = c.in_ok-seen.ensures.ok in
     let version =
-    told_still (elements now) (elements was) (λ es. IsVersion es s t c.in_ok-seen.field-0) (c.in_ok-oldest.ensures.keeps.elements ∙ invariant.keeps.elements) read in
+    told_still (elements now) (elements was) (λ es. IsVersion es s t c.in_ok-seen.field-0)
+    (c.in_ok-oldest.ensures.keeps.elements ∙ invariant.keeps.elements) read in
     told_three (elements was)
-    (λ es search counts below. span_first es (key_of c.args.at.now) c.args.last t c.loop-key.key oldest search (c.is_of_one_kind.ensures.0 c.if-not-is_of_one_kind.false)
+    (λ es search counts below. span_first es (key_of c.args.at.now) c.args.last t c.loop-key.key oldest search
+    (c.is_of_one_kind.ensures.0 c.if-not-is_of_one_kind.false)
     invariant.low c.if-oldest-last.false c.in-Some-2.seen (subst (λ (o : Option Element). IsVersion es s t o) c.in-Some-2.is counts) below)
     found version invariant.below
 
@@ -93,7 +96,8 @@ returns-then-oldest-clause-ok g c =
     (g.met.T.ElementStore.sorted was) c.in_ok-oldest.ensures.ok c.in-Some.is in
     let read : IfSome (elements now) (λ es. IsVersion es s t c.in_ok-seen.field-0) = c.in_ok-seen.ensures.ok in
     let version =
-    told_still (elements now) (elements was) (λ es. IsVersion es s t c.in_ok-seen.field-0) (c.in_ok-oldest.ensures.keeps.elements ∙ invariant.keeps.elements) read in
+    told_still (elements now) (elements was) (λ es. IsVersion es s t c.in_ok-seen.field-0)
+    (c.in_ok-oldest.ensures.keeps.elements ∙ invariant.keeps.elements) read in
     told_three (elements was)
     (λ es search none below. span_over es at c.args.last t (oldest.base.key + 1) (omega (arith, c.ranges.last.fits))
     (span_passed es at c.args.last t c.loop-key.key oldest search (c.is_of_one_kind.ensures.0 c.if-not-is_of_one_kind.false)
@@ -118,7 +122,8 @@ loop-key-preserved g c =
     (g.met.T.ElementStore.sorted was) c.in_ok-oldest.ensures.ok c.in-Some.is in
     let read : IfSome (elements now) (λ es. IsVersion es s t c.in_ok-seen.field-0) = c.in_ok-seen.ensures.ok in
     let version =
-    told_still (elements now) (elements was) (λ es. IsVersion es s t c.in_ok-seen.field-0) (c.in_ok-oldest.ensures.keeps.elements ∙ invariant.keeps.elements) read in
+    told_still (elements now) (elements was) (λ es. IsVersion es s t c.in_ok-seen.field-0)
+    (c.in_ok-oldest.ensures.keeps.elements ∙ invariant.keeps.elements) read in
     record {
       low = let up = number_from at c.loop-key.key (element_key oldest) kind element.place in omega (arith, invariant.low);
       below = told_three (elements was)

@@ -1,4 +1,4 @@
-use Rattle.std.proofs.Common.{◌≡◌, ◌-◌, ◌/◌, ◌+◌, None, Option, subst, arith, rules}
+use Rattle.std.proofs.Common.{◌-◌, ◌/◌, Option, subst, arith, rules}
 use Rattle.std.specs.Prelude.{IfSome}
 use Rattle.hm_key.specs.Counts.{subject_of}
 use Rattle.hm_key.specs.Elements.{element_key}
@@ -17,7 +17,8 @@ loop-newest-preserved g c =
     let s = subject_of (key_of c.args.known.now.base) in
     let end = c.loop-newest.end in
     let middle = end - (end - e.base.create) / 2 in
-    let read : IfSome (elements c.loop-newest.store) (λ es. IsFirstMade es (subject_of (element_key e)) middle end c.in_ok-later.field-0) = c.in_ok-later.ensures.ok in
+    let read : IfSome (elements c.loop-newest.store) (λ es. IsFirstMade es (subject_of (element_key e)) middle end c.in_ok-later.field-0) =
+    c.in_ok-later.ensures.ok in
     let made =
     told_still (elements c.loop-newest.store) (elements c.args.store.now) (λ es. IsFirstMade es (subject_of (element_key e)) middle end c.in_ok-later.field-0)
     invariant.keeps.elements read in
@@ -41,5 +42,6 @@ pub returns-clause-ok : goal.returns-clause-ok
 returns-clause-ok g c =
     let invariant = c.loop-newest.invariant in
     told_both (g.T.HasElements.elements c.args.store.now)
-    (λ es has later. newest_at_end es (subject_of (key_of c.args.known.now.base)) c.loop-newest.newest c.args.as_of.0 c.loop-newest.end c.loop-newest-test.false has later)
+    (λ es has later. newest_at_end es (subject_of (key_of c.args.known.now.base)) c.loop-newest.newest c.args.as_of.0 c.loop-newest.end
+    c.loop-newest-test.false has later)
     invariant.there invariant.none_later

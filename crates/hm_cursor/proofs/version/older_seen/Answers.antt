@@ -1,4 +1,4 @@
-use Rattle.std.proofs.Common.{◌≡◌, ◌+◌, None, Some, Option, subst, sym, ◌∙◌, true≢false, arith, rules}
+use Rattle.std.proofs.Common.{◌+◌, Option, subst, sym, ◌∙◌, true≢false, arith, rules}
 use Rattle.std.specs.Prelude.{IfSome}
 use Rattle.hm_key.specs.Counts.{Subject, subject_of}
 use Rattle.hm_key.specs.Elements.{element_key}
@@ -16,7 +16,8 @@ loop-version-init g c =
     record {
       next = record { element = c.requires.oldest.element; about = search rules; from = omega arith; to = c.requires.made };
       found = tt;
-      looked = told (g.T.HasElements.elements c.args.store.now) (λ es first. looked_none es (subject_of (key_of oldest.base)) c.args.as_of.0 oldest first) c.requires.oldest.first;
+      looked = told (g.T.HasElements.elements c.args.store.now) (λ es first. looked_none es (subject_of (key_of oldest.base)) c.args.as_of.0 oldest first)
+          c.requires.oldest.first;
       keeps = search rules;
       name = search rules;
       frame = search rules;
@@ -35,8 +36,10 @@ loop-version-preserved g c =
     let seen = c.if-is_seen.seen in
     let here : IsMadeIn s 0 t this = subst (λ (o : Option Element). IfSome o (IsMadeIn s 0 t)) c.in-Some.is invariant.next in
     let found : IfSome next (IsMadeIn (subject_of (element_key this)) (this.base.create + 1) t) = c.in_ok-version.ensures.found in
-    let found_of : IfSome next (IsMadeIn s (this.base.create + 1) t) = subst (λ (x : Subject). IfSome next (IsMadeIn x (this.base.create + 1) t)) here.about found in
-    let read : IfSome (elements c.loop-version.store) (λ es. IsFirstMade es (subject_of (element_key this)) (this.base.create + 1) t next) = c.in_ok-version.ensures.ok in
+    let found_of : IfSome next (IsMadeIn s (this.base.create + 1) t) =
+    subst (λ (x : Subject). IfSome next (IsMadeIn x (this.base.create + 1) t)) here.about found in
+    let read : IfSome (elements c.loop-version.store) (λ es. IsFirstMade es (subject_of (element_key this)) (this.base.create + 1) t next) =
+    c.in_ok-version.ensures.ok in
     let made =
     told_still (elements c.loop-version.store) told (λ es. IsFirstMade es s (this.base.create + 1) t next) invariant.keeps.elements
     (subst (λ (x : Subject). IfSome (elements c.loop-version.store) (λ es. IsFirstMade es x (this.base.create + 1) t next)) here.about read) in
@@ -52,12 +55,14 @@ loop-version-preserved g c =
       looked = elim c.if-is_seen.branch [
         | then-is_seen w ↦
             told_both told
-            (λ es first before. subst (IsLooked es s t next) (sym w.seen-is) (looked_seen es s t this next c.loop-version.seen found_of first before)) made looked
+            (λ es first before. subst (IsLooked es s t next) (sym w.seen-is) (looked_seen es s t this next c.loop-version.seen found_of first before)) made
+            looked
         | else-is_seen w ↦
             told_three told
             (λ es content first before.
             subst (IsLooked es s t next) (sym w.seen-is)
-            (looked_unseen es s t this next c.loop-version.seen content here.about (λ sees. true≢false (sym (c.is_seen.ensures.1 sees) ∙ w.if-is_seen.false)) found_of first before))
+            (looked_unseen es s t this next c.loop-version.seen content here.about
+            (λ sees. true≢false (sym (c.is_seen.ensures.1 sees) ∙ w.if-is_seen.false)) found_of first before))
             (g.met.T.ElementStore.sorted c.args.store.now) made looked
       ];
       keeps = search (rules, same_both);

@@ -1,4 +1,4 @@
-use Rattle.std.proofs.Common.{◌≡◌, ◌≤◌, ◌+◌, ◌-◌, ℕ, Option, None, Some}
+use Rattle.std.proofs.Common.{◌≡◌, ◌≤◌}
 use Rattle.std.specs.Prelude.{IfSome}
 use Rattle.hm_key.specs.Counts.{subject_of}
 use Rattle.hm_key.specs.Key.{key_of}

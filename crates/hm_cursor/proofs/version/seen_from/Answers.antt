@@ -1,7 +1,6 @@
-use Rattle.std.proofs.Common.{◌≡◌}
 use Rattle.hm_key.specs.Counts.{subject_of}
 use Rattle.hm_key.specs.Key.{key_of}
-use Rattle.hm_cursor.proofs.StoreLemmas.{told, told_both}
+use Rattle.hm_cursor.proofs.StoreLemmas.{told}
 use Rattle.hm_cursor.proofs.VersionLemmas.{none_yet, newest_counts}
 use Rattle.hm_cursor.proofs.version.seen_from.Goals as goal
 

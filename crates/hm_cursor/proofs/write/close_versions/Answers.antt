@@ -6,6 +6,7 @@ use Rattle.hm_key.specs.Key.{key_of}
 use Rattle.hm_key.specs.declared.element.Element.{Element}
 use Rattle.hm_cursor.proofs.CloseLemmas.{AreShutUpTo, all_closed, became_more, became_searched, first_about}
 use Rattle.hm_cursor.proofs.CloseLemmas.{next_about, next_stands, shut_closed, shut_next, shut_none, shut_over}
+use Rattle.hm_cursor.proofs.WriteLemmas.{placed_closed, placed_same, placed_twice}
 use Rattle.hm_cursor.proofs.write.close_versions.Goals as goal
 
 pub loop-version-init : goal.loop-version-init
@@ -16,6 +17,8 @@ loop-version-init g c =
     record {
       about = next_about s s 0 c.args.id.0 c.in_ok-version.version refl searched.found;
       became = became_searched s c.args.id.0 (g.T.HasElements.elements c.args.store.now) (g.T.HasElements.elements c.version_from.new.store)
+          (g.T.HasRoom.extents c.args.store.now) (g.T.HasRoom.extents c.version_from.new.store) same.elements same.extents;
+      placed = placed_same (g.T.HasElements.elements c.args.store.now) (g.T.HasElements.elements c.version_from.new.store)
           (g.T.HasRoom.extents c.args.store.now) (g.T.HasRoom.extents c.version_from.new.store) same.elements same.extents;
       shut = shut_next s 0 c.args.id.0 c.in_ok-version.version (g.T.HasElements.elements c.args.store.now) (g.T.HasElements.elements c.version_from.new.store)
           same.elements (shut_none s (g.T.HasElements.elements c.args.store.now)) searched.ok;
@@ -64,6 +67,9 @@ loop-version-preserved-in_ok-version-2 g c =
       about = next_about s (subject_of (element_key this)) (this.base.create + 1) i next about searched.found;
       became = became_more s i this start es mid new start_xs xs mid_xs new_xs about was.became closed.ok.elements closed.ok.extents there
           same.elements same.extents;
+      placed = placed_twice start es new start_xs xs new_xs was.placed
+          (placed_twice es mid new xs mid_xs new_xs (placed_closed this i es mid xs mid_xs closed.ok.elements closed.ok.extents there)
+          (placed_same mid new mid_xs new_xs same.elements same.extents));
       shut = shut_next s (this.base.create + 1) i next mid new same.elements below first;
       elements = ap is_some same.elements ∙ closed.keeps.elements ∙ was.elements;
       extents = ap is_some same.extents ∙ closed.keeps.extents ∙ was.extents;
@@ -86,6 +92,7 @@ loop-version-preserved g c =
     record {
       about = tt;
       became = was.became;
+      placed = was.placed;
       shut = shut_over s c.args.id.0 c.in-Some.this es c.if-this-id.false shut;
       elements = was.elements;
       extents = was.extents;

@@ -8,6 +8,7 @@ use Rattle.hm_key.specs.declared.element.Element.{Element}
 use Rattle.hm_cursor.specs.Write.{Writes}
 use Rattle.hm_cursor.proofs.RewriteLemmas.{Shuts}
 use Rattle.hm_cursor.proofs.CloseLemmas.{AreShutUpTo}
+use Rattle.hm_cursor.proofs.WriteLemmas.{Placed}
 use Rattle.hm_cursor.proofs.write.close_versions.Given as goal
 
 -- all versions before the next one are closed at the id
@@ -15,6 +16,7 @@ abbrev pub invariant-loop-version : goal.invariant-loop-version
 invariant-loop-version g l = record {
   about : IfSome l.version (λ this. subject_of (element_key this) ≡ subject_of (key_of l.at));
   became : Writes g.T.HasElements.elements g.T.HasRoom.extents (Shuts (subject_of (key_of l.at)) l.id.0) l.fn.store l.store;
+  placed : Placed (g.T.HasElements.elements l.fn.store) (g.T.HasRoom.extents l.fn.store) (g.T.HasElements.elements l.store) (g.T.HasRoom.extents l.store);
   shut : IfSome (g.T.HasElements.elements l.store) (AreShutUpTo (subject_of (key_of l.at)) l.id.0 l.version);
   elements : is_some (g.T.HasElements.elements l.store) ≡ is_some (g.T.HasElements.elements l.fn.store);
   extents : is_some (g.T.HasRoom.extents l.store) ≡ is_some (g.T.HasRoom.extents l.fn.store);

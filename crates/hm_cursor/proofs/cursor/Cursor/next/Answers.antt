@@ -1,4 +1,4 @@
-use Rattle.std.proofs.Common.{◌≡◌, ◌<◌, None, Some, Option, subst, sym, ap, ◌∙◌, true≢false, arith, rules}
+use Rattle.std.proofs.Common.{◌≡◌, ◌<◌, Some, Option, subst, sym, ap, ◌∙◌, true≢false, arith, rules}
 use Rattle.std.specs.Prelude.{IfSome}
 use Rattle.hm_types.specs.Elements.{Key, Sees}
 use Rattle.hm_key.specs.Elements.{element_key, first_from}
@@ -8,7 +8,7 @@ use Rattle.hm_key.specs.declared.base.Base.{Base}
 use Rattle.hm_key.specs.declared.element.Element.{Element}
 use Rattle.hm_cursor.specs.Shown.{IsShown, IsToCome, IsWide}
 use Rattle.hm_cursor.specs.declared.cursor.Cursor.{Cursor}
-use Rattle.hm_cursor.proofs.StoreLemmas.{told, told_both, told_still, told_first, same_both}
+use Rattle.hm_cursor.proofs.StoreLemmas.{told_both, told_still, told_first, same_both}
 use Rattle.hm_cursor.proofs.ShownLemmas.{NonePassed, next_empty, next_found, next_beyond, passed_after, passes, keys_left, fewer_keys}
 use Rattle.hm_cursor.proofs.cursor.Cursor.next.Goals as goal
 use Rattle.hm_cursor.proofs.cursor.Cursor.next.Goals.{else-element-self-2-via-then-element-self-2+else-is_seen, else-element-self-2-via-else-element-self-2}
@@ -59,8 +59,15 @@ returns-then-is_seen-clause-passes g c =
     let invariant = c.loop-from.invariant in
     let at = c.in-Some.at in
     let e = c.in-Some-2.element in
-    let wide : IsWide (key_of e.base) = record { localization = search rules; obj = search rules; rec_type = search rules; number = search rules; create = search rules } in
-    let found : IfSome (Some e) (IsFound (key_of at)) = subst (λ (o : Option Element). IfSome o (IsFound (key_of at))) c.in-Some-2.is c.in_ok-element.ensures.found in
+    let wide : IsWide (key_of e.base) = record {
+      localization = search rules;
+      obj = search rules;
+      rec_type = search rules;
+      number = search rules;
+      create = search rules;
+    } in
+    let found : IfSome (Some e) (IsFound (key_of at)) =
+    subst (λ (o : Option Element). IfSome o (IsFound (key_of at))) c.in-Some-2.is c.in_ok-element.ensures.found in
     let onward = subst (λ (o : Option Base). (key : Key) → IsWide key → IsToCome o key → IsToCome c.args.self.now.from key) c.in-Some.is invariant.onward in
     let same : c.loop-from.self ≡ c.args.self.now = invariant.self in
     record {
@@ -79,8 +86,15 @@ pub loop-from-smaller : goal.loop-from-smaller
 loop-from-smaller g c =
     let at = c.in-Some.at in
     let e = c.in-Some-2.element in
-    let wide : IsWide (key_of at) = record { localization = search rules; obj = search rules; rec_type = search rules; number = search rules; create = search rules } in
-    let found : IfSome (Some e) (IsFound (key_of at)) = subst (λ (o : Option Element). IfSome o (IsFound (key_of at))) c.in-Some-2.is c.in_ok-element.ensures.found in
+    let wide : IsWide (key_of at) = record {
+      localization = search rules;
+      obj = search rules;
+      rec_type = search rules;
+      number = search rules;
+      create = search rules;
+    } in
+    let found : IfSome (Some e) (IsFound (key_of at)) =
+    subst (λ (o : Option Element). IfSome o (IsFound (key_of at))) c.in-Some-2.is c.in_ok-element.ensures.found in
     subst (λ (o : Option Base). keys_left c.after-from.result < keys_left o) (sym c.in-Some.is)
     (fewer_keys at e.base c.after-from.result wide c.after-from.ensures.wide found.place c.after-from.ensures.after)
 
@@ -96,13 +110,15 @@ loop-from-preserved g c =
     let found =
     told_first (elements c.loop-from.store) was (key_of at) c.in_ok-element.field-0 e invariant.keeps.elements (g.met.T.ElementStore.sorted c.args.store.now)
     c.in_ok-element.ensures.ok c.in-Some-2.is in
-    let place : IfSome (Some e) (IsFound (key_of at)) = subst (λ (o : Option Element). IfSome o (IsFound (key_of at))) c.in-Some-2.is c.in_ok-element.ensures.found in
+    let place : IfSome (Some e) (IsFound (key_of at)) =
+    subst (λ (o : Option Element). IfSome o (IsFound (key_of at))) c.in-Some-2.is c.in_ok-element.ensures.found in
     let onward = subst (λ (o : Option Base). (key : Key) → IsWide key → IsToCome o key → IsToCome cursor.from key) c.in-Some.is invariant.onward in
     let same : c.loop-from.self ≡ cursor = invariant.self in
     let unshown : IsShown cursor.localization cursor.as_of.0 e → ⊥ =
     (λ shown. elim c.else-element-self-2.branch [
       | else-element-self-2-via-then-element-self-2+else-is_seen w ↦
-          true≢false (sym (w.is_seen.ensures.1 (subst (λ (x : Cursor). Sees e.base.create e.base.delete x.as_of.0) (sym same) shown.seen)) ∙ w.if-is_seen.false)
+          let sees = subst (λ (x : Cursor). Sees e.base.create e.base.delete x.as_of.0) (sym same) shown.seen in
+          true≢false (sym (w.is_seen.ensures.1 sees) ∙ w.if-is_seen.false)
       | else-element-self-2-via-else-element-self-2 w ↦ w.if-element-self-2.false (shown.place ∙ sym (ap (λ (x : Cursor). x.localization) same))
     ]) in
     record {
