@@ -1,0 +1,4 @@
+pub mod NewLemmas
+pub mod ShownLemmas
+pub mod SpaceLemmas
+pub mod VersionLemmas

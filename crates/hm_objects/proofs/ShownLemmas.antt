@@ -1,0 +1,239 @@
+-- What a call on an object does to the trees.
+use Rattle.std.proofs.Common.{◌≡◌, ◌≢◌, ℕ, ◌+◌, ◌^◌, ◌<◌, ◌≤◌, List, [], length, refl, sym, subst, arith}
+use Rattle.std.specs.Prelude.{Option, None, Some}
+use Rattle.hm_types.specs.Elements.{FullElement}
+use Rattle.hm_types.specs.Tree.{FileTree, directory_of, with_change, with_links, without_object}
+use Rattle.hm_types.specs.declared.id.Obj.{Obj}
+use Rattle.hm_types.specs.declared.object.Object.{Object}
+use Rattle.hm_key.specs.declared.base.Base.{Base}
+use Rattle.hm_key.specs.Counts.{Content, Counts, Subject, inode_subject, subject_of, target_subject}
+use Rattle.hm_key.specs.Key.{key_of}
+use Rattle.hm_key.specs.Versions.{IsBelow}
+use Rattle.hm_records.specs.Changes.{AgreeButObject, ChangesObject, CountSame, CountsNothing, HasInode}
+use Rattle.hm_records.specs.Inode.{IsInode, inode_bytes}
+use Rattle.hm_records.specs.Laws.{HasView, linked}
+use Rattle.hm_records.specs.Target.{IsTarget}
+use Rattle.hm_records.specs.View.{IsObject, held}
+use Rattle.hm_records.specs.declared.inode.Inode.{Inode}
+use Rattle.hm_records.specs.declared.kind.TheConstants.{DIRECTORY, FILE, SOFTLINK}
+use Rattle.hm_records.proofs.ChangeLemmas.{below_later, counts_from}
+use Rattle.hm_records.proofs.MadeLemmas.{directory_made, file_made, inode_changes, links_changed, no_bytes, softlink_made, target_changes}
+use Rattle.hm_records.proofs.ObjectChangeLemmas.{object_added, object_changed, object_gone}
+use Rattle.hm_records.proofs.SubjectLemmas.{apart, but_object_twice}
+use Rattle.hm_cursor.specs.Write.{IsFreshFor, Rewrites}
+use Rattle.hm_cursor.proofs.ViewsLemmas.{fresh_beside, nothing_written, writes_again, writes_within}
+use Rattle.hm_objects.specs.Objects.{AddsObject, ChangesBy, IsGone, IsOfObject, IsOlder, file_of, inode_of, open_base, softlink_of}
+use Rattle.hm_objects.proofs.NewLemmas.{inode_within, makes_inode, makes_none, makes_target, steady, target_within}
+
+-- the inode and the target of an object are two subjects
+inode_no_target : (pfs obj : ℕ) → inode_subject pfs obj ≢ target_subject pfs obj
+inode_no_target pfs obj = apart (inode_subject pfs obj) (target_subject pfs obj) (λ is. absurd (omega (arith, is)))
+
+-- ---- an object that is added
+
+-- a new inode of an object, of these bytes
+abbrev pub NewInode : ℕ → ℕ → ℕ → Inode → List FullElement → List FullElement → Type 0
+NewInode pfs obj i inode = Rewrites (inode_subject pfs obj) (Some (inode_bytes inode)) i
+
+-- a new target of an object
+abbrev pub NewTarget : ℕ → ℕ → ℕ → List ℕ → List FullElement → List FullElement → Type 0
+NewTarget pfs obj i text = Rewrites (target_subject pfs obj) (Some text) i
+
+-- the inode counts
+inode_there : (pfs obj i t : ℕ) (inode : Inode) (es es' : List FullElement) → IsInode inode → NewInode pfs obj i inode es es' → i ≤ t
+    → HasInode (Counts es' t) pfs obj inode
+inode_there pfs obj i t inode es es' ranges new late =
+    record { ranges = ranges; there = ((new.present t late).about (inode_bytes inode)).1 refl }
+
+inode_added : (pfs i : ℕ) (object : Object) (inode : Inode) (es es' : List FullElement) → IsInode inode → NewInode pfs object.number.0 i inode es es'
+    → ((t : ℕ) → i ≤ t → HasInode (Counts es' t) pfs object.number.0 inode → IsObject (Counts es' t) pfs object) → AddsObject pfs i object es es'
+inode_added pfs i object inode es es' ranges new makes = record {
+  writes = writes_within pfs i (inode_subject pfs object.number.0) (Some (inode_bytes inode)) (IsOfObject pfs object.number.0 i) es es'
+      (inode_within pfs object.number.0) (makes_inode pfs object.number.0 i inode ranges) new;
+  shows = λ missing t tree late has.
+      object_added pfs object.number.0 tree (Counts es t) (Counts es' t) has
+      (inode_changes pfs object.number.0 (Some (inode_bytes inode)) (Counts es t) (Counts es' t) has.settled (new.present t late))
+      object refl (missing t late) (makes t late (inode_there pfs object.number.0 i t inode es es' ranges new late));
+}
+
+-- the inode of a new object is in range
+inode_ranges : (kind size : ℕ) → (1 ≤ kind) × (kind ≤ 3) → (kind ≡ DIRECTORY → size ≡ 0) → (kind ≡ SOFTLINK → (1 ≤ size) × (size ≤ 1023))
+    → size < 2 ^ 64 → IsInode (inode_of kind size)
+inode_ranges kind size known directory softlink small = record {
+  sized = record {
+    known = (omega (arith, known.0), omega (arith, known.1));
+    directory = directory;
+    softlink = λ is. (omega (arith, (softlink is).0), omega (arith, (softlink is).1));
+    pfs_link = λ is. absurd (omega (arith, is, known.1));
+  };
+  size = small;
+  links = omega arith;
+  pfs = omega arith;
+  no_pfs = λ _. refl;
+}
+
+pub directory_inode : IsInode (inode_of DIRECTORY 0)
+directory_inode = inode_ranges DIRECTORY 0 (omega arith, omega arith) (λ _. refl) (λ is. absurd (omega (arith, is))) (omega arith)
+
+pub file_inode : IsInode (inode_of FILE 0)
+file_inode = inode_ranges FILE 0 (omega arith, omega arith) (λ _. refl) (λ is. absurd (omega (arith, is))) (omega arith)
+
+pub softlink_inode : (text : List ℕ) → IsTarget text → IsInode (inode_of SOFTLINK (length text))
+softlink_inode text target =
+    inode_ranges SOFTLINK (length text) (omega arith, omega arith) (λ is. absurd (omega (arith, is))) (λ _. (target.0, omega (arith, target.1)))
+    (omega (arith, target.1))
+
+pub directory_added : (pfs i : ℕ) (number : Obj) (es es' : List FullElement) → NewInode pfs number.0 i (inode_of DIRECTORY 0) es es'
+    → AddsObject pfs i (directory_of number) es es'
+directory_added pfs i number es es' new =
+    inode_added pfs i (directory_of number) (inode_of DIRECTORY 0) es es' directory_inode new
+    (λ t late has. directory_made pfs number (inode_of DIRECTORY 0) (Counts es' t) has refl)
+
+pub file_added : (pfs i : ℕ) (number : Obj) (es es' : List FullElement) → NewInode pfs number.0 i (inode_of FILE 0) es es'
+    → AddsObject pfs i (file_of number) es es'
+file_added pfs i number es es' new =
+    inode_added pfs i (file_of number) (inode_of FILE 0) es es' file_inode new
+    (λ t late has. file_made pfs number (inode_of FILE 0) [] (Counts es' t) has refl (no_bytes pfs number.0 0 (Counts es' t) refl))
+
+-- an element with an open base makes what its base and its bytes say
+pub made_as : (s : Subject) (kind i : ℕ) (base open' : Base) (bytes text : List ℕ) (es es' : List FullElement) → open' ≡ open_base base kind i
+    → subject_of (key_of base) ≡ s → bytes ≡ text → Rewrites (subject_of (key_of open')) (Some bytes) open'.create es es' → Rewrites s (Some text) i es es'
+made_as s kind i base open' bytes text es es' made about is new =
+    subst (λ (b : List ℕ). Rewrites s (Some b) i es es') is
+    (subst (λ (u : Subject). Rewrites u (Some bytes) i es es') about
+    (subst (λ (b : Base). Rewrites (subject_of (key_of b)) (Some bytes) b.create es es') made new))
+
+-- ---- a softlink that is added: its target, and then its inode
+
+-- no change
+but_object_same : (pfs obj : ℕ) (C : Content) → AgreeButObject pfs obj C C
+but_object_same pfs obj C = record {
+  objects = λ other differ. record {
+    inode = λ bytes. (λ h. h, λ h. h);
+    bytes = λ end bytes. (λ h. h, λ h. h);
+    target = λ bytes. (λ h. h, λ h. h);
+  };
+  entries = λ directory name key object. (λ h. h, λ h. h);
+}
+
+-- two changes of an object are one
+joined : (pfs obj : ℕ) (C M D : Content) → ChangesObject pfs obj C M → ChangesObject pfs obj M D → ChangesObject pfs obj C D
+joined pfs obj C M D first second = record { agree = but_object_twice pfs obj C M D first.agree second.agree; settled = second.settled }
+
+-- what is known of the inode is still so once a target has come
+pub inode_left : (pfs obj i : ℕ) (now : Option (List ℕ)) (es mid : List FullElement) → Rewrites (target_subject pfs obj) now i es mid
+    → IsOlder pfs obj i es → IsFreshFor (inode_subject pfs obj) i mid
+inode_left pfs obj i now es mid rewrites older =
+    fresh_beside (target_subject pfs obj) (inode_subject pfs obj) now i i es mid rewrites (inode_no_target pfs obj) older.inode
+
+module _ (pfs i : ℕ) (number : Obj) (text : List ℕ) (es mid es' : List FullElement) (target : IsTarget text)
+    (first : NewTarget pfs number.0 i text es mid) (second : NewInode pfs number.0 i (inode_of SOFTLINK (length text)) mid es') where
+  -- both count
+  softlink_there : (t : ℕ) → i ≤ t → IsObject (Counts es' t) pfs (softlink_of number text)
+  softlink_there t late =
+      softlink_made pfs number (inode_of SOFTLINK (length text)) text (Counts es' t)
+      (inode_there pfs number.0 i t (inode_of SOFTLINK (length text)) mid es' (softlink_inode text target) second late) refl
+      (held (((second.present t late).elsewhere (target_subject pfs number.0) text (λ is. inode_no_target pfs number.0 (sym is))).1
+      (((first.present t late).about text).1 refl)))
+
+  softlink_changes : (t : ℕ) (tree : FileTree) → i ≤ t → HasView (Counts es t) pfs tree → ChangesObject pfs number.0 (Counts es t) (Counts es' t)
+  softlink_changes t tree late has =
+      let one : ChangesObject pfs number.0 (Counts es t) (Counts mid t) =
+      target_changes pfs number.0 (Some text) (Counts es t) (Counts mid t) has.settled (first.present t late) in
+      joined pfs number.0 (Counts es t) (Counts mid t) (Counts es' t) one
+      (inode_changes pfs number.0 (Some (inode_bytes (inode_of SOFTLINK (length text)))) (Counts mid t) (Counts es' t) one.settled (second.present t late))
+
+  pub softlink_added : AddsObject pfs i (softlink_of number text) es es'
+  softlink_added = record {
+    writes = writes_again pfs i (IsOfObject pfs number.0 i) es mid es' (steady pfs number.0 i)
+        (writes_within pfs i (target_subject pfs number.0) (Some text) (IsOfObject pfs number.0 i) es mid (target_within pfs number.0)
+        (makes_target pfs number.0 i text target) first)
+        (writes_within pfs i (inode_subject pfs number.0) (Some (inode_bytes (inode_of SOFTLINK (length text)))) (IsOfObject pfs number.0 i) mid es'
+        (inode_within pfs number.0) (makes_inode pfs number.0 i (inode_of SOFTLINK (length text)) (softlink_inode text target)) second);
+    shows = λ missing t tree late has.
+        object_added pfs number.0 tree (Counts es t) (Counts es' t) has (softlink_changes t tree late has) (softlink_of number text) refl
+        (missing t late) (softlink_there t late);
+  }
+
+-- ---- an object that goes: its target, and then its inode
+
+-- what counts of an object is closed
+abbrev pub Closed : Subject → ℕ → List FullElement → List FullElement → Type 0
+Closed s i = Rewrites s None i
+
+none_counts : (bytes : List ℕ) → None ≡ Some bytes → ⊥
+none_counts bytes is = cc
+
+module _ (pfs i : ℕ) (number : Obj) (es mid es' : List FullElement) (first : Closed (target_subject pfs number.0) i es mid)
+    (second : Closed (inode_subject pfs number.0) i mid es') where
+  removal_changes : (t : ℕ) (tree : FileTree) → i ≤ t → HasView (Counts es t) pfs tree → ChangesObject pfs number.0 (Counts es t) (Counts es' t)
+  removal_changes t tree late has =
+      let one : ChangesObject pfs number.0 (Counts es t) (Counts mid t) =
+      target_changes pfs number.0 None (Counts es t) (Counts mid t) has.settled (first.present t late) in
+      joined pfs number.0 (Counts es t) (Counts mid t) (Counts es' t) one
+      (inode_changes pfs number.0 None (Counts mid t) (Counts es' t) one.settled (second.present t late))
+
+  pub object_removed : ChangesBy pfs number.0 i (λ tree. without_object tree number) es es'
+  object_removed = record {
+    writes = writes_again pfs i (IsOfObject pfs number.0 i) es mid es' (steady pfs number.0 i)
+        (writes_within pfs i (target_subject pfs number.0) None (IsOfObject pfs number.0 i) es mid (target_within pfs number.0)
+        (makes_none (target_subject pfs number.0) i (IsOfObject pfs number.0 i)) first)
+        (writes_within pfs i (inode_subject pfs number.0) None (IsOfObject pfs number.0 i) mid es' (inode_within pfs number.0)
+        (makes_none (inode_subject pfs number.0) i (IsOfObject pfs number.0 i)) second);
+    shows = λ t tree late has.
+        object_gone pfs number.0 tree (Counts es t) (Counts es' t) has (removal_changes t tree late has)
+        (λ bytes there. none_counts bytes (((second.present t late).about bytes).0 there));
+  }
+
+  -- neither of them counts
+  pub object_closed : IsGone pfs number.0 i es'
+  object_closed = record {
+    inode = λ t late bytes there. none_counts bytes (((second.present t late).about bytes).0 there);
+    target = λ t late bytes there.
+        none_counts bytes (((first.present t late).about bytes).0
+        (((second.present t late).elsewhere (target_subject pfs number.0) bytes (λ is. inode_no_target pfs number.0 (sym is))).0 there));
+  }
+
+-- ---- links
+
+-- from `i` on the same counts as of `i`, where no id is above it
+same_later : (i t : ℕ) (es : List FullElement) → IsBelow (i + 1) es → i ≤ t → CountSame (Counts es t) (Counts es i)
+same_later i t es up_to late = counts_from es t i (below_later es (i + 1) (t + 1) (omega arith) up_to) up_to
+
+-- an object without an inode has no links to change
+pub links_of_none : (pfs i : ℕ) (number : Obj) (links : ℕ) (es : List FullElement) → IsBelow (i + 1) es
+    → CountsNothing (Counts es i) (inode_subject pfs number.0) → ChangesBy pfs number.0 i (λ tree. with_change tree number (with_links links)) es es
+links_of_none pfs i number links es up_to none = record {
+  writes = nothing_written pfs i (IsOfObject pfs number.0 i) es;
+  shows = λ t tree late has.
+      object_changed pfs number.0 tree (Counts es t) (Counts es t) has (record { agree = but_object_same pfs number.0 (Counts es t); settled = has.settled })
+      (with_links links) (λ o. refl) (λ o same is. absurd (missing t late o same is)) (λ o same is. absurd (missing t late o same is));
+} where
+  missing : (t : ℕ) → i ≤ t → (o : Object) → o.number.0 ≡ number.0 → IsObject (Counts es t) pfs o → ⊥
+  missing t late o same is =
+      none (inode_bytes is.inode)
+      ((same_later i t es up_to late (inode_subject pfs number.0) (inode_bytes is.inode)).1
+      (subst (λ (n : ℕ). Counts es t (inode_subject pfs n) (inode_bytes is.inode)) same is.there))
+
+-- any number of links is in range
+pub linked_ranges : (links : ℕ) (inode : Inode) → links < 2 ^ 32 → IsInode inode → IsInode (linked links inode)
+linked_ranges links inode small ranges = record {
+  sized = ranges.sized;
+  size = ranges.size;
+  links = small;
+  pfs = ranges.pfs;
+  no_pfs = ranges.no_pfs;
+}
+
+-- the inode that counts gets another number of links
+pub links_given : (pfs i : ℕ) (number : Obj) (links : ℕ) (inode : Inode) (es es' : List FullElement) → IsBelow (i + 1) es
+    → HasInode (Counts es i) pfs number.0 inode → links < 2 ^ 32 → NewInode pfs number.0 i (linked links inode) es es'
+    → ChangesBy pfs number.0 i (λ tree. with_change tree number (with_links links)) es es'
+links_given pfs i number links inode es es' up_to there small new = record {
+  writes = writes_within pfs i (inode_subject pfs number.0) (Some (inode_bytes (linked links inode))) (IsOfObject pfs number.0 i) es es'
+      (inode_within pfs number.0) (makes_inode pfs number.0 i (linked links inode) (linked_ranges links inode small there.ranges)) new;
+  shows = λ t tree late has.
+      links_changed pfs number.0 links inode tree (Counts es t) (Counts es' t) has
+      (record { ranges = there.ranges; there = (same_later i t es up_to late (inode_subject pfs number.0) (inode_bytes inode)).0 there.there })
+      small (new.present t late);
+}

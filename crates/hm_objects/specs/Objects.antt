@@ -1,0 +1,93 @@
+-- What the calls on objects need, and what they do to the tree.
+use Rattle.std.specs.Prelude.{◌≡◌, ◌⊎◌, ℕ, ◌+◌, ◌*◌, ◌≤◌, List, [], Option, None, Some, IfSome}
+use Rattle.hm_types.specs.Elements.{FullElement}
+use Rattle.hm_types.specs.Space.{in_zone}
+use Rattle.hm_types.specs.Tree.{FileTree}
+use Rattle.hm_types.specs.declared.id.Id.{Id}
+use Rattle.hm_types.specs.declared.id.Obj.{Obj}
+use Rattle.hm_types.specs.declared.object.Object.{Object}
+use Rattle.hm_types.specs.declared.object.Content.TheVariants.{File as of_file, Target}
+use Rattle.hm_types.specs.declared.object.Kind.TheVariants.{File, Softlink}
+use Rattle.hm_types.specs.declared.space.TheConstants.{INSERT_ROOM}
+use Rattle.hm_types.specs.declared.zone.TheConstants.{META_ZONE, TREE_ZONE}
+use Rattle.hm_key.specs.Balance.{content_of}
+use Rattle.hm_key.specs.Counts.{Counts, inode_subject, target_subject, subject_of}
+use Rattle.hm_key.specs.Extents.{Extent}
+use Rattle.hm_key.specs.Versions.{IsBelow}
+use Rattle.hm_key.specs.declared.base.Base.{Base}
+use Rattle.hm_key.specs.declared.base.TheConstants.{ELEMENT}
+use Rattle.hm_key.specs.declared.element.Element.{Element}
+use Rattle.hm_records.specs.Changes.{CountsNothing, HasInode}
+use Rattle.hm_records.specs.Laws.{with_inode}
+use Rattle.hm_records.specs.Payload.{IsPayload}
+use Rattle.hm_records.specs.declared.inode.Inode.{Inode}
+use Rattle.hm_cursor.specs.Told.{Lists, fulls}
+use Rattle.hm_cursor.specs.Version.{IsNewestOf}
+use Rattle.hm_cursor.specs.Views.{Shows, WritesIn}
+use Rattle.hm_cursor.specs.Write.{IsFreshFor}
+
+-- an empty file of its own, and a softlink, each with one link
+abbrev pub file_of : Obj → Object
+file_of number = record { number = number; kind = File; content = of_file []; links = 1 }
+
+abbrev pub softlink_of : Obj → List ℕ → Object
+softlink_of number text = record { number = number; kind = Softlink; content = Target text; links = 1 }
+
+-- the inode of a new object, with one link
+abbrev pub inode_of : ℕ → ℕ → Inode
+inode_of kind size = record { kind = kind; size = size; links = 1; pfs = record { 0 = 0 } }
+
+-- the base of an open element of an object of a kind, which an id made
+abbrev pub open_base : Base → ℕ → ℕ → Base
+open_base base kind i = record base { create = i; delete = 0; obj_type = kind; btype = ELEMENT }
+
+-- a new element is about the inode or the target of an object, was made by `i`, and keeps the grammar of payloads
+pub record IsOfObject (pfs obj i : ℕ) (x : FullElement) : Type 0 where
+  pub about : (subject_of x.key ≡ inode_subject pfs obj) ⊎ (subject_of x.key ≡ target_subject pfs obj)
+  pub made : x.key.create ≡ i
+  pub payload : IsPayload x
+
+-- what is about an object is older than `i`, and no id is above `i`
+pub record IsOlder (pfs obj i : ℕ) (es : List FullElement) : Type 0 where
+  pub inode : IsFreshFor (inode_subject pfs obj) i es
+  pub target : IsFreshFor (target_subject pfs obj) i es
+  pub up_to : IsBelow (i + 1) es
+
+-- the same of a store, where it tells its content
+abbrev pub IsOlderIn : Option (List Element) → Option (List Extent) → ℕ → ℕ → ℕ → Type 0
+IsOlderIn es xs pfs obj i = IfSome (content_of es xs) (λ lists. IsOlder pfs obj i (fulls lists))
+
+-- the inode of an object as of an id, and the id that made it: its newest version that is seen, or it has none
+abbrev pub IsInodeMade : Lists → ℕ → ℕ → ℕ → Option (Id × Inode) → Type 0
+IsInodeMade lists t pfs obj None = CountsNothing (Counts (fulls lists) t) (inode_subject pfs obj)
+IsInodeMade lists t pfs obj (Some found) =
+    HasInode (Counts (fulls lists) t) pfs obj found.1
+    × ((e : Element) × IsNewestOf lists.0 (inode_subject pfs obj) t e × (e.base.create ≡ found.0.0))
+
+-- an object has no inode from `i` on
+abbrev pub IsMissing : ℕ → ℕ → ℕ → List FullElement → Type 0
+IsMissing pfs obj i es = (t : ℕ) → i ≤ t → CountsNothing (Counts es t) (inode_subject pfs obj)
+
+-- nothing counts of an object from `i` on: neither an inode nor a target
+pub record IsGone (pfs obj i : ℕ) (es : List FullElement) : Type 0 where
+  pub inode : IsMissing pfs obj i es
+  pub target : (t : ℕ) → i ≤ t → CountsNothing (Counts es t) (target_subject pfs obj)
+
+-- An object is added by `i`: where it had no inode, the tree gets it, and no name leads to it yet.
+pub record AddsObject (pfs i : ℕ) (object : Object) (es es' : List FullElement) : Type 0 where
+  pub writes : WritesIn pfs i (IsOfObject pfs object.number.0 i) es es'
+  pub shows : IsMissing pfs object.number.0 i es → Shows pfs i (λ tree. with_inode tree object) es es'
+
+-- An object is changed by `i`, and the tree with it.
+pub record ChangesBy (pfs obj i : ℕ) (change : FileTree → FileTree) (es es' : List FullElement) : Type 0 where
+  pub writes : WritesIn pfs i (IsOfObject pfs obj i) es es'
+  pub shows : Shows pfs i change es es'
+
+-- room for so many elements, and for so many bytes of their payloads
+pub record HasRooms (room : ℕ → ℕ) (elements bytes : ℕ) : Type 0 where
+  pub tree : elements * INSERT_ROOM ≤ room TREE_ZONE
+  pub meta : bytes ≤ room META_ZONE
+
+-- what they take of each zone at most
+abbrev pub spent : ℕ → ℕ → ℕ → ℕ
+spent elements bytes zone = in_zone TREE_ZONE (elements * INSERT_ROOM) zone + in_zone META_ZONE bytes zone
