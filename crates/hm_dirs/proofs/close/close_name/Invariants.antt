@@ -1,0 +1,23 @@
+use Rattle.std.proofs.Common.{◌≡◌, ◌≤◌, ◌+◌, ◌-◌}
+use Rattle.std.specs.Prelude.{is_some}
+use Rattle.hm_types.specs.Space.{Spends, nothing}
+use Rattle.hm_dirs.proofs.GoneToldLemmas.{GoneTold}
+use Rattle.hm_dirs.proofs.close.close_name.Given as goal
+
+-- each entry of the name so far is closed
+abbrev pub invariant-loop-key : goal.invariant-loop-key
+invariant-loop-key g l = record {
+  from : l.initial.key ≤ l.key;
+  to : l.key ≤ l.last + 1;
+  gone : GoneTold l.fn.pfs.0 l.fn.directory l.fn.name l.fn.id.0 l.initial.key l.key (g.T.HasElements.elements l.fn.store)
+      (g.T.HasRoom.extents l.fn.store) (g.T.HasElements.elements l.store) (g.T.HasRoom.extents l.store);
+  elements : is_some (g.T.HasElements.elements l.store) ≡ is_some (g.T.HasElements.elements l.fn.store);
+  extents : is_some (g.T.HasRoom.extents l.store) ≡ is_some (g.T.HasRoom.extents l.fn.store);
+  space : Spends g.T.HasRoom.room g.T.HasRoom.free nothing l.fn.store l.store;
+  name : g.T.Counted.name l.store ≡ g.T.Counted.name l.fn.store;
+  frame : g.T.Counted.frame l.store ≡ g.T.Counted.frame l.fn.store;
+  faults : g.T.Counted.faults l.fn.store ≤ g.T.Counted.faults l.store;
+}
+
+abbrev pub decreases-loop-key : goal.decreases-loop-key
+decreases-loop-key g l = l.last + 1 - l.key

@@ -1,0 +1,56 @@
+// New names.
+ghost use Rattle.std.specs.Prelude.{◌≡◌, ◌+◌, ◌≤◌, OnOk, length};
+ghost use Rattle.hm_types.specs.Faults.{HasStoreCause};
+ghost use Rattle.hm_types.specs.Space.{Spends};
+ghost use Rattle.hm_key.specs.Balance.{Balanced, content_of};
+ghost use Rattle.hm_key.specs.Stores.{Keeps};
+ghost use Rattle.hm_records.specs.Entry.{IsEntry, entry_bytes};
+ghost use Rattle.hm_cursor.specs.Write.{HasRoomFor, Writes, taken};
+ghost use Rattle.hm_dirs.specs.Names.{AddsName, IsOlderAt};
+
+use hm_cursor::{add_version, entry_base};
+use hm_key::{Base, ELEMENT, ElementStore, Extents, HasElements, HasRoom};
+use hm_records::{DirEntry, encode_entry};
+use hm_types::{Counted, Fault, Id, META_ZONE, Obj, Pfs};
+use std::alloc::Global;
+
+/// Adds an entry to a directory under a key, made by an id of 1 or more. `kind` is that of its
+/// object, 1 to 4. It takes at most 40,960 bytes of zone 8, and in zone 9 those of the entry. The
+/// faults are those of the store, and `NoMemory` where an allocation was refused; after one nothing
+/// is known of the content.
+pub fn add_name<T: ElementStore + Extents>(
+    alloc: Global,
+    store: &mut T,
+    pfs: Pfs,
+    directory: Obj,
+    key: u64,
+    entry: &DirEntry,
+    kind: u8,
+    id: Id,
+) -> Result<(), Fault>
+    requires id { 1 ≤ id.0 }
+    requires ranges { IsEntry entry.now × (1 ≤ kind) × (kind ≤ 4) }
+    requires balanced { Balanced (T.elements store.old) (T.extents store.old) }
+    requires older { IsOlderAt (T.elements store.old) (T.extents store.old)
+        pfs.0 directory key id.0 }
+    requires room { HasRoomFor (T.room store.old) META_ZONE (entry_bytes entry.now) }
+    ensures ok { OnOk result (Writes T.elements T.extents
+        (AddsName pfs.0 directory key id.0 entry.now) store.old store.new) }
+    ensures keeps { Keeps T.elements T.extents store.old store.new result }
+    ensures space { Spends T.room T.free (taken META_ZONE (entry_bytes entry.now))
+        store.old store.new }
+    ensures borrowed { (T.name store.new ≡ T.name store.old)
+        × (T.frame store.new ≡ T.frame store.old) }
+    ensures cause { HasStoreCause (content_of (T.elements store.old) (T.extents store.old))
+        (T.faults store.old) (T.faults store.new) result }
+{
+    let bytes = encode_entry(alloc, entry)?;
+    let base = Base {
+        create: id.0,
+        delete: 0,
+        obj_type: kind,
+        btype: ELEMENT,
+        ..entry_base(pfs, directory, key)
+    };
+    add_version(store, &base, META_ZONE, &bytes)
+}

@@ -1,0 +1,52 @@
+// Names that go.
+ghost use Rattle.std.specs.Prelude.{◌≡◌, OnOk};
+ghost use Rattle.hm_types.specs.Space.{Spends, nothing};
+ghost use Rattle.hm_key.specs.Balance.{Balanced};
+ghost use Rattle.hm_key.specs.Stores.{Keeps};
+ghost use Rattle.hm_cursor.specs.Told.{HasReadingCause};
+ghost use Rattle.hm_cursor.specs.Write.{Writes};
+ghost use Rattle.hm_dirs.specs.Names.{AreOlderIn, TakesName};
+
+use crate::entry::object_named;
+use crate::hash::{NameHash, keys_of};
+use hm_cursor::{close_versions, entry_base, first_version};
+use hm_key::{ElementStore, Extents, HasElements, HasRoom};
+use hm_types::{Counted, Fault, Id, Obj, Pfs};
+
+/// Takes a name away from a directory from an id on: each entry of it that counts is closed, so
+/// that none that stood behind another one comes to light. The object that it leads to stays.
+/// `Damaged` at the payload of an entry of the name's hash, of kind 6, where that spells none. The
+/// other faults are those of the store; after a fault nothing is known of the content.
+pub fn close_name<T: ElementStore + Extents, H: NameHash>(
+    store: &mut T,
+    hash: &H,
+    pfs: Pfs,
+    directory: Obj,
+    name: &[u8],
+    id: Id,
+) -> Result<(), Fault>
+    requires balanced { Balanced (T.elements store.old) (T.extents store.old) }
+    requires older { AreOlderIn (T.elements store.old) (T.extents store.old)
+        pfs.0 directory id.0 }
+    ensures ok { OnOk result (Writes T.elements T.extents
+        (TakesName (H.hash_of hash.now) pfs.0 directory name.now id.0) store.old store.new) }
+    ensures keeps { Keeps T.elements T.extents store.old store.new result }
+    ensures space { Spends T.room T.free nothing store.old store.new }
+    ensures borrowed { (T.name store.new ≡ T.name store.old)
+        × (T.frame store.new ≡ T.frame store.old) }
+    ensures cause { HasReadingCause (T.elements store.old) (T.extents store.old)
+        (T.faults store.old) (T.faults store.new) result }
+{
+    let (mut key, last) = keys_of(hash.hash(name));
+    while key <= last {
+        let at = entry_base(pfs, directory, key);
+        let Some(entry) = first_version(store, &at, last, id)? else {
+            return Ok(());
+        };
+        if object_named(store, &entry, name)?.is_some() {
+            close_versions(store, &entry.base, id)?;
+        }
+        key = entry.base.key + 1;
+    }
+    Ok(())
+}

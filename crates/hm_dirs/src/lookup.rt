@@ -1,0 +1,51 @@
+// Where a name leads.
+ghost use Rattle.std.specs.Prelude.{◌≡◌, IfOk};
+ghost use Rattle.hm_key.specs.Balance.{Balanced};
+ghost use Rattle.hm_key.specs.Stores.{Same};
+ghost use Rattle.hm_cursor.specs.Told.{HasReadingCause};
+ghost use Rattle.hm_dirs.specs.Names.{IsLookedUp, OnNamed};
+
+use crate::entry::object_named;
+use crate::hash::{NameHash, keys_of};
+use hm_cursor::{entry_base, first_version};
+use hm_key::{ElementStore, Extents, HasElements, HasRoom};
+use hm_types::{Counted, Fault, Id, Obj, Pfs};
+
+/// The key of a directory's entry of a name as of an id, and the object that it leads to. None
+/// exactly where the directory has no such entry. Of several entries of one name the first in the
+/// order of keys leads. It reads the entries under the keys of the name's hash alone: two searches
+/// where there is one, and it takes no memory of its own.
+///
+/// `Damaged` at the payload of one of these entries, of kind 6, where that spells none. The other
+/// faults are those of the store.
+pub fn look_up<T: ElementStore + Extents, H: NameHash>(
+    store: &mut T,
+    hash: &H,
+    pfs: Pfs,
+    directory: Obj,
+    name: &[u8],
+    as_of: Id,
+) -> Result<Option<(u64, Obj)>, Fault>
+    requires balanced { Balanced (T.elements store.old) (T.extents store.old) }
+    ensures ok { IfOk result (λ found. OnNamed (H.hash_of hash.now)
+        (T.elements store.old) (T.extents store.old)
+        (IsLookedUp as_of.0 pfs.0 directory name.now found)) }
+    ensures keeps { Same T.elements T.mark T.extents T.room T.free store.old store.new }
+    ensures borrowed { (T.name store.new ≡ T.name store.old)
+        × (T.frame store.new ≡ T.frame store.old) }
+    ensures cause { HasReadingCause (T.elements store.old) (T.extents store.old)
+        (T.faults store.old) (T.faults store.new) result }
+{
+    let (mut key, last) = keys_of(hash.hash(name));
+    while key <= last {
+        let at = entry_base(pfs, directory, key);
+        let Some(entry) = first_version(store, &at, last, as_of)? else {
+            return Ok(None);
+        };
+        if let Some(object) = object_named(store, &entry, name)? {
+            return Ok(Some((entry.base.key, object)));
+        }
+        key = entry.base.key + 1;
+    }
+    Ok(None)
+}
