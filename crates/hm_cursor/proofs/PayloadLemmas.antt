@@ -33,7 +33,7 @@ use Rattle.hm_cursor.specs.Version.{IsNewestOf, IsVersion}
 use Rattle.hm_cursor.proofs.ToldLemmas.{counts_newest}
 
 -- a held payload has as many bytes as its element says
-length-payload : (xs : List Extent) (e : Element) → AreExtents xs → IsHeld xs e → length (payload_of xs e) ≡ e.len
+pub length-payload : (xs : List Extent) (e : Element) → AreExtents xs → IsHeld xs e → length (payload_of xs e) ≡ e.len
 length-payload xs e live held = by_extent (extent_at e.payload xs) refl held where
   by_extent : (o : Option Extent) → extent_at e.payload xs ≡ o → IsSomeAnd o (λ x. x.len ≡ rounded e.len) → length (payload_of xs e) ≡ e.len
   by_extent None is held = absurd held
@@ -48,12 +48,12 @@ length-balanced : (es : List Element) (xs : List Extent) (e : Element) → AreEx
 length-balanced es xs e live balanced has = length-payload xs e live (All-contains (IsHeld xs) es e balanced.held has)
 
 -- what holds of what a function gives for each of a list
-all_map : {X Y : Type 0} (f : X → Y) (P : Y → Type 0) (list : List X) → AllByRecursion (λ x. P (f x)) list → AllByRecursion P (map f list)
+pub all_map : {X Y : Type 0} (f : X → Y) (P : Y → Type 0) (list : List X) → AllByRecursion (λ x. P (f x)) list → AllByRecursion P (map f list)
 all_map f P [] all = tt
 all_map f P (x ∷ list) all = (all.0, all_map f P list all.1)
 
 -- elements with their payloads are in the order of their keys
-full_sorted : (es : List Element) (xs : List Extent) → IsStrictlySortedBy element_cmp es → AreSorted (full_elements es xs)
+pub full_sorted : (es : List Element) (xs : List Extent) → IsStrictlySortedBy element_cmp es → AreSorted (full_elements es xs)
 unfolding IsStrictlySortedBy
 full_sorted [] xs rising = tt
 full_sorted (e ∷ es) xs rising =

@@ -1,16 +1,12 @@
 -- The entries of one name: under which keys they stand, and which were looked at.
-use Rattle.std.proofs.Common.{◌≡◌, ℕ, ◌+◌, ◌/◌, ◌^◌, ◌<◌, ◌≤◌, List, [], ◌∷◌, None, Some, map, ap, sym, subst, ◌∙◌, inl, inr, arith}
-use Rattle.std.specs.List.{AllByRecursion}
-use Rattle.std.specs.List.Sorted.{IsStrictlySortedBy}
-use Rattle.std.specs.declared.cmp.Ordering.TheVariants.{Less}
+use Rattle.std.proofs.Common.{◌≡◌, ℕ, ◌+◌, ◌/◌, ◌^◌, ◌<◌, ◌≤◌, List, None, Some, ap, sym, subst, ◌∙◌, inl, inr, arith}
 use Rattle.std.proofs.lemmas.Bool.{cases_lt}
-use Rattle.hm_types.specs.Elements.{FullElement, Key, key_cmp}
+use Rattle.hm_types.specs.Elements.{FullElement, Key}
 use Rattle.hm_types.specs.declared.id.Obj.{Obj}
-use Rattle.hm_key.specs.Balance.{full_elements, full_of, payload_of}
+use Rattle.hm_key.specs.Balance.{full_elements, payload_of}
 use Rattle.hm_key.specs.Counts.{Counts, Subject, entry_subject, subject_of}
-use Rattle.hm_key.specs.Elements.{IsContent, element_cmp, element_key}
+use Rattle.hm_key.specs.Elements.{IsContent}
 use Rattle.hm_key.specs.Extents.{Extent}
-use Rattle.hm_key.specs.Versions.{AreSorted}
 use Rattle.hm_key.specs.declared.element.Element.{Element}
 use Rattle.hm_records.specs.Changes.{IsSettled, LacksName}
 use Rattle.hm_records.specs.Entry.{entry_bytes}
@@ -20,23 +16,12 @@ use Rattle.hm_records.specs.declared.entry.DirEntry.{DirEntry}
 use Rattle.hm_records.proofs.CountsLemmas.{own_keys-sorted, settled}
 use Rattle.hm_records.proofs.NameLemmas.{name_one}
 use Rattle.hm_cursor.specs.Version.{IsFirst, IsFirstIn}
+use Rattle.hm_cursor.proofs.PayloadLemmas.{full_sorted}
 use Rattle.hm_dirs.specs.Entries.{IsObjectNamed, LacksNameIn}
 use Rattle.hm_dirs.specs.Names.{IsFirstEntry, first_key}
 use Rattle.hm_dirs.proofs.SpanLemmas.{first_counts, none_before, none_in}
 
 -- ---- what counts is settled
-
--- what holds of what a function gives for each of a list
-all_map : {X Y : Type 0} (f : X → Y) (P : Y → Type 0) (list : List X) → AllByRecursion (λ x. P (f x)) list → AllByRecursion P (map f list)
-all_map f P [] all = tt
-all_map f P (x ∷ list) all = (all.0, all_map f P list all.1)
-
--- elements with their payloads are in the order of their keys
-full_sorted : (es : List Element) (xs : List Extent) → IsStrictlySortedBy element_cmp es → AreSorted (full_elements es xs)
-unfolding IsStrictlySortedBy
-full_sorted [] xs rising = tt
-full_sorted (e ∷ es) xs rising =
-    (all_map (full_of xs) (λ (y : FullElement). key_cmp (element_key e) y.key ≡ Less) es rising.0, full_sorted es xs rising.1)
 
 pub settled_content : (es : List Element) (xs : List Extent) (t : ℕ) → IsContent es → IsSettled (Counts (full_elements es xs) t)
 settled_content es xs t content =
