@@ -5,6 +5,8 @@
 mod add;
 mod links;
 mod remove;
+#[cfg(test)]
+mod tests;
 
 pub use add::{add_directory, add_file, add_softlink};
 pub use links::set_links;
