@@ -5,3 +5,8 @@ pub mod NamedLemmas
 pub mod WriteLemmas
 pub mod GoneLemmas
 pub mod GoneToldLemmas
+pub mod WalkLemmas
+pub mod WalkOutcomeLemmas
+pub mod WalkLoopLemmas
+pub mod WalkToldLemmas
+pub mod TestLemmas

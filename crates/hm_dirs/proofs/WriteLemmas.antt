@@ -18,7 +18,7 @@ use Rattle.hm_records.specs.declared.entry.DirEntry.{DirEntry}
 use Rattle.hm_records.proofs.EntryChangeLemmas.{new_shown}
 use Rattle.hm_records.proofs.EntryLemmas.{length-entry}
 use Rattle.hm_cursor.specs.Told.{Lists, fulls}
-use Rattle.hm_cursor.specs.Write.{IsNew, Rewrites, Writes}
+use Rattle.hm_cursor.specs.Write.{IsNew, Rewrites, Writes, most_payload}
 use Rattle.hm_cursor.proofs.ViewsLemmas.{IsWithin, writes_within}
 use Rattle.hm_dirs.specs.Names.{AddsName, IsEntryAt}
 
@@ -44,13 +44,14 @@ writes_as elements_of extents_of C D old new step =
 -- ---- a new name
 
 -- the base of an entry that an id made, of an object of a kind
-abbrev open_base : Base → ℕ → ℕ → Base
+abbrev pub open_base : Base → ℕ → ℕ → Base
 open_base base i kind = record base { create = i; delete = 0; obj_type = kind; btype = ELEMENT }
 
-pub new_entry : (base : Base) (pfs : ℕ) (directory : Obj) (key i kind : ℕ) (bytes : List ℕ) (entry : DirEntry)
-    → subject_of (key_of base) ≡ entry_subject pfs directory.0 key → 1 ≤ i → IsEntry entry → 1 ≤ kind → kind ≤ 4 → bytes ≡ entry_bytes entry
+-- a new entry may have any bytes that are not too many
+pub new_bytes : (base : Base) (pfs : ℕ) (directory : Obj) (key i kind : ℕ) (bytes : List ℕ)
+    → subject_of (key_of base) ≡ entry_subject pfs directory.0 key → 1 ≤ i → 1 ≤ kind → kind ≤ 4 → 1 ≤ length bytes → length bytes ≤ most_payload
     → IsNew (open_base base i kind) META_ZONE bytes
-new_entry base pfs directory key i kind bytes entry here made is some few spelled = record {
+new_bytes base pfs directory key i kind bytes here made some few any most = record {
   element = λ payload. record {
     made = made;
     closed = inl refl;
@@ -70,8 +71,8 @@ new_entry base pfs directory key i kind bytes entry here made is some few spelle
   };
   unclosed = refl;
   payload_zone = search rules;
-  some = omega (arith, size);
-  few = omega (arith, size, is.name.size);
+  some = any;
+  few = most;
 } where
   type : base.rec_type ≡ DIRECTORY_ENTRY
   type = ap (λ (s : Subject). s.rec_type) here
@@ -79,8 +80,13 @@ new_entry base pfs directory key i kind bytes entry here made is some few spelle
   part : part_of base.localization ≡ OTHER_PART
   part = let place = ap (λ (s : Subject). s.localization) here in omega (arith, place)
 
-  size : length bytes ≡ 8 + length entry.name
-  size = ap length spelled ∙ length-entry entry
+pub new_entry : (base : Base) (pfs : ℕ) (directory : Obj) (key i kind : ℕ) (bytes : List ℕ) (entry : DirEntry)
+    → subject_of (key_of base) ≡ entry_subject pfs directory.0 key → 1 ≤ i → IsEntry entry → 1 ≤ kind → kind ≤ 4 → bytes ≡ entry_bytes entry
+    → IsNew (open_base base i kind) META_ZONE bytes
+new_entry base pfs directory key i kind bytes entry here made is some few spelled =
+    new_bytes base pfs directory key i kind bytes here made some few (omega (arith, size)) (omega (arith, size, is.name.size)) where
+      size : length bytes ≡ 8 + length entry.name
+      size = ap length spelled ∙ length-entry entry
 
 -- an entry is of its pseudo file system, and no record
 pub entry_within : (pfs directory key : ℕ) → IsWithin pfs (entry_subject pfs directory key)

@@ -1,0 +1,21 @@
+use Rattle.std.proofs.Common.{◌≡◌, length, ap, arith, rules}
+use Rattle.hm_types.specs.Name.{IsName}
+use Rattle.hm_key.specs.Memory.{extents_of}
+use Rattle.hm_records.specs.declared.entry.DirEntry.{DirEntry}
+use Rattle.hm_records.proofs.EntryLemmas.{length-entry}
+use Rattle.hm_cursor.specs.Told.{fulls}
+use Rattle.hm_dirs.proofs.TestLemmas.{below_next}
+use Rattle.hm_dirs.proofs.tests.add_at.Goals as goal
+
+pub add_name-requires-clause-room : goal.add_name-requires-clause-room
+add_name-requires-clause-room c =
+    let entry : DirEntry = record { obj = c.args.obj; name = c.of.result } in
+    let same : c.of.result ≡ c.args.name.now = cc (c.of.ensures, c.in_ok-from_slice.ensures.items) in
+    let name : IsName c.args.name.now = c.is_name.ensures.0 (search rules) in
+    record { tree = omega arith; payload = omega (arith, length-entry entry, ap length same, name.size) }
+
+pub returns : goal.returns
+returns c =
+    let wrote = c.in_ok-add_name.ensures.ok c.requires.0 in
+    let was = fulls (c.args.store.now.elements.list.items, extents_of c.args.store.now.extents.list.items) in
+    (wrote.0, wrote.1.writes.up_to (below_next c.args.id.0 was c.requires.1))

@@ -1,0 +1,87 @@
+// Walks along the parts of a path, over the elements of a store.
+ghost use Rattle.std.specs.Prelude.{◌≡◌, IfOk};
+ghost use Rattle.hm_key.specs.Balance.{Balanced};
+ghost use Rattle.hm_key.specs.Stores.{Same};
+ghost use Rattle.hm_model.specs.Walk.{step as stepped, walk as walked_along};
+ghost use Rattle.hm_records.specs.KeysFit.{KeysFit};
+ghost use Rattle.hm_cursor.specs.Told.{HasReadingCause};
+ghost use Rattle.hm_dirs.specs.Walk.{AreDrawn, ComesOut, GoesOn, IsDrawn, OnShown, mode_of};
+
+use crate::hash::NameHash;
+use crate::position::{Course, Follow, Lost, Stand};
+use crate::walk_parts::{by_id, by_name};
+use crate::walk_roots::start;
+use hm_key::{ElementStore, Extents, HasElements, HasRoom};
+use hm_path::Part;
+use hm_types::{Counted, Fault};
+use std::alloc::Global;
+
+/// The walk of a path from the root of PFS 0: where it ends, or why it comes to no end. It goes by
+/// the parts in turn, by the id of each first and then by its name. A PFS link that a part names is
+/// followed, but for one that the last part names, which is the caller's choice. Nothing of a path
+/// is copied; the records of pseudo file systems that are read take memory. The ids of the parts
+/// are to be at most the last one that was drawn: of others nothing is said.
+///
+/// `Damaged` at the payload of a record, an inode or an entry of a name's hash, of kind 6, where it
+/// breaks its grammar, and `NoMemory` where an allocation was refused. The other faults are those
+/// of the store.
+pub fn walk<T: ElementStore + Extents, H: NameHash>(
+    alloc: Global,
+    store: &mut T,
+    hash: &H,
+    parts: &[Part],
+    follow: Follow,
+    course: Course,
+) -> Result<Result<Stand, Lost>, Fault>
+    requires balanced { Balanced (T.elements store.old) (T.extents store.old) }
+    ensures ok { IfOk result (λ walked.
+        OnShown (T.elements store.old) (T.extents store.old) course (λ scene.
+        KeysFit (H.hash_of hash.now) scene.elements → AreDrawn scene.course.last parts.now
+        → ComesOut scene (mode_of follow)
+        (walked_along scene.volume scene.view (mode_of follow) parts.now) walked)) }
+    ensures keeps { Same T.elements T.mark T.extents T.room T.free store.old store.new }
+    ensures borrowed { (T.name store.new ≡ T.name store.old)
+        × (T.frame store.new ≡ T.frame store.old) }
+    ensures cause { HasReadingCause (T.elements store.old) (T.extents store.old)
+        (T.faults store.old) (T.faults store.new) result }
+{
+    let mut stand = start(alloc, store, course)?;
+    let mut rest = parts;
+    while let [part, more @ ..] = rest {
+        let here = follow.before(more.is_empty());
+        match step(alloc, store, hash, course, here, part, stand)? {
+            Ok(next) => stand = next,
+            Err(lost) => return Ok(Err(lost)),
+        }
+        rest = more;
+    }
+    Ok(Ok(stand))
+}
+
+// One part: its id first, then its name.
+fn step<T: ElementStore + Extents, H: NameHash>(
+    alloc: Global,
+    store: &mut T,
+    hash: &H,
+    course: Course,
+    follow: Follow,
+    part: &Part,
+    stand: Stand,
+) -> Result<Result<Stand, Lost>, Fault>
+    requires balanced { Balanced (T.elements store.old) (T.extents store.old) }
+    ensures ok { IfOk result (λ walked.
+        OnShown (T.elements store.old) (T.extents store.old) course (λ scene.
+        KeysFit (H.hash_of hash.now) scene.elements → IsDrawn scene.course.last part.now.as_of
+        → GoesOn scene (mode_of follow)
+        (stepped scene.volume scene.view (mode_of follow) part.now) stand walked)) }
+    ensures keeps { Same T.elements T.mark T.extents T.room T.free store.old store.new }
+    ensures borrowed { (T.name store.new ≡ T.name store.old)
+        × (T.frame store.new ≡ T.frame store.old) }
+    ensures cause { HasReadingCause (T.elements store.old) (T.extents store.old)
+        (T.faults store.old) (T.faults store.new) result }
+{
+    match by_id(alloc, store, part.as_of, stand)? {
+        Ok(seen) => by_name(alloc, store, hash, course, follow, part, seen),
+        Err(lost) => Ok(Err(lost)),
+    }
+}
