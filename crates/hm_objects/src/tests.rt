@@ -14,6 +14,14 @@ use std::test::Fail;
 
 const PFS: Pfs = Pfs(0);
 
+// An empty file's inode, but for its last byte.
+const CUT_INODE: [u8; 31] = [
+    0x02, 0, 0, 0, 0, 0, 0, 0, // kind, zeros
+    0, 0, 0, 0, 0, 0, 0, 0, // size
+    0x01, 0, 0, 0, 0, 0, // links, PFS number
+    0, 0, 0, 0, 0, 0, 0, 0, 0,
+];
+
 // What is done with an object.
 #[derive(Clone, Copy, Debug)]
 enum Step {
@@ -21,7 +29,7 @@ enum Step {
     AddFile,
     // To the target `../here`.
     AddSoftlink,
-    // An inode that is a byte too short.
+    // With an inode that is a byte too short.
     AddDamaged,
     SetLinks(u32),
     Remove,
@@ -45,7 +53,7 @@ fn take(alloc: Global, store: &mut MemStore, step: Step, obj: Obj, id: Id) -> Re
         }
         Step::AddDamaged => {
             let base = made_by(inode_base(PFS, obj), FILE, id);
-            add_version(store, &base, META_ZONE, &[0; 31])
+            add_version(store, &base, META_ZONE, &CUT_INODE)
         }
         Step::SetLinks(links) => set_links(alloc, store, PFS, obj, links, id),
         Step::Remove => remove_object(store, PFS, obj, id),
