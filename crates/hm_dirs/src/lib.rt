@@ -14,6 +14,8 @@ mod tests;
 mod walk_laws;
 mod walk_parts;
 mod walk_roots;
+#[cfg(test)]
+mod walk_tests;
 mod walks;
 
 pub use add::add_name;
