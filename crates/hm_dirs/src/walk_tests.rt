@@ -33,8 +33,8 @@ enum Item {
     Entry(u64, &'static str, u64),
 }
 
-// The volume of the tests: what it has, and the id that made it.
-const VOLUME: [(Item, u64); 10] = [
+// The volume of the tests: what it has, and the id that made it. There is no PFS 2.
+const VOLUME: [(Item, u64); 12] = [
     (Item::Master(0), 1),
     (Item::Slave(1, 6), 1),
     (Item::Object(0, 1, DIRECTORY), 1),
@@ -44,6 +44,8 @@ const VOLUME: [(Item, u64); 10] = [
     (Item::Entry(2, "f", 3), 3),
     (Item::Link(4, 1), 4),
     (Item::Entry(1, "s", 4), 4),
+    (Item::Link(5, 2), 4),
+    (Item::Entry(1, "t", 5), 4),
     (Item::Object(1, 1, DIRECTORY), 5),
 ];
 
@@ -191,12 +193,8 @@ fn a_walk_goes_from_name_to_name(rt: HostRuntime) -> Result<(), Fail> {
         ("/d/x/f", Err(Lost::NotFound)),
         ("/d/f/x", Err(Lost::NotDir)),
     ] {
-        assert_eq!(rt; end_of(rt.alloc(), path, Follow::Stays)?, wanted, "{path}");
-        assert_eq!(rt;
-            end_of(rt.alloc(), path, Follow::Follows)?,
-            wanted,
-            "{path}"
-        );
+        let end = end_of(rt.alloc(), path, Follow::Stays)?;
+        assert_eq!(rt; end, wanted, "{path}");
     }
     Ok(())
 }
@@ -210,6 +208,9 @@ fn only_a_link_that_is_named_last_may_stay(rt: HostRuntime) -> Result<(), Fail> 
         ("/s/x", Follow::Stays, Err(Lost::NotFound)),
         ("/s/x", Follow::Follows, Err(Lost::NotFound)),
         ("/s/x", Follow::TakesPfs, Err(Lost::NotFound)),
+        ("/t", Follow::Stays, Ok((0, 5, None))),
+        ("/t", Follow::Follows, Err(Lost::NotFound)),
+        ("/t", Follow::TakesPfs, Err(Lost::NotFound)),
     ] {
         let end = end_of(rt.alloc(), path, follow)?;
         assert_eq!(rt; end, wanted, "{path} {follow:?}");
@@ -239,60 +240,31 @@ fn an_id_leads_to_what_was_there_then(rt: HostRuntime) -> Result<(), Fail> {
 
 #[test]
 fn a_pfs_must_keep_the_id_in_force(rt: HostRuntime) -> Result<(), Fail> {
-    for (path, follow, wanted) in [
-        (
-            "/s/@@0x0000000000000004",
-            Follow::Follows,
-            Err(Lost::NotFound),
-        ),
-        (
-            "/s/@@0x0000000000000005",
-            Follow::Follows,
-            Ok((1, 1, Some(Id(5)))),
-        ),
-        (
-            "/s/@@0x0000000000000006",
-            Follow::Follows,
-            Ok((1, 1, Some(Id(6)))),
-        ),
-        (
-            "/s/@@0x0000000000000007",
-            Follow::Follows,
-            Err(Lost::NotRetained),
-        ),
-        (
-            "/s@@0x0000000000000003",
-            Follow::Follows,
-            Err(Lost::NotFound),
-        ),
-        (
-            "/s@@0x0000000000000004",
-            Follow::Follows,
-            Err(Lost::NotFound),
-        ),
-        (
-            "/s@@0x0000000000000006",
-            Follow::Follows,
-            Ok((1, 1, Some(Id(6)))),
-        ),
-        (
-            "/s@@0x0000000000000007",
-            Follow::Follows,
-            Err(Lost::NotRetained),
-        ),
-        (
-            "/s@@0x0000000000000007",
-            Follow::Stays,
-            Ok((0, 4, Some(Id(7)))),
-        ),
-        (
-            "/s@@0x0000000000000007",
-            Follow::TakesPfs,
-            Ok((1, 1, Some(Id(7)))),
-        ),
+    for (path, wanted) in [
+        ("/s/@@0x0000000000000004", Err(Lost::NotFound)),
+        ("/s/@@0x0000000000000005", Ok((1, 1, Some(Id(5))))),
+        ("/s/@@0x0000000000000006", Ok((1, 1, Some(Id(6))))),
+        ("/s/@@0x0000000000000007", Err(Lost::NotRetained)),
+        ("/s@@0x0000000000000003", Err(Lost::NotFound)),
+        ("/s@@0x0000000000000004", Err(Lost::NotFound)),
+        ("/s@@0x0000000000000006", Ok((1, 1, Some(Id(6))))),
+        ("/s@@0x0000000000000007", Err(Lost::NotRetained)),
     ] {
-        let end = end_of(rt.alloc(), path, follow)?;
-        assert_eq!(rt; end, wanted, "{path} {follow:?}");
+        let end = end_of(rt.alloc(), path, Follow::Follows)?;
+        assert_eq!(rt; end, wanted, "{path}");
+    }
+    Ok(())
+}
+
+#[test]
+fn a_pfs_that_is_not_entered_need_not_keep_the_id(rt: HostRuntime) -> Result<(), Fail> {
+    for (follow, wanted) in [
+        (Follow::Stays, Ok((0, 4, Some(Id(7))))),
+        (Follow::Follows, Err(Lost::NotRetained)),
+        (Follow::TakesPfs, Ok((1, 1, Some(Id(7))))),
+    ] {
+        let end = end_of(rt.alloc(), "/s@@0x0000000000000007", follow)?;
+        assert_eq!(rt; end, wanted, "{follow:?}");
     }
     Ok(())
 }
