@@ -1,14 +1,12 @@
 -- What a walk knows of the volume that elements show.
-use Rattle.std.proofs.Common.{◌≡◌, ℕ, ◌<◌, ◌≤◌, Bool, true, false, List, [], ◌∷◌, ◌++◌, map, Option, Some, None, refl, sym, ap, subst, ◌∙◌, inl, inr, arith}
+use Rattle.std.proofs.Common.{◌≡◌, ℕ, ◌<◌, ◌≤◌, Bool, true, false, List, [], ◌∷◌, ◌++◌, Option, Some, None, refl, sym, ap, subst, ◌∙◌, inl, inr, arith}
 use Rattle.std.specs.Prelude.{◌||◌, IfSome, if◌then◌else◌}
-use Rattle.std.specs.List.{AllByRecursion, Contains, list_any}
-use Rattle.std.specs.List.Sorted.{IsStrictlySortedBy}
+use Rattle.std.specs.List.{Contains, list_any}
 use Rattle.std.specs.Option.{option_map_or}
-use Rattle.std.specs.declared.cmp.Ordering.TheVariants.{Less}
 use Rattle.std.proofs.lemmas.Bool.{cases_eq}
 use Rattle.std.proofs.lemmas.List.Elements.{All-contains}
 use Rattle.std.proofs.lemmas.List.Folds.{list_any-append}
-use Rattle.hm_types.specs.Elements.{FullElement, key_cmp}
+use Rattle.hm_types.specs.Elements.{FullElement}
 use Rattle.hm_types.specs.Intervals.{Keeps}
 use Rattle.hm_types.specs.Tree.{FileTree, named_in, no_tree}
 use Rattle.hm_types.specs.declared.id.Id.{Id}
@@ -22,9 +20,9 @@ use Rattle.hm_types.specs.declared.object.Object.{Object}
 use Rattle.hm_key.specs.Balance.{full_elements, full_of}
 use Rattle.hm_key.specs.Counts.{Content, Counts, IsRecordOf, Subject, entry_subject, inode_subject}
 use Rattle.hm_key.specs.Element.{IsElement}
-use Rattle.hm_key.specs.Elements.{IsContent, element_cmp, element_key}
+use Rattle.hm_key.specs.Elements.{IsContent}
 use Rattle.hm_key.specs.Extents.{Extent}
-use Rattle.hm_key.specs.Versions.{AreSorted, HaveOwnKeys}
+use Rattle.hm_key.specs.Versions.{HaveOwnKeys}
 use Rattle.hm_key.specs.declared.element.Element.{Element}
 use Rattle.hm_model.specs.View.{View, When, Now, AsOf, Position as Place, object_at}
 use Rattle.hm_model.specs.Volume.{PseudoFileSystem, Volume, Role, Master, Slave, system_of}
