@@ -86,7 +86,7 @@ next_stands s i this None content shut = tt
 next_stands s i this (Some es) content shut = has-element_at this es content.rising shut.0
 
 -- versions of one subject that one id made have one key
-same_key : (a b : Key) → subject_of a ≡ subject_of b → a.create ≡ b.create → a ≡ b
+pub same_key : (a b : Key) → subject_of a ≡ subject_of b → a.create ≡ b.create → a ≡ b
 same_key a b subject create = λ j. record {
   localization = (subject j).localization;
   obj = (subject j).obj;

@@ -1,12 +1,12 @@
 -- What writing calls do to a store, over what it may tell.
-use Rattle.std.proofs.Common.{◌≡◌, ◌≢◌, ℕ, ◌≤◌, List, true≢false, Option, Some, None, refl, ap, sym, ◌∙◌, inl, inr, arith, length, ◌<◌}
+use Rattle.std.proofs.Common.{◌≡◌, ◌≢◌, ℕ, ◌≤◌, List, true≢false, Option, Some, None, refl, ap, sym, ◌∙◌, inl, inr, arith, length, ◌<◌, subst}
 use Rattle.std.specs.Prelude.{IfSome, IsNone, IsSomeAnd, OnOk, Result, Ok, Err, is_some, option_map, if◌then◌else◌, ◌==◌, Bool, true, false}
 use Rattle.std.specs.List.{Contains}
 use Rattle.hm_types.specs.Elements.{FullElement, Key}
 use Rattle.hm_types.specs.Told.{BothTell}
 use Rattle.hm_key.specs.Balance.{Balanced, IsBalanced, content_of, full_of}
 use Rattle.hm_key.specs.Counts.{Subject, subject_of}
-use Rattle.hm_key.specs.Elements.{element_at, element_key, inserted, with_delete}
+use Rattle.hm_key.specs.Elements.{element_at, element_key, inserted, with_delete, IsContent, closed_at}
 use Rattle.hm_key.specs.Extents.{AreExtents, Extent, PlacesAt}
 use Rattle.hm_key.specs.Key.{key_of}
 use Rattle.hm_key.specs.Stores.{ElementsChange, ExtentsChange}
@@ -14,11 +14,12 @@ use Rattle.hm_key.specs.Versions.{Adds}
 use Rattle.hm_key.specs.declared.base.Base.{Base}
 use Rattle.hm_key.specs.declared.element.Element.{Element}
 use Rattle.hm_key.proofs.AddLemmas.{balanced_added}
-use Rattle.hm_records.proofs.MemberLemmas.{has_map}
+use Rattle.hm_records.proofs.MemberLemmas.{has_map, map_has}
 use Rattle.hm_cursor.specs.Told.{fulls}
-use Rattle.hm_cursor.specs.Write.{IsFresh, IsFreshFor, KeepPlaces, Rewrites, Writes, full_with}
+use Rattle.hm_cursor.specs.Write.{IsFresh, IsFreshFor, KeepPlaces, Rewrites, Writes, full_with, IsClosedIn}
 use Rattle.hm_cursor.proofs.RewriteLemmas.{Shuts, rewrites_added, shuts_none}
-use Rattle.hm_cursor.proofs.FullLemmas.{adds_placed, balanced_closed, closed_has, element_at-has, shuts_closed}
+use Rattle.hm_cursor.proofs.FullLemmas.{adds_placed, balanced_closed, closed_has, element_at-has, shuts_closed, element_at-changed}
+use Rattle.hm_cursor.proofs.SearchLemmas.{one_at_key}
 
 -- what became of balanced lists that are told: others, balanced too, with this change of the full elements
 abbrev pub Became : (List FullElement → List FullElement → Type 0) → Option (List Element) → Option (List Extent) → Option (List Element) → Option (List Extent) → Type 0
@@ -224,3 +225,55 @@ placed_closed this i (Some es) es' (Some xs) xs' list others there = rw (list, o
       ap (λ (e : Element). e.len) new,
     )
   ]
+
+-- ---- the version that was replaced is closed
+
+module _ (at : Key) (i : ℕ) (e : FullElement) where
+  -- the element at a key was closed, and a new one stands at another key
+  closed_among : (es list : List Element) (xs new_xs : List Extent) → IsOpenAt at es → IsContent (with_delete at i es)
+      → Adds e (fulls (with_delete at i es, xs)) (fulls (list, new_xs)) → e.key ≢ at
+      → (x : Element) → Contains list x → element_key x ≡ at → x.base.delete ≡ i
+  closed_among es list xs new_xs open' content adds other x has same = by_found (element_at at es) refl open' where
+    by_found : (o : Option Element) → element_at at es ≡ o → IsSomeAnd o (λ old. old.base.delete ≡ 0) → x.base.delete ≡ i
+    by_found None is open' = absurd open'
+    by_found (Some old) is open' =
+        let found = element_at-has at (closed_at i old) (with_delete at i es) (element_at-changed at (closed_at i) old es (λ y. refl) is) in
+        elim ((adds (full_of new_xs x)).0 (has_map (full_of new_xs) list x has)) [
+          | inl new ↦ absurd (other (ap (λ (f : FullElement). f.key) (sym new) ∙ same))
+          | inr was ↦
+              let (f, there, alike) = map_has (full_of xs) (with_delete at i es) (full_of new_xs x) was in
+              let key : element_key f ≡ at = ap (λ (g : FullElement). g.key) alike ∙ same in
+              let one : f ≡ closed_at i old = one_at_key (with_delete at i es) f (closed_at i old) content.rising there found.0 (key ∙ sym found.1) in
+              ap (λ (g : FullElement). g.delete) (sym alike) ∙ ap (λ (g : Element). g.base.delete) one
+        ]
+
+  pub closed_there : (es mid new : Option (List Element)) (mid_xs new_xs : Option (List Extent)) → mid ≡ option_map (with_delete at i) es
+      → IfSome es (IsOpenAt at) → IfSome mid IsContent → is_some mid_xs ≡ is_some mid → is_some new ≡ is_some mid → Balanced mid mid_xs
+      → Became (Adds e) mid mid_xs new new_xs → IfSome es (λ _. at.create < e.key.create) → IsClosedIn new at i
+  closed_there None mid new mid_xs new_xs list open' content together kept balanced became older = none_told new (kept ∙ ap is_some list) where
+    none_told : (told : Option (List Element)) → is_some told ≡ false → IsClosedIn told at i
+    none_told None is = tt
+    none_told (Some es) is = absurd (true≢false is)
+  closed_there (Some es) mid new mid_xs new_xs list open' content together kept balanced became older =
+      by_lists mid_xs new new_xs (together ∙ ap is_some list) (subst (λ (o : Option (List Element)). Balanced o mid_xs) list balanced)
+      (subst (λ (o : Option (List Element)). Became (Adds e) o mid_xs new new_xs) list became)
+    where
+      by_lists : (mid_xs : Option (List Extent)) (new : Option (List Element)) (new_xs : Option (List Extent)) → is_some mid_xs ≡ true
+          → Balanced (Some (with_delete at i es)) mid_xs → Became (Adds e) (Some (with_delete at i es)) mid_xs new new_xs → IsClosedIn new at i
+      by_lists mid_xs None new_xs there balanced became = tt
+      by_lists None (Some new) new_xs there balanced became = absurd (true≢false (sym there))
+      by_lists (Some xs) (Some new) None there balanced became = absurd (became balanced)
+      by_lists (Some xs) (Some new) (Some new_xs) there balanced became =
+          closed_among es new xs new_xs open' (subst (λ (o : Option (List Element)). IfSome o IsContent) list content) (became balanced).1
+          (λ is. absurd (omega (arith, older, ap (λ (k : Key). k.create) is)))
+
+pub renewed_closed : {S A E : Type 0} (elements_of : S → Option (List Element)) (extents_of : S → Option (List Extent)) (at : Key) (base : Base) (bytes : List ℕ)
+    (old mid new : S) (result : Result A E) → elements_of mid ≡ option_map (with_delete at base.create) (elements_of old)
+    → IfSome (elements_of old) (IsOpenAt at) → IfSome (elements_of mid) IsContent → is_some (extents_of mid) ≡ is_some (elements_of mid)
+    → OnOk result (is_some (elements_of new) ≡ is_some (elements_of mid)) → Balanced (elements_of mid) (extents_of mid)
+    → OnOk result (Writes elements_of extents_of (Adds (full_with base bytes)) mid new) → IfSome (elements_of old) (λ _. at.create < base.create)
+    → OnOk result (IsClosedIn (elements_of new) at base.create)
+renewed_closed elements_of extents_of at base bytes old mid new (Err error) list open' content together kept balanced added older = tt
+renewed_closed elements_of extents_of at base bytes old mid new (Ok value) list open' content together kept balanced added older =
+    closed_there at base.create (full_with base bytes) (elements_of old) (elements_of mid) (elements_of new) (extents_of mid) (extents_of new)
+    list open' content together kept balanced added older

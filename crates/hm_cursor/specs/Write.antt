@@ -96,3 +96,7 @@ pub record KeepPlaces (was now : Lists) : Type 0 where
 abbrev pub StayPlaced : {S : Type 0} → (S → Option (List Element)) → (S → Option (List Extent)) → S → S → Type 0
 StayPlaced elements_of extents_of old new =
     IfSome (content_of (elements_of old) (extents_of old)) (λ was. IsSomeAnd (content_of (elements_of new) (extents_of new)) (KeepPlaces was))
+
+-- where a store tells its elements, the one at a key is closed at `i`
+abbrev pub IsClosedIn : Option (List Element) → Key → ℕ → Type 0
+IsClosedIn told at i = IfSome told (λ es. (e : Element) → Contains es e → element_key e ≡ at → e.base.delete ≡ i)

@@ -12,6 +12,7 @@ ghost use Rattle.hm_cursor.specs.Write.{
   ClosesAt,
   ClosesIfOpen,
   HasRoomFor,
+  IsClosedIn,
   IsFresh,
   IsNew,
   Rewrites,
@@ -26,8 +27,8 @@ use hm_key::{Base, Element, ElementStore, Extents, HasElements, HasRoom};
 use hm_types::{Counted, Fault, Id};
 
 /// Adds an element and its payload, which is put into a new extent of a zone. The versions of its
-/// subject are older. From its create id on it counts, and nothing else does about that
-/// subject. The faults are those of the store; after one nothing is known of the content.
+/// subject are older. From its create id on it counts, and nothing else does about that subject.
+/// The faults are those of the store; after one nothing is known of the content.
 pub fn add_version<T: ElementStore + Extents>(
     store: &mut T,
     base: &Base,
@@ -53,7 +54,8 @@ pub fn add_version<T: ElementStore + Extents>(
 }
 
 /// Closes the open version at the key of `old` and adds an element about the same subject with its
-/// payload, as `add_version` does. From the new one's create id on it counts.
+/// payload, as `add_version` does. From the new one's create id on it counts, and at that id the old
+/// one is closed.
 pub fn renew_version<T: ElementStore + Extents>(
     store: &mut T,
     old: &Base,
@@ -72,6 +74,8 @@ pub fn renew_version<T: ElementStore + Extents>(
     ensures ok { OnOk result (Writes T.elements T.extents
         (Rewrites (subject_of (key_of base.now)) (Some bytes.now) base.now.create)
         store.old store.new) }
+    ensures closed { OnOk result (IsClosedIn (T.elements store.new) (key_of old.now)
+        base.now.create) }
     ensures keeps { Keeps T.elements T.extents store.old store.new result }
     ensures space { Spends T.room T.free (taken zone bytes.now) store.old store.new }
     ensures borrowed { (T.name store.new ≡ T.name store.old)
@@ -85,8 +89,8 @@ pub fn renew_version<T: ElementStore + Extents>(
 
 /// Closes each open version of what `at` is about at an id above theirs, whatever the create id of
 /// `at`. From that id on nothing counts about it, and each payload stays where it stands. It takes a
-/// search for each version. The faults are
-/// those of the store; after one nothing is known of the content.
+/// search for each version. The faults are those of the store; after one nothing is known of the
+/// content.
 pub fn close_versions<T: ElementStore + Extents>(
     store: &mut T,
     at: &Base,

@@ -4,7 +4,7 @@ use Rattle.std.specs.Prelude.{is_some, IfSome, IsSomeAnd}
 use Rattle.std.proofs.lemmas.Bool.{false≢true}
 use Rattle.hm_types.specs.Elements.{Key}
 use Rattle.hm_types.specs.declared.id.Id.{Id}
-use Rattle.hm_key.specs.Balance.{Balanced, content_of, full_of}
+use Rattle.hm_key.specs.Balance.{Balanced, content_of, full_of, payload_of}
 use Rattle.hm_key.specs.Counts.{inode_subject, subject_of}
 use Rattle.hm_key.specs.Elements.{IsContent, element_at, element_key}
 use Rattle.hm_key.specs.Extents.{Extent}
@@ -13,20 +13,14 @@ use Rattle.hm_records.specs.declared.inode.Inode.{Inode}
 use Rattle.hm_records.proofs.MemberLemmas.{has_map}
 use Rattle.hm_cursor.specs.Told.{Lists, OnBalanced, fulls}
 use Rattle.hm_cursor.proofs.FullLemmas.{has-element_at}
-use Rattle.hm_objects.specs.Objects.{IsInodeMade, IsOlder}
+use Rattle.hm_objects.specs.Objects.{IsInodeMade, IsOlder, IsInodeClosed}
+use Rattle.hm_cursor.specs.Write.{IsClosedIn}
+use Rattle.hm_cursor.proofs.CloseLemmas.{same_key}
+use Rattle.hm_cursor.proofs.ToldLemmas.{counts_newest}
 
 -- an open element stands at a key
 abbrev pub IsOpenAt : Key → List Element → Type 0
 IsOpenAt at es = IsSomeAnd (element_at at es) (λ e. e.base.delete ≡ 0)
-
-same_key : (a b : Key) → subject_of a ≡ subject_of b → a.create ≡ b.create → a ≡ b
-same_key a b subject create = λ i. record {
-  localization = (subject i).localization;
-  obj = (subject i).obj;
-  rec_type = (subject i).rec_type;
-  key = (subject i).key;
-  create = create i;
-}
 
 open_in : (lists : Lists) (pfs obj i : ℕ) (made : Id) (inode : Inode) (at : Key) → IsContent lists.0 → IsOlder pfs obj i (fulls lists)
     → IsInodeMade lists i pfs obj (Some (made, inode)) → subject_of at ≡ inode_subject pfs obj → at.create ≡ made.0 → IsOpenAt at lists.0
@@ -57,3 +51,33 @@ version_open es es' xs pfs obj i found made inode at same together content balan
     by_told (Some es) (Some xs) together content balanced older told =
         open_in (es, xs) pfs obj i made inode at content older
         (subst (λ (o : Option (Id × Inode)). IsInodeMade (es, xs) i pfs obj o) is (told balanced)) about create
+
+-- ---- the version that counted is closed
+
+closed_as : (lists : Lists) (pfs obj i : ℕ) (made : Id) (inode : Inode) (at : Key) (told : Option (List Element))
+    → IsInodeMade lists i pfs obj (Some (made, inode)) → subject_of at ≡ inode_subject pfs obj → at.create ≡ made.0 → IsClosedIn told at i
+    → IsInodeClosed lists pfs obj i told
+closed_as lists pfs obj i made inode at told is about create closed = λ e newest.
+    let (one, counts, by) = is.1 in
+    let not_older = newest.newest one counts.there counts.version in
+    let not_newer = counts.newest e newest.there newest.version in
+    let here : element_key e ≡ at = same_key (element_key e) at (newest.version.about ∙ sym about) (omega (arith, not_older, not_newer, by, create)) in
+    subst (λ (key : Key). IsClosedIn told key i) (sym here) closed
+
+pub version_closed : (es : Option (List Element)) (xs : Option (List Extent)) (pfs obj i : ℕ) (found : Option (Id × Inode)) (made : Id) (inode : Inode)
+    (at : Key) (told : Option (List Element)) → OnBalanced es xs (λ lists. IsInodeMade lists i pfs obj found) → found ≡ Some (made, inode)
+    → subject_of at ≡ inode_subject pfs obj → at.create ≡ made.0 → IsClosedIn told at i → OnBalanced es xs (λ lists. IsInodeClosed lists pfs obj i told)
+version_closed None xs pfs obj i found made inode at told known is about create closed = tt
+version_closed (Some es) None pfs obj i found made inode at told known is about create closed = tt
+version_closed (Some es) (Some xs) pfs obj i found made inode at told known is about create closed = λ balanced.
+    closed_as (es, xs) pfs obj i made inode at told
+    (subst (λ (o : Option (Id × Inode)). IsInodeMade (es, xs) i pfs obj o) is (known balanced)) about create closed
+
+-- where nothing counted there is nothing to close
+pub none_to_close : (es : Option (List Element)) (xs : Option (List Extent)) (pfs obj i : ℕ) (found : Option (Id × Inode)) (told : Option (List Element))
+    → OnBalanced es xs (λ lists. IsInodeMade lists i pfs obj found) → found ≡ None → OnBalanced es xs (λ lists. IsInodeClosed lists pfs obj i told)
+none_to_close None xs pfs obj i found told known is = tt
+none_to_close (Some es) None pfs obj i found told known is = tt
+none_to_close (Some es) (Some xs) pfs obj i found told known is = λ balanced e newest.
+    absurd (subst (λ (o : Option (Id × Inode)). IsInodeMade (es, xs) i pfs obj o) is (known balanced) (payload_of xs e)
+    (counts_newest es xs (inode_subject pfs obj) i e newest))

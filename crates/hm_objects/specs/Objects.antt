@@ -12,6 +12,7 @@ use Rattle.hm_types.specs.declared.space.TheConstants.{INSERT_ROOM}
 use Rattle.hm_types.specs.declared.zone.TheConstants.{META_ZONE, TREE_ZONE}
 use Rattle.hm_key.specs.Balance.{content_of}
 use Rattle.hm_key.specs.Counts.{Counts, inode_subject, target_subject, subject_of}
+use Rattle.hm_key.specs.Elements.{element_key}
 use Rattle.hm_key.specs.Extents.{Extent}
 use Rattle.hm_key.specs.Versions.{IsBelow}
 use Rattle.hm_key.specs.declared.base.Base.{Base}
@@ -24,7 +25,7 @@ use Rattle.hm_records.specs.declared.inode.Inode.{Inode}
 use Rattle.hm_cursor.specs.Told.{Lists, fulls}
 use Rattle.hm_cursor.specs.Version.{IsNewestOf}
 use Rattle.hm_cursor.specs.Views.{Shows, WritesIn}
-use Rattle.hm_cursor.specs.Write.{IsFreshFor}
+use Rattle.hm_cursor.specs.Write.{IsClosedIn, IsFreshFor}
 
 -- an empty file of its own, and a softlink, each with one link
 abbrev pub file_of : Obj → Object
@@ -63,6 +64,10 @@ IsInodeMade lists t pfs obj None = CountsNothing (Counts (fulls lists) t) (inode
 IsInodeMade lists t pfs obj (Some found) =
     HasInode (Counts (fulls lists) t) pfs obj found.1
     × ((e : Element) × IsNewestOf lists.0 (inode_subject pfs obj) t e × (e.base.create ≡ found.0.0))
+
+-- the inode of an object that counted as of `i` is closed at it, where a store tells its elements
+abbrev pub IsInodeClosed : Lists → ℕ → ℕ → ℕ → Option (List Element) → Type 0
+IsInodeClosed was pfs obj i told = (e : Element) → IsNewestOf was.0 (inode_subject pfs obj) i e → IsClosedIn told (element_key e) i
 
 -- an object has no inode from `i` on
 abbrev pub IsMissing : ℕ → ℕ → ℕ → List FullElement → Type 0

@@ -7,7 +7,14 @@ ghost use Rattle.hm_key.specs.Stores.{Keeps, Same};
 ghost use Rattle.hm_records.specs.Inode.{IsInode};
 ghost use Rattle.hm_cursor.specs.Told.{HasReadingCause, OnBalanced};
 ghost use Rattle.hm_cursor.specs.Write.{Writes};
-ghost use Rattle.hm_objects.specs.Objects.{ChangesBy, HasRooms, IsInodeMade, IsOlderIn, spent};
+ghost use Rattle.hm_objects.specs.Objects.{
+  ChangesBy,
+  HasRooms,
+  IsInodeClosed,
+  IsInodeMade,
+  IsOlderIn,
+  spent,
+};
 
 use crate::add::made_by;
 use hm_cursor::{find_payload, inode_base, renew_version};
@@ -20,8 +27,8 @@ use std::alloc::Global;
 const INODE_BYTES: usize = 32;
 
 /// Gives an object so many links from an id of 1 or more on, where it is there: a new version of
-/// its inode takes the place of the one that counts. It takes at most 40,960 bytes of zone 8 and 32
-/// of zone 9. `Damaged` at the payload of its inode, of kind 6, where that spells none; the other
+/// its inode takes the place of the one that counts, which is closed. It takes at most 40,960 bytes
+/// of zone 8 and 32 of zone 9. `Damaged` at the payload of its inode, of kind 6, where that spells none; the other
 /// faults are those of the store, and `NoMemory` where an allocation was refused. After a fault
 /// nothing is known of the content.
 pub fn set_links<T: ElementStore + Extents>(
@@ -38,6 +45,8 @@ pub fn set_links<T: ElementStore + Extents>(
     requires room { HasRooms (T.room store.old) 1 32 }
     ensures ok { OnOk result (Writes T.elements T.extents (ChangesBy pfs.0 obj.0 id.0
         (λ tree. with_change tree obj (with_links links))) store.old store.new) }
+    ensures closed { OnOk result (OnBalanced (T.elements store.old) (T.extents store.old)
+        (λ lists. IsInodeClosed lists pfs.0 obj.0 id.0 (T.elements store.new))) }
     ensures keeps { Keeps T.elements T.extents store.old store.new result }
     ensures space { Spends T.room T.free (spent 1 32) store.old store.new }
     ensures borrowed { (T.name store.new ≡ T.name store.old)

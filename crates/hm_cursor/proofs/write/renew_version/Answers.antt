@@ -3,7 +3,7 @@ use Rattle.hm_key.specs.Counts.{Subject, subject_of}
 use Rattle.hm_key.specs.Key.{key_of}
 use Rattle.hm_cursor.specs.Write.{Writes}
 use Rattle.hm_cursor.proofs.RewriteLemmas.{Shuts}
-use Rattle.hm_cursor.proofs.WriteLemmas.{became_closed, fresh_lacks_closed, renewed_ok, still_balanced, there_older}
+use Rattle.hm_cursor.proofs.WriteLemmas.{became_closed, fresh_lacks_closed, renewed_closed, renewed_ok, still_balanced, there_older}
 use Rattle.hm_cursor.proofs.write.renew_version.Goals as goal
 
 pub insert_with_payload-requires-clause-balanced : goal.insert_with_payload-requires-clause-balanced
@@ -34,3 +34,19 @@ pub close_older-requires-clause-older : goal.close_older-requires-clause-older
 close_older-requires-clause-older g c =
     there_older (key_of c.args.old.now) c.args.base.now.create (subject_of (key_of c.args.base.now)) (g.T.HasElements.elements c.args.store.now)
     (g.T.HasRoom.extents c.args.store.now) (g.met.T.Extents.together c.args.store.now) c.requires.about c.requires.there c.requires.fresh
+
+pub returns-clause-closed : goal.returns-clause-closed
+returns-clause-closed g c =
+    let done = c.in_ok-close_older.ensures.ok in
+    let es = g.T.HasElements.elements in
+    let xs = g.T.HasRoom.extents in
+    let old = c.args.store.now in
+    let mid = c.close_older.new.store in
+    let i = c.args.base.now.create in
+    let at = key_of c.args.old.now in
+    let older = there_older at i (subject_of (key_of c.args.base.now)) (es old) (xs old) (g.met.T.Extents.together old) c.requires.about
+    c.requires.there c.requires.fresh in
+    let balanced = still_balanced at i (es old) (es mid) (xs old) (xs mid) done.elements done.extents c.requires.balanced in
+    renewed_closed es xs at c.args.base.now c.args.bytes.now old mid c.insert_with_payload.new.store c.insert_with_payload.result done.elements
+    c.requires.there (g.met.T.ElementStore.sorted mid) (g.met.T.Extents.together mid) c.insert_with_payload.ensures.keeps.elements balanced
+    c.insert_with_payload.ensures.ok older

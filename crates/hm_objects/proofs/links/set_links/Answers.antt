@@ -11,13 +11,13 @@ use Rattle.hm_records.specs.declared.inode.Inode.{Inode}
 use Rattle.hm_records.specs.Inode.{IsInode, inode_bytes}
 use Rattle.hm_records.specs.Laws.{linked}
 use Rattle.hm_cursor.specs.Told.{Lists, fulls}
-use Rattle.hm_cursor.specs.Write.{HasRoomFor, Rewrites}
+use Rattle.hm_cursor.specs.Write.{HasRoomFor, Rewrites, IsClosedIn}
 use Rattle.hm_cursor.proofs.CallLemmas.{Change, known_both, writes_from, writes_none, writes_so}
 use Rattle.hm_objects.specs.Objects.{ChangesBy, IsInodeMade, IsOlder, spent}
 use Rattle.hm_objects.proofs.NewLemmas.{new_inode}
 use Rattle.hm_objects.proofs.ShownLemmas.{linked_ranges, links_given, links_of_none, made_as}
 use Rattle.hm_objects.proofs.SpaceLemmas.{inode_room, inode_spends, spends_from}
-use Rattle.hm_objects.proofs.VersionLemmas.{version_open}
+use Rattle.hm_objects.proofs.VersionLemmas.{version_open, none_to_close, version_closed}
 use Rattle.hm_objects.proofs.links.set_links.Goals as goal
 
 pub returns-in_default-clause-ok : goal.returns-in_default-clause-ok
@@ -83,3 +83,19 @@ returns-clause-space g c =
     c.in_ok-made.ensures.keeps.room c.in_ok-made.ensures.keeps.free
     (inode_spends g.T.HasRoom.room g.T.HasRoom.free (linked c.args.links c.in-Some.inode) c.deref.result.now c.find_made_inode.new.store
     c.renew_version.new.store (c.deref.ensures.value ∙ c.in_ok-bytes.ensures) c.renew_version.ensures.space)
+
+pub returns-in_default-clause-closed : goal.returns-in_default-clause-closed
+returns-in_default-clause-closed g c =
+    none_to_close (g.T.HasElements.elements c.args.store.now) (g.T.HasRoom.extents c.args.store.now) c.args.pfs.0 c.args.obj.0 c.args.id.0
+    c.in_ok-made.field-0 (g.T.HasElements.elements c.find_made_inode.new.store) c.in_ok-made.ensures.ok c.in_default.is
+
+pub returns-clause-closed : goal.returns-clause-closed
+returns-clause-closed g c =
+    on_ok_weaker c.renew_version.result
+    (λ closed. version_closed (g.T.HasElements.elements c.args.store.now) (g.T.HasRoom.extents c.args.store.now) c.args.pfs.0 c.args.obj.0 c.args.id.0
+    c.in_ok-made.field-0 c.in-Some.made c.in-Some.inode (key_of (record c.made_by-base.result { create = c.in-Some.made.0 }))
+    (g.T.HasElements.elements c.renew_version.new.store) c.in_ok-made.ensures.ok c.in-Some.is
+    (ap (λ (base : Base). subject_of (key_of base)) c.made_by-base.ensures ∙ c.inode_base.ensures) refl
+    (subst (λ (n : ℕ). IsClosedIn (g.T.HasElements.elements c.renew_version.new.store) (key_of (record c.made_by-base.result { create = c.in-Some.made.0 })) n)
+    (ap (λ (base : Base). base.create) c.made_by-base.ensures) closed))
+    c.renew_version.ensures.closed
