@@ -12,7 +12,8 @@ use Rattle.hm_key.specs.Counts.{Subject, record_subject}
 use Rattle.hm_records.specs.View.{IsViewOf}
 use Rattle.hm_records.specs.declared.pfs_record.PfsRecord.{PfsRecord}
 use Rattle.hm_image.specs.Fresh.{IsFresh, fresh_header, fresh_record}
-use Rattle.hm_image.specs.Stands.{AreOfSystems, HasIds, HasMasterIds, HasRecord, HasViews, HaveRecords, IsRecordFor, StandsFor}
+use Rattle.hm_volume.specs.Records.{AreOfSystems, HasRecord, HaveRecords, IsRecordFor}
+use Rattle.hm_image.specs.Stands.{HasIds, HasMasterIds, HasViews, StandsFor}
 use Rattle.hm_image.proofs.FreshLemmas.{fresh_is_sound}
 use Rattle.hm_image.proofs.FreshPayloadLemmas.{fresh_full, fresh_record_is, full_elements, full_inode, full_record}
 use Rattle.hm_image.proofs.FreshViewLemmas.{fresh_view, is_record, made_at_one}

@@ -15,7 +15,8 @@ use Rattle.hm_header.specs.OnDisk.{HasHeader}
 use Rattle.hm_image.specs.Image.{elements_from, pages_of, references_from}
 use Rattle.hm_image.specs.Same.{HasSameFreemap, HasSameTree}
 use Rattle.hm_image.specs.Sound.{HasEntry, HasExtents, HasLayer2, HasPayloads, IsAmongPayloads, IsFilled, IsSoundBy, free_in}
-use Rattle.hm_image.specs.Stands.{AreOfSystems, HasIds, HasViews, HaveRecords, StandsFor}
+use Rattle.hm_volume.specs.Records.{AreOfSystems, HaveRecords}
+use Rattle.hm_image.specs.Stands.{HasIds, HasViews, StandsFor}
 use Rattle.hm_image.proofs.SameLemmas.{elements_same, plain_same, references_same, tree_same}
 
 -- an entry of layer 2

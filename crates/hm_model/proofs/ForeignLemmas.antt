@@ -1,5 +1,5 @@
 -- A slave that shows the trees of one foreign source, over a legal history.
-use Rattle.std.proofs.Common.{◌≡◌, ◌≢◌, ℕ, ◌+◌, ◌<◌, ◌≤◌, true, false, List, [], ◌∷◌, ◌++◌, filter, refl, ◌∙◌, ap, sym, subst, inl, inr, arith, eqb, append_assoc}
+use Rattle.std.proofs.Common.{◌≡◌, ℕ, ◌+◌, ◌<◌, ◌≤◌, true, false, List, [], ◌∷◌, ◌++◌, filter, refl, ◌∙◌, ap, sym, subst, inl, inr, arith, eqb, append_assoc}
 use Rattle.std.proofs.lemmas.List.{append-nil}
 use Rattle.std.proofs.lemmas.Bool.Decides.{nat_tests}
 use Rattle.std.specs.Prelude.{◌⊎◌, Bool, Option, Some, None, if◌then◌else◌}
@@ -9,29 +9,28 @@ use Rattle.hm_types.specs.declared.id.Id.{Id}
 use Rattle.hm_types.specs.declared.text.Text.{Text}
 use Rattle.hm_retain.proofs.SetLemmas.{less_or_not}
 use Rattle.hm_model.specs.declared.command.Command.{Command}
-use Rattle.hm_model.specs.declared.command.Command.TheVariants.{End, MirrorCopy, MirrorRead, MirrorWrite, PfsSlave, PfsUpgrade, Prune, PruneAll, Reblock}
+use Rattle.hm_model.specs.declared.command.Command.TheVariants.{End, MirrorCopy, MirrorRead, MirrorWrite, PfsUpgrade, Prune, PruneAll, Reblock}
 use Rattle.hm_model.specs.declared.reply.Reply.TheVariants.{Passed}
-use Rattle.hm_model.specs.After.{Event, OpenCall, State, accepted_effect, after_event, after_events, after_pass, call_of, effect, end_effect, end_id, end_of_pass, end_of_upgrade, ended, fed_from, given_in, is_origin, last_after, later_streams, next_stream, no_hash, nothing_merged, of_pfs, on_volume, opened_with, opening_state, origin_of, stream_origin, upgraded, with_origin, accepted_effect_of}
+use Rattle.hm_model.specs.After.{Event, OpenCall, State, accepted_effect, after_event, after_pass, call_of, effect, end_effect, end_id, end_of_pass, end_of_upgrade, ended, fed_from, given_in, is_origin, last_after, later_streams, next_stream, no_hash, nothing_merged, of_pfs, on_volume, opened_with, origin_of, stream_origin, upgraded, with_origin, accepted_effect_of}
 use Rattle.hm_model.specs.Call.{Call, first_site, second_site}
 use Rattle.hm_model.specs.Caused.{is_ending, known_after, known_at, possible_for}
-use Rattle.hm_model.specs.Change.{change, new_slave}
-use Rattle.hm_model.specs.Due.{is_pass, is_tree_call, new_pfs}
+use Rattle.hm_model.specs.Change.{change}
+use Rattle.hm_model.specs.Due.{is_pass, is_tree_call}
 use Rattle.hm_model.specs.Foreign.{Feed, ForeignMaster, no_feed}
-use Rattle.hm_model.specs.Laws.{EndsPass, FollowsForeign, IsThere, Makes, ShowsTrees, merges, rewrites}
+use Rattle.hm_model.specs.Laws.{EndsPass, IsThere, ShowsTrees, merges}
 use Rattle.hm_model.specs.Legal.{IsBrought, IsLegal, MayFollow, Setting, state_after}
 use Rattle.hm_model.specs.Reply.{is_refusal}
 use Rattle.hm_types.specs.Tree.{FileTree, no_tree}
 use Rattle.hm_model.specs.Volume.{Origin, Nowhere, Local, Foreign, Mixed, PseudoFileSystem, Slave, Volume, as_of, at, system_of}
 use Rattle.hm_model.proofs.AgeLemmas.{Ages, AgesIn, ages_accepted}
-use Rattle.hm_model.proofs.EffectLemmas.{accepted_cases, effect_cases}
+use Rattle.hm_model.proofs.EffectLemmas.{accepted_cases}
 use Rattle.hm_model.proofs.EventLemmas.{IsLegal-beginning}
 use Rattle.hm_model.proofs.FollowLemmas.{at_found}
 use Rattle.hm_model.proofs.GrowthLemmas.{KeepsNumber, found-changed, found-other, same_or_not}
 use Rattle.hm_model.proofs.KeptPastLemmas.{effect-ending}
 use Rattle.hm_model.proofs.KnownLemmas.{Agrees, All-still, NoPass, OnePass, OnePass-still, accepted_alone, none_busy, none_still, opening_of}
-use Rattle.hm_model.proofs.MadeLemmas.{absent, effect_slave, made_slave, one_more, stands_before, state_pushed}
-use Rattle.hm_model.proofs.NewPfsLemmas.{none-new}
-use Rattle.hm_model.proofs.OpenLemmas.{NamesThere, StandsAfter, StandsAfter-legal}
+use Rattle.hm_model.proofs.MadeLemmas.{state_pushed}
+use Rattle.hm_model.proofs.OpenLemmas.{StandsAfter, StandsAfter-legal}
 use Rattle.hm_model.proofs.PassEndLemmas.{at-streamed, begin_legal, brought_legal, slave-pass}
 use Rattle.hm_model.proofs.PassLemmas.{passed-before}
 use Rattle.hm_model.proofs.RefusalLemmas.{not_ending}
@@ -263,7 +262,7 @@ module _ (source : ℕ) (kept : ℕ → Bool) (trees : ℕ → FileTree) where
   later_shown [] all = tt
   later_shown (feed ∷ feeds) all = all.1
 
-  streams_accepted : (state : State) (call : Call) → AllByRecursion (ShowsTrees source kept trees) state.streams →
+  pub streams_accepted : (state : State) (call : Call) → AllByRecursion (ShowsTrees source kept trees) state.streams →
       AllByRecursion (ShowsTrees source kept trees) (accepted_effect state call).streams
   streams_accepted state call shown =
       accepted_cases (λ (s : State). AllByRecursion (ShowsTrees source kept trees) s.streams) state call call.command shown shown (λ pfs. shown)
@@ -562,7 +561,7 @@ module _ (source : ℕ) (kept : ℕ → Bool) (trees : ℕ → FileTree) where
           else accepted_effect (state_after run before) (call_of no_hash (state_after run before) event)) event.entry.call ending in
           subst (λ (s : State). IsFed (last_after event.entry) s.volume s.opened s.streams slave) (sym goes) (call (is_refusal event.entry.reply) refl)
 
-  fed_history : (run : Setting) (before es : List Event) (slave : ℕ) → IsThere run.opening 0 → IsLegal run (before ++ es) →
+  pub fed_history : (run : Setting) (before es : List Event) (slave : ℕ) → IsThere run.opening 0 → IsLegal run (before ++ es) →
       IsFedIn (state_after run before) slave → IsFedIn (state_after run (before ++ es)) slave
   fed_history run before [] slave root legal is = rw append-nil is
   fed_history run before (e ∷ es) slave root legal is =
@@ -571,85 +570,3 @@ module _ (source : ℕ) (kept : ℕ → Bool) (trees : ℕ → FileTree) where
       let together : (before ++ e ∷ []) ++ es ≡ before ++ e ∷ es = append_assoc before (e ∷ []) es in
       rw (← together) (fed_history run (before ++ e ∷ []) es slave root (rw together legal)
       (subst (λ (s : State). IsFedIn s slave) (sym (state_pushed run before e)) next))
-
-  -- what it says at the end
-  fed_follows : (state : State) (slave : ℕ) → IsFedIn state slave → FollowsForeign state.volume slave source kept trees
-  fed_follows state slave is = record {
-    own = is.own;
-    found = is.found;
-    drawn = is.drawn;
-    unfed = λ role none. subst (Follows is.own) none (is.follows role);
-    same = λ role foreign id has some by. at_found state.volume slave id is.own is.found ∙ subst (Follows is.own) foreign (is.follows role) refl id has some by;
-  }
-
-  follows_origin : (volume : Volume) (slave : ℕ) (f : FollowsForeign volume slave source kept trees) → f.own.role ≡ Slave → (origin : Origin) →
-      f.own.origin ≡ origin → Follows f.own origin
-  follows_origin volume slave f role Nowhere is = f.unfed role is
-  follows_origin volume slave f role (Local n) is = tt
-  follows_origin volume slave f role (Foreign k) is =
-      λ same id has some by. sym (at_found volume slave id f.own f.found) ∙ f.same role (is ∙ ap Foreign same) id has some by
-  follows_origin volume slave f role Mixed is = tt
-
-  pub FollowsForeign-legal : (run : Setting) (events : List Event) (slave : ℕ) → IsThere run.opening 0 → IsLegal run events →
-      AllByRecursion (ShowsTrees source kept trees) run.foreigners.streams → FollowsForeign run.opening slave source kept trees →
-      FollowsForeign (state_after run events).volume slave source kept trees
-  FollowsForeign-legal run events slave root legal shown f =
-      fed_follows (state_after run events) slave (fed_history run [] events slave root legal
-      (record {
-        own = f.own;
-        found = f.found;
-        drawn = f.drawn;
-        follows = λ role. follows_origin run.opening slave f role f.own.origin refl;
-        fed = tt;
-        one =
-            tt;
-        shown = shown;
-      }))
-
-  -- the feeds that are to come are among those of the start
-  shown_effect : (state : State) (event : Event) → AllByRecursion (ShowsTrees source kept trees) state.streams →
-      AllByRecursion (ShowsTrees source kept trees) (effect state event).streams
-  shown_effect state event shown =
-      effect_cases (λ (s : State). AllByRecursion (ShowsTrees source kept trees) s.streams) state event event.entry.call shown (λ opening. shown)
-      (streams_accepted state (call_of no_hash state event) shown)
-
-  shown_after : (state : State) (es : List Event) → AllByRecursion (ShowsTrees source kept trees) state.streams →
-      AllByRecursion (ShowsTrees source kept trees) (after_events state es).streams
-  shown_after state [] shown = shown
-  shown_after state (e ∷ es) shown = shown_after (after_event state e) es (shown_effect state e shown)
-
-  -- calls that name PFS that are there feed no new one
-  none_feed : (volume : Volume) (slave : ℕ) (s : PseudoFileSystem) (os : List OpenCall) → system_of volume slave ≡ None →
-      AllByRecursion (NamesThere volume) os → AllByRecursion (FedBy slave s) os
-  none_feed volume slave s [] none named = tt
-  none_feed volume slave s (o ∷ os) none named = (λ here. by o.command refl here, none_feed volume slave s os none named.1)
-    where
-      by : (command : Command) → o.command ≡ command → o.pfs ≡ slave → FedAs s o.origin o.stream command
-      by (MirrorCopy from into limit) is here = absurd (absent volume slave o none named.0 here (ap rewrites is))
-      by (MirrorWrite into) is here = absurd (absent volume slave o none named.0 here (ap rewrites is))
-      by command is here = tt
-
-  -- a made slave
-  pub FollowsForeign-made : (run : Setting) (before : List Event) (event : Event) (rest : List Event) (path : Text) (shared : ℕ) →
-      IsThere run.opening 0 → IsLegal run (before ++ event ∷ rest) → Makes event (PfsSlave path shared) →
-      AllByRecursion (ShowsTrees source kept trees) run.foreigners.streams →
-      FollowsForeign (state_after run (before ++ event ∷ rest)).volume (new_pfs (state_after run before).volume) source kept trees
-  FollowsForeign-made run before event rest path shared root legal makes shown =
-      let state : State = state_after run before in
-      let pfs : ℕ = new_pfs state.volume in
-      let stands : StandsAfter run before = stands_before run before event rest root legal in
-      let does : effect state event ≡ on_volume state (change (call_of no_hash state event)) = effect_slave state event path shared makes in
-      let opened : (after_event state event).opened ≡ state.opened = ap (λ (s : State). s.opened) does in
-      let now : IsFedIn (after_event state event) pfs = record {
-        own = new_slave pfs shared;
-        found = made_slave state event path shared makes;
-        drawn = omega arith;
-        follows = λ role. refl;
-        fed = rw opened (none_feed state.volume pfs (new_slave pfs shared) state.opened (none-new state.volume) stands.orderly.named);
-        one = rw opened stands.orderly.one;
-        shown = shown_effect state event (shown_after (opening_state run.opening run.foreigners) before shown);
-      } in
-      let later : IsFedIn (state_after run ((before ++ event ∷ []) ++ rest)) pfs =
-      fed_history run (before ++ event ∷ []) rest pfs root (one_more run before event rest legal)
-      (subst (λ (s : State). IsFedIn s pfs) (sym (state_pushed run before event)) now) in
-      fed_follows (state_after run (before ++ event ∷ rest)) pfs (rw append_assoc at later)

@@ -50,3 +50,4 @@ pub mod MadeLemmas
 pub mod SmallLemmas
 pub mod OpenEndLemmas
 pub mod ForeignLemmas
+pub mod ForeignEndLemmas
