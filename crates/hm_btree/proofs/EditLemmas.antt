@@ -52,9 +52,9 @@ child_level inner i s child at fits =
       by_place : (s : Subtree) {b : Base} {c : Child} → s ≡ child_place inner.level b c → Fits s child → level_of child + 1 ≡ inner.level
       by_place s {b = b} {c = c} same fits = (subst (λ (t : Subtree). Fits t child) same fits).level
 
-pub child_lower : (node child : Node) (inner : Inner) (i : ℕ) (s : Subtree) → node ≡ inner_node inner
+pub child_level_lower : (node child : Node) (inner : Inner) (i : ℕ) (s : Subtree) → node ≡ inner_node inner
     → slice_get (children_of inner) i ≡ Some s → Fits s child → level_of child < level_of node
-child_lower node child inner i s is at fits =
+child_level_lower node child inner i s is at fits =
     let level : level_of child + 1 ≡ inner.level = child_level inner i s child at fits in
     let same : level_of node ≡ inner.level = ap level_of is in
     omega arith

@@ -5,9 +5,10 @@ use Rattle.std.specs.Prelude.{if◌then◌else◌, slice_index_or}
 use Rattle.hm_key.specs.Key.{key_of, IsBoundary}
 use Rattle.hm_key.specs.Elements.{element_key, inserted, last_id}
 use Rattle.hm_key.specs.Places.{leading}
-use Rattle.hm_types.specs.Space.{Spends, in_zone}
+use Rattle.hm_types.specs.Space.{in_zone}
 use Rattle.hm_key.specs.declared.base.Base.{Base}
 use Rattle.hm_key.specs.declared.element.Element.{Element}
+use Rattle.hm_types.specs.declared.counted.Counted.{Ghosts as Counts}
 use Rattle.hm_key.specs.declared.room.HasRoom.{Ghosts as Rooms}
 use Rattle.hm_types.specs.declared.zone.TheConstants.{TREE_ZONE}
 use Rattle.hm_types.specs.declared.space.TheConstants.{INSERT_ROOM}
@@ -21,7 +22,7 @@ use Rattle.hm_node.specs.declared.node.Node.TheVariants.{Leaf as leaf_node, Inne
 use Rattle.hm_btree.specs.Edits.{LeafGrown, ChildChange}
 use Rattle.hm_btree.specs.Grow.{FirstAt, LeafBecomes}
 use Rattle.hm_btree.specs.declared.space.TheConstants.{NODE_BYTES}
-use Rattle.hm_btree.proofs.SpendLemmas.{SameRoom}
+use Rattle.hm_btree.proofs.SpendLemmas.{SameRoom, Within}
 
 -- the first of some elements
 pub first_at : (l : List Element) (x : Element) (b : Base) → 0 < length l → x ≡ get_or l 0 x → IsBoundary b (key_of x.base) → FirstAt l b
@@ -77,25 +78,33 @@ zones_add zone n k m le = by_test (nat_eq zone TREE_ZONE) where
   by_test true = le
   by_test false = omega arith
 
-module _ {S : Type 0} (g : Rooms S) where
+module _ {S : Type 0} (c : Counts S) (g : Rooms S) where
   -- a call after another
-  pub spends_add : (a b c : S) (n k m : ℕ) → n + k ≤ m → Spends g.room g.free (in_zone TREE_ZONE n) a b → Spends g.room g.free (in_zone TREE_ZONE k) b c
-      → Spends g.room g.free (in_zone TREE_ZONE m) a c
-  spends_add a b c n k m le first second = record {
-    room = λ zone. omega (arith, first.room zone, second.room zone, zones_add zone n k m le);
-    free = omega (arith, first.free, second.free);
+  pub spends_add : (x y z : S) (n k m : ℕ) → n + k ≤ m → Within c g (in_zone TREE_ZONE n) x y → Within c g (in_zone TREE_ZONE k) y z
+      → Within c g (in_zone TREE_ZONE m) x z
+  spends_add x y z n k m le first second = record {
+    name = second.name ∙ first.name;
+    frame = second.frame ∙ first.frame;
+    space = record {
+      room = λ zone. omega (arith, first.space.room zone, second.space.room zone, zones_add zone n k m le);
+      free = omega (arith, first.space.free, second.space.free);
+    };
   }
 
   -- a call that spends nothing
-  pub spends_none : (a b : S) (n : ℕ) → SameRoom g a b → Spends g.room g.free (in_zone TREE_ZONE n) a b
-  spends_none a b n same = record {
-    room = λ zone. omega (arith, ap (λ (f : ℕ → ℕ). f zone) same.0);
-    free = omega (arith, same.1);
+  pub spends_none : (x y : S) (n : ℕ) → SameRoom g x y → c.name y ≡ c.name x → c.frame y ≡ c.frame x → Within c g (in_zone TREE_ZONE n) x y
+  spends_none x y n same name frame = record {
+    name = name;
+    frame = frame;
+    space = record {
+      room = λ zone. omega (arith, ap (λ (f : ℕ → ℕ). f zone) same.0);
+      free = omega (arith, same.1);
+    };
   }
 
   -- the room that is left
-  pub room_left : (a b : S) (n k m : ℕ) → Spends g.room g.free (in_zone TREE_ZONE n) a b → n + k ≤ m → m ≤ g.room a TREE_ZONE → k ≤ g.room b TREE_ZONE
-  room_left a b n k m spent le room = let zone : g.room a TREE_ZONE ≤ g.room b TREE_ZONE + n = spent.room TREE_ZONE in omega arith
+  pub room_left : (x y : S) (n k m : ℕ) → Within c g (in_zone TREE_ZONE n) x y → n + k ≤ m → m ≤ g.room x TREE_ZONE → k ≤ g.room y TREE_ZONE
+  room_left x y n k m spent le room = let zone : g.room x TREE_ZONE ≤ g.room y TREE_ZONE + n = spent.space.room TREE_ZONE in omega arith
 
 -- what all levels below a root take
 pub level_room : (node : Node) → IsNode node → NODE_BYTES * (level_of node - 1) + NODE_BYTES * 2 ≤ INSERT_ROOM

@@ -22,7 +22,7 @@ use Rattle.hm_search.proofs.DescentLemmas.{fault_here, sound_undamaged}
 use Rattle.hm_search.proofs.FrameLemmas.{IsSameBelow, frame_elements, frame_mark, frame_reaches, frame_tree}
 use Rattle.hm_search.proofs.ReachLemmas.{not_below_itself}
 use Rattle.hm_btree.specs.Marking.{Marking, MarksBy}
-use Rattle.hm_btree.specs.Below.{Replaces, Changed, HasEditCause}
+use Rattle.hm_btree.specs.Below.{Replaces, Changed, HasEditCause, Works}
 use Rattle.hm_btree.specs.Space.{HasWritten, IsSpot}
 use Rattle.hm_btree.specs.Tree.{IsTreeSpace, TreeChanged, ChangesTree, HasTreeCause}
 use Rattle.hm_btree.proofs.EditLemmas.{undamaged_below}
@@ -31,7 +31,6 @@ use Rattle.hm_btree.proofs.MarkLemmas.{same_marks, marks_whole}
 use Rattle.hm_btree.proofs.NodeLemmas.{not_reached}
 use Rattle.hm_btree.proofs.PutLemmas.{put_at, put_other, replaces_put, other_test}
 use Rattle.hm_btree.proofs.ToldLemmas.{IfSome_all, IfSome_both, IfSome_kept, told_after}
-use Rattle.hm_btree.proofs.WorksLemmas.{Works}
 
 -- pages that are all that a call leaves
 pub whole_after : (olds news : ℕ → Bool) (old new : PageMap) → Replaces olds news old new

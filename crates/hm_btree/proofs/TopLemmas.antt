@@ -1,17 +1,19 @@
 -- A root above two nodes.
 use Rattle.std.proofs.Common.{◌≡◌, Bool, false, true≢false, ◌||◌, ℕ, suc, ◌+◌, ◌≤◌, List, [], ◌∷◌, refl, sym, ap, subst, ◌∙◌, arith}
 use Rattle.std.proofs.Common.{max, nat_eq, Some, Result, Ok, Err, append-nil}
-use Rattle.std.specs.Prelude.{Option, is_some, IfSome, IfOk, OnOk}
+use Rattle.std.specs.Prelude.{Option, is_some, IfSome, IfOk, IsNone, OnOk}
 use Rattle.std.proofs.lemmas.List.Elements.{All-from_recursion}
 use Rattle.hm_types.specs.Elements.{Key}
 use Rattle.hm_types.specs.declared.fault.Fault.{Fault}
 use Rattle.hm_fields.specs.declared.pages.Pages.{Ghosts as Tells}
 use Rattle.hm_key.specs.declared.room.HasRoom.{Ghosts as Rooms}
+use Rattle.hm_btree.specs.Calls.Insert.{InsertsFrom}
 use Rattle.hm_btree.specs.Calls.Space.{HasKept}
 use Rattle.hm_btree.proofs.KeptLemmas.{kept_change}
 use Rattle.hm_fields.specs.Pages.{PageMap, page_in}
 use Rattle.hm_types.specs.Told.{BothTell}
-use Rattle.hm_key.specs.Elements.{element_at}
+use Rattle.hm_key.specs.Elements.{element_at, inserted, last_id}
+use Rattle.hm_key.specs.Key.{key_of}
 use Rattle.hm_key.specs.declared.element.Element.{Element}
 use Rattle.hm_node.specs.Node.{node_in, level_of}
 use Rattle.hm_node.specs.Inner.{IsChild, IsBound}
@@ -23,7 +25,7 @@ use Rattle.hm_search.specs.Tree.{node_at, elements_in, mark_in, reaches, height_
 use Rattle.hm_search.specs.declared.subtree.Subtree.{Subtree}
 use Rattle.hm_search.proofs.FrameLemmas.{IsSameUnder}
 use Rattle.hm_search.proofs.ReachLemmas.{not_below_itself}
-use Rattle.hm_btree.specs.Marking.{Marking, MarksBy}
+use Rattle.hm_btree.specs.Marking.{Marking, MarksBy, Writes}
 use Rattle.hm_btree.specs.Space.{HasWritten, IsSpot}
 use Rattle.hm_btree.specs.Below.{mark_under, has_under, ChangedUnder}
 use Rattle.hm_btree.specs.Grow.{AddsTop, Split, Grows, HasTop, top_of}
@@ -133,20 +135,27 @@ root_grows f key marking root Needs p0 p1 p2 p3 p4 node lower upper top inside s
     pages.1 pages.2 spot shallow))
 
 -- and where a root was added, or none
-pub top_result : (f : List Element → List Element) (key : Key) (marking : Marking) (root : ℕ) (Needs : Option Element → Type 0)
-    (p0 p1 p2 p3 p4 : Option PageMap) (node lower : Node) (upper : Upper)
+pub top_result : {S : Type 0} (p : Tells S) (g : Rooms S) (f : List Element → List Element) (key : Key) (marking : Marking) (root : ℕ)
+    (Needs : Option Element → Type 0) (p0 p1 p2 : Option PageMap) (mid new : S) (node lower : Node) (upper : Upper)
     → ((old : PageMap) → IsTreeSpace old root → Needs (element_at key (elements_of old root)) → IsInside (root_place root).left (root_place root).right key)
     → p1 ≡ p0 → IfSome p0 (λ map. StandsHere map (root_place root) node) → Grows f key marking Needs p1 p2 node lower (Some upper)
-    → BothTell p2 p3 (HasWritten root lower)
-    → (place : Subtree) (r : Result ℕ Fault) → place ≡ root_place root → IfOk r (AddsTop place lower upper p3 p4)
-    → IfOk r (λ at. ChangesTree f key marking (λ es. Needs (element_at key es)) p0 p4 root at)
-top_result f key marking root Needs p0 p1 p2 p3 p4 node lower upper inside same here grows written place (Ok at) is added =
-    root_grows f key marking root Needs p0 p1 p2 p3 p4 node lower upper at inside same here grows written
-    (subst (λ (s : Subtree). BothTell p3 p4 (HasTop s lower upper at)) is added.told) added.spot added.shallow
-top_result f key marking root Needs p0 p1 p2 p3 p4 node lower upper inside same here grows written place (Err fault) is added = tt
+    → BothTell p2 (p.pages mid) (HasWritten root lower)
+    → (place : Subtree) (r : Result ℕ Fault) → place ≡ root_place root → IfOk r (AddsTop p.pages g.extents place lower upper mid new)
+    → IfOk r (λ at. ChangesTree f key marking (λ es. Needs (element_at key es)) p0 (p.pages new) root at)
+top_result p g f key marking root Needs p0 p1 p2 mid new node lower upper inside same here grows written place (Ok at) is added =
+    root_grows f key marking root Needs p0 p1 p2 (p.pages mid) (p.pages new) node lower upper at inside same here grows written
+    (subst (λ (s : Subtree). BothTell (p.pages mid) (p.pages new) (HasTop s lower upper at)) is added.told) added.spot added.shallow
+top_result p g f key marking root Needs p0 p1 p2 mid new node lower upper inside same here grows written place (Err fault) is added = tt
 
 -- what is kept of what the space tells
 pub top_kept : {S : Type 0} (p : Tells S) (g : Rooms S) (old new : S) (place : Subtree) (lower : Node) (upper : Upper) (r : Result ℕ Fault)
-    → IfOk r (AddsTop place lower upper (p.pages old) (p.pages new)) → OnOk r (g.extents new ≡ g.extents old) → OnOk r (HasKept p.pages g.extents old new)
-top_kept p g old new place lower upper (Ok at) added extents = kept_change p g old new (HasTop place lower upper at) extents added.told
-top_kept p g old new place lower upper (Err fault) added extents = tt
+    → IfOk r (AddsTop p.pages g.extents place lower upper old new) → OnOk r (HasKept p.pages g.extents old new)
+top_kept p g old new place lower upper (Ok at) added = kept_change p g old new (HasTop place lower upper at) added.extents added.told
+top_kept p g old new place lower upper (Err fault) added = tt
+
+-- and both
+pub inserts_from : {S : Type 0} (p : Tells S) (g : Rooms S) (e : Element) (old new : S) (root : ℕ) (r : Result ℕ Fault)
+    → IfOk r (ChangesTree (inserted e) (key_of e.base) (Writes (last_id e)) (λ es. IsNone (element_at (key_of e.base) es)) (p.pages old) (p.pages new) root)
+    → OnOk r (HasKept p.pages g.extents old new) → IfOk r (InsertsFrom p.pages g.extents e old new root)
+inserts_from p g e old new root (Ok at) tree kept = record { tree = tree; kept = kept }
+inserts_from p g e old new root (Err fault) tree kept = tt

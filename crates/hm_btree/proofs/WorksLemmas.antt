@@ -22,7 +22,7 @@ use Rattle.hm_search.proofs.ChildLemmas.{IsChildAt, place_is}
 use Rattle.hm_btree.specs.Marking.{Marking}
 use Rattle.hm_btree.specs.Edits.{inner_of, with_mirror, ChildChange, ElementChange}
 use Rattle.hm_btree.specs.Space.{HasWritten}
-use Rattle.hm_btree.specs.Below.{IsLocal, Changed}
+use Rattle.hm_btree.specs.Below.{IsLocal, Changed, Works}
 use Rattle.hm_btree.specs.Change.{change_of, id_of, marking_of, MayChange, with_change}
 use Rattle.hm_btree.specs.declared.change.Change.{Change}
 use Rattle.hm_btree.proofs.EditLemmas.{read_there, split_at, set_at_place, child_inside, child_tree, child_element, changed_parent}
@@ -35,14 +35,6 @@ use Rattle.hm_btree.proofs.ToldLemmas.{IfSome_all, IfSome_both, told_after}
 pub inner_is : (x : Inner) (level mirror : ℕ) (cs : List Child) (right : Base) → x.level ≡ level → x.mirror ≡ mirror
     → x.places.items ≡ cs → x.right ≡ right → x ≡ inner_of level mirror cs right
 inner_is x level mirror cs right a b c d i = record { level = a i; mirror = b i; places = record { items = c i }; right = d i }
-
--- what a call that works at one key makes of a node, where the pages are told: it needs a fact of what stands at
--- the key
-abbrev pub Works : (List Element → List Element) → Key → Marking → (Option Element → Type 0) → Option PageMap → Option PageMap → Node → Node → Type 0
-Works f key marking Needs old new before after =
-    IfSome old (λ was. (place : Subtree) (height : ℕ) → IsTree was height place before → IsInside place.left place.right key
-    → Needs (element_at key (elements_in was height before))
-    → IfSome new (λ is. Changed f key marking place height was is before after))
 
 module _ (f : List Element → List Element) (key : Key) (marking : Marking) (Needs : Option Element → Type 0)
     (local : IsLocal f key) (inner inner' : Inner) (i : ℕ) (s : Subtree) (child after : Node) (m : ℕ) where

@@ -7,7 +7,7 @@ use Rattle.hm_types.specs.Faults.{HasFaultCause, IsUndamaged}
 use Rattle.hm_types.specs.declared.fault.Fault.{Fault}
 use Rattle.hm_fields.specs.Pages.{PageMap}
 use Rattle.hm_key.specs.Key.{IsBefore}
-use Rattle.hm_key.specs.Elements.{element_key}
+use Rattle.hm_key.specs.Elements.{element_at, element_key}
 use Rattle.hm_key.specs.declared.base.Base.{Base}
 use Rattle.hm_key.specs.declared.element.Element.{Element}
 use Rattle.hm_node.specs.Base.{base_cmp}
@@ -15,7 +15,7 @@ use Rattle.hm_node.specs.Inner.{IsChild}
 use Rattle.hm_node.specs.declared.inner.Child.{Child}
 use Rattle.hm_node.specs.declared.node.Node.{Node}
 use Rattle.hm_search.specs.Descent.{IsFaultBelow, StandsHere}
-use Rattle.hm_search.specs.Place.{mirror_of}
+use Rattle.hm_search.specs.Place.{IsInside, mirror_of}
 use Rattle.hm_search.specs.Tree.{node_at, elements_in, mark_in, reaches, at_holder, next_left, places_of, IsTree, IsStoredTree}
 use Rattle.hm_search.specs.declared.subtree.Parent.{Parent}
 use Rattle.hm_search.specs.declared.subtree.Subtree.{Subtree}
@@ -73,7 +73,15 @@ pub record Changed (f : List Element → List Element) (key : Key) (marking : Ma
   pub mark : MarksWithin marking key place.left place.right (mark_in old height before) (mark_in new height after)
   pub pages : Replaces (reaches old height before) (reaches new height after) old new
 
--- the same of some children of one node
+-- what a call that works at one key makes of a node, where the pages are told: it needs a fact of what stands at
+-- the key
+abbrev pub Works : (List Element → List Element) → Key → Marking → (Option Element → Type 0) → Option PageMap → Option PageMap → Node → Node → Type 0
+Works f key marking Needs old new before after =
+    IfSome old (λ was. (place : Subtree) (height : ℕ) → IsTree was height place before → IsInside place.left place.right key
+    → Needs (element_at key (elements_in was height before))
+    → IfSome new (λ is. Changed f key marking place height was is before after))
+
+-- the same change of some children of one node
 pub record ChangedUnder (f : List Element → List Element) (key : Key) (marking : Marking) (level : ℕ) (right : Base) (height : ℕ)
     (old new : PageMap) (before after : List Child) : Type 0 where
   pub stored : AreStored new height level right after

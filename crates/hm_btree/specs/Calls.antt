@@ -1,1 +1,4 @@
+pub mod Change
+pub mod Insert
+pub mod Remove
 pub mod Space

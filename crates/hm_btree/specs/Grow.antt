@@ -6,6 +6,7 @@ use Rattle.hm_types.specs.Told.{BothTell}
 use Rattle.hm_fields.specs.Pages.{PageMap}
 use Rattle.hm_key.specs.Key.{key_of, IsBefore, IsBoundary}
 use Rattle.hm_key.specs.Elements.{element_at, element_key}
+use Rattle.hm_key.specs.Extents.{Extent}
 use Rattle.hm_key.specs.declared.base.Base.{Base}
 use Rattle.hm_key.specs.declared.element.Element.{Element}
 use Rattle.hm_node.specs.Inner.{IsBound}
@@ -84,8 +85,11 @@ abbrev pub HasTop : Subtree → Node → Upper → ℕ → PageMap → PageMap �
 HasTop place lower upper top old new =
     (mid : PageMap) × (at : ℕ) × IsSpot at × HasAdded at upper.node old mid × HasAdded top (top_of place lower upper at) mid new
 
--- the same of pages that may be told: the root stands where a node may, above at most eight levels
-pub record AddsTop (place : Subtree) (lower : Node) (upper : Upper) (old new : Option PageMap) (top : ℕ) : Type 0 where
-  pub told : BothTell old new (HasTop place lower upper top)
+-- The same of pages that may be told: the root stands where a node may, above at most eight levels, and the extents
+-- are the same.
+pub record AddsTop {S : Type 0} (pages_of : S → Option PageMap) (extents_of : S → Option (List Extent)) (place : Subtree)
+    (lower : Node) (upper : Upper) (old new : S) (top : ℕ) : Type 0 where
+  pub told : BothTell (pages_of old) (pages_of new) (HasTop place lower upper top)
   pub spot : IsSpot top
   pub shallow : level_of lower ≤ 8
+  pub extents : extents_of new ≡ extents_of old

@@ -33,10 +33,12 @@ pub record IsSpot (at : ℕ) : Type 0 where
   pub node : IsNodeOffset at
   pub below : byte_of at < 2 ^ 43
 
--- a node was added at an offset where one may stand, to pages that may be told
-pub record AddsNode (node : Node) (old new : Option PageMap) (at : ℕ) : Type 0 where
-  pub told : BothTell old new (HasAdded at node)
+-- a node was added at an offset where one may stand, to pages that may be told, and the extents are the same
+pub record AddsNode {S : Type 0} (pages_of : S → Option PageMap) (extents_of : S → Option (List Extent)) (node : Node)
+    (old new : S) (at : ℕ) : Type 0 where
+  pub told : BothTell (pages_of old) (pages_of new) (HasAdded at node)
   pub spot : IsSpot at
+  pub extents : extents_of new ≡ extents_of old
 
 -- A page was put at an offset that had none, where a node may stand, to pages that may be told. It took its room in
 -- zone 8, and the extents are the same.

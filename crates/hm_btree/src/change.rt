@@ -1,5 +1,5 @@
 // Changes of an element that stays where it is.
-ghost use Rattle.std.specs.Prelude.{◌≡◌, ◌<◌, ℕ, max, OnOk, IfSome, IsSome, IsTrue, is_some};
+ghost use Rattle.std.specs.Prelude.{◌≡◌, ◌<◌, max, OnOk, IsTrue, is_some};
 ghost use Rattle.arrayvec.specs.ArrayVec.{array_vec_len};
 ghost use Rattle.hm_key.specs.Elements.{element_at};
 ghost use Rattle.hm_key.specs.Key.{key_of};
@@ -7,15 +7,12 @@ ghost use Rattle.hm_key.specs.Places.{leading};
 ghost use Rattle.hm_node.specs.Inner.{IsNodeOffset};
 ghost use Rattle.hm_node.specs.Leaf.{HasLeafOrder};
 ghost use Rattle.hm_node.specs.Node.{IsNode};
-ghost use Rattle.hm_search.specs.Place.{IsInside};
-ghost use Rattle.hm_search.specs.Tree.{elements_in, IsTree};
-ghost use Rattle.hm_search.specs.declared.subtree.Subtree.{Subtree as Place};
+ghost use Rattle.hm_btree.specs.Calls.Change.{ChangesBelow, ChangesElement};
 ghost use Rattle.hm_btree.specs.Calls.Space.{Stays};
-ghost use Rattle.hm_btree.specs.Below.{Changed, HasEditCause};
-ghost use Rattle.hm_btree.specs.Change.{change_of, id_of, marking_of, with_change, MayChange};
+ghost use Rattle.hm_btree.specs.Below.{HasEditCause};
+ghost use Rattle.hm_btree.specs.Change.{change_of, id_of, MayChange};
 ghost use Rattle.hm_btree.specs.Edits.{ElementChange};
-ghost use Rattle.hm_btree.specs.Shape.{IsShaped};
-ghost use Rattle.hm_btree.specs.Tree.{ChangesTree, HasTreeCause};
+ghost use Rattle.hm_btree.specs.Tree.{HasTreeCause};
 
 use crate::inner_edit::set_mirror;
 use crate::leaf_edit::{close_element, move_payload};
@@ -45,10 +42,8 @@ pub fn change_element<S: NodeSpace>(
 ) -> Result<(), Fault>
     requires root { IsNodeOffset root }
     requires may { MayChange (key_of at.now) change }
-    ensures ok { OnOk result (ChangesTree (with_change (key_of at.now) change) (key_of at.now)
-        (marking_of change) (λ es. IsSome (element_at (key_of at.now) es))
-        (S.pages space.old) (S.pages space.new) root root) }
-    ensures told { OnOk result (is_some (S.pages space.new) ≡ is_some (S.pages space.old)) }
+    ensures done { OnOk result (ChangesElement (key_of at.now) change root
+        (S.pages space.old) (S.pages space.new)) }
     ensures rest { S.rest space.new ≡ S.rest space.old }
     ensures stays { Stays S.Counted space.old space.new }
     ensures cause { HasTreeCause (S.pages space.old) root
@@ -69,14 +64,8 @@ fn change_in<S: NodeSpace>(
 ) -> Result<(), Fault>
     requires node { IsNode node.old }
     requires may { MayChange (key_of at.now) change }
-    ensures ok { IfSome (S.pages space.old) (λ old. (place : Place) (height : ℕ) →
-        IsTree old height place node.old → IsInside place.left place.right (key_of at.now) →
-        IsSome (element_at (key_of at.now) (elements_in old height node.old)) →
-        OnOk result (IfSome (S.pages space.new) (λ new.
-        Changed (with_change (key_of at.now) change) (key_of at.now) (marking_of change)
-        place height old new node.old node.new))) }
-    ensures shape { OnOk result (IsShaped node.new) }
-    ensures told { OnOk result (is_some (S.pages space.new) ≡ is_some (S.pages space.old)) }
+    ensures done { OnOk result (ChangesBelow (key_of at.now) change
+        (S.pages space.old) (S.pages space.new) node.old node.new) }
     ensures rest { S.rest space.new ≡ S.rest space.old }
     ensures stays { Stays S.Counted space.old space.new }
     ensures cause { HasEditCause (S.pages space.old) node.old

@@ -1,8 +1,7 @@
 // A tree without elements.
-ghost use Rattle.std.specs.Prelude.{◌≡◌, ◌≤◌, ℕ, Err, IfSome, IfOk, IfErr};
-ghost use Rattle.hm_types.specs.Faults.{HasStoreCause};
+ghost use Rattle.std.specs.Prelude.{◌≡◌, ◌≤◌, IfSome, IfOk, IfErr};
 ghost use Rattle.hm_types.specs.Space.{in_zone};
-ghost use Rattle.hm_btree.specs.Calls.Space.{Stays, Takes};
+ghost use Rattle.hm_btree.specs.Calls.Space.{HandsBack, StaysWithin};
 ghost use Rattle.hm_btree.specs.Tree.{HasNoPage, HasNothing};
 
 use crate::node_edit::add_node;
@@ -21,12 +20,9 @@ impl<S: NodeSpace> BTree<S> {
         ensures empty { IfOk result (λ tree. IfSome (S.pages space) (λ _.
             HasNothing tree.intact (S.pages tree.space) tree.root)) }
         ensures extents { IfOk result (λ tree. S.extents tree.space ≡ S.extents space) }
-        ensures space { IfOk result (λ tree.
-            Takes S.HasRoom (in_zone TREE_ZONE NODE_BYTES) space tree.space) }
-        ensures stays { IfOk result (λ tree. Stays S.Counted space tree.space) }
-        ensures back { IfErr result (λ e. Stays S.Counted space e.0) }
-        ensures cause { IfErr result (λ e.
-            HasStoreCause {T = ℕ} (S.pages space) (S.faults space) (S.faults e.0) (Err e.1)) }
+        ensures spent { IfOk result (λ tree.
+            StaysWithin S.HasRoom (in_zone TREE_ZONE NODE_BYTES) space tree.space) }
+        ensures back { IfErr result (λ e. HandsBack S.Pages space e.0 e.1) }
     {
         let mut space = space;
         let node = Node::Leaf(Leaf {

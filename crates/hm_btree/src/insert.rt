@@ -1,16 +1,14 @@
 // Insertion of an element below a node.
-ghost use Rattle.std.specs.Prelude.{◌≡◌, ◌*◌, ◌-◌, ◌≤◌, max, insert, IsNone, IfOk, OnOk};
+ghost use Rattle.std.specs.Prelude.{◌*◌, ◌-◌, ◌≤◌, max, insert, IfOk};
 ghost use Rattle.arrayvec.specs.ArrayVec.{array_vec_len};
 ghost use Rattle.hm_key.specs.Elements.{inserted, last_id};
-ghost use Rattle.hm_key.specs.Key.{key_of};
 ghost use Rattle.hm_types.specs.Space.{in_zone};
 ghost use Rattle.hm_node.specs.Leaf.{HasLeafOrder, IsPlaced};
 ghost use Rattle.hm_node.specs.Node.{IsNode, level_of};
-ghost use Rattle.hm_btree.specs.Calls.Space.{KeepsTold, Stays, Takes};
+ghost use Rattle.hm_btree.specs.Calls.Insert.{InsertsBelow};
+ghost use Rattle.hm_btree.specs.Calls.Space.{StaysWithin};
 ghost use Rattle.hm_btree.specs.Below.{HasEditCause};
-ghost use Rattle.hm_btree.specs.Marking.{Writes};
-ghost use Rattle.hm_btree.specs.Grow.{Grows, LeafBecomes, InnerBecomes};
-ghost use Rattle.hm_btree.specs.Shape.{AreShaped};
+ghost use Rattle.hm_btree.specs.Grow.{LeafBecomes, InnerBecomes};
 
 use crate::inner_edit::{insert_child, set_mirror};
 use crate::leaf_edit::insert_element;
@@ -32,14 +30,10 @@ pub fn insert_into<S: NodeSpace>(
     requires node { IsNode node.old }
     requires element { IsPlaced element.now }
     requires room { NODE_BYTES * (level_of node.old - 1) ≤ S.room space.old TREE_ZONE }
-    ensures ok { IfOk result (Grows (inserted element.now) (key_of element.now.base)
-        (Writes (last_id element.now)) (λ o. IsNone o)
-        (S.pages space.old) (S.pages space.new) node.old node.new) }
-    ensures shape { IfOk result (λ upper. AreShaped node.new upper) }
-    ensures kept { OnOk result (KeepsTold S.Pages S.HasRoom space.old space.new) }
-    ensures space { Takes S.HasRoom (in_zone TREE_ZONE (NODE_BYTES * (level_of node.old - 1)))
+    ensures done { IfOk result (InsertsBelow S.pages S.extents element.now
+        space.old space.new node.old node.new) }
+    ensures spent { StaysWithin S.HasRoom (in_zone TREE_ZONE (NODE_BYTES * (level_of node.old - 1)))
         space.old space.new }
-    ensures stays { Stays S.Counted space.old space.new }
     ensures cause { HasEditCause (S.pages space.old) node.old
         (S.faults space.old) (S.faults space.new) result }
 {

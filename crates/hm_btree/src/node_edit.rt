@@ -6,7 +6,7 @@ ghost use Rattle.hm_node.specs.Inner.{IsNodeOffset};
 ghost use Rattle.hm_node.specs.Node.{level_of};
 ghost use Rattle.hm_search.specs.Place.{mirror_of};
 ghost use Rattle.hm_types.specs.Space.{in_zone};
-ghost use Rattle.hm_btree.specs.Calls.Space.{Stays, Takes};
+ghost use Rattle.hm_btree.specs.Calls.Space.{Stays, StaysWithin};
 ghost use Rattle.hm_btree.specs.Shape.{IsShaped};
 ghost use Rattle.hm_btree.specs.Space.{AddsNode, HasWritten};
 
@@ -45,11 +45,9 @@ pub fn write_node<S: NodeSpace>(space: &mut S, at: HOff, node: &Node) -> Result<
 pub fn add_node<S: NodeSpace>(space: &mut S, node: &Node) -> Result<HOff, Fault>
     requires node { IsShaped node.now }
     requires room { NODE_BYTES ≤ S.room space.old TREE_ZONE }
-    ensures ok { IfOk result (AddsNode node.now (S.pages space.old) (S.pages space.new)) }
+    ensures ok { IfOk result (AddsNode S.pages S.extents node.now space.old space.new) }
     ensures refused { OnErr result S.Refusal }
-    ensures extents { OnOk result (S.extents space.new ≡ S.extents space.old) }
-    ensures space { Takes S.HasRoom (in_zone TREE_ZONE NODE_BYTES) space.old space.new }
-    ensures stays { Stays S.Counted space.old space.new }
+    ensures spent { StaysWithin S.HasRoom (in_zone TREE_ZONE NODE_BYTES) space.old space.new }
     ensures cause { HasStoreCause (S.pages space.old)
         (S.faults space.old) (S.faults space.new) result }
 {

@@ -1,17 +1,13 @@
 // Removal of an element below a node.
-ghost use Rattle.std.specs.Prelude.{◌≡◌, ◌+◌, ◌<◌, ◌≤◌, IfSome, IsSome, OnOk, Some, slice_get};
-ghost use Rattle.arrayvec.specs.ArrayVec.{array_vec_len};
+ghost use Rattle.std.specs.Prelude.{◌≡◌, ◌+◌, ◌<◌, IfSome, IsSome, OnOk, Some, slice_get};
 ghost use Rattle.hm_types.specs.Faults.{HasStoreCause};
-ghost use Rattle.hm_key.specs.Elements.{removed};
 ghost use Rattle.hm_key.specs.Key.{key_of};
 ghost use Rattle.hm_types.specs.Space.{nothing};
 ghost use Rattle.hm_node.specs.Node.{IsNode};
 ghost use Rattle.hm_node.specs.declared.inner.Child.{Child as ChildOf};
-ghost use Rattle.hm_node.specs.declared.node.Node.TheVariants.{Inner as inner_node};
-ghost use Rattle.hm_btree.specs.Calls.Space.{KeepsTold, Stays, Takes};
-ghost use Rattle.hm_btree.specs.Marking.{TakesOut};
-ghost use Rattle.hm_btree.specs.Shape.{IsShaped, IsShapedLike};
-ghost use Rattle.hm_btree.specs.Shrink.{Shrinks, HoldsElement, HasNeighbours, IsLevelBelow, IsPairJoined, IsJoinedAt, IsShrunk};
+ghost use Rattle.hm_btree.specs.Calls.Remove.{HasPair, IsPair, JoinsChild, JoinsPair, RemovesBelow};
+ghost use Rattle.hm_btree.specs.Calls.Space.{StaysWithin};
+ghost use Rattle.hm_btree.specs.Shrink.{HoldsElement, HasNeighbours, IsLevelBelow, IsShrunk};
 
 use crate::change::has_element;
 use crate::inner_edit::{remove_child, set_left, set_mirror};
@@ -31,12 +27,9 @@ pub fn remove_below<S: NodeSpace>(space: &mut S, node: &mut Node, at: &Base) -> 
     requires node { IsNode node.old }
     requires many { HasNeighbours node.old }
     requires told { IfSome (S.pages space.old) (HoldsElement (key_of at.now) node.old) }
-    ensures ok { OnOk result (Shrinks (removed (key_of at.now)) (key_of at.now) TakesOut (λ o. IsSome o)
-        (S.pages space.old) (S.pages space.new) node.old node.new) }
-    ensures shape { OnOk result (IsShapedLike node.old node.new) }
-    ensures kept { OnOk result (KeepsTold S.Pages S.HasRoom space.old space.new) }
-    ensures space { Takes S.HasRoom nothing space.old space.new }
-    ensures stays { Stays S.Counted space.old space.new }
+    ensures done { OnOk result (RemovesBelow S.pages S.extents (key_of at.now)
+        space.old space.new node.old node.new) }
+    ensures spent { StaysWithin S.HasRoom nothing space.old space.new }
     ensures cause { HasStoreCause (S.pages space.old)
         (S.faults space.old) (S.faults space.new) result }
 {
@@ -70,17 +63,12 @@ fn rejoin<S: NodeSpace>(
     i: usize,
     child: Node,
 ) -> Result<(), Fault>
-    requires inner { IsShaped (inner_node inner.old) }
-    requires within { i < array_vec_len inner.old.places }
-    requires many { 2 ≤ array_vec_len inner.old.places }
+    requires inner { HasPair inner.old i }
     requires child { IsLevelBelow inner.old.level child }
     requires told { IfSome (S.pages space.old) (IsShrunk inner.old i child) }
-    ensures ok { OnOk result (IfSome (S.pages space.old) (λ old. IfSome (S.pages space.new) (λ new.
-        IsJoinedAt inner.old i child old new inner.new))) }
-    ensures shape { OnOk result (IsShapedLike (inner_node inner.old) (inner_node inner.new)) }
-    ensures kept { OnOk result (KeepsTold S.Pages S.HasRoom space.old space.new) }
-    ensures space { Takes S.HasRoom nothing space.old space.new }
-    ensures stays { Stays S.Counted space.old space.new }
+    ensures done { OnOk result (JoinsChild S.pages S.extents i child
+        space.old space.new inner.old inner.new) }
+    ensures spent { StaysWithin S.HasRoom nothing space.old space.new }
     ensures cause { HasStoreCause (S.pages space.old)
         (S.faults space.old) (S.faults space.new) result }
 {
@@ -102,18 +90,12 @@ fn join_at<S: NodeSpace>(
     mut left: Node,
     right: Node,
 ) -> Result<(), Fault>
-    requires inner { IsShaped (inner_node inner.old) }
-    requires within { i + 1 < array_vec_len inner.old.places }
-    requires left { IsLevelBelow inner.old.level left }
-    requires right { IsLevelBelow inner.old.level right }
+    requires pair { IsPair inner.old i left right }
     requires told { IfSome (S.pages space.old) (λ map. (c : ChildOf) →
         slice_get inner.old.places.items (i + 1) ≡ Some c → IsSome (map c.child)) }
-    ensures ok { OnOk result (IfSome (S.pages space.old) (λ old. IfSome (S.pages space.new) (λ new.
-        IsPairJoined inner.old i left right old new inner.new))) }
-    ensures shape { OnOk result (IsShapedLike (inner_node inner.old) (inner_node inner.new)) }
-    ensures kept { OnOk result (KeepsTold S.Pages S.HasRoom space.old space.new) }
-    ensures space { Takes S.HasRoom nothing space.old space.new }
-    ensures stays { Stays S.Counted space.old space.new }
+    ensures done { OnOk result (JoinsPair S.pages S.extents i left right
+        space.old space.new inner.old inner.new) }
+    ensures spent { StaysWithin S.HasRoom nothing space.old space.new }
     ensures cause { HasStoreCause (S.pages space.old)
         (S.faults space.old) (S.faults space.new) result }
 {

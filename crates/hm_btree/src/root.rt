@@ -1,17 +1,14 @@
 // Insertion of an element into a tree.
-ghost use Rattle.std.specs.Prelude.{◌≡◌, ◌⊎◌, ◌*◌, ◌^◌, ◌<◌, ◌≤◌, IsNone, IfOk, OnOk, OnErr};
+ghost use Rattle.std.specs.Prelude.{◌≡◌, ◌⊎◌, ◌*◌, ◌^◌, ◌<◌, ◌≤◌, IfOk, OnErr};
 ghost use Rattle.hm_types.specs.Faults.{HasStoreCause};
-ghost use Rattle.hm_key.specs.Elements.{element_at, inserted, last_id};
-ghost use Rattle.hm_key.specs.Key.{key_of};
 ghost use Rattle.hm_types.specs.Space.{in_zone};
-ghost use Rattle.hm_node.specs.Inner.{IsBound, IsNodeOffset};
+ghost use Rattle.hm_node.specs.Inner.{IsNodeOffset};
 ghost use Rattle.hm_node.specs.Leaf.{IsPlaced};
 ghost use Rattle.hm_node.specs.Node.{level_of};
-ghost use Rattle.hm_btree.specs.Calls.Space.{KeepsTold, Stays, Takes};
+ghost use Rattle.hm_btree.specs.Calls.Insert.{CanTop, InsertsFrom};
+ghost use Rattle.hm_btree.specs.Calls.Space.{StaysWithin};
 ghost use Rattle.hm_btree.specs.Grow.{AddsTop, top_of};
-ghost use Rattle.hm_btree.specs.Marking.{Writes};
-ghost use Rattle.hm_btree.specs.Shape.{IsShaped, IsShapedUpper};
-ghost use Rattle.hm_btree.specs.Tree.{ChangesTree, HasTreeCause};
+ghost use Rattle.hm_btree.specs.Tree.{HasTreeCause};
 
 use crate::insert::insert_into;
 use crate::node_edit::{add_node, level, mirror, write_node};
@@ -33,12 +30,9 @@ pub fn insert_from<S: NodeSpace>(
     requires root { IsNodeOffset root }
     requires element { IsPlaced element.now }
     requires room { INSERT_ROOM ≤ S.room space.old TREE_ZONE }
-    ensures ok { IfOk result (ChangesTree (inserted element.now) (key_of element.now.base)
-        (Writes (last_id element.now)) (λ es. IsNone (element_at (key_of element.now.base) es))
-        (S.pages space.old) (S.pages space.new) root) }
-    ensures kept { OnOk result (KeepsTold S.Pages S.HasRoom space.old space.new) }
-    ensures space { Takes S.HasRoom (in_zone TREE_ZONE INSERT_ROOM) space.old space.new }
-    ensures stays { Stays S.Counted space.old space.new }
+    ensures done { IfOk result (InsertsFrom S.pages S.extents element.now
+        space.old space.new root) }
+    ensures spent { StaysWithin S.HasRoom (in_zone TREE_ZONE INSERT_ROOM) space.old space.new }
     ensures cause { HasTreeCause (S.pages space.old) root
         (S.faults space.old) (S.faults space.new) result }
 {
@@ -62,17 +56,13 @@ fn add_root<S: NodeSpace>(
     lower: &Node,
     upper: &Upper,
 ) -> Result<HOff, Fault>
-    requires at { IsNodeOffset place.now.at }
-    requires bounds { IsBound place.now.left × IsBound place.now.right }
-    requires shape { IsShaped lower.now × IsShapedUpper upper.now }
+    requires top { CanTop place.now lower.now upper.now }
     requires room { NODE_BYTES * 2 ≤ S.room space.old TREE_ZONE }
-    ensures ok { IfOk result (AddsTop place.now lower.now upper.now
-        (S.pages space.old) (S.pages space.new)) }
+    ensures ok { IfOk result (AddsTop S.pages S.extents place.now lower.now upper.now
+        space.old space.new) }
     ensures refused { OnErr result (S.Refusal ⊎ (MOST_LEVELS ≤ level_of lower.now)) }
-    ensures extents { OnOk result (S.extents space.new ≡ S.extents space.old) }
-    ensures space { Takes S.HasRoom (in_zone TREE_ZONE (NODE_BYTES * 2))
+    ensures spent { StaysWithin S.HasRoom (in_zone TREE_ZONE (NODE_BYTES * 2))
         space.old space.new }
-    ensures stays { Stays S.Counted space.old space.new }
     ensures cause { HasStoreCause (S.pages space.old)
         (S.faults space.old) (S.faults space.new) result }
 {

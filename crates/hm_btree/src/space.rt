@@ -2,8 +2,9 @@
 ghost use Rattle.std.specs.Prelude.{◌≡◌, ◌≤◌, IfSome, IsSome, IfOk, OnOk, OnErr};
 ghost use Rattle.hm_types.specs.Told.{BothTell};
 ghost use Rattle.hm_types.specs.Faults.{HasStoreCause};
-ghost use Rattle.hm_types.specs.Space.{Spends, nothing, in_zone};
+ghost use Rattle.hm_types.specs.Space.{nothing, in_zone};
 ghost use Rattle.hm_node.specs.Shape.{HoldsNode};
+ghost use Rattle.hm_btree.specs.Calls.Space.{HasSpent};
 ghost use Rattle.hm_btree.specs.Space.{HasLost, PutsNew};
 
 use hm_fields::Page;
@@ -33,10 +34,8 @@ pub trait NodeSpace: NodePages + HasRoom {
         ensures ok { IfOk result (PutsNew Self.pages Self.room Self.extents with.now
             self.old self.new) }
         ensures refused { OnErr result Self.Refusal }
-        ensures space { Spends Self.room Self.free (in_zone TREE_ZONE NODE_BYTES)
-            self.old self.new }
-        ensures name { Self.name self.new ≡ Self.name self.old }
-        ensures frame { Self.frame self.new ≡ Self.frame self.old }
+        ensures spent { HasSpent Self.name Self.frame Self.room Self.free
+            (in_zone TREE_ZONE NODE_BYTES) self.old self.new }
         ensures cause { HasStoreCause (Self.pages self.old)
             (Self.faults self.old) (Self.faults self.new) result };
 
@@ -46,9 +45,8 @@ pub trait NodeSpace: NodePages + HasRoom {
         ensures ok { OnOk result
             (BothTell (Self.pages self.old) (Self.pages self.new) (HasLost at)) }
         ensures extents { OnOk result (Self.extents self.new ≡ Self.extents self.old) }
-        ensures space { Spends Self.room Self.free nothing self.old self.new }
-        ensures name { Self.name self.new ≡ Self.name self.old }
-        ensures frame { Self.frame self.new ≡ Self.frame self.old }
+        ensures spent { HasSpent Self.name Self.frame Self.room Self.free nothing
+            self.old self.new }
         ensures cause { HasStoreCause (Self.pages self.old)
             (Self.faults self.old) (Self.faults self.new) result };
 

@@ -1,16 +1,16 @@
 // Removal of an element from a tree.
-ghost use Rattle.std.specs.Prelude.{◌≡◌, IfSome, IsSome, IfOk, OnOk, Some, None, IfNone};
+ghost use Rattle.std.specs.Prelude.{IfSome, IsSome, IfOk, Some, None, IfNone};
 ghost use Rattle.hm_types.specs.Faults.{HasStoreCause};
-ghost use Rattle.hm_key.specs.Elements.{element_at, removed};
+ghost use Rattle.hm_key.specs.Elements.{element_at};
 ghost use Rattle.hm_key.specs.Key.{key_of};
 ghost use Rattle.hm_types.specs.Space.{nothing};
 ghost use Rattle.hm_node.specs.Inner.{IsNodeOffset};
 ghost use Rattle.hm_node.specs.Node.{IsNode};
-ghost use Rattle.hm_search.specs.Tree.{node_at, elements_of};
-ghost use Rattle.hm_btree.specs.Calls.Space.{KeepsTold, Stays, Takes};
-ghost use Rattle.hm_btree.specs.Marking.{TakesOut};
-ghost use Rattle.hm_btree.specs.Shrink.{HasNeighbours, IsLowered, IsOnlyChild};
-ghost use Rattle.hm_btree.specs.Tree.{ChangesTree, IsTreeSpace};
+ghost use Rattle.hm_search.specs.Tree.{elements_of};
+ghost use Rattle.hm_btree.specs.Calls.Remove.{FindsLowest, IsRoot, RemovesFrom};
+ghost use Rattle.hm_btree.specs.Calls.Space.{StaysWithin};
+ghost use Rattle.hm_btree.specs.Shrink.{HasNeighbours, IsOnlyChild};
+ghost use Rattle.hm_btree.specs.Tree.{IsTreeSpace};
 
 use crate::node_edit::write_node;
 use crate::remove::remove_below;
@@ -27,12 +27,9 @@ pub fn remove_from<S: NodeSpace>(space: &mut S, root: HOff, at: &Base) -> Result
     requires tree { IfSome (S.pages space.old) (λ was. IsTreeSpace was root) }
     requires there { IfSome (S.pages space.old) (λ was.
         IsSome (element_at (key_of at.now) (elements_of was root))) }
-    ensures ok { IfOk result (ChangesTree (removed (key_of at.now)) (key_of at.now) TakesOut
-        (λ es. IsSome (element_at (key_of at.now) es))
-        (S.pages space.old) (S.pages space.new) root) }
-    ensures kept { OnOk result (KeepsTold S.Pages S.HasRoom space.old space.new) }
-    ensures space { Takes S.HasRoom nothing space.old space.new }
-    ensures stays { Stays S.Counted space.old space.new }
+    ensures done { IfOk result (RemovesFrom S.pages S.extents (key_of at.now)
+        space.old space.new root) }
+    ensures spent { StaysWithin S.HasRoom nothing space.old space.new }
     ensures cause { HasStoreCause (S.pages space.old)
         (S.faults space.old) (S.faults space.new) result }
 {
@@ -54,17 +51,9 @@ pub fn remove_from<S: NodeSpace>(space: &mut S, root: HOff, at: &Base) -> Result
 // The lowest root of the same tree, and its node: a root with one child alone is not needed, and
 // its page goes.
 fn lowest<S: NodeSpace>(space: &mut S, root: HOff, node: Node) -> Result<(HOff, Node), Fault>
-    requires root { IsNodeOffset root }
-    requires node { IsNode node }
-    requires tree { IfSome (S.pages space.old) (λ was. IsTreeSpace was root) }
-    requires here { IfSome (S.pages space.old) (λ was. node_at was root ≡ node) }
-    ensures ok { IfOk result (λ found. IfSome (S.pages space.old) (λ was.
-        IfSome (S.pages space.new) (λ is. IsLowered was is root found.0 found.1))) }
-    ensures stands { IfOk result (λ found. IsNodeOffset found.0
-        × IsNode found.1 × HasNeighbours found.1) }
-    ensures kept { OnOk result (KeepsTold S.Pages S.HasRoom space.old space.new) }
-    ensures space { Takes S.HasRoom nothing space.old space.new }
-    ensures stays { Stays S.Counted space.old space.new }
+    requires { IsRoot (S.pages space.old) root node }
+    ensures done { IfOk result (FindsLowest S.pages S.extents root space.old space.new) }
+    ensures spent { StaysWithin S.HasRoom nothing space.old space.new }
     ensures cause { HasStoreCause (S.pages space.old)
         (S.faults space.old) (S.faults space.new) result }
 {

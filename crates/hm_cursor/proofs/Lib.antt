@@ -1,7 +1,9 @@
 pub mod CallLemmas
 pub mod CloseLemmas
+pub mod EntryLemmas
 pub mod FullLemmas
 pub mod KeyLemmas
+pub mod NameLemmas
 pub mod PayloadLemmas
 pub mod RewriteLemmas
 pub mod SearchLemmas
@@ -12,3 +14,4 @@ pub mod ToldLemmas
 pub mod VersionLemmas
 pub mod ViewsLemmas
 pub mod WriteLemmas
+pub mod HashLemmas

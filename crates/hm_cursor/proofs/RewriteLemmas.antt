@@ -4,9 +4,9 @@ use Rattle.std.specs.Prelude.{◌↔◌, ◌⊎◌, Option, Some, None}
 use Rattle.std.specs.List.{Contains}
 use Rattle.hm_types.specs.Elements.{FullElement, Key}
 use Rattle.hm_key.specs.Counts.{Counts, IsSeen, Subject, subject_of}
-use Rattle.hm_key.specs.Versions.{Adds, IsBelow}
+use Rattle.hm_key.specs.Versions.{Adds}
 use Rattle.hm_records.specs.Changes.{CountSame, Overrides}
-use Rattle.hm_cursor.specs.Write.{CameFrom, IsFreshFor, Rewrites}
+use Rattle.hm_cursor.specs.Write.{AreUpTo, CameFrom, IsFreshFor, Rewrites}
 
 -- ---- what lists show
 
@@ -163,15 +163,15 @@ module _ (s : Subject) (i : ℕ) (es es' : List FullElement) (shuts : Shuts s i 
   }
 
   -- all ids stay up to this one
-  shuts_up_to : IsBelow (i + 1) es → IsBelow (i + 1) es'
-  shuts_up_to below = record {
-    made = λ y has.
+  shuts_up_to : (localization : ℕ) → AreUpTo localization i es → AreUpTo localization i es'
+  shuts_up_to localization below = record {
+    made = λ y has place.
         let (x, there, step) = shuts.back y has in
-        let made = below.made x there in
+        let made = below.made x there (ap (λ (k : Key). k.localization) (sym (like s i x y step).key) ∙ place) in
         omega (arith, made, ap (λ (k : Key). k.create) (like s i x y step).key);
-    closed = λ y has.
+    closed = λ y has place.
         let (x, there, step) = shuts.back y has in
-        let gone = below.closed x there in
+        let gone = below.closed x there (ap (λ (k : Key). k.localization) (sym (like s i x y step).key) ∙ place) in
         elim (deleted s i x y step) [
           | inl now ↦ omega (arith, now)
           | inr was ↦ omega (arith, was, gone)
@@ -283,15 +283,15 @@ module _ (e : FullElement) (es es' : List FullElement) (adds : Adds e es es') wh
     λ has. (adds x).1 (inr has),
   )
 
-  adds_up_to : e.delete ≡ 0 → IsBelow (e.key.create + 1) es → IsBelow (e.key.create + 1) es'
-  adds_up_to open' below = record {
-    made = λ x has. elim ((adds x).0 has) [
+  adds_up_to : e.delete ≡ 0 → (localization : ℕ) → AreUpTo localization e.key.create es → AreUpTo localization e.key.create es'
+  adds_up_to open' localization below = record {
+    made = λ x has place. elim ((adds x).0 has) [
       | inl new ↦ omega (arith, ap (λ (z : FullElement). z.key.create) new)
-      | inr old ↦ below.made x old
+      | inr old ↦ below.made x old place
     ];
-    closed = λ x has. elim ((adds x).0 has) [
-      | inl new ↦ omega (arith, ap (λ (z : FullElement). z.delete) new)
-      | inr old ↦ below.closed x old
+    closed = λ x has place. elim ((adds x).0 has) [
+      | inl new ↦ omega (arith, open', ap (λ (z : FullElement). z.delete) new)
+      | inr old ↦ below.closed x old place
     ];
   }
 
@@ -326,6 +326,7 @@ rewrites_added e es mid es' shuts adds open' fresh = record {
       let second = adds_beside e mid es' adds x not in
       (λ has. first.0 (second.0 has), λ has. second.1 (first.1 has));
   closed = λ is. absurd (some_none e.bytes is);
-  up_to = λ below. adds_up_to e mid es' adds open' (shuts_up_to (subject_of e.key) e.key.create es mid shuts below);
+  up_to = λ localization below.
+      adds_up_to e mid es' adds open' localization (shuts_up_to (subject_of e.key) e.key.create es mid shuts localization below);
   came = adds_came e mid es' adds es (shuts_came (subject_of e.key) e.key.create es mid shuts (Some e.bytes));
 }

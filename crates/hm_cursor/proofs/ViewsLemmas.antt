@@ -1,16 +1,21 @@
 -- From what counts for one subject after a call that wrote, to the trees of all pseudo file systems.
-use Rattle.std.proofs.Common.{◌≡◌, ◌≢◌, ℕ, List, refl, sym, ap, subst, ◌∙◌, inl, inr, arith}
+use Rattle.std.proofs.Common.{◌≡◌, ◌≢◌, ℕ, ◌+◌, ◌≤◌, List, refl, sym, ap, subst, ◌∙◌, inl, inr, arith}
 use Rattle.std.specs.Prelude.{◌↔◌, ◌⊎◌, Option, None, Some}
 use Rattle.std.specs.List.{Contains}
-use Rattle.hm_types.specs.Elements.{FullElement}
+use Rattle.hm_types.specs.Elements.{FullElement, Key}
 use Rattle.hm_types.specs.Tree.{FileTree}
-use Rattle.hm_key.specs.declared.rec_type.TheConstants.{PFS_RECORD}
-use Rattle.hm_key.specs.Counts.{Counts, IsRecordOf, Subject, inodes_of, others_of, record_subject, subject_of}
+use Rattle.hm_key.specs.declared.rec_type.TheConstants.{DIRECTORY_ENTRY, PFS_RECORD}
+use Rattle.hm_key.specs.Versions.{IsBelow}
+use Rattle.hm_key.specs.Counts.{Counts, IsRecordOf, IsSeen, Subject, inodes_of, others_of, record_subject, subject_of}
 use Rattle.hm_records.specs.Changes.{IsBeside}
+use Rattle.hm_records.specs.Entry.{IsEntry, entry_bytes}
+use Rattle.hm_records.specs.KeysFit.{KeysFit}
+use Rattle.hm_records.specs.Payload.{KeyFits}
+use Rattle.hm_records.specs.declared.entry.DirEntry.{DirEntry}
 use Rattle.hm_records.proofs.MadeLemmas.{beside_alone}
 use Rattle.hm_records.proofs.SubjectLemmas.{beside_other, same_subject}
 use Rattle.hm_cursor.specs.Views.{CameAs, Shows, WritesIn}
-use Rattle.hm_cursor.specs.Write.{CameFrom, IsFreshFor, Rewrites}
+use Rattle.hm_cursor.specs.Write.{AreUpTo, CameFrom, IsFreshFor, Rewrites}
 
 -- a subject is of a pseudo file system, and is none of the records
 pub record IsWithin (pfs : ℕ) (s : Subject) : Type 0 where
@@ -68,6 +73,28 @@ records_stay pfs i s now es es' within rewrites other bytes = (
     newest = λ x has about open'. is.newest x (from x about has) about open';
   }
 
+-- and so what counts for them does, as of any id
+records_counted : (pfs i : ℕ) (s : Subject) (now : Option (List ℕ)) (es es' : List FullElement) → IsWithin pfs s → Rewrites s now i es es'
+    → (t other : ℕ) (bytes : List ℕ) → Counts es' t (record_subject other) bytes ↔ Counts es t (record_subject other) bytes
+records_counted pfs i s now es es' within rewrites t other bytes = (
+  on es' es (λ x about. (same x about).0) (λ x about. (same x about).1),
+  on es es' (λ x about. (same x about).1) (λ x about. (same x about).0),
+) where
+  same : (x : FullElement) → subject_of x.key ≡ record_subject other → Contains es' x ↔ Contains es x
+  same x about = rewrites.beside x (λ is. within.no_record (ap (λ (z : Subject). z.rec_type) (sym is ∙ about)))
+
+  on : (xs ys : List FullElement) → ((x : FullElement) → subject_of x.key ≡ record_subject other → Contains xs x → Contains ys x)
+      → ((x : FullElement) → subject_of x.key ≡ record_subject other → Contains ys x → Contains xs x)
+      → Counts xs t (record_subject other) bytes → Counts ys t (record_subject other) bytes
+  on xs ys to from counts = record {
+    element = counts.element;
+    there = to counts.element counts.about counts.there;
+    about = counts.about;
+    holds = counts.holds;
+    seen = counts.seen;
+    newest = λ x has about seen. counts.newest x (from x about has) about seen;
+  }
+
 -- Writing about a subject within a pseudo file system is writing in it.
 pub writes_within : (pfs i : ℕ) (s : Subject) (now : Option (List ℕ)) (New : FullElement → Type 0) (es es' : List FullElement) → IsWithin pfs s
     → Makes s now i New → Rewrites s now i es es' → WritesIn pfs i New es es'
@@ -76,6 +103,7 @@ writes_within pfs i s now New es es' within makes rewrites = record {
   others = λ t other tree late differ has.
       beside_alone other s now tree (Counts es t) (Counts es' t) has (beside_others pfs other s within differ) (rewrites.present t late);
   records = records_stay pfs i s now es es' within rewrites;
+  records_then = records_counted pfs i s now es es' within rewrites;
   came = λ x has. came x (rewrites.came x has);
   fresh = fresh;
   up_to = rewrites.up_to;
@@ -102,9 +130,10 @@ nothing_written pfs i New es = record {
   past = λ t below s bytes. (λ h. h, λ h. h);
   others = λ t other tree late differ has. has;
   records = λ other bytes. (λ h. h, λ h. h);
+  records_then = λ t other bytes. (λ h. h, λ h. h);
   came = λ x has. inl (x, has, refl, refl, refl);
   fresh = λ s apart is. is;
-  up_to = λ below. below;
+  up_to = λ localization below. below;
 }
 
 -- an element that is closed stays new
@@ -124,9 +153,13 @@ writes_twice pfs i First Second es mid es' steady first second = record {
     λ h. (first.records other bytes).0 ((second.records other bytes).0 h),
     λ h. (second.records other bytes).1 ((first.records other bytes).1 h),
   );
+  records_then = λ t other bytes. (
+    λ h. (first.records_then t other bytes).0 ((second.records_then t other bytes).0 h),
+    λ h. (second.records_then t other bytes).1 ((first.records_then t other bytes).1 h),
+  );
   came = λ x has. later x (second.came x has);
   fresh = λ s apart is. second.fresh s (λ x new. apart x (inr new)) (first.fresh s (λ x new. apart x (inl new)) is);
-  up_to = λ below. second.up_to (first.up_to below);
+  up_to = λ localization below. second.up_to localization (first.up_to localization below);
 } where
   earlier : (x e : FullElement) → x.key ≡ e.key → x.obj_type ≡ e.obj_type → x.bytes ≡ e.bytes → CameAs First es e
       → CameAs (λ x. First x ⊎ Second x) es x
@@ -144,6 +177,7 @@ writes_wider pfs i New Wider es es' wider writes = record {
   past = writes.past;
   others = writes.others;
   records = writes.records;
+  records_then = writes.records_then;
   came = λ x has. widened x (writes.came x has);
   fresh = λ s apart is. writes.fresh s (λ x new. apart x (wider x new)) is;
   up_to = writes.up_to;
@@ -166,3 +200,53 @@ writes_again pfs i New es mid es' steady first second =
 pub shows_twice : (pfs i : ℕ) (first second : FileTree → FileTree) (es mid es' : List FullElement) → Shows pfs i first es mid
     → Shows pfs i second mid es' → Shows pfs i (λ tree. second (first tree)) es es'
 shows_twice pfs i first second es mid es' one two t tree late has = two t (first tree) late (one t tree late has)
+
+-- where no id of any localization rises above `i`, none of all does
+pub below_still : {i : ℕ} {es es' : List FullElement} → ((localization : ℕ) → AreUpTo localization i es → AreUpTo localization i es')
+    → IsBelow (i + 1) es → IsBelow (i + 1) es'
+below_still {i} {es} {es'} still below = record {
+  made = λ x has. let made = (after x).made x has refl in omega (arith, made);
+  closed = λ x has. let gone = (after x).closed x has refl in omega (arith, gone);
+} where
+  after : (x : FullElement) → AreUpTo x.key.localization i es'
+  after x = still x.key.localization (record {
+    made = λ y has place. let made = below.made y has in omega (arith, made);
+    closed = λ y has place. let gone = below.closed y has in omega (arith, gone);
+  })
+
+-- ---- a subject that is older than an id
+
+-- As of that id and of all later ones the same counts for it.
+pub fresh_later : (s : Subject) (i t : ℕ) (es : List FullElement) (bytes : List ℕ) → IsFreshFor s i es → i ≤ t → Counts es t s bytes ↔ Counts es i s bytes
+fresh_later s i t es bytes fresh late = (counted t i late (omega arith), counted i t (omega arith) late) where
+  seen_then : (t u : ℕ) → i ≤ t → i ≤ u → (x : FullElement) → Contains es x → subject_of x.key ≡ s → IsSeen t x → IsSeen u x
+  seen_then t u late later x has about seen = (
+    let made = fresh.made x has about in omega (arith, made, later),
+    elim seen.1 [
+      | inl unclosed ↦ inl unclosed
+      | inr closed ↦ let gone = fresh.closed x has about in absurd (omega (arith, gone, closed, late))
+    ],
+  )
+
+  counted : (t u : ℕ) → i ≤ t → i ≤ u → Counts es t s bytes → Counts es u s bytes
+  counted t u late later counts = record {
+    element = counts.element;
+    there = counts.there;
+    about = counts.about;
+    holds = counts.holds;
+    seen = seen_then t u late later counts.element counts.there counts.about counts.seen;
+    newest = λ other has about seen. counts.newest other has about (seen_then u t later late other has about seen);
+  }
+
+-- ---- the keys of entries
+
+-- they fit their names after writing, where those of new entries do
+pub keys_fit_still : (pfs i : ℕ) (New : FullElement → Type 0) (hash : List ℕ → ℕ) (es es' : List FullElement) → WritesIn pfs i New es es'
+    → ((x : FullElement) (entry : DirEntry) → New x → x.key.rec_type ≡ DIRECTORY_ENTRY → IsEntry entry → x.bytes ≡ entry_bytes entry
+    → KeyFits hash x.key.key entry.name) → KeysFit hash es → KeysFit hash es'
+keys_fit_still pfs i New hash es es' writes new fit x entry has type ranges spelled = by_origin (writes.came x has) where
+  by_origin : CameAs New es x → KeyFits hash x.key.key entry.name
+  by_origin (inl (e, there, key, kind, bytes)) =
+      subst (λ (k : Key). KeyFits hash k.key entry.name) (sym key)
+      (fit e entry there (sym (ap (λ (k : Key). k.rec_type) key) ∙ type) ranges (sym bytes ∙ spelled))
+  by_origin (inr is) = new x entry is type ranges spelled

@@ -4,3 +4,4 @@ pub mod Read
 pub mod Told
 pub mod Write
 pub mod Views
+pub mod Names

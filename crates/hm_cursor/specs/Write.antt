@@ -11,7 +11,6 @@ use Rattle.hm_key.specs.Element.{IsElement}
 use Rattle.hm_key.specs.Elements.{element_key, with_delete}
 use Rattle.hm_key.specs.Extents.{Extent}
 use Rattle.hm_key.specs.Key.{key_of}
-use Rattle.hm_key.specs.Versions.{IsBelow}
 use Rattle.hm_key.specs.declared.base.Base.{Base}
 use Rattle.hm_key.specs.declared.element.Element.{Element}
 use Rattle.hm_records.specs.Changes.{CountSame, Overrides}
@@ -21,6 +20,11 @@ use Rattle.hm_cursor.specs.Told.{Lists, fulls}
 pub record IsFreshFor (s : Subject) (i : ℕ) (es : List FullElement) : Type 0 where
   pub made : (x : FullElement) → Contains es x → subject_of x.key ≡ s → x.key.create < i
   pub closed : (x : FullElement) → Contains es x → subject_of x.key ≡ s → x.delete ≤ i
+
+-- no id of the elements of a localization is above `i`: neither one that made them nor one that closed them
+pub record AreUpTo (localization i : ℕ) (es : List FullElement) : Type 0 where
+  pub made : (x : FullElement) → Contains es x → x.key.localization ≡ localization → x.key.create ≤ i
+  pub closed : (x : FullElement) → Contains es x → x.key.localization ≡ localization → x.delete ≤ i
 
 -- an element of a changed list: a new one about the subject, made by `i`, or one that was there, perhaps closed since
 abbrev pub CameFrom : Subject → Option (List ℕ) → ℕ → List FullElement → FullElement → Type 0
@@ -36,7 +40,7 @@ pub record Rewrites (s : Subject) (now : Option (List ℕ)) (i : ℕ) (es es' : 
   pub beside : (x : FullElement) → subject_of x.key ≢ s → Contains es' x ↔ Contains es x
   pub came : (x : FullElement) → Contains es' x → CameFrom s now i es x
   pub closed : now ≡ None → IsFreshFor s i es → IsFreshFor s i es'
-  pub up_to : IsBelow (i + 1) es → IsBelow (i + 1) es'
+  pub up_to : (localization : ℕ) → AreUpTo localization i es → AreUpTo localization i es'
 
 -- A call that wrote left a balanced store that tells its content, where it found one, and did this to the elements with
 -- their payloads.

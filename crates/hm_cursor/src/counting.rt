@@ -1,6 +1,6 @@
 // A store that counts the searches in it.
-use hm_key::{Base, Element, ElementStore, HasElements, HasRoom};
-use hm_types::{Counted, Fault, HOff, Id};
+use hm_key::{Base, Element, ElementStore, Extents, HasElements, HasRoom};
+use hm_types::{Counted, Fault, HOff, Id, SpaceFault, Zones};
 
 /// A store, and how many searches were made in it.
 #[derive(Drop)]
@@ -61,5 +61,31 @@ impl<T: ElementStore> ElementStore for Counting<T> {
 
     fn unchanged_until(&mut self, at: &Base, since: Id) -> Result<Option<Base>, Fault> {
         self.store.unchanged_until(at, since)
+    }
+}
+
+impl<T: Extents> Extents for Counting<T> {
+    ghost live = { λ s. T.Extents.live s.store };
+
+    ghost together = { λ s. T.Extents.together s.store };
+
+    fn admit(&mut self, zones: Zones, held: u32) -> Result<(), SpaceFault> {
+        self.store.admit(zones, held)
+    }
+
+    fn fetch(&mut self, at: HOff, buf: &mut [u8]) -> Result<(), Fault> {
+        self.store.fetch(at, buf)
+    }
+
+    fn place(&mut self, zone: u8, bytes: &[u8]) -> Result<HOff, Fault> {
+        self.store.place(zone, bytes)
+    }
+
+    fn share(&mut self, at: HOff, len: u32) -> Result<(), Fault> {
+        self.store.share(at, len)
+    }
+
+    fn give_back(&mut self, at: HOff, len: u32) -> Result<(), Fault> {
+        self.store.give_back(at, len)
     }
 }

@@ -46,7 +46,7 @@ const MASTER_WITH_2_INTERVALS: [u8; 64] = [
 ];
 
 // Adds an element with this payload, and says where that stands.
-fn add(
+pub(crate) fn add(
     store: &mut MemStore,
     about: &Base,
     create: u64,

@@ -1,5 +1,5 @@
 //! The elements of a store as of an id: a cursor over those that are seen, the one that counts about
-//! a subject, its payload, and new versions in place of old ones.
+//! a subject, its payload, the names of a directory, and new versions in place of old ones.
 #![tactic(auto)]
 
 #[cfg(test)]
@@ -8,6 +8,9 @@ mod cursor;
 mod find;
 #[cfg(test)]
 mod find_tests;
+mod names;
+#[cfg(test)]
+mod names_tests;
 mod payload;
 mod subject;
 #[cfg(test)]
@@ -17,6 +20,7 @@ mod write;
 
 pub use cursor::Cursor;
 pub use find::{find_inode, find_payload, find_record};
+pub use names::{find_name, next_name, object_named};
 pub use payload::read_payload;
 pub use subject::{entry_base, inode_base, record_base, target_base};
 pub use version::{first_version, version_at};

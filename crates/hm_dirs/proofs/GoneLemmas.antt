@@ -1,9 +1,8 @@
 -- The entries of one name, as they are closed one after another.
-use Rattle.std.proofs.Common.{◌≡◌, ◌≢◌, ℕ, ◌+◌, ◌/◌, ◌^◌, ◌≤◌, List, None, Some, refl, ap, sym, subst, ◌∙◌, inl, inr, arith}
+use Rattle.std.proofs.Common.{◌≡◌, ◌≢◌, ℕ, ◌+◌, ◌≤◌, List, None, Some, refl, ap, sym, subst, ◌∙◌, inl, inr, arith}
 use Rattle.std.specs.Prelude.{◌↔◌}
 use Rattle.std.proofs.lemmas.Bool.{cases_lt}
 use Rattle.hm_types.specs.Elements.{FullElement, Key}
-use Rattle.hm_types.specs.Tree.{without_name}
 use Rattle.hm_types.specs.declared.fault.Fault.{Fault}
 use Rattle.hm_types.specs.declared.fault.Fault.TheVariants.{Media, Damaged, NoMemory}
 use Rattle.hm_types.specs.declared.id.Obj.{Obj}
@@ -11,41 +10,39 @@ use Rattle.hm_key.specs.Balance.{IsBalanced, first_bytes, payload_of}
 use Rattle.hm_key.specs.Counts.{Content, Counts, Subject, entry_subject, subject_of}
 use Rattle.hm_key.specs.Elements.{IsContent, element_key}
 use Rattle.hm_key.specs.Extents.{Extent, extent_at}
-use Rattle.hm_key.specs.Versions.{IsBelow}
 use Rattle.hm_key.specs.declared.element.Element.{Element}
 use Rattle.hm_key.specs.declared.rec_type.TheConstants.{DIRECTORY_ENTRY}
 use Rattle.hm_records.specs.Changes.{AgreeOnObject, LacksName, Overrides}
 use Rattle.hm_records.specs.Entry.{entry_bytes}
 use Rattle.hm_records.specs.KeysFit.{KeysFit}
-use Rattle.hm_records.specs.Laws.{LosesEntry}
+use Rattle.hm_records.specs.Laws.{LosesEntry, triple_of}
 use Rattle.hm_records.specs.Payload.{SpellsEntry}
 use Rattle.hm_records.specs.View.{HasEntry}
 use Rattle.hm_records.specs.declared.entry.DirEntry.{DirEntry}
-use Rattle.hm_records.proofs.ChangeLemmas.{below_later, counts_from}
 use Rattle.hm_records.proofs.EntryChangeLemmas.{agree_loses, objects_loses}
 use Rattle.hm_records.proofs.NameLemmas.{OthersAgree, name_gone}
 use Rattle.hm_records.proofs.SubjectLemmas.{same_subject}
-use Rattle.hm_records.proofs.ViewLemmas.{view_same}
 use Rattle.hm_cursor.specs.Told.{IsPayloadDamage, Lists, fulls}
+use Rattle.hm_cursor.specs.Names.{IsNoEntry, IsObjectNamed, LacksNameIn}
 use Rattle.hm_cursor.specs.Version.{IsFirst}
-use Rattle.hm_cursor.specs.Views.{CameAs, WritesIn}
+use Rattle.hm_cursor.specs.Views.{WritesIn}
 use Rattle.hm_cursor.specs.Write.{IsFreshFor, KeepPlaces, Rewrites}
-use Rattle.hm_cursor.proofs.ViewsLemmas.{fresh_beside, nothing_written, writes_again, writes_within}
-use Rattle.hm_dirs.specs.Entries.{IsNoEntry, IsObjectNamed, LacksNameIn}
+use Rattle.hm_cursor.proofs.EntryLemmas.{about_entry, first_counts}
+use Rattle.hm_cursor.proofs.NameLemmas.{lacks_before, lacks_more, none_lacks, settled_content}
+use Rattle.hm_cursor.proofs.ViewsLemmas.{fresh_beside, fresh_later, keys_fit_still, nothing_written, writes_again, writes_within}
 use Rattle.hm_dirs.specs.Names.{AreOlder, IsNothing, TakesName, first_key}
-use Rattle.hm_dirs.proofs.NamedLemmas.{lacks_all, lacks_before, lacks_more, none_lacks, settled_content}
-use Rattle.hm_dirs.proofs.SpanLemmas.{about_entry, first_counts}
-use Rattle.hm_dirs.proofs.WriteLemmas.{entry_within}
+use Rattle.hm_dirs.proofs.NamedLemmas.{lacks_all}
+use Rattle.hm_dirs.proofs.WriteLemmas.{counts_less, entry_before, entry_later, entry_within}
 
 -- of a name's entries those under the keys from `first` to `end` are closed at `i`, and all else is as it was
 pub record HaveGone (pfs : ℕ) (directory : Obj) (name : List ℕ) (i first end : ℕ) (was now : Lists) : Type 0 where
   pub balanced : IsBalanced now.0 now.1
   pub placed : KeepPlaces was now
   pub writes : WritesIn pfs i IsNothing (fulls was) (fulls now)
-  pub up_to : IsBelow (i + 1) (fulls was)
   pub older : AreOlder pfs directory i (fulls now)
-  pub others : OthersAgree pfs directory name (Counts (fulls was) i) (Counts (fulls now) i)
-  pub objects : (obj : ℕ) → AgreeOnObject pfs obj (Counts (fulls was) i) (Counts (fulls now) i)
+  pub others : (t : ℕ) → i ≤ t → OthersAgree pfs directory name (Counts (fulls was) t) (Counts (fulls now) t)
+  pub objects : (t : ℕ) → i ≤ t → (obj : ℕ) → AgreeOnObject pfs obj (Counts (fulls was) t) (Counts (fulls now) t)
+  pub less : (t : ℕ) → i ≤ t → (s : Subject) (bytes : List ℕ) → Counts (fulls now) t s bytes → Counts (fulls was) t s bytes
   pub lacks : LacksNameIn (Counts (fulls now) i) pfs directory name first end
 
 pub none_gone : (pfs : ℕ) (directory : Obj) (name : List ℕ) (i first : ℕ) (was : Lists) → IsBalanced was.0 was.1
@@ -54,14 +51,14 @@ none_gone pfs directory name i first was balanced older = record {
   balanced = balanced;
   placed = record { extents = refl; elements = λ x has. (x, has, refl, refl, refl) };
   writes = nothing_written pfs i IsNothing (fulls was);
-  up_to = older.up_to;
   older = older;
-  others = λ t not key object. (λ h. h, λ h. h);
-  objects = λ obj. record {
+  others = λ t late triple not key object. (λ h. h, λ h. h);
+  objects = λ t late obj. record {
     inode = λ bytes. (λ h. h, λ h. h);
     bytes = λ end bytes. (λ h. h, λ h. h);
     target = λ bytes. (λ h. h, λ h. h);
   };
+  less = λ t late s bytes counts. counts;
   lacks = λ key object from below has. absurd (omega (arith, from, below));
 }
 
@@ -110,12 +107,10 @@ module _ (pfs : ℕ) (directory : Obj) (key i : ℕ) (es es' : List FullElement)
       (λ x about made now. none_some x.bytes now) rewrites
 
   closed_older : AreOlder pfs directory i es → AreOlder pfs directory i es'
-  closed_older older = record { entries = entries; up_to = rewrites.up_to older.up_to } where
-    entries : (k : ℕ) → IsFreshFor (entry_subject pfs directory.0 k) i es'
-    entries k = elim (same_subject (entry_subject pfs directory.0 k) (entry_subject pfs directory.0 key)) [
-      | inr differ ↦ fresh_beside (entry_subject pfs directory.0 key) (entry_subject pfs directory.0 k) None i i es es' rewrites differ (older.entries k)
-      | inl same ↦ subst (λ (s : Subject). IsFreshFor s i es') (sym same) (rewrites.closed refl (older.entries key))
-    ]
+  closed_older older k = elim (same_subject (entry_subject pfs directory.0 k) (entry_subject pfs directory.0 key)) [
+    | inr differ ↦ fresh_beside (entry_subject pfs directory.0 key) (entry_subject pfs directory.0 k) None i i es es' rewrites differ (older k)
+    | inl same ↦ subst (λ (s : Subject). IsFreshFor s i es') (sym same) (rewrites.closed refl (older key))
+  ]
 
   closed_lacks : (name : List ℕ) (first : ℕ) → LacksNameIn (Counts es i) pfs directory name first key
       → LacksNameIn (Counts es' i) pfs directory name first (key + 1)
@@ -134,9 +129,12 @@ module _ (pfs : ℕ) (directory : Obj) (key i : ℕ) (es es' : List FullElement)
     bytes : List ℕ
     bytes = entry_bytes (record { obj = object; name = name })
 
-  closed_loses : (name : List ℕ) (object : Obj) → HasEntry (Counts es i) pfs directory key name object
-      → LosesEntry pfs directory key (record { obj = object; name = name }) (Counts es i) (Counts es' i)
-  closed_loses name object has = record { there = has; counts = over }
+  closed_loses : (name : List ℕ) (object : Obj) (t : ℕ) → AreOlder pfs directory i es → i ≤ t → HasEntry (Counts es i) pfs directory key name object
+      → LosesEntry pfs directory key (record { obj = object; name = name }) (Counts es t) (Counts es' t)
+  closed_loses name object t older late has = record {
+    there = entry_later pfs directory i t es name key object older late has;
+    counts = rewrites.present t late;
+  }
 
 module _ (at : Key) (pfs : ℕ) (directory : Obj) (key last i : ℕ) (here : subject_of at ≡ entry_subject pfs directory.0 key)
     (name : List ℕ) (first : ℕ) (was mid : Lists) (gone : HaveGone pfs directory name i first key was mid) where
@@ -147,10 +145,10 @@ module _ (at : Key) (pfs : ℕ) (directory : Obj) (key last i : ℕ) (here : sub
     balanced = gone.balanced;
     placed = gone.placed;
     writes = gone.writes;
-    up_to = gone.up_to;
     older = gone.older;
     others = gone.others;
     objects = gone.objects;
+    less = gone.less;
     lacks = lacks_more mid.0 mid.1 at pfs directory key last i here name first gone.lacks e content found other;
   }
 
@@ -163,12 +161,13 @@ module _ (at : Key) (pfs : ℕ) (directory : Obj) (key last i : ℕ) (here : sub
     placed = placed_both was mid now gone.placed placed;
     writes = writes_again pfs i IsNothing (fulls was) (fulls mid) (fulls now) (λ x y same kind bytes new. new) gone.writes
         (closed_writes pfs directory e.base.key i (fulls mid) (fulls now) wrote);
-    up_to = gone.up_to;
     older = closed_older pfs directory e.base.key i (fulls mid) (fulls now) wrote gone.older;
-    others = others_both pfs directory name (Counts (fulls was) i) (Counts (fulls mid) i) (Counts (fulls now) i) gone.others
-        (agree_loses pfs directory e.base.key entry (Counts (fulls mid) i) (Counts (fulls now) i) loses (settled_content mid.0 mid.1 i content));
-    objects = λ obj. object_both pfs obj (Counts (fulls was) i) (Counts (fulls mid) i) (Counts (fulls now) i) (gone.objects obj)
-        (objects_loses pfs directory e.base.key entry (Counts (fulls mid) i) (Counts (fulls now) i) loses obj);
+    others = λ t late. others_both pfs directory name (Counts (fulls was) t) (Counts (fulls mid) t) (Counts (fulls now) t) (gone.others t late)
+        (agree_loses pfs directory e.base.key entry (Counts (fulls mid) t) (Counts (fulls now) t) (loses t late) (settled_content mid.0 mid.1 t content));
+    objects = λ t late obj. object_both pfs obj (Counts (fulls was) t) (Counts (fulls mid) t) (Counts (fulls now) t) (gone.objects t late obj)
+        (objects_loses pfs directory e.base.key entry (Counts (fulls mid) t) (Counts (fulls now) t) (loses t late) obj);
+    less = λ t late s bytes counts. gone.less t late s bytes
+        (counts_less (entry_subject pfs directory.0 e.base.key) (Counts (fulls mid) t) (Counts (fulls now) t) (wrote.present t late) s bytes counts);
     lacks = closed_lacks pfs directory e.base.key i (fulls mid) (fulls now) wrote name first
         (lacks_before mid.0 mid.1 at pfs directory key last i here name first gone.lacks e found);
   } where
@@ -180,9 +179,9 @@ module _ (at : Key) (pfs : ℕ) (directory : Obj) (key last i : ℕ) (here : sub
         subst (λ (s : Subject). Rewrites s None i (fulls mid) (fulls now)) (about_entry mid.0 mid.1 at pfs directory key last i here e found.place)
         rewrites
 
-    loses : LosesEntry pfs directory e.base.key entry (Counts (fulls mid) i) (Counts (fulls now) i)
-    loses =
-        closed_loses pfs directory e.base.key i (fulls mid) (fulls now) wrote name object (record {
+    loses : (t : ℕ) → i ≤ t → LosesEntry pfs directory e.base.key entry (Counts (fulls mid) t) (Counts (fulls now) t)
+    loses t late =
+        closed_loses pfs directory e.base.key i (fulls mid) (fulls now) wrote name object t gone.older late (record {
           ranges = spelled.0;
           there = subst (λ (bytes : List ℕ). Counts (fulls mid) i (entry_subject pfs directory.0 e.base.key) bytes) spelled.1
               (first_counts mid.0 mid.1 at pfs directory key last i here e found);
@@ -194,10 +193,10 @@ module _ (at : Key) (pfs : ℕ) (directory : Obj) (key last i : ℕ) (here : sub
     balanced = gone.balanced;
     placed = gone.placed;
     writes = gone.writes;
-    up_to = gone.up_to;
     older = gone.older;
     others = gone.others;
     objects = gone.objects;
+    less = gone.less;
     lacks = none_lacks mid.0 mid.1 at pfs directory key last i here name first gone.lacks none;
   }
 
@@ -205,7 +204,7 @@ module _ (at : Key) (pfs : ℕ) (directory : Obj) (key last i : ℕ) (here : sub
   pub gone_fresh : (e : Element) → IsFirst mid.0 at last i (Some e) → IsFreshFor (subject_of (element_key e)) i (fulls mid)
   gone_fresh e found =
       subst (λ (s : Subject). IsFreshFor s i (fulls mid))
-      (sym (about_entry mid.0 mid.1 at pfs directory key last i here e found.place)) (gone.older.entries e.base.key)
+      (sym (about_entry mid.0 mid.1 at pfs directory key last i here e found.place)) (gone.older e.base.key)
 
   -- a payload that spells no entry was there before
   pub gone_damage : (e : Element) (fault : Fault) → IsFirst mid.0 at last i (Some e) → IsNoEntry mid.1 e fault → IsPayloadDamage was fault
@@ -229,40 +228,40 @@ module _ (at : Key) (pfs : ℕ) (directory : Obj) (key last i : ℕ) (here : sub
 
 -- ---- the name
 
-keys_still : (pfs i : ℕ) (hash : List ℕ → ℕ) (es es' : List FullElement) → WritesIn pfs i IsNothing es es' → KeysFit hash es → KeysFit hash es'
-keys_still pfs i hash es es' writes fit x entry has type ranges spelled = by_origin (writes.came x has) where
-  by_origin : CameAs IsNothing es x → x.key.key / 2 ^ 16 ≡ hash entry.name / 2 / 2 ^ 16
-  by_origin (inl (e, there, key, kind, bytes)) =
-      subst (λ (k : Key). k.key / 2 ^ 16 ≡ hash entry.name / 2 / 2 ^ 16) (sym key)
-      (fit e entry there (sym (ap (λ (k : Key). k.rec_type) key) ∙ type) ranges (sym bytes ∙ spelled))
-  by_origin (inr new) = absurd new
-
 -- where all entries of a name are closed, the tree has lost it
 pub name_taken : (hash : List ℕ → ℕ) (pfs : ℕ) (directory : Obj) (name : List ℕ) (i first end : ℕ) (was now : Lists) → first ≡ first_key (hash name)
-    → end ≡ first + 65536 → IsContent now.0 → HaveGone pfs directory name i first end was now
+    → end ≡ first + 65536 → IsContent was.0 → IsContent now.0 → HaveGone pfs directory name i first end was now
     → TakesName hash pfs directory name i (fulls was) (fulls now)
-name_taken hash pfs directory name i first end was now number size content gone = record {
+name_taken hash pfs directory name i first end was now number size before after gone = record {
   writes = gone.writes;
   shows = λ fit t tree late has. record {
-    settled = settled_content now.0 now.1 t content;
-    view = view_same pfs (without_name tree directory name) (Counts (fulls now) i) (Counts (fulls now) t)
-        (counts_from (fulls now) i t gone.older.up_to (later (fulls now) t late gone.older.up_to))
-        (name_gone pfs tree (Counts (fulls was) i) (Counts (fulls now) i) directory name
-        (view_same pfs tree (Counts (fulls was) t) (Counts (fulls was) i)
-        (counts_from (fulls was) t i (later (fulls was) t late gone.up_to) gone.up_to) has.view)
-        gone.others gone.objects (lacks_then fit));
+    settled = settled_content now.0 now.1 t after;
+    view = name_gone pfs tree (Counts (fulls was) t) (Counts (fulls now) t) directory name has.view (gone.others t late) (gone.objects t late)
+        (lacks_then fit t late);
   };
-  lacks = λ fit t late key object has.
-      lacks_then fit key object (record {
+  lacks = lacks_then;
+  fits = fits;
+  closed = λ fit key object has t late bytes counts.
+      let entry : DirEntry = record { obj = object; name = name } in
+      let still : Counts (fulls now) i (entry_subject pfs directory.0 key) bytes =
+      (fresh_later (entry_subject pfs directory.0 key) i t (fulls now) bytes (gone.older key) late).0 counts in
+      let same : bytes ≡ entry_bytes entry =
+      settled_content was.0 was.1 i before (entry_subject pfs directory.0 key) bytes (entry_bytes entry)
+      (gone.less i (omega arith) (entry_subject pfs directory.0 key) bytes still) has.there in
+      lacks_now fit key object (record {
         ranges = has.ranges;
-        there = (counts_from (fulls now) t i (later (fulls now) t late gone.older.up_to) gone.older.up_to (entry_subject pfs directory.0 key)
-            (entry_bytes (record { obj = object; name = name }))).1 has.there;
+        there = subst (λ (b : List ℕ). Counts (fulls now) i (entry_subject pfs directory.0 key) b) same still;
       });
+  only = λ t s bytes late counts. gone.less t late s bytes counts;
+  beside = λ t key other name' object late apart has.
+      (gone.others t late (triple_of other name' object) (λ stands. apart (λ j. record { 0 = stands.0 j }) stands.1) key object).1 has;
 } where
-  later : (es : List FullElement) (t : ℕ) → i ≤ t → IsBelow (i + 1) es → IsBelow (t + 1) es
-  later es t late below = below_later es (i + 1) (t + 1) (omega (arith, late)) below
+  fits : KeysFit hash (fulls was) → KeysFit hash (fulls now)
+  fits = keys_fit_still pfs i IsNothing hash (fulls was) (fulls now) gone.writes (λ x entry new. absurd new)
 
-  lacks_then : KeysFit hash (fulls was) → LacksName (Counts (fulls now) i) pfs directory name
-  lacks_then fit =
-      lacks_all hash (fulls now) i pfs directory name first end number size gone.lacks
-      (keys_still pfs i hash (fulls was) (fulls now) gone.writes fit)
+  lacks_now : KeysFit hash (fulls was) → LacksName (Counts (fulls now) i) pfs directory name
+  lacks_now fit = lacks_all hash (fulls now) i pfs directory name first end number size gone.lacks (fits fit)
+
+  lacks_then : KeysFit hash (fulls was) → (t : ℕ) → i ≤ t → LacksName (Counts (fulls now) t) pfs directory name
+  lacks_then fit t late key object has =
+      lacks_now fit key object (entry_before pfs directory i t (fulls now) name key object gone.older late has)

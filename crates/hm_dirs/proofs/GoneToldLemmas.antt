@@ -9,10 +9,10 @@ use Rattle.hm_key.specs.Counts.{entry_subject, subject_of}
 use Rattle.hm_key.specs.Elements.{IsContent, element_key}
 use Rattle.hm_key.specs.Extents.{Extent}
 use Rattle.hm_key.specs.declared.element.Element.{Element}
+use Rattle.hm_cursor.specs.Names.{IsNoEntry, IsObjectNamed}
 use Rattle.hm_cursor.specs.Told.{IsPayloadDamage, Lists, OnBalanced, fulls}
 use Rattle.hm_cursor.specs.Version.{IsFirst}
 use Rattle.hm_cursor.specs.Write.{KeepPlaces, Rewrites}
-use Rattle.hm_dirs.specs.Entries.{IsNoEntry, IsObjectNamed}
 use Rattle.hm_dirs.specs.Names.{TakesName, first_key}
 use Rattle.hm_dirs.proofs.GoneLemmas.{HaveGone, gone_all, gone_damage, gone_more, gone_past, name_taken}
 
@@ -39,15 +39,24 @@ module _ (pfs : ℕ) (directory : Obj) (name : List ℕ) (i first : ℕ) where
 
   -- where none is left, the name is taken away
   pub told_taken : (hash : List ℕ → ℕ) (end : ℕ) (es es' : Option (List Element)) (xs xs' : Option (List Extent)) → first ≡ first_key (hash name)
-      → end ≡ first + 65536 → IfSome es' IsContent → GoneTold pfs directory name i first end es xs es' xs'
+      → end ≡ first + 65536 → IfSome es IsContent → IfSome es' IsContent → GoneTold pfs directory name i first end es xs es' xs'
       → IfSome (content_of es xs) (λ was. IsBalanced was.0 was.1
       → IsSomeAnd (content_of es' xs') (λ now. IsBalanced now.0 now.1 × TakesName hash pfs directory name i (fulls was) (fulls now)))
-  told_taken hash end None es' xs xs' number size content gone = tt
-  told_taken hash end (Some es) es' None xs' number size content gone = tt
-  told_taken hash end (Some es) None (Some xs) xs' number size content gone = absurd gone
-  told_taken hash end (Some es) (Some es') (Some xs) None number size content gone = absurd gone
-  told_taken hash end (Some es) (Some es') (Some xs) (Some xs') number size content gone = λ balanced.
-      (gone.balanced, name_taken hash pfs directory name i first end (es, xs) (es', xs') number size content gone)
+  told_taken hash end None es' xs xs' number size before after gone = tt
+  told_taken hash end (Some es) es' None xs' number size before after gone = tt
+  told_taken hash end (Some es) None (Some xs) xs' number size before after gone = absurd gone
+  told_taken hash end (Some es) (Some es') (Some xs) None number size before after gone = absurd gone
+  told_taken hash end (Some es) (Some es') (Some xs) (Some xs') number size before after gone = λ balanced.
+      (gone.balanced, name_taken hash pfs directory name i first end (es, xs) (es', xs') number size before after gone)
+
+  -- each payload stands where it stood
+  pub told_placed : (end : ℕ) (es es' : Option (List Element)) (xs xs' : Option (List Extent)) → GoneTold pfs directory name i first end es xs es' xs'
+      → IfSome (content_of es xs) (λ was. IsSomeAnd (content_of es' xs') (KeepPlaces was))
+  told_placed end None es' xs xs' gone = tt
+  told_placed end (Some es) es' None xs' gone = tt
+  told_placed end (Some es) None (Some xs) xs' gone = absurd gone
+  told_placed end (Some es) (Some es') (Some xs) None gone = absurd gone
+  told_placed end (Some es) (Some es') (Some xs) (Some xs') gone = gone.placed
 
   module _ (at : Key) (key last : ℕ) (here : subject_of at ≡ entry_subject pfs directory.0 key) where
     pub told_all : (es es' : Option (List Element)) (xs xs' : Option (List Extent)) → IfSome es' (λ list. IsFirst list at last i None)

@@ -1,8 +1,10 @@
-pub mod SpanLemmas
-pub mod PayloadLemmas
 pub mod StoreLemmas
+pub mod SpanLemmas
 pub mod NamedLemmas
 pub mod WriteLemmas
+pub mod CountLemmas
+pub mod LeadLemmas
+pub mod LeadToldLemmas
 pub mod GoneLemmas
 pub mod GoneToldLemmas
 pub mod WalkLemmas

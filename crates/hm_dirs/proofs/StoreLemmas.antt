@@ -1,52 +1,43 @@
--- What a store tells of a balanced content, before and after calls, and why such calls fail.
-use Rattle.std.proofs.Common.{◌≡◌, ℕ, ◌≤◌, List, Option, None, Some, subst, arith}
+-- What is known of a store that tells a balanced content.
+use Rattle.std.proofs.Common.{◌≡◌, ℕ, List, Option, Some, None, subst}
 use Rattle.std.specs.Prelude.{IfSome}
-use Rattle.hm_types.specs.Elements.{Key}
-use Rattle.hm_types.specs.Faults.{IsCaused}
-use Rattle.hm_types.specs.declared.fault.Fault.{Fault}
-use Rattle.hm_types.specs.declared.fault.Fault.TheVariants.{Media, Damaged, NoMemory}
-use Rattle.hm_types.specs.declared.id.Obj.{Obj}
-use Rattle.hm_key.specs.Balance.{IsBalanced, payload_of}
+use Rattle.hm_key.specs.Elements.{IsContent}
 use Rattle.hm_key.specs.Extents.{Extent}
 use Rattle.hm_key.specs.declared.element.Element.{Element}
-use Rattle.hm_cursor.specs.Told.{Lists, OnBalanced}
-use Rattle.hm_cursor.specs.Version.{IsFirst}
-use Rattle.hm_dirs.specs.Entries.{IsObjectNamed}
+use Rattle.hm_records.specs.KeysFit.{KeysFit}
+use Rattle.hm_cursor.specs.Told.{Lists, OnBalanced, fulls}
+use Rattle.hm_dirs.specs.Names.{OnNamed}
 
--- what follows on balanced content from what is known of it, of its elements and of its extents
-pub on_told : (es : Option (List Element)) (xs : Option (List Extent)) (P : List Element → Type 0) (X : List Extent → Type 0) (Q R : Lists → Type 0)
-    → ((list : List Element) (extents : List Extent) → IsBalanced list extents → P list → X extents → Q (list, extents) → R (list, extents))
-    → IfSome es P → IfSome xs X → OnBalanced es xs Q → OnBalanced es xs R
-on_told None xs P X Q R step p x q = tt
-on_told (Some es) None P X Q R step p x q = tt
-on_told (Some es) (Some xs) P X Q R step p x q = λ balanced. step es xs balanced p x (q balanced)
+-- nothing needs to be known of balanced content
+pub nothing_balanced : (es : Option (List Element)) (xs : Option (List Extent)) → OnBalanced es xs (λ _. Unit {0})
+nothing_balanced None xs = tt
+nothing_balanced (Some es) None = tt
+nothing_balanced (Some es) (Some xs) = λ balanced. tt
 
--- two facts of told elements are one
-pub both : {A : Type 0} (o : Option A) (P Q : A → Type 0) → IfSome o P → IfSome o Q → IfSome o (λ x. P x × Q x)
-both None P Q p q = tt
-both (Some x) P Q p q = (p, q)
+-- what follows on content in which keys fit from two facts of it
+pub on_content : (hash : List ℕ → ℕ) (es : Option (List Element)) (xs : Option (List Extent)) (A B R : Lists → Type 0)
+    → ((lists : Lists) → IsContent lists.0 → KeysFit hash (fulls lists) → A lists → B lists → R lists) → IfSome es IsContent → OnNamed hash es xs A
+    → OnNamed hash es xs B → OnNamed hash es xs R
+on_content hash None xs A B R step content a b = tt
+on_content hash (Some es) None A B R step content a b = tt
+on_content hash (Some es) (Some xs) A B R step content a b = λ balanced fit. step (es, xs) content fit (a balanced fit) (b balanced fit)
 
--- nothing needs to be known
-pub nothing_known : {A : Type 0} (o : Option A) → IfSome o (λ _. Unit {0})
-nothing_known None = tt
-nothing_known (Some x) = tt
+-- the same, where the order of its elements is not needed
+pub on_fit : (hash : List ℕ → ℕ) (es : Option (List Element)) (xs : Option (List Extent)) (A B R : Lists → Type 0)
+    → ((lists : Lists) → KeysFit hash (fulls lists) → A lists → B lists → R lists) → OnNamed hash es xs A → OnNamed hash es xs B → OnNamed hash es xs R
+on_fit hash None xs A B R step a b = tt
+on_fit hash (Some es) None A B R step a b = tt
+on_fit hash (Some es) (Some xs) A B R step a b = λ balanced fit. step (es, xs) fit (a balanced fit) (b balanced fit)
 
--- what a search answered in a store that stayed
-pub first_still : (now was : Option (List Element)) (at : Key) (last t : ℕ) (found answer : Option Element) → now ≡ was → found ≡ answer
-    → IfSome now (λ es. IsFirst es at last t found) → IfSome was (λ es. IsFirst es at last t answer)
-first_still now was at last t found answer same is read =
-    subst (λ (o : Option (List Element)). IfSome o (λ es. IsFirst es at last t answer)) same
-    (subst (λ (f : Option Element). IfSome now (λ es. IsFirst es at last t f)) is read)
+-- keys need not fit
+pub named_balanced : (hash : List ℕ → ℕ) (es : Option (List Element)) (xs : Option (List Extent)) (P : Lists → Type 0) → OnBalanced es xs P
+    → OnNamed hash es xs P
+named_balanced hash None xs P is = tt
+named_balanced hash (Some es) None P is = tt
+named_balanced hash (Some es) (Some xs) P is = λ balanced fit. is balanced
 
--- what was read in a store that stayed
-pub read_still : (now was : Option (List Extent)) (e : Element) (name : List ℕ) (found answer : Option Obj) → now ≡ was → found ≡ answer
-    → IfSome now (λ xs. IsObjectNamed (payload_of xs e) name found) → IfSome was (λ xs. IsObjectNamed (payload_of xs e) name answer)
-read_still now was e name found answer same is read =
-    subst (λ (o : Option (List Extent)). IfSome o (λ xs. IsObjectNamed (payload_of xs e) name answer)) same
-    (subst (λ (f : Option Obj). IfSome now (λ xs. IsObjectNamed (payload_of xs e) name f)) is read)
-
--- the cause of a fault of a call is one in all calls of which that is the last
-pub caused_later : (old mid new : ℕ) (fault : Fault) → old ≤ mid → IsCaused mid new fault → IsCaused old new fault
-caused_later old mid new (Media before after) grows cause = record { begin = omega (arith, cause.begin); rose = cause.rose; end = cause.end }
-caused_later old mid new (Damaged at kind) grows cause = tt
-caused_later old mid new NoMemory grows cause = tt
+-- a fact of a store that stayed
+pub named_still : (hash : List ℕ → ℕ) (now was : Option (List Element)) (now' was' : Option (List Extent)) (P : Lists → Type 0) → now ≡ was → now' ≡ was'
+    → OnNamed hash now now' P → OnNamed hash was was' P
+named_still hash now was now' was' P same same' is =
+    subst (λ (o : Option (List Element)). OnNamed hash o was' P) same (subst (λ (o : Option (List Extent)). OnNamed hash now o P) same' is)

@@ -46,7 +46,7 @@ use Rattle.hm_volume.proofs.MadeLemmas.{found, not_found}
 use Rattle.hm_volume.proofs.RecordLemmas.{system_none, system_some}
 use Rattle.hm_cursor.specs.Told.{Lists, OnBalanced, fulls}
 use Rattle.hm_cursor.proofs.PayloadLemmas.{full_sorted}
-use Rattle.hm_dirs.specs.Names.{IsFirstEntry}
+use Rattle.hm_cursor.specs.Names.{IsFirstEntry}
 use Rattle.hm_dirs.specs.Walk.{Scene, IsDrawn, IsSeenAs, IsTold, OnShown, is_watched, shown_by, when_of}
 use Rattle.hm_dirs.specs.declared.position.Course.{Course}
 

@@ -10,7 +10,8 @@ use Rattle.hm_types.specs.declared.object.Object.{Object}
 use Rattle.hm_key.specs.Counts.{Counts, inode_subject}
 use Rattle.hm_model.specs.View.{When, AsOf, Position as Place, object_at}
 use Rattle.hm_model.specs.Volume.{PseudoFileSystem, system_of}
-use Rattle.hm_model.specs.Walk.{Passed, Walked, Reaches, Refuses, Follow as Mode, Follows as follows, TakesPfs as takes_pfs, and_then, by_id, by_name, enter, find_name, find_object, from_found, is_directory, is_kept, is_seen, linked_in, over_link, root_of, take_pfs}
+use Rattle.hm_model.specs.Walk.{Passed, Walked, Reaches, Refuses, Follow as Mode, Follows as follows, TakesPfs as takes_pfs, and_then, by_id, by_name}
+use Rattle.hm_model.specs.Walk.{enter, find_name, find_object, from_found, is_directory, is_kept, is_seen, linked_in, over_link, root_of, take_pfs}
 use Rattle.hm_model.specs.declared.reply.Reply.TheVariants.{NotFound as not_found, NotDir as not_dir, NotRetained as not_retained}
 use Rattle.hm_types.specs.Tree.{named_in}
 use Rattle.hm_records.specs.Changes.{CountsNothing, HasInode}

@@ -15,7 +15,8 @@ use Rattle.hm_key.specs.Versions.{IsBelow}
 use Rattle.hm_key.specs.Extents.{Extent}
 use Rattle.hm_key.specs.declared.element.Element.{Element}
 use Rattle.hm_model.specs.View.{Now, Position as Place, object_at}
-use Rattle.hm_model.specs.Walk.{Passed, Follow as Mode, Stays as stays, Follows as follows, TakesPfs as takes_pfs, by_id, by_name, enter, find_name, find_object, follow_before, from_found, over_link, root_of, start, step, take_pfs, walk}
+use Rattle.hm_model.specs.Walk.{Passed, Follow as Mode, Stays as stays, Follows as follows, TakesPfs as takes_pfs, by_id, by_name, enter, find_name}
+use Rattle.hm_model.specs.Walk.{find_object, follow_before, from_found, over_link, root_of, start, step, take_pfs, walk}
 use Rattle.hm_records.specs.Changes.{CountsNothing, HasInode, LacksName}
 use Rattle.hm_records.specs.KeysFit.{KeysFit}
 use Rattle.hm_records.specs.PfsRecord.{IsPfsRecord, open_end, pfs_bytes}
@@ -25,8 +26,10 @@ use Rattle.hm_records.specs.declared.inode.Inode.{Inode}
 use Rattle.hm_records.specs.declared.pfs_record.PfsRecord.{PfsRecord}
 use Rattle.hm_volume.specs.Found.{IsFoundBy}
 use Rattle.hm_cursor.specs.Told.{IsInodeThen, IsRecordNow, Lists, OnBalanced, fulls}
-use Rattle.hm_dirs.specs.Names.{IsFirstEntry, IsLookedUp, OnNamed}
-use Rattle.hm_dirs.specs.Walk.{AreDrawn, ComesOut, EndsAt, GoesOn, IsDrawn, IsSeenAs, IsShownAs, IsTold, OnShown, Scene, found_at, is_directory_by, is_watched, link_by, mode_of, place_of, root_at, when_of}
+use Rattle.hm_cursor.specs.Names.{IsFirstEntry}
+use Rattle.hm_dirs.specs.Names.{IsLookedUp, OnNamed}
+use Rattle.hm_dirs.specs.Walk.{AreDrawn, ComesOut, EndsAt, GoesOn, IsDrawn, IsSeenAs, IsShownAs, IsTold, OnShown, Scene, found_at, is_directory_by}
+use Rattle.hm_dirs.specs.Walk.{is_watched, link_by, mode_of, place_of, root_at, when_of}
 use Rattle.hm_dirs.specs.declared.position.Course.{Course}
 use Rattle.hm_dirs.specs.declared.position.Follow.{Follow}
 use Rattle.hm_dirs.specs.declared.position.Follow.TheVariants.{Stays, Follows, TakesPfs}
@@ -34,9 +37,13 @@ use Rattle.hm_dirs.specs.declared.position.Lost.{Lost}
 use Rattle.hm_dirs.specs.declared.position.Lost.TheVariants.{NotFound, NotDir, NotRetained}
 use Rattle.hm_dirs.specs.declared.position.Position.{Position}
 use Rattle.hm_dirs.specs.declared.position.Stand.{Stand}
-use Rattle.hm_dirs.proofs.WalkLemmas.{IsSound, is_seen_then, is_unseen, its_system, kept, no_system, kept_none, not_kept, nothing_told, number_none, number_some, object_none, object_some, shown, shown_both, shown_next, told_more, told_still, view_none, view_now, view_kept, view_seen}
+use Rattle.hm_dirs.proofs.WalkLemmas.{IsSound, is_seen_then, is_unseen, its_system, kept, no_system, kept_none, not_kept, nothing_told, number_none}
+use Rattle.hm_dirs.proofs.WalkLemmas.{number_some, object_none, object_some, shown, shown_both, shown_next, told_more, told_still, view_none}
+use Rattle.hm_dirs.proofs.WalkLemmas.{view_now, view_kept, view_seen}
 use Rattle.hm_dirs.proofs.WalkLoopLemmas.{IsOver, is_on, one, over_lost, over_more, over_none}
-use Rattle.hm_dirs.proofs.WalkOutcomeLemmas.{at_none, at_some, directory_here, enters, enters_none, enters_unseen, finds, finds_none, goes_on, in_none, in_one, link_here, lost_on, names, names_none, no_link, over, sees, sees_none, stays_on, takes, takes_none}
+use Rattle.hm_dirs.proofs.WalkOutcomeLemmas.{at_none, at_some, directory_here, enters, enters_none, enters_unseen, finds, finds_none, goes_on}
+use Rattle.hm_dirs.proofs.WalkOutcomeLemmas.{in_none, in_one, link_here, lost_on, names, names_none, no_link, over, sees, sees_none, stays_on, takes}
+use Rattle.hm_dirs.proofs.WalkOutcomeLemmas.{takes_none}
 
 -- from what a call that succeeds answers to what the caller does
 pub if_ok : {X E : Type 0} (A B : X → Type 0) (result : Result X E) → ((x : X) → A x → B x) → IfOk result A → IfOk result B
@@ -464,7 +471,8 @@ module _ (es : Option (List Element)) (xs : Option (List Extent)) (course : Cour
       subst (λ (o : Option Id). OnShown es xs course (ById o stand (Err NotRetained))) (sym is)
       (shown es xs course (RecordIs stand.at.pfs.0 None) (ById (Some id) stand (Err NotRetained)) content
       (record_told es xs stand.at.pfs.0 None (subst (λ (o : Option PfsRecord). OnBalanced es xs (λ lists. IsRecordNow lists stand.at.pfs.0 o)) none told))
-      (λ scene sound asked nothing drawn passed on. sees_none scene id (place_of stand.at) passed (kept_none scene sound stand.at.pfs.0 id.0 (nothing sound.shows.ids))))
+      (λ scene sound asked nothing drawn passed on. sees_none scene id (place_of stand.at) passed (kept_none scene sound stand.at.pfs.0 id.0 (nothing
+      sound.shows.ids))))
 
   pub seen_unkept : (as_of : Option Id) (id : Id) (stand : Stand) (found : Option PfsRecord) (r : PfsRecord) → as_of ≡ Some id
       → OnBalanced es xs (λ lists. IsRecordNow lists stand.at.pfs.0 found) → found ≡ Some r → (Keeps r.retention id.0 → ⊥)
@@ -472,7 +480,8 @@ module _ (es : Option (List Element)) (xs : Option (List Extent)) (course : Cour
   seen_unkept as_of id stand found r is told there not =
       subst (λ (o : Option Id). OnShown es xs course (ById o stand (Err NotRetained))) (sym is)
       (shown es xs course (RecordIs stand.at.pfs.0 (Some r)) (ById (Some id) stand (Err NotRetained)) content (record_some stand.at.pfs.0 r found told there)
-      (λ scene sound asked has drawn passed on. sees_none scene id (place_of stand.at) passed (not_kept scene sound stand.at.pfs.0 r (has sound.shows.ids) id.0 not)))
+      (λ scene sound asked has drawn passed on. sees_none scene id (place_of stand.at) passed (not_kept scene sound stand.at.pfs.0 r (has
+      sound.shows.ids) id.0 not)))
 
   pub seen_then : (as_of : Option Id) (id : Id) (stand : Stand) (found : Option PfsRecord) (r : PfsRecord) (es' : Option (List Element))
       (xs' : Option (List Extent))

@@ -1,11 +1,13 @@
 -- What writes do to the names of a directory.
-use Rattle.std.proofs.Common.{◌≡◌, ℕ, ◌+◌, ◌≤◌, List, Option, None, Some, Result, Ok, Err, length, refl, ap, sym, subst, ◌∙◌, inl, inr, arith, rules}
+use Rattle.std.proofs.Common.{◌≡◌, ℕ, ◌+◌, ◌≤◌, Bool, true, false, List, Option, None, Some, Result, Ok, Err, length, refl, ap, sym, subst, ◌∙◌, inl}
+use Rattle.std.proofs.Common.{inr, arith, rules}
 use Rattle.std.specs.Prelude.{IfSome, IsSomeAnd, OnOk}
-use Rattle.hm_types.specs.Elements.{FullElement}
+use Rattle.hm_types.specs.Elements.{FullElement, Key}
+use Rattle.hm_types.specs.Tree.{FileTree, with_name}
 use Rattle.hm_types.specs.declared.id.Obj.{Obj}
 use Rattle.hm_types.specs.declared.zone.TheConstants.{META_ZONE}
 use Rattle.hm_key.specs.Balance.{IsBalanced, content_of}
-use Rattle.hm_key.specs.Counts.{Counts, Subject, entry_subject, subject_of}
+use Rattle.hm_key.specs.Counts.{Content, Counts, Subject, entry_subject, subject_of}
 use Rattle.hm_key.specs.Element.{part_of}
 use Rattle.hm_key.specs.Extents.{Extent}
 use Rattle.hm_key.specs.Key.{key_of}
@@ -14,13 +16,23 @@ use Rattle.hm_key.specs.declared.base.TheConstants.{ELEMENT}
 use Rattle.hm_key.specs.declared.element.Element.{Element}
 use Rattle.hm_key.specs.declared.rec_type.TheConstants.{DIRECTORY_ENTRY, OTHER_PART}
 use Rattle.hm_records.specs.Entry.{IsEntry, entry_bytes}
+use Rattle.hm_records.specs.Changes.{CountSame, CountsNothing, LacksName, Overrides}
+use Rattle.hm_records.specs.Laws.{HasView}
+use Rattle.hm_records.specs.Payload.{KeyFits}
+use Rattle.hm_records.specs.View.{HasEntry}
 use Rattle.hm_records.specs.declared.entry.DirEntry.{DirEntry}
-use Rattle.hm_records.proofs.EntryChangeLemmas.{new_shown}
+use Rattle.hm_records.proofs.EntryChangeLemmas.{later_gone, new_shown}
+use Rattle.hm_records.proofs.NameLemmas.{name_one}
+use Rattle.hm_records.proofs.SubjectLemmas.{same_subject}
+use Rattle.hm_records.proofs.ViewLemmas.{view_same}
 use Rattle.hm_records.proofs.EntryLemmas.{length-entry}
 use Rattle.hm_cursor.specs.Told.{Lists, fulls}
 use Rattle.hm_cursor.specs.Write.{IsNew, Rewrites, Writes, most_payload}
-use Rattle.hm_cursor.proofs.ViewsLemmas.{IsWithin, writes_within}
-use Rattle.hm_dirs.specs.Names.{AddsName, IsEntryAt}
+use Rattle.hm_cursor.specs.Views.{Shows, WritesIn}
+use Rattle.hm_cursor.proofs.ViewsLemmas.{IsSteady, IsWithin, fresh_later, keys_fit_still, writes_again, writes_within}
+use Rattle.hm_dirs.specs.Entries.{Clears}
+use Rattle.hm_dirs.specs.Names.{AddsName, AreOlder, CanTakeAt, IsEntryAt}
+use Rattle.hm_dirs.specs.declared.spot.Spot.{Spot}
 
 -- ---- calls that wrote
 
@@ -95,18 +107,154 @@ entry_within pfs directory key = record { place = inr refl; no_record = λ is. a
 some_one : (a b : List ℕ) → Some a ≡ Some b → a ≡ b
 some_one a b is = cc
 
-pub adds_name : (pfs : ℕ) (directory : Obj) (key i : ℕ) (entry : DirEntry) (s : Subject) (bytes : List ℕ) (es es' : List FullElement)
-    → s ≡ entry_subject pfs directory.0 key → bytes ≡ entry_bytes entry → IsEntry entry → Rewrites s (Some bytes) i es es'
-    → AddsName pfs directory key i entry es es'
-adds_name pfs directory key i entry s bytes es es' here spelled is rewrites = record {
-  writes = writes_within pfs i (entry_subject pfs directory.0 key) (Some (entry_bytes entry)) (IsEntryAt pfs directory key i entry) es es'
+none_some : (b : List ℕ) → None ≡ Some b → ⊥
+none_some b is = cc
+
+-- a new entry that is closed stays one
+entry_steady : (pfs : ℕ) (directory : Obj) (key i : ℕ) (entry : DirEntry) → IsSteady (IsEntryAt pfs directory key i entry)
+entry_steady pfs directory key i entry x e key' kind bytes new = record {
+  about = ap subject_of key' ∙ new.about;
+  made = ap (λ (k : Key). k.create) key' ∙ new.made;
+  entry_is = new.entry_is;
+  bytes = bytes ∙ new.bytes;
+}
+
+-- where what counted about a subject is closed, nothing counts that did not
+pub counts_less : (s : Subject) (C D : Content) → Overrides s None C D → (other : Subject) (bytes : List ℕ) → D other bytes → C other bytes
+counts_less s C D over other bytes counts = elim (same_subject other s) [
+  | inr differ ↦ (over.elsewhere other bytes differ).0 counts
+  | inl same ↦ absurd (none_some bytes ((over.about bytes).0 (subst (λ (z : Subject). D z bytes) same counts)))
+]
+
+-- ---- entries that are older
+
+-- an entry of a directory whose entries are older stays from `i` on
+pub entry_later : (pfs : ℕ) (directory : Obj) (i t : ℕ) (es : List FullElement) (name : List ℕ) (key : ℕ) (object : Obj) → AreOlder pfs directory i es
+    → i ≤ t → HasEntry (Counts es i) pfs directory key name object → HasEntry (Counts es t) pfs directory key name object
+entry_later pfs directory i t es name key object older late has = record {
+  ranges = has.ranges;
+  there = (fresh_later (entry_subject pfs directory.0 key) i t es (entry_bytes (record { obj = object; name = name })) (older key) late).1 has.there;
+}
+
+-- and one that is there later was there as of `i`
+pub entry_before : (pfs : ℕ) (directory : Obj) (i t : ℕ) (es : List FullElement) (name : List ℕ) (key : ℕ) (object : Obj) → AreOlder pfs directory i es
+    → i ≤ t → HasEntry (Counts es t) pfs directory key name object → HasEntry (Counts es i) pfs directory key name object
+entry_before pfs directory i t es name key object older late has = record {
+  ranges = has.ranges;
+  there = (fresh_later (entry_subject pfs directory.0 key) i t es (entry_bytes (record { obj = object; name = name })) (older key) late).0 has.there;
+}
+
+-- ---- a name that is added
+
+module _ (pfs : ℕ) (directory : Obj) (key i : ℕ) (entry : DirEntry) (is : IsEntry entry) (es mid es' : List FullElement)
+    (wrote : Rewrites (entry_subject pfs directory.0 key) (Some (entry_bytes entry)) i mid es') where
+  entry_writes : WritesIn pfs i (IsEntryAt pfs directory key i entry) mid es'
+  entry_writes =
+      writes_within pfs i (entry_subject pfs directory.0 key) (Some (entry_bytes entry)) (IsEntryAt pfs directory key i entry) mid es'
       (entry_within pfs directory.0 key)
-      (λ x about made now. record { about = about; made = made; entry_is = is; bytes = sym (some_one (entry_bytes entry) x.bytes now) }) wrote;
-  shows = λ unused lacks t tree late has.
-      new_shown pfs directory key entry (Counts es t) (Counts es' t)
-      (record { ranges = is; unused = unused t late; counts = wrote.present t late }) tree has (lacks t late);
+      (λ x about made now. record { about = about; made = made; entry_is = is; bytes = sym (some_one (entry_bytes entry) x.bytes now) }) wrote
+
+  entry_shows : (t : ℕ) (tree : FileTree) → i ≤ t → CountsNothing (Counts mid t) (entry_subject pfs directory.0 key)
+      → LacksName (Counts mid t) pfs directory entry.name → HasView (Counts mid t) pfs tree
+      → HasView (Counts es' t) pfs (with_name tree directory entry.name entry.obj)
+  entry_shows t tree late unused lacks has =
+      new_shown pfs directory key entry (Counts mid t) (Counts es' t)
+      (record { ranges = is; unused = unused; counts = wrote.present t late }) tree has lacks
+
+  all_writes : (hidden : Bool) → Clears hidden (entry_subject pfs directory.0 key) i es mid → WritesIn pfs i (IsEntryAt pfs directory key i entry) es es'
+  all_writes false same = subst (λ (l : List FullElement). WritesIn pfs i (IsEntryAt pfs directory key i entry) l es') same entry_writes
+  all_writes true closed =
+      writes_again pfs i (IsEntryAt pfs directory key i entry) es mid es' (entry_steady pfs directory key i entry)
+      (writes_within pfs i (entry_subject pfs directory.0 key) None (IsEntryAt pfs directory key i entry) es mid (entry_within pfs directory.0 key)
+      (λ x about made now. absurd (none_some x.bytes now)) closed)
+      entry_writes
+
+  all_shows : (hidden : Bool) → Clears hidden (entry_subject pfs directory.0 key) i es mid → AreOlder pfs directory i es
+      → CanTakeAt (Counts es i) pfs directory key hidden → LacksName (Counts es i) pfs directory entry.name
+      → Shows pfs i (λ tree. with_name tree directory entry.name entry.obj) es es'
+  all_shows false same older takes lacks t tree late has =
+      entry_shows t tree late
+      (λ bytes counts. takes bytes ((fresh_later (entry_subject pfs directory.0 key) i t es bytes (older key) late).0
+      (subst (λ (l : List FullElement). Counts l t (entry_subject pfs directory.0 key) bytes) same counts)))
+      (λ other object there. lacks other object (entry_before pfs directory i t es entry.name other object older late
+      (subst (λ (l : List FullElement). HasEntry (Counts l t) pfs directory other entry.name object) same there)))
+      (subst (λ (l : List FullElement). HasView (Counts l t) pfs tree) (sym same) has)
+  all_shows true closed older (inl nothing) lacks t tree late has =
+      entry_shows t tree late
+      (λ bytes counts. none_some bytes ((over.about bytes).0 counts))
+      (λ other object there. lacks other object (entry_before pfs directory i t es entry.name other object older late (record {
+        ranges = there.ranges;
+        there = (same (entry_subject pfs directory.0 other) (entry_bytes (record { obj = object; name = entry.name }))).0 there.there;
+      })))
+      (record {
+        settled = λ s a b first second. has.settled s a b ((same s a).0 first) ((same s b).0 second);
+        view = view_same pfs tree (Counts es t) (Counts mid t) same has.view;
+      })
+    where
+      over : Overrides (entry_subject pfs directory.0 key) None (Counts es t) (Counts mid t)
+      over = closed.present t late
+
+      unused : CountsNothing (Counts es t) (entry_subject pfs directory.0 key)
+      unused bytes counts = nothing bytes ((fresh_later (entry_subject pfs directory.0 key) i t es bytes (older key) late).0 counts)
+
+      same : CountSame (Counts es t) (Counts mid t)
+      same s bytes = elim (same_subject s (entry_subject pfs directory.0 key)) [
+        | inr differ ↦ over.elsewhere s bytes differ
+        | inl is ↦ (
+          λ counts. absurd (none_some bytes ((over.about bytes).0 (subst (λ (z : Subject). Counts mid t z bytes) is counts))),
+          λ counts. absurd (unused bytes (subst (λ (z : Subject). Counts es t z bytes) is counts)),
+        )
+      ]
+  all_shows true closed older (inr takes) lacks t tree late has =
+      entry_shows t tree late
+      (λ bytes counts. none_some bytes ((over.about bytes).0 counts))
+      (λ other object there. lacks other object (entry_before pfs directory i t es entry.name other object older late (less other object there)))
+      (later_gone pfs directory key gone (Counts es t) (Counts mid t) (record {
+        there = entry_later pfs directory i t es takes.name key takes.object older late takes.there;
+        counts = over;
+      }) tree has (record {
+        other = takes.earlier.other;
+        object = takes.earlier.object;
+        there = entry_later pfs directory i t es takes.name takes.earlier.other takes.earlier.object older late takes.earlier.there;
+        earlier = takes.earlier.earlier;
+      }))
+    where
+      over : Overrides (entry_subject pfs directory.0 key) None (Counts es t) (Counts mid t)
+      over = closed.present t late
+
+      gone : DirEntry
+      gone = record { obj = takes.object; name = takes.name }
+
+      less : (other : ℕ) (object : Obj) → HasEntry (Counts mid t) pfs directory other entry.name object
+          → HasEntry (Counts es t) pfs directory other entry.name object
+      less other object there = record {
+        ranges = there.ranges;
+        there = counts_less (entry_subject pfs directory.0 key) (Counts es t) (Counts mid t) over (entry_subject pfs directory.0 other)
+            (entry_bytes (record { obj = object; name = entry.name })) there.there;
+      }
+
+pub adds_name : (pfs : ℕ) (directory : Obj) (spot : Spot) (i : ℕ) (entry : DirEntry) (s : Subject) (bytes : List ℕ) (es mid es' : List FullElement)
+    → s ≡ entry_subject pfs directory.0 spot.key → bytes ≡ entry_bytes entry → IsEntry entry → AreOlder pfs directory i es
+    → Clears spot.hidden s i es mid → Rewrites s (Some bytes) i mid es' → AddsName pfs directory spot i entry es es'
+adds_name pfs directory spot i entry s bytes es mid es' here spelled is older clears rewrites = record {
+  writes = writes;
+  shows = all_shows pfs directory spot.key i entry is es mid es' wrote spot.hidden cleared older;
+  fits = λ hash fit. keys_fit_still pfs i (IsEntryAt pfs directory spot.key i entry) hash es es' writes (new_fits hash fit);
 } where
-  wrote : Rewrites (entry_subject pfs directory.0 key) (Some (entry_bytes entry)) i es es'
+  wrote : Rewrites (entry_subject pfs directory.0 spot.key) (Some (entry_bytes entry)) i mid es'
   wrote =
-      subst (λ (z : Subject). Rewrites z (Some (entry_bytes entry)) i es es') here
-      (subst (λ (b : List ℕ). Rewrites s (Some b) i es es') spelled rewrites)
+      subst (λ (z : Subject). Rewrites z (Some (entry_bytes entry)) i mid es') here
+      (subst (λ (b : List ℕ). Rewrites s (Some b) i mid es') spelled rewrites)
+
+  cleared : Clears spot.hidden (entry_subject pfs directory.0 spot.key) i es mid
+  cleared = subst (λ (z : Subject). Clears spot.hidden z i es mid) here clears
+
+  writes : WritesIn pfs i (IsEntryAt pfs directory spot.key i entry) es es'
+  writes = all_writes pfs directory spot.key i entry is es mid es' wrote spot.hidden cleared
+
+  new_fits : (hash : List ℕ → ℕ) → KeyFits hash spot.key entry.name → (x : FullElement) (found : DirEntry)
+      → IsEntryAt pfs directory spot.key i entry x → x.key.rec_type ≡ DIRECTORY_ENTRY → IsEntry found → x.bytes ≡ entry_bytes found
+      → KeyFits hash x.key.key found.name
+  new_fits hash fit x found new type ranges spelled' =
+      subst (λ (k : ℕ). KeyFits hash k found.name) (sym (ap (λ (z : Subject). z.key) new.about))
+      (subst (λ (n : List ℕ). KeyFits hash spot.key n) (name_one entry found (sym new.bytes ∙ spelled')) fit)

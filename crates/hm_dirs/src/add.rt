@@ -1,29 +1,33 @@
 // New names.
 ghost use Rattle.std.specs.Prelude.{◌≡◌, ◌+◌, ◌≤◌, OnOk, length};
 ghost use Rattle.hm_types.specs.Faults.{HasStoreCause};
-ghost use Rattle.hm_types.specs.Space.{Spends};
+ghost use Rattle.hm_types.specs.Space.{Spends, nothing};
 ghost use Rattle.hm_key.specs.Balance.{Balanced, content_of};
+ghost use Rattle.hm_key.specs.Counts.{subject_of};
+ghost use Rattle.hm_key.specs.Key.{key_of};
 ghost use Rattle.hm_key.specs.Stores.{Keeps};
 ghost use Rattle.hm_records.specs.Entry.{IsEntry, entry_bytes};
-ghost use Rattle.hm_cursor.specs.Write.{HasRoomFor, Writes, taken};
-ghost use Rattle.hm_dirs.specs.Names.{AddsName, IsOlderAt};
+ghost use Rattle.hm_cursor.specs.Write.{HasRoomFor, IsFresh, Writes, taken};
+ghost use Rattle.hm_dirs.specs.Entries.{Clears};
+ghost use Rattle.hm_dirs.specs.Names.{AddsName, AreOlderIn};
 
-use hm_cursor::{add_version, entry_base};
+use crate::spot::Spot;
+use hm_cursor::{add_version, close_versions, entry_base};
 use hm_key::{Base, ELEMENT, ElementStore, Extents, HasElements, HasRoom};
 use hm_records::{DirEntry, encode_entry};
 use hm_types::{Counted, Fault, Id, META_ZONE, Obj, Pfs};
 use std::alloc::Global;
 
-/// Adds an entry to a directory under a key, made by an id of 1 or more. `kind` is that of its
-/// object, 1 to 4. It takes at most 40,960 bytes of zone 8, and in zone 9 those of the entry. The
-/// faults are those of the store, and `NoMemory` where an allocation was refused; after one nothing
-/// is known of the content.
+/// Adds an entry to a directory at a spot, made by an id of 1 or more. An entry that is hidden there
+/// is closed. `kind` is that of its object, 1 to 4. It takes at most 40,960 bytes of zone 8, and in
+/// zone 9 those of the entry. The faults are those of the store, and `NoMemory` where an allocation
+/// was refused; after one nothing is known of the content.
 pub fn add_name<T: ElementStore + Extents>(
     alloc: Global,
     store: &mut T,
     pfs: Pfs,
     directory: Obj,
-    key: u64,
+    spot: Spot,
     entry: &DirEntry,
     kind: u8,
     id: Id,
@@ -31,11 +35,11 @@ pub fn add_name<T: ElementStore + Extents>(
     requires id { 1 ≤ id.0 }
     requires ranges { IsEntry entry.now × (1 ≤ kind) × (kind ≤ 4) }
     requires balanced { Balanced (T.elements store.old) (T.extents store.old) }
-    requires older { IsOlderAt (T.elements store.old) (T.extents store.old)
-        pfs.0 directory key id.0 }
+    requires older { AreOlderIn (T.elements store.old) (T.extents store.old)
+        pfs.0 directory id.0 }
     requires room { HasRoomFor (T.room store.old) META_ZONE (entry_bytes entry.now) }
     ensures ok { OnOk result (Writes T.elements T.extents
-        (AddsName pfs.0 directory key id.0 entry.now) store.old store.new) }
+        (AddsName pfs.0 directory spot id.0 entry.now) store.old store.new) }
     ensures keeps { Keeps T.elements T.extents store.old store.new result }
     ensures space { Spends T.room T.free (taken META_ZONE (entry_bytes entry.now))
         store.old store.new }
@@ -45,12 +49,40 @@ pub fn add_name<T: ElementStore + Extents>(
         (T.faults store.old) (T.faults store.new) result }
 {
     let bytes = encode_entry(alloc, entry)?;
+    let at = entry_base(pfs, directory, spot.key);
+    clear(store, &at, spot.hidden, id)?;
     let base = Base {
         create: id.0,
         delete: 0,
         obj_type: kind,
         btype: ELEMENT,
-        ..entry_base(pfs, directory, key)
+        ..at
     };
     add_version(store, &base, META_ZONE, &bytes)
+}
+
+// Closes what stands at the key of a spot, where that is hidden.
+fn clear<T: ElementStore + Extents>(
+    store: &mut T,
+    at: &Base,
+    hidden: bool,
+    id: Id,
+) -> Result<(), Fault>
+    requires balanced { Balanced (T.elements store.old) (T.extents store.old) }
+    requires fresh { IsFresh (T.elements store.old) (T.extents store.old)
+        (subject_of (key_of at.now)) id.0 }
+    ensures ok { OnOk result (Writes T.elements T.extents
+        (Clears hidden (subject_of (key_of at.now)) id.0) store.old store.new) }
+    ensures keeps { Keeps T.elements T.extents store.old store.new result }
+    ensures space { Spends T.room T.free nothing store.old store.new }
+    ensures borrowed { (T.name store.new ≡ T.name store.old)
+        × (T.frame store.new ≡ T.frame store.old) }
+    ensures cause { HasStoreCause (content_of (T.elements store.old) (T.extents store.old))
+        (T.faults store.old) (T.faults store.new) result }
+{
+    if hidden {
+        close_versions(store, at, id)
+    } else {
+        Ok(())
+    }
 }

@@ -4,17 +4,17 @@ ghost use Rattle.hm_types.specs.Space.{Spends, nothing};
 ghost use Rattle.hm_key.specs.Balance.{Balanced};
 ghost use Rattle.hm_key.specs.Stores.{Keeps};
 ghost use Rattle.hm_cursor.specs.Told.{HasReadingCause};
-ghost use Rattle.hm_cursor.specs.Write.{Writes};
+ghost use Rattle.hm_cursor.specs.Write.{StayPlaced, Writes};
 ghost use Rattle.hm_dirs.specs.Names.{AreOlderIn, TakesName};
 
-use crate::entry::object_named;
 use crate::hash::{NameHash, keys_of};
-use hm_cursor::{close_versions, entry_base, first_version};
+use hm_cursor::{close_versions, entry_base, first_version, object_named};
 use hm_key::{ElementStore, Extents, HasElements, HasRoom};
 use hm_types::{Counted, Fault, Id, Obj, Pfs};
 
 /// Takes a name away from a directory from an id on: each entry of it that counts is closed, so
-/// that none that stood behind another one comes to light. The object that it leads to stays.
+/// that none that stood behind another one comes to light. The object that it leads to stays, and
+/// each payload where it stands.
 /// `Damaged` at the payload of an entry of the name's hash, of kind 6, where that spells none. The
 /// other faults are those of the store; after a fault nothing is known of the content.
 pub fn close_name<T: ElementStore + Extents, H: NameHash>(
@@ -30,6 +30,7 @@ pub fn close_name<T: ElementStore + Extents, H: NameHash>(
         pfs.0 directory id.0 }
     ensures ok { OnOk result (Writes T.elements T.extents
         (TakesName (H.hash_of hash.now) pfs.0 directory name.now id.0) store.old store.new) }
+    ensures placed { OnOk result (StayPlaced T.elements T.extents store.old store.new) }
     ensures keeps { Keeps T.elements T.extents store.old store.new result }
     ensures space { Spends T.room T.free nothing store.old store.new }
     ensures borrowed { (T.name store.new ≡ T.name store.old)

@@ -3,26 +3,28 @@ ghost use Rattle.std.specs.Prelude.{◌≡◌, IfErr, IfOk, IfSome};
 ghost use Rattle.hm_types.specs.Faults.{HasFaultCause};
 ghost use Rattle.hm_key.specs.Balance.{IsHeld, payload_of};
 ghost use Rattle.hm_key.specs.Stores.{Same};
-ghost use Rattle.hm_dirs.specs.Entries.{IsNoEntry, IsObjectNamed};
+ghost use Rattle.hm_cursor.specs.Names.{IsNoEntry};
+ghost use Rattle.hm_dirs.specs.Entries.{IsNamed};
 
 use hm_cursor::read_payload;
 use hm_key::{Element, Extents, HasElements, HasRoom};
-use hm_records::entry_parts;
-use hm_types::{BAD_PAYLOAD, Counted, Fault, Obj};
+use hm_records::decode_entry;
+use hm_types::{Counted, Fault, Name};
+use std::alloc::Global;
 
 /// The size of the longest payload of an entry, in bytes.
 const MOST_ENTRY_BYTES: usize = 263;
 
-// The object that an entry leads to, where it has this name. `Damaged` at its payload, of kind 6,
-// where that spells no entry.
-pub(crate) fn object_named<T: Extents>(
+// The name of an entry. `Damaged` at its payload, of kind 6, where that spells no entry, and
+// `NoMemory` where an allocation was refused.
+pub(crate) fn read_name<T: Extents>(
+    alloc: Global,
     store: &mut T,
     entry: &Element,
-    name: &[u8],
-) -> Result<Option<Obj>, Fault>
+) -> Result<Name, Fault>
     requires held { IfSome (T.extents store.old) (λ xs. IsHeld xs entry.now) }
     ensures ok { IfSome (T.extents store.old) (λ xs.
-        IfOk result (IsObjectNamed (payload_of xs entry.now) name.now)) }
+        IfOk result (IsNamed (payload_of xs entry.now))) }
     ensures keeps { Same T.elements T.mark T.extents T.room T.free store.old store.new }
     ensures borrowed { (T.name store.new ≡ T.name store.old)
         × (T.frame store.new ≡ T.frame store.old) }
@@ -31,12 +33,6 @@ pub(crate) fn object_named<T: Extents>(
 {
     let mut bytes = [0; MOST_ENTRY_BYTES];
     let len = read_payload(store, entry, &mut bytes)?;
-    match entry_parts(&bytes[..len]) {
-        Some((object, found)) if found == name => Ok(Some(object)),
-        Some(_) => Ok(None),
-        None => Err(Fault::Damaged {
-            at: entry.payload,
-            kind: BAD_PAYLOAD,
-        }),
-    }
+    let found = decode_entry(alloc, entry.payload, &bytes[..len])?;
+    Ok(found.name)
 }

@@ -1,5 +1,6 @@
 // The hash of names.
 ghost use Rattle.std.specs.Prelude.{◌≡◌, ℕ, ◌+◌, ◌^◌, ◌<◌, List};
+ghost use Rattle.hm_cursor.specs.Names.{IsHash};
 ghost use Rattle.hm_dirs.specs.Names.{first_key};
 
 use hm_types::name_hash;
@@ -12,6 +13,9 @@ pub trait NameHash {
     /// The hash of a name.
     fn hash(&self, name: &[u8]) -> u64
         ensures { result ≡ Self.hash_of self.now name.now };
+
+    /// Each hash has 8 bytes.
+    ghost bounded: { (h : Self) → IsHash (Self.hash_of h) };
 }
 
 /// The hash by which the entries of every volume stand: 64-bit FNV-1a.
@@ -20,8 +24,11 @@ pub struct Fnv;
 
 impl NameHash for Fnv {
     ghost use Rattle.hm_types.specs.Hash.{name_hash};
+    ghost use Rattle.hm_cursor.proofs.HashLemmas.{name_hash_few};
 
     ghost hash_of = { λ _. name_hash };
+
+    ghost bounded = { λ _. name_hash_few };
 
     fn hash(&self, name: &[u8]) -> u64 {
         name_hash(name)

@@ -4,11 +4,13 @@
 
 mod add;
 mod close;
+#[cfg(test)]
+mod counting;
 mod entry;
 mod hash;
 mod lookup;
-mod number;
 mod position;
+mod spot;
 #[cfg(test)]
 mod tests;
 mod walk_laws;
@@ -22,7 +24,7 @@ pub use add::add_name;
 pub use close::close_name;
 pub use hash::{Fnv, NameHash};
 pub use lookup::look_up;
-pub use number::free_key;
 pub use position::{Course, Follow, Lost, Position, Stand};
+pub use spot::{Spot, find_spot};
 pub use walk_laws::stands_tell_of_their_objects;
-pub use walks::walk;
+pub use walks::{step, walk};

@@ -5,9 +5,8 @@ ghost use Rattle.hm_key.specs.Stores.{Same};
 ghost use Rattle.hm_cursor.specs.Told.{HasReadingCause};
 ghost use Rattle.hm_dirs.specs.Names.{IsLookedUp, OnNamed};
 
-use crate::entry::object_named;
 use crate::hash::{NameHash, keys_of};
-use hm_cursor::{entry_base, first_version};
+use hm_cursor::find_name;
 use hm_key::{ElementStore, Extents, HasElements, HasRoom};
 use hm_types::{Counted, Fault, Id, Obj, Pfs};
 
@@ -36,16 +35,6 @@ pub fn look_up<T: ElementStore + Extents, H: NameHash>(
     ensures cause { HasReadingCause (T.elements store.old) (T.extents store.old)
         (T.faults store.old) (T.faults store.new) result }
 {
-    let (mut key, last) = keys_of(hash.hash(name));
-    while key <= last {
-        let at = entry_base(pfs, directory, key);
-        let Some(entry) = first_version(store, &at, last, as_of)? else {
-            return Ok(None);
-        };
-        if let Some(object) = object_named(store, &entry, name)? {
-            return Ok(Some((entry.base.key, object)));
-        }
-        key = entry.base.key + 1;
-    }
-    Ok(None)
+    let (first, last) = keys_of(hash.hash(name));
+    find_name(store, pfs, directory, first, last, name, as_of)
 }

@@ -3,7 +3,8 @@ ghost use Rattle.std.specs.Prelude.{◌+◌, IfOk};
 ghost use Rattle.hm_key.specs.Balance.{Balanced};
 ghost use Rattle.hm_dirs.specs.Tests.{IsReady};
 
-use crate::{Fnv, NameHash, add_name, close_name, free_key, look_up};
+use crate::counting::Counting;
+use crate::{Fnv, NameHash, Spot, add_name, close_name, find_spot, look_up};
 use hm_cursor::{add_version, entry_base};
 use hm_key::{Base, ELEMENT, HasElements, HasRoom, MemStore};
 use hm_records::{DirEntry, FILE};
@@ -33,19 +34,23 @@ const MOST_ENTRY_ROOM: u64 = 272;
 struct Zero;
 
 impl NameHash for Zero {
+    ghost use Rattle.std.proofs.Common.{lit<};
+
     ghost hash_of = { λ _ _. 0 };
+
+    ghost bounded = { λ _ _. lit< tt };
 
     fn hash(&self, _name: &[u8]) -> u64 {
         0
     }
 }
 
-// Adds an entry under a key.
+// Adds an entry at a spot.
 fn add_at(
     alloc: Global,
     store: &mut MemStore,
     directory: Obj,
-    key: u64,
+    spot: Spot,
     name: &[u8],
     obj: Obj,
     id: Id,
@@ -65,7 +70,7 @@ fn add_at(
         obj,
         name: Name::of(Vec::from_slice(alloc, name)?),
     };
-    add_name(alloc, store, PFS, directory, key, &entry, FILE, id)?;
+    add_name(alloc, store, PFS, directory, spot, &entry, FILE, id)?;
     Ok(())
 }
 
@@ -93,7 +98,7 @@ fn forge(store: &mut MemStore, directory: Obj, key: u64, bytes: &[u8], id: Id) -
     Ok(())
 }
 
-// Adds a name under the least free key.
+// Adds a name at a spot for it.
 fn add<H: NameHash>(
     alloc: Global,
     store: &mut MemStore,
@@ -108,10 +113,10 @@ fn add<H: NameHash>(
     ensures { IfOk result (λ _. IsReady (⟦<MemStore as HasElements>⟧.elements store.new)
         (⟦<MemStore as HasRoom>⟧.extents store.new) (id.0 + 1)) }
 {
-    let Some(key) = free_key(store, hash, PFS, directory, name, id)? else {
-        return Err("no free key")?;
+    let Some(spot) = find_spot(alloc, store, hash, PFS, directory, name, id)? else {
+        return Err("no spot")?;
     };
-    add_at(alloc, store, directory, key, name, obj, id)
+    add_at(alloc, store, directory, spot, name, obj, id)
 }
 
 // Takes a name away.
@@ -135,6 +140,7 @@ fn take<H: NameHash>(
 #[derive(Drop)]
 enum Change<'a> {
     Add(Obj, &'a [u8], Obj),
+    AddAt(Obj, Spot, &'a [u8], Obj),
     Take(Obj, &'a [u8]),
     Forge(Obj, u64, &'a [u8]),
 }
@@ -153,6 +159,9 @@ fn apply<H: NameHash>(
 {
     match change {
         Change::Add(directory, name, obj) => add(alloc, store, hash, *directory, name, *obj, id),
+        Change::AddAt(directory, spot, name, obj) => {
+            add_at(alloc, store, *directory, *spot, name, *obj, id)
+        }
         Change::Take(directory, name) => take(store, hash, *directory, name, id),
         Change::Forge(directory, key, bytes) => forge(store, *directory, *key, bytes, id),
     }
@@ -188,15 +197,34 @@ fn found<H: NameHash>(
     Ok(look_up(&mut store, hash, PFS, directory, name, Id(as_of))?)
 }
 
-// The least free key of a name as of an id, where as many entries of its hash stand side by side,
-// made by the ids from 2 on.
-fn free_after(alloc: Global, count: u64, as_of: u64) -> Result<Option<u64>, Fail> {
+// The payload of an entry whose name has a number below 1,024.
+fn numbered(number: u64) -> [u8; 10] {
+    let high = (number / 32 % 32) as u8;
+    let low = (number % 32) as u8;
+    [7, 0, 0, 0, 0, 0, 0, 0, b'A' + high, b'A' + low]
+}
+
+// A spot for a new name as of an id, where as many names of its hash stand side by side, and then
+// these entries under these keys, of names with these numbers; all made by the ids from 2 on.
+fn spot_after(
+    alloc: Global,
+    count: u64,
+    forged: &[(u64, u64)],
+    as_of: u64,
+) -> Result<Option<Spot>, Fail> {
+    let mut payloads = Vec::new(alloc);
+    for number in 0..count {
+        payloads.push((number, numbered(number)))?;
+    }
+    for (key, number) in forged {
+        payloads.push((*key, numbered(*number)))?;
+    }
     let mut changes = Vec::new(alloc);
-    for key in 0..count {
-        changes.push(Change::Forge(ROOT, key, A_OF_7))?;
+    for (key, payload) in &payloads {
+        changes.push(Change::Forge(ROOT, *key, payload))?;
     }
     let mut store = store_of(alloc, &Zero, &changes)?;
-    Ok(free_key(&mut store, &Zero, PFS, ROOT, b"b", Id(as_of))?)
+    Ok(find_spot(alloc, &mut store, &Zero, PFS, ROOT, b"b", Id(as_of))?)
 }
 
 #[test]
@@ -415,18 +443,72 @@ fn no_name_is_taken_away_where_an_entry_is_broken(rt: HostRuntime) -> Result<(),
 }
 
 #[test]
-fn as_many_keys_are_given_as_there_are_numbers(rt: HostRuntime) -> Result<(), Fail> {
-    for (count, as_of, wanted) in [
-        (0, 9, Some(0)),
-        (1_024, 1_025, None),
-        (1_024, 1_024, Some(1_023)),
-        (1_024, 1, Some(0)),
-        (1_023, u64::MAX, Some(1_023)),
+fn as_many_names_of_a_hash_are_taken_as_there_are_numbers(rt: HostRuntime) -> Result<(), Fail> {
+    for (count, forged, as_of, wanted) in [
+        (0, [].as_slice(), 9, Some((0, false))),
+        (1_023, &[], u64::MAX, Some((1_023, false))),
+        (1_024, &[], 1_025, None),
+        (1_024, &[], 1, Some((0, false))),
+        (1_023, &[(1_023, 5)], 1_025, Some((1_023, true))),
+        (1_023, &[(1_023, 5), (1_024, 1_023)], 1_026, None),
+        (1_023, &[(1_024, 1_023)], 1_025, None),
+    ] {
+        let spot = spot_after(rt.alloc(), count, forged, as_of)?;
+        assert_eq!(rt;
+            spot,
+            wanted.map(|(key, hidden)| Spot { key, hidden }),
+            "{count} and {forged:?} as of {as_of}"
+        );
+    }
+    Ok(())
+}
+
+// How many searches it takes to find a spot, where as many names of the hash stand side by side.
+fn searches_for(alloc: Global, count: u64) -> Result<u64, Fail> {
+    let mut changes = Vec::new(alloc);
+    for key in 0..count {
+        changes.push(Change::Forge(ROOT, key, A_OF_7))?;
+    }
+    let mut store = Counting {
+        store: store_of(alloc, &Zero, &changes)?,
+        searches: 0,
+    };
+    find_spot(alloc, &mut store, &Zero, PFS, ROOT, b"b", Id(u64::MAX))?;
+    Ok(store.searches)
+}
+
+#[test]
+fn a_spot_takes_four_searches_for_each_entry_of_the_hash(rt: HostRuntime) -> Result<(), Fail> {
+    for (count, wanted) in [(0, 2), (1, 6), (2, 10), (10, 42)] {
+        assert_eq!(rt; searches_for(rt.alloc(), count)?, wanted, "{count}");
+    }
+    Ok(())
+}
+
+#[test]
+fn a_name_takes_the_place_of_an_entry_that_is_hidden(rt: HostRuntime) -> Result<(), Fail> {
+    let spot = Spot {
+        key: 5,
+        hidden: true,
+    };
+    let changes = [
+        Change::Forge(ROOT, 3, A_OF_7),
+        Change::Forge(ROOT, 5, A_OF_8),
+        Change::AddAt(ROOT, spot, b"b", Obj(9)),
+        Change::Take(ROOT, b"a"),
+    ];
+    for (name, as_of, wanted) in [
+        ("a", 3, Some((3, Obj(7)))),
+        ("b", 3, None),
+        ("a", 4, Some((3, Obj(7)))),
+        ("b", 4, Some((5, Obj(9)))),
+        ("a", 5, None),
+        ("b", 5, Some((5, Obj(9)))),
     ] {
         assert_eq!(rt;
-            free_after(rt.alloc(), count, as_of)?,
+            found(rt.alloc(), &Zero, &changes, ROOT, name.as_bytes(), as_of)?,
             wanted,
-            "{count} as of {as_of}"
+            "{name} as of {as_of}"
         );
     }
     Ok(())

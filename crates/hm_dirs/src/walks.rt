@@ -58,8 +58,9 @@ pub fn walk<T: ElementStore + Extents, H: NameHash>(
     Ok(Ok(stand))
 }
 
-// One part: its id first, then its name.
-fn step<T: ElementStore + Extents, H: NameHash>(
+/// One part of a walk: its id first, then its name. It goes on from where the walk came to, as of
+/// the same id. The faults are those of `walk`.
+pub fn step<T: ElementStore + Extents, H: NameHash>(
     alloc: Global,
     store: &mut T,
     hash: &H,

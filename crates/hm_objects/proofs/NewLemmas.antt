@@ -1,23 +1,26 @@
 -- New elements about an object: they may stand in a leaf, and keep the grammar of payloads.
-use Rattle.std.proofs.Common.{◌≡◌, ℕ, ◌≤◌, List, length, refl, sym, ap, subst, ◌∙◌, inl, inr, arith}
-use Rattle.std.specs.Prelude.{None, Some}
+use Rattle.std.proofs.Common.{◌≡◌, ◌≢◌, ℕ, ◌≤◌, List, length, refl, sym, ap, subst, ◌∙◌, inl, inr, arith}
+use Rattle.std.specs.Prelude.{Option, None, Some}
+use Rattle.std.proofs.lemmas.Bool.{cases_lt}
 use Rattle.hm_types.specs.Elements.{FullElement, Key}
 use Rattle.hm_types.specs.declared.zone.TheConstants.{META_ZONE}
-use Rattle.hm_key.specs.declared.rec_type.TheConstants.{INODE, SOFTLINK_TARGET}
+use Rattle.hm_key.specs.declared.rec_type.TheConstants.{DIRECTORY_ENTRY, INODE, SOFTLINK_TARGET}
 use Rattle.hm_key.specs.declared.base.Base.{Base}
-use Rattle.hm_key.specs.Counts.{Subject, inode_subject, inodes_of, subject_of, target_subject}
+use Rattle.hm_key.specs.Counts.{Subject, entry_subject, inode_subject, inodes_of, subject_of, target_subject}
 use Rattle.hm_key.specs.Element.{FitsType}
 use Rattle.hm_key.specs.Elements.{element_key}
 use Rattle.hm_key.specs.Key.{key_of}
 use Rattle.hm_key.specs.declared.element.Element.{Element}
 use Rattle.hm_records.specs.declared.inode.Inode.{Inode}
 use Rattle.hm_records.specs.Inode.{IsInode, inode_bytes}
+use Rattle.hm_records.specs.KeysFit.{KeysFit}
 use Rattle.hm_records.specs.Payload.{IsPayload, SpellsInode}
 use Rattle.hm_records.specs.Target.{IsTarget}
 use Rattle.hm_records.proofs.InodeLemmas.{length-inode}
-use Rattle.hm_cursor.specs.Write.{IsNew, most_payload}
-use Rattle.hm_cursor.proofs.ViewsLemmas.{IsSteady, IsWithin, Makes}
-use Rattle.hm_objects.specs.Objects.{IsOfObject, open_base}
+use Rattle.hm_cursor.specs.Views.{WritesIn}
+use Rattle.hm_cursor.specs.Write.{IsNew, Rewrites, most_payload}
+use Rattle.hm_cursor.proofs.ViewsLemmas.{IsSteady, IsWithin, Makes, keys_fit_still}
+use Rattle.hm_objects.specs.Objects.{IsOfObject, KeepEntries, open_base}
 
 -- ---- their subjects
 
@@ -87,6 +90,40 @@ steady pfs obj i x e key kind bytes is = record {
         let type : e.key.rec_type ≡ SOFTLINK_TARGET = ap (λ (s : Subject). s.rec_type) target in
         target_payload x (ap (λ (k : Key). k.rec_type) key ∙ type) (subst IsTarget (sym bytes) (is.payload.target type))
   ]
+
+-- they are no entries, so that the keys of entries fit their names as before
+pub keys_fit : (pfs obj i : ℕ) (es es' : List FullElement) → WritesIn pfs i (IsOfObject pfs obj i) es es' → (hash : List ℕ → ℕ) → KeysFit hash es
+    → KeysFit hash es'
+keys_fit pfs obj i es es' writes hash =
+    keys_fit_still pfs i (IsOfObject pfs obj i) hash es es' writes
+    (λ x entry new type ranges spelled. absurd (elim new.about [
+      | inl inode ↦ omega (arith, type, ap (λ (s : Subject). s.rec_type) inode)
+      | inr target ↦ omega (arith, type, ap (λ (s : Subject). s.rec_type) target)
+    ]))
+
+-- ---- entries, of which none is one of theirs
+
+-- they count as before, by then and from then on
+entries_beside : (pfs i : ℕ) (s : Subject) (now : Option (List ℕ)) (es es' : List FullElement) → s.rec_type ≢ DIRECTORY_ENTRY → Rewrites s now i es es'
+    → KeepEntries pfs es es'
+entries_beside pfs i s now es es' differ rewrites t directory key bytes = elim (cases_lt t i) [
+  | inl before ↦ rewrites.past t before (entry_subject pfs directory key) bytes
+  | inr not ↦ (rewrites.present t (omega (arith, not))).elsewhere (entry_subject pfs directory key) bytes
+      (λ is. differ (ap (λ (z : Subject). z.rec_type) (sym is)))
+]
+
+pub inode_entries : (pfs obj i : ℕ) (now : Option (List ℕ)) (es es' : List FullElement) → Rewrites (inode_subject pfs obj) now i es es' → KeepEntries pfs es es'
+inode_entries pfs obj i now es es' = entries_beside pfs i (inode_subject pfs obj) now es es' (λ is. absurd (omega (arith, is)))
+
+pub target_entries : (pfs obj i : ℕ) (now : Option (List ℕ)) (es es' : List FullElement) → Rewrites (target_subject pfs obj) now i es es'
+    → KeepEntries pfs es es'
+target_entries pfs obj i now es es' = entries_beside pfs i (target_subject pfs obj) now es es' (λ is. absurd (omega (arith, is)))
+
+pub entries_twice : (pfs : ℕ) (es mid es' : List FullElement) → KeepEntries pfs es mid → KeepEntries pfs mid es' → KeepEntries pfs es es'
+entries_twice pfs es mid es' first second t directory key bytes = (
+  λ h. (first t directory key bytes).0 ((second t directory key bytes).0 h),
+  λ h. (second t directory key bytes).1 ((first t directory key bytes).1 h),
+)
 
 -- ---- their bases
 

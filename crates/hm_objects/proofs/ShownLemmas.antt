@@ -1,5 +1,5 @@
 -- What a call on an object does to the trees.
-use Rattle.std.proofs.Common.{◌≡◌, ◌≢◌, ℕ, ◌+◌, ◌^◌, ◌<◌, ◌≤◌, List, [], length, refl, sym, subst, arith}
+use Rattle.std.proofs.Common.{◌≡◌, ◌≢◌, ℕ, ◌^◌, ◌<◌, ◌≤◌, List, [], length, refl, sym, subst, arith}
 use Rattle.std.specs.Prelude.{Option, None, Some}
 use Rattle.hm_types.specs.Elements.{FullElement}
 use Rattle.hm_types.specs.Tree.{FileTree, directory_of, with_change, with_links, without_object}
@@ -8,26 +8,38 @@ use Rattle.hm_types.specs.declared.object.Object.{Object}
 use Rattle.hm_key.specs.declared.base.Base.{Base}
 use Rattle.hm_key.specs.Counts.{Content, Counts, Subject, inode_subject, subject_of, target_subject}
 use Rattle.hm_key.specs.Key.{key_of}
-use Rattle.hm_key.specs.Versions.{IsBelow}
-use Rattle.hm_records.specs.Changes.{AgreeButObject, ChangesObject, CountSame, CountsNothing, HasInode}
+use Rattle.hm_records.specs.Changes.{AgreeButObject, ChangesObject, CountsNothing, HasInode}
 use Rattle.hm_records.specs.Inode.{IsInode, inode_bytes}
-use Rattle.hm_records.specs.Laws.{HasView, linked}
+use Rattle.hm_records.specs.Laws.{HasView, linked, with_inode}
 use Rattle.hm_records.specs.Target.{IsTarget}
 use Rattle.hm_records.specs.View.{IsObject, held}
 use Rattle.hm_records.specs.declared.inode.Inode.{Inode}
 use Rattle.hm_records.specs.declared.kind.TheConstants.{DIRECTORY, FILE, SOFTLINK}
-use Rattle.hm_records.proofs.ChangeLemmas.{below_later, counts_from}
 use Rattle.hm_records.proofs.MadeLemmas.{directory_made, file_made, inode_changes, links_changed, no_bytes, softlink_made, target_changes}
 use Rattle.hm_records.proofs.ObjectChangeLemmas.{object_added, object_changed, object_gone}
 use Rattle.hm_records.proofs.SubjectLemmas.{apart, but_object_twice}
+use Rattle.hm_cursor.specs.Views.{Shows, WritesIn}
 use Rattle.hm_cursor.specs.Write.{IsFreshFor, Rewrites}
-use Rattle.hm_cursor.proofs.ViewsLemmas.{fresh_beside, nothing_written, writes_again, writes_within}
-use Rattle.hm_objects.specs.Objects.{AddsObject, ChangesBy, IsGone, IsOfObject, IsOlder, file_of, inode_of, open_base, softlink_of}
-use Rattle.hm_objects.proofs.NewLemmas.{inode_within, makes_inode, makes_none, makes_target, steady, target_within}
+use Rattle.hm_cursor.proofs.ViewsLemmas.{fresh_beside, fresh_later, nothing_written, writes_again, writes_within}
+use Rattle.hm_objects.specs.Objects.{AddsObject, ChangesBy, IsGone, IsMissing, IsOfObject, IsOlder, KeepEntries, file_of, inode_of, open_base, softlink_of}
+use Rattle.hm_objects.proofs.NewLemmas.{entries_twice, inode_entries, inode_within, keys_fit, makes_inode, makes_none, makes_target, steady}
+use Rattle.hm_objects.proofs.NewLemmas.{target_entries, target_within}
 
 -- the inode and the target of an object are two subjects
 inode_no_target : (pfs obj : ℕ) → inode_subject pfs obj ≢ target_subject pfs obj
 inode_no_target pfs obj = apart (inode_subject pfs obj) (target_subject pfs obj) (λ is. absurd (omega (arith, is)))
+
+-- ---- the keys of entries fit their names after any of these calls, and each entry counts as before
+
+adds_object : (pfs i : ℕ) (object : Object) (es es' : List FullElement) → WritesIn pfs i (IsOfObject pfs object.number.0 i) es es'
+    → KeepEntries pfs es es' → (IsMissing pfs object.number.0 i es → Shows pfs i (λ tree. with_inode tree object) es es') → AddsObject pfs i object es es'
+adds_object pfs i object es es' writes entries shows =
+    record { writes = writes; shows = shows; fits = keys_fit pfs object.number.0 i es es' writes; entries = entries }
+
+changes_object : (pfs obj i : ℕ) (change : FileTree → FileTree) (es es' : List FullElement) → WritesIn pfs i (IsOfObject pfs obj i) es es'
+    → KeepEntries pfs es es' → Shows pfs i change es es' → ChangesBy pfs obj i change es es'
+changes_object pfs obj i change es es' writes entries shows =
+    record { writes = writes; shows = shows; fits = keys_fit pfs obj i es es' writes; entries = entries }
 
 -- ---- an object that is added
 
@@ -47,14 +59,15 @@ inode_there pfs obj i t inode es es' ranges new late =
 
 inode_added : (pfs i : ℕ) (object : Object) (inode : Inode) (es es' : List FullElement) → IsInode inode → NewInode pfs object.number.0 i inode es es'
     → ((t : ℕ) → i ≤ t → HasInode (Counts es' t) pfs object.number.0 inode → IsObject (Counts es' t) pfs object) → AddsObject pfs i object es es'
-inode_added pfs i object inode es es' ranges new makes = record {
-  writes = writes_within pfs i (inode_subject pfs object.number.0) (Some (inode_bytes inode)) (IsOfObject pfs object.number.0 i) es es'
-      (inode_within pfs object.number.0) (makes_inode pfs object.number.0 i inode ranges) new;
-  shows = λ missing t tree late has.
-      object_added pfs object.number.0 tree (Counts es t) (Counts es' t) has
-      (inode_changes pfs object.number.0 (Some (inode_bytes inode)) (Counts es t) (Counts es' t) has.settled (new.present t late))
-      object refl (missing t late) (makes t late (inode_there pfs object.number.0 i t inode es es' ranges new late));
-}
+inode_added pfs i object inode es es' ranges new makes =
+    adds_object pfs i object es es'
+    (writes_within pfs i (inode_subject pfs object.number.0) (Some (inode_bytes inode)) (IsOfObject pfs object.number.0 i) es es'
+    (inode_within pfs object.number.0) (makes_inode pfs object.number.0 i inode ranges) new)
+    (inode_entries pfs object.number.0 i (Some (inode_bytes inode)) es es' new)
+    (λ missing t tree late has.
+    object_added pfs object.number.0 tree (Counts es t) (Counts es' t) has
+    (inode_changes pfs object.number.0 (Some (inode_bytes inode)) (Counts es t) (Counts es' t) has.settled (new.present t late))
+    object refl (missing t late) (makes t late (inode_there pfs object.number.0 i t inode es es' ranges new late)))
 
 -- the inode of a new object is in range
 inode_ranges : (kind size : ℕ) → (1 ≤ kind) × (kind ≤ 3) → (kind ≡ DIRECTORY → size ≡ 0) → (kind ≡ SOFTLINK → (1 ≤ size) × (size ≤ 1023))
@@ -144,16 +157,18 @@ module _ (pfs i : ℕ) (number : Obj) (text : List ℕ) (es mid es' : List FullE
       (inode_changes pfs number.0 (Some (inode_bytes (inode_of SOFTLINK (length text)))) (Counts mid t) (Counts es' t) one.settled (second.present t late))
 
   pub softlink_added : AddsObject pfs i (softlink_of number text) es es'
-  softlink_added = record {
-    writes = writes_again pfs i (IsOfObject pfs number.0 i) es mid es' (steady pfs number.0 i)
-        (writes_within pfs i (target_subject pfs number.0) (Some text) (IsOfObject pfs number.0 i) es mid (target_within pfs number.0)
-        (makes_target pfs number.0 i text target) first)
-        (writes_within pfs i (inode_subject pfs number.0) (Some (inode_bytes (inode_of SOFTLINK (length text)))) (IsOfObject pfs number.0 i) mid es'
-        (inode_within pfs number.0) (makes_inode pfs number.0 i (inode_of SOFTLINK (length text)) (softlink_inode text target)) second);
-    shows = λ missing t tree late has.
-        object_added pfs number.0 tree (Counts es t) (Counts es' t) has (softlink_changes t tree late has) (softlink_of number text) refl
-        (missing t late) (softlink_there t late);
-  }
+  softlink_added =
+      adds_object pfs i (softlink_of number text) es es'
+      (writes_again pfs i (IsOfObject pfs number.0 i) es mid es' (steady pfs number.0 i)
+      (writes_within pfs i (target_subject pfs number.0) (Some text) (IsOfObject pfs number.0 i) es mid (target_within pfs number.0)
+      (makes_target pfs number.0 i text target) first)
+      (writes_within pfs i (inode_subject pfs number.0) (Some (inode_bytes (inode_of SOFTLINK (length text)))) (IsOfObject pfs number.0 i) mid es'
+      (inode_within pfs number.0) (makes_inode pfs number.0 i (inode_of SOFTLINK (length text)) (softlink_inode text target)) second))
+      (entries_twice pfs es mid es' (target_entries pfs number.0 i (Some text) es mid first)
+      (inode_entries pfs number.0 i (Some (inode_bytes (inode_of SOFTLINK (length text)))) mid es' second))
+      (λ missing t tree late has.
+      object_added pfs number.0 tree (Counts es t) (Counts es' t) has (softlink_changes t tree late has) (softlink_of number text) refl
+      (missing t late) (softlink_there t late))
 
 -- ---- an object that goes: its target, and then its inode
 
@@ -174,16 +189,17 @@ module _ (pfs i : ℕ) (number : Obj) (es mid es' : List FullElement) (first : C
       (inode_changes pfs number.0 None (Counts mid t) (Counts es' t) one.settled (second.present t late))
 
   pub object_removed : ChangesBy pfs number.0 i (λ tree. without_object tree number) es es'
-  object_removed = record {
-    writes = writes_again pfs i (IsOfObject pfs number.0 i) es mid es' (steady pfs number.0 i)
-        (writes_within pfs i (target_subject pfs number.0) None (IsOfObject pfs number.0 i) es mid (target_within pfs number.0)
-        (makes_none (target_subject pfs number.0) i (IsOfObject pfs number.0 i)) first)
-        (writes_within pfs i (inode_subject pfs number.0) None (IsOfObject pfs number.0 i) mid es' (inode_within pfs number.0)
-        (makes_none (inode_subject pfs number.0) i (IsOfObject pfs number.0 i)) second);
-    shows = λ t tree late has.
-        object_gone pfs number.0 tree (Counts es t) (Counts es' t) has (removal_changes t tree late has)
-        (λ bytes there. none_counts bytes (((second.present t late).about bytes).0 there));
-  }
+  object_removed =
+      changes_object pfs number.0 i (λ tree. without_object tree number) es es'
+      (writes_again pfs i (IsOfObject pfs number.0 i) es mid es' (steady pfs number.0 i)
+      (writes_within pfs i (target_subject pfs number.0) None (IsOfObject pfs number.0 i) es mid (target_within pfs number.0)
+      (makes_none (target_subject pfs number.0) i (IsOfObject pfs number.0 i)) first)
+      (writes_within pfs i (inode_subject pfs number.0) None (IsOfObject pfs number.0 i) mid es' (inode_within pfs number.0)
+      (makes_none (inode_subject pfs number.0) i (IsOfObject pfs number.0 i)) second))
+      (entries_twice pfs es mid es' (target_entries pfs number.0 i None es mid first) (inode_entries pfs number.0 i None mid es' second))
+      (λ t tree late has.
+      object_gone pfs number.0 tree (Counts es t) (Counts es' t) has (removal_changes t tree late has)
+      (λ bytes there. none_counts bytes (((second.present t late).about bytes).0 there)))
 
   -- neither of them counts
   pub object_closed : IsGone pfs number.0 i es'
@@ -196,24 +212,21 @@ module _ (pfs i : ℕ) (number : Obj) (es mid es' : List FullElement) (first : C
 
 -- ---- links
 
--- from `i` on the same counts as of `i`, where no id is above it
-same_later : (i t : ℕ) (es : List FullElement) → IsBelow (i + 1) es → i ≤ t → CountSame (Counts es t) (Counts es i)
-same_later i t es up_to late = counts_from es t i (below_later es (i + 1) (t + 1) (omega arith) up_to) up_to
-
 -- an object without an inode has no links to change
-pub links_of_none : (pfs i : ℕ) (number : Obj) (links : ℕ) (es : List FullElement) → IsBelow (i + 1) es
+pub links_of_none : (pfs i : ℕ) (number : Obj) (links : ℕ) (es : List FullElement) → IsFreshFor (inode_subject pfs number.0) i es
     → CountsNothing (Counts es i) (inode_subject pfs number.0) → ChangesBy pfs number.0 i (λ tree. with_change tree number (with_links links)) es es
-links_of_none pfs i number links es up_to none = record {
-  writes = nothing_written pfs i (IsOfObject pfs number.0 i) es;
-  shows = λ t tree late has.
-      object_changed pfs number.0 tree (Counts es t) (Counts es t) has (record { agree = but_object_same pfs number.0 (Counts es t); settled = has.settled })
-      (with_links links) (λ o. refl) (λ o same is. absurd (missing t late o same is)) (λ o same is. absurd (missing t late o same is));
-} where
-  missing : (t : ℕ) → i ≤ t → (o : Object) → o.number.0 ≡ number.0 → IsObject (Counts es t) pfs o → ⊥
-  missing t late o same is =
-      none (inode_bytes is.inode)
-      ((same_later i t es up_to late (inode_subject pfs number.0) (inode_bytes is.inode)).1
-      (subst (λ (n : ℕ). Counts es t (inode_subject pfs n) (inode_bytes is.inode)) same is.there))
+links_of_none pfs i number links es fresh none =
+    changes_object pfs number.0 i (λ tree. with_change tree number (with_links links)) es es
+    (nothing_written pfs i (IsOfObject pfs number.0 i) es)
+    (λ t directory key bytes. (λ h. h, λ h. h))
+    (λ t tree late has.
+    object_changed pfs number.0 tree (Counts es t) (Counts es t) has (record { agree = but_object_same pfs number.0 (Counts es t); settled = has.settled })
+    (with_links links) (λ o. refl) (λ o same is. absurd (missing t late o same is)) (λ o same is. absurd (missing t late o same is))) where
+      missing : (t : ℕ) → i ≤ t → (o : Object) → o.number.0 ≡ number.0 → IsObject (Counts es t) pfs o → ⊥
+      missing t late o same is =
+          none (inode_bytes is.inode)
+          ((fresh_later (inode_subject pfs number.0) i t es (inode_bytes is.inode) fresh late).0
+          (subst (λ (n : ℕ). Counts es t (inode_subject pfs n) (inode_bytes is.inode)) same is.there))
 
 -- any number of links is in range
 pub linked_ranges : (links : ℕ) (inode : Inode) → links < 2 ^ 32 → IsInode inode → IsInode (linked links inode)
@@ -226,14 +239,16 @@ linked_ranges links inode small ranges = record {
 }
 
 -- the inode that counts gets another number of links
-pub links_given : (pfs i : ℕ) (number : Obj) (links : ℕ) (inode : Inode) (es es' : List FullElement) → IsBelow (i + 1) es
+pub links_given : (pfs i : ℕ) (number : Obj) (links : ℕ) (inode : Inode) (es es' : List FullElement)
+    → IsFreshFor (inode_subject pfs number.0) i es
     → HasInode (Counts es i) pfs number.0 inode → links < 2 ^ 32 → NewInode pfs number.0 i (linked links inode) es es'
     → ChangesBy pfs number.0 i (λ tree. with_change tree number (with_links links)) es es'
-links_given pfs i number links inode es es' up_to there small new = record {
-  writes = writes_within pfs i (inode_subject pfs number.0) (Some (inode_bytes (linked links inode))) (IsOfObject pfs number.0 i) es es'
-      (inode_within pfs number.0) (makes_inode pfs number.0 i (linked links inode) (linked_ranges links inode small there.ranges)) new;
-  shows = λ t tree late has.
-      links_changed pfs number.0 links inode tree (Counts es t) (Counts es' t) has
-      (record { ranges = there.ranges; there = (same_later i t es up_to late (inode_subject pfs number.0) (inode_bytes inode)).0 there.there })
-      small (new.present t late);
-}
+links_given pfs i number links inode es es' fresh there small new =
+    changes_object pfs number.0 i (λ tree. with_change tree number (with_links links)) es es'
+    (writes_within pfs i (inode_subject pfs number.0) (Some (inode_bytes (linked links inode))) (IsOfObject pfs number.0 i) es es'
+    (inode_within pfs number.0) (makes_inode pfs number.0 i (linked links inode) (linked_ranges links inode small there.ranges)) new)
+    (inode_entries pfs number.0 i (Some (inode_bytes (linked links inode))) es es' new)
+    (λ t tree late has.
+    links_changed pfs number.0 links inode tree (Counts es t) (Counts es' t) has
+    (record { ranges = there.ranges; there = (fresh_later (inode_subject pfs number.0) i t es (inode_bytes inode) fresh late).1 there.there })
+    small (new.present t late))

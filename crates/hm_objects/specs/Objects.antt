@@ -1,5 +1,5 @@
 -- What the calls on objects need, and what they do to the tree.
-use Rattle.std.specs.Prelude.{◌≡◌, ◌⊎◌, ℕ, ◌+◌, ◌*◌, ◌≤◌, List, [], Option, None, Some, IfSome}
+use Rattle.std.specs.Prelude.{◌≡◌, ◌⊎◌, ◌↔◌, ℕ, ◌+◌, ◌*◌, ◌≤◌, List, [], Option, None, Some, IfSome}
 use Rattle.hm_types.specs.Elements.{FullElement}
 use Rattle.hm_types.specs.Space.{in_zone}
 use Rattle.hm_types.specs.Tree.{FileTree}
@@ -11,14 +11,14 @@ use Rattle.hm_types.specs.declared.object.Kind.TheVariants.{File, Softlink}
 use Rattle.hm_types.specs.declared.space.TheConstants.{INSERT_ROOM}
 use Rattle.hm_types.specs.declared.zone.TheConstants.{META_ZONE, TREE_ZONE}
 use Rattle.hm_key.specs.Balance.{content_of}
-use Rattle.hm_key.specs.Counts.{Counts, inode_subject, target_subject, subject_of}
+use Rattle.hm_key.specs.Counts.{Counts, entry_subject, inode_subject, target_subject, subject_of}
 use Rattle.hm_key.specs.Elements.{element_key}
 use Rattle.hm_key.specs.Extents.{Extent}
-use Rattle.hm_key.specs.Versions.{IsBelow}
 use Rattle.hm_key.specs.declared.base.Base.{Base}
 use Rattle.hm_key.specs.declared.base.TheConstants.{ELEMENT}
 use Rattle.hm_key.specs.declared.element.Element.{Element}
 use Rattle.hm_records.specs.Changes.{CountsNothing, HasInode}
+use Rattle.hm_records.specs.KeysFit.{KeysFit}
 use Rattle.hm_records.specs.Laws.{with_inode}
 use Rattle.hm_records.specs.Payload.{IsPayload}
 use Rattle.hm_records.specs.declared.inode.Inode.{Inode}
@@ -48,11 +48,10 @@ pub record IsOfObject (pfs obj i : ℕ) (x : FullElement) : Type 0 where
   pub made : x.key.create ≡ i
   pub payload : IsPayload x
 
--- what is about an object is older than `i`, and no id is above `i`
+-- what is about an object is older than `i`
 pub record IsOlder (pfs obj i : ℕ) (es : List FullElement) : Type 0 where
   pub inode : IsFreshFor (inode_subject pfs obj) i es
   pub target : IsFreshFor (target_subject pfs obj) i es
-  pub up_to : IsBelow (i + 1) es
 
 -- the same of a store, where it tells its content
 abbrev pub IsOlderIn : Option (List Element) → Option (List Extent) → ℕ → ℕ → ℕ → Type 0
@@ -78,15 +77,25 @@ pub record IsGone (pfs obj i : ℕ) (es : List FullElement) : Type 0 where
   pub inode : IsMissing pfs obj i es
   pub target : (t : ℕ) → i ≤ t → CountsNothing (Counts es t) (target_subject pfs obj)
 
--- An object is added by `i`: where it had no inode, the tree gets it, and no name leads to it yet.
+-- for each entry of a directory the same counts, as of any id
+abbrev pub KeepEntries : ℕ → List FullElement → List FullElement → Type 0
+KeepEntries pfs es es' =
+    (t directory key : ℕ) (bytes : List ℕ) → Counts es' t (entry_subject pfs directory key) bytes ↔ Counts es t (entry_subject pfs directory key) bytes
+
+-- An object is added by `i`: where it had no inode, the tree gets it, and no name leads to it yet. The keys of entries
+-- stay fit, and each entry counts as it did, those that no tree shows too.
 pub record AddsObject (pfs i : ℕ) (object : Object) (es es' : List FullElement) : Type 0 where
   pub writes : WritesIn pfs i (IsOfObject pfs object.number.0 i) es es'
   pub shows : IsMissing pfs object.number.0 i es → Shows pfs i (λ tree. with_inode tree object) es es'
+  pub fits : (hash : List ℕ → ℕ) → KeysFit hash es → KeysFit hash es'
+  pub entries : KeepEntries pfs es es'
 
--- An object is changed by `i`, and the tree with it.
+-- An object is changed by `i`, and the tree with it. The keys of entries stay fit, and each entry counts as it did.
 pub record ChangesBy (pfs obj i : ℕ) (change : FileTree → FileTree) (es es' : List FullElement) : Type 0 where
   pub writes : WritesIn pfs i (IsOfObject pfs obj i) es es'
   pub shows : Shows pfs i change es es'
+  pub fits : (hash : List ℕ → ℕ) → KeysFit hash es → KeysFit hash es'
+  pub entries : KeepEntries pfs es es'
 
 -- room for so many elements, and for so many bytes of their payloads
 pub record HasRooms (room : ℕ → ℕ) (elements bytes : ℕ) : Type 0 where

@@ -1,7 +1,9 @@
 -- What the calls on a space of nodes have in common.
-use Rattle.std.specs.Prelude.{◌≡◌, ℕ, List, Option, is_some}
+use Rattle.std.specs.Prelude.{◌≡◌, ℕ, Err, List, Option, is_some}
+use Rattle.hm_types.specs.Faults.{HasStoreCause}
 use Rattle.hm_types.specs.Space.{Spends}
 use Rattle.hm_types.specs.declared.counted.Counted.{Ghosts as Counts}
+use Rattle.hm_types.specs.declared.fault.Fault.{Fault}
 use Rattle.hm_fields.specs.Pages.{PageMap}
 use Rattle.hm_key.specs.Extents.{Extent}
 
@@ -17,7 +19,24 @@ Rooms S = record {
   extents : S → Option (List Extent);
 }
 
--- and what one with pages tells: the members of `Counted` and of `Pages`
+-- it is the same space after a call, with the same frame
+pub record Stays {S : Type 0} (g : Counts S) (old new : S) : Type 0 where
+  pub name : g.name new ≡ g.name old
+  pub frame : g.frame new ≡ g.frame old
+
+-- it is the same space after a call, with the same frame, and the call took so much of the room of each zone at most,
+-- and no free big-block
+pub record HasSpent {S F : Type 0} (name_of : S → ℕ) (frame_of : S → F) (room_of : S → ℕ → ℕ) (free_of : S → ℕ)
+    (most : ℕ → ℕ) (old new : S) : Type 0 where
+  pub name : name_of new ≡ name_of old
+  pub frame : frame_of new ≡ frame_of old
+  pub space : Spends room_of free_of most old new
+
+-- the same of a space with room
+abbrev pub StaysWithin : {S : Type 0} → Rooms S → (ℕ → ℕ) → S → S → Type 0
+StaysWithin g most old new = HasSpent g.name g.frame g.room g.free most old new
+
+-- what an object with pages tells of itself: the members of `Counted` and of `Pages`
 abbrev pub Tells : Type 0 → Type 1
 Tells S = record {
   faults : S → ℕ;
@@ -30,20 +49,18 @@ Tells S = record {
   rest : S → Rest;
 }
 
--- it is the same space after a call, with the same frame
-pub record Stays {S : Type 0} (g : Counts S) (old new : S) : Type 0 where
-  pub name : g.name new ≡ g.name old
-  pub frame : g.frame new ≡ g.frame old
+-- the same space is handed back with a fault, which has its cause in the call
+pub record IsHandedBack {S F : Type 0} (name_of : S → ℕ) (frame_of : S → F) (faults_of : S → ℕ) (pages_of : S → Option PageMap)
+    (old new : S) (fault : Fault) : Type 0 where
+  pub name : name_of new ≡ name_of old
+  pub frame : frame_of new ≡ frame_of old
+  pub cause : HasStoreCause {T = ℕ} (pages_of old) (faults_of old) (faults_of new) (Err fault)
 
--- a call takes so much of the room of each zone at most, and no free big-block
-abbrev pub Takes : {S : Type 0} → Rooms S → (ℕ → ℕ) → S → S → Type 0
-Takes g most old new = Spends g.room g.free most old new
+abbrev pub HandsBack : {S : Type 0} → Tells S → S → S → Fault → Type 0
+HandsBack p old new fault = IsHandedBack p.name p.frame p.faults p.pages old new fault
 
 -- pages are told after a call where they were before it, and the extents are the same
 pub record HasKept {S : Type 0} (pages_of : S → Option PageMap) (extents_of : S → Option (List Extent)) (old new : S)
     : Type 0 where
   pub told : is_some (pages_of new) ≡ is_some (pages_of old)
   pub extents : extents_of new ≡ extents_of old
-
-abbrev pub KeepsTold : {S : Type 0} → Tells S → Rooms S → S → S → Type 0
-KeepsTold p g old new = HasKept p.pages g.extents old new

@@ -10,19 +10,26 @@ use Rattle.hm_key.specs.Key.{key_of}
 use Rattle.hm_node.specs.declared.node.Node.{Node}
 use Rattle.hm_btree.specs.Below.{HasEditCause}
 use Rattle.hm_btree.specs.Change.{with_change, marking_of}
+use Rattle.hm_btree.specs.Space.{HasWritten}
 use Rattle.hm_btree.proofs.RootLemmas.{root_cause_below, root_cause_read, root_cause_write, root_works, there_inside}
+use Rattle.hm_btree.proofs.ToldLemmas.{both_alike}
 use Rattle.hm_btree.proofs.change.change_element.Goals as goal
 
-pub returns-clause-ok : goal.returns-clause-ok
-returns-clause-ok g c =
+pub returns-clause-done : goal.returns-clause-done
+returns-clause-done g c =
     let key = key_of c.args.at.now in
     on_ok_weaker c.write_node.result
-    (λ written. root_works (with_change key c.args.change) key (marking_of c.args.change) c.args.root (λ o. IsSome o)
-    (g.S.Pages.pages c.args.space.now) (g.S.Pages.pages c.read_node.new.pages) (g.S.Pages.pages c.change_in.new.space)
-    (g.S.Pages.pages c.write_node.new.space) c.in_ok-node.node c.change_in.new.node
-    (λ old tree needs. there_inside c.args.root key old tree needs) c.read_node.ensures.same.pages
-    (subst (λ (s : Subtree). IfSome (g.S.Pages.pages c.args.space.now) (λ map. StandsHere map s c.in_ok-node.node))
-    c.root-place.ensures c.in_ok-node.ensures.ok) c.in_ok-change_in.ensures.ok written) c.write_node.ensures.ok
+    (λ written. record {
+      tree = root_works (with_change key c.args.change) key (marking_of c.args.change) c.args.root (λ o. IsSome o)
+          (g.S.Pages.pages c.args.space.now) (g.S.Pages.pages c.read_node.new.pages) (g.S.Pages.pages c.change_in.new.space)
+          (g.S.Pages.pages c.write_node.new.space) c.in_ok-node.node c.change_in.new.node
+          (λ old tree needs. there_inside c.args.root key old tree needs) c.read_node.ensures.same.pages
+          (subst (λ (s : Subtree). IfSome (g.S.Pages.pages c.args.space.now) (λ map. StandsHere map s c.in_ok-node.node))
+          c.root-place.ensures c.in_ok-node.ensures.ok) c.in_ok-change_in.ensures.done.works written;
+      told = both_alike (g.S.Pages.pages c.change_in.new.space) (g.S.Pages.pages c.write_node.new.space)
+          (HasWritten c.args.root c.change_in.new.node) written
+          ∙ c.in_ok-change_in.ensures.done.told ∙ ap (λ (o : Option PageMap). is_some o) c.read_node.ensures.same.pages;
+    }) c.write_node.ensures.ok
 
 pub returns-in_err-node-clause-cause : goal.returns-in_err-node-clause-cause
 returns-in_err-node-clause-cause g c =
@@ -51,5 +58,5 @@ pub returns-clause-cause : goal.returns-clause-cause
 returns-clause-cause g c =
     root_cause_write (g.S.Pages.pages c.args.space.now) (g.S.Pages.pages c.change_in.new.space) c.args.root
     (g.S.Counted.faults c.args.space.now) (g.S.Counted.faults c.change_in.new.space) (g.S.Counted.faults c.write_node.new.space) c.write_node.result
-    (c.in_ok-change_in.ensures.told ∙ ap (λ (o : Option PageMap). is_some o) c.read_node.ensures.same.pages)
+    (c.in_ok-change_in.ensures.done.told ∙ ap (λ (o : Option PageMap). is_some o) c.read_node.ensures.same.pages)
     (omega (arith, c.read_node.ensures.cause.never_falls, c.change_in.ensures.cause.counted.never_falls)) c.write_node.ensures.cause

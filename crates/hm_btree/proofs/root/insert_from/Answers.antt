@@ -22,107 +22,111 @@ use Rattle.hm_btree.proofs.EndLemmas.{element_inside}
 use Rattle.hm_btree.proofs.KeptLemmas.{kept_read, kept_change, kept_both, kept_then}
 use Rattle.hm_btree.proofs.InsertLemmas.{spends_add, spends_none, level_room}
 use Rattle.hm_btree.proofs.RootLemmas.{root_cause_below, root_cause_read, root_cause_write, root_works}
-use Rattle.hm_btree.proofs.TopLemmas.{top_kept, top_result}
+use Rattle.hm_btree.proofs.TopLemmas.{inserts_from, top_kept, top_result}
 use Rattle.hm_btree.proofs.root.insert_from.Goals as goal
 
-pub returns-in_err-node-clause-space : goal.returns-in_err-node-clause-space
-returns-in_err-node-clause-space g c =
+pub returns-in_err-node-clause-spent : goal.returns-in_err-node-clause-spent
+returns-in_err-node-clause-spent g c =
     let same = g.met.S.NodeSpace.rests c.args.space.now c.read_node.new.pages c.read_node.ensures.same.rest in
-    spends_none g.S.HasRoom c.args.space.now c.read_node.new.pages INSERT_ROOM same
+    spends_none g.S.Counted g.S.HasRoom c.args.space.now c.read_node.new.pages INSERT_ROOM same c.read_node.ensures.same.name c.read_node.ensures.same.frame
 
-pub returns-in_err-write_node-clause-space : goal.returns-in_err-write_node-clause-space
-returns-in_err-write_node-clause-space g c =
-    let same = g.met.S.NodeSpace.rests c.args.space.now c.read_node.new.pages c.read_node.ensures.same.rest in
-    let kept = g.met.S.NodeSpace.rests c.insert_into.new.space c.write_node.new.space c.write_node.ensures.rest in
-    let below : ℕ = NODE_BYTES * (level_of c.in_ok-node.node - 1) in
-    let low = level_room c.in_ok-node.node c.in_ok-node.ensures.sound in
-    let first = spends_add g.S.HasRoom c.args.space.now c.read_node.new.pages c.insert_into.new.space 0 below INSERT_ROOM
-    (omega (arith, low)) (spends_none g.S.HasRoom c.args.space.now c.read_node.new.pages 0 same) c.insert_into.ensures.space in
-    spends_add g.S.HasRoom c.args.space.now c.insert_into.new.space c.write_node.new.space INSERT_ROOM 0 INSERT_ROOM (omega arith)
-    first (spends_none g.S.HasRoom c.insert_into.new.space c.write_node.new.space 0 kept)
-
-pub returns-in-None-clause-ok : goal.returns-in-None-clause-ok
-returns-in-None-clause-ok g c =
-    let e = c.args.element.now in
-    let key = key_of e.base in
-    let grows = subst (λ (o : Option Upper). Grows (inserted e) key (Writes (last_id e)) (λ x. IsNone x)
-    (g.S.Pages.pages c.read_node.new.pages) (g.S.Pages.pages c.insert_into.new.space) c.in_ok-node.node c.insert_into.new.node o)
-    c.in-None.is c.in_ok-upper.ensures.ok in
-    root_works (inserted e) key (Writes (last_id e)) c.args.root (λ o. IsNone o)
-    (g.S.Pages.pages c.args.space.now) (g.S.Pages.pages c.read_node.new.pages) (g.S.Pages.pages c.insert_into.new.space)
-    (g.S.Pages.pages c.write_node.new.space) c.in_ok-node.node c.insert_into.new.node
-    (λ old tree needs. element_inside c.args.root e c.requires.element.element c.known_range.ensures) c.read_node.ensures.same.pages
-    (subst (λ (s : Subtree). IfSome (g.S.Pages.pages c.args.space.now) (λ map. StandsHere map s c.in_ok-node.node))
-    c.root-place.ensures c.in_ok-node.ensures.ok) grows c.in_ok-write_node.ensures.ok
-
-pub returns-in-None-clause-kept : goal.returns-in-None-clause-kept
-returns-in-None-clause-kept g c =
-    let same = g.met.S.NodeSpace.rests c.args.space.now c.read_node.new.pages c.read_node.ensures.same.rest in
-    let kept = g.met.S.NodeSpace.rests c.insert_into.new.space c.write_node.new.space c.write_node.ensures.rest in
-    let read = kept_read g.S.Pages g.S.HasRoom c.args.space.now c.read_node.new.pages same.2 c.read_node.ensures.same.pages in
-    let below = kept_both g.S.Pages g.S.HasRoom c.args.space.now c.read_node.new.pages c.insert_into.new.space read c.in_ok-upper.ensures.kept in
-    kept_both g.S.Pages g.S.HasRoom c.args.space.now c.insert_into.new.space c.write_node.new.space below
-    (kept_change g.S.Pages g.S.HasRoom c.insert_into.new.space c.write_node.new.space
-    (HasWritten c.args.root c.insert_into.new.node) kept.2 c.in_ok-write_node.ensures.ok)
-
-pub returns-in-None-clause-space : goal.returns-in-None-clause-space
-returns-in-None-clause-space g c =
+pub returns-in_err-write_node-clause-spent : goal.returns-in_err-write_node-clause-spent
+returns-in_err-write_node-clause-spent g c =
     let same = g.met.S.NodeSpace.rests c.args.space.now c.read_node.new.pages c.read_node.ensures.same.rest in
     let kept = g.met.S.NodeSpace.rests c.insert_into.new.space c.write_node.new.space c.write_node.ensures.rest in
     let below : ℕ = NODE_BYTES * (level_of c.in_ok-node.node - 1) in
     let low = level_room c.in_ok-node.node c.in_ok-node.ensures.sound in
-    let first = spends_add g.S.HasRoom c.args.space.now c.read_node.new.pages c.insert_into.new.space 0 below INSERT_ROOM
-    (omega (arith, low)) (spends_none g.S.HasRoom c.args.space.now c.read_node.new.pages 0 same) c.insert_into.ensures.space in
-    spends_add g.S.HasRoom c.args.space.now c.insert_into.new.space c.write_node.new.space INSERT_ROOM 0 INSERT_ROOM (omega arith)
-    first (spends_none g.S.HasRoom c.insert_into.new.space c.write_node.new.space 0 kept)
+    let first = spends_add g.S.Counted g.S.HasRoom c.args.space.now c.read_node.new.pages c.insert_into.new.space 0 below INSERT_ROOM
+    (omega (arith, low)) (spends_none g.S.Counted g.S.HasRoom c.args.space.now c.read_node.new.pages 0 same c.read_node.ensures.same.name
+    c.read_node.ensures.same.frame) c.insert_into.ensures.spent in
+    spends_add g.S.Counted g.S.HasRoom c.args.space.now c.insert_into.new.space c.write_node.new.space INSERT_ROOM 0 INSERT_ROOM (omega arith)
+    first (spends_none g.S.Counted g.S.HasRoom c.insert_into.new.space c.write_node.new.space 0 kept c.write_node.ensures.stays.name
+    c.write_node.ensures.stays.frame)
 
-pub returns-in-Some-clause-ok : goal.returns-in-Some-clause-ok
-returns-in-Some-clause-ok g c =
+pub returns-in-None-clause-done : goal.returns-in-None-clause-done
+returns-in-None-clause-done g c =
+    record {
+      tree = let e = c.args.element.now in
+          let key = key_of e.base in
+          let grows = subst (λ (o : Option Upper). Grows (inserted e) key (Writes (last_id e)) (λ x. IsNone x)
+          (g.S.Pages.pages c.read_node.new.pages) (g.S.Pages.pages c.insert_into.new.space) c.in_ok-node.node c.insert_into.new.node o)
+          c.in-None.is c.in_ok-upper.ensures.done.grows in
+          root_works (inserted e) key (Writes (last_id e)) c.args.root (λ o. IsNone o)
+          (g.S.Pages.pages c.args.space.now) (g.S.Pages.pages c.read_node.new.pages) (g.S.Pages.pages c.insert_into.new.space)
+          (g.S.Pages.pages c.write_node.new.space) c.in_ok-node.node c.insert_into.new.node
+          (λ old tree needs. element_inside c.args.root e c.requires.element.element c.known_range.ensures) c.read_node.ensures.same.pages
+          (subst (λ (s : Subtree). IfSome (g.S.Pages.pages c.args.space.now) (λ map. StandsHere map s c.in_ok-node.node))
+          c.root-place.ensures c.in_ok-node.ensures.ok) grows c.in_ok-write_node.ensures.ok;
+      kept = let same = g.met.S.NodeSpace.rests c.args.space.now c.read_node.new.pages c.read_node.ensures.same.rest in
+          let kept = g.met.S.NodeSpace.rests c.insert_into.new.space c.write_node.new.space c.write_node.ensures.rest in
+          let read = kept_read g.S.Pages g.S.HasRoom c.args.space.now c.read_node.new.pages same.2 c.read_node.ensures.same.pages in
+          let below = kept_both g.S.Pages g.S.HasRoom c.args.space.now c.read_node.new.pages c.insert_into.new.space read c.in_ok-upper.ensures.done.kept in
+          kept_both g.S.Pages g.S.HasRoom c.args.space.now c.insert_into.new.space c.write_node.new.space below
+          (kept_change g.S.Pages g.S.HasRoom c.insert_into.new.space c.write_node.new.space
+          (HasWritten c.args.root c.insert_into.new.node) kept.2 c.in_ok-write_node.ensures.ok);
+    }
+
+pub returns-in-None-clause-spent : goal.returns-in-None-clause-spent
+returns-in-None-clause-spent g c =
+    let same = g.met.S.NodeSpace.rests c.args.space.now c.read_node.new.pages c.read_node.ensures.same.rest in
+    let kept = g.met.S.NodeSpace.rests c.insert_into.new.space c.write_node.new.space c.write_node.ensures.rest in
+    let below : ℕ = NODE_BYTES * (level_of c.in_ok-node.node - 1) in
+    let low = level_room c.in_ok-node.node c.in_ok-node.ensures.sound in
+    let first = spends_add g.S.Counted g.S.HasRoom c.args.space.now c.read_node.new.pages c.insert_into.new.space 0 below INSERT_ROOM
+    (omega (arith, low)) (spends_none g.S.Counted g.S.HasRoom c.args.space.now c.read_node.new.pages 0 same c.read_node.ensures.same.name
+    c.read_node.ensures.same.frame) c.insert_into.ensures.spent in
+    spends_add g.S.Counted g.S.HasRoom c.args.space.now c.insert_into.new.space c.write_node.new.space INSERT_ROOM 0 INSERT_ROOM (omega arith)
+    first (spends_none g.S.Counted g.S.HasRoom c.insert_into.new.space c.write_node.new.space 0 kept c.write_node.ensures.stays.name
+    c.write_node.ensures.stays.frame)
+
+pub returns-in-Some-clause-done : goal.returns-in-Some-clause-done
+returns-in-Some-clause-done g c =
     let e = c.args.element.now in
     let key = key_of e.base in
     let grows = subst (λ (o : Option Upper). Grows (inserted e) key (Writes (last_id e)) (λ x. IsNone x)
     (g.S.Pages.pages c.read_node.new.pages) (g.S.Pages.pages c.insert_into.new.space) c.in_ok-node.node c.insert_into.new.node o)
-    c.in-Some.is c.in_ok-upper.ensures.ok in
-    top_result (inserted e) key (Writes (last_id e)) c.args.root (λ o. IsNone o)
-    (g.S.Pages.pages c.args.space.now) (g.S.Pages.pages c.read_node.new.pages) (g.S.Pages.pages c.insert_into.new.space)
-    (g.S.Pages.pages c.write_node.new.space) (g.S.Pages.pages c.add_root.new.space) c.in_ok-node.node c.insert_into.new.node c.in-Some.upper
-    (λ old tree needs. element_inside c.args.root e c.requires.element.element c.known_range.ensures) c.read_node.ensures.same.pages
-    (subst (λ (s : Subtree). IfSome (g.S.Pages.pages c.args.space.now) (λ map. StandsHere map s c.in_ok-node.node))
-    c.root-place.ensures c.in_ok-node.ensures.ok) grows c.in_ok-write_node.ensures.ok
-    c.root-place.result c.add_root.result c.root-place.ensures c.add_root.ensures.ok
-
-pub returns-in-Some-clause-kept : goal.returns-in-Some-clause-kept
-returns-in-Some-clause-kept g c =
+    c.in-Some.is c.in_ok-upper.ensures.done.grows in
     let same = g.met.S.NodeSpace.rests c.args.space.now c.read_node.new.pages c.read_node.ensures.same.rest in
     let kept = g.met.S.NodeSpace.rests c.insert_into.new.space c.write_node.new.space c.write_node.ensures.rest in
     let read = kept_read g.S.Pages g.S.HasRoom c.args.space.now c.read_node.new.pages same.2 c.read_node.ensures.same.pages in
-    let below = kept_both g.S.Pages g.S.HasRoom c.args.space.now c.read_node.new.pages c.insert_into.new.space read c.in_ok-upper.ensures.kept in
+    let below = kept_both g.S.Pages g.S.HasRoom c.args.space.now c.read_node.new.pages c.insert_into.new.space read c.in_ok-upper.ensures.done.kept in
     let written = kept_both g.S.Pages g.S.HasRoom c.args.space.now c.insert_into.new.space c.write_node.new.space below
     (kept_change g.S.Pages g.S.HasRoom c.insert_into.new.space c.write_node.new.space
     (HasWritten c.args.root c.insert_into.new.node) kept.2 c.in_ok-write_node.ensures.ok) in
-    kept_then g.S.Pages g.S.HasRoom c.args.space.now c.write_node.new.space c.add_root.new.space c.add_root.result written
+    inserts_from g.S.Pages g.S.HasRoom e c.args.space.now c.add_root.new.space c.args.root c.add_root.result
+    (top_result g.S.Pages g.S.HasRoom (inserted e) key (Writes (last_id e)) c.args.root (λ o. IsNone o)
+    (g.S.Pages.pages c.args.space.now) (g.S.Pages.pages c.read_node.new.pages) (g.S.Pages.pages c.insert_into.new.space)
+    c.write_node.new.space c.add_root.new.space c.in_ok-node.node c.insert_into.new.node c.in-Some.upper
+    (λ old tree needs. element_inside c.args.root e c.requires.element.element c.known_range.ensures) c.read_node.ensures.same.pages
+    (subst (λ (s : Subtree). IfSome (g.S.Pages.pages c.args.space.now) (λ map. StandsHere map s c.in_ok-node.node))
+    c.root-place.ensures c.in_ok-node.ensures.ok) grows c.in_ok-write_node.ensures.ok
+    c.root-place.result c.add_root.result c.root-place.ensures c.add_root.ensures.ok)
+    (kept_then g.S.Pages g.S.HasRoom c.args.space.now c.write_node.new.space c.add_root.new.space c.add_root.result written
     (top_kept g.S.Pages g.S.HasRoom c.write_node.new.space c.add_root.new.space c.root-place.result c.insert_into.new.node
-    c.in-Some.upper c.add_root.result c.add_root.ensures.ok c.add_root.ensures.extents)
+    c.in-Some.upper c.add_root.result c.add_root.ensures.ok))
 
-pub returns-in-Some-clause-space : goal.returns-in-Some-clause-space
-returns-in-Some-clause-space g c =
+pub returns-in-Some-clause-spent : goal.returns-in-Some-clause-spent
+returns-in-Some-clause-spent g c =
     let same = g.met.S.NodeSpace.rests c.args.space.now c.read_node.new.pages c.read_node.ensures.same.rest in
     let kept = g.met.S.NodeSpace.rests c.insert_into.new.space c.write_node.new.space c.write_node.ensures.rest in
     let below : ℕ = NODE_BYTES * (level_of c.in_ok-node.node - 1) in
     let low = level_room c.in_ok-node.node c.in_ok-node.ensures.sound in
-    let first = spends_add g.S.HasRoom c.args.space.now c.read_node.new.pages c.insert_into.new.space 0 below below (omega arith)
-    (spends_none g.S.HasRoom c.args.space.now c.read_node.new.pages 0 same) c.insert_into.ensures.space in
-    let second = spends_add g.S.HasRoom c.args.space.now c.insert_into.new.space c.write_node.new.space below 0 below
-    (omega arith) first (spends_none g.S.HasRoom c.insert_into.new.space c.write_node.new.space 0 kept) in
-    spends_add g.S.HasRoom c.args.space.now c.write_node.new.space c.add_root.new.space below (NODE_BYTES * 2) INSERT_ROOM
-    (omega (arith, low)) second c.add_root.ensures.space
+    let first = spends_add g.S.Counted g.S.HasRoom c.args.space.now c.read_node.new.pages c.insert_into.new.space 0 below below (omega arith)
+    (spends_none g.S.Counted g.S.HasRoom c.args.space.now c.read_node.new.pages 0 same c.read_node.ensures.same.name c.read_node.ensures.same.frame)
+    c.insert_into.ensures.spent in
+    let second = spends_add g.S.Counted g.S.HasRoom c.args.space.now c.insert_into.new.space c.write_node.new.space below 0 below
+    (omega arith) first (spends_none g.S.Counted g.S.HasRoom c.insert_into.new.space c.write_node.new.space 0 kept c.write_node.ensures.stays.name
+    c.write_node.ensures.stays.frame) in
+    spends_add g.S.Counted g.S.HasRoom c.args.space.now c.write_node.new.space c.add_root.new.space below (NODE_BYTES * 2) INSERT_ROOM
+    (omega (arith, low)) second c.add_root.ensures.spent
 
 pub returns-in_err-node-clause-cause : goal.returns-in_err-node-clause-cause
 returns-in_err-node-clause-cause g c =
     let old = g.S.Counted.faults c.args.space.now in
     let new = g.S.Counted.faults c.read_node.new.pages in
     let p = err_from_is_err_and c.from_residual.result c.from_residual.ensures.1 in
-    let whole = root_cause_read {T = ℕ} (g.S.Pages.pages c.args.space.now) c.args.root old new c.root-place.result c.in_err-node.field-0.0 c.root-place.ensures
+    let whole = root_cause_read {T = ℕ} (g.S.Pages.pages c.args.space.now) c.args.root old new c.root-place.result c.in_err-node.field-0.0
+    c.root-place.ensures
     (subst (λ (r : Result Node Fault). HasFaultCause old new r) c.in_err-node.was c.read_node.ensures.cause) c.in_err-node.ensures.damage in
     rw (p.1, p.2) whole
 
@@ -150,7 +154,7 @@ returns-in_err-write_node-clause-cause g c =
     let other : HasStoreCause {T = ℕ} mid middle new (Err c.in_err-write_node.field-0.0) =
     record { counted = record { never_falls = cause.counted.never_falls; caused = cause.counted.caused }; undamaged = cause.undamaged } in
     let whole = root_cause_write {T = ℕ} (g.S.Pages.pages c.args.space.now) mid c.args.root old middle new (Err c.in_err-write_node.field-0.0)
-    (c.in_ok-upper.ensures.kept.told ∙ ap (λ (o : Option PageMap). is_some o) c.read_node.ensures.same.pages)
+    (c.in_ok-upper.ensures.done.kept.told ∙ ap (λ (o : Option PageMap). is_some o) c.read_node.ensures.same.pages)
     (omega (arith, c.read_node.ensures.cause.never_falls, c.insert_into.ensures.cause.counted.never_falls)) other in
     rw (p.1, p.2) whole
 
@@ -160,7 +164,7 @@ returns-in-Some-clause-cause g c =
     (HasWritten c.args.root c.insert_into.new.node) c.in_ok-write_node.ensures.ok in
     root_cause_write (g.S.Pages.pages c.args.space.now) (g.S.Pages.pages c.write_node.new.space) c.args.root
     (g.S.Counted.faults c.args.space.now) (g.S.Counted.faults c.write_node.new.space) (g.S.Counted.faults c.add_root.new.space) c.add_root.result
-    (written ∙ c.in_ok-upper.ensures.kept.told ∙ ap (λ (o : Option PageMap). is_some o) c.read_node.ensures.same.pages)
+    (written ∙ c.in_ok-upper.ensures.done.kept.told ∙ ap (λ (o : Option PageMap). is_some o) c.read_node.ensures.same.pages)
     (omega (
       arith,
       c.read_node.ensures.cause.never_falls,

@@ -11,5 +11,5 @@ empty-requires-clause-room c =
 pub returns-in-Ok-clause-room : goal.returns-in-Ok-clause-room
 returns-in-Ok-clause-room c =
     let room : c.new.result.room ≡ 4_398_046_511_104 = ap (λ (f : ℕ → ℕ). f TREE_ZONE) c.new.ensures.room in
-    let spent : c.new.result.room ≤ c.in-Ok.tree.space.room + NODE_BYTES = c.in-Ok.ensures.space.room TREE_ZONE in
+    let spent : c.new.result.room ≤ c.in-Ok.tree.space.room + NODE_BYTES = c.in-Ok.ensures.spent.space.room TREE_ZONE in
     omega (arith, room, spent)

@@ -7,108 +7,116 @@ use Rattle.hm_btree.proofs.SpendLemmas.{spends_nothing, spends_both}
 use Rattle.hm_btree.proofs.UnrootLemmas.{holds_lowered, low_there, written_result, dropped_result}
 use Rattle.hm_btree.proofs.top.remove_from.Goals as goal
 
-pub returns-in_err-node-clause-space : goal.returns-in_err-node-clause-space
-returns-in_err-node-clause-space g c =
+pub returns-in_err-node-clause-spent : goal.returns-in_err-node-clause-spent
+returns-in_err-node-clause-spent g c =
     let same = g.met.S.NodeSpace.rests c.args.space.now c.read_node.new.pages c.read_node.ensures.same.rest in
-    spends_nothing g.S.HasRoom c.args.space.now c.read_node.new.pages same
+    spends_nothing g.S.Counted g.S.HasRoom c.args.space.now c.read_node.new.pages same c.read_node.ensures.same.name c.read_node.ensures.same.frame
 
-pub returns-in_err-root-clause-space : goal.returns-in_err-root-clause-space
-returns-in_err-root-clause-space g c =
+pub returns-in_err-root-clause-spent : goal.returns-in_err-root-clause-spent
+returns-in_err-root-clause-spent g c =
     let same = g.met.S.NodeSpace.rests c.args.space.now c.read_node.new.pages c.read_node.ensures.same.rest in
-    spends_both g.S.HasRoom c.args.space.now c.read_node.new.pages c.lowest.new.space (spends_nothing g.S.HasRoom c.args.space.now
-    c.read_node.new.pages same) c.lowest.ensures.space
+    spends_both g.S.Counted g.S.HasRoom c.args.space.now c.read_node.new.pages c.lowest.new.space (spends_nothing g.S.Counted g.S.HasRoom c.args.space.now
+    c.read_node.new.pages same c.read_node.ensures.same.name c.read_node.ensures.same.frame) c.lowest.ensures.spent
 
 pub remove_below-requires-clause-told : goal.remove_below-requires-clause-told
 remove_below-requires-clause-told g c =
     holds_lowered (key_of c.args.at.now) c.args.root c.in_ok-root.root c.in_ok-root.node (g.S.Pages.pages c.args.space.now)
     (g.S.Pages.pages c.read_node.new.pages) (g.S.Pages.pages c.lowest.new.space) c.read_node.ensures.same.pages
-    c.in_ok-root.ensures.ok c.in_ok-root.ensures.kept.told c.requires.there
+    c.in_ok-root.ensures.done.lowered c.in_ok-root.ensures.done.kept.told c.requires.there
 
-pub returns-in_err-remove_below-clause-space : goal.returns-in_err-remove_below-clause-space
-returns-in_err-remove_below-clause-space g c =
+pub returns-in_err-remove_below-clause-spent : goal.returns-in_err-remove_below-clause-spent
+returns-in_err-remove_below-clause-spent g c =
     let same = g.met.S.NodeSpace.rests c.args.space.now c.read_node.new.pages c.read_node.ensures.same.rest in
-    let lower = spends_both g.S.HasRoom c.args.space.now c.read_node.new.pages c.lowest.new.space
-    (spends_nothing g.S.HasRoom c.args.space.now c.read_node.new.pages same) c.lowest.ensures.space in
-    spends_both g.S.HasRoom c.args.space.now c.lowest.new.space c.remove_below.new.space lower c.remove_below.ensures.space
+    let lower = spends_both g.S.Counted g.S.HasRoom c.args.space.now c.read_node.new.pages c.lowest.new.space
+    (spends_nothing g.S.Counted g.S.HasRoom c.args.space.now c.read_node.new.pages same c.read_node.ensures.same.name c.read_node.ensures.same.frame)
+    c.lowest.ensures.spent in
+    spends_both g.S.Counted g.S.HasRoom c.args.space.now c.lowest.new.space c.remove_below.new.space lower c.remove_below.ensures.spent
 
 pub drop_node-requires : goal.drop_node-requires
 drop_node-requires g c =
     low_there (key_of c.args.at.now) c.args.root c.in_ok-root.root c.in_ok-root.node (g.S.Pages.pages c.args.space.now)
     (g.S.Pages.pages c.read_node.new.pages) (g.S.Pages.pages c.lowest.new.space) c.read_node.ensures.same.pages
-    c.in_ok-root.ensures.ok c.in_ok-root.ensures.kept.told
+    c.in_ok-root.ensures.done.lowered c.in_ok-root.ensures.done.kept.told
     (removed (key_of c.args.at.now)) TakesOut (g.S.Pages.pages c.remove_below.new.space) c.remove_below.new.node
-    c.in_ok-remove_below.ensures.ok c.in_ok-remove_below.ensures.kept.told c.requires.there
+    c.in_ok-remove_below.ensures.done.shrinks c.in_ok-remove_below.ensures.done.kept.told c.requires.there
 
-pub returns-in_err-drop_node-in-Some-clause-space : goal.returns-in_err-drop_node-in-Some-clause-space
-returns-in_err-drop_node-in-Some-clause-space g c =
+pub returns-in_err-drop_node-in-Some-clause-spent : goal.returns-in_err-drop_node-in-Some-clause-spent
+returns-in_err-drop_node-in-Some-clause-spent g c =
     let same = g.met.S.NodeSpace.rests c.args.space.now c.read_node.new.pages c.read_node.ensures.same.rest in
-    let lower = spends_both g.S.HasRoom c.args.space.now c.read_node.new.pages c.lowest.new.space
-    (spends_nothing g.S.HasRoom c.args.space.now c.read_node.new.pages same) c.lowest.ensures.space in
-    let shrunk = spends_both g.S.HasRoom c.args.space.now c.lowest.new.space c.remove_below.new.space lower c.remove_below.ensures.space in
-    spends_both g.S.HasRoom c.args.space.now c.remove_below.new.space c.drop_node.new.self shrunk c.drop_node.ensures.space
+    let lower = spends_both g.S.Counted g.S.HasRoom c.args.space.now c.read_node.new.pages c.lowest.new.space
+    (spends_nothing g.S.Counted g.S.HasRoom c.args.space.now c.read_node.new.pages same c.read_node.ensures.same.name c.read_node.ensures.same.frame)
+    c.lowest.ensures.spent in
+    let shrunk = spends_both g.S.Counted g.S.HasRoom c.args.space.now c.lowest.new.space c.remove_below.new.space lower c.remove_below.ensures.spent in
+    spends_both g.S.Counted g.S.HasRoom c.args.space.now c.remove_below.new.space c.drop_node.new.self shrunk c.drop_node.ensures.spent
 
-pub returns-in_err-write_node-in-None-clause-space : goal.returns-in_err-write_node-in-None-clause-space
-returns-in_err-write_node-in-None-clause-space g c =
+pub returns-in_err-write_node-in-None-clause-spent : goal.returns-in_err-write_node-in-None-clause-spent
+returns-in_err-write_node-in-None-clause-spent g c =
     let same = g.met.S.NodeSpace.rests c.args.space.now c.read_node.new.pages c.read_node.ensures.same.rest in
-    let lower = spends_both g.S.HasRoom c.args.space.now c.read_node.new.pages c.lowest.new.space
-    (spends_nothing g.S.HasRoom c.args.space.now c.read_node.new.pages same) c.lowest.ensures.space in
-    let shrunk = spends_both g.S.HasRoom c.args.space.now c.lowest.new.space c.remove_below.new.space lower c.remove_below.ensures.space in
+    let lower = spends_both g.S.Counted g.S.HasRoom c.args.space.now c.read_node.new.pages c.lowest.new.space
+    (spends_nothing g.S.Counted g.S.HasRoom c.args.space.now c.read_node.new.pages same c.read_node.ensures.same.name c.read_node.ensures.same.frame)
+    c.lowest.ensures.spent in
+    let shrunk = spends_both g.S.Counted g.S.HasRoom c.args.space.now c.lowest.new.space c.remove_below.new.space lower c.remove_below.ensures.spent in
     let kept = g.met.S.NodeSpace.rests c.remove_below.new.space c.write_node.new.space c.write_node.ensures.rest in
-    spends_both g.S.HasRoom c.args.space.now c.remove_below.new.space c.write_node.new.space shrunk
-    (spends_nothing g.S.HasRoom c.remove_below.new.space c.write_node.new.space kept)
+    spends_both g.S.Counted g.S.HasRoom c.args.space.now c.remove_below.new.space c.write_node.new.space shrunk
+    (spends_nothing g.S.Counted g.S.HasRoom c.remove_below.new.space c.write_node.new.space kept c.write_node.ensures.stays.name
+    c.write_node.ensures.stays.frame)
 
-pub returns-in_ok-drop_node-in-Some-clause-ok : goal.returns-in_ok-drop_node-in-Some-clause-ok
-returns-in_ok-drop_node-in-Some-clause-ok g c =
-    dropped_result (key_of c.args.at.now) c.args.root c.in_ok-root.root c.in_ok-root.node (g.S.Pages.pages c.args.space.now)
-    (g.S.Pages.pages c.read_node.new.pages) (g.S.Pages.pages c.lowest.new.space) c.read_node.ensures.same.pages
-    c.in_ok-root.ensures.ok c.in_ok-root.ensures.kept.told
-    (removed (key_of c.args.at.now)) TakesOut (g.S.Pages.pages c.remove_below.new.space) c.remove_below.new.node
-    c.in_ok-remove_below.ensures.ok c.in_ok-remove_below.ensures.kept.told (g.S.Pages.pages c.drop_node.new.self)
-    c.in-Some.below c.in-Some.ensures.one c.in_ok-drop_node-in-Some.ensures.ok
+pub returns-in_ok-drop_node-in-Some-clause-done : goal.returns-in_ok-drop_node-in-Some-clause-done
+returns-in_ok-drop_node-in-Some-clause-done g c =
+    record {
+      tree = dropped_result (key_of c.args.at.now) c.args.root c.in_ok-root.root c.in_ok-root.node (g.S.Pages.pages c.args.space.now)
+          (g.S.Pages.pages c.read_node.new.pages) (g.S.Pages.pages c.lowest.new.space) c.read_node.ensures.same.pages
+          c.in_ok-root.ensures.done.lowered c.in_ok-root.ensures.done.kept.told
+          (removed (key_of c.args.at.now)) TakesOut (g.S.Pages.pages c.remove_below.new.space) c.remove_below.new.node
+          c.in_ok-remove_below.ensures.done.shrinks c.in_ok-remove_below.ensures.done.kept.told (g.S.Pages.pages c.drop_node.new.self)
+          c.in-Some.below c.in-Some.ensures.one c.in_ok-drop_node-in-Some.ensures.ok;
+      kept = let same = g.met.S.NodeSpace.rests c.args.space.now c.read_node.new.pages c.read_node.ensures.same.rest in
+          let read = kept_read g.S.Pages g.S.HasRoom c.args.space.now c.read_node.new.pages same.2 c.read_node.ensures.same.pages in
+          let low = kept_both g.S.Pages g.S.HasRoom c.args.space.now c.read_node.new.pages c.lowest.new.space read c.in_ok-root.ensures.done.kept in
+          let below = kept_both g.S.Pages g.S.HasRoom c.args.space.now c.lowest.new.space c.remove_below.new.space low
+          c.in_ok-remove_below.ensures.done.kept in
+          kept_both g.S.Pages g.S.HasRoom c.args.space.now c.remove_below.new.space c.drop_node.new.self below
+          (kept_change g.S.Pages g.S.HasRoom c.remove_below.new.space c.drop_node.new.self (HasLost c.in_ok-root.root)
+          c.in_ok-drop_node-in-Some.ensures.extents c.in_ok-drop_node-in-Some.ensures.ok);
+    }
 
-pub returns-in_ok-drop_node-in-Some-clause-kept : goal.returns-in_ok-drop_node-in-Some-clause-kept
-returns-in_ok-drop_node-in-Some-clause-kept g c =
+pub returns-in_ok-drop_node-in-Some-clause-spent : goal.returns-in_ok-drop_node-in-Some-clause-spent
+returns-in_ok-drop_node-in-Some-clause-spent g c =
     let same = g.met.S.NodeSpace.rests c.args.space.now c.read_node.new.pages c.read_node.ensures.same.rest in
-    let read = kept_read g.S.Pages g.S.HasRoom c.args.space.now c.read_node.new.pages same.2 c.read_node.ensures.same.pages in
-    let low = kept_both g.S.Pages g.S.HasRoom c.args.space.now c.read_node.new.pages c.lowest.new.space read c.in_ok-root.ensures.kept in
-    let below = kept_both g.S.Pages g.S.HasRoom c.args.space.now c.lowest.new.space c.remove_below.new.space low c.in_ok-remove_below.ensures.kept in
-    kept_both g.S.Pages g.S.HasRoom c.args.space.now c.remove_below.new.space c.drop_node.new.self below
-    (kept_change g.S.Pages g.S.HasRoom c.remove_below.new.space c.drop_node.new.self (HasLost c.in_ok-root.root)
-    c.in_ok-drop_node-in-Some.ensures.extents c.in_ok-drop_node-in-Some.ensures.ok)
+    let lower = spends_both g.S.Counted g.S.HasRoom c.args.space.now c.read_node.new.pages c.lowest.new.space
+    (spends_nothing g.S.Counted g.S.HasRoom c.args.space.now c.read_node.new.pages same c.read_node.ensures.same.name c.read_node.ensures.same.frame)
+    c.lowest.ensures.spent in
+    let shrunk = spends_both g.S.Counted g.S.HasRoom c.args.space.now c.lowest.new.space c.remove_below.new.space lower c.remove_below.ensures.spent in
+    spends_both g.S.Counted g.S.HasRoom c.args.space.now c.remove_below.new.space c.drop_node.new.self shrunk c.drop_node.ensures.spent
 
-pub returns-in_ok-drop_node-in-Some-clause-space : goal.returns-in_ok-drop_node-in-Some-clause-space
-returns-in_ok-drop_node-in-Some-clause-space g c =
+pub returns-in_ok-write_node-in-None-clause-done : goal.returns-in_ok-write_node-in-None-clause-done
+returns-in_ok-write_node-in-None-clause-done g c =
+    record {
+      tree = written_result (key_of c.args.at.now) c.args.root c.in_ok-root.root c.in_ok-root.node (g.S.Pages.pages c.args.space.now)
+          (g.S.Pages.pages c.read_node.new.pages) (g.S.Pages.pages c.lowest.new.space) c.read_node.ensures.same.pages
+          c.in_ok-root.ensures.done.lowered c.in_ok-root.ensures.done.kept.told
+          (removed (key_of c.args.at.now)) TakesOut (g.S.Pages.pages c.remove_below.new.space) c.remove_below.new.node
+          c.in_ok-remove_below.ensures.done.shrinks c.in_ok-remove_below.ensures.done.kept.told (g.S.Pages.pages c.write_node.new.space)
+          c.in_ok-write_node-in-None.ensures.ok;
+      kept = let same = g.met.S.NodeSpace.rests c.args.space.now c.read_node.new.pages c.read_node.ensures.same.rest in
+          let kept = g.met.S.NodeSpace.rests c.remove_below.new.space c.write_node.new.space c.write_node.ensures.rest in
+          let read = kept_read g.S.Pages g.S.HasRoom c.args.space.now c.read_node.new.pages same.2 c.read_node.ensures.same.pages in
+          let low = kept_both g.S.Pages g.S.HasRoom c.args.space.now c.read_node.new.pages c.lowest.new.space read c.in_ok-root.ensures.done.kept in
+          let below = kept_both g.S.Pages g.S.HasRoom c.args.space.now c.lowest.new.space c.remove_below.new.space low
+          c.in_ok-remove_below.ensures.done.kept in
+          kept_both g.S.Pages g.S.HasRoom c.args.space.now c.remove_below.new.space c.write_node.new.space below
+          (kept_change g.S.Pages g.S.HasRoom c.remove_below.new.space c.write_node.new.space
+          (HasWritten c.in_ok-root.root c.remove_below.new.node) kept.2 c.in_ok-write_node-in-None.ensures.ok);
+    }
+
+pub returns-in_ok-write_node-in-None-clause-spent : goal.returns-in_ok-write_node-in-None-clause-spent
+returns-in_ok-write_node-in-None-clause-spent g c =
     let same = g.met.S.NodeSpace.rests c.args.space.now c.read_node.new.pages c.read_node.ensures.same.rest in
-    let lower = spends_both g.S.HasRoom c.args.space.now c.read_node.new.pages c.lowest.new.space
-    (spends_nothing g.S.HasRoom c.args.space.now c.read_node.new.pages same) c.lowest.ensures.space in
-    let shrunk = spends_both g.S.HasRoom c.args.space.now c.lowest.new.space c.remove_below.new.space lower c.remove_below.ensures.space in
-    spends_both g.S.HasRoom c.args.space.now c.remove_below.new.space c.drop_node.new.self shrunk c.drop_node.ensures.space
-
-pub returns-in_ok-write_node-in-None-clause-ok : goal.returns-in_ok-write_node-in-None-clause-ok
-returns-in_ok-write_node-in-None-clause-ok g c =
-    written_result (key_of c.args.at.now) c.args.root c.in_ok-root.root c.in_ok-root.node (g.S.Pages.pages c.args.space.now)
-    (g.S.Pages.pages c.read_node.new.pages) (g.S.Pages.pages c.lowest.new.space) c.read_node.ensures.same.pages
-    c.in_ok-root.ensures.ok c.in_ok-root.ensures.kept.told
-    (removed (key_of c.args.at.now)) TakesOut (g.S.Pages.pages c.remove_below.new.space) c.remove_below.new.node
-    c.in_ok-remove_below.ensures.ok c.in_ok-remove_below.ensures.kept.told (g.S.Pages.pages c.write_node.new.space) c.in_ok-write_node-in-None.ensures.ok
-
-pub returns-in_ok-write_node-in-None-clause-kept : goal.returns-in_ok-write_node-in-None-clause-kept
-returns-in_ok-write_node-in-None-clause-kept g c =
-    let same = g.met.S.NodeSpace.rests c.args.space.now c.read_node.new.pages c.read_node.ensures.same.rest in
+    let lower = spends_both g.S.Counted g.S.HasRoom c.args.space.now c.read_node.new.pages c.lowest.new.space
+    (spends_nothing g.S.Counted g.S.HasRoom c.args.space.now c.read_node.new.pages same c.read_node.ensures.same.name c.read_node.ensures.same.frame)
+    c.lowest.ensures.spent in
+    let shrunk = spends_both g.S.Counted g.S.HasRoom c.args.space.now c.lowest.new.space c.remove_below.new.space lower c.remove_below.ensures.spent in
     let kept = g.met.S.NodeSpace.rests c.remove_below.new.space c.write_node.new.space c.write_node.ensures.rest in
-    let read = kept_read g.S.Pages g.S.HasRoom c.args.space.now c.read_node.new.pages same.2 c.read_node.ensures.same.pages in
-    let low = kept_both g.S.Pages g.S.HasRoom c.args.space.now c.read_node.new.pages c.lowest.new.space read c.in_ok-root.ensures.kept in
-    let below = kept_both g.S.Pages g.S.HasRoom c.args.space.now c.lowest.new.space c.remove_below.new.space low c.in_ok-remove_below.ensures.kept in
-    kept_both g.S.Pages g.S.HasRoom c.args.space.now c.remove_below.new.space c.write_node.new.space below
-    (kept_change g.S.Pages g.S.HasRoom c.remove_below.new.space c.write_node.new.space
-    (HasWritten c.in_ok-root.root c.remove_below.new.node) kept.2 c.in_ok-write_node-in-None.ensures.ok)
-
-pub returns-in_ok-write_node-in-None-clause-space : goal.returns-in_ok-write_node-in-None-clause-space
-returns-in_ok-write_node-in-None-clause-space g c =
-    let same = g.met.S.NodeSpace.rests c.args.space.now c.read_node.new.pages c.read_node.ensures.same.rest in
-    let lower = spends_both g.S.HasRoom c.args.space.now c.read_node.new.pages c.lowest.new.space
-    (spends_nothing g.S.HasRoom c.args.space.now c.read_node.new.pages same) c.lowest.ensures.space in
-    let shrunk = spends_both g.S.HasRoom c.args.space.now c.lowest.new.space c.remove_below.new.space lower c.remove_below.ensures.space in
-    let kept = g.met.S.NodeSpace.rests c.remove_below.new.space c.write_node.new.space c.write_node.ensures.rest in
-    spends_both g.S.HasRoom c.args.space.now c.remove_below.new.space c.write_node.new.space shrunk
-    (spends_nothing g.S.HasRoom c.remove_below.new.space c.write_node.new.space kept)
+    spends_both g.S.Counted g.S.HasRoom c.args.space.now c.remove_below.new.space c.write_node.new.space shrunk
+    (spends_nothing g.S.Counted g.S.HasRoom c.remove_below.new.space c.write_node.new.space kept c.write_node.ensures.stays.name
+    c.write_node.ensures.stays.frame)

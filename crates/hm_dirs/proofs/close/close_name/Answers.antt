@@ -2,10 +2,10 @@ use Rattle.std.proofs.Common.{◌≡◌, ◌+◌, ◌∙◌, ℕ, None, Some, ap
 use Rattle.std.specs.Prelude.{is_some}
 use Rattle.std.proofs.lemmas.Result.{err_from_is_err_and}
 use Rattle.hm_key.specs.Key.{key_of}
+use Rattle.hm_cursor.proofs.EntryLemmas.{found_between}
+use Rattle.hm_cursor.proofs.StoreLemmas.{caused_later, first_still, read_still}
 use Rattle.hm_dirs.specs.Names.{first_key}
-use Rattle.hm_dirs.proofs.GoneToldLemmas.{none_of, some_of, told_all, told_damage, told_more, told_moved, told_past, told_taken}
-use Rattle.hm_dirs.proofs.SpanLemmas.{found_between}
-use Rattle.hm_dirs.proofs.StoreLemmas.{caused_later, first_still, read_still}
+use Rattle.hm_dirs.proofs.GoneToldLemmas.{none_of, some_of, told_all, told_damage, told_more, told_moved, told_past, told_placed, told_taken}
 use Rattle.hm_dirs.proofs.close.close_name.Goals as goal
 use Rattle.hm_dirs.proofs.close.close_name.Goals.{then-is_some+in_ok-close_versions, else-is_some}
 
@@ -29,7 +29,7 @@ returns-in_default-clause-ok g c =
     let none = first_still (elements c.loop-key.store) (elements now) at last i c.in_ok-entry.field-0 None (sym searched.keeps.elements)
     c.in_default.is searched.ok in
     told_taken pfs c.args.directory name i first hash (last + 1) (elements old) (elements now) (extents old) (extents now) number size
-    (g.met.T.ElementStore.sorted now)
+    (g.met.T.ElementStore.sorted old) (g.met.T.ElementStore.sorted now)
     (told_all pfs c.args.directory name i first at c.loop-key.key last c.entry_base-at.ensures (elements old) (elements now) (extents old) (extents now) none
     (told_moved pfs c.args.directory name i first c.loop-key.key (elements old) (elements c.loop-key.store) (elements now)
     (extents old) (extents c.loop-key.store) (extents now) searched.keeps.elements searched.keeps.extents was.gone))
@@ -47,7 +47,27 @@ returns-clause-ok g c =
     let number : first ≡ first_key (hash name) = c.keys_of-key.ensures.first ∙ ap first_key c.hash.ensures in
     let size : c.loop-key.key ≡ first + 65536 = omega (arith, c.keys_of-key.ensures.last, was.to, c.loop-key-test.false) in
     told_taken c.args.pfs.0 c.args.directory name c.args.id.0 first hash c.loop-key.key (elements old) (elements now) (extents old) (extents now) number size
-    (g.met.T.ElementStore.sorted now) was.gone
+    (g.met.T.ElementStore.sorted old) (g.met.T.ElementStore.sorted now) was.gone
+
+pub returns-in_default-clause-placed : goal.returns-in_default-clause-placed
+returns-in_default-clause-placed g c =
+    let elements = g.T.HasElements.elements in
+    let extents = g.T.HasRoom.extents in
+    let was = c.loop-key.invariant in
+    let old = c.args.store.now in
+    let now = c.first_version.new.store in
+    let first = c.keys_of-key.result.0 in
+    let searched = c.in_ok-entry.ensures in
+    told_placed c.args.pfs.0 c.args.directory c.args.name.now c.args.id.0 first c.loop-key.key (elements old) (elements now) (extents old) (extents now)
+    (told_moved c.args.pfs.0 c.args.directory c.args.name.now c.args.id.0 first c.loop-key.key (elements old) (elements c.loop-key.store) (elements now)
+    (extents old) (extents c.loop-key.store) (extents now) searched.keeps.elements searched.keeps.extents was.gone)
+
+pub returns-clause-placed : goal.returns-clause-placed
+returns-clause-placed g c =
+    let elements = g.T.HasElements.elements in
+    let extents = g.T.HasRoom.extents in
+    told_placed c.args.pfs.0 c.args.directory c.args.name.now c.args.id.0 c.keys_of-key.result.0 c.loop-key.key (elements c.args.store.now)
+    (elements c.loop-key.store) (extents c.args.store.now) (extents c.loop-key.store) c.loop-key.invariant.gone
 
 pub returns-in_err-object_named-clause-cause : goal.returns-in_err-object_named-clause-cause
 returns-in_err-object_named-clause-cause g c =

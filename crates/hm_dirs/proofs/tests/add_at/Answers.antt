@@ -5,6 +5,7 @@ use Rattle.hm_records.specs.declared.entry.DirEntry.{DirEntry}
 use Rattle.hm_records.proofs.EntryLemmas.{length-entry}
 use Rattle.hm_cursor.specs.Told.{fulls}
 use Rattle.hm_dirs.proofs.TestLemmas.{below_next}
+use Rattle.hm_cursor.proofs.ViewsLemmas.{below_still}
 use Rattle.hm_dirs.proofs.tests.add_at.Goals as goal
 
 pub add_name-requires-clause-room : goal.add_name-requires-clause-room
@@ -18,4 +19,4 @@ pub returns : goal.returns
 returns c =
     let wrote = c.in_ok-add_name.ensures.ok c.requires.0 in
     let was = fulls (c.args.store.now.elements.list.items, extents_of c.args.store.now.extents.list.items) in
-    (wrote.0, wrote.1.writes.up_to (below_next c.args.id.0 was c.requires.1))
+    (wrote.0, below_still wrote.1.writes.up_to (below_next c.args.id.0 was c.requires.1))

@@ -3,6 +3,7 @@ use Rattle.hm_key.specs.Memory.{extents_of}
 use Rattle.hm_cursor.specs.Told.{fulls}
 use Rattle.hm_dirs.proofs.TestLemmas.{below_next}
 use Rattle.hm_dirs.proofs.WriteLemmas.{new_bytes}
+use Rattle.hm_cursor.proofs.ViewsLemmas.{below_still}
 use Rattle.hm_dirs.proofs.tests.forge.Goals as goal
 
 pub add_version-requires-clause-new : goal.add_version-requires-clause-new
@@ -14,4 +15,4 @@ pub returns : goal.returns
 returns c =
     let wrote = c.in_ok-add_version.ensures.ok c.requires.0 in
     let was = fulls (c.args.store.now.elements.list.items, extents_of c.args.store.now.extents.list.items) in
-    (wrote.0, wrote.1.up_to (below_next c.args.id.0 was c.requires.1))
+    (wrote.0, below_still wrote.1.up_to (below_next c.args.id.0 was c.requires.1))

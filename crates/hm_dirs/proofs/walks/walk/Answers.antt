@@ -33,7 +33,8 @@ loop-rest-preserved g c =
     record {
       over = loop_goes (g.T.HasElements.elements c.args.store.now) (g.T.HasRoom.extents c.args.store.now) c.args.course
           (g.met.T.ElementStore.sorted c.args.store.now)
-          (g.H.NameHash.hash_of c.args.hash.now) c.args.follow c.before-here.result c.args.parts.now c.loop-rest.rest.now more c.part-item.result c.loop-rest.stand
+          (g.H.NameHash.hash_of c.args.hash.now) c.args.follow c.before-here.result c.args.parts.now c.loop-rest.rest.now more c.part-item.result
+          c.loop-rest.stand
           c.in_ok-next.field-0 (g.T.HasElements.elements c.loop-rest.store) (g.T.HasRoom.extents c.loop-rest.store)
           c.loop-rest.invariant.keeps.elements c.loop-rest.invariant.keeps.extents
           (first_and_more c.loop-rest.rest.now c.part-item.result c.in-len1-up.len_at_least c.part-item.is)

@@ -30,7 +30,7 @@ returns-in_default-clause-ok g c =
     c.find_made_inode.new.store c.in_ok-made.ensures.keeps.elements c.in_ok-made.ensures.keeps.extents
     (known_both {R = Known} told (λ lists older made. (older, made)) c.requires.older
     (known_both told (λ lists made balanced. made balanced) c.in_ok-made.ensures.ok c.requires.balanced))
-    (λ was known. links_of_none c.args.pfs.0 c.args.id.0 c.args.obj c.args.links (fulls was) known.0.up_to
+    (λ was known. links_of_none c.args.pfs.0 c.args.id.0 c.args.obj c.args.links (fulls was) known.0.inode
     (subst (λ (o : Option (Id × Inode)). IsInodeMade was c.args.id.0 c.args.pfs.0 c.args.obj.0 o) c.in_default.is known.1))
 
 pub renew_version-requires-clause-new : goal.renew_version-requires-clause-new
@@ -68,7 +68,7 @@ returns-clause-ok g c =
     c.renew_version.new.store
     (known_both {R = Known} told (λ lists older made. (older, made)) c.requires.older
     (known_both told (λ lists made balanced. made balanced) c.in_ok-made.ensures.ok c.requires.balanced))
-    (λ was es' known new. links_given c.args.pfs.0 c.args.id.0 c.args.obj c.args.links c.in-Some.inode (fulls was) es' known.0.up_to
+    (λ was es' known new. links_given c.args.pfs.0 c.args.id.0 c.args.obj c.args.links c.in-Some.inode (fulls was) es' known.0.inode
     (subst (λ (o : Option (Id × Inode)). IsInodeMade was c.args.id.0 c.args.pfs.0 c.args.obj.0 o) c.in-Some.is known.1).0 c.ranges.links.fits
     (made_as (inode_subject c.args.pfs.0 c.args.obj.0) c.in-Some.inode.kind c.args.id.0 c.inode_base.result c.made_by-base.result c.deref.result.now
     (inode_bytes (linked c.args.links c.in-Some.inode)) (fulls was) es' c.made_by-base.ensures c.inode_base.ensures

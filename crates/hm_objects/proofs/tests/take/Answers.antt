@@ -10,6 +10,7 @@ use Rattle.hm_cursor.specs.Told.{Lists, fulls}
 use Rattle.hm_cursor.specs.Write.{Rewrites}
 use Rattle.hm_objects.specs.Objects.{AddsObject, ChangesBy, file_of, softlink_of}
 use Rattle.hm_objects.proofs.TestLemmas.{fresh_below, ready_after}
+use Rattle.hm_cursor.proofs.ViewsLemmas.{below_still}
 use Rattle.hm_objects.proofs.tests.take.Goals as goal
 
 abbrev lists_of : MemStore → Lists
@@ -24,19 +25,19 @@ pub returns-in-AddDirectory : goal.returns-in-AddDirectory
 returns-in-AddDirectory c =
     ready_after c.add_directory.result c.args.id.0 (lists_of c.args.store.now) (lists_of c.add_directory.new.store)
     (AddsObject 0 c.args.id.0 (directory_of c.args.obj))
-    c.requires.ready (λ done. done.writes.up_to) c.add_directory.ensures.ok
+    c.requires.ready (λ done. below_still done.writes.up_to) c.add_directory.ensures.ok
 
 pub returns-in-AddFile : goal.returns-in-AddFile
 returns-in-AddFile c =
     ready_after c.add_file.result c.args.id.0 (lists_of c.args.store.now) (lists_of c.add_file.new.store)
     (AddsObject 0 c.args.id.0 (file_of c.args.obj))
-    c.requires.ready (λ done. done.writes.up_to) c.add_file.ensures.ok
+    c.requires.ready (λ done. below_still done.writes.up_to) c.add_file.ensures.ok
 
 pub returns-in_ok-target-in-AddSoftlink : goal.returns-in_ok-target-in-AddSoftlink
 returns-in_ok-target-in-AddSoftlink c =
     ready_after c.add_softlink-in-AddSoftlink.result c.args.id.0 (lists_of c.args.store.now) (lists_of c.add_softlink-in-AddSoftlink.new.store)
     (AddsObject 0 c.args.id.0 (softlink_of c.args.obj _))
-    c.requires.ready (λ done. done.writes.up_to) c.add_softlink-in-AddSoftlink.ensures.ok
+    c.requires.ready (λ done. below_still done.writes.up_to) c.add_softlink-in-AddSoftlink.ensures.ok
 
 pub returns-in-AddDamaged : goal.returns-in-AddDamaged
 returns-in-AddDamaged c =
@@ -45,17 +46,17 @@ returns-in-AddDamaged c =
     c.requires.ready
     (λ done. subst
     (λ (i : ℕ). IsBelow (i + 1) (fulls (lists_of c.args.store.now)) → IsBelow (i + 1) (fulls (lists_of c.add_version.new.store)))
-    (ap (λ (base : Base). base.create) c.made_by-base.ensures) done.up_to)
+    (ap (λ (base : Base). base.create) c.made_by-base.ensures) (below_still done.up_to))
     c.add_version.ensures.ok
 
 pub returns-in-SetLinks : goal.returns-in-SetLinks
 returns-in-SetLinks c =
     ready_after c.set_links.result c.args.id.0 (lists_of c.args.store.now) (lists_of c.set_links.new.store)
     (ChangesBy 0 c.args.obj.0 c.args.id.0 (λ tree. with_change tree c.args.obj (with_links _)))
-    c.requires.ready (λ done. done.writes.up_to) c.set_links.ensures.ok
+    c.requires.ready (λ done. below_still done.writes.up_to) c.set_links.ensures.ok
 
 pub returns-in-Remove : goal.returns-in-Remove
 returns-in-Remove c =
     ready_after c.remove_object.result c.args.id.0 (lists_of c.args.store.now) (lists_of c.remove_object.new.store)
     (ChangesBy 0 c.args.obj.0 c.args.id.0 (λ tree. without_object tree c.args.obj))
-    c.requires.ready (λ done. done.writes.up_to) c.remove_object.ensures.ok
+    c.requires.ready (λ done. below_still done.writes.up_to) c.remove_object.ensures.ok

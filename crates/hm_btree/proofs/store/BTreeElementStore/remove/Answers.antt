@@ -37,7 +37,7 @@ invariant_of-self-2 g c =
     let changed = store_changed (removed key) key TakesOut (λ es. IsSome (element_at key es)) c.args.self.now.intact
     (g.S.Pages.pages c.args.self.now.space) (g.S.Pages.pages c.remove_from.new.space) c.args.self.now.root c.in_ok-root.root
     c.in_ok-require_intact.ensures.ok c.args.self.now.sound
-    c.in_ok-root.ensures.kept.told c.requires.there c.in_ok-root.ensures.ok in
+    c.in_ok-root.ensures.done.kept.told c.requires.there c.in_ok-root.ensures.done.tree in
     record { sound = changed.sound }
 
 pub returns-clause-ok : goal.returns-clause-ok
@@ -46,8 +46,8 @@ returns-clause-ok g c =
     let changed = store_changed (removed key) key TakesOut (λ es. IsSome (element_at key es)) c.args.self.now.intact
     (g.S.Pages.pages c.args.self.now.space) (g.S.Pages.pages c.remove_from.new.space) c.args.self.now.root c.in_ok-root.root
     c.in_ok-require_intact.ensures.ok c.args.self.now.sound
-    c.in_ok-root.ensures.kept.told c.requires.there c.in_ok-root.ensures.ok in
-    record { elements = changed.elements; mark = changed.mark; extents = c.in_ok-root.ensures.kept.extents }
+    c.in_ok-root.ensures.done.kept.told c.requires.there c.in_ok-root.ensures.done.tree in
+    record { elements = changed.elements; mark = changed.mark; extents = c.in_ok-root.ensures.done.kept.extents }
 
 pub returns-clause-keeps : goal.returns-clause-keeps
 returns-clause-keeps g c =
@@ -55,9 +55,9 @@ returns-clause-keeps g c =
     let changed = store_changed (removed key) key TakesOut (λ es. IsSome (element_at key es)) c.args.self.now.intact
     (g.S.Pages.pages c.args.self.now.space) (g.S.Pages.pages c.remove_from.new.space) c.args.self.now.root c.in_ok-root.root
     c.in_ok-require_intact.ensures.ok c.args.self.now.sound
-    c.in_ok-root.ensures.kept.told c.requires.there c.in_ok-root.ensures.ok in
+    c.in_ok-root.ensures.done.kept.told c.requires.there c.in_ok-root.ensures.done.tree in
     record {
       elements = told_kept (removed key) c.args.self.now.intact (g.S.Pages.pages c.args.self.now.space)
           (g.S.Pages.pages c.remove_from.new.space) c.args.self.now.root c.in_ok-root.root changed.elements;
-      extents = ap (λ (o : Option (List Extent)). is_some o) c.in_ok-root.ensures.kept.extents;
+      extents = ap (λ (o : Option (List Extent)). is_some o) c.in_ok-root.ensures.done.kept.extents;
     }

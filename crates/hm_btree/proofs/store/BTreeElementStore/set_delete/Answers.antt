@@ -39,7 +39,7 @@ invariant_of-self-2 g c =
     let changed = store_changed (with_change key (Close c.args.delete)) key (Writes c.args.delete) (λ es. IsSome (element_at key es)) c.args.self.now.intact
     (g.S.Pages.pages c.args.self.now.space) (g.S.Pages.pages c.change_element.new.space) c.args.self.now.root c.args.self.now.root
     c.in_ok-require_intact.ensures.ok c.args.self.now.sound
-    c.in_ok-change_element.ensures.told c.requires.there c.in_ok-change_element.ensures.ok in
+    c.in_ok-change_element.ensures.done.told c.requires.there c.in_ok-change_element.ensures.done.tree in
     record { sound = changed.sound }
 
 pub returns-clause-ok : goal.returns-clause-ok
@@ -48,7 +48,7 @@ returns-clause-ok g c =
     let changed = store_changed (with_change key (Close c.args.delete)) key (Writes c.args.delete) (λ es. IsSome (element_at key es)) c.args.self.now.intact
     (g.S.Pages.pages c.args.self.now.space) (g.S.Pages.pages c.change_element.new.space) c.args.self.now.root c.args.self.now.root
     c.in_ok-require_intact.ensures.ok c.args.self.now.sound
-    c.in_ok-change_element.ensures.told c.requires.there c.in_ok-change_element.ensures.ok in
+    c.in_ok-change_element.ensures.done.told c.requires.there c.in_ok-change_element.ensures.done.tree in
     let same = g.met.S.NodeSpace.rests c.args.self.now.space c.change_element.new.space c.change_element.ensures.rest in
     record { elements = changed.elements; mark = changed.mark; extents = same.2 }
 
@@ -58,7 +58,7 @@ returns-clause-keeps g c =
     let changed = store_changed (with_change key (Close c.args.delete)) key (Writes c.args.delete) (λ es. IsSome (element_at key es)) c.args.self.now.intact
     (g.S.Pages.pages c.args.self.now.space) (g.S.Pages.pages c.change_element.new.space) c.args.self.now.root c.args.self.now.root
     c.in_ok-require_intact.ensures.ok c.args.self.now.sound
-    c.in_ok-change_element.ensures.told c.requires.there c.in_ok-change_element.ensures.ok in
+    c.in_ok-change_element.ensures.done.told c.requires.there c.in_ok-change_element.ensures.done.tree in
     let same = g.met.S.NodeSpace.rests c.args.self.now.space c.change_element.new.space c.change_element.ensures.rest in
     record {
       elements = told_kept (with_change key (Close c.args.delete)) c.args.self.now.intact (g.S.Pages.pages c.args.self.now.space)

@@ -1,0 +1,25 @@
+use Rattle.std.proofs.Common.{sym}
+use Rattle.std.proofs.lemmas.Bool.{false≢true}
+use Rattle.hm_calls.proofs.KnownLemmas.{known_same, on_ok_always}
+use Rattle.hm_calls.proofs.calls.serve.Goals as goal
+
+pub returns-in-Ln-clause-answers : goal.returns-in-Ln-clause-answers
+returns-in-Ln-clause-answers g c = rw c.in-Ln.is (record { acts = λ _. c.link.ensures.answers; looks = λ no. absurd (false≢true (sym no)) })
+
+pub returns-in-Ls-clause-known : goal.returns-in-Ls-clause-known
+returns-in-Ls-clause-known g c =
+    on_ok_always c.list_names.result _ (known_same (g.T.HasElements.elements c.args.store.now) (g.T.HasElements.elements c.list_names.new.store)
+    (g.T.HasRoom.extents c.args.store.now) (g.T.HasRoom.extents c.list_names.new.store) c.args.id.0 c.list_names.ensures.keeps.elements
+    c.list_names.ensures.keeps.extents c.requires.known)
+
+pub returns-in-Stat-clause-known : goal.returns-in-Stat-clause-known
+returns-in-Stat-clause-known g c =
+    on_ok_always c.tell_status.result _ (known_same (g.T.HasElements.elements c.args.store.now) (g.T.HasElements.elements c.tell_status.new.store)
+    (g.T.HasRoom.extents c.args.store.now) (g.T.HasRoom.extents c.tell_status.new.store) c.args.id.0 c.tell_status.ensures.keeps.elements
+    c.tell_status.ensures.keeps.extents c.requires.known)
+
+pub returns-in-Readlink-clause-known : goal.returns-in-Readlink-clause-known
+returns-in-Readlink-clause-known g c =
+    on_ok_always c.tell_target.result _ (known_same (g.T.HasElements.elements c.args.store.now) (g.T.HasElements.elements c.tell_target.new.store)
+    (g.T.HasRoom.extents c.args.store.now) (g.T.HasRoom.extents c.tell_target.new.store) c.args.id.0 c.tell_target.ensures.keeps.elements
+    c.tell_target.ensures.keeps.extents c.requires.known)

@@ -1,0 +1,253 @@
+use Rattle.std.proofs.Common.{◌≡◌, ◌∙◌, List, Some, None, Err, ap, refl, subst, sym}
+use Rattle.std.proofs.lemmas.Result.{err_from_is_err_and}
+use Rattle.hm_path.specs.Path.{IsPath}
+use Rattle.hm_path.specs.declared.part.Part.{Part}
+use Rattle.hm_model.specs.Due.{is_dir_or_link, no_future}
+use Rattle.hm_model.specs.Sites.{Parts, TakesName}
+use Rattle.hm_model.specs.View.{object_at}
+use Rattle.hm_model.specs.declared.command.Command.TheVariants.{Rm}
+use Rattle.hm_model.specs.declared.reply.Reply.TheVariants.{IsDir, NotFound}
+use Rattle.hm_dirs.proofs.WalkLoopLemmas.{same_twice}
+use Rattle.hm_dirs.specs.Walk.{place_of}
+use Rattle.hm_calls.specs.Due.{space_for, zones_beside}
+use Rattle.hm_calls.specs.Known.{AreBelowIn, AreKnown}
+use Rattle.hm_calls.specs.Places.{refuse_kind}
+use Rattle.hm_calls.specs.declared.stop.Stop.TheVariants.{Refused}
+use Rattle.hm_calls.specs.Writes.{TakesLink, place_in, IsNewIn}
+use Rattle.hm_calls.proofs.RefusalLemmas.{future_refuses, name_refuses, of_rm, past_refuses, walk_refuses, word_refuses}
+use Rattle.hm_calls.proofs.RemoveLemmas.{removal, rm_accepts, rm_kind_refuses, rm_master_refuses, rm_missing_refuses, rm_space_refuses, rm_writes}
+use Rattle.hm_calls.proofs.SceneLemmas.{IsStoppedBy, answered, decided}
+use Rattle.hm_calls.proofs.StageLemmas.{Wrote, acts_ended, early_named, good_named, master_passes, master_stopped, nameless, no_ids, of_refusal}
+use Rattle.hm_calls.proofs.StageLemmas.{past_stopped, refusal_so, space_before, taken, told_before, told_then, untaken, untouched}
+use Rattle.hm_calls.proofs.KnownLemmas.{known_then}
+use Rattle.hm_calls.proofs.remove.remove.Goals as goal
+
+pub returns-in_err-path-clause-answers : goal.returns-in_err-path-clause-answers
+returns-in_err-path-clause-answers g c =
+    let p = err_from_is_err_and c.from_residual.result c.from_residual.ensures.1 in
+    let stopped = c.in_err-path.field-0.0 in
+    acts_ended g.T.HasElements.elements g.T.HasElements.mark g.T.HasRoom.extents g.T.HasRoom.room g.T.HasRoom.free c.args.store.now c.args.store.now
+    (g.H.NameHash.hash_of c.args.hash.now) c.args.id.0 (Rm c.args.word.now) c.from_residual.result stopped (p.1 ∙ ap Err p.2)
+    (word_refuses (g.H.NameHash.hash_of c.args.hash.now) c.args.id.0 c.course_before-course.result c.course_before-course.ensures.last c.requires.id.1 (Rm
+    c.args.word.now) TakesName c.args.word.now (of_rm c.args.word.now) (g.T.HasElements.elements c.args.store.now) (g.T.HasRoom.extents c.args.store.now)
+    (g.T.HasRoom.room c.args.store.now) (g.T.HasRoom.free c.args.store.now) stopped c.in_err-path.ensures.refused)
+    (of_refusal _ stopped (untouched g.T.HasElements.elements g.T.HasElements.mark g.T.HasRoom.extents g.T.HasRoom.room g.T.HasRoom.free c.args.store.now))
+
+pub returns-in_err-name-clause-answers : goal.returns-in_err-name-clause-answers
+returns-in_err-name-clause-answers g c =
+    let p = err_from_is_err_and c.from_residual-in_err-name.result c.from_residual-in_err-name.ensures.1 in
+    let stopped = c.in_err-name.field-0.0 in
+    acts_ended g.T.HasElements.elements g.T.HasElements.mark g.T.HasRoom.extents g.T.HasRoom.room g.T.HasRoom.free c.args.store.now c.args.store.now
+    (g.H.NameHash.hash_of c.args.hash.now) c.args.id.0 (Rm c.args.word.now) c.from_residual-in_err-name.result stopped (p.1 ∙ ap Err p.2)
+    (name_refuses (g.H.NameHash.hash_of c.args.hash.now) c.args.id.0 c.course_before-course.result c.course_before-course.ensures.last c.requires.id.1 (Rm
+    c.args.word.now) TakesName c.args.word.now (of_rm c.args.word.now) (g.T.HasElements.elements c.args.store.now) (g.T.HasRoom.extents c.args.store.now)
+    (g.T.HasRoom.room c.args.store.now) (g.T.HasRoom.free c.args.store.now) c.parts-parts.result.now (subst (IsPath c.args.word.now) (sym
+    c.parts-parts.ensures) c.in_ok-path.ensures.ok) stopped (nameless c.parts-parts.result.now stopped c.in_err-name.ensures.refused))
+    (of_refusal _ stopped (untouched g.T.HasElements.elements g.T.HasElements.mark g.T.HasRoom.extents g.T.HasRoom.room g.T.HasRoom.free c.args.store.now))
+
+pub returns-in_err-check_future-clause-answers : goal.returns-in_err-check_future-clause-answers
+returns-in_err-check_future-clause-answers g c =
+    let p = err_from_is_err_and c.from_residual-in_err-check_future.result c.from_residual-in_err-check_future.ensures.1 in
+    let stopped = c.in_err-check_future.field-0.0 in
+    acts_ended g.T.HasElements.elements g.T.HasElements.mark g.T.HasRoom.extents g.T.HasRoom.room g.T.HasRoom.free c.args.store.now c.args.store.now
+    (g.H.NameHash.hash_of c.args.hash.now) c.args.id.0 (Rm c.args.word.now) c.from_residual-in_err-check_future.result stopped (p.1 ∙ ap Err p.2)
+    (future_refuses (g.H.NameHash.hash_of c.args.hash.now) c.args.id.0 c.course_before-course.result c.course_before-course.ensures.last c.requires.id.1 (Rm
+    c.args.word.now) TakesName c.args.word.now (of_rm c.args.word.now) (g.T.HasElements.elements c.args.store.now) (g.T.HasRoom.extents c.args.store.now)
+    (g.T.HasRoom.room c.args.store.now) (g.T.HasRoom.free c.args.store.now) c.parts-parts.result.now (subst (IsPath c.args.word.now) (sym
+    c.parts-parts.ensures) c.in_ok-path.ensures.ok) (good_named c.parts-parts.result.now c.in_ok-name.name.now c.in_ok-name.ensures.name) stopped
+    (decided (Unit {0}) (no_future c.course_before-course.result.last.0 (Parts c.parts-parts.result.now)) stopped c.in_err-check_future.ensures))
+    (of_refusal _ stopped (untouched g.T.HasElements.elements g.T.HasElements.mark g.T.HasRoom.extents g.T.HasRoom.room g.T.HasRoom.free c.args.store.now))
+
+pub returns-in_err-check_present-clause-answers : goal.returns-in_err-check_present-clause-answers
+returns-in_err-check_present-clause-answers g c =
+    let p = err_from_is_err_and c.from_residual-in_err-check_present.result c.from_residual-in_err-check_present.ensures.1 in
+    let stopped = c.in_err-check_present.field-0.0 in
+    acts_ended g.T.HasElements.elements g.T.HasElements.mark g.T.HasRoom.extents g.T.HasRoom.room g.T.HasRoom.free c.args.store.now c.args.store.now
+    (g.H.NameHash.hash_of c.args.hash.now) c.args.id.0 (Rm c.args.word.now) c.from_residual-in_err-check_present.result stopped (p.1 ∙ ap Err p.2)
+    (past_refuses (g.H.NameHash.hash_of c.args.hash.now) c.args.id.0 c.course_before-course.result c.course_before-course.ensures.last c.requires.id.1 (Rm
+    c.args.word.now) TakesName c.args.word.now (of_rm c.args.word.now) (g.T.HasElements.elements c.args.store.now) (g.T.HasRoom.extents c.args.store.now)
+    (g.T.HasRoom.room c.args.store.now) (g.T.HasRoom.free c.args.store.now) c.parts-parts.result.now (subst (IsPath c.args.word.now) (sym
+    c.parts-parts.ensures) c.in_ok-path.ensures.ok) (good_named c.parts-parts.result.now c.in_ok-name.name.now c.in_ok-name.ensures.name)
+    c.in_ok-check_future.ensures stopped (past_stopped (Rm c.args.word.now) c.parts-parts.result.now refl stopped c.in_err-check_present.ensures))
+    (of_refusal _ stopped (untouched g.T.HasElements.elements g.T.HasElements.mark g.T.HasRoom.extents g.T.HasRoom.room g.T.HasRoom.free c.args.store.now))
+
+pub returns-in_err-directory-clause-answers : goal.returns-in_err-directory-clause-answers
+returns-in_err-directory-clause-answers g c =
+    let p = err_from_is_err_and c.from_residual-in_err-directory.result c.from_residual-in_err-directory.ensures.1 in
+    let stopped = c.in_err-directory.field-0.0 in
+    acts_ended g.T.HasElements.elements g.T.HasElements.mark g.T.HasRoom.extents g.T.HasRoom.room g.T.HasRoom.free c.args.store.now c.reach_name.new.store
+    (g.H.NameHash.hash_of c.args.hash.now) c.args.id.0 (Rm c.args.word.now) c.from_residual-in_err-directory.result stopped (p.1 ∙ ap Err p.2)
+    (walk_refuses (g.H.NameHash.hash_of c.args.hash.now) c.args.id.0 c.course_before-course.result c.course_before-course.ensures.last c.requires.id.1 (Rm
+    c.args.word.now) TakesName c.args.word.now (of_rm c.args.word.now) (g.T.HasElements.elements c.args.store.now) (g.T.HasRoom.extents c.args.store.now)
+    (g.T.HasRoom.room c.args.store.now) (g.T.HasRoom.free c.args.store.now) c.parts-parts.result.now (subst (IsPath c.args.word.now) (sym
+    c.parts-parts.ensures) c.in_ok-path.ensures.ok) (early_named (Rm c.args.word.now) c.course_before-course.result.last.0 c.parts-parts.result.now
+    c.in_ok-name.name.now refl c.in_ok-name.ensures.name c.in_ok-check_future.ensures c.in_ok-check_present.ensures) stopped (untaken
+    (g.H.NameHash.hash_of c.args.hash.now) c.course_before-course.result (g.T.HasElements.elements c.args.store.now) (g.T.HasRoom.extents
+    c.args.store.now) c.parts-parts.result.now c.in_ok-name.name.now c.in_ok-name.ensures.name (no_ids c.parts-parts.result.now
+    c.in_ok-check_present.ensures) stopped c.in_err-directory.ensures.ok))
+    (of_refusal _ stopped c.in_err-directory.ensures.keeps)
+
+pub returns-in_err-check_master-clause-answers : goal.returns-in_err-check_master-clause-answers
+returns-in_err-check_master-clause-answers g c =
+    let p = err_from_is_err_and c.from_residual-in_err-check_master.result c.from_residual-in_err-check_master.ensures.1 in
+    let stopped = c.in_err-check_master.field-0.0 in
+    acts_ended g.T.HasElements.elements g.T.HasElements.mark g.T.HasRoom.extents g.T.HasRoom.room g.T.HasRoom.free c.args.store.now c.check_master.new.store
+    (g.H.NameHash.hash_of c.args.hash.now) c.args.id.0 (Rm c.args.word.now) c.from_residual-in_err-check_master.result stopped (p.1 ∙ ap Err p.2)
+    (rm_master_refuses (g.H.NameHash.hash_of c.args.hash.now) c.args.id.0 c.course_before-course.result c.course_before-course.ensures.last c.requires.id.1
+    c.args.word.now c.parts-parts.result.now (subst (IsPath c.args.word.now) (sym c.parts-parts.ensures) c.in_ok-path.ensures.ok)
+    (g.T.HasElements.elements c.args.store.now) (g.T.HasRoom.extents c.args.store.now) (g.T.HasRoom.room c.args.store.now) (g.T.HasRoom.free
+    c.args.store.now) c.in_ok-name.name.now c.in_ok-directory.directory c.in_ok-directory.object
+    (taken (g.H.NameHash.hash_of c.args.hash.now) c.course_before-course.result (g.T.HasElements.elements c.args.store.now) (g.T.HasRoom.extents
+    c.args.store.now) c.parts-parts.result.now c.in_ok-name.name.now c.in_ok-name.ensures.name (no_ids c.parts-parts.result.now
+    c.in_ok-check_present.ensures) (c.in_ok-directory.directory, c.in_ok-directory.object) c.in_ok-directory.ensures.ok) (early_named (Rm
+    c.args.word.now) c.course_before-course.result.last.0 c.parts-parts.result.now c.in_ok-name.name.now refl c.in_ok-name.ensures.name
+    c.in_ok-check_future.ensures c.in_ok-check_present.ensures) stopped
+    (master_stopped (g.H.NameHash.hash_of c.args.hash.now) c.course_before-course.result (g.T.HasElements.elements c.args.store.now)
+    (g.T.HasElements.elements c.reach_name.new.store) (g.T.HasRoom.extents c.args.store.now) (g.T.HasRoom.extents c.reach_name.new.store)
+    c.in_ok-directory.ensures.keeps.elements c.in_ok-directory.ensures.keeps.extents c.in_ok-directory.directory.at.pfs.0 stopped
+    c.in_err-check_master.ensures.ok))
+    (of_refusal _ stopped (same_twice c.in_ok-directory.ensures.keeps c.in_err-check_master.ensures.keeps))
+
+pub returns-in_err-check_no_directory-clause-answers : goal.returns-in_err-check_no_directory-clause-answers
+returns-in_err-check_no_directory-clause-answers g c =
+    let p = err_from_is_err_and c.from_residual-in_err-check_no_directory.result c.from_residual-in_err-check_no_directory.ensures.1 in
+    let stopped = c.in_err-check_no_directory.field-0.0 in
+    acts_ended g.T.HasElements.elements g.T.HasElements.mark g.T.HasRoom.extents g.T.HasRoom.room g.T.HasRoom.free c.args.store.now c.check_master.new.store
+    (g.H.NameHash.hash_of c.args.hash.now) c.args.id.0 (Rm c.args.word.now) c.from_residual-in_err-check_no_directory.result stopped (p.1 ∙ ap Err p.2)
+    (rm_kind_refuses (g.H.NameHash.hash_of c.args.hash.now) c.args.id.0 c.course_before-course.result c.course_before-course.ensures.last c.requires.id.1
+    c.args.word.now c.parts-parts.result.now (subst (IsPath c.args.word.now) (sym c.parts-parts.ensures) c.in_ok-path.ensures.ok)
+    (g.T.HasElements.elements c.args.store.now) (g.T.HasRoom.extents c.args.store.now) (g.T.HasRoom.room c.args.store.now) (g.T.HasRoom.free
+    c.args.store.now) c.in_ok-name.name.now c.in_ok-directory.directory c.in_ok-directory.object
+    (taken (g.H.NameHash.hash_of c.args.hash.now) c.course_before-course.result (g.T.HasElements.elements c.args.store.now) (g.T.HasRoom.extents
+    c.args.store.now) c.parts-parts.result.now c.in_ok-name.name.now c.in_ok-name.ensures.name (no_ids c.parts-parts.result.now
+    c.in_ok-check_present.ensures) (c.in_ok-directory.directory, c.in_ok-directory.object) c.in_ok-directory.ensures.ok) (early_named (Rm
+    c.args.word.now) c.course_before-course.result.last.0 c.parts-parts.result.now c.in_ok-name.name.now refl c.in_ok-name.ensures.name
+    c.in_ok-check_future.ensures c.in_ok-check_present.ensures)
+    (master_passes (g.H.NameHash.hash_of c.args.hash.now) c.course_before-course.result (g.T.HasElements.elements c.args.store.now) (g.T.HasElements.elements
+    c.reach_name.new.store) (g.T.HasRoom.extents c.args.store.now) (g.T.HasRoom.extents c.reach_name.new.store)
+    c.in_ok-directory.ensures.keeps.elements c.in_ok-directory.ensures.keeps.extents c.in_ok-directory.directory.at.pfs.0 c.in_ok-check_master.ensures.ok)
+    stopped
+    (λ scene read. decided (Unit {0}) (refuse_kind is_dir_or_link IsDir (object_at scene.view (place_of c.in_ok-directory.object.at))) stopped
+    (c.in_err-check_no_directory.ensures.check scene read)))
+    (of_refusal _ stopped (same_twice c.in_ok-directory.ensures.keeps c.in_ok-check_master.ensures.keeps))
+
+pub returns-in_err-admit_rest-clause-answers : goal.returns-in_err-admit_rest-clause-answers
+returns-in_err-admit_rest-clause-answers g c =
+    let p = err_from_is_err_and c.from_residual-in_err-admit_rest.result c.from_residual-in_err-admit_rest.ensures.1 in
+    let stopped = c.in_err-admit_rest.field-0.0 in
+    let same = same_twice c.in_ok-directory.ensures.keeps c.in_ok-check_master.ensures.keeps in
+    acts_ended g.T.HasElements.elements g.T.HasElements.mark g.T.HasRoom.extents g.T.HasRoom.room g.T.HasRoom.free c.args.store.now c.admit_rest.new.store
+    (g.H.NameHash.hash_of c.args.hash.now) c.args.id.0 (Rm c.args.word.now) c.from_residual-in_err-admit_rest.result stopped (p.1 ∙ ap Err p.2)
+    (rm_space_refuses (g.H.NameHash.hash_of c.args.hash.now) c.args.id.0 c.course_before-course.result c.course_before-course.ensures.last c.requires.id.1
+    c.args.word.now c.parts-parts.result.now (subst (IsPath c.args.word.now) (sym c.parts-parts.ensures) c.in_ok-path.ensures.ok)
+    (g.T.HasElements.elements c.args.store.now) (g.T.HasRoom.extents c.args.store.now) (g.T.HasRoom.room c.args.store.now) (g.T.HasRoom.free
+    c.args.store.now) c.in_ok-name.name.now c.in_ok-directory.directory c.in_ok-directory.object
+    (taken (g.H.NameHash.hash_of c.args.hash.now) c.course_before-course.result (g.T.HasElements.elements c.args.store.now) (g.T.HasRoom.extents
+    c.args.store.now) c.parts-parts.result.now c.in_ok-name.name.now c.in_ok-name.ensures.name (no_ids c.parts-parts.result.now
+    c.in_ok-check_present.ensures) (c.in_ok-directory.directory, c.in_ok-directory.object) c.in_ok-directory.ensures.ok) (early_named (Rm
+    c.args.word.now) c.course_before-course.result.last.0 c.parts-parts.result.now c.in_ok-name.name.now refl c.in_ok-name.ensures.name
+    c.in_ok-check_future.ensures c.in_ok-check_present.ensures)
+    (master_passes (g.H.NameHash.hash_of c.args.hash.now) c.course_before-course.result (g.T.HasElements.elements c.args.store.now) (g.T.HasElements.elements
+    c.reach_name.new.store) (g.T.HasRoom.extents c.args.store.now) (g.T.HasRoom.extents c.reach_name.new.store)
+    c.in_ok-directory.ensures.keeps.elements c.in_ok-directory.ensures.keeps.extents c.in_ok-directory.directory.at.pfs.0 c.in_ok-check_master.ensures.ok)
+    c.in_ok-check_no_directory.ensures.check c.in-Some.inode c.in-Some.is stopped
+    (space_before (λ r f. IsStoppedBy (space_for (zones_beside c.in-Some.inode) 0 r f) stopped) (g.T.HasRoom.room c.args.store.now) (g.T.HasRoom.room
+    c.check_master.new.store) (g.T.HasRoom.free c.args.store.now) (g.T.HasRoom.free c.check_master.new.store) same.room same.free
+    (answered (Unit {0}) (space_for (zones_beside c.in-Some.inode) 0 (g.T.HasRoom.room c.check_master.new.store) (g.T.HasRoom.free c.check_master.new.store))
+    stopped c.in_err-admit_rest.ensures.check)))
+    (refusal_so _ _ stopped (same_twice same) c.in_err-admit_rest.ensures.refused)
+
+pub returns-in_default-clause-answers : goal.returns-in_default-clause-answers
+returns-in_default-clause-answers g c = (
+  rm_missing_refuses (g.H.NameHash.hash_of c.args.hash.now) c.args.id.0 c.course_before-course.result c.course_before-course.ensures.last c.requires.id.1
+      c.args.word.now c.parts-parts.result.now (subst (IsPath c.args.word.now) (sym c.parts-parts.ensures) c.in_ok-path.ensures.ok) (g.T.HasElements.elements
+      c.args.store.now) (g.T.HasRoom.extents c.args.store.now) (g.T.HasRoom.room c.args.store.now) (g.T.HasRoom.free c.args.store.now) c.in_ok-name.name.now
+      c.in_ok-directory.directory c.in_ok-directory.object
+      (taken (g.H.NameHash.hash_of c.args.hash.now) c.course_before-course.result (g.T.HasElements.elements c.args.store.now) (g.T.HasRoom.extents
+      c.args.store.now) c.parts-parts.result.now c.in_ok-name.name.now c.in_ok-name.ensures.name (no_ids c.parts-parts.result.now
+      c.in_ok-check_present.ensures) (c.in_ok-directory.directory, c.in_ok-directory.object) c.in_ok-directory.ensures.ok) (early_named (Rm
+      c.args.word.now) c.course_before-course.result.last.0 c.parts-parts.result.now c.in_ok-name.name.now refl c.in_ok-name.ensures.name
+      c.in_ok-check_future.ensures c.in_ok-check_present.ensures)
+      c.in_default.is (Refused NotFound),
+  same_twice c.in_ok-directory.ensures.keeps c.in_ok-check_master.ensures.keeps,
+)
+
+pub take_link-requires-clause-below : goal.take_link-requires-clause-below
+take_link-requires-clause-below g c =
+    let same = same_twice c.in_ok-directory.ensures.keeps c.in_ok-check_master.ensures.keeps in
+    let kept = c.in_ok-directory.ensures.keeps in
+    let pfs = c.in_ok-directory.directory.at.pfs.0 in
+    let below = c.in_ok-check_master.ensures.below c.args.id.0
+    (told_then (g.T.HasElements.elements c.args.store.now) (g.T.HasElements.elements c.reach_name.new.store) (g.T.HasRoom.extents c.args.store.now)
+    (g.T.HasRoom.extents c.reach_name.new.store) kept.elements kept.extents (λ es xs. AreKnown es xs c.args.id.0) c.requires.known) in
+    told_then (g.T.HasElements.elements c.args.store.now) (g.T.HasElements.elements c.admit_rest.new.store) (g.T.HasRoom.extents c.args.store.now)
+    (g.T.HasRoom.extents c.admit_rest.new.store) (c.in_ok-admit_rest.ensures.content.elements ∙ same.elements)
+    (c.in_ok-admit_rest.ensures.content.extents ∙ same.extents) (λ es xs. AreBelowIn es xs pfs c.args.id.0)
+    (told_before (g.T.HasElements.elements c.args.store.now) (g.T.HasElements.elements c.reach_name.new.store) (g.T.HasRoom.extents c.args.store.now)
+    (g.T.HasRoom.extents c.reach_name.new.store) kept.elements kept.extents (λ es xs. AreBelowIn es xs pfs c.args.id.0) below)
+
+pub returns-clause-answers : goal.returns-clause-answers
+returns-clause-answers g c =
+    let same = same_twice c.in_ok-directory.ensures.keeps c.in_ok-check_master.ensures.keeps in
+    let kept = c.in_ok-directory.ensures.keeps in
+    let pfs = c.in_ok-directory.directory.at.pfs.0 in
+    let below = told_before (g.T.HasElements.elements c.args.store.now) (g.T.HasElements.elements c.reach_name.new.store) (g.T.HasRoom.extents
+    c.args.store.now) (g.T.HasRoom.extents c.reach_name.new.store) kept.elements kept.extents (λ es xs. AreBelowIn es xs pfs c.args.id.0)
+    (c.in_ok-check_master.ensures.below c.args.id.0
+    (told_then (g.T.HasElements.elements c.args.store.now) (g.T.HasElements.elements c.reach_name.new.store) (g.T.HasRoom.extents c.args.store.now)
+    (g.T.HasRoom.extents c.reach_name.new.store) kept.elements kept.extents (λ es xs. AreKnown es xs c.args.id.0) c.requires.known)) in
+    let writes = told_before (g.T.HasElements.elements c.args.store.now) (g.T.HasElements.elements c.admit_rest.new.store) (g.T.HasRoom.extents
+    c.args.store.now) (g.T.HasRoom.extents c.admit_rest.new.store) (c.in_ok-admit_rest.ensures.content.elements ∙ same.elements)
+    (c.in_ok-admit_rest.ensures.content.extents ∙ same.extents)
+    (λ es xs. Wrote (TakesLink (g.H.NameHash.hash_of c.args.hash.now) (place_in c.in_ok-directory.directory c.in_ok-name.name.now) c.args.id.0
+    c.in_ok-directory.object.at.object c.in-Some.inode.links) es xs (g.T.HasElements.elements c.take_link.new.store) (g.T.HasRoom.extents
+    c.take_link.new.store)) c.in_ok-take_link.ensures.ok in (
+      rm_accepts (g.H.NameHash.hash_of c.args.hash.now) c.args.id.0 c.course_before-course.result c.course_before-course.ensures.last c.requires.id.1
+          c.args.word.now c.parts-parts.result.now (subst (IsPath c.args.word.now) (sym c.parts-parts.ensures) c.in_ok-path.ensures.ok)
+          (g.T.HasElements.elements c.args.store.now) (g.T.HasRoom.extents c.args.store.now) (g.T.HasRoom.room c.args.store.now) (g.T.HasRoom.free
+          c.args.store.now) c.in_ok-name.name.now c.in_ok-directory.directory c.in_ok-directory.object
+          (taken (g.H.NameHash.hash_of c.args.hash.now) c.course_before-course.result (g.T.HasElements.elements c.args.store.now) (g.T.HasRoom.extents
+          c.args.store.now) c.parts-parts.result.now c.in_ok-name.name.now c.in_ok-name.ensures.name (no_ids c.parts-parts.result.now
+          c.in_ok-check_present.ensures) (c.in_ok-directory.directory, c.in_ok-directory.object) c.in_ok-directory.ensures.ok) (early_named (Rm
+          c.args.word.now) c.course_before-course.result.last.0 c.parts-parts.result.now c.in_ok-name.name.now refl c.in_ok-name.ensures.name
+          c.in_ok-check_future.ensures c.in_ok-check_present.ensures)
+          (master_passes (g.H.NameHash.hash_of c.args.hash.now) c.course_before-course.result (g.T.HasElements.elements c.args.store.now)
+          (g.T.HasElements.elements c.reach_name.new.store) (g.T.HasRoom.extents c.args.store.now) (g.T.HasRoom.extents c.reach_name.new.store)
+          c.in_ok-directory.ensures.keeps.elements c.in_ok-directory.ensures.keeps.extents c.in_ok-directory.directory.at.pfs.0 c.in_ok-check_master.ensures.ok)
+          c.in_ok-check_no_directory.ensures.check c.in-Some.inode c.in-Some.is
+          (space_before (λ r f. space_for (zones_beside c.in-Some.inode) 0 r f ≡ None) (g.T.HasRoom.room c.args.store.now) (g.T.HasRoom.room
+          c.check_master.new.store) (g.T.HasRoom.free c.args.store.now) (g.T.HasRoom.free c.check_master.new.store) same.room same.free
+          c.in_ok-admit_rest.ensures.check),
+      rm_writes (g.H.NameHash.hash_of c.args.hash.now) c.args.id.0 c.course_before-course.result c.course_before-course.ensures.last c.requires.id.1
+          c.args.word.now c.parts-parts.result.now (subst (IsPath c.args.word.now) (sym c.parts-parts.ensures) c.in_ok-path.ensures.ok)
+          (g.T.HasElements.elements c.args.store.now) (g.T.HasRoom.extents c.args.store.now) (g.T.HasRoom.room c.args.store.now) (g.T.HasRoom.free
+          c.args.store.now) c.in_ok-name.name.now c.in_ok-directory.directory c.in_ok-directory.object
+          (taken (g.H.NameHash.hash_of c.args.hash.now) c.course_before-course.result (g.T.HasElements.elements c.args.store.now) (g.T.HasRoom.extents
+          c.args.store.now) c.parts-parts.result.now c.in_ok-name.name.now c.in_ok-name.ensures.name (no_ids c.parts-parts.result.now
+          c.in_ok-check_present.ensures) (c.in_ok-directory.directory, c.in_ok-directory.object) c.in_ok-directory.ensures.ok)
+          c.in-Some.inode c.in-Some.is
+          (removal (g.H.NameHash.hash_of c.args.hash.now) c.args.id.0 c.course_before-course.result c.course_before-course.ensures.last c.requires.id.1
+          c.args.word.now c.parts-parts.result.now (subst (IsPath c.args.word.now) (sym c.parts-parts.ensures) c.in_ok-path.ensures.ok)
+          (g.T.HasElements.elements c.args.store.now) (g.T.HasRoom.extents c.args.store.now) (g.T.HasRoom.room c.args.store.now) (g.T.HasRoom.free
+          c.args.store.now) c.in_ok-name.name.now c.in_ok-directory.directory c.in_ok-directory.object
+          (taken (g.H.NameHash.hash_of c.args.hash.now) c.course_before-course.result (g.T.HasElements.elements c.args.store.now) (g.T.HasRoom.extents
+          c.args.store.now) c.parts-parts.result.now c.in_ok-name.name.now c.in_ok-name.ensures.name (no_ids c.parts-parts.result.now
+          c.in_ok-check_present.ensures) (c.in_ok-directory.directory, c.in_ok-directory.object) c.in_ok-directory.ensures.ok)
+          (g.met.T.ElementStore.sorted c.args.store.now) below (master_passes (g.H.NameHash.hash_of c.args.hash.now) c.course_before-course.result
+          (g.T.HasElements.elements c.args.store.now) (g.T.HasElements.elements c.reach_name.new.store) (g.T.HasRoom.extents c.args.store.now)
+          (g.T.HasRoom.extents c.reach_name.new.store)
+          c.in_ok-directory.ensures.keeps.elements c.in_ok-directory.ensures.keeps.extents c.in_ok-directory.directory.at.pfs.0
+          c.in_ok-check_master.ensures.ok))
+          (g.T.HasElements.elements c.take_link.new.store) (g.T.HasRoom.extents c.take_link.new.store) writes,
+    )
+
+pub returns-clause-known : goal.returns-clause-known
+returns-clause-known g c =
+    let same = same_twice c.in_ok-directory.ensures.keeps c.in_ok-check_master.ensures.keeps in
+    let pfs = c.in_ok-directory.directory.at.pfs.0 in
+    known_then g.T.HasElements.elements g.T.HasRoom.extents
+    (TakesLink (g.H.NameHash.hash_of c.args.hash.now) (place_in c.in_ok-directory.directory c.in_ok-name.name.now) c.args.id.0
+    c.in_ok-directory.object.at.object c.in-Some.inode.links) pfs c.args.id.0 (IsNewIn pfs c.args.id.0) c.args.store.now c.admit_rest.new.store
+    c.take_link.new.store (λ a b takes. takes.steps.writes) (c.in_ok-admit_rest.ensures.content.elements ∙ same.elements)
+    (c.in_ok-admit_rest.ensures.content.extents ∙ same.extents) c.in_ok-take_link.ensures.keeps.elements c.in_ok-take_link.ensures.keeps.extents
+    c.requires.balanced c.requires.known c.in_ok-take_link.ensures.ok

@@ -1,0 +1,11 @@
+pub mod New
+pub mod Call
+pub mod Due
+pub mod Stop
+pub mod Known
+pub mod Places
+pub mod Writes
+pub mod Changes
+pub mod Replies
+pub mod Moves
+pub mod Tests

@@ -1,0 +1,111 @@
+// What a call on names answers.
+ghost use Rattle.std.specs.Prelude.{◌≡◌, ◌≤◌, IfOk, IsTrue, ◌+◌, OnOk};
+ghost use Rattle.hm_types.specs.declared.limits.TheConstants.{GREATEST_ID};
+ghost use Rattle.hm_key.specs.Balance.{Balanced};
+ghost use Rattle.hm_key.specs.Stores.{Keeps};
+ghost use Rattle.hm_model.specs.Call.{Call};
+ghost use Rattle.hm_model.specs.Due.{is_tree_call};
+ghost use Rattle.hm_model.specs.Forms.{IsInRange};
+ghost use Rattle.hm_model.specs.declared.reply.Reply.TheVariants.{Done as done};
+ghost use Rattle.hm_cursor.specs.Told.{HasReadingCause};
+ghost use Rattle.hm_calls.specs.Known.{AreKnown};
+ghost use Rattle.hm_calls.specs.Replies.{Asks, IsAnswered, IsOnNames, LowersRoom, Replies};
+ghost use Rattle.hm_calls.specs.Stop.{HasStopCause};
+
+use crate::links::link;
+use crate::looks::{list_names, tell_status, tell_target};
+use crate::make::make;
+use crate::moves::move_to;
+use crate::new::New;
+use crate::remove::{remove, remove_directory};
+use crate::stop::Stop;
+use hm_dirs::NameHash;
+use hm_key::{ElementStore, Extents, HasElements, HasRoom};
+use hm_model::{Command, Reply};
+use hm_types::{Counted, Fault, Id};
+use std::alloc::Global;
+
+/// Answers a call on names by its id, the one after the last that was drawn: `mkdir`, `touch`,
+/// `symlink`, `snapshot`, `ln`, `mv`, `rm`, `rmdir`, `ls`, `stat` or `readlink`. The reply is the one
+/// that the call is due, by the volume that the elements show: the refusal of the first of its checks
+/// that fails, and `no space` as the last of them, or else what it looked for or `ok`. What is
+/// accepted changes the tree of the pseudo file system in which its walk ends, from its id on, and
+/// leaves every older view. A refusal and a call that looks leave the store as it was.
+///
+/// Each pseudo file system is a slave by its record, or all ids of its elements are below the call's
+/// own; so it is again for the id after it. `busy` is the id by which a mirror or upgrade call was
+/// opened that is open; no call on names minds it. The zones 8 and 9 lose at most their reserves,
+/// 1,048,576 and 131,072 bytes, and no other zone loses room.
+///
+/// `Damaged` at a payload that breaks its grammar, of kind 6, and `NoMemory` where an allocation was
+/// refused. The other faults are those of the store. After a fault nothing is known of the content.
+pub fn answer<T: ElementStore + Extents, H: NameHash>(
+    alloc: Global,
+    store: &mut T,
+    hash: &H,
+    command: &Command,
+    id: Id,
+    busy: Option<Id>,
+) -> Result<Reply, Fault>
+    requires command { IsOnNames command.now × IsInRange command.now }
+    requires id { (1 ≤ id.0) × (id.0 ≤ GREATEST_ID) }
+    requires balanced { Balanced (T.elements store.old) (T.extents store.old) }
+    requires known { AreKnown (T.elements store.old) (T.extents store.old) id.0 }
+    ensures replies { IfOk result (Replies T.elements T.mark T.extents T.room T.free
+        (H.hash_of hash.now) id.0 (Asks command.now busy) command.now store.old store.new) }
+    ensures known { OnOk result (AreKnown (T.elements store.new) (T.extents store.new)
+        (id.0 + 1)) }
+    ensures keeps { Keeps T.elements T.extents store.old store.new result }
+    ensures room { LowersRoom T.room store.old store.new }
+    ensures borrowed { (T.name store.new ≡ T.name store.old)
+        × (T.frame store.new ≡ T.frame store.old) }
+    ensures cause { HasReadingCause (T.elements store.old) (T.extents store.old)
+        (T.faults store.old) (T.faults store.new) result }
+{
+    match serve(alloc, store, hash, command, id) {
+        Ok(reply) => Ok(reply),
+        Err(Stop::Refused(reply)) => Ok(reply),
+        Err(Stop::Failed(fault)) => Err(fault),
+    }
+}
+
+// Each command by its own call.
+fn serve<T: ElementStore + Extents, H: NameHash>(
+    alloc: Global,
+    store: &mut T,
+    hash: &H,
+    command: &Command,
+    id: Id,
+) -> Result<Reply, Stop>
+    requires command { IsOnNames command.now × IsInRange command.now }
+    requires id { (1 ≤ id.0) × (id.0 ≤ GREATEST_ID) }
+    requires balanced { Balanced (T.elements store.old) (T.extents store.old) }
+    requires known { AreKnown (T.elements store.old) (T.extents store.old) id.0 }
+    ensures answers { IsAnswered T.elements T.mark T.extents T.room T.free (H.hash_of hash.now) id.0
+        command.now store.old store.new result }
+    ensures done { IsTrue (is_tree_call command.now) → IfOk result (λ reply. reply ≡ done) }
+    ensures known { OnOk result (AreKnown (T.elements store.new) (T.extents store.new)
+        (id.0 + 1)) }
+    ensures keeps { Keeps T.elements T.extents store.old store.new result }
+    ensures room { LowersRoom T.room store.old store.new
+        × (T.name store.new ≡ T.name store.old) × (T.frame store.new ≡ T.frame store.old) }
+    ensures cause { HasStopCause (T.elements store.old) (T.extents store.old)
+        (T.faults store.old) (T.faults store.new) result }
+{
+    match command {
+        Command::Mkdir { path } => make(alloc, store, hash, New::Directory, path, id),
+        Command::Touch { path } => make(alloc, store, hash, New::File, path, id),
+        Command::Symlink { target, path } => {
+            make(alloc, store, hash, New::Softlink(target), path, id)
+        }
+        Command::Snapshot { path } => make(alloc, store, hash, New::Snapshot, path, id),
+        Command::Ln { old, new } => link(alloc, store, hash, old, new, id),
+        Command::Mv { old, new } => move_to(alloc, store, hash, old, new, id),
+        Command::Rm { path } => remove(alloc, store, hash, path, id),
+        Command::Rmdir { path } => remove_directory(alloc, store, hash, path, id),
+        Command::Ls { path } => list_names(alloc, store, hash, path, id),
+        Command::Stat { path } => tell_status(alloc, store, hash, path, id),
+        Command::Readlink { path } => tell_target(alloc, store, hash, path, id),
+        _ => unreachable!(),
+    }
+}

@@ -1,0 +1,38 @@
+//! The calls on names: what each answers, and what it does to the elements of a store.
+#![tactic(auto)]
+
+mod calls;
+mod checks;
+#[cfg(test)]
+mod count_tests;
+mod course;
+#[cfg(test)]
+mod fault_tests;
+#[cfg(test)]
+mod hash_tests;
+mod kinds;
+mod links;
+mod looks;
+mod make;
+#[cfg(test)]
+mod metered;
+mod moves;
+mod new;
+mod places;
+mod put;
+#[cfg(test)]
+mod random_tests;
+#[cfg(test)]
+mod refusal_tests;
+mod remove;
+mod rename;
+mod room;
+mod stop;
+mod take;
+#[cfg(test)]
+mod testing;
+#[cfg(test)]
+mod tests;
+mod words;
+
+pub use calls::answer;

@@ -1,0 +1,112 @@
+// The calls that look: `ls`, `stat` and `readlink`.
+ghost use Rattle.std.specs.Prelude.{◌≡◌, ◌≤◌};
+ghost use Rattle.hm_types.specs.declared.limits.TheConstants.{GREATEST_ID};
+ghost use Rattle.hm_key.specs.Balance.{Balanced};
+ghost use Rattle.hm_key.specs.Stores.{Same};
+ghost use Rattle.hm_model.specs.Call.{Call};
+ghost use Rattle.hm_model.specs.declared.command.Command.TheVariants.{Ls as ls, Readlink as readlink, Stat as stat};
+ghost use Rattle.hm_calls.specs.Replies.{Looks};
+ghost use Rattle.hm_calls.specs.Stop.{HasStopCause};
+
+use crate::course::course_before;
+use crate::kinds::{check_directory, check_link};
+use crate::places::reach;
+use crate::stop::Stop;
+use crate::words::{check_future, read_path};
+use hm_dirs::{Follow, NameHash};
+use hm_key::{ElementStore, Extents, HasElements, HasRoom};
+use hm_model::Reply;
+use hm_types::{Counted, Id, Text};
+use hm_view::{list, size, target};
+use std::alloc::Global;
+
+pub(crate) fn list_names<T: ElementStore + Extents, H: NameHash>(
+    alloc: Global,
+    store: &mut T,
+    hash: &H,
+    word: &Text,
+    id: Id,
+) -> Result<Reply, Stop>
+    requires id { (1 ≤ id.0) × (id.0 ≤ GREATEST_ID) }
+    requires balanced { Balanced (T.elements store.old) (T.extents store.old) }
+    ensures answers { Looks T.elements T.mark T.extents T.room T.free (H.hash_of hash.now) id.0
+        (λ (call : Call). call.command ≡ ls word.now) store.old store.new result }
+    ensures keeps { Same T.elements T.mark T.extents T.room T.free store.old store.new }
+    ensures borrowed { (T.name store.new ≡ T.name store.old)
+        × (T.frame store.new ≡ T.frame store.old) }
+    ensures cause { HasStopCause (T.elements store.old) (T.extents store.old)
+        (T.faults store.old) (T.faults store.new) result }
+{
+    let course = course_before(id, None);
+    let path = read_path(alloc, word)?;
+    check_future(path.parts(), course.last)?;
+    let directory = reach(alloc, store, hash, path.parts(), Follow::Follows, course)?;
+    check_directory(&directory)?;
+    let at = directory.at;
+    let names = list(alloc, store, at.pfs, at.object, directory.as_of)?;
+    Ok(Reply::Listing { names })
+}
+
+pub(crate) fn tell_status<T: ElementStore + Extents, H: NameHash>(
+    alloc: Global,
+    store: &mut T,
+    hash: &H,
+    word: &Text,
+    id: Id,
+) -> Result<Reply, Stop>
+    requires id { (1 ≤ id.0) × (id.0 ≤ GREATEST_ID) }
+    requires balanced { Balanced (T.elements store.old) (T.extents store.old) }
+    ensures answers { Looks T.elements T.mark T.extents T.room T.free (H.hash_of hash.now) id.0
+        (λ (call : Call). call.command ≡ stat word.now) store.old store.new result }
+    ensures keeps { Same T.elements T.mark T.extents T.room T.free store.old store.new }
+    ensures borrowed { (T.name store.new ≡ T.name store.old)
+        × (T.frame store.new ≡ T.frame store.old) }
+    ensures cause { HasStopCause (T.elements store.old) (T.extents store.old)
+        (T.faults store.old) (T.faults store.new) result }
+{
+    let course = course_before(id, None);
+    let path = read_path(alloc, word)?;
+    check_future(path.parts(), course.last)?;
+    let object = reach(alloc, store, hash, path.parts(), Follow::Stays, course)?;
+    let Some(inode) = object.inode else {
+        return Ok(Reply::NotFound);
+    };
+    let at = object.at;
+    let size = size(alloc, store, at.pfs, at.object, &inode, object.as_of)?;
+    Ok(Reply::Status {
+        kind: inode.kind,
+        obj: at.object,
+        size,
+        links: inode.links,
+    })
+}
+
+pub(crate) fn tell_target<T: ElementStore + Extents, H: NameHash>(
+    alloc: Global,
+    store: &mut T,
+    hash: &H,
+    word: &Text,
+    id: Id,
+) -> Result<Reply, Stop>
+    requires id { (1 ≤ id.0) × (id.0 ≤ GREATEST_ID) }
+    requires balanced { Balanced (T.elements store.old) (T.extents store.old) }
+    ensures answers { Looks T.elements T.mark T.extents T.room T.free (H.hash_of hash.now) id.0
+        (λ (call : Call). call.command ≡ readlink word.now) store.old store.new result }
+    ensures keeps { Same T.elements T.mark T.extents T.room T.free store.old store.new }
+    ensures borrowed { (T.name store.new ≡ T.name store.old)
+        × (T.frame store.new ≡ T.frame store.old) }
+    ensures cause { HasStopCause (T.elements store.old) (T.extents store.old)
+        (T.faults store.old) (T.faults store.new) result }
+{
+    let course = course_before(id, None);
+    let path = read_path(alloc, word)?;
+    check_future(path.parts(), course.last)?;
+    let object = reach(alloc, store, hash, path.parts(), Follow::Stays, course)?;
+    check_link(&object)?;
+    let Some(inode) = object.inode else {
+        return Ok(Reply::NotLink);
+    };
+    let at = object.at;
+    let text = target(alloc, store, at.pfs, at.object, &inode, object.as_of)?;
+    Ok(Reply::Target { text })
+}

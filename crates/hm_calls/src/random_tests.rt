@@ -1,0 +1,92 @@
+// Scripts of calls on names beside the plain program of the model, by numbers drawn at random.
+ghost use Rattle.std.specs.Prelude.{◌≤◌};
+ghost use Rattle.hm_types.specs.declared.limits.TheConstants.{GREATEST_ID};
+
+use crate::testing::{FRESH, command_of, reply_to, volume_of};
+use hm_dirs::Fnv;
+use hm_model::{Command, Reply, Tree, apply, look, next_number};
+use hm_types::{GREATEST_ID, Id};
+use std::alloc::Global;
+use std::test::Fail;
+
+const SCRIPTS: u64 = 100;
+
+const CALLS: u64 = 200;
+
+const COMMANDS: [&str; 16] = [
+    "mkdir",
+    "mkdir",
+    "mkdir",
+    "touch",
+    "symlink t",
+    "snapshot",
+    "ln",
+    "mv",
+    "mv",
+    "rm",
+    "rm",
+    "rm",
+    "rmdir",
+    "ls",
+    "stat",
+    "readlink",
+];
+
+const WORDS: [&str; 16] = [
+    "/a", "/a", "/b", "/b", "/c", "/d", "/a/a", "/a/b", "/a/c", "/b/a", "/b/b", "/c/a", "/a/b/c",
+    "/b/a/c", "/", "/a//b",
+];
+
+// A line of the 4,096 that a number draws.
+fn line_of(alloc: Global, number: u64) -> Result<String, Fail> {
+    let command = COMMANDS[(number / 68_719_476_736 % 16) as usize];
+    let first = WORDS[(number / 1_099_511_627_776 % 16) as usize];
+    let second = WORDS[(number / 17_592_186_044_416 % 16) as usize];
+    Ok(match command {
+        "ln" | "mv" => format!(in alloc; "{command} {first} {second}")?,
+        _ => format!(in alloc; "{command} {first}")?,
+    })
+}
+
+// The reply of the model to a call, and its tree after it.
+fn model_reply(alloc: Global, tree: Tree, command: &Command, id: Id) -> Result<(Reply, Tree), Fail>
+    requires { (1 ≤ id.0) × (id.0 ≤ GREATEST_ID) }
+{
+    match command {
+        Command::Ls { .. } | Command::Stat { .. } | Command::Readlink { .. } => {
+            Ok((look(alloc, &tree, command)?, tree))
+        }
+        _ => Ok(apply(alloc, &tree, command, id)?),
+    }
+}
+
+// The first line of a script whose reply is not that of the model, if there is one.
+fn first_other_line(alloc: Global, seed: u64) -> Result<Option<String>, Fail> {
+    let mut volume = volume_of(alloc, &Fnv, &FRESH)?;
+    let mut tree = Tree::root(alloc)?;
+    let mut number = seed;
+    for _ in 0..CALLS {
+        number = next_number(number);
+        let line = line_of(alloc, number)?;
+        let command = command_of(alloc, &line)?;
+        if volume.next == 0 || volume.next > GREATEST_ID {
+            return Err("no id")?;
+        }
+        let (due, after) = model_reply(alloc, tree, &command, Id(volume.next))?;
+        let reply = reply_to(alloc, &mut volume, &Fnv, &command)?;
+        tree = after;
+        if reply != due {
+            return Ok(Some(line));
+        }
+    }
+    Ok(None)
+}
+
+#[test]
+fn random_scripts_are_answered_as_by_the_plain_program(rt: HostRuntime) -> Result<(), Fail> {
+    for seed in 0..SCRIPTS {
+        let other = first_other_line(rt.alloc(), seed)?;
+        assert_eq!(rt; other, None, "script {seed}");
+    }
+    Ok(())
+}

@@ -1,0 +1,148 @@
+// Names that give way to others.
+ghost use Rattle.std.specs.Prelude.{◌≡◌, ◌≤◌, OnOk};
+ghost use Rattle.hm_types.specs.Name.{IsName};
+ghost use Rattle.hm_types.specs.Space.{Spends};
+ghost use Rattle.hm_key.specs.Balance.{Balanced};
+ghost use Rattle.hm_key.specs.Stores.{Keeps};
+ghost use Rattle.hm_cursor.specs.Told.{HasReadingCause};
+ghost use Rattle.hm_cursor.specs.Write.{Writes};
+ghost use Rattle.hm_calls.specs.Known.{AreBelowIn};
+ghost use Rattle.hm_calls.specs.Writes.{AreOlderAround, HasReserves, IsMoving, Renames, Replaces, place_of_name, reserves};
+
+use crate::put::put_name;
+use crate::take::drop_link;
+use hm_dirs::{NameHash, Spot, Stand, close_name};
+use hm_key::{ElementStore, Extents, HasElements, HasRoom};
+use hm_types::{Counted, Fault, Id, Name, Obj};
+use std::alloc::Global;
+
+// A name in a directory.
+#[derive(Clone, Copy)]
+pub(crate) struct Named<'a> {
+    pub directory: &'a Stand,
+    pub name: &'a Name,
+}
+
+// What is moved: an object, and its kind, 1 to 4.
+#[derive(Clone, Copy)]
+pub(crate) struct Moved {
+    pub obj: Obj,
+    pub kind: u8,
+}
+
+// Gives an object another name in place of the one that it has, in the same pseudo file system.
+pub(crate) fn rename<T: ElementStore + Extents, H: NameHash>(
+    alloc: Global,
+    store: &mut T,
+    hash: &H,
+    old: Named,
+    new: Named,
+    spot: Spot,
+    moved: Moved,
+    id: Id,
+) -> Result<(), Fault>
+    requires id { 1 ≤ id.0 }
+    requires values { IsMoving old new moved }
+    requires balanced { Balanced (T.elements store.old) (T.extents store.old) }
+    requires older { AreOlderAround (T.elements store.old) (T.extents store.old) old new id.0 }
+    requires room { HasReserves (T.room store.old) }
+    ensures ok { OnOk result (Writes T.elements T.extents
+        (Renames (H.hash_of hash.now) (place_of_name old.entry) (place_of_name new.entry) spot id.0 moved.obj)
+        store.old store.new) }
+    ensures keeps { Keeps T.elements T.extents store.old store.new result }
+    ensures space { Spends T.room T.free reserves store.old store.new }
+    ensures borrowed { (T.name store.new ≡ T.name store.old)
+        × (T.frame store.new ≡ T.frame store.old) }
+    ensures cause { HasReadingCause (T.elements store.old) (T.extents store.old)
+        (T.faults store.old) (T.faults store.new) result }
+{
+    let pfs = new.directory.at.pfs;
+    close_name(
+        store,
+        hash,
+        pfs,
+        old.directory.at.object,
+        old.name.bytes(),
+        id,
+    )?;
+    put_name(
+        alloc,
+        store,
+        new.directory,
+        spot,
+        new.name,
+        moved.obj,
+        moved.kind,
+        id,
+    )
+}
+
+// What a moved object takes the place of: its number, its links, and the key of the entry that leads
+// to it.
+#[derive(Clone, Copy)]
+pub(crate) struct Replaced {
+    pub obj: Obj,
+    pub links: u32,
+    pub key: u64,
+}
+
+// The same, where the new name leads to another object, which loses a link by that.
+pub(crate) fn replace<T: ElementStore + Extents, H: NameHash>(
+    alloc: Global,
+    store: &mut T,
+    hash: &H,
+    old: Named,
+    new: Named,
+    there: Replaced,
+    moved: Moved,
+    id: Id,
+) -> Result<(), Fault>
+    requires id { 1 ≤ id.0 }
+    requires values { IsMoving old new moved }
+    requires balanced { Balanced (T.elements store.old) (T.extents store.old) }
+    requires below { AreBelowIn (T.elements store.old) (T.extents store.old)
+        new.directory.now.at.pfs.0 id.0 }
+    requires room { HasReserves (T.room store.old) }
+    ensures ok { OnOk result (Writes T.elements T.extents
+        (Replaces (H.hash_of hash.now) (place_of_name old.entry) (place_of_name new.entry) there.key id.0
+        moved.obj there.obj there.links) store.old store.new) }
+    ensures keeps { Keeps T.elements T.extents store.old store.new result }
+    ensures space { Spends T.room T.free reserves store.old store.new }
+    ensures borrowed { (T.name store.new ≡ T.name store.old)
+        × (T.frame store.new ≡ T.frame store.old) }
+    ensures cause { HasReadingCause (T.elements store.old) (T.extents store.old)
+        (T.faults store.old) (T.faults store.new) result }
+{
+    let pfs = new.directory.at.pfs;
+    close_name(
+        store,
+        hash,
+        pfs,
+        new.directory.at.object,
+        new.name.bytes(),
+        id,
+    )?;
+    close_name(
+        store,
+        hash,
+        pfs,
+        old.directory.at.object,
+        old.name.bytes(),
+        id,
+    )?;
+    drop_link(alloc, store, pfs, there.obj, there.links, id)?;
+    let spot = Spot {
+        key: there.key,
+        hidden: false,
+    };
+    put_name(
+        alloc,
+        store,
+        new.directory,
+        spot,
+        new.name,
+        moved.obj,
+        moved.kind,
+        id,
+    )
+}

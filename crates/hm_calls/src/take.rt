@@ -1,0 +1,106 @@
+// Names that go, and with them a link of their object.
+ghost use Rattle.std.specs.Prelude.{◌≡◌, ◌<◌, ◌≤◌, OnOk};
+ghost use Rattle.hm_types.specs.Space.{Spends};
+ghost use Rattle.hm_key.specs.Balance.{Balanced};
+ghost use Rattle.hm_key.specs.Stores.{Keeps};
+ghost use Rattle.hm_cursor.specs.Told.{HasReadingCause};
+ghost use Rattle.hm_cursor.specs.Write.{Writes};
+ghost use Rattle.hm_objects.specs.Objects.{HasRooms, IsOlderIn, spent};
+ghost use Rattle.hm_calls.specs.Known.{AreBelowIn};
+ghost use Rattle.hm_calls.specs.Writes.{DropsLink, HasReserves, TakesDirectory, TakesLink, place_in, reserves};
+
+use hm_dirs::{NameHash, Stand, close_name};
+use hm_key::{ElementStore, Extents, HasElements, HasRoom};
+use hm_objects::{remove_object, set_links};
+use hm_types::{Counted, Fault, Id, Name, Obj, Pfs};
+use std::alloc::Global;
+
+// Takes a name away from a directory, and a link from the object that it leads to, which has so many.
+// With its last one the object goes. Room is needed where another link is left.
+pub(crate) fn take_link<T: ElementStore + Extents, H: NameHash>(
+    alloc: Global,
+    store: &mut T,
+    hash: &H,
+    directory: &Stand,
+    name: &Name,
+    obj: Obj,
+    links: u32,
+    id: Id,
+) -> Result<(), Fault>
+    requires id { 1 ≤ id.0 }
+    requires balanced { Balanced (T.elements store.old) (T.extents store.old) }
+    requires below { AreBelowIn (T.elements store.old) (T.extents store.old)
+        directory.now.at.pfs.0 id.0 }
+    requires room { 1 < links → HasReserves (T.room store.old) }
+    ensures ok { OnOk result (Writes T.elements T.extents
+        (TakesLink (H.hash_of hash.now) (place_in directory.now name.now) id.0 obj links)
+        store.old store.new) }
+    ensures keeps { Keeps T.elements T.extents store.old store.new result }
+    ensures space { Spends T.room T.free reserves store.old store.new }
+    ensures borrowed { (T.name store.new ≡ T.name store.old)
+        × (T.frame store.new ≡ T.frame store.old) }
+    ensures cause { HasReadingCause (T.elements store.old) (T.extents store.old)
+        (T.faults store.old) (T.faults store.new) result }
+{
+    let pfs = directory.at.pfs;
+    close_name(store, hash, pfs, directory.at.object, name.bytes(), id)?;
+    drop_link(alloc, store, pfs, obj, links, id)
+}
+
+// Takes a name away from a directory, and the directory that it leads to.
+pub(crate) fn take_directory<T: ElementStore + Extents, H: NameHash>(
+    store: &mut T,
+    hash: &H,
+    directory: &Stand,
+    name: &Name,
+    obj: Obj,
+    id: Id,
+) -> Result<(), Fault>
+    requires id { 1 ≤ id.0 }
+    requires balanced { Balanced (T.elements store.old) (T.extents store.old) }
+    requires below { AreBelowIn (T.elements store.old) (T.extents store.old)
+        directory.now.at.pfs.0 id.0 }
+    ensures ok { OnOk result (Writes T.elements T.extents
+        (TakesDirectory (H.hash_of hash.now) (place_in directory.now name.now) id.0 obj)
+        store.old store.new) }
+    ensures keeps { Keeps T.elements T.extents store.old store.new result }
+    ensures space { Spends T.room T.free reserves store.old store.new }
+    ensures borrowed { (T.name store.new ≡ T.name store.old)
+        × (T.frame store.new ≡ T.frame store.old) }
+    ensures cause { HasReadingCause (T.elements store.old) (T.extents store.old)
+        (T.faults store.old) (T.faults store.new) result }
+{
+    let pfs = directory.at.pfs;
+    close_name(store, hash, pfs, directory.at.object, name.bytes(), id)?;
+    remove_object(store, pfs, obj, id)
+}
+
+// Takes a link from an object that has so many; with its last one it goes. Where another one is left
+// it takes at most 40,960 bytes of zone 8 and 32 of zone 9.
+pub(crate) fn drop_link<T: ElementStore + Extents>(
+    alloc: Global,
+    store: &mut T,
+    pfs: Pfs,
+    obj: Obj,
+    links: u32,
+    id: Id,
+) -> Result<(), Fault>
+    requires id { 1 ≤ id.0 }
+    requires balanced { Balanced (T.elements store.old) (T.extents store.old) }
+    requires older { IsOlderIn (T.elements store.old) (T.extents store.old) pfs.0 obj.0 id.0 }
+    requires room { 1 < links → HasRooms (T.room store.old) 1 32 }
+    ensures ok { OnOk result (Writes T.elements T.extents (DropsLink pfs.0 id.0 obj links)
+        store.old store.new) }
+    ensures keeps { Keeps T.elements T.extents store.old store.new result }
+    ensures space { Spends T.room T.free (spent 1 32) store.old store.new }
+    ensures borrowed { (T.name store.new ≡ T.name store.old)
+        × (T.frame store.new ≡ T.frame store.old) }
+    ensures cause { HasReadingCause (T.elements store.old) (T.extents store.old)
+        (T.faults store.old) (T.faults store.new) result }
+{
+    if links > 1 {
+        set_links(alloc, store, pfs, obj, links - 1, id)
+    } else {
+        remove_object(store, pfs, obj, id)
+    }
+}

@@ -1,0 +1,29 @@
+use Rattle.std.proofs.Common.{◌≡◌, ◌≤◌, ◌+◌, ◌-◌, ℕ, List, length}
+use Rattle.hm_key.specs.Counts.{Counts}
+use Rattle.hm_key.specs.Stores.{Same}
+use Rattle.hm_cursor.specs.Told.{fulls}
+use Rattle.hm_dirs.specs.Entries.{AreTaken}
+use Rattle.hm_dirs.specs.Names.{OnNamed}
+use Rattle.hm_dirs.proofs.LeadToldLemmas.{KnownTold}
+use Rattle.hm_dirs.proofs.spot.hidden_key.Given as goal
+
+-- the names so far are known, as many as the keys where each of these is taken
+abbrev pub invariant-loop-key : goal.invariant-loop-key
+invariant-loop-key g l = record {
+  from : l.fn.first ≤ l.key;
+  to : l.key ≤ l.end;
+  known : (hash : List ℕ → ℕ)
+      → KnownTold hash (g.T.HasElements.elements l.fn.store) (g.T.HasRoom.extents l.fn.store) l.fn.as_of.0 l.fn.pfs.0 l.fn.directory l.fn.first l.key
+      l.names.items;
+  sized : (hash : List ℕ → ℕ)
+      → OnNamed hash (g.T.HasElements.elements l.fn.store) (g.T.HasRoom.extents l.fn.store)
+      (λ lists. AreTaken (Counts (fulls lists) l.fn.as_of.0) l.fn.pfs.0 l.fn.directory l.fn.first (l.fn.first + 1024)
+      → length l.names.items ≡ l.key - l.fn.first);
+  keeps : Same g.T.HasElements.elements g.T.HasElements.mark g.T.HasRoom.extents g.T.HasRoom.room g.T.HasRoom.free l.fn.store l.store;
+  name : g.T.Counted.name l.store ≡ g.T.Counted.name l.fn.store;
+  frame : g.T.Counted.frame l.store ≡ g.T.Counted.frame l.fn.store;
+  faults : g.T.Counted.faults l.fn.store ≤ g.T.Counted.faults l.store;
+}
+
+abbrev pub decreases-loop-key : goal.decreases-loop-key
+decreases-loop-key g l = l.end - l.key

@@ -1,0 +1,6 @@
+mod TreesLemmas
+mod PassLemmas
+mod OrderLemmas
+mod ListingLemmas
+mod SizeLemmas
+mod LinkLemmas

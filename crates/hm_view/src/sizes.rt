@@ -1,0 +1,99 @@
+// The sizes of objects.
+ghost use Rattle.std.specs.Prelude.{◌≡◌, List, ℕ, IfOk, length};
+ghost use Rattle.hm_types.specs.Tree.{entries_in};
+ghost use Rattle.hm_key.specs.Balance.{Balanced};
+ghost use Rattle.hm_key.specs.Counts.{Counts};
+ghost use Rattle.hm_key.specs.Stores.{Same};
+ghost use Rattle.hm_records.specs.View.{IsTargetOf};
+ghost use Rattle.hm_cursor.specs.Told.{HasReadingCause, OnBalanced, fulls};
+ghost use Rattle.hm_view.specs.Trees.{IsSize, OnTrees};
+
+use crate::pass::name_from;
+use hm_cursor::{target_base, version_at};
+use hm_key::{ElementStore, Extents, HasElements, HasRoom};
+use hm_records::{DIRECTORY, Inode, PFS_LINK, SOFTLINK};
+use hm_types::{Counted, Fault, Id, Obj, Pfs};
+use std::alloc::Global;
+
+/// The size of an object with this inode as of an id, as `stat` tells it: the number of names of a
+/// directory, the length of a file or of a softlink's target in bytes, the number of the pseudo file
+/// system that a link leads to. A softlink without a target has 0.
+///
+/// A directory's entries are gone over once, and each name is copied once. `Damaged` at the payload
+/// of an entry, of kind 6, where that spells none, and `NoMemory` where an allocation was refused.
+/// The other faults are those of the store.
+pub fn size<T: ElementStore + Extents>(
+    alloc: Global,
+    store: &mut T,
+    pfs: Pfs,
+    object: Obj,
+    inode: &Inode,
+    as_of: Id,
+) -> Result<u64, Fault>
+    requires balanced { Balanced (T.elements store.old) (T.extents store.old) }
+    ensures ok { IfOk result (λ size.
+        OnTrees (T.elements store.old) (T.extents store.old) pfs.0 as_of.0
+        (IsSize as_of.0 pfs.0 object inode.now size)) }
+    ensures keeps { Same T.elements T.mark T.extents T.room T.free store.old store.new }
+    ensures borrowed { (T.name store.new ≡ T.name store.old)
+        × (T.frame store.new ≡ T.frame store.old) }
+    ensures cause { HasReadingCause (T.elements store.old) (T.extents store.old)
+        (T.faults store.old) (T.faults store.new) result }
+{
+    match inode.kind {
+        DIRECTORY => count_names(alloc, store, pfs, object, as_of),
+        SOFTLINK => target_length(store, pfs, object, as_of),
+        PFS_LINK => Ok(u64::from(inode.pfs.0)),
+        _ => Ok(inode.size),
+    }
+}
+
+// How many names a directory has.
+fn count_names<T: ElementStore + Extents>(
+    alloc: Global,
+    store: &mut T,
+    pfs: Pfs,
+    directory: Obj,
+    as_of: Id,
+) -> Result<u64, Fault>
+    requires balanced { Balanced (T.elements store.old) (T.extents store.old) }
+    ensures ok { IfOk result (λ count.
+        OnTrees (T.elements store.old) (T.extents store.old) pfs.0 as_of.0
+        (λ lists tree. count ≡ length (entries_in tree directory))) }
+    ensures keeps { Same T.elements T.mark T.extents T.room T.free store.old store.new }
+    ensures borrowed { (T.name store.new ≡ T.name store.old)
+        × (T.frame store.new ≡ T.frame store.old) }
+    ensures cause { HasReadingCause (T.elements store.old) (T.extents store.old)
+        (T.faults store.old) (T.faults store.new) result }
+{
+    let mut count = 0;
+    let mut first = 0;
+    while let Some((next, _)) = name_from(alloc, store, pfs, directory, first, as_of)? {
+        count += 1;
+        first = next;
+    }
+    Ok(count)
+}
+
+// The length of a softlink's target in bytes, and 0 where it has none.
+fn target_length<T: ElementStore + Extents>(
+    store: &mut T,
+    pfs: Pfs,
+    object: Obj,
+    as_of: Id,
+) -> Result<u64, Fault>
+    requires balanced { Balanced (T.elements store.old) (T.extents store.old) }
+    ensures ok { IfOk result (λ len. OnBalanced (T.elements store.old) (T.extents store.old)
+        (λ lists. (text : List ℕ) →
+        IsTargetOf (Counts (fulls lists) as_of.0) pfs.0 object.0 text → len ≡ length text)) }
+    ensures keeps { Same T.elements T.mark T.extents T.room T.free store.old store.new }
+    ensures borrowed { (T.name store.new ≡ T.name store.old)
+        × (T.frame store.new ≡ T.frame store.old) }
+    ensures cause { HasReadingCause (T.elements store.old) (T.extents store.old)
+        (T.faults store.old) (T.faults store.new) result }
+{
+    match version_at(store, &target_base(pfs, object), as_of)? {
+        Some(element) => Ok(u64::from(element.len)),
+        None => Ok(0),
+    }
+}
