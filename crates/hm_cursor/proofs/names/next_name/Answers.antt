@@ -28,7 +28,7 @@ loop-key-preserved g c =
     c.in-Some.is searched.ok in
     let led = leading_still (g.T.HasElements.elements c.first_version.new.store) es (g.T.HasRoom.extents c.first_version.new.store) xs t pfs c.args.directory
     e.base.key c.in_ok-entry.field-0 None (searched.keeps.elements ∙ was.keeps.elements) (searched.keeps.extents ∙ was.keeps.extents)
-        c.in_default-2.is looked.ok in
+    c.in_default-2.is looked.ok in
     let between = found_between at pfs c.args.directory key last t c.in_ok-element.field-0 e c.entry_base-at.ensures c.in-Some.is searched.found in
     record {
       from = omega (arith, was.from, between.0);
@@ -70,7 +70,7 @@ returns-then-element-last-clause-ok g c =
     c.in-Some.is searched.ok in
     let led = leading_still (g.T.HasElements.elements c.first_version.new.store) es (g.T.HasRoom.extents c.first_version.new.store) xs t pfs c.args.directory
     e.base.key c.in_ok-entry.field-0 None (searched.keeps.elements ∙ was.keeps.elements) (searched.keeps.extents ∙ was.keeps.extents)
-        c.in_default-2.is looked.ok in
+    c.in_default-2.is looked.ok in
     on_told es xs (λ list. IsFirst list at last t (Some e)) (λ _. Unit {0})
     (λ lists. NoneLeads (Counts (fulls lists) t) pfs c.args.directory first key × LeadsAt lists t pfs c.args.directory e.base.key None)
     (λ lists. (hash : List ℕ → ℕ) → KeysFit hash (fulls lists) → IsNextName (Counts (fulls lists) t) pfs c.args.directory first last None)
@@ -121,7 +121,7 @@ returns-in-Some-2-clause-ok g c =
     let entry = c.in-Some-2.entry in
     let led = leading_still (g.T.HasElements.elements c.first_version.new.store) es (g.T.HasRoom.extents c.first_version.new.store) xs t pfs c.args.directory
     e.base.key c.in_ok-entry.field-0 (Some entry) (searched.keeps.elements ∙ was.keeps.elements) (searched.keeps.extents ∙ was.keeps.extents)
-        c.in-Some-2.is looked.ok in
+    c.in-Some-2.is looked.ok in
     on_told es xs (λ list. IsFirst list at last t (Some e)) (λ _. Unit {0})
     (λ lists. NoneLeads (Counts (fulls lists) t) pfs c.args.directory first key × LeadsAt lists t pfs c.args.directory e.base.key (Some entry))
     (λ lists. (hash : List ℕ → ℕ) → KeysFit hash (fulls lists)
