@@ -1,6 +1,6 @@
 -- Images that have the same freemap, and the same bytes wherever a tree refers to, are sound and stand for a volume
 -- together, where the same header counts in both.
-use Rattle.std.proofs.Common.{◌≡◌, ℕ, List, true, sym, ap, subst, ◌∙◌}
+use Rattle.std.proofs.Common.{◌≡◌, ℕ, List, sym, ap, subst, ◌∙◌}
 use Rattle.std.specs.List.{All}
 use Rattle.hm_types.specs.Elements.{FullElement}
 use Rattle.hm_types.specs.Hash.{name_hash}
@@ -8,15 +8,15 @@ use Rattle.hm_types.specs.References.{AreFew, IsPlaced, NoneOverlap, Reference}
 use Rattle.hm_freemap.specs.Places.{page_of}
 use Rattle.hm_freemap.specs.declared.entry.Entry.{Entry}
 use Rattle.hm_header.specs.declared.header.Header.{Header}
-use Rattle.hm_model.specs.Volume.{PseudoFileSystem, Volume}
+use Rattle.hm_model.specs.Volume.{Volume}
 use Rattle.hm_records.specs.KeysFit.{KeysFit}
 use Rattle.hm_records.specs.Payload.{IsPayload}
 use Rattle.hm_header.specs.OnDisk.{HasHeader}
 use Rattle.hm_image.specs.Image.{elements_from, pages_of, references_from}
 use Rattle.hm_image.specs.Same.{HasSameFreemap, HasSameTree}
 use Rattle.hm_image.specs.Sound.{HasEntry, HasExtents, HasLayer2, HasPayloads, IsAmongPayloads, IsFilled, IsSoundBy, free_in}
-use Rattle.hm_volume.specs.Records.{AreOfSystems, HaveRecords}
-use Rattle.hm_image.specs.Stands.{HasIds, HasViews, StandsFor}
+use Rattle.hm_image.specs.StandFor.{StandFor}
+use Rattle.hm_image.specs.Stands.{StandsFor}
 use Rattle.hm_image.proofs.SameLemmas.{elements_same, plain_same, references_same, tree_same}
 
 -- an entry of layer 2
@@ -68,15 +68,10 @@ module _ (old new : List ℕ) (volume : Volume) (stands : StandsFor old volume) 
   pub stands_same : (slot : ℕ) → HasHeader new stands.header slot → HasSameFreemap old new stands.header.bigblocks
       → HasSameTree old new stands.header.root → StandsFor new volume
   stands_same slot counts freemap same =
-      let es = es_same old new stands.header freemap same in
-      let Views : List FullElement → PseudoFileSystem → Type 0 = λ xs s. s.clear ≡ true → HasViews xs volume s in
       record {
         header = stands.header;
         sound = sound_same old new stands.header freemap same slot counts stands.sound;
         bigblocks = stands.bigblocks;
         last = stands.last;
-        records = subst (λ (xs : List FullElement). HaveRecords xs volume) es stands.records;
-        of_systems = subst (λ (xs : List FullElement). AreOfSystems xs volume) es stands.of_systems;
-        ids = subst (λ (xs : List FullElement). All (HasIds xs volume.last) volume.systems) es stands.ids;
-        views = subst (λ (xs : List FullElement). All (Views xs) volume.systems) es stands.views;
+        elements = subst (λ (es : List FullElement). StandFor es volume) (es_same old new stands.header freemap same) stands.elements;
       }
