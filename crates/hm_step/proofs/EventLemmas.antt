@@ -1,0 +1,168 @@
+-- The state of a history after a call on names that was answered.
+use Rattle.std.proofs.Common.{◌≡◌, ℕ, Bool, true, false, max, refl, sym, ap, subst, ◌∙◌, arith}
+use Rattle.std.specs.Prelude.{◌&&◌, Option, None, if◌then◌else◌}
+use Rattle.std.specs.Option.{option_map_or}
+use Rattle.hm_types.specs.Hash.{name_hash}
+use Rattle.hm_types.specs.Tree.{FileTree}
+use Rattle.hm_types.specs.declared.id.Id.{Id}
+use Rattle.hm_types.specs.declared.object.Object.{Object}
+use Rattle.hm_model.specs.After.{Event, State, accepted_effect, accepted_effect_of, after_event, call_of, effect, end_id, ended, last_after, no_hash, on_volume}
+use Rattle.hm_model.specs.Answer.{answer, answer_at, answer_there, file_bytes, kind_number, listing, record_of, size_of, target_of}
+use Rattle.hm_model.specs.Bytes.{read_at}
+use Rattle.hm_model.specs.Call.{Call, first_site, own_id, site_object, site_system}
+use Rattle.hm_model.specs.Change.{change}
+use Rattle.hm_model.specs.Command.{named_opening}
+use Rattle.hm_model.specs.Due.{is_tree_call, new_pfs}
+use Rattle.hm_model.specs.Reply.{is_refusal, passed_ids}
+use Rattle.hm_model.specs.declared.command.Command.{Command}
+use Rattle.hm_model.specs.declared.command.Command.TheVariants.{Cat, Ls, PfsMaster, PfsSlave, PfsStatus, Mkdir, Mv, Ln, Readlink, Rm, Rmdir, Snapshot, Stat, Symlink, Touch}
+use Rattle.hm_model.specs.declared.reply.Reply.{Reply}
+use Rattle.hm_model.specs.declared.reply.Reply.TheVariants.{Content as Bytes, Done, Listing, MadePfs, NotFound, Passed, Status, Target as Text}
+use Rattle.hm_model.proofs.CheckLemmas.{refusal_refuses}
+use Rattle.hm_model.proofs.DueLemmas.{of_option}
+use Rattle.hm_step.specs.Step.{after_call}
+use Rattle.hm_calls.specs.Due.{due_over}
+use Rattle.hm_calls.specs.Replies.{IsOnNames, is_change}
+use Rattle.hm_step.proofs.ReplyLemmas.{lacks, refused, serves, way}
+
+-- ---- no reply of a call on names tells an end id
+
+abbrev TellsNone : Reply → Type 0
+TellsNone reply = passed_ids reply ≡ None
+
+refusal_tells : (reply : Reply) → is_refusal reply ≡ true → TellsNone reply
+refusal_tells (Passed begin end) refuses = absurd (cc)
+refusal_tells reply refuses = refl
+
+module _ (call : Call) where
+  abbrev shown : FileTree
+  shown = call.view (first_site call).at.pfs (first_site call).at.when
+
+  there_tells : (command : Command) → IsOnNames command → (object : Object) → TellsNone (elim command as (λ c. Reply) [
+    | Ls path ↦ Listing (listing shown object.number)
+    | Cat path offset count ↦ Bytes (read_at offset count (file_bytes object.content))
+    | Stat path ↦ Status (kind_number object.kind) object.number (size_of shown object) object.links
+    | Readlink path ↦ Text (target_of call.volume object.content)
+    | other ↦ Done
+  ])
+  there_tells (Ls path) named object = refl
+  there_tells (Cat path offset count) named object = refl
+  there_tells (Stat path) named object = refl
+  there_tells (Readlink path) named object = refl
+  there_tells other named object = refl
+
+  looked_tells : IsOnNames call.command → TellsNone (answer_there call)
+  looked_tells named = of_option TellsNone (answer_at call shown) (site_object call (first_site call)) NotFound (there_tells call.command named) refl
+
+  answer_tells : IsOnNames call.command → (command : Command) → IsOnNames command → TellsNone (elim command as (λ c. Reply) [
+    | PfsStatus path ↦ option_map_or record_of (site_system call (first_site call)) NotFound
+    | other ↦ answer_there call
+  ])
+  answer_tells of_call (PfsStatus path) named = absurd named
+  answer_tells of_call other named = looked_tells of_call
+
+  accepted_tells : IsOnNames call.command → (command : Command) → IsOnNames command → TellsNone (elim command as (λ c. Reply) [
+    | Ls path ↦ answer call
+    | Cat path offset count ↦ answer call
+    | Stat path ↦ answer call
+    | Readlink path ↦ answer call
+    | PfsStatus path ↦ answer call
+    | PfsMaster path shared ↦ MadePfs (record { 0 = new_pfs call.volume })
+    | PfsSlave path shared ↦ MadePfs (record { 0 = new_pfs call.volume })
+    | other ↦ Done
+  ])
+  accepted_tells of_call (Ls path) named = answer_tells of_call call.command of_call
+  accepted_tells of_call (Cat path offset count) named = absurd named
+  accepted_tells of_call (Stat path) named = answer_tells of_call call.command of_call
+  accepted_tells of_call (Readlink path) named = answer_tells of_call call.command of_call
+  accepted_tells of_call (PfsStatus path) named = absurd named
+  accepted_tells of_call (PfsMaster path shared) named = absurd named
+  accepted_tells of_call (PfsSlave path shared) named = absurd named
+  accepted_tells of_call other named = refl
+
+  pub due_tells : (room : ℕ → ℕ) (free : ℕ) (reply : Reply) → IsOnNames call.command → reply ≡ due_over call room free → TellsNone reply
+  due_tells room free reply named due = elim (way call room free) [
+    | refused r is same ↦ subst TellsNone (sym (due ∙ same)) (refusal_tells r (refusal_refuses call r is))
+    | lacks none less same ↦ subst TellsNone (sym (due ∙ same)) refl
+    | serves none same ↦ subst TellsNone (sym (due ∙ same)) (accepted_tells named call.command named)
+  ]
+
+-- ---- the state afterwards
+
+-- what an accepted call does, by its command
+effect_is : (state : State) (call : Call) (command : Command) → IsOnNames command
+    → accepted_effect_of state call command ≡ (if is_tree_call command then on_volume state (change call) else state)
+effect_is state call (Mkdir path) named = refl
+effect_is state call (Touch path) named = refl
+effect_is state call (Symlink target path) named = refl
+effect_is state call (Snapshot path) named = refl
+effect_is state call (Ln old new) named = refl
+effect_is state call (Mv old new) named = refl
+effect_is state call (Rm path) named = refl
+effect_is state call (Rmdir path) named = refl
+effect_is state call (Ls path) named = refl
+effect_is state call (Stat path) named = refl
+effect_is state call (Readlink path) named = refl
+effect_is state call other named = absurd named
+
+pub names_no_opening : (command : Command) → IsOnNames command → named_opening command ≡ None
+names_no_opening (Mkdir path) named = refl
+names_no_opening (Touch path) named = refl
+names_no_opening (Symlink target path) named = refl
+names_no_opening (Snapshot path) named = refl
+names_no_opening (Ln old new) named = refl
+names_no_opening (Mv old new) named = refl
+names_no_opening (Rm path) named = refl
+names_no_opening (Rmdir path) named = refl
+names_no_opening (Ls path) named = refl
+names_no_opening (Stat path) named = refl
+names_no_opening (Readlink path) named = refl
+names_no_opening other named = absurd named
+
+module _ (state : State) (event : Event) (named : IsOnNames event.entry.call) (tells : TellsNone event.entry.reply)
+    (own : event.entry.id.0 ≡ own_id (call_of name_hash state event)) where
+  abbrev the_call : Call
+  the_call = call_of name_hash state event
+
+  abbrev changes : Bool
+  changes = is_change event.entry.call event.entry.reply
+
+  last_is : last_after event.entry ≡ own_id the_call
+  last_is =
+      let none : end_id event.entry.reply ≡ 0 = rw tells refl in
+      ap (λ (end : ℕ). max event.entry.id.0 end) none ∙ (omega (arith) ∙ own)
+
+  -- effects do not look at hashes
+  abbrev plain_call : Call
+  plain_call = call_of no_hash state event
+
+  next_is : effect state event ≡ (if changes then on_volume state (change the_call) else state)
+  next_is =
+      ap (λ (o : Option Id). option_map_or (λ (opening : Id). ended state opening.0 event.entry.reply) o
+      (if is_refusal event.entry.reply then state else accepted_effect state plain_call)) (names_no_opening event.entry.call named)
+      ∙ by (is_refusal event.entry.reply) (is_tree_call event.entry.call) (effect_is state plain_call event.entry.call named)
+    where
+      by : (refuses tree : Bool) → accepted_effect state plain_call ≡ (if tree then on_volume state (change plain_call) else state)
+          → (if refuses then state else accepted_effect state plain_call)
+          ≡ (if tree && (if refuses then false else true) then on_volume state (change the_call) else state)
+      by true true is = refl
+      by true false is = refl
+      by false true is = is
+      by false false is = is
+
+  pub state_after : after_event state event ≡ on_volume state (after_call changes the_call)
+  state_after =
+      ap (λ (next : State). on_volume next (record next.volume { last = last_after event.entry })) next_is
+      ∙ (ap (λ (last : ℕ). with_last last) last_is ∙ by changes)
+    where
+      with_last : ℕ → State
+      with_last last =
+          let next : State = if changes then on_volume state (change the_call) else state in
+          on_volume next (record next.volume { last = last })
+
+      by : (test : Bool)
+          → (let next : State = if test then on_volume state (change the_call) else state in
+          on_volume next (record next.volume { last = own_id the_call }))
+          ≡ on_volume state (after_call test the_call)
+      by true = refl
+      by false = refl

@@ -1,0 +1,12 @@
+pub mod NumberLemmas
+pub mod SeenLemmas
+pub mod SystemLemmas
+pub mod NextLemmas
+pub mod ChangedLemmas
+pub mod LandLemmas
+pub mod ReplyLemmas
+pub mod EventLemmas
+pub mod KnownLemmas
+pub mod StepLemmas
+pub mod HistoryLemmas
+pub mod NextCallLemmas

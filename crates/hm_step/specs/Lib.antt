@@ -1,0 +1,4 @@
+pub mod Seen
+pub mod Step
+pub mod Served
+pub mod Next

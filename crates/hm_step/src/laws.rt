@@ -1,0 +1,63 @@
+// What follows from the definitions alone: each function states one law, and does nothing.
+ghost use Rattle.std.specs.Prelude.{◌≡◌, ℕ, ◌+◌, ◌<◌, List, [], ◌∷◌, ◌++◌, false};
+ghost use Rattle.std.specs.List.{All};
+ghost use Rattle.hm_types.specs.Elements.{FullElement};
+ghost use Rattle.hm_types.specs.declared.limits.TheConstants.{GREATEST_ID};
+ghost use Rattle.hm_cursor.specs.Told.{IsBroken, Lists, fulls};
+ghost use Rattle.hm_model.specs.After.{Event};
+ghost use Rattle.hm_model.specs.Legal.{IsAllowed, Lands, Setting, call_after, state_after};
+ghost use Rattle.hm_model.specs.Reply.{is_refusal};
+ghost use Rattle.hm_model.specs.View.{Substitute, view_of};
+ghost use Rattle.hm_model.specs.Volume.{Volume};
+ghost use Rattle.hm_records.specs.Payload.{IsPayload};
+ghost use Rattle.hm_volume.specs.Shown.{ShowsAs};
+ghost use Rattle.hm_calls.specs.Known.{AreOlderOrSlaves};
+ghost use Rattle.hm_step.specs.Seen.{AreGiven};
+ghost use Rattle.hm_step.specs.Served.{IsServed};
+ghost use Rattle.hm_image.specs.StandFor.{StandFor};
+ghost use Rattle.hm_step.specs.Step.{AreHeld, IsNext, drawn};
+
+/// Elements that stand for a volume show it in its own trees, and in those of its elements where the
+/// trees of a pseudo file system are not certain.
+pub fn elements_show_their_volume()
+    ensures { (es : List FullElement) (volume : Volume) (substitutes : List Substitute) →
+        StandFor es volume → AreGiven es volume substitutes →
+        ShowsAs es volume (view_of volume substitutes) }
+{}
+
+/// Each pseudo file system of elements that stand for a volume is a slave by its record, or all ids
+/// of its elements are below the one that is drawn next.
+pub fn elements_are_older_or_slaves()
+    ensures { (es : List FullElement) (volume : Volume) → StandFor es volume →
+        AreOlderOrSlaves (volume.last + 1) es }
+{}
+
+/// Where each payload keeps the grammar of its type, none is broken: a call tells no damage.
+pub fn sound_payloads_are_not_broken()
+    ensures { (lists : Lists) (at : ℕ) → All IsPayload (fulls lists) → IsBroken lists at → ⊥ }
+{}
+
+/// Elements stand for a volume still once an id more is drawn and nothing else happens.
+pub fn drawing_an_id_leaves_what_stands()
+    ensures { (es : List FullElement) (volume : Volume) → StandFor es volume →
+        volume.last < GREATEST_ID → StandFor es (drawn (volume.last + 1) volume) }
+{}
+
+/// One step. Where elements stand for the volume of a history, and a call on names is answered as it
+/// is due, the elements that it leaves stand for the volume of the history with this call. Its reply
+/// is one that the history allows, and an accepted call lands.
+pub fn a_served_call_is_a_step()
+    ensures stands { (run : Setting) (before : List Event) (event : Event) (room : ℕ → ℕ) (free : ℕ)
+        (es es' : List FullElement) → IsNext run before event free es →
+        IsServed (call_after run before event) room free es es' event.entry.reply → AreHeld es' →
+        StandFor es' (state_after run (before ++ event ∷ [])).volume }
+    ensures allowed { (run : Setting) (before : List Event) (event : Event) (room : ℕ → ℕ) (free : ℕ)
+        (es es' : List FullElement) → IsNext run before event free es →
+        IsServed (call_after run before event) room free es es' event.entry.reply →
+        IsAllowed run before event }
+    ensures lands { (run : Setting) (before : List Event) (event : Event) (room : ℕ → ℕ) (free : ℕ)
+        (es es' : List FullElement) → IsNext run before event free es →
+        IsServed (call_after run before event) room free es es' event.entry.reply →
+        is_refusal event.entry.reply ≡ false →
+        Lands (call_after run before event) event.entry.reply }
+{}

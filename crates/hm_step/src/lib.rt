@@ -1,0 +1,16 @@
+//! One step of a history: what a call on names that was answered makes of the volume for which
+//! elements stand.
+//!
+//! It has the definitions, laws of what they say, and the call itself over any store.
+#![tactic(auto)]
+
+mod laws;
+mod next;
+#[cfg(test)]
+mod tests;
+
+pub use laws::{
+    a_served_call_is_a_step, drawing_an_id_leaves_what_stands, elements_are_older_or_slaves,
+    elements_show_their_volume, sound_payloads_are_not_broken,
+};
+pub use next::answer_next;
