@@ -1,13 +1,15 @@
 -- A call on names that was served, as the next one of a history.
-use Rattle.std.proofs.Common.{◌≡◌, ℕ, false, List, [], ◌∷◌, ◌++◌, refl, sym, ap, subst, ◌∙◌}
-use Rattle.std.specs.Prelude.{Option, None, Some}
+use Rattle.std.proofs.Common.{◌≡◌, ℕ, Bool, true, false, inl, inr, List, [], ◌∷◌, ◌++◌, refl, sym, ap, subst, ◌∙◌}
+use Rattle.std.specs.Prelude.{◌&&◌, Option, None, Some, if◌then◌else◌}
 use Rattle.hm_types.specs.Elements.{FullElement}
 use Rattle.hm_types.specs.declared.id.Id.{Id}
 use Rattle.hm_model.specs.After.{Event, OpenCall, State, opened_with, opening_state}
 use Rattle.hm_model.specs.Call.{Call}
 use Rattle.hm_model.specs.Command.{named_opening}
-use Rattle.hm_model.specs.Legal.{IsAllowed, IsEnding, IsReply, Lands, Setting, call_after, floor_after, state_after}
-use Rattle.hm_model.specs.Reply.{is_refusal}
+use Rattle.hm_model.specs.Legal.{IsAllowed, IsEnding, IsException, IsReply, Lands, Setting, call_after, floor_after, state_after}
+use Rattle.hm_model.specs.Due.{is_tree_call}
+use Rattle.hm_model.specs.Reply.{is_refusal, passed_ids}
+use Rattle.hm_model.specs.declared.reply.Reply.{Reply}
 use Rattle.hm_model.specs.Volume.{Volume}
 use Rattle.hm_model.proofs.EventLemmas.{after_events-push}
 use Rattle.hm_model.proofs.LandLemmas.{lands_accepted}
@@ -15,8 +17,9 @@ use Rattle.hm_volume.specs.Shown.{ShowsAs}
 use Rattle.hm_step.specs.Served.{IsServed}
 use Rattle.hm_image.specs.StandFor.{StandFor}
 use Rattle.hm_calls.specs.Replies.{is_change}
-use Rattle.hm_step.specs.Step.{AreHeld, IsNext, after_call}
+use Rattle.hm_step.specs.Step.{AreHeld, IsFailure, IsNext, after_call}
 use Rattle.hm_step.proofs.EventLemmas.{due_tells, names_no_opening, state_after as after_is}
+use Rattle.hm_step.proofs.NextLemmas.{stand_next}
 use Rattle.hm_step.proofs.ReplyLemmas.{reply_is_allowed}
 use Rattle.hm_step.proofs.SeenLemmas.{shows_as}
 use Rattle.hm_step.proofs.StepLemmas.{stand_after}
@@ -56,3 +59,43 @@ module _ (run : Setting) (before : List Event) (event : Event) (room : ℕ → �
 
   pub lands : is_refusal event.entry.reply ≡ false → Lands call event.entry.reply
   lands accepts = lands_accepted (floor_after run before) call event.entry.reply reply_is accepts
+
+-- ---- a call in which a device failed, or memory was refused
+
+-- such a reply refuses, and tells no end id
+failure_refuses : (reply : Reply) → IsFailure reply → (is_refusal reply ≡ true) × (passed_ids reply ≡ None)
+failure_refuses reply (inl (before, after, is)) = (ap is_refusal is, ap passed_ids is)
+failure_refuses reply (inr is) = (ap is_refusal is, ap passed_ids is)
+
+module _ (run : Setting) (before : List Event) (event : Event) (free : ℕ) (es : List FullElement) (next : IsNext run before event free es)
+    (fails : IsFailure event.entry.reply) where
+  pub stands_failed : StandFor es (state_after run (before ++ event ∷ [])).volume
+  stands_failed =
+      let failing_call : Call = call_after run before event in
+      let refuses = failure_refuses event.entry.reply fails in
+      let unchanged : is_change event.entry.call event.entry.reply ≡ false = no_change (is_tree_call event.entry.call) refuses.0 in
+      let same : (state_after run (before ++ event ∷ [])).volume ≡ after_call false failing_call =
+      ap (λ (s : State). s.volume)
+      (after_events-push (opening_state run.opening run.foreigners) before event ∙ after_is (state_after run before) event next.named refuses.1 next.own)
+      ∙ ap (λ (test : Bool). after_call test failing_call) unchanged in
+      subst (λ (volume : Volume). StandFor es volume) (sym same) (stand_next es (state_after run before).volume next.stand next.left)
+    where
+      no_change : (tree : Bool) {refused : Bool} → refused ≡ true → (tree && (if refused then false else true)) ≡ false
+      no_change true is = rw is refl
+      no_change false is = refl
+
+  pub allowed_failed : IsAllowed run before event
+  allowed_failed = by (named_opening event.entry.call) (names_no_opening event.entry.call next.named) where
+    excepted : IsException (floor_after run before) (call_after run before event) event.entry.reply
+    excepted = elim fails [
+      | inl (b, a, is) ↦ subst (IsException (floor_after run before) (call_after run before event)) (sym is) tt
+      | inr is ↦ subst (IsException (floor_after run before) (call_after run before event)) (sym is) tt
+    ]
+
+    by : (o : Option Id) → o ≡ None → elim o as (λ x. Type 0) [
+      | Some opening ↦ (c : OpenCall) × (opened_with opening.0 (state_after run before).opened ≡ Some c)
+          × IsEnding (floor_after run before) (state_after run before).volume c event.entry.id.0 event.entry.reply
+      | None ↦ IsReply (floor_after run before) (call_after run before event) event.entry.reply
+    ]
+    by None is = inr excepted
+    by (Some opening) is = absurd (cc)

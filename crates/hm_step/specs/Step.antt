@@ -1,5 +1,5 @@
 -- What a call that was answered makes of a volume, and the step that it is in a history.
-use Rattle.std.specs.Prelude.{◌≡◌, ℕ, ◌^◌, ◌<◌, ◌≤◌, List, Bool, if◌then◌else◌}
+use Rattle.std.specs.Prelude.{◌≡◌, ◌⊎◌, ℕ, ◌^◌, ◌<◌, ◌≤◌, List, Bool, if◌then◌else◌}
 use Rattle.hm_types.specs.Elements.{FullElement}
 use Rattle.hm_types.specs.declared.limits.TheConstants.{GREATEST_ID}
 use Rattle.hm_key.specs.Versions.{HaveOwnKeys, IsBelow}
@@ -9,6 +9,8 @@ use Rattle.hm_model.specs.Change.{change}
 use Rattle.hm_model.specs.Due.{ReadsPaths}
 use Rattle.hm_model.specs.Legal.{Setting, call_after, floor_after, state_after}
 use Rattle.hm_model.specs.Volume.{Volume}
+use Rattle.hm_model.specs.declared.reply.Reply.{Reply}
+use Rattle.hm_model.specs.declared.reply.Reply.TheVariants.{Media, NoMemory}
 use Rattle.hm_step.specs.Seen.{AreGiven}
 use Rattle.hm_image.specs.StandFor.{StandFor}
 use Rattle.hm_calls.specs.Replies.{IsOnNames}
@@ -25,6 +27,10 @@ after_call is_changed call = drawn (own_id call) (if is_changed then change call
 pub record AreHeld (es : List FullElement) : Type 0 where
   pub keys : HaveOwnKeys es
   pub fit : IsBelow (2 ^ 64) es
+
+-- a reply says that a device failed, or that memory was refused
+abbrev pub IsFailure : Reply → Type 0
+IsFailure reply = ((before : ℕ) × (after : ℕ) × (reply ≡ Media before after)) ⊎ (reply ≡ NoMemory)
 
 -- A call on names is the next one of a history. It drew the id after the last, its path words are read as they must,
 -- and it found elements that stand for the volume of the history so far, in whose trees it looked, and no less free

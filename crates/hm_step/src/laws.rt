@@ -15,7 +15,7 @@ ghost use Rattle.hm_calls.specs.Known.{AreOlderOrSlaves};
 ghost use Rattle.hm_step.specs.Seen.{AreGiven};
 ghost use Rattle.hm_step.specs.Served.{IsServed};
 ghost use Rattle.hm_image.specs.StandFor.{StandFor};
-ghost use Rattle.hm_step.specs.Step.{AreHeld, IsNext, drawn};
+ghost use Rattle.hm_step.specs.Step.{AreHeld, IsFailure, IsNext, drawn};
 
 /// Elements that stand for a volume show it in its own trees, and in those of its elements where the
 /// trees of a pseudo file system are not certain.
@@ -60,4 +60,16 @@ pub fn a_served_call_is_a_step()
         IsServed (call_after run before event) room free es es' event.entry.reply →
         is_refusal event.entry.reply ≡ false →
         Lands (call_after run before event) event.entry.reply }
+{}
+
+/// Where a device failed in a call on names, or memory was refused, and the elements are as they
+/// were, they stand for the volume of the history with this call, and its reply is allowed.
+pub fn a_failed_call_is_a_step()
+    ensures stands { (run : Setting) (before : List Event) (event : Event) (free : ℕ)
+        (es : List FullElement) → IsNext run before event free es →
+        IsFailure event.entry.reply →
+        StandFor es (state_after run (before ++ event ∷ [])).volume }
+    ensures allowed { (run : Setting) (before : List Event) (event : Event) (free : ℕ)
+        (es : List FullElement) → IsNext run before event free es →
+        IsFailure event.entry.reply → IsAllowed run before event }
 {}
