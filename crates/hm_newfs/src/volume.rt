@@ -2,6 +2,7 @@
 ghost use Rattle.std.specs.Prelude.{IfSome, OnErr, OnOk};
 ghost use Rattle.hm_types.specs.Faults.{HasCause};
 ghost use Rattle.hm_types.specs.Told.{BothTell};
+ghost use Rattle.hm_header.specs.OnDisk.{HasSlots};
 ghost use Rattle.hm_header.specs.Range.{IsSize};
 ghost use Rattle.hm_newfs.specs.Steps.{ClosesGates, ClosingElapses, ContentsElapse, HasClosedGates};
 ghost use Rattle.hm_newfs.specs.Steps.{HasSpace, WritesContents};
@@ -31,15 +32,14 @@ pub fn write_volume<D: Disk>(disk: &mut D, bigblocks: u32) -> Result<(), Failed>
         (VolumeElapses bigblocks (D.left_since disk.old) (D.left_since disk.new)) }
     ensures cause { HasCause (D.faults disk.old) (D.faults disk.new) result }
 {
-    close_gates(disk, bigblocks)?;
+    close_gates(disk)?;
     write_contents(disk, bigblocks)?;
     write_synced(disk, gate_place(0), &[GATE_OPEN])
 }
 
 // Closes both gates, and settles that.
-fn close_gates<D: Disk>(disk: &mut D, bigblocks: u32) -> Result<(), Failed>
-    requires size { IsSize bigblocks }
-    requires room { IfSome (D.told disk.old) (HasSpace bigblocks) }
+fn close_gates<D: Disk>(disk: &mut D) -> Result<(), Failed>
+    requires slots { IfSome (D.told disk.old) (λ t. HasSlots t.bytes) }
     ensures ok { OnOk result (BothTell (D.told disk.old) (D.told disk.new) ClosesGates) }
     ensures any_moment { BothTell (D.told disk.old) (D.told disk.new)
         (ClosingElapses (D.left_since disk.old) (D.left_since disk.new)) }
