@@ -1,0 +1,9 @@
+pub mod RangeLemmas
+pub mod PageLemmas
+pub mod LayerLemmas
+pub mod ClosingLemmas
+pub mod ContentLemmas
+pub mod WriteLemmas
+pub mod StepLemmas
+pub mod FreshLemmas
+pub mod VolumeLemmas

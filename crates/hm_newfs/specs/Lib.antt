@@ -1,0 +1,4 @@
+pub mod Contents
+pub mod Layers
+pub mod Steps
+pub mod Volume
