@@ -63,7 +63,7 @@ module _ (run : Setting) (before : List Event) (event : Event) (room : ℕ → �
 -- ---- a call in which a device failed, or memory was refused
 
 -- such a reply refuses, and tells no end id
-failure_refuses : (reply : Reply) → IsFailure reply → (is_refusal reply ≡ true) × (passed_ids reply ≡ None)
+pub failure_refuses : (reply : Reply) → IsFailure reply → (is_refusal reply ≡ true) × (passed_ids reply ≡ None)
 failure_refuses reply (inl (before, after, is)) = (ap is_refusal is, ap passed_ids is)
 failure_refuses reply (inr is) = (ap is_refusal is, ap passed_ids is)
 

@@ -10,3 +10,6 @@ pub mod KnownLemmas
 pub mod StepLemmas
 pub mod HistoryLemmas
 pub mod NextCallLemmas
+pub mod PossibleLemmas
+pub mod CausedLemmas
+pub mod LegalLemmas

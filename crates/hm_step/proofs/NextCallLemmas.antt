@@ -22,7 +22,8 @@ use Rattle.hm_records.proofs.CountsLemmas.{own_keys-sorted}
 use Rattle.hm_step.specs.Next.{Asked, GoesOn, IsEventOf, IsStep}
 use Rattle.hm_step.specs.Served.{IsServed}
 use Rattle.hm_step.specs.Step.{IsNext}
-use Rattle.hm_step.proofs.HistoryLemmas.{allowed, lands, stands}
+use Rattle.hm_step.proofs.HistoryLemmas.{allowed, stands}
+use Rattle.hm_step.proofs.LegalLemmas.{may_follow}
 use Rattle.hm_step.proofs.SeenLemmas.{shows_as}
 
 module _ (asked : Asked) (reply : Reply) (room : ℕ → ℕ) (free : ℕ) (run : Setting) (before : List Event) (event : Event) (was : Lists)
@@ -60,7 +61,7 @@ module _ (asked : Asked) (reply : Reply) (room : ℕ → ℕ) (free : ℕ) (run 
       }),
     );
     allowed = allowed run before event room free (fulls was) (fulls (es, xs)) next served;
-    lands = lands run before event room free (fulls was) (fulls (es, xs)) next served;
+    follows = may_follow run before event free (fulls was) next room (fulls (es, xs)) served;
   } where
     served : IsServed call room free (fulls was) (fulls (es, xs)) event.entry.reply
     served = record {

@@ -1,5 +1,5 @@
 -- A call on names over any store, as the next one of a history.
-use Rattle.std.specs.Prelude.{◌≡◌, ℕ, ◌^◌, false, List, [], ◌∷◌, ◌++◌, Option, IsSomeAnd, option_map}
+use Rattle.std.specs.Prelude.{◌≡◌, ℕ, ◌^◌, List, [], ◌∷◌, ◌++◌, Option, IsSomeAnd, option_map}
 use Rattle.hm_types.specs.declared.id.Id.{Id}
 use Rattle.hm_key.specs.Balance.{IsBalanced, content_of}
 use Rattle.hm_key.specs.Extents.{Extent}
@@ -8,8 +8,7 @@ use Rattle.hm_key.specs.declared.element.Element.{Element}
 use Rattle.hm_cursor.specs.Told.{Lists, OnBalanced, fulls}
 use Rattle.hm_image.specs.StandFor.{StandFor}
 use Rattle.hm_model.specs.After.{Event, busy_in}
-use Rattle.hm_model.specs.Legal.{IsAllowed, Lands, Setting, call_after, state_after}
-use Rattle.hm_model.specs.Reply.{is_refusal}
+use Rattle.hm_model.specs.Legal.{IsAllowed, MayFollow, Setting, state_after}
 use Rattle.hm_model.specs.Volume.{Volume}
 use Rattle.hm_model.specs.declared.command.Command.{Command}
 use Rattle.hm_model.specs.declared.reply.Reply.{Reply}
@@ -33,14 +32,14 @@ pub record IsEventOf (asked : Asked) (reply : Reply) (run : Setting) (before : L
 abbrev pub StandIfFit : Lists → Volume → Type 0
 StandIfFit lists volume = IsBelow (2 ^ 64) (fulls lists) → StandFor (fulls lists) volume
 
--- The event goes on from a history: what the store holds afterwards stands for the volume after it, its reply is
--- allowed, and an accepted call lands.
+-- The event goes on from a history: what the store holds afterwards stands for the volume after it, and it may follow
+-- the others, so that a legal history goes on legally.
 pub record GoesOn (run : Setting) (before : List Event) (event : Event) (es : Option (List Element))
     (xs : Option (List Extent)) : Type 0 where
   pub stands : IsSomeAnd (content_of es xs)
       (λ now. IsBalanced now.0 now.1 × StandIfFit now (state_after run (before ++ event ∷ [])).volume)
+  pub follows : MayFollow run before event
   pub allowed : IsAllowed run before event
-  pub lands : is_refusal event.entry.reply ≡ false → Lands (call_after run before event) event.entry.reply
 
 -- A reply is the next step of each history for whose volume the elements of a store stand.
 abbrev pub IsStep : {S : Type 0} → (S → Option (List Element)) → (S → Option (List Extent)) → (S → ℕ) → Asked → S → S → Reply

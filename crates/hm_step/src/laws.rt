@@ -1,12 +1,12 @@
 // What follows from the definitions alone: each function states one law, and does nothing.
-ghost use Rattle.std.specs.Prelude.{◌≡◌, ℕ, ◌+◌, ◌<◌, List, [], ◌∷◌, ◌++◌, false};
+ghost use Rattle.std.specs.Prelude.{ℕ, ◌+◌, ◌<◌, List, [], ◌∷◌, ◌++◌};
 ghost use Rattle.std.specs.List.{All};
 ghost use Rattle.hm_types.specs.Elements.{FullElement};
 ghost use Rattle.hm_types.specs.declared.limits.TheConstants.{GREATEST_ID};
 ghost use Rattle.hm_cursor.specs.Told.{IsBroken, Lists, fulls};
 ghost use Rattle.hm_model.specs.After.{Event};
-ghost use Rattle.hm_model.specs.Legal.{IsAllowed, Lands, Setting, call_after, state_after};
-ghost use Rattle.hm_model.specs.Reply.{is_refusal};
+ghost use Rattle.hm_model.specs.Caused.{HasNumbers, known_after, known_at};
+ghost use Rattle.hm_model.specs.Legal.{IsAllowed, MayFollow, Setting, call_after, state_after};
 ghost use Rattle.hm_model.specs.View.{Substitute, view_of};
 ghost use Rattle.hm_model.specs.Volume.{Volume};
 ghost use Rattle.hm_records.specs.Payload.{IsPayload};
@@ -44,32 +44,34 @@ pub fn drawing_an_id_leaves_what_stands()
 {}
 
 /// One step. Where elements stand for the volume of a history, and a call on names is answered as it
-/// is due, the elements that it leaves stand for the volume of the history with this call. Its reply
-/// is one that the history allows, and an accepted call lands.
+/// is due, the elements that it leaves stand for the volume of the history with this call, and the
+/// call may follow: a legal history goes on legally.
 pub fn a_served_call_is_a_step()
     ensures stands { (run : Setting) (before : List Event) (event : Event) (room : ℕ → ℕ) (free : ℕ)
         (es es' : List FullElement) → IsNext run before event free es →
         IsServed (call_after run before event) room free es es' event.entry.reply → AreHeld es' →
         StandFor es' (state_after run (before ++ event ∷ [])).volume }
-    ensures allowed { (run : Setting) (before : List Event) (event : Event) (room : ℕ → ℕ) (free : ℕ)
-        (es es' : List FullElement) → IsNext run before event free es →
+    ensures follows { (run : Setting) (before : List Event) (event : Event) (room : ℕ → ℕ)
+        (free : ℕ) (es es' : List FullElement) → IsNext run before event free es →
+        IsServed (call_after run before event) room free es es' event.entry.reply →
+        MayFollow run before event }
+    ensures allowed { (run : Setting) (before : List Event) (event : Event) (room : ℕ → ℕ)
+        (free : ℕ) (es es' : List FullElement) → IsNext run before event free es →
         IsServed (call_after run before event) room free es es' event.entry.reply →
         IsAllowed run before event }
-    ensures lands { (run : Setting) (before : List Event) (event : Event) (room : ℕ → ℕ) (free : ℕ)
-        (es es' : List FullElement) → IsNext run before event free es →
-        IsServed (call_after run before event) room free es es' event.entry.reply →
-        is_refusal event.entry.reply ≡ false →
-        Lands (call_after run before event) event.entry.reply }
 {}
 
 /// Where a device failed in a call on names, or memory was refused, and the elements are as they
-/// were, they stand for the volume of the history with this call, and its reply is allowed.
+/// were, they stand for the volume of the history with this call, and the call may follow, if its
+/// reply tells counts of faults that were counted.
 pub fn a_failed_call_is_a_step()
     ensures stands { (run : Setting) (before : List Event) (event : Event) (free : ℕ)
         (es : List FullElement) → IsNext run before event free es →
         IsFailure event.entry.reply →
         StandFor es (state_after run (before ++ event ∷ [])).volume }
-    ensures allowed { (run : Setting) (before : List Event) (event : Event) (free : ℕ)
+    ensures follows { (run : Setting) (before : List Event) (event : Event) (free : ℕ)
         (es : List FullElement) → IsNext run before event free es →
-        IsFailure event.entry.reply → IsAllowed run before event }
+        IsFailure event.entry.reply →
+        HasNumbers run.now (known_after (known_at run.opening.last run.start) before) event.entry →
+        MayFollow run before event }
 {}

@@ -1,0 +1,522 @@
+-- The reply of a call on names that is due has its cause.
+use Rattle.std.proofs.Common.{◌≡◌, ℕ, ◌-◌, ◌^◌, ◌<◌, min, Bool, true, false, List, [], ◌∷◌, ◌++◌, map, refl, sym, subst, ◌∙◌, inl, inr, arith}
+use Rattle.std.specs.Prelude.{◌⊎◌, ◌==◌, ◌&&◌, ◌||◌, Option, None, Some, if◌then◌else◌}
+use Rattle.std.specs.Bool.{nat_le, nat_lt}
+use Rattle.std.specs.List.{Contains, list_any}
+use Rattle.std.specs.Option.{option_map_or}
+use Rattle.hm_types.specs.Tree.{FileTree}
+use Rattle.hm_types.specs.declared.limits.TheConstants.{GREATEST_ID, MOST_INTERVALS}
+use Rattle.hm_types.specs.declared.object.Object.{Object}
+use Rattle.hm_model.specs.Answer.{file_bytes, kind_number, listing, record_of, size_of, target_of}
+use Rattle.hm_model.specs.Bytes.{read_at}
+use Rattle.hm_model.specs.Call.{Call, all_located, each_located, first_site, second_site, site_object, site_system}
+use Rattle.hm_model.specs.Caused.{IsFree, IsPossible, number_of, on_a_read, on_a_walk, possible}
+use Rattle.hm_model.specs.Due.{Check, good_path, has_its_name, is_pass, checks, is_dir, is_dir_or_link, is_kind, is_link, is_passed, is_softlink, name_is_new, early_checks, first_refusal, has_id, hash_is_full, hash_left, good_paths, ids_left, intervals_left, no_future, no_future_begin, none_open, is_in_slave, is_pfs_call, is_tree_call, is_way_free, new_name, new_pfs, pruned_count, own_checks, own_checks_of, past_stays, refusal, refuse_if, slaves_stay, walks}
+use Rattle.hm_model.specs.Needs.{bytes_zones, held_of, has_other_link, has_other_size, names_zones, stays_put, zones_of}
+use Rattle.hm_model.specs.Sites.{BadAt, Parsed, Parts, Site, TakesName, Use, Walks, uses_of}
+use Rattle.hm_model.specs.Walk.{Follow, Follows, Stays}
+use Rattle.hm_model.specs.declared.command.Command.{Command}
+use Rattle.hm_model.specs.declared.command.Command.TheVariants.{Cat, Fill, Prune, PruneAll, PfsMaster, PfsSlave, PfsStatus, Truncate, Write, Ln, Ls, Mkdir, Mv, Readlink, Rm, Rmdir, Snapshot, Stat, Symlink, Touch}
+use Rattle.hm_model.specs.declared.reply.Reply.{Reply}
+use Rattle.hm_model.specs.declared.reply.Reply.TheVariants.{BadPath, Busy, Cut, Damaged, Future, Media, StreamFault, Synced, Content as Bytes, Done, Listing, MadePfs, Status, Target as Text, TooManyIntervals, CrossPfs, Exists, HashFull, IntoItself, IsDir, NotEmpty, NotFile, NotLink, TooBig, NoSpace, NotDir, NotFound, NotRetained, ReadOnly}
+use Rattle.std.proofs.lemmas.Bool.Decides.{nat_tests}
+use Rattle.hm_model.proofs.CheckLemmas.{no_first, no_rest}
+use Rattle.hm_model.proofs.DueLemmas.{of_option, of_test}
+use Rattle.hm_records.proofs.MemberLemmas.{has_tail}
+use Rattle.hm_calls.specs.Due.{due_over, lacking}
+use Rattle.hm_calls.specs.Replies.{IsOnNames}
+use Rattle.hm_step.specs.Step.{IsFailure}
+use Rattle.hm_step.proofs.PossibleLemmas.{OfAll, OfCheck, all_both, all_fine, first_of_all, none_fine, walks_fine}
+use Rattle.hm_step.proofs.ReplyLemmas.{Way, lacks, refused, serves, way}
+
+-- one check after others
+first_split : (xs ys : List Check) (r : Reply) → first_refusal (xs ++ ys) ≡ Some r → (first_refusal xs ≡ Some r) ⊎ (first_refusal ys ≡ Some r)
+first_split [] ys r is = inr is
+first_split (None ∷ xs) ys r is = first_split xs ys r is
+first_split (Some reply ∷ xs) ys r is = inl is
+
+first_front : (xs ys : List Check) (r : Reply) → first_refusal xs ≡ Some r → first_refusal (xs ++ ys) ≡ Some r
+first_front [] ys r is = absurd (cc)
+first_front (None ∷ xs) ys r is = first_front xs ys r is
+first_front (Some reply ∷ xs) ys r is = is
+
+-- a reply tells no boundary, no count, no faults and no damage
+abbrev pub IsPlain : Reply → Type 0
+IsPlain (Synced boundary) = ⊥
+IsPlain (Media before after) = ⊥
+IsPlain (StreamFault before after) = ⊥
+IsPlain (Cut items) = ⊥
+IsPlain (Damaged at kind) = ⊥
+IsPlain other = Unit {0}
+
+-- a reply's number is one of those that a call can give, and it is plain
+abbrev MayGive : Command → List Parsed → Reply → Type 0
+MayGive command paths reply = Contains (possible command paths) (number_of reply) × IsPlain reply
+
+-- the refusals of any walk are among those of a read
+in_read : (paths : List Parsed) (n : ℕ) → Contains on_a_walk n → Contains (on_a_read paths) n
+in_read paths n has = of_test (λ (l : List ℕ). Contains l n) (list_any has_id paths) (8 ∷ on_a_walk) on_a_walk (has_tail 8 n on_a_walk has) has
+
+kept_in_read : (paths : List Parsed) → list_any has_id paths ≡ true → Contains (on_a_read paths) 8
+kept_in_read paths has = rw has (0, omega arith, refl)
+
+lost_in_walk : Contains on_a_walk 2
+lost_in_walk = (0, omega arith, refl)
+
+dir_in_walk : Contains on_a_walk 3
+dir_in_walk = (1, omega arith, refl)
+
+-- a check of the first sort, by a test
+by_test : (P : Reply → Type 0) (test : Bool) (reply : Reply) → P reply → OfCheck P (refuse_if test reply)
+by_test P true reply is = is
+by_test P false reply is = tt
+
+unless_test : (P : Reply → Type 0) (test : Bool) (reply : Reply) → P reply → OfCheck P (if test then None else Some reply)
+unless_test P true reply is = tt
+unless_test P false reply is = is
+
+by_option : {X : Type 0} (P : Reply → Type 0) (f : X → Check) (o : Option X) → ((x : X) → OfCheck P (f x)) → OfCheck P (option_map_or f o None)
+by_option P f o each = of_option (OfCheck P) f o None each tt
+
+-- ---- a device that failed, and memory that was refused
+
+-- each call on names can give such a reply
+failure_given : (command : Command) (paths : List Parsed) → IsOnNames command
+    → Contains (possible command paths) 21 × Contains (possible command paths) 23
+failure_given (Mkdir path) paths named = ((7, omega arith, refl), (9, omega arith, refl))
+failure_given (Touch path) paths named = ((7, omega arith, refl), (9, omega arith, refl))
+failure_given (Symlink target path) paths named = ((7, omega arith, refl), (9, omega arith, refl))
+failure_given (Snapshot path) paths named = ((7, omega arith, refl), (9, omega arith, refl))
+failure_given (Ln old new) paths named = ((11, omega arith, refl), (13, omega arith, refl))
+failure_given (Mv old new) paths named = ((9, omega arith, refl), (11, omega arith, refl))
+failure_given (Rm path) paths named = ((6, omega arith, refl), (8, omega arith, refl))
+failure_given (Rmdir path) paths named = ((5, omega arith, refl), (7, omega arith, refl))
+failure_given (Ls path) paths named =
+    (has_tail 102 21 (on_a_read paths) (in_read paths 21 (2, omega arith, refl)), has_tail 102 23 (on_a_read paths) (in_read paths 23 (4, omega arith, refl)))
+failure_given (Stat path) paths named =
+    (has_tail 104 21 (on_a_read paths) (in_read paths 21 (2, omega arith, refl)), has_tail 104 23 (on_a_read paths) (in_read paths 23 (4, omega arith, refl)))
+failure_given (Readlink path) paths named =
+    (behind 21 (in_read paths 21 (2, omega arith, refl)), behind 23 (in_read paths 23 (4, omega arith, refl)))
+  where
+    behind : (n : ℕ) → Contains (on_a_read paths) n → Contains (105 ∷ 31 ∷ on_a_read paths) n
+    behind n has = has_tail 105 n (31 ∷ on_a_read paths) (has_tail 31 n (on_a_read paths) has)
+failure_given other paths named = absurd named
+
+pub failure_possible : (command : Command) (paths : List Parsed) (early : Check) (reply : Reply) → IsOnNames command → IsFailure reply
+    → IsPossible early (possible command paths) reply
+failure_possible command paths (Some refusal) reply named (inl (before, after, is)) = inr (subst IsFree (sym is) (0, omega arith, refl))
+failure_possible command paths (Some refusal) reply named (inr is) = inr (subst IsFree (sym is) (2, omega arith, refl))
+failure_possible command paths None reply named (inl (before, after, is)) =
+    subst (λ (r : Reply). Contains (possible command paths) (number_of r)) (sym is) (failure_given command paths named).0
+failure_possible command paths None reply named (inr is) =
+    subst (λ (r : Reply). Contains (possible command paths) (number_of r)) (sym is) (failure_given command paths named).1
+
+module _ (call : Call) where
+  -- walks that change what they come to
+  tree_walks : (command : Command) (paths : List Parsed) → list_any has_id paths ≡ false → MayGive command paths NotFound → MayGive command paths NotDir
+      → OfAll (MayGive command paths) (map walks (each_located call (uses_of command) paths))
+  tree_walks command paths none lost no_directory =
+      let P : Reply → Type 0 = MayGive command paths in
+      walks_fine P lost no_directory call (uses_of command) paths (none_fine P lost no_directory paths none)
+
+  -- and walks of calls that read
+  read_walks : (command : Command) (paths : List Parsed) → MayGive command paths NotFound → MayGive command paths NotDir
+      → (list_any has_id paths ≡ true → MayGive command paths NotRetained)
+      → OfAll (MayGive command paths) (map walks (each_located call (uses_of command) paths))
+  read_walks command paths lost no_directory kept = by (list_any has_id paths) refl where
+    P : Reply → Type 0
+    P = MayGive command paths
+
+    by : (test : Bool) → list_any has_id paths ≡ test → OfAll (MayGive command paths) (map walks (each_located call (uses_of command) paths))
+    by true is = walks_fine P lost no_directory call (uses_of command) paths (all_fine P lost no_directory (kept is) paths)
+    by false is = walks_fine P lost no_directory call (uses_of command) paths (none_fine P lost no_directory paths is)
+
+  -- the hash of a new name
+  full_check : (command : Command) (paths : List Parsed) → MayGive command paths HashFull
+      → OfCheck (MayGive command paths) (option_map_or (λ site. refuse_if (hash_is_full call site) HashFull)
+      (new_name (uses_of command) (each_located call (uses_of command) paths)) None)
+  full_check command paths full =
+      by_option (MayGive command paths) (λ site. refuse_if (hash_is_full call site) HashFull) _
+      (λ site. by_test (MayGive command paths) (hash_is_full call site) HashFull full)
+
+  -- what else is checked, by the command
+  abbrev Rest : Command → List Parsed → Site → Site → Type 0
+  Rest command paths a b = OfAll (MayGive command paths) (own_checks_of call a b command)
+
+  name_check : (command : Command) (paths : List Parsed) (site : Site) → MayGive command paths Exists
+      → OfCheck (MayGive command paths) (name_is_new call site)
+  name_check command paths site is = by_option (MayGive command paths) (λ o. Some Exists) _ (λ o. is)
+
+  rest : (command : Command) (paths : List Parsed) (a b : Site) → IsOnNames command → Rest command paths a b
+  rest (Mkdir path) paths a b named = (name_check (Mkdir path) paths a ((1, omega arith, refl), tt), tt)
+  rest (Touch path) paths a b named = (name_check (Touch path) paths a ((1, omega arith, refl), tt), tt)
+  rest (Symlink target path) paths a b named = (name_check (Symlink target path) paths a ((1, omega arith, refl), tt), tt)
+  rest (Snapshot path) paths a b named = (name_check (Snapshot path) paths a ((1, omega arith, refl), tt), tt)
+  rest (Ln old new) paths a b named =
+      let P : Reply → Type 0 = MayGive (Ln old new) paths in (
+        by_test P (is_kind is_dir_or_link call a) IsDir ((1, omega arith, refl), tt),
+        (
+          by_test P (is_kind is_softlink call a) NotFile ((2, omega arith, refl), tt),
+          (
+            unless_test P ((first_site call).at.pfs == (second_site call).at.pfs) CrossPfs ((3, omega arith, refl), tt),
+            (
+              name_check (Ln old new) paths b ((5, omega arith, refl), tt),
+              (by_test P _ TooBig ((4, omega arith, refl), tt), tt),
+            ),
+          ),
+        ),
+      )
+  rest (Mv old new) paths a b named =
+      let P : Reply → Type 0 = MayGive (Mv old new) paths in (
+        unless_test P ((first_site call).at.pfs == (second_site call).at.pfs) CrossPfs ((1, omega arith, refl), tt),
+        (
+          by_test P (is_passed (first_site call) (second_site call)) IntoItself ((2, omega arith, refl), tt),
+          (
+            by_option P (λ number. if is_way_free call then None else Some Exists) _
+                (λ number. unless_test P (is_way_free call) Exists ((3, omega arith, refl), tt)),
+            tt,
+          ),
+        ),
+      )
+  rest (Rm path) paths a b named = (by_test (MayGive (Rm path) paths) (is_kind is_dir_or_link call a) IsDir ((1, omega arith, refl), tt), tt)
+  rest (Rmdir path) paths a b named =
+      let P : Reply → Type 0 = MayGive (Rmdir path) paths in
+      (unless_test P (is_kind is_dir call a) NotDir ((4, omega arith, refl), tt), (by_test P _ NotEmpty ((1, omega arith, refl), tt), tt))
+  rest (Ls path) paths a b named =
+      (unless_test (MayGive (Ls path) paths) (is_kind is_dir call a) NotDir (has_tail 102 3 (on_a_read paths) (in_read paths 3 dir_in_walk), tt), tt)
+  rest (Stat path) paths a b named = tt
+  rest (Readlink path) paths a b named = (unless_test (MayGive (Readlink path) paths) (is_kind is_link call a) NotLink ((1, omega arith, refl), tt), tt)
+  rest other paths a b named = absurd named
+
+  -- ---- all checks behind the early ones
+
+  walks_give : (command : Command) (paths : List Parsed) → IsOnNames command → (is_tree_call command ≡ true → list_any has_id paths ≡ false)
+      → OfAll (MayGive command paths) (map walks (each_located call (uses_of command) paths))
+  walks_give (Mkdir path) paths named no_id = tree_walks (Mkdir path) paths (no_id refl) ((5, omega arith, refl), tt) ((6, omega arith, refl), tt)
+  walks_give (Touch path) paths named no_id = tree_walks (Touch path) paths (no_id refl) ((5, omega arith, refl), tt) ((6, omega arith, refl), tt)
+  walks_give (Symlink target path) paths named no_id =
+      tree_walks (Symlink target path) paths (no_id refl) ((5, omega arith, refl), tt) ((6, omega arith, refl), tt)
+  walks_give (Snapshot path) paths named no_id = tree_walks (Snapshot path) paths (no_id refl) ((5, omega arith, refl), tt) ((6, omega arith, refl), tt)
+  walks_give (Ln old new) paths named no_id = tree_walks (Ln old new) paths (no_id refl) ((9, omega arith, refl), tt) ((10, omega arith, refl), tt)
+  walks_give (Mv old new) paths named no_id = tree_walks (Mv old new) paths (no_id refl) ((7, omega arith, refl), tt) ((8, omega arith, refl), tt)
+  walks_give (Rm path) paths named no_id = tree_walks (Rm path) paths (no_id refl) ((4, omega arith, refl), tt) ((5, omega arith, refl), tt)
+  walks_give (Rmdir path) paths named no_id = tree_walks (Rmdir path) paths (no_id refl) ((3, omega arith, refl), tt) ((4, omega arith, refl), tt)
+  walks_give (Ls path) paths named no_id =
+      read_walks (Ls path) paths (has_tail 102 2 (on_a_read paths) (in_read paths 2 lost_in_walk), tt)
+      (has_tail 102 3 (on_a_read paths) (in_read paths 3 dir_in_walk), tt) (λ has. (has_tail 102 8 (on_a_read paths) (kept_in_read paths has), tt))
+  walks_give (Stat path) paths named no_id =
+      read_walks (Stat path) paths (has_tail 104 2 (on_a_read paths) (in_read paths 2 lost_in_walk), tt)
+      (has_tail 104 3 (on_a_read paths) (in_read paths 3 dir_in_walk), tt) (λ has. (has_tail 104 8 (on_a_read paths) (kept_in_read paths has), tt))
+  walks_give (Readlink path) paths named no_id =
+      read_walks (Readlink path) paths (behind 2 (in_read paths 2 lost_in_walk), tt) (behind 3 (in_read paths 3 dir_in_walk), tt)
+      (λ has. (behind 8 (kept_in_read paths has), tt))
+    where
+      behind : (n : ℕ) → Contains (on_a_read paths) n → Contains (105 ∷ 31 ∷ on_a_read paths) n
+      behind n has = has_tail 105 n (31 ∷ on_a_read paths) (has_tail 31 n (on_a_read paths) has)
+  walks_give other paths named no_id = absurd named
+
+  slaves_give : (command : Command) (paths : List Parsed) (test : Bool) → IsOnNames command
+      → OfCheck (MayGive command paths) (refuse_if (is_tree_call command && test) ReadOnly)
+  slaves_give (Mkdir path) paths test named = by_test (MayGive (Mkdir path) paths) test ReadOnly ((4, omega arith, refl), tt)
+  slaves_give (Touch path) paths test named = by_test (MayGive (Touch path) paths) test ReadOnly ((4, omega arith, refl), tt)
+  slaves_give (Symlink target path) paths test named = by_test (MayGive (Symlink target path) paths) test ReadOnly ((4, omega arith, refl), tt)
+  slaves_give (Snapshot path) paths test named = by_test (MayGive (Snapshot path) paths) test ReadOnly ((4, omega arith, refl), tt)
+  slaves_give (Ln old new) paths test named = by_test (MayGive (Ln old new) paths) test ReadOnly ((8, omega arith, refl), tt)
+  slaves_give (Mv old new) paths test named = by_test (MayGive (Mv old new) paths) test ReadOnly ((6, omega arith, refl), tt)
+  slaves_give (Rm path) paths test named = by_test (MayGive (Rm path) paths) test ReadOnly ((3, omega arith, refl), tt)
+  slaves_give (Rmdir path) paths test named = by_test (MayGive (Rmdir path) paths) test ReadOnly ((2, omega arith, refl), tt)
+  slaves_give (Ls path) paths test named = tt
+  slaves_give (Stat path) paths test named = tt
+  slaves_give (Readlink path) paths test named = tt
+  slaves_give other paths test named = absurd named
+
+  -- where no name is made, no hash is looked at
+  abbrev full_by : Command → List Parsed → Check
+  full_by command paths =
+      option_map_or (λ site. refuse_if (hash_is_full call site) HashFull) (new_name (uses_of command) (each_located call (uses_of command) paths)) None
+
+  takes_none : (word : List ℕ) (paths : List Parsed)
+      → new_name ((TakesName, word) ∷ []) (each_located call ((TakesName, word) ∷ []) paths) ≡ None
+  takes_none word [] = refl
+  takes_none word (path ∷ paths) = refl
+
+  walks_none : (mode : Follow) (word : List ℕ) (paths : List Parsed)
+      → new_name ((Walks mode, word) ∷ []) (each_located call ((Walks mode, word) ∷ []) paths) ≡ None
+  walks_none mode word [] = refl
+  walks_none mode word (path ∷ paths) = refl
+
+  unmade : (command : Command) (paths : List Parsed) → new_name (uses_of command) (each_located call (uses_of command) paths) ≡ None
+      → OfCheck (MayGive command paths) (full_by command paths)
+  unmade command paths none = rw none tt
+
+  hash_gives : (command : Command) (paths : List Parsed) → IsOnNames command → OfCheck (MayGive command paths) (full_by command paths)
+  hash_gives (Mkdir path) paths named = full_check (Mkdir path) paths ((2, omega arith, refl), tt)
+  hash_gives (Touch path) paths named = full_check (Touch path) paths ((2, omega arith, refl), tt)
+  hash_gives (Symlink target path) paths named = full_check (Symlink target path) paths ((2, omega arith, refl), tt)
+  hash_gives (Snapshot path) paths named = full_check (Snapshot path) paths ((2, omega arith, refl), tt)
+  hash_gives (Ln old new) paths named = full_check (Ln old new) paths ((6, omega arith, refl), tt)
+  hash_gives (Mv old new) paths named = full_check (Mv old new) paths ((4, omega arith, refl), tt)
+  hash_gives (Rm path) paths named = unmade (Rm path) paths (takes_none path paths)
+  hash_gives (Rmdir path) paths named = unmade (Rmdir path) paths (takes_none path paths)
+  hash_gives (Ls path) paths named = unmade (Ls path) paths (walks_none Follows path paths)
+  hash_gives (Stat path) paths named = unmade (Stat path) paths (walks_none Stays path paths)
+  hash_gives (Readlink path) paths named = unmade (Readlink path) paths (walks_none Stays path paths)
+  hash_gives other paths named = absurd named
+
+  -- ---- want of space, and what is accepted
+
+  -- a command that asks for room
+  abbrev asks_room : Command → Bool
+  asks_room command = elim command [
+    | Rmdir path ↦ false
+    | Ls path ↦ false
+    | Stat path ↦ false
+    | Readlink path ↦ false
+    | other ↦ true
+  ]
+
+  space_gives : (command : Command) (paths : List Parsed) (free needed : ℕ) → IsOnNames command → asks_room command ≡ true
+      → MayGive command paths (NoSpace free needed)
+  space_gives (Mkdir path) paths free needed named asks = ((3, omega arith, refl), tt)
+  space_gives (Touch path) paths free needed named asks = ((3, omega arith, refl), tt)
+  space_gives (Symlink target path) paths free needed named asks = ((3, omega arith, refl), tt)
+  space_gives (Snapshot path) paths free needed named asks = ((3, omega arith, refl), tt)
+  space_gives (Ln old new) paths free needed named asks = ((7, omega arith, refl), tt)
+  space_gives (Mv old new) paths free needed named asks = ((5, omega arith, refl), tt)
+  space_gives (Rm path) paths free needed named asks = ((2, omega arith, refl), tt)
+  space_gives (Rmdir path) paths free needed named asks = absurd (cc)
+  space_gives (Ls path) paths free needed named asks = absurd (cc)
+  space_gives (Stat path) paths free needed named asks = absurd (cc)
+  space_gives (Readlink path) paths free needed named asks = absurd (cc)
+  space_gives other paths free needed named asks = absurd named
+
+  abbrev zones_by : Command → List ℕ
+  zones_by command = elim command as (λ c. List ℕ) [
+    | Mv old new ↦ if stays_put call then [] else names_zones
+    | Write path offset bytes ↦ bytes_zones
+    | Fill path offset count byte ↦ bytes_zones
+    | Truncate path size ↦ if has_other_size call size then bytes_zones else []
+    | Rm path ↦ if has_other_link call then names_zones else []
+    | Mkdir path ↦ names_zones
+    | Touch path ↦ names_zones
+    | Symlink target path ↦ names_zones
+    | Snapshot path ↦ names_zones
+    | Ln old new ↦ names_zones
+    | PfsMaster path shared ↦ names_zones
+    | PfsSlave path shared ↦ names_zones
+    | Prune path ↦ names_zones
+    | PruneAll path ↦ names_zones
+    | other ↦ []
+  ]
+
+  -- one that asks for none lacks none
+  room_asked : (command : Command) (room : ℕ → ℕ) (left : ℕ) → IsOnNames command → left < lacking (zones_by command) room
+      → asks_room command ≡ true
+  room_asked (Mkdir path) room left named less = refl
+  room_asked (Touch path) room left named less = refl
+  room_asked (Symlink target path) room left named less = refl
+  room_asked (Snapshot path) room left named less = refl
+  room_asked (Ln old new) room left named less = refl
+  room_asked (Mv old new) room left named less = refl
+  room_asked (Rm path) room left named less = refl
+  room_asked (Rmdir path) room left named less = absurd (omega (arith, less))
+  room_asked (Ls path) room left named less = absurd (omega (arith, less))
+  room_asked (Stat path) room left named less = absurd (omega (arith, less))
+  room_asked (Readlink path) room left named less = absurd (omega (arith, less))
+  room_asked other room left named less = absurd named
+
+  abbrev shown : FileTree
+  shown = call.view (first_site call).at.pfs (first_site call).at.when
+
+  abbrev at_by : Command → Object → Reply
+  at_by command object = elim command as (λ c. Reply) [
+    | Ls path ↦ Listing (listing shown object.number)
+    | Cat path offset count ↦ Bytes (read_at offset count (file_bytes object.content))
+    | Stat path ↦ Status (kind_number object.kind) object.number (size_of shown object) object.links
+    | Readlink path ↦ Text (target_of call.volume object.content)
+    | other ↦ Done
+  ]
+
+  abbrev there_by : Command → Reply
+  there_by command = option_map_or (at_by command) (site_object call (first_site call)) NotFound
+
+  abbrev answer_by : Command → Reply
+  answer_by command = elim command as (λ c. Reply) [
+    | PfsStatus path ↦ option_map_or record_of (site_system call (first_site call)) NotFound
+    | other ↦ there_by command
+  ]
+
+  abbrev accepted_by : Command → Reply
+  accepted_by command = elim command as (λ c. Reply) [
+    | Ls path ↦ answer_by command
+    | Cat path offset count ↦ answer_by command
+    | Stat path ↦ answer_by command
+    | Readlink path ↦ answer_by command
+    | PfsStatus path ↦ answer_by command
+    | PfsMaster path shared ↦ MadePfs (record { 0 = new_pfs call.volume })
+    | PfsSlave path shared ↦ MadePfs (record { 0 = new_pfs call.volume })
+    | other ↦ Done
+  ]
+
+  accepted_gives : (command : Command) (paths : List Parsed) → IsOnNames command → MayGive command paths (accepted_by command)
+  accepted_gives (Ls path) paths named =
+      of_option (MayGive (Ls path) paths) (at_by (Ls path)) (site_object call (first_site call)) NotFound (λ o. ((0, omega arith, refl), tt))
+      (has_tail 102 2 (on_a_read paths) (in_read paths 2 lost_in_walk), tt)
+  accepted_gives (Stat path) paths named =
+      of_option (MayGive (Stat path) paths) (at_by (Stat path)) (site_object call (first_site call)) NotFound (λ o. ((0, omega arith, refl), tt))
+      (has_tail 104 2 (on_a_read paths) (in_read paths 2 lost_in_walk), tt)
+  accepted_gives (Readlink path) paths named =
+      of_option (MayGive (Readlink path) paths) (at_by (Readlink path)) (site_object call (first_site call)) NotFound (λ o. ((0, omega arith, refl), tt))
+      (has_tail 105 2 (31 ∷ on_a_read paths) (has_tail 31 2 (on_a_read paths) (in_read paths 2 lost_in_walk)), tt)
+  accepted_gives (Mkdir path) paths named = ((0, omega arith, refl), tt)
+  accepted_gives (Touch path) paths named = ((0, omega arith, refl), tt)
+  accepted_gives (Symlink target path) paths named = ((0, omega arith, refl), tt)
+  accepted_gives (Snapshot path) paths named = ((0, omega arith, refl), tt)
+  accepted_gives (Ln old new) paths named = ((0, omega arith, refl), tt)
+  accepted_gives (Mv old new) paths named = ((0, omega arith, refl), tt)
+  accepted_gives (Rm path) paths named = ((0, omega arith, refl), tt)
+  accepted_gives (Rmdir path) paths named = ((0, omega arith, refl), tt)
+  accepted_gives other paths named = absurd named
+
+  -- no check of intervals is made
+  abbrev intervals_by : Command → Check
+  intervals_by command = elim command as (λ c. Check) [
+    | Prune path ↦ refuse_if (nat_lt MOST_INTERVALS (pruned_count call)) (TooManyIntervals (min (pruned_count call) (2 ^ 32 - 1)))
+    | other ↦ None
+  ]
+
+  intervals_give : (command : Command) (paths : List Parsed) → IsOnNames command → OfCheck (MayGive command paths) (intervals_by command)
+  intervals_give (Prune path) paths named = absurd named
+  intervals_give other paths named = tt
+
+  -- ---- the cause
+
+  abbrev early : List Check
+  early = early_checks call.volume.last call.busy call.command call.paths
+
+  abbrev on_walks : List Check
+  on_walks = map walks (all_located call)
+
+  abbrev own : List Check
+  own = slaves_stay call ∷ own_checks call
+
+  abbrev last : List Check
+  last = hash_left call ∷ intervals_left call ∷ []
+
+  module _ (named : IsOnNames call.command) (left : call.volume.last < GREATEST_ID) where
+    abbrev Gives : Reply → Type 0
+    Gives = MayGive call.command call.paths
+
+    ids_pass : ids_left call ≡ None
+    ids_pass =
+        let no : nat_le GREATEST_ID call.volume.last ≡ false = grind (arith, nat_tests, left) in
+        rw no refl
+
+    refusal_is : refusal call ≡ first_refusal (((early ++ on_walks) ++ own) ++ last)
+    refusal_is = rw ids_pass refl
+
+    -- an early check that fails is the refusal
+    early_refuses : (r : Reply) → first_refusal early ≡ Some r → refusal call ≡ Some r
+    early_refuses r is =
+        refusal_is ∙ first_front ((early ++ on_walks) ++ own) last r (first_front (early ++ on_walks) own r (first_front early on_walks r is))
+
+    not_refused : (test : Bool) (reply : Reply) → refuse_if test reply ≡ None → test ≡ false
+    not_refused true reply is = absurd (cc)
+    not_refused false reply is = refl
+
+    -- where none fails, no path of a call on a tree has an id
+    no_id : first_refusal early ≡ None → is_tree_call call.command ≡ true → list_any has_id call.paths ≡ false
+    no_id none tree =
+        let after_open = (no_rest (none_open call.busy call.command) _ none).1 in
+        let good : List Check = good_paths (uses_of call.command) call.paths in
+        let futures : List Check = map (no_future call.volume.last) call.paths in
+        let ends = (no_first (good ++ futures) (no_future_begin call.volume.last call.command ∷ past_stays call.command call.paths ∷ []) after_open).1 in
+        let past = (no_rest (past_stays call.command call.paths) []
+        (no_rest (no_future_begin call.volume.last call.command) (past_stays call.command call.paths ∷ []) ends).1).0 in
+        let failed = not_refused ((is_tree_call call.command || is_pfs_call call.command) && list_any has_id call.paths) ReadOnly past in
+        (λ t. (sym tree t || is_pfs_call call.command) && list_any has_id call.paths) ∙ failed
+
+    -- and a refusal is one that the call can give
+    later_give : first_refusal early ≡ None → (r : Reply) → refusal call ≡ Some r → Gives r
+    later_give none r is = by_last (first_split ((early ++ on_walks) ++ own) last r (sym refusal_is ∙ is)) where
+      of_first : (checks : List Check) → OfAll Gives checks → first_refusal checks ≡ Some r → Gives r
+      of_first checks all found = subst (OfCheck Gives) found (first_of_all Gives checks all)
+
+      by_own : (first_refusal (early ++ on_walks) ≡ Some r) ⊎ (first_refusal own ≡ Some r) → Gives r
+      by_own (inr found) =
+          of_first own (
+            slaves_give call.command call.paths (list_any (is_in_slave call) (all_located call)) named,
+            rest call.command call.paths (first_site call) (second_site call) named,
+          ) found
+      by_own (inl found) = elim (first_split early on_walks r found) [
+        | inl early_found ↦ absurd (let lost : None ≡ Some r = sym none ∙ early_found in cc)
+        | inr walk_found ↦ of_first on_walks (walks_give call.command call.paths named (no_id none)) walk_found
+      ]
+
+      by_last : (first_refusal ((early ++ on_walks) ++ own) ≡ Some r) ⊎ (first_refusal last ≡ Some r) → Gives r
+      by_last (inr found) =
+          of_first last (hash_gives call.command call.paths named, (intervals_give call.command call.paths named, tt)) found
+      by_last (inl found) = by_own (first_split (early ++ on_walks) own r found)
+
+    -- the early refusals are plain
+    goods_plain : (uses : List (Use × List ℕ)) (paths : List Parsed) → OfAll IsPlain (good_paths uses paths)
+    goods_plain [] paths = tt
+    goods_plain (u ∷ uses) [] = tt
+    goods_plain (u ∷ uses) (path ∷ paths) = (good_plain u.0 path, goods_plain uses paths) where
+      good_plain : (v : Use) (path : Parsed) → OfCheck IsPlain (good_path v path)
+      good_plain v (BadAt place) = tt
+      good_plain v (Parts parts) = unless_test IsPlain (has_its_name v parts) (BadPath 0) tt
+
+    futures_plain : (paths : List Parsed) → OfAll IsPlain (map (no_future call.volume.last) paths)
+    futures_plain [] = tt
+    futures_plain (path ∷ paths) = (by_test IsPlain _ (Future (record { 0 = call.volume.last })) tt, futures_plain paths)
+
+    begin_plain : (command : Command) → IsOnNames command → OfCheck IsPlain (no_future_begin call.volume.last command)
+    begin_plain (Mkdir path) of_names = tt
+    begin_plain (Touch path) of_names = tt
+    begin_plain (Symlink target path) of_names = tt
+    begin_plain (Snapshot path) of_names = tt
+    begin_plain (Ln old new) of_names = tt
+    begin_plain (Mv old new) of_names = tt
+    begin_plain (Rm path) of_names = tt
+    begin_plain (Rmdir path) of_names = tt
+    begin_plain (Ls path) of_names = tt
+    begin_plain (Stat path) of_names = tt
+    begin_plain (Readlink path) of_names = tt
+    begin_plain other of_names = absurd of_names
+
+    early_plain : OfAll IsPlain early
+    early_plain =
+        let good : List Check = good_paths (uses_of call.command) call.paths in
+        let futures : List Check = map (no_future call.volume.last) call.paths in (
+          open_plain (is_pass call.command),
+          all_both IsPlain (good ++ futures) (no_future_begin call.volume.last call.command ∷ past_stays call.command call.paths ∷ [])
+              (all_both IsPlain good futures (goods_plain (uses_of call.command) call.paths) (futures_plain call.paths))
+              (begin_plain call.command named, (by_test IsPlain _ ReadOnly tt, tt)),
+        )
+      where
+        open_plain : (test : Bool) → OfCheck IsPlain (if test then option_map_or (λ opening. Some (Busy (record { 0 = opening }))) call.busy None else None)
+        open_plain true = by_option IsPlain (λ opening. Some (Busy (record { 0 = opening }))) call.busy (λ opening. tt)
+        open_plain false = tt
+
+    module _ (room : ℕ → ℕ) (free : ℕ) (reply : Reply) (due : reply ≡ due_over call room free) where
+      pub possible_is : IsPossible (first_refusal early) (possible call.command call.paths) reply × IsPlain reply
+      possible_is = by (first_refusal early) refl where
+        in_way : first_refusal early ≡ None → Way call room free → Gives reply
+        in_way none (refused r is same) = subst Gives (sym (due ∙ same)) (later_give none r is)
+        in_way none (lacks unrefused less same) =
+            subst Gives (sym (due ∙ same))
+            (space_gives call.command call.paths free (lacking (zones_of call) room) named
+            (room_asked call.command room (free - held_of call.command) named less))
+        in_way none (serves unrefused same) = subst Gives (sym (due ∙ same)) (accepted_gives call.command call.paths named)
+
+        by_way : (r : Reply) → first_refusal early ≡ Some r → Way call room free → reply ≡ r
+        by_way r is (refused other found same) = due ∙ (same ∙ (let one : Some other ≡ Some r = sym found ∙ early_refuses r is in cc))
+        by_way r is (lacks none less same) = absurd (let lost : None ≡ Some r = sym none ∙ early_refuses r is in cc)
+        by_way r is (serves none same) = absurd (let lost : None ≡ Some r = sym none ∙ early_refuses r is in cc)
+
+        by : (found : Check) → first_refusal early ≡ found → IsPossible found (possible call.command call.paths) reply × IsPlain reply
+        by None none = in_way none (way call room free)
+        by (Some r) is =
+            let same : reply ≡ r = by_way r is (way call room free) in
+            (inl same, subst IsPlain (sym same) (subst (OfCheck IsPlain) is (first_of_all IsPlain early early_plain)))
