@@ -18,7 +18,7 @@ use Rattle.hm_model.specs.Walk.{Follow, Follows, Stays}
 use Rattle.hm_model.specs.declared.command.Command.{Command}
 use Rattle.hm_model.specs.declared.command.Command.TheVariants.{Cat, Fill, Prune, PruneAll, PfsMaster, PfsSlave, PfsStatus, Truncate, Write, Ln, Ls, Mkdir, Mv, Readlink, Rm, Rmdir, Snapshot, Stat, Symlink, Touch}
 use Rattle.hm_model.specs.declared.reply.Reply.{Reply}
-use Rattle.hm_model.specs.declared.reply.Reply.TheVariants.{BadPath, Busy, Cut, Damaged, Future, Media, StreamFault, Synced, Content as Bytes, Done, Listing, MadePfs, Status, Target as Text, TooManyIntervals, CrossPfs, Exists, HashFull, IntoItself, IsDir, NotEmpty, NotFile, NotLink, TooBig, NoSpace, NotDir, NotFound, NotRetained, ReadOnly}
+use Rattle.hm_model.specs.declared.reply.Reply.TheVariants.{BadPath, Busy, Cut, Damaged, Future, Media, Passed, StreamFault, Synced, Content as Bytes, Done, Listing, MadePfs, Status, Target as Text, TooManyIntervals, CrossPfs, Exists, HashFull, IntoItself, IsDir, NotEmpty, NotFile, NotLink, TooBig, NoSpace, NotDir, NotFound, NotRetained, ReadOnly}
 use Rattle.std.proofs.lemmas.Bool.Decides.{nat_tests}
 use Rattle.hm_model.proofs.CheckLemmas.{no_first, no_rest}
 use Rattle.hm_model.proofs.DueLemmas.{of_option, of_test}
@@ -27,7 +27,7 @@ use Rattle.hm_calls.specs.Due.{due_over, lacking}
 use Rattle.hm_calls.specs.Replies.{IsOnNames}
 use Rattle.hm_step.specs.Step.{IsFailure}
 use Rattle.hm_step.proofs.PossibleLemmas.{OfAll, OfCheck, all_both, all_fine, first_of_all, none_fine, walks_fine}
-use Rattle.hm_step.proofs.ReplyLemmas.{Way, lacks, refused, serves, way}
+use Rattle.hm_step.proofs.ReplyLemmas.{Way, first_front, lacks, refused, serves, way}
 
 -- one check after others
 first_split : (xs ys : List Check) (r : Reply) → first_refusal (xs ++ ys) ≡ Some r → (first_refusal xs ≡ Some r) ⊎ (first_refusal ys ≡ Some r)
@@ -35,16 +35,12 @@ first_split [] ys r is = inr is
 first_split (None ∷ xs) ys r is = first_split xs ys r is
 first_split (Some reply ∷ xs) ys r is = inl is
 
-first_front : (xs ys : List Check) (r : Reply) → first_refusal xs ≡ Some r → first_refusal (xs ++ ys) ≡ Some r
-first_front [] ys r is = absurd (cc)
-first_front (None ∷ xs) ys r is = first_front xs ys r is
-first_front (Some reply ∷ xs) ys r is = is
-
--- a reply tells no boundary, no count, no faults and no damage
+-- a reply tells no boundary, no ids, no count, no faults and no damage
 abbrev pub IsPlain : Reply → Type 0
 IsPlain (Synced boundary) = ⊥
 IsPlain (Media before after) = ⊥
 IsPlain (StreamFault before after) = ⊥
+IsPlain (Passed begin end) = ⊥
 IsPlain (Cut items) = ⊥
 IsPlain (Damaged at kind) = ⊥
 IsPlain other = Unit {0}

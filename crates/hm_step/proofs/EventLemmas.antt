@@ -1,91 +1,24 @@
 -- The state of a history after a call on names that was answered.
-use Rattle.std.proofs.Common.{◌≡◌, ℕ, Bool, true, false, max, refl, sym, ap, subst, ◌∙◌, arith}
+use Rattle.std.proofs.Common.{◌≡◌, ℕ, Bool, true, false, max, refl, ap, ◌∙◌, arith}
 use Rattle.std.specs.Prelude.{◌&&◌, Option, None, if◌then◌else◌}
 use Rattle.std.specs.Option.{option_map_or}
 use Rattle.hm_types.specs.Hash.{name_hash}
-use Rattle.hm_types.specs.Tree.{FileTree}
 use Rattle.hm_types.specs.declared.id.Id.{Id}
-use Rattle.hm_types.specs.declared.object.Object.{Object}
 use Rattle.hm_model.specs.After.{Event, State, accepted_effect, accepted_effect_of, after_event, call_of, effect, end_id, ended, last_after, no_hash, on_volume}
-use Rattle.hm_model.specs.Answer.{answer, answer_at, answer_there, file_bytes, kind_number, listing, record_of, size_of, target_of}
-use Rattle.hm_model.specs.Bytes.{read_at}
-use Rattle.hm_model.specs.Call.{Call, first_site, own_id, site_object, site_system}
+use Rattle.hm_model.specs.Call.{Call, own_id}
 use Rattle.hm_model.specs.Change.{change}
 use Rattle.hm_model.specs.Command.{named_opening}
-use Rattle.hm_model.specs.Due.{is_tree_call, new_pfs}
+use Rattle.hm_model.specs.Due.{is_tree_call}
 use Rattle.hm_model.specs.Reply.{is_refusal, passed_ids}
 use Rattle.hm_model.specs.declared.command.Command.{Command}
-use Rattle.hm_model.specs.declared.command.Command.TheVariants.{Cat, Ls, PfsMaster, PfsSlave, PfsStatus, Mkdir, Mv, Ln, Readlink, Rm, Rmdir, Snapshot, Stat, Symlink, Touch}
+use Rattle.hm_model.specs.declared.command.Command.TheVariants.{Ls, Mkdir, Mv, Ln, Readlink, Rm, Rmdir, Snapshot, Stat, Symlink, Touch}
 use Rattle.hm_model.specs.declared.reply.Reply.{Reply}
-use Rattle.hm_model.specs.declared.reply.Reply.TheVariants.{Content as Bytes, Done, Listing, MadePfs, NotFound, Passed, Status, Target as Text}
-use Rattle.hm_model.proofs.CheckLemmas.{refusal_refuses}
-use Rattle.hm_model.proofs.DueLemmas.{of_option}
 use Rattle.hm_step.specs.Step.{after_call}
-use Rattle.hm_calls.specs.Due.{due_over}
 use Rattle.hm_calls.specs.Replies.{IsOnNames, is_change}
-use Rattle.hm_step.proofs.ReplyLemmas.{lacks, refused, serves, way}
 
--- ---- no reply of a call on names tells an end id
-
+-- a reply tells no end id
 abbrev TellsNone : Reply → Type 0
 TellsNone reply = passed_ids reply ≡ None
-
-refusal_tells : (reply : Reply) → is_refusal reply ≡ true → TellsNone reply
-refusal_tells (Passed begin end) refuses = absurd (cc)
-refusal_tells reply refuses = refl
-
-module _ (call : Call) where
-  abbrev shown : FileTree
-  shown = call.view (first_site call).at.pfs (first_site call).at.when
-
-  there_tells : (command : Command) → IsOnNames command → (object : Object) → TellsNone (elim command as (λ c. Reply) [
-    | Ls path ↦ Listing (listing shown object.number)
-    | Cat path offset count ↦ Bytes (read_at offset count (file_bytes object.content))
-    | Stat path ↦ Status (kind_number object.kind) object.number (size_of shown object) object.links
-    | Readlink path ↦ Text (target_of call.volume object.content)
-    | other ↦ Done
-  ])
-  there_tells (Ls path) named object = refl
-  there_tells (Cat path offset count) named object = refl
-  there_tells (Stat path) named object = refl
-  there_tells (Readlink path) named object = refl
-  there_tells other named object = refl
-
-  looked_tells : IsOnNames call.command → TellsNone (answer_there call)
-  looked_tells named = of_option TellsNone (answer_at call shown) (site_object call (first_site call)) NotFound (there_tells call.command named) refl
-
-  answer_tells : IsOnNames call.command → (command : Command) → IsOnNames command → TellsNone (elim command as (λ c. Reply) [
-    | PfsStatus path ↦ option_map_or record_of (site_system call (first_site call)) NotFound
-    | other ↦ answer_there call
-  ])
-  answer_tells of_call (PfsStatus path) named = absurd named
-  answer_tells of_call other named = looked_tells of_call
-
-  accepted_tells : IsOnNames call.command → (command : Command) → IsOnNames command → TellsNone (elim command as (λ c. Reply) [
-    | Ls path ↦ answer call
-    | Cat path offset count ↦ answer call
-    | Stat path ↦ answer call
-    | Readlink path ↦ answer call
-    | PfsStatus path ↦ answer call
-    | PfsMaster path shared ↦ MadePfs (record { 0 = new_pfs call.volume })
-    | PfsSlave path shared ↦ MadePfs (record { 0 = new_pfs call.volume })
-    | other ↦ Done
-  ])
-  accepted_tells of_call (Ls path) named = answer_tells of_call call.command of_call
-  accepted_tells of_call (Cat path offset count) named = absurd named
-  accepted_tells of_call (Stat path) named = answer_tells of_call call.command of_call
-  accepted_tells of_call (Readlink path) named = answer_tells of_call call.command of_call
-  accepted_tells of_call (PfsStatus path) named = absurd named
-  accepted_tells of_call (PfsMaster path shared) named = absurd named
-  accepted_tells of_call (PfsSlave path shared) named = absurd named
-  accepted_tells of_call other named = refl
-
-  pub due_tells : (room : ℕ → ℕ) (free : ℕ) (reply : Reply) → IsOnNames call.command → reply ≡ due_over call room free → TellsNone reply
-  due_tells room free reply named due = elim (way call room free) [
-    | refused r is same ↦ subst TellsNone (sym (due ∙ same)) (refusal_tells r (refusal_refuses call r is))
-    | lacks none less same ↦ subst TellsNone (sym (due ∙ same)) refl
-    | serves none same ↦ subst TellsNone (sym (due ∙ same)) (accepted_tells named call.command named)
-  ]
 
 -- ---- the state afterwards
 

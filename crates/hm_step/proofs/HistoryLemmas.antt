@@ -10,6 +10,7 @@ use Rattle.hm_model.specs.Legal.{IsAllowed, IsEnding, IsException, IsReply, Land
 use Rattle.hm_model.specs.Due.{is_tree_call}
 use Rattle.hm_model.specs.Reply.{is_refusal, passed_ids}
 use Rattle.hm_model.specs.declared.reply.Reply.{Reply}
+use Rattle.hm_model.specs.declared.reply.Reply.TheVariants.{Passed}
 use Rattle.hm_model.specs.Volume.{Volume}
 use Rattle.hm_model.proofs.EventLemmas.{after_events-push}
 use Rattle.hm_model.proofs.LandLemmas.{lands_accepted}
@@ -18,11 +19,17 @@ use Rattle.hm_step.specs.Served.{IsServed}
 use Rattle.hm_image.specs.StandFor.{StandFor}
 use Rattle.hm_calls.specs.Replies.{is_change}
 use Rattle.hm_step.specs.Step.{AreHeld, IsFailure, IsNext, after_call}
-use Rattle.hm_step.proofs.EventLemmas.{due_tells, names_no_opening, state_after as after_is}
+use Rattle.hm_step.proofs.CausedLemmas.{IsPlain, possible_is}
+use Rattle.hm_step.proofs.EventLemmas.{names_no_opening, state_after as after_is}
 use Rattle.hm_step.proofs.NextLemmas.{stand_next}
 use Rattle.hm_step.proofs.ReplyLemmas.{reply_is_allowed}
 use Rattle.hm_step.proofs.SeenLemmas.{shows_as}
 use Rattle.hm_step.proofs.StepLemmas.{stand_after}
+
+-- a plain reply tells no end id
+plain_tells : (reply : Reply) → IsPlain reply → passed_ids reply ≡ None
+plain_tells (Passed begin end) is = absurd is
+plain_tells other is = refl
 
 module _ (run : Setting) (before : List Event) (event : Event) (room : ℕ → ℕ) (free : ℕ) (es es' : List FullElement)
     (next : IsNext run before event free es) (served : IsServed (call_after run before event) room free es es' event.entry.reply) where
@@ -37,7 +44,7 @@ module _ (run : Setting) (before : List Event) (event : Event) (room : ℕ → �
 
   pub stands : AreHeld es' → StandFor es' (state_after run (before ++ event ∷ [])).volume
   stands held =
-      let tells = due_tells call room free event.entry.reply next.named served.due in
+      let tells = plain_tells event.entry.reply (possible_is call next.named next.left room free event.entry.reply served.due).1 in
       let same : (state_after run (before ++ event ∷ [])).volume ≡ after_call (is_change call.command event.entry.reply) call =
       ap (λ (s : State). s.volume)
       (after_events-push (opening_state run.opening run.foreigners) before event ∙ after_is state event next.named tells next.own) in

@@ -19,11 +19,11 @@ use Rattle.hm_records.proofs.MemberLemmas.{has_head}
 use Rattle.hm_calls.specs.Due.{due_over, lacking, refusal_over, space_left}
 use Rattle.hm_calls.specs.Replies.{IsOnNames}
 
--- one check more
-refused_first : (xs : List Check) (space : Check) (r : Reply) → first_refusal xs ≡ Some r → first_refusal (xs ++ space ∷ []) ≡ Some r
-refused_first [] space r is = absurd (cc)
-refused_first (None ∷ xs) space r is = refused_first xs space r is
-refused_first (Some reply ∷ xs) space r is = is
+-- the first of some checks that fails is the first of more
+pub first_front : (xs ys : List Check) (r : Reply) → first_refusal xs ≡ Some r → first_refusal (xs ++ ys) ≡ Some r
+first_front [] ys r is = absurd (cc)
+first_front (None ∷ xs) ys r is = first_front xs ys r is
+first_front (Some reply ∷ xs) ys r is = is
 
 passed_first : (xs : List Check) (space : Check) → first_refusal xs ≡ None → first_refusal (xs ++ space ∷ []) ≡ first_refusal (space ∷ [])
 passed_first [] space none = refl
@@ -62,7 +62,7 @@ module _ (call : Call) (room : ℕ → ℕ) (free : ℕ) where
 
     by : (found : Check) → refusal call ≡ found → Way
     by (Some r) is =
-        let over : refusal_over call room free ≡ Some r = refused_first (checks call) (space_left call room free) r is in
+        let over : refusal_over call room free ≡ Some r = first_front (checks call) (space_left call room free ∷ []) r is in
         refused r is (ap (λ (o : Check). option_map_or (λ x. x) o (accepted call)) over)
     by None none = by_space (nat_lt (free - held) needs) refl none
 
