@@ -270,6 +270,7 @@ module _ (bigblocks : ℕ) (append : List ℕ) (zone len at : ℕ) (maps : Maps)
   pub take_takes : Takes bigblocks append zone len at maps now
   take_takes = record {
     place = place;
+    begin = begin ∙ ap (λ (e : Entry). start_of block + e.append_off) read ∙ ap (λ (b : ℕ). start_of b + (entry_of maps.current b).append_off) one;
     page = subst (λ (b : ℕ). OnlyPage (page_of b) maps.current now) one put.pages;
     stand = λ states stand unit. taken_stands states stand unit;
     dead = λ states stand. dead states stand;

@@ -1,13 +1,14 @@
 -- What the calls on extents do to the freemap, and to the states for which it stands.
 use Rattle.std.specs.Prelude.{◌≡◌, ◌≢◌, ◌⊎◌, ℕ, ◌+◌, ◌%◌, ◌<◌, ◌≤◌, Bool, ◌&&◌, nat_eq, if◌then◌else◌, List, [], ◌∷◌, Option, IsTrue, IsSomeAnd, All, count_by}
 use Rattle.std.specs.List.{list_any}
-use Rattle.hm_types.specs.Offset.{zone_of}
+use Rattle.hm_types.specs.Layout.{start_of}
+use Rattle.hm_types.specs.Offset.{zone_of, byte_of}
 use Rattle.hm_types.specs.References.{Reference, References, is_there, unit_of, begin_of, end_of}
 use Rattle.hm_types.specs.Space.{rounded, in_zone}
 use Rattle.hm_types.specs.declared.space.TheConstants.{MOST_REFERENCES}
 use Rattle.hm_fields.specs.Pages.{PageMap}
 use Rattle.hm_freemap.specs.Places.{page_of}
-use Rattle.hm_freemap.specs.Stand.{Maps, WhereTold, StandBy, append_of, all_of, home_of, room_in}
+use Rattle.hm_freemap.specs.Stand.{Maps, WhereTold, StandBy, append_of, all_of, entry_of, home_of, room_in}
 
 -- a reference to so many bytes at an offset
 abbrev pub reference : ℕ → ℕ → Reference
@@ -58,10 +59,11 @@ OnlyPage page old new = (at : ℕ) → at ≢ page → new at ≡ old at
 abbrev pub Moves : Option PageMap → Option PageMap → Option PageMap → Option PageMap → (Maps → PageMap → Type 0) → Type 0
 Moves committed frozen old new Relation = WhereTold committed frozen old (λ maps. IsSomeAnd new (λ now. Relation maps now))
 
--- An extent was taken in a zone: the current state may refer to it, no state refers to any of its bytes yet, and the
--- room of the zone fell by its length.
+-- An extent was taken in a zone: it begins where the append big-block of the zone was filled up to. The current state
+-- may refer to it, no state refers to any of its bytes yet, and the room of the zone fell by its length.
 pub record Takes (bigblocks : ℕ) (append : List ℕ) (zone len at : ℕ) (maps : Maps) (now : PageMap) : Type 0 where
   pub place : zone_of at ≡ zone
+  pub begin : byte_of at ≡ start_of (append_of append zone) + (entry_of maps.current (append_of append zone)).append_off
   pub page : OnlyPage (page_of (append_of append zone)) maps.current now
   pub stand : (states : References) → StandBy bigblocks append maps states → IsUnit zone len
       → StandBy bigblocks append (with_current now maps) (referred (reference at len) states)

@@ -79,7 +79,8 @@ fn block_at(at: HOff) -> u64
 
 impl<P: FreemapPages> Freemap<P> {
     /// Takes a new extent of `len` bytes, at least 1, in zone 8, 9, 10 or 11, which must have room
-    /// for it. Nothing in it is live in any of the three states. It reads and changes one page.
+    /// for it: the one behind the last that the zone took. Nothing in it is live in any of the three
+    /// states. It reads and changes one page.
     pub fn take_extent(&mut self, zone: u8, len: u32) -> Result<HOff, Fault>
         requires some { 1 ≤ len }
         requires room { rounded len ≤ room self.old.append (P.pages self.old.pages) zone }

@@ -1,14 +1,20 @@
 // What follows from the definitions alone: each function states one law, and does nothing.
-ghost use Rattle.std.specs.Prelude.{◌≡◌, ◌≤◌, ◌+◌, ℕ, List, length, slice_range, FitsSigned};
+ghost use Rattle.std.specs.Prelude.{◌≡◌, ◌≤◌, ◌<◌, ◌+◌, ℕ, List, IsTrue, length, slice_index, slice_range, FitsSigned};
 ghost use Rattle.std.specs.Int.{w32};
 ghost use Rattle.hm_types.specs.Layout.{IsPool};
-ghost use Rattle.hm_types.specs.References.{References, free_blocks};
+ghost use Rattle.hm_types.specs.References.{Reference, References, free_blocks, is_free, is_unused};
+ghost use Rattle.hm_types.specs.declared.zone.TheConstants.{TREE_ZONE};
+ghost use Rattle.hm_types.specs.declared.zones.Zones.{Zones};
 ghost use Rattle.hm_fields.specs.Fields.{AreBytes, get};
+ghost use Rattle.hm_fields.specs.Pages.{PageMap};
 ghost use Rattle.hm_freemap.specs.declared.entry.Entry.{Entry};
+ghost use Rattle.hm_freemap.specs.Admit.{IsAdmitted, does_lack};
 ghost use Rattle.hm_freemap.specs.Entry.{entry_in, HoldsEntry, IsEntry, SpellsEntry};
+ghost use Rattle.hm_freemap.specs.Extents.{IsReferred, Takes, reference, referred, unreferred};
 ghost use Rattle.hm_freemap.specs.Faults.{IsGoodBlock};
+ghost use Rattle.hm_freemap.specs.Free.{KeepsFree, MayFree};
 ghost use Rattle.hm_freemap.specs.Layer1.{layer1_bytes, HoldsLayer1, IsLayer1};
-ghost use Rattle.hm_freemap.specs.Stand.{Maps, StandBy, free_by};
+ghost use Rattle.hm_freemap.specs.Stand.{Maps, StandBy, free_by, home_of, room_in};
 
 /// Where the freemap stands for some states, each big-block of the pool is good, so that no call
 /// tells damage of one.
@@ -24,6 +30,37 @@ pub fn free_blocks_are_those_of_the_states()
     ensures { (bigblocks : ℕ) (append : List ℕ) (maps : Maps) (states : References) →
         StandBy bigblocks append maps states →
         free_by bigblocks append maps ≡ free_blocks bigblocks append states }
+{}
+
+/// Taking an extent leaves which big-blocks are free: it stands in the append big-block of its zone.
+pub fn taking_leaves_what_is_free()
+    ensures { (bigblocks : ℕ) (append : List ℕ) (maps : Maps) (states : References) →
+        StandBy bigblocks append maps states → (zone len at : ℕ) (now : PageMap) → 1 ≤ len →
+        Takes bigblocks append zone len at maps now →
+        KeepsFree bigblocks append states (referred (reference at len) states) }
+{}
+
+/// Sharing an extent that is live in the current state leaves which big-blocks are free.
+pub fn sharing_leaves_what_is_free()
+    ensures { (bigblocks : ℕ) (append : List ℕ) (r : Reference) (states : References) →
+        IsReferred r states → KeepsFree bigblocks append states (referred r states) }
+{}
+
+/// Giving an extent back leaves which big-blocks are free, or frees that of the extent, where then no
+/// zone appends to it and nothing in it is live in any state. So their number never falls.
+pub fn giving_frees_one_big_block_at_most()
+    ensures { (bigblocks : ℕ) (append : List ℕ) (r : Reference) (states : References) →
+        MayFree bigblocks append (home_of r) states (unreferred r states) }
+{}
+
+/// A big-block that a zone left for a new one as it was admitted is free, where nothing in it is live.
+pub fn a_replaced_big_block_is_free_where_nothing_in_it_is_live()
+    ensures { (bigblocks : ℕ) (zones : Zones) (held : ℕ) (append then : List ℕ) (maps : Maps) (now : PageMap)
+        (states : References) → StandBy bigblocks append maps states →
+        IsAdmitted bigblocks zones held append then maps now → (k : ℕ) → k < 4 →
+        IsTrue (does_lack zones (room_in append maps.current) (TREE_ZONE + k)) →
+        IsTrue (is_unused states (slice_index append k)) →
+        IsTrue (is_free then states (slice_index append k)) }
 {}
 
 /// Where the bytes of an entry in range stand in a page, its fields are read there, and the page
