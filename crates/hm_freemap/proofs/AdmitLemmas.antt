@@ -180,6 +180,7 @@ admitted_none bigblocks zones held append maps none = record {
     begun = λ k low lacks. absurd (true≢false (sym lacks ∙ has_room k low));
     whole = λ k low lacks. absurd (true≢false (sym lacks ∙ has_room k low));
     others = λ k low has. refl;
+    entries = λ block apart. refl;
     room = λ k low has. refl;
   };
 } where

@@ -107,6 +107,8 @@ module _ (bigblocks : ℕ) (zones : Zones) (held : ℕ) (append append' : List �
       begun = begun_lowest;
       whole = λ k low lacks. renewed.done k low low (lacks_here k low ∙ lacks);
       others = λ k low has. renewed.others k low (inr (lacks_here k low ∙ has));
+      entries = λ block apart. renewing.entries block
+          (λ j few early lacks same. apart j few (sym (lacks_here j few) ∙ lacks) (renewed.begun j few few lacks ∙ same));
       room = λ k low has. renewed.undone k low (inr (lacks_here k low ∙ has));
     }
 

@@ -1,10 +1,10 @@
 -- Which big-blocks are free after an extent is taken, shared or given back, and after zones began new ones.
-use Rattle.std.proofs.Common.{◌≡◌, ◌≢◌, Bool, true, false, true≢false, ℕ, zero, suc, ◌+◌, ◌-◌, ◌<◌, ◌≤◌, inl, inr, ◌⊎◌, ⊎_elim, List, [], ◌∷◌, length, slice_index, Some, refl, sym, ap, ◌∙◌, arith, cond, not, ◌&&◌, nat_eq, eq-eqb}
+use Rattle.std.proofs.Common.{◌≡◌, ◌≢◌, Bool, true, false, true≢false, ℕ, suc, ◌+◌, ◌-◌, ◌<◌, ◌≤◌, inl, inr, ◌⊎◌, ⊎_elim, List, [], ◌∷◌, length, slice_index, Some, refl, sym, ap, ◌∙◌, arith, cond, not, ◌&&◌, nat_eq, eq-eqb}
 use Rattle.std.specs.List.{list_any}
 use Rattle.std.proofs.lemmas.Bool.{cases_eq}
 use Rattle.hm_types.specs.Layout.{block_of, start_of, first_pool}
 use Rattle.hm_types.specs.Offset.{byte_of}
-use Rattle.hm_types.specs.References.{Reference, References, begin_of, is_in, is_append, is_unused, is_free, free_blocks, live_bytes}
+use Rattle.hm_types.specs.References.{Reference, References, is_in, is_append, is_unused, is_free, free_blocks, live_bytes}
 use Rattle.hm_types.specs.Space.{rounded, in_zone}
 use Rattle.hm_types.specs.declared.limits.TheConstants.{BIGBLOCK_BYTES}
 use Rattle.hm_types.specs.declared.zone.TheConstants.{TREE_ZONE, SMALL_ZONE}
@@ -12,12 +12,12 @@ use Rattle.hm_types.specs.declared.zones.Zones.{Zones}
 use Rattle.hm_fields.specs.Pages.{PageMap}
 use Rattle.hm_freemap.specs.Admit.{IsAdmitted, does_lack}
 use Rattle.hm_freemap.specs.Extents.{Takes, is_extent, reference, referred, unreferred, without_one}
-use Rattle.hm_freemap.specs.Stand.{Maps, StandBy, append_of, entry_of, home_of, is_handed_out, room_in}
+use Rattle.hm_freemap.specs.Stand.{Maps, StandBy, append_of, entry_of, home_of, room_in}
 use Rattle.hm_freemap.proofs.BoundLemmas.{placed_size}
 use Rattle.hm_freemap.proofs.CountLemmas.{bit, bit_one, count_less, count_same, is_one, one_most, pair_less}
-use Rattle.hm_freemap.proofs.ListLemmas.{and_left, and_right, live_without, one_extent}
+use Rattle.hm_freemap.proofs.ListLemmas.{live_without, one_extent}
 use Rattle.hm_freemap.proofs.PutLemmas.{other_test, same_test}
-use Rattle.hm_freemap.proofs.RenewLemmas.{free_block, free_is, has_at, not_free, zero_test}
+use Rattle.hm_freemap.proofs.RenewLemmas.{free_block, free_is, has_at, not_free}
 use Rattle.hm_freemap.proofs.TakeLemmas.{handed_out, zone_of_room}
 
 -- a big-block in which as much is live in another current state

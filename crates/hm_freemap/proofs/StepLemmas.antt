@@ -28,6 +28,7 @@ first_more lack k low = by_test (lacks_at lack k) refl where
 pub renewing_none : (lack : List Bool) (fresh append : List ℕ) (map : PageMap) → length append ≡ 4 → Renewing lack fresh 0 0 append append map map
 renewing_none lack fresh append map four = record {
   pages = λ at other. refl;
+  entries = λ block apart. refl;
   each = λ bigblocks c f states stand facts. record {
     stand = stand;
     no_more = omega arith;
@@ -56,6 +57,7 @@ module _ (lack : List Bool) (fresh : List ℕ) (k : ℕ) (append0 append' : List
       (cases_eq j k) in
       record {
         pages = renewing.pages;
+        entries = λ block apart. renewing.entries block (λ j few early lacks. apart j few (omega arith) lacks);
         each = λ bigblocks c f states stand facts.
             let r = renewing.each bigblocks c f states stand facts in
             record {
@@ -81,6 +83,9 @@ module _ (lack : List Bool) (fresh : List ℕ) (k : ℕ) (append0 append' : List
       let inside : next < count_of lack = omega (arith, one, first_few lack (k + 1)) in
       record {
         pages = λ at other. put.pages at (λ same. other (ap zone_of same ∙ page_zone block small)) ∙ renewing.pages at other;
+        entries = λ other apart.
+            let here : other ≢ block = λ same. apart k low (omega arith) lacks (sym same) in
+            put.others other here ∙ renewing.entries other (λ j few early needs. apart j few (omega (arith, early)) needs);
         each = λ bigblocks c f states stand facts.
             let r = renewing.each bigblocks c f states stand facts in
             let maps : Maps = record { committed = c; frozen = f; current = mid } in

@@ -14,7 +14,7 @@ use Rattle.hm_types.specs.declared.zones.Zones.{Zones}
 use Rattle.hm_fields.specs.Pages.{PageMap}
 use Rattle.hm_freemap.specs.Extents.{with_current}
 use Rattle.hm_freemap.specs.Faults.{IsFreemapDamage}
-use Rattle.hm_freemap.specs.Stand.{Maps, WhereTold, StandBy, room_in, free_by}
+use Rattle.hm_freemap.specs.Stand.{Maps, WhereTold, StandBy, entry_of, room_in, free_by}
 use Rattle.hm_freemap.specs.declared.entry.Entry.{Entry}
 
 -- a zone is named and has less room than its reserve
@@ -63,12 +63,15 @@ abbrev pub lacks_in : Zones → Space → ℕ → Bool
 lacks_in zones space k = does_lack zones (room_at space) (TREE_ZONE + k)
 
 -- Which big-blocks the four zones append to afterwards. In their order, each that lacked room began the lowest free
--- big-block that no zone before it began, and has all its bytes left. The others have theirs still, and its room.
+-- big-block that no zone before it began, and has all its bytes left. The others have theirs still, and its room. The
+-- entry of each big-block that none began stays.
 pub record BeginsLowest (bigblocks : ℕ) (zones : Zones) (states : References) (old new : Space) : Type 0 where
   pub begun : (k : ℕ) → k < 4 → IsTrue (lacks_in zones old k)
       → IsFreeAt bigblocks old.append states (lacking_before zones (room_at old) k) (slice_index new.append k)
   pub whole : (k : ℕ) → k < 4 → IsTrue (lacks_in zones old k) → room_at new (TREE_ZONE + k) ≡ BIGBLOCK_BYTES
   pub others : (k : ℕ) → k < 4 → lacks_in zones old k ≡ false → slice_index new.append k ≡ slice_index old.append k
+  pub entries : (block : ℕ) → ((k : ℕ) → k < 4 → IsTrue (lacks_in zones old k) → slice_index new.append k ≢ block)
+      → entry_of new.maps.current block ≡ entry_of old.maps.current block
   pub room : (k : ℕ) → k < 4 → lacks_in zones old k ≡ false → room_at new (TREE_ZONE + k) ≡ room_at old (TREE_ZONE + k)
 
 -- The zones have the room that they need: each that lacked it appends to a free big-block, in order the lowest. The

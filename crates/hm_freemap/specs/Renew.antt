@@ -6,7 +6,7 @@ use Rattle.hm_types.specs.declared.limits.TheConstants.{BIGBLOCK_BYTES}
 use Rattle.hm_types.specs.declared.zone.TheConstants.{TREE_ZONE, FREEMAP_ZONE}
 use Rattle.hm_fields.specs.Pages.{PageMap}
 use Rattle.hm_freemap.specs.Admit.{IsFreeAt, begun}
-use Rattle.hm_freemap.specs.Stand.{Maps, StandBy, EntryPut, room_in}
+use Rattle.hm_freemap.specs.Stand.{Maps, StandBy, EntryPut, entry_of, room_in}
 
 -- how many zones lack room
 abbrev pub count_of : List Bool → ℕ
@@ -43,6 +43,8 @@ pub record RenewedFor (bigblocks : ℕ) (lack : List Bool) (fresh : List ℕ) (k
 -- the first k zones have begun a new big-block each, where they lack room
 pub record Renewing (lack : List Bool) (fresh : List ℕ) (k next : ℕ) (append append' : List ℕ) (old now : PageMap) : Type 0 where
   pub pages : (at : ℕ) → zone_of at ≢ FREEMAP_ZONE → now at ≡ old at
+  pub entries : (block : ℕ) → ((j : ℕ) → j < 4 → j < k → lacks_at lack j ≡ true → slice_index fresh (count_first lack j) ≢ block)
+      → entry_of now block ≡ entry_of old block
   pub each : (bigblocks : ℕ) (c f : PageMap) (states : References)
       → StandBy bigblocks append (record { committed = c; frozen = f; current = old }) states
       → AreFresh bigblocks append states fresh (count_of lack)

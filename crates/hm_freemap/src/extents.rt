@@ -5,6 +5,7 @@ ghost use Rattle.hm_types.specs.Offset.{raw_of, byte_of, zone_of};
 ghost use Rattle.hm_types.specs.Space.{rounded};
 ghost use Rattle.hm_types.specs.declared.limits.TheConstants.{LEAST_BIGBLOCKS, MOST_BIGBLOCKS};
 ghost use Rattle.hm_types.specs.declared.zone.TheConstants.{TREE_ZONE, SMALL_ZONE};
+ghost use Rattle.hm_freemap.specs.Change.{given, shared};
 ghost use Rattle.hm_freemap.specs.Entry.{entry_in};
 ghost use Rattle.hm_freemap.specs.Extents.{
   Moves,
@@ -113,7 +114,8 @@ impl<P: FreemapPages> Freemap<P> {
         ensures ok { OnOk result (Moves (P.committed self.old.pages) (P.frozen self.old.pages)
             (P.pages self.old.pages) (P.pages self.new.pages)
             (Changes self.old.bigblocks self.old.append (reference at len)
-            (IsReferred (reference at len)) (unreferred (reference at len)))) }
+            (IsReferred (reference at len)) (unreferred (reference at len))
+            (given (rounded len)))) }
         ensures same { (P.rest self.new.pages ≡ P.rest self.old.pages)
             × (self.new.append ≡ self.old.append) × (self.new.bigblocks ≡ self.old.bigblocks) }
         ensures name { P.name self.new.pages ≡ P.name self.old.pages }
@@ -136,7 +138,8 @@ impl<P: FreemapPages> Freemap<P> {
         ensures ok { OnOk result (Moves (P.committed self.old.pages) (P.frozen self.old.pages)
             (P.pages self.old.pages) (P.pages self.new.pages)
             (Changes self.old.bigblocks self.old.append (reference at len)
-            (IsShareable (reference at len)) (referred (reference at len)))) }
+            (IsShareable (reference at len)) (referred (reference at len))
+            (shared (rounded len)))) }
         ensures same { (P.rest self.new.pages ≡ P.rest self.old.pages)
             × (self.new.append ≡ self.old.append) × (self.new.bigblocks ≡ self.old.bigblocks) }
         ensures name { P.name self.new.pages ≡ P.name self.old.pages }
