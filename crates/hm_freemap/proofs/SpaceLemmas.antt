@@ -1,7 +1,8 @@
 -- Which big-blocks are free after an extent is taken, shared or given back, and after zones began new ones.
-use Rattle.std.proofs.Common.{◌≡◌, ◌≢◌, Bool, true, false, true≢false, ℕ, suc, ◌+◌, ◌-◌, ◌<◌, ◌≤◌, inl, inr, ◌⊎◌, ⊎_elim, List, [], ◌∷◌, length, slice_index, Some, refl, sym, ap, ◌∙◌, arith, cond, not, ◌&&◌, nat_eq, eq-eqb}
-use Rattle.std.specs.List.{list_any}
-use Rattle.std.proofs.lemmas.Bool.{cases_eq}
+use Rattle.std.proofs.Common.{◌≡◌, ◌≢◌, Bool, true, false, true≢false, ℕ, suc, ◌+◌, ◌-◌, ◌<◌, ◌≤◌, inl, inr, ◌⊎◌, ⊎_elim, List, [], ◌∷◌, ◌++◌, length, slice_index, Some, refl, sym, ap, ◌∙◌, arith, cond, not, ◌&&◌, nat_eq, eq-eqb}
+use Rattle.std.specs.Prelude.{count_by}
+use Rattle.std.specs.List.{list_any, range_with_len}
+use Rattle.std.proofs.lemmas.Bool.{cases_eq, cases_lt}
 use Rattle.hm_types.specs.Layout.{block_of, start_of, first_pool}
 use Rattle.hm_types.specs.Offset.{byte_of}
 use Rattle.hm_types.specs.References.{Reference, References, is_in, is_append, is_unused, is_free, free_blocks, live_bytes}
@@ -10,14 +11,15 @@ use Rattle.hm_types.specs.declared.limits.TheConstants.{BIGBLOCK_BYTES}
 use Rattle.hm_types.specs.declared.zone.TheConstants.{TREE_ZONE, SMALL_ZONE}
 use Rattle.hm_types.specs.declared.zones.Zones.{Zones}
 use Rattle.hm_fields.specs.Pages.{PageMap}
-use Rattle.hm_freemap.specs.Admit.{IsAdmitted, does_lack}
+use Rattle.hm_freemap.specs.Admit.{IsAdmitted, IsFreeAt, does_lack, free_before}
 use Rattle.hm_freemap.specs.Extents.{Takes, is_extent, reference, referred, unreferred, without_one}
 use Rattle.hm_freemap.specs.Stand.{Maps, StandBy, append_of, entry_of, home_of, room_in}
 use Rattle.hm_freemap.proofs.BoundLemmas.{placed_size}
-use Rattle.hm_freemap.proofs.CountLemmas.{bit, bit_one, count_less, count_same, is_one, one_most, pair_less}
+use Rattle.hm_freemap.proofs.CountLemmas.{bit, bit_one, count-append, count_less, count_same, is_one, one_most, pair_less}
 use Rattle.hm_freemap.proofs.ListLemmas.{live_without, one_extent}
 use Rattle.hm_freemap.proofs.PutLemmas.{other_test, same_test}
 use Rattle.hm_freemap.proofs.RenewLemmas.{free_block, free_is, has_at, not_free}
+use Rattle.hm_freemap.proofs.ScanLemmas.{range-one, range-split}
 use Rattle.hm_freemap.proofs.TakeLemmas.{handed_out, zone_of_room}
 
 -- a big-block in which as much is live in another current state
@@ -152,6 +154,34 @@ module _ (bigblocks : ℕ) (append : List ℕ) (maps : Maps) (states : Reference
 
   pub taken_blocks : free_blocks bigblocks append (referred (reference at len) states) ≡ free_blocks bigblocks append states
   taken_blocks = all_as bigblocks append states (referred (reference at len) states) taken_free
+
+-- a free big-block is counted before each higher one
+counted_before : (bigblocks : ℕ) (append : List ℕ) (states : References) (low high : ℕ) → first_pool bigblocks ≤ low → low < high
+    → is_free append states low ≡ true → free_before bigblocks append states low < free_before bigblocks append states high
+counted_before bigblocks append states low high least below is =
+    let first = first_pool bigblocks in
+    let free = is_free append states in
+    let front = range_with_len first (low - first) in
+    let rest = range_with_len (low + 1) (high - (low + 1)) in
+    let parts : range_with_len first (high - first) ≡ (front ++ low ∷ []) ++ rest =
+    range-split first (low + 1) high (omega arith) (omega arith) ∙ ap (λ (l : List ℕ). l ++ rest) (range-one first low least) in
+    let one : count_by free (low ∷ []) ≡ 1 = rw is refl in
+    omega (arith, ap (count_by free) parts, count-append free (front ++ low ∷ []) rest, count-append free front (low ∷ []), one)
+
+-- so many free ones come before one alone
+pub same_rank : (bigblocks : ℕ) (append : List ℕ) (states : References) (rank one other : ℕ) → IsFreeAt bigblocks append states rank one
+    → IsFreeAt bigblocks append states rank other → one ≡ other
+same_rank bigblocks append states rank one other here there = ⊎_elim
+    (λ (same : one ≡ other). same)
+    (λ apart. ⊎_elim
+    (λ (below : one < other).
+    let less = counted_before bigblocks append states one other here.pool.0 below here.free in
+    absurd (omega (arith, less, here.lower, there.lower)))
+    (λ above.
+    let less = counted_before bigblocks append states other one there.pool.0 (omega (arith, above, apart)) there.free in
+    absurd (omega (arith, less, here.lower, there.lower)))
+    (cases_lt one other))
+    (cases_eq one other)
 
 -- none of them is one of the four
 absent : (xs : List ℕ) (block : ℕ) → ((j : ℕ) → j < length xs → slice_index xs j ≢ block) → is_append xs block ≡ false

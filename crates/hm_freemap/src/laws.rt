@@ -8,7 +8,7 @@ ghost use Rattle.hm_types.specs.declared.zones.Zones.{Zones};
 ghost use Rattle.hm_fields.specs.Fields.{AreBytes, get};
 ghost use Rattle.hm_fields.specs.Pages.{PageMap};
 ghost use Rattle.hm_freemap.specs.declared.entry.Entry.{Entry};
-ghost use Rattle.hm_freemap.specs.Admit.{IsAdmitted, does_lack};
+ghost use Rattle.hm_freemap.specs.Admit.{IsAdmitted, IsFreeAt, does_lack};
 ghost use Rattle.hm_freemap.specs.Entry.{entry_in, HoldsEntry, IsEntry, SpellsEntry};
 ghost use Rattle.hm_freemap.specs.Extents.{IsReferred, Takes, reference, referred, unreferred};
 ghost use Rattle.hm_freemap.specs.Faults.{IsGoodBlock};
@@ -30,6 +30,14 @@ pub fn free_blocks_are_those_of_the_states()
     ensures { (bigblocks : ℕ) (append : List ℕ) (maps : Maps) (states : References) →
         StandBy bigblocks append maps states →
         free_by bigblocks append maps ≡ free_blocks bigblocks append states }
+{}
+
+/// One free big-block alone has so many free ones before it. So the big-blocks that zones begin as
+/// they are admitted are determined.
+pub fn one_free_big_block_has_so_many_before_it()
+    ensures { (bigblocks : ℕ) (append : List ℕ) (states : References) (rank one other : ℕ) →
+        IsFreeAt bigblocks append states rank one → IsFreeAt bigblocks append states rank other →
+        one ≡ other }
 {}
 
 /// Taking an extent leaves which big-blocks are free: it stands in the append big-block of its zone.
