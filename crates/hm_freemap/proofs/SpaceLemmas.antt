@@ -6,16 +6,18 @@ use Rattle.std.proofs.lemmas.Bool.{cases_eq, cases_lt}
 use Rattle.hm_types.specs.Layout.{block_of, start_of, first_pool}
 use Rattle.hm_types.specs.Offset.{byte_of}
 use Rattle.hm_types.specs.References.{Reference, References, is_in, is_append, is_unused, is_free, free_blocks, live_bytes}
-use Rattle.hm_types.specs.Space.{rounded, in_zone}
+use Rattle.hm_types.specs.Space.{Spends, nothing, rounded, in_zone}
 use Rattle.hm_types.specs.declared.limits.TheConstants.{BIGBLOCK_BYTES}
 use Rattle.hm_types.specs.declared.zone.TheConstants.{TREE_ZONE, SMALL_ZONE}
 use Rattle.hm_types.specs.declared.zones.Zones.{Zones}
 use Rattle.hm_fields.specs.Pages.{PageMap}
-use Rattle.hm_freemap.specs.Admit.{IsAdmitted, IsFreeAt, does_lack, free_before}
-use Rattle.hm_freemap.specs.Extents.{Takes, is_extent, reference, referred, unreferred, without_one}
+use Rattle.hm_freemap.specs.Admit.{IsAdmitted, IsFreeAt, does_lack, free_at, free_before, room_at, space_of}
+use Rattle.hm_freemap.specs.Extents.{Changes, IsReferred, IsShareable, IsUnit, Takes, with_current, is_extent, reference, referred, unreferred, without_one}
 use Rattle.hm_freemap.specs.Stand.{Maps, StandBy, append_of, entry_of, home_of, room_in}
+use Rattle.hm_freemap.specs.declared.entry.Entry.{Entry}
 use Rattle.hm_freemap.proofs.BoundLemmas.{placed_size}
 use Rattle.hm_freemap.proofs.CountLemmas.{bit, bit_one, count-append, count_less, count_same, is_one, one_most, pair_less}
+use Rattle.hm_freemap.proofs.FreeLemmas.{free_same}
 use Rattle.hm_freemap.proofs.ListLemmas.{live_without, one_extent}
 use Rattle.hm_freemap.proofs.PutLemmas.{other_test, same_test}
 use Rattle.hm_freemap.proofs.RenewLemmas.{free_block, free_is, has_at, not_free}
@@ -154,6 +156,39 @@ module _ (bigblocks : ℕ) (append : List ℕ) (maps : Maps) (states : Reference
 
   pub taken_blocks : free_blocks bigblocks append (referred (reference at len) states) ≡ free_blocks bigblocks append states
   taken_blocks = all_as bigblocks append states (referred (reference at len) states) taken_free
+
+-- the room of zones and the number of free big-blocks, by the maps, after a call on extents
+spent : (bigblocks : ℕ) (append : List ℕ) (maps : Maps) (now : PageMap) (old new : References) (most : ℕ → ℕ) → StandBy bigblocks append maps old
+    → StandBy bigblocks append (with_current now maps) new → free_blocks bigblocks append old ≤ free_blocks bigblocks append new
+    → ((zone : ℕ) → room_in append maps.current zone ≤ room_in append now zone + most zone)
+    → Spends room_at (free_at bigblocks) most (space_of append maps) (space_of append (with_current now maps))
+spent bigblocks append maps now old new most before after more room = record {
+  room = room;
+  free = omega (arith, free_same bigblocks append maps old before, free_same bigblocks append (with_current now maps) new after, more);
+}
+
+pub taken_spends : (bigblocks : ℕ) (append : List ℕ) (maps : Maps) (states : References) → StandBy bigblocks append maps states
+    → (zone len at : ℕ) (now : PageMap) → 1 ≤ len → IsUnit zone len → Takes bigblocks append zone len at maps now
+    → Spends room_at (free_at bigblocks) (in_zone zone (rounded len)) (space_of append maps) (space_of append (with_current now maps))
+taken_spends bigblocks append maps states stand zone len at now some unit takes =
+    let same = taken_blocks bigblocks append maps states stand zone len at now some takes in
+    spent bigblocks append maps now states (referred (reference at len) states) (in_zone zone (rounded len)) stand (takes.stand states stand unit)
+    (omega (arith, same)) (λ other. omega (arith, takes.room states stand other))
+
+pub shared_spends : (bigblocks : ℕ) (append : List ℕ) (maps : Maps) (states : References) → StandBy bigblocks append maps states
+    → (r : Reference) (next : Entry → Entry) (now : PageMap) → IsShareable r states → Changes bigblocks append r (IsShareable r) (referred r) next maps now
+    → Spends room_at (free_at bigblocks) nothing (space_of append maps) (space_of append (with_current now maps))
+shared_spends bigblocks append maps states stand r next now needs changes =
+    let same = shared_blocks bigblocks append r states needs.live in
+    spent bigblocks append maps now states (referred r states) nothing stand (changes.stand states stand needs)
+    (omega (arith, same)) (λ zone. omega (arith, changes.room zone))
+
+pub given_spends : (bigblocks : ℕ) (append : List ℕ) (maps : Maps) (states : References) → StandBy bigblocks append maps states
+    → (r : Reference) (next : Entry → Entry) (now : PageMap) → IsReferred r states → Changes bigblocks append r (IsReferred r) (unreferred r) next maps now
+    → Spends room_at (free_at bigblocks) nothing (space_of append maps) (space_of append (with_current now maps))
+given_spends bigblocks append maps states stand r next now needs changes =
+    spent bigblocks append maps now states (unreferred r states) nothing stand (changes.stand states stand needs)
+    (given_more bigblocks append r states) (λ zone. omega (arith, changes.room zone))
 
 -- a free big-block is counted before each higher one
 counted_before : (bigblocks : ℕ) (append : List ℕ) (states : References) (low high : ℕ) → first_pool bigblocks ≤ low → low < high

@@ -3,14 +3,16 @@ ghost use Rattle.std.specs.Prelude.{◌≡◌, ◌≤◌, ◌<◌, ◌+◌, ℕ,
 ghost use Rattle.std.specs.Int.{w32};
 ghost use Rattle.hm_types.specs.Layout.{IsPool};
 ghost use Rattle.hm_types.specs.References.{Reference, References, free_blocks, is_free, is_unused};
+ghost use Rattle.hm_types.specs.Space.{Spends, in_zone, nothing, rounded};
 ghost use Rattle.hm_types.specs.declared.zone.TheConstants.{TREE_ZONE};
 ghost use Rattle.hm_types.specs.declared.zones.Zones.{Zones};
 ghost use Rattle.hm_fields.specs.Fields.{AreBytes, get};
 ghost use Rattle.hm_fields.specs.Pages.{PageMap};
 ghost use Rattle.hm_freemap.specs.declared.entry.Entry.{Entry};
-ghost use Rattle.hm_freemap.specs.Admit.{IsAdmitted, IsFreeAt, does_lack};
+ghost use Rattle.hm_freemap.specs.Admit.{IsAdmitted, IsFreeAt, does_lack, free_at, room_at, space_of};
 ghost use Rattle.hm_freemap.specs.Entry.{entry_in, HoldsEntry, IsEntry, SpellsEntry};
-ghost use Rattle.hm_freemap.specs.Extents.{IsReferred, Takes, reference, referred, unreferred};
+ghost use Rattle.hm_freemap.specs.Extents.{Changes, IsReferred, IsShareable, IsUnit, Takes};
+ghost use Rattle.hm_freemap.specs.Extents.{reference, referred, unreferred, with_current};
 ghost use Rattle.hm_freemap.specs.Faults.{IsGoodBlock};
 ghost use Rattle.hm_freemap.specs.Free.{KeepsFree, MayFree};
 ghost use Rattle.hm_freemap.specs.Layer1.{layer1_bytes, HoldsLayer1, IsLayer1};
@@ -41,24 +43,44 @@ pub fn one_free_big_block_has_so_many_before_it()
 {}
 
 /// Taking an extent leaves which big-blocks are free: it stands in the append big-block of its zone.
+/// It spends room of its zone alone.
 pub fn taking_leaves_what_is_free()
-    ensures { (bigblocks : ℕ) (append : List ℕ) (maps : Maps) (states : References) →
+    ensures free { (bigblocks : ℕ) (append : List ℕ) (maps : Maps) (states : References) →
         StandBy bigblocks append maps states → (zone len at : ℕ) (now : PageMap) → 1 ≤ len →
         Takes bigblocks append zone len at maps now →
         KeepsFree bigblocks append states (referred (reference at len) states) }
+    ensures spends { (bigblocks : ℕ) (append : List ℕ) (maps : Maps) (states : References) →
+        StandBy bigblocks append maps states → (zone len at : ℕ) (now : PageMap) → 1 ≤ len →
+        IsUnit zone len → Takes bigblocks append zone len at maps now →
+        Spends room_at (free_at bigblocks) (in_zone zone (rounded len))
+        (space_of append maps) (space_of append (with_current now maps)) }
 {}
 
-/// Sharing an extent that is live in the current state leaves which big-blocks are free.
+/// Sharing an extent that is live in the current state leaves which big-blocks are free, and spends
+/// nothing.
 pub fn sharing_leaves_what_is_free()
-    ensures { (bigblocks : ℕ) (append : List ℕ) (r : Reference) (states : References) →
+    ensures free { (bigblocks : ℕ) (append : List ℕ) (r : Reference) (states : References) →
         IsReferred r states → KeepsFree bigblocks append states (referred r states) }
+    ensures spends { (bigblocks : ℕ) (append : List ℕ) (maps : Maps) (states : References) →
+        StandBy bigblocks append maps states → (r : Reference) (next : Entry → Entry) (now : PageMap) →
+        IsShareable r states →
+        Changes bigblocks append r (IsShareable r) (referred r) next maps now →
+        Spends room_at (free_at bigblocks) nothing
+        (space_of append maps) (space_of append (with_current now maps)) }
 {}
 
 /// Giving an extent back leaves which big-blocks are free, or frees that of the extent, where then no
-/// zone appends to it and nothing in it is live in any state. So their number never falls.
+/// zone appends to it and nothing in it is live in any state. So their number never falls, and nothing
+/// is spent.
 pub fn giving_frees_one_big_block_at_most()
-    ensures { (bigblocks : ℕ) (append : List ℕ) (r : Reference) (states : References) →
+    ensures free { (bigblocks : ℕ) (append : List ℕ) (r : Reference) (states : References) →
         MayFree bigblocks append (home_of r) states (unreferred r states) }
+    ensures spends { (bigblocks : ℕ) (append : List ℕ) (maps : Maps) (states : References) →
+        StandBy bigblocks append maps states → (r : Reference) (next : Entry → Entry) (now : PageMap) →
+        IsReferred r states →
+        Changes bigblocks append r (IsReferred r) (unreferred r) next maps now →
+        Spends room_at (free_at bigblocks) nothing
+        (space_of append maps) (space_of append (with_current now maps)) }
 {}
 
 /// A big-block that a zone left for a new one as it was admitted is free, where nothing in it is live.
