@@ -5,17 +5,17 @@ use Rattle.std.specs.List.{range_with_len}
 use Rattle.std.proofs.lemmas.Bool.{cases_eq}
 use Rattle.std.proofs.lemmas.Bool.Decides.{nat_tests}
 use Rattle.std.proofs.lemmas.List.Sums.{length-filter}
-use Rattle.hm_types.specs.Layout.{first_pool}
-use Rattle.hm_types.specs.References.{References, pool}
+use Rattle.hm_types.specs.Layout.{IsPool, first_pool}
+use Rattle.hm_types.specs.References.{References, is_free, pool}
 use Rattle.hm_types.specs.Space.{names_zone, reserve_of, needed}
 use Rattle.hm_types.specs.declared.zone.TheConstants.{TREE_ZONE, SMALL_ZONE}
 use Rattle.hm_types.specs.declared.zones.Zones.{Zones}
-use Rattle.hm_freemap.specs.Admit.{IsAdmitted, does_lack, lacking}
-use Rattle.hm_freemap.specs.Renew.{AreFresh, count_of, lacks_at}
+use Rattle.hm_freemap.specs.Admit.{IsAdmitted, does_lack, lacking, lacking_before}
+use Rattle.hm_freemap.specs.Renew.{AreFresh, count_first, count_of, lacks_at}
 use Rattle.hm_freemap.specs.Scan.{Finds}
 use Rattle.hm_freemap.specs.Stand.{Maps, StandBy, is_free_by, room_in}
 use Rattle.hm_freemap.specs.declared.scan.Found.{Found}
-use Rattle.hm_freemap.proofs.CountLemmas.{bit, count-cons}
+use Rattle.hm_freemap.proofs.CountLemmas.{bit, count-cons, count-range, count_same}
 use Rattle.hm_freemap.proofs.FreeLemmas.{free_is_unused}
 use Rattle.hm_freemap.proofs.PutLemmas.{other_test, fails}
 use Rattle.hm_freemap.proofs.StepLemmas.{first_few, first_more}
@@ -42,42 +42,67 @@ passes_at p a (suc n) i low = by_test (p a) refl i low (λ j more. passes_at p (
   by_test true is (suc i) low others = wider (slice_index (filter p (range_with_len (a + 1) n)) i) (others i (omega arith))
   by_test false is i low others = wider (slice_index (filter p (range_with_len (a + 1) n)) i) (others i low)
 
-rises_at : (p : ℕ → Bool) (a n i j : ℕ) → i < j → j < length (filter p (range_with_len a n))
-    → slice_index (filter p (range_with_len a n)) i < slice_index (filter p (range_with_len a n)) j
-rises_at p a zero i j order low = absurd (omega arith)
-rises_at p a (suc n) i j order low = by_test (p a) i j order low (λ k l more last. rises_at p (a + 1) n k l more last) (λ k last. passes_at p (a + 1) n k last) where
-  by_test : (b : Bool) → (i j : ℕ) → i < j → j < length (cond b (a ∷ filter p (range_with_len (a + 1) n)) (filter p (range_with_len (a + 1) n)))
-      → ((k l : ℕ) → k < l → l < length (filter p (range_with_len (a + 1) n)) → slice_index (filter p (range_with_len (a + 1) n)) k < slice_index (filter p (range_with_len (a + 1) n)) l)
-      → ((k : ℕ) → k < length (filter p (range_with_len (a + 1) n)) → Passes p (a + 1) n (slice_index (filter p (range_with_len (a + 1) n)) k))
-      → slice_index (cond b (a ∷ filter p (range_with_len (a + 1) n)) (filter p (range_with_len (a + 1) n))) i < slice_index (cond b (a ∷ filter p (range_with_len (a + 1) n)) (filter p (range_with_len (a + 1) n))) j
-  by_test true zero zero order low rises passes = absurd (omega arith)
-  by_test true zero (suc j) order low rises passes = let at = (passes j (omega arith)).low in omega (arith, at)
-  by_test true (suc i) zero order low rises passes = absurd (omega arith)
-  by_test true (suc i) (suc j) order low rises passes = rises i j (omega arith) (omega arith)
-  by_test false i j order low rises passes = rises i j order low
+-- a number that is left out of the front of a range
+rank_step : (p : ℕ → Bool) (a x : ℕ) → a + 1 ≤ x → count_by p (range_with_len a (x - a)) ≡ bit (p a) + count_by p (range_with_len (a + 1) (x - (a + 1)))
+rank_step p a x low =
+    let more : x - a ≡ suc (x - (a + 1)) = omega arith in
+    ap (λ (n : ℕ). count_by p (range_with_len a n)) more ∙ count-range p a (x - (a + 1))
 
--- the big-blocks that a look found are free, and no two of them are one
+-- as many of a range pass a test before its i-th that does as i
+rank_at : (p : ℕ → Bool) (a n i : ℕ) → i < length (filter p (range_with_len a n))
+    → count_by p (range_with_len a (slice_index (filter p (range_with_len a n)) i - a)) ≡ i
+rank_at p a zero i low = absurd (omega arith)
+rank_at p a (suc n) i low = by_test (p a) refl i low (λ j more. rank_at p (a + 1) n j more) (λ j more. passes_at p (a + 1) n j more) where
+  by_test : (b : Bool) → p a ≡ b → (i : ℕ) → i < length (cond b (a ∷ filter p (range_with_len (a + 1) n)) (filter p (range_with_len (a + 1) n)))
+      → ((j : ℕ) → j < length (filter p (range_with_len (a + 1) n))
+      → count_by p (range_with_len (a + 1) (slice_index (filter p (range_with_len (a + 1) n)) j - (a + 1))) ≡ j)
+      → ((j : ℕ) → j < length (filter p (range_with_len (a + 1) n)) → Passes p (a + 1) n (slice_index (filter p (range_with_len (a + 1) n)) j))
+      → count_by p (range_with_len a (slice_index (cond b (a ∷ filter p (range_with_len (a + 1) n)) (filter p (range_with_len (a + 1) n))) i - a)) ≡ i
+  by_test true is zero low ranks passes =
+      let none : a - a ≡ 0 = omega arith in
+      ap (λ (m : ℕ). count_by p (range_with_len a m)) none
+  by_test true is (suc i) low ranks passes =
+      let x = slice_index (filter p (range_with_len (a + 1) n)) i in
+      let one : bit (p a) ≡ 1 = ap bit is in
+      omega (arith, rank_step p a x (passes i (omega arith)).low, ranks i (omega arith), one)
+  by_test false is i low ranks passes =
+      let x = slice_index (filter p (range_with_len (a + 1) n)) i in
+      let none : bit (p a) ≡ 0 = ap bit is in
+      omega (arith, rank_step p a x (passes i low).low, ranks i low, none)
+
+-- the big-blocks that a look found are the lowest free ones
 pub found_fresh : (bigblocks : ℕ) (append : List ℕ) (maps : Maps) (states : References) (limit many : ℕ) (found : Found) → StandBy bigblocks append maps states
     → Finds (is_free_by append maps) limit (pool bigblocks) found → many ≤ found.count → many ≤ 4 → AreFresh bigblocks append states found.first many
 found_fresh bigblocks append maps states limit many found stand finds enough few = record {
-  pool = λ i low. let at = passes i low in (omega (arith, at.low), omega (arith, at.high, at.low));
-  free = λ i low.
+  each = λ i low.
       let at = passes i low in
-      sym (free_is_unused bigblocks append maps states (slice_index found.first i) stand (omega (arith, at.low), omega (arith, at.high, at.low))) ∙ at.test;
-  apart = λ i j order low same.
-      let rise = rises_at (is_free_by append maps) first (bigblocks - first) i j order (omega (arith, sized, finds.count, low, enough)) in
-      absurd (omega (arith, rise, same, finds.first i (omega (arith, order, low, enough)) (omega (arith, order, low, few)), finds.first j (omega (arith, low, enough)) (omega (arith, low, few))));
+      let block = slice_index found.first i in
+      let inside : IsPool bigblocks block = (omega (arith, at.low), omega (arith, at.high, at.low)) in
+      record {
+        pool = inside;
+        free = sym (free_is_unused bigblocks append maps states block stand inside) ∙ at.test;
+        lower = count_same (is_free append states) (is_free_by append maps) first (block - first)
+            (λ b least most. sym (free_is_unused bigblocks append maps states b stand (least, omega (arith, most, at.low, at.high))))
+            ∙ ap (λ (b : ℕ). count_by (is_free_by append maps) (range_with_len first (b - first))) (is_there i low)
+            ∙ rank_at (is_free_by append maps) first (bigblocks - first) i (inside_list i low);
+      };
 } where
   first : ℕ
   first = first_pool bigblocks
 
-  sized : length (filter (is_free_by append maps) (range_with_len (first_pool bigblocks) (bigblocks - first_pool bigblocks))) ≡ count_by (is_free_by append maps) (pool bigblocks)
+  sized : length (filter (is_free_by append maps) (pool bigblocks)) ≡ count_by (is_free_by append maps) (pool bigblocks)
   sized = length-filter (is_free_by append maps) (pool bigblocks)
+
+  inside_list : (i : ℕ) → i < many → i < length (filter (is_free_by append maps) (pool bigblocks))
+  inside_list i low = omega (arith, sized, finds.count, low, enough)
+
+  is_there : (i : ℕ) → i < many → slice_index found.first i ≡ slice_index (filter (is_free_by append maps) (pool bigblocks)) i
+  is_there i low = finds.first i (omega (arith, low, enough)) (omega (arith, low, few))
 
   passes : (i : ℕ) → i < many → Passes (is_free_by append maps) (first_pool bigblocks) (bigblocks - first_pool bigblocks) (slice_index found.first i)
   passes i low =
-      subst (Passes (is_free_by append maps) (first_pool bigblocks) (bigblocks - first_pool bigblocks)) (sym (finds.first i (omega (arith, low, enough)) (omega (arith, low, few))))
-      (passes_at (is_free_by append maps) (first_pool bigblocks) (bigblocks - first_pool bigblocks) i (omega (arith, sized, finds.count, low, enough)))
+      subst (Passes (is_free_by append maps) (first_pool bigblocks) (bigblocks - first_pool bigblocks)) (sym (is_there i low))
+      (passes_at (is_free_by append maps) (first_pool bigblocks) (bigblocks - first_pool bigblocks) i (inside_list i low))
 
 -- the number of zones that lack room
 pub needed_is : (zones : Zones) (room : ℕ → ℕ) → needed zones room ≡ count_of (lacking zones room)
@@ -123,6 +148,14 @@ lacks_is zones room (suc (suc zero)) low = refl
 lacks_is zones room (suc (suc (suc zero))) low = refl
 lacks_is zones room (suc (suc (suc (suc j)))) low = absurd (omega arith)
 
+-- how many of the first of them do
+pub before_is : (zones : Zones) (room : ℕ → ℕ) (k : ℕ) → k < 4 → count_first (lacking zones room) k ≡ lacking_before zones room k
+before_is zones room zero low = refl
+before_is zones room (suc zero) low = refl
+before_is zones room (suc (suc zero)) low = refl
+before_is zones room (suc (suc (suc zero))) low = refl
+before_is zones room (suc (suc (suc (suc k)))) low = absurd (omega arith)
+
 none_lacks : (lack : List Bool) (j : ℕ) → j < length lack → count_of lack ≡ 0 → lacks_at lack j ≡ false
 none_lacks lack j low none = fails (lacks_at lack j) (λ is.
     let one : bit (lacks_at lack j) ≡ 1 = ap bit is in
@@ -135,15 +168,25 @@ admitted_none bigblocks zones held append maps none = record {
   pages = λ at other. refl;
   stand = λ states stand. stand;
   admits = λ states stand. record {
-    enough = omega (arith, needed_is zones (room_in append maps.current), none);
+    enough = omega (arith, needed_is zones room, none);
     no_more = omega arith;
     paid = omega arith;
     reserve = λ zone names.
         let range = named_zone zones zone names in
         let place : TREE_ZONE + (zone - TREE_ZONE) ≡ zone = omega (arith, range) in
-        let few : zone - TREE_ZONE < 4 = omega (arith, range) in
-        reserve_kept zones (room_in append maps.current) zone names
-        (ap (does_lack zones (room_in append maps.current)) (sym place) ∙ sym (lacks_is zones (room_in append maps.current) (zone - TREE_ZONE) few)
-        ∙ none_lacks (lacking zones (room_in append maps.current)) (zone - TREE_ZONE) few none);
+        reserve_kept zones room zone names (ap (does_lack zones room) (sym place) ∙ has_room (zone - TREE_ZONE) (omega (arith, range)));
   };
-}
+  lowest = λ states stand. record {
+    begun = λ k low lacks. absurd (true≢false (sym lacks ∙ has_room k low));
+    whole = λ k low lacks. absurd (true≢false (sym lacks ∙ has_room k low));
+    others = λ k low has. refl;
+    entries = λ block apart. refl;
+    room = λ k low has. refl;
+  };
+} where
+  room : ℕ → ℕ
+  room = room_in append maps.current
+
+  has_room : (k : ℕ) → k < 4 → does_lack zones (room_in append maps.current) (TREE_ZONE + k) ≡ false
+  has_room k low =
+      sym (lacks_is zones (room_in append maps.current) k low) ∙ none_lacks (lacking zones (room_in append maps.current)) k low none

@@ -14,8 +14,7 @@ use Rattle.hm_types.specs.declared.zone.TheConstants.{TREE_ZONE, SMALL_ZONE}
 use Rattle.hm_fields.specs.Pages.{PageMap}
 use Rattle.hm_freemap.specs.Change.{shared, given}
 use Rattle.hm_freemap.specs.Entry.{IsOwned, IsPoolEntry}
-use Rattle.hm_freemap.specs.Extents.{Changes, IsReferred, IsShareable, is_extent, referred, unreferred, without_one, with_current, OnlyPage}
-use Rattle.hm_freemap.specs.Places.{page_of}
+use Rattle.hm_freemap.specs.Extents.{Changes, IsReferred, IsShareable, is_extent, referred, unreferred, without_one, with_current}
 use Rattle.hm_freemap.specs.Stand.{Maps, StandBy, IsBelow, EntryPut, all_of, home_of, entry_of}
 use Rattle.hm_freemap.specs.declared.entry.Entry.{Entry}
 use Rattle.hm_freemap.proofs.BoundLemmas.{live_few, placed_size}
@@ -23,7 +22,7 @@ use Rattle.hm_freemap.proofs.CountLemmas.{bit, count-cons}
 use Rattle.hm_freemap.proofs.EntryLemmas.{free_less, free_more}
 use Rattle.hm_freemap.proofs.ListLemmas.{all_left, all_without, apart_left, apart_without, few_without, live_without, one_extent, or_second}
 use Rattle.hm_freemap.proofs.PutLemmas.{other_test, same_test}
-use Rattle.hm_freemap.proofs.StandLemmas.{stand_after, all_below, room_kept}
+use Rattle.hm_freemap.proofs.StandLemmas.{changed_at, stand_after, all_below, room_kept}
 
 -- a reference to the extent among the first ones, of which something holds
 pub record Found (r : Reference) (P : Reference → Type 0) : Type 0 where
@@ -192,9 +191,9 @@ module _ (bigblocks : ℕ) (append : List ℕ) (r : Reference) (maps : Maps) (no
           owned_again : IsOwned entry → IsOwned (shared (rounded r.len) entry)
           owned_again is = record { zone = is.zone; append = is.append; unit = is.unit }
 
-    pub share_changes : Changes bigblocks append r (IsShareable r) (referred r) maps now
+    pub share_changes : Changes bigblocks append r (IsShareable r) (referred r) (shared (rounded r.len)) maps now
     share_changes = record {
-      page = subst (λ (b : ℕ). OnlyPage (page_of b) maps.current now) at put.pages;
+      put = changed_at (shared (rounded r.len)) block (home_of r) entry maps.current now at read put;
       stand = share_stands;
       room = room_kept block (shared (rounded r.len) entry) maps.current now put append (ap (λ (e : Entry). e.append_off) read);
     }
@@ -226,9 +225,9 @@ module _ (bigblocks : ℕ) (append : List ℕ) (r : Reference) (maps : Maps) (no
           owned_again : IsOwned entry → IsOwned (given (rounded r.len) entry)
           owned_again is = record { zone = is.zone; append = is.append; unit = is.unit }
 
-    pub give_changes : Changes bigblocks append r (IsReferred r) (unreferred r) maps now
+    pub give_changes : Changes bigblocks append r (IsReferred r) (unreferred r) (given (rounded r.len)) maps now
     give_changes = record {
-      page = subst (λ (b : ℕ). OnlyPage (page_of b) maps.current now) at put.pages;
+      put = changed_at (given (rounded r.len)) block (home_of r) entry maps.current now at read put;
       stand = give_stands;
       room = room_kept block (given (rounded r.len) entry) maps.current now put append (ap (λ (e : Entry). e.append_off) read);
     }

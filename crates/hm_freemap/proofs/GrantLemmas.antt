@@ -1,5 +1,5 @@
 -- Zones that lacked room have begun new big-blocks: the call is admitted.
-use Rattle.std.proofs.Common.{◌≡◌, Bool, true, false, ℕ, ◌+◌, ◌-◌, ◌^◌, ◌<◌, ◌≤◌, min, inr, List, refl, sym, ap, ◌∙◌, arith, cond, nat_eq, Option, Some, None}
+use Rattle.std.proofs.Common.{◌≡◌, Bool, true, false, ℕ, ◌+◌, ◌-◌, ◌^◌, ◌<◌, ◌≤◌, min, inr, List, length, slice_index, refl, sym, ap, subst, ◌∙◌, arith, cond, nat_eq, Option, Some, None}
 use Rattle.std.specs.Prelude.{IfSome}
 use Rattle.std.proofs.lemmas.List.FromFn.{length-range_with_len}
 use Rattle.std.proofs.lemmas.List.Sums.{count_by-le-length}
@@ -11,14 +11,16 @@ use Rattle.hm_types.specs.declared.limits.TheConstants.{BIGBLOCK_BYTES, MOST_BIG
 use Rattle.hm_types.specs.declared.zone.TheConstants.{TREE_ZONE}
 use Rattle.hm_types.specs.declared.zones.Zones.{Zones}
 use Rattle.hm_fields.specs.Pages.{PageMap}
-use Rattle.hm_freemap.specs.Admit.{IsAdmitted, does_lack, lacking, room_at, free_at}
+use Rattle.hm_freemap.specs.Admit.{IsAdmitted, IsFreeAt, BeginsLowest, does_lack, lacking, lacking_before, room_at, free_at, space_of}
 use Rattle.hm_freemap.specs.Extents.{Moves, with_current}
-use Rattle.hm_freemap.specs.Renew.{RenewedFor, Renewing, count_of, lacks_at}
+use Rattle.hm_freemap.specs.Renew.{AreFresh, RenewedFor, Renewing, count_first, count_of, lacks_at}
 use Rattle.hm_freemap.specs.Scan.{Finds}
 use Rattle.hm_freemap.specs.Stand.{Maps, StandBy, WhereTold, free_by, is_free_by, room_in}
 use Rattle.hm_freemap.specs.declared.scan.Found.{Found}
-use Rattle.hm_freemap.proofs.AdmitLemmas.{found_fresh, lacks_is, named_zone, needed_is, reserve_kept, admitted_none}
+use Rattle.hm_freemap.proofs.AdmitLemmas.{before_is, found_fresh, lacks_is, named_zone, needed_is, reserve_kept, admitted_none}
+use Rattle.hm_freemap.proofs.CountLemmas.{bit}
 use Rattle.hm_freemap.proofs.FreeLemmas.{free_same}
+use Rattle.hm_freemap.proofs.StepLemmas.{first_few, first_more}
 
 -- a zone that lacks room is one of which the reserve is less than a big-block
 reserve_small : (zone : ℕ) → reserve_of zone ≤ BIGBLOCK_BYTES
@@ -48,9 +50,11 @@ module _ (bigblocks : ℕ) (zones : Zones) (held : ℕ) (append append' : List �
       omega (arith, sized, enough, finds.count, most, long, few)
 
   module _ (states : References) (stand : StandBy bigblocks append maps states) where
+    fresh : AreFresh bigblocks append states found.first (count_of lack)
+    fresh = found_fresh bigblocks append maps states wanted (count_of lack) found stand finds (omega (arith, sized, enough, four)) four
+
     renewed : RenewedFor bigblocks lack found.first 4 (count_of lack) append append' maps (with_current now maps) states
-    renewed = renewing.each bigblocks maps.committed maps.frozen states stand
-        (found_fresh bigblocks append maps states wanted (count_of lack) found stand finds (omega (arith, sized, enough, four)) four)
+    renewed = renewing.each bigblocks maps.committed maps.frozen states stand fresh
 
     reserved : (zone : ℕ) → names_zone zones zone ≡ true → reserve_of zone ≤ room_in append' now zone
     reserved zone names =
@@ -71,7 +75,7 @@ module _ (bigblocks : ℕ) (zones : Zones) (held : ℕ) (append append' : List �
               let kept = reserve_kept zones (room_in append maps.current) zone names has_room in
               omega (arith, same, kept)
 
-    admits_all : Admits room_at (free_at bigblocks) zones held (record { append = append; maps = maps }) (record { append = append'; maps = with_current now maps })
+    admits_all : Admits room_at (free_at bigblocks) zones held (space_of append maps) (space_of append' (with_current now maps))
     admits_all =
         let before = free_same bigblocks append maps states stand in
         let after = free_same bigblocks append' (with_current now maps) states renewed.stand in
@@ -82,11 +86,38 @@ module _ (bigblocks : ℕ) (zones : Zones) (held : ℕ) (append append' : List �
           reserve = reserved;
         }
 
+    -- whether a zone lacks room, by its place among the four
+    lacks_here : (k : ℕ) → k < 4 → lacks_at lack k ≡ does_lack zones (room_in append maps.current) (TREE_ZONE + k)
+    lacks_here k low = ap (λ (l : List Bool). lacks_at l k) is ∙ lacks_is zones (room_in append maps.current) k low
+
+    begun_lowest : (k : ℕ) → k < 4 → does_lack zones (room_in append maps.current) (TREE_ZONE + k) ≡ true
+        → IsFreeAt bigblocks append states (lacking_before zones (room_in append maps.current) k) (slice_index append' k)
+    begun_lowest k low lacks =
+        let here : lacks_at lack k ≡ true = lacks_here k low ∙ lacks in
+        let before : count_first lack k ≡ lacking_before zones (room_in append maps.current) k =
+        ap (λ (l : List Bool). count_first l k) is ∙ before_is zones (room_in append maps.current) k low in
+        let one : bit (lacks_at lack k) ≡ 1 = ap bit here in
+        let more = first_more lack k (omega (arith, low, ap length is)) in
+        let inside : count_first lack k < count_of lack = omega (arith, more, first_few lack (k + 1), one) in
+        subst (λ (b : ℕ). IsFreeAt bigblocks append states (lacking_before zones (room_in append maps.current) k) b) (sym (renewed.begun k low low here))
+        (subst (λ (n : ℕ). IsFreeAt bigblocks append states n (slice_index found.first (count_first lack k))) before (fresh.each (count_first lack k) inside))
+
+    lowest_all : BeginsLowest bigblocks zones states (space_of append maps) (space_of append' (with_current now maps))
+    lowest_all = record {
+      begun = begun_lowest;
+      whole = λ k low lacks. renewed.done k low low (lacks_here k low ∙ lacks);
+      others = λ k low has. renewed.others k low (inr (lacks_here k low ∙ has));
+      entries = λ block apart. renewing.entries block
+          (λ j few early lacks same. apart j few (sym (lacks_here j few) ∙ lacks) (renewed.begun j few few lacks ∙ same));
+      room = λ k low has. renewed.undone k low (inr (lacks_here k low ∙ has));
+    }
+
   pub admitted_some : IsAdmitted bigblocks zones held append append' maps now
   admitted_some = record {
     pages = renewing.pages;
     stand = λ states stand. (renewed states stand).stand;
     admits = admits_all;
+    lowest = lowest_all;
   }
 
 -- the same where pages are told

@@ -15,6 +15,7 @@ pub mod PutLemmas
 pub mod RenewLemmas
 pub mod ScanLemmas
 pub mod SheetLemmas
+pub mod SpaceLemmas
 pub mod SpellLemmas
 pub mod StandLemmas
 pub mod StepLemmas

@@ -1,7 +1,6 @@
 -- A zone begins a big-block that is free: the freemap stands for the same states.
 use Rattle.std.proofs.Common.{◌≡◌, ◌≢◌, Bool, true, false, true≢false, ℕ, zero, suc, ◌+◌, ◌-◌, ◌%◌, ◌<◌, ◌≤◌, inl, ⊎_elim, List, [], ◌∷◌, ◌++◌, length, set, slice_index, slice_set, refl, sym, ap, subst, ◌∙◌, arith, cond, not, ◌&&◌, ◌||◌, nat_eq, eqb-true, eq-eqb, pos, ◌+ℤ◌}
-use Rattle.std.specs.Prelude.{All, count_by}
-use Rattle.std.specs.List.{range_with_len}
+use Rattle.std.specs.Prelude.{All}
 use Rattle.std.proofs.lemmas.Bool.{cases_eq}
 use Rattle.std.proofs.lemmas.List.{get_or-set_same, get_or-set_other, length-set}
 use Rattle.std.proofs.lemmas.List.Elements.{All-head, All-tail, All-cons, All-nil}
@@ -18,7 +17,7 @@ use Rattle.hm_freemap.specs.Extents.{with_current}
 use Rattle.hm_freemap.specs.Stand.{Maps, StandBy, IsBelow, AreAppended, EntryPut, all_of, home_of, entry_of, room_in, append_of, is_handed_out}
 use Rattle.hm_freemap.specs.declared.entry.Entry.{Entry}
 use Rattle.hm_freemap.proofs.BoundLemmas.{placed_size}
-use Rattle.hm_freemap.proofs.CountLemmas.{bit, count-range}
+use Rattle.hm_freemap.proofs.CountLemmas.{bit, bit_one, is_one, one_most, one_there, pair_less, pair_more}
 use Rattle.hm_freemap.proofs.ListLemmas.{all_left, all_right, and_left, and_right}
 use Rattle.hm_freemap.proofs.PutLemmas.{other_test, same_test}
 use Rattle.hm_freemap.proofs.StandLemmas.{tells_after}
@@ -97,7 +96,7 @@ set_same [] k new x other apart = refl
 set_same (y ∷ ys) zero new x other apart = rw (other_test new x other, other_test y x apart) refl
 set_same (y ∷ ys) (suc k) new x other apart = ap (λ (b : Bool). nat_eq y x || b) (set_same ys k new x other apart)
 
-set_has : (xs : List ℕ) (k new : ℕ) → k < length xs → is_append (set xs k new) new ≡ true
+pub set_has : (xs : List ℕ) (k new : ℕ) → k < length xs → is_append (set xs k new) new ≡ true
 set_has [] k new low = absurd (omega arith)
 set_has (y ∷ ys) zero new low = rw (same_test new) refl
 set_has (y ∷ ys) (suc k) new low = or_true (nat_eq y new) (is_append (set ys k new) new) (set_has ys k new (omega arith)) where
@@ -105,7 +104,7 @@ set_has (y ∷ ys) (suc k) new low = or_true (nat_eq y new) (is_append (set ys k
   or_true true b is = refl
   or_true false b is = is
 
-has_at : (xs : List ℕ) (k : ℕ) → k < length xs → is_append xs (slice_index xs k) ≡ true
+pub has_at : (xs : List ℕ) (k : ℕ) → k < length xs → is_append xs (slice_index xs k) ≡ true
 has_at [] k low = absurd (omega arith)
 has_at (y ∷ ys) zero low = rw (same_test y) refl
 has_at (y ∷ ys) (suc k) low = or_true (nat_eq y (slice_index ys k)) (is_append ys (slice_index ys k)) (has_at ys k (omega arith)) where
@@ -121,63 +120,8 @@ free_is append states block apart committed frozen current =
     let u = eq-eqb (live_bytes states.current block) 0 current in
     rw (apart, c, f, u) refl
 
-not_free : (append : List ℕ) (states : References) (block : ℕ) → is_append append block ≡ true → is_free append states block ≡ false
+pub not_free : (append : List ℕ) (states : References) (block : ℕ) → is_append append block ≡ true → is_free append states block ≡ false
 not_free append states block is = ap (λ (b : Bool). not b && is_unused states block) is
-
-pub bit_one : (b : Bool) → bit b ≤ 1
-bit_one true = omega arith
-bit_one false = omega arith
-
--- sums of tests over a range, from what they are at each number
-pair_more : (p q e f : ℕ → Bool) (a n : ℕ) → ((x : ℕ) → bit (q x) + bit (e x) ≤ bit (p x) + bit (f x))
-    → count_by q (range_with_len a n) + count_by e (range_with_len a n) ≤ count_by p (range_with_len a n) + count_by f (range_with_len a n)
-pair_more p q e f a zero each = omega arith
-pair_more p q e f a (suc n) each =
-    let rest = pair_more p q e f (a + 1) n each in
-    omega (arith, each a, rest, count-range p a n, count-range q a n, count-range e a n, count-range f a n)
-
-pair_less : (p q e : ℕ → Bool) (a n : ℕ) → ((x : ℕ) → bit (p x) ≤ bit (q x) + bit (e x))
-    → count_by p (range_with_len a n) ≤ count_by q (range_with_len a n) + count_by e (range_with_len a n)
-pair_less p q e a zero each = omega arith
-pair_less p q e a (suc n) each =
-    let rest = pair_less p q e (a + 1) n each in
-    omega (arith, each a, rest, count-range p a n, count-range q a n, count-range e a n)
-
-abbrev is_one : ℕ → ℕ → Bool
-is_one b x = nat_eq x b
-
-none_before : (b a n : ℕ) → b < a → count_by (is_one b) (range_with_len a n) ≡ 0
-none_before b a zero low = refl
-none_before b a (suc n) low =
-    let first : bit (is_one b a) ≡ 0 = ap bit (other_test a b (λ same. absurd (omega (arith, same)))) in
-    let rest = none_before b (a + 1) n (omega arith) in
-    omega (arith, first, rest, count-range (is_one b) a n)
-
-one_there : (b a n : ℕ) → a ≤ b → b < a + n → count_by (is_one b) (range_with_len a n) ≡ 1
-one_there b a zero low high = absurd (omega arith)
-one_there b a (suc n) low high = ⊎_elim
-    (λ (same : a ≡ b).
-    let first : bit (is_one b a) ≡ 1 = ap bit (eq-eqb a b same) in
-    let rest = none_before b (a + 1) n (omega (arith, same)) in
-    omega (arith, first, rest, count-range (is_one b) a n))
-    (λ other.
-    let first : bit (is_one b a) ≡ 0 = ap bit (other_test a b other) in
-    let rest = one_there b (a + 1) n (omega (arith, other)) (omega arith) in
-    omega (arith, first, rest, count-range (is_one b) a n))
-    (cases_eq a b)
-
-one_most : (b a n : ℕ) → count_by (is_one b) (range_with_len a n) ≤ 1
-one_most b a zero = omega arith
-one_most b a (suc n) = ⊎_elim
-    (λ (same : a ≡ b).
-    let first : bit (is_one b a) ≡ 1 = ap bit (eq-eqb a b same) in
-    let rest = none_before b (a + 1) n (omega (arith, same)) in
-    omega (arith, first, rest, count-range (is_one b) a n))
-    (λ other.
-    let first : bit (is_one b a) ≡ 0 = ap bit (other_test a b other) in
-    let rest = one_most b (a + 1) n in
-    omega (arith, first, rest, count-range (is_one b) a n))
-    (cases_eq a b)
 
 zero_unit : (zone : ℕ) → 0 % unit_of zone ≡ 0
 zero_unit zone = by_test (nat_eq zone TREE_ZONE) where

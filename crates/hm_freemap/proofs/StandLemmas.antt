@@ -10,8 +10,14 @@ use Rattle.hm_fields.specs.Pages.{PageMap}
 use Rattle.hm_freemap.specs.Entry.{IsPoolEntry}
 use Rattle.hm_freemap.specs.Extents.{with_current}
 use Rattle.hm_freemap.specs.Places.{place_of}
-use Rattle.hm_freemap.specs.Stand.{Maps, StandBy, Tells, HoldsPoolEntry, IsBelow, AreAppended, EntryPut, all_of, home_of, entry_of, entry_page, room_in, is_handed_out, append_of}
+use Rattle.hm_freemap.specs.Stand.{Maps, StandBy, Tells, HoldsPoolEntry, IsBelow, AreAppended, EntryChanged, EntryPut, all_of, home_of, entry_of, entry_page, room_in, is_handed_out, append_of}
 use Rattle.hm_freemap.specs.declared.entry.Entry.{Entry}
+
+-- what was put in place of an entry that was read
+pub changed_at : (next : Entry → Entry) (block other : ℕ) (entry : Entry) (was now : PageMap) → block ≡ other → entry ≡ entry_of was block
+    → EntryPut block (next entry) was now → EntryChanged other next was now
+changed_at next block other entry was now at read put =
+    subst (λ (b : ℕ). EntryChanged b next was now) at (subst (λ (e : Entry). EntryPut block (next e) was now) read put)
 
 module _ (block : ℕ) (next : Entry) (was now : PageMap) (put : EntryPut block next was now) where
   -- a fact of the entry of each big-block, where the changed one keeps it

@@ -1,23 +1,19 @@
 -- One zone after the other begins a big-block.
-use Rattle.std.proofs.Common.{◌≡◌, ◌≢◌, Bool, true, false, true≢false, ℕ, ◌+◌, ◌^◌, ◌<◌, ◌≤◌, inl, inr, ⊎_elim, List, length, take, slice_index, slice_set, refl, sym, ap, subst, ◌∙◌, arith, cond, Option, Some, None}
-use Rattle.std.specs.Prelude.{count_by}
+use Rattle.std.proofs.Common.{◌≡◌, ◌≢◌, Bool, true, false, true≢false, ℕ, ◌+◌, ◌^◌, ◌<◌, ◌≤◌, inl, inr, ◌⊎◌, ⊎_elim, List, length, slice_index, slice_set, refl, sym, ap, subst, ◌∙◌, arith, cond, Option, Some, None}
 use Rattle.std.proofs.lemmas.Bool.{cases_eq}
+use Rattle.std.proofs.lemmas.List.{get_or-set_same, get_or-set_other}
 use Rattle.std.proofs.lemmas.List.Sums.{count_by_more_yes, count_by_more_no, sum_by-take-le}
 use Rattle.hm_types.specs.Offset.{zone_of}
 use Rattle.hm_types.specs.References.{is_free}
 use Rattle.hm_types.specs.Told.{BothTell}
 use Rattle.hm_types.specs.declared.zone.TheConstants.{TREE_ZONE}
 use Rattle.hm_fields.specs.Pages.{PageMap}
-use Rattle.hm_freemap.specs.Admit.{begun}
-use Rattle.hm_freemap.specs.Renew.{Begins, Renewing, count_of, lacks_at}
+use Rattle.hm_freemap.specs.Admit.{begun, free_before}
+use Rattle.hm_freemap.specs.Renew.{Begins, Renewing, count_first, count_of, lacks_at}
 use Rattle.hm_freemap.specs.Stand.{Maps, EntryPut, room_in}
 use Rattle.hm_freemap.proofs.CountLemmas.{bit}
 use Rattle.hm_freemap.proofs.PlaceLemmas.{page_zone}
 use Rattle.hm_freemap.proofs.RenewLemmas.{free_block, free_is, set_none, begun_stands, no_more, one_less, room_begun, room_other}
-
--- how many of the first k zones lack room
-abbrev pub count_first : List Bool → ℕ → ℕ
-count_first lack k = count_by (λ lacks. lacks) (take k lack)
 
 pub first_few : (lack : List Bool) (k : ℕ) → count_first lack k ≤ count_of lack
 first_few lack k = sum_by-take-le (λ lacks. cond lacks 1 0) lack k
@@ -32,11 +28,14 @@ first_more lack k low = by_test (lacks_at lack k) refl where
 pub renewing_none : (lack : List Bool) (fresh append : List ℕ) (map : PageMap) → length append ≡ 4 → Renewing lack fresh 0 0 append append map map
 renewing_none lack fresh append map four = record {
   pages = λ at other. refl;
+  entries = λ block apart. refl;
   each = λ bigblocks c f states stand facts. record {
     stand = stand;
     no_more = omega arith;
     paid = omega arith;
-    left = λ i low high. (free_block append states (slice_index fresh i) (facts.free i high)).apart;
+    left = λ i low high. (free_block append states (slice_index fresh i) (facts.each i high).free).apart;
+    begun = λ j few early. absurd (omega arith);
+    others = λ j few later. refl;
     done = λ j few early. absurd (omega arith);
     undone = λ j few later. refl;
   };
@@ -44,12 +43,21 @@ renewing_none lack fresh append map four = record {
 
 module _ (lack : List Bool) (fresh : List ℕ) (k : ℕ) (append0 append' : List ℕ) (old mid : PageMap) (low : k < 4) (four : length lack ≡ 4)
     (renewing : Renewing lack fresh k (count_first lack k) append0 append' old mid) where
+  -- what is not reached before a step is not reached after it
+  sooner : (j : ℕ) → (k + 1 ≤ j) ⊎ (lacks_at lack j ≡ false) → (k ≤ j) ⊎ (lacks_at lack j ≡ false)
+  sooner j which = ⊎_elim (λ (later : k + 1 ≤ j). inl (omega (arith, later))) (λ none. inr none) which
+
   -- a zone that has room
   step_none : lacks_at lack k ≡ false → Renewing lack fresh (k + 1) (count_first lack (k + 1)) append0 append' old mid
   step_none has =
       let same : count_first lack (k + 1) ≡ count_first lack k = first_more lack k (omega (arith, four)) ∙ (let zero : bit (lacks_at lack k) ≡ 0 = ap bit has in omega (arith, zero)) in
+      let passed : (j : ℕ) → j < k + 1 → lacks_at lack j ≡ true → j < k = λ j early lacks. ⊎_elim
+      (λ (here : j ≡ k). absurd (true≢false (sym lacks ∙ (ap (lacks_at lack) here ∙ has))))
+      (λ other. omega (arith, early, other))
+      (cases_eq j k) in
       record {
         pages = renewing.pages;
+        entries = λ block apart. renewing.entries block (λ j few early lacks. apart j few (omega arith) lacks);
         each = λ bigblocks c f states stand facts.
             let r = renewing.each bigblocks c f states stand facts in
             record {
@@ -57,11 +65,10 @@ module _ (lack : List Bool) (fresh : List ℕ) (k : ℕ) (append0 append' : List
               no_more = r.no_more;
               paid = omega (arith, r.paid, same);
               left = λ i later high. r.left i (omega (arith, same, later)) high;
-              done = λ j few early lacks. ⊎_elim
-                  (λ (here : j ≡ k). absurd (true≢false (sym lacks ∙ (ap (lacks_at lack) here ∙ has))))
-                  (λ other. r.done j few (omega (arith, early, other)) lacks)
-                  (cases_eq j k);
-              undone = λ j few which. ⊎_elim (λ (later : k + 1 ≤ j). r.undone j few (inl (omega (arith, later)))) (λ none. r.undone j few (inr none)) which;
+              begun = λ j few early lacks. r.begun j few (passed j early lacks) lacks;
+              others = λ j few which. r.others j few (sooner j which);
+              done = λ j few early lacks. r.done j few (passed j early lacks) lacks;
+              undone = λ j few which. r.undone j few (sooner j which);
             };
       }
 
@@ -76,27 +83,47 @@ module _ (lack : List Bool) (fresh : List ℕ) (k : ℕ) (append0 append' : List
       let inside : next < count_of lack = omega (arith, one, first_few lack (k + 1)) in
       record {
         pages = λ at other. put.pages at (λ same. other (ap zone_of same ∙ page_zone block small)) ∙ renewing.pages at other;
+        entries = λ other apart.
+            let here : other ≢ block = λ same. apart k low (omega arith) lacks (sym same) in
+            put.others other here ∙ renewing.entries other (λ j few early needs. apart j few (omega (arith, early)) needs);
         each = λ bigblocks c f states stand facts.
             let r = renewing.each bigblocks c f states stand facts in
             let maps : Maps = record { committed = c; frozen = f; current = mid } in
-            let was = free_block append0 states block (facts.free next inside) in
-            let free : is_free append' states block ≡ true = free_is append' states block (r.left next (omega arith) inside) was.committed was.frozen was.current in
-            let pool = facts.pool next inside in
+            let fact = facts.each next inside in
+            let was = free_block append0 states block fact.free in
+            let free : is_free append' states block ≡ true =
+            free_is append' states block (r.left next (omega arith) inside) was.committed was.frozen was.current in
+            let pool = fact.pool in
+            let apart : (i : ℕ) → next < i → i < count_of lack → block ≢ slice_index fresh i = λ i later high same.
+            absurd (omega (arith, later, fact.lower, (facts.each i high).lower, ap (free_before bigblocks append0 states) same)) in
+            let after : (j : ℕ) → (k + 1 ≤ j) ⊎ (lacks_at lack j ≡ false) → j ≢ k = λ j which here.
+            ⊎_elim (λ (later : k + 1 ≤ j). absurd (omega (arith, later, here)))
+            (λ none. absurd (true≢false (sym (ap (lacks_at lack) here ∙ lacks) ∙ none))) which in
             let more = no_more bigblocks append' maps states r.stand k low block pool free now put in
             let less = one_less bigblocks append' maps states r.stand k low block pool free now put in
             record {
               stand = begun_stands bigblocks append' maps states r.stand k low block pool free now put;
               no_more = omega (arith, more, r.no_more);
               paid = omega (arith, less, r.paid, one);
-              left = λ i later high. set_none append' k block (slice_index fresh i) (r.left i (omega (arith, later, one)) high) (facts.apart next i (omega (arith, later, one)) high);
+              left = λ i later high.
+                  let after_next : next < i = omega (arith, later, one) in
+                  set_none append' k block (slice_index fresh i) (r.left i (omega arith) high) (apart i after_next high);
+              begun = λ j few early needs. ⊎_elim
+                  (λ (here : j ≡ k). ap (slice_index (slice_set append' k block)) here
+                  ∙ get_or-set_same append' k block 0 (omega (arith, low, r.stand.appended.four))
+                  ∙ ap (λ (x : ℕ). slice_index fresh (count_first lack x)) (sym here))
+                  (λ other. get_or-set_other append' k j block 0 other ∙ r.begun j few (omega (arith, early, other)) needs)
+                  (cases_eq j k);
+              others = λ j few which. get_or-set_other append' k j block 0 (after j which) ∙ r.others j few (sooner j which);
               done = λ j few early needs. ⊎_elim
-                  (λ (here : j ≡ k). ap (λ (x : ℕ). room_in (slice_set append' k block) now (TREE_ZONE + x)) here ∙ room_begun bigblocks append' maps states r.stand k low block pool free now put)
-                  (λ other. room_other bigblocks append' maps states r.stand k low block pool free now put j few other ∙ r.done j few (omega (arith, early, other)) needs)
+                  (λ (here : j ≡ k). ap (λ (x : ℕ). room_in (slice_set append' k block) now (TREE_ZONE + x)) here
+                  ∙ room_begun bigblocks append' maps states r.stand k low block pool free now put)
+                  (λ other. room_other bigblocks append' maps states r.stand k low block pool free now put j few other
+                  ∙ r.done j few (omega (arith, early, other)) needs)
                   (cases_eq j k);
               undone = λ j few which.
-                  let other : j ≢ k = λ here. ⊎_elim (λ (later : k + 1 ≤ j). absurd (omega (arith, later, here))) (λ none. absurd (true≢false (sym (ap (lacks_at lack) here ∙ lacks) ∙ none))) which in
-                  room_other bigblocks append' maps states r.stand k low block pool free now put j few other
-                  ∙ ⊎_elim (λ (later : k + 1 ≤ j). r.undone j few (inl (omega (arith, later)))) (λ none. r.undone j few (inr none)) which;
+                  room_other bigblocks append' maps states r.stand k low block pool free now put j few (after j which)
+                  ∙ r.undone j few (sooner j which);
             };
       }
 

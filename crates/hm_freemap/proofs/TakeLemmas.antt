@@ -17,7 +17,7 @@ use Rattle.hm_types.specs.declared.zone.TheConstants.{TREE_ZONE, SMALL_ZONE}
 use Rattle.hm_fields.specs.Pages.{PageMap, page_in}
 use Rattle.hm_freemap.specs.Change.{HasRoomFor, appended}
 use Rattle.hm_freemap.specs.Entry.{IsOwned, IsPoolEntry, entry_in}
-use Rattle.hm_freemap.specs.Extents.{Takes, IsApart, IsUnit, OnlyPage, reference, referred, with_current}
+use Rattle.hm_freemap.specs.Extents.{Takes, IsApart, IsUnit, reference, referred, with_current}
 use Rattle.hm_freemap.specs.Faults.{HasFreemapCause, IsFreemapDamage, IsGoodBlock}
 use Rattle.hm_freemap.specs.Places.{page_of, place_of}
 use Rattle.hm_freemap.specs.Stand.{Maps, StandBy, IsBelow, EntryPut, all_of, append_of, home_of, entry_of, room, room_in, is_handed_out, WhereTold}
@@ -28,7 +28,7 @@ use Rattle.hm_freemap.proofs.EntryLemmas.{free_less}
 use Rattle.hm_freemap.proofs.ExtentLemmas.{few_more, owned, here, elsewhere}
 use Rattle.hm_freemap.proofs.ListLemmas.{all_left, apart_left}
 use Rattle.hm_freemap.proofs.PutLemmas.{other_test}
-use Rattle.hm_freemap.proofs.StandLemmas.{stand_after, all_below}
+use Rattle.hm_freemap.proofs.StandLemmas.{changed_at, stand_after, all_below}
 
 pub all_both : (P Q R : Reference → Type 0) (xs : List Reference) → ((x : Reference) → P x → Q x → R x) → All P xs → All Q xs → All R xs
 all_both P Q R [] step p q = All-nil R
@@ -270,7 +270,8 @@ module _ (bigblocks : ℕ) (append : List ℕ) (zone len at : ℕ) (maps : Maps)
   pub take_takes : Takes bigblocks append zone len at maps now
   take_takes = record {
     place = place;
-    page = subst (λ (b : ℕ). OnlyPage (page_of b) maps.current now) one put.pages;
+    begin = begin ∙ ap (λ (e : Entry). start_of block + e.append_off) read ∙ ap (λ (b : ℕ). start_of b + (entry_of maps.current b).append_off) one;
+    put = changed_at (appended (rounded len)) block (append_of append zone) entry maps.current now one read put;
     stand = λ states stand unit. taken_stands states stand unit;
     dead = λ states stand. dead states stand;
     room = λ states stand other. taken_room states stand other;

@@ -1,18 +1,20 @@
 -- What `admit` does: zones that lack room begin a new big-block each.
-use Rattle.std.specs.Prelude.{◌≡◌, ◌≢◌, ℕ, ◌<◌, Bool, ◌&&◌, nat_lt, List, [], ◌∷◌, Option, Result, IfErr, pos}
+use Rattle.std.specs.Prelude.{◌≡◌, ◌≢◌, ℕ, ◌+◌, ◌-◌, ◌<◌, Bool, false, ◌&&◌, nat_lt, List, [], ◌∷◌, slice_index, count_by, Option, Result, IfErr, IsTrue, pos}
+use Rattle.std.specs.List.{range_with_len}
 use Rattle.hm_types.specs.Faults.{HasSpaceCause}
+use Rattle.hm_types.specs.Layout.{IsPool, first_pool}
 use Rattle.hm_types.specs.Offset.{zone_of}
-use Rattle.hm_types.specs.References.{References}
+use Rattle.hm_types.specs.References.{References, is_free}
 use Rattle.hm_types.specs.Space.{names_zone, reserve_of, Admits, LacksSpace}
 use Rattle.hm_types.specs.declared.fault.SpaceFault.{SpaceFault}
 use Rattle.hm_types.specs.declared.fault.SpaceFault.TheVariants.{NoSpace, Fault as of_store}
 use Rattle.hm_types.specs.declared.limits.TheConstants.{BIGBLOCK_BYTES}
-use Rattle.hm_types.specs.declared.zone.TheConstants.{FREEMAP_ZONE}
+use Rattle.hm_types.specs.declared.zone.TheConstants.{TREE_ZONE, FREEMAP_ZONE}
 use Rattle.hm_types.specs.declared.zones.Zones.{Zones}
 use Rattle.hm_fields.specs.Pages.{PageMap}
 use Rattle.hm_freemap.specs.Extents.{with_current}
 use Rattle.hm_freemap.specs.Faults.{IsFreemapDamage}
-use Rattle.hm_freemap.specs.Stand.{Maps, WhereTold, StandBy, room_in, free_by}
+use Rattle.hm_freemap.specs.Stand.{Maps, WhereTold, StandBy, entry_of, room_in, free_by}
 use Rattle.hm_freemap.specs.declared.entry.Entry.{Entry}
 
 -- a zone is named and has less room than its reserve
@@ -23,6 +25,10 @@ does_lack zones room zone = names_zone zones zone && nat_lt (room zone) (reserve
 abbrev pub lacking : Zones → (ℕ → ℕ) → List Bool
 lacking zones room = does_lack zones room 8 ∷ does_lack zones room 9 ∷ does_lack zones room 10 ∷ does_lack zones room 11 ∷ []
 
+-- how many of the zones before the one with this place among the four do
+abbrev pub lacking_before : Zones → (ℕ → ℕ) → ℕ → ℕ
+lacking_before zones room k = count_by (does_lack zones room) (range_with_len TREE_ZONE k)
+
 -- the entry of a big-block that a zone began
 abbrev pub begun : ℕ → Entry
 begun zone = record { zone = zone; append_off = 0; bytes_free = pos BIGBLOCK_BYTES }
@@ -32,19 +38,51 @@ pub record Space : Type 0 where
   pub append : List ℕ
   pub maps : Maps
 
+abbrev pub space_of : List ℕ → Maps → Space
+space_of append maps = record { append = append; maps = maps }
+
 abbrev pub room_at : Space → ℕ → ℕ
 room_at space = room_in space.append space.maps.current
 
 abbrev pub free_at : ℕ → Space → ℕ
 free_at bigblocks space = free_by bigblocks space.append space.maps
 
--- The zones have the room that they need: each that lacked it appends to a free big-block. The freemap stands for the
--- same states, and only pages of the freemap changed.
+-- how many big-blocks of the pool before one are free
+abbrev pub free_before : ℕ → List ℕ → References → ℕ → ℕ
+free_before bigblocks append states block =
+    count_by (is_free append states) (range_with_len (first_pool bigblocks) (block - first_pool bigblocks))
+
+-- the free big-block of the pool with so many free ones before it
+pub record IsFreeAt (bigblocks : ℕ) (append : List ℕ) (states : References) (rank block : ℕ) : Type 0 where
+  pub pool : IsPool bigblocks block
+  pub free : IsTrue (is_free append states block)
+  pub lower : free_before bigblocks append states block ≡ rank
+
+-- whether the zone with this place among the four lacks room
+abbrev pub lacks_in : Zones → Space → ℕ → Bool
+lacks_in zones space k = does_lack zones (room_at space) (TREE_ZONE + k)
+
+-- Which big-blocks the four zones append to afterwards. In their order, each that lacked room began the lowest free
+-- big-block that no zone before it began, and has all its bytes left. The others have theirs still, and its room. The
+-- entry of each big-block that none began stays.
+pub record BeginsLowest (bigblocks : ℕ) (zones : Zones) (states : References) (old new : Space) : Type 0 where
+  pub begun : (k : ℕ) → k < 4 → IsTrue (lacks_in zones old k)
+      → IsFreeAt bigblocks old.append states (lacking_before zones (room_at old) k) (slice_index new.append k)
+  pub whole : (k : ℕ) → k < 4 → IsTrue (lacks_in zones old k) → room_at new (TREE_ZONE + k) ≡ BIGBLOCK_BYTES
+  pub others : (k : ℕ) → k < 4 → lacks_in zones old k ≡ false → slice_index new.append k ≡ slice_index old.append k
+  pub entries : (block : ℕ) → ((k : ℕ) → k < 4 → IsTrue (lacks_in zones old k) → slice_index new.append k ≢ block)
+      → entry_of new.maps.current block ≡ entry_of old.maps.current block
+  pub room : (k : ℕ) → k < 4 → lacks_in zones old k ≡ false → room_at new (TREE_ZONE + k) ≡ room_at old (TREE_ZONE + k)
+
+-- The zones have the room that they need: each that lacked it appends to a free big-block, in order the lowest. The
+-- freemap stands for the same states, and only pages of the freemap changed.
 pub record IsAdmitted (bigblocks : ℕ) (zones : Zones) (held : ℕ) (append append' : List ℕ) (maps : Maps) (now : PageMap) : Type 0 where
   pub pages : (at : ℕ) → zone_of at ≢ FREEMAP_ZONE → now at ≡ maps.current at
   pub stand : (states : References) → StandBy bigblocks append maps states → StandBy bigblocks append' (with_current now maps) states
   pub admits : (states : References) → StandBy bigblocks append maps states
-      → Admits room_at (free_at bigblocks) zones held (record { append = append; maps = maps }) (record { append = append'; maps = with_current now maps })
+      → Admits room_at (free_at bigblocks) zones held (space_of append maps) (space_of append' (with_current now maps))
+  pub lowest : (states : References) → StandBy bigblocks append maps states
+      → BeginsLowest bigblocks zones states (space_of append maps) (space_of append' (with_current now maps))
 
 -- too few big-blocks are free, and nothing changed
 pub record IsRefused (bigblocks : ℕ) (zones : Zones) (held : ℕ) (append : List ℕ) (maps : Maps) (now : PageMap) (free needed : ℕ) : Type 0 where

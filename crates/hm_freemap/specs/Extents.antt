@@ -1,13 +1,15 @@
 -- What the calls on extents do to the freemap, and to the states for which it stands.
-use Rattle.std.specs.Prelude.{◌≡◌, ◌≢◌, ◌⊎◌, ℕ, ◌+◌, ◌%◌, ◌<◌, ◌≤◌, Bool, ◌&&◌, nat_eq, if◌then◌else◌, List, [], ◌∷◌, Option, IsTrue, IsSomeAnd, All, count_by}
+use Rattle.std.specs.Prelude.{◌≡◌, ◌⊎◌, ℕ, ◌+◌, ◌%◌, ◌<◌, ◌≤◌, Bool, ◌&&◌, nat_eq, if◌then◌else◌, List, [], ◌∷◌, Option, IsTrue, IsSomeAnd, All, count_by}
 use Rattle.std.specs.List.{list_any}
-use Rattle.hm_types.specs.Offset.{zone_of}
+use Rattle.hm_types.specs.Layout.{start_of}
+use Rattle.hm_types.specs.Offset.{zone_of, byte_of}
 use Rattle.hm_types.specs.References.{Reference, References, is_there, unit_of, begin_of, end_of}
 use Rattle.hm_types.specs.Space.{rounded, in_zone}
 use Rattle.hm_types.specs.declared.space.TheConstants.{MOST_REFERENCES}
 use Rattle.hm_fields.specs.Pages.{PageMap}
-use Rattle.hm_freemap.specs.Places.{page_of}
-use Rattle.hm_freemap.specs.Stand.{Maps, WhereTold, StandBy, append_of, all_of, home_of, room_in}
+use Rattle.hm_freemap.specs.Change.{appended}
+use Rattle.hm_freemap.specs.Stand.{Maps, WhereTold, StandBy, EntryChanged, append_of, all_of, entry_of, home_of, room_in}
+use Rattle.hm_freemap.specs.declared.entry.Entry.{Entry}
 
 -- a reference to so many bytes at an offset
 abbrev pub reference : ℕ → ℕ → Reference
@@ -50,28 +52,28 @@ IsUnit zone len = rounded len % unit_of zone ≡ 0
 abbrev pub IsApart : Reference → Reference → Type 0
 IsApart r s = (end_of r ≤ begin_of s) ⊎ (end_of s ≤ begin_of r)
 
--- a page alone may have changed
-abbrev pub OnlyPage : ℕ → PageMap → PageMap → Type 0
-OnlyPage page old new = (at : ℕ) → at ≢ page → new at ≡ old at
-
 -- a fact of three maps, where they are told, and of the current one afterwards, which is then told too
 abbrev pub Moves : Option PageMap → Option PageMap → Option PageMap → Option PageMap → (Maps → PageMap → Type 0) → Type 0
 Moves committed frozen old new Relation = WhereTold committed frozen old (λ maps. IsSomeAnd new (λ now. Relation maps now))
 
--- An extent was taken in a zone: the current state may refer to it, no state refers to any of its bytes yet, and the
--- room of the zone fell by its length.
+-- An extent was taken in a zone: it begins where the append big-block of the zone was filled up to, and the entry of this
+-- big-block alone changed. The current state may refer to it, no state refers to any of its bytes yet, and the room of the
+-- zone fell by its length.
 pub record Takes (bigblocks : ℕ) (append : List ℕ) (zone len at : ℕ) (maps : Maps) (now : PageMap) : Type 0 where
   pub place : zone_of at ≡ zone
-  pub page : OnlyPage (page_of (append_of append zone)) maps.current now
+  pub begin : byte_of at ≡ start_of (append_of append zone) + (entry_of maps.current (append_of append zone)).append_off
+  pub put : EntryChanged (append_of append zone) (appended (rounded len)) maps.current now
   pub stand : (states : References) → StandBy bigblocks append maps states → IsUnit zone len
       → StandBy bigblocks append (with_current now maps) (referred (reference at len) states)
   pub dead : (states : References) → StandBy bigblocks append maps states → All (IsApart (reference at len)) (all_of states)
   pub room : (states : References) → StandBy bigblocks append maps states
       → (other : ℕ) → room_in append now other + in_zone zone (rounded len) other ≡ room_in append maps.current other
 
--- the references of the current state to an extent changed, where there were such as were needed
-pub record Changes (bigblocks : ℕ) (append : List ℕ) (r : Reference) (Needs : References → Type 0) (change : References → References) (maps : Maps) (now : PageMap) : Type 0 where
-  pub page : OnlyPage (page_of (home_of r)) maps.current now
+-- The references of the current state to an extent changed, where there were such as were needed, and so did the entry of
+-- its big-block alone.
+pub record Changes (bigblocks : ℕ) (append : List ℕ) (r : Reference) (Needs : References → Type 0) (change : References → References)
+    (next : Entry → Entry) (maps : Maps) (now : PageMap) : Type 0 where
+  pub put : EntryChanged (home_of r) next maps.current now
   pub stand : (states : References) → StandBy bigblocks append maps states → Needs states
       → StandBy bigblocks append (with_current now maps) (change states)
   pub room : (zone : ℕ) → room_in append now zone ≡ room_in append maps.current zone

@@ -7,6 +7,7 @@ pub mod Scan
 pub mod Calls
 pub mod Change
 pub mod Extents
+pub mod Free
 pub mod Admit
 pub mod Renew
 pub mod Fresh

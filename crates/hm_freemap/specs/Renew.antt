@@ -1,17 +1,20 @@
 -- How zones begin new big-blocks, one after the other.
-use Rattle.std.specs.Prelude.{◌≡◌, ◌≢◌, ◌⊎◌, ℕ, ◌+◌, ◌<◌, ◌≤◌, Bool, true, false, List, slice_index, slice_set, get_or, count_by}
-use Rattle.hm_types.specs.Layout.{IsPool}
+use Rattle.std.specs.Prelude.{◌≡◌, ◌≢◌, ◌⊎◌, ℕ, ◌+◌, ◌<◌, ◌≤◌, Bool, true, false, List, take, slice_index, slice_set, get_or, count_by}
 use Rattle.hm_types.specs.Offset.{zone_of}
-use Rattle.hm_types.specs.References.{References, is_append, is_free, free_blocks}
+use Rattle.hm_types.specs.References.{References, is_append, free_blocks}
 use Rattle.hm_types.specs.declared.limits.TheConstants.{BIGBLOCK_BYTES}
 use Rattle.hm_types.specs.declared.zone.TheConstants.{TREE_ZONE, FREEMAP_ZONE}
 use Rattle.hm_fields.specs.Pages.{PageMap}
-use Rattle.hm_freemap.specs.Admit.{begun}
-use Rattle.hm_freemap.specs.Stand.{Maps, StandBy, EntryPut, room_in}
+use Rattle.hm_freemap.specs.Admit.{IsFreeAt, begun}
+use Rattle.hm_freemap.specs.Stand.{Maps, StandBy, EntryPut, entry_of, room_in}
 
 -- how many zones lack room
 abbrev pub count_of : List Bool → ℕ
 count_of lack = count_by (λ lacks. lacks) lack
+
+-- how many of the first k do
+abbrev pub count_first : List Bool → ℕ → ℕ
+count_first lack k = count_of (take k lack)
 
 -- whether the zone with this place among the four lacks room
 abbrev pub lacks_at : List Bool → ℕ → Bool
@@ -22,11 +25,9 @@ abbrev pub Begins : Bool → ℕ → ℕ → List ℕ → List ℕ → PageMap �
 Begins true k block append append' old new = (append' ≡ slice_set append k block) × EntryPut block (begun (TREE_ZONE + k)) old new
 Begins false k block append append' old new = (append' ≡ append) × (new ≡ old)
 
--- the first of some big-blocks, as many as are needed, are free and no two of them are one
+-- the first of some big-blocks, as many as are needed, are the lowest free ones in their order
 pub record AreFresh (bigblocks : ℕ) (append : List ℕ) (states : References) (fresh : List ℕ) (needed : ℕ) : Type 0 where
-  pub pool : (i : ℕ) → i < needed → IsPool bigblocks (slice_index fresh i)
-  pub free : (i : ℕ) → i < needed → is_free append states (slice_index fresh i) ≡ true
-  pub apart : (i j : ℕ) → i < j → j < needed → slice_index fresh i ≢ slice_index fresh j
+  pub each : (i : ℕ) → i < needed → IsFreeAt bigblocks append states i (slice_index fresh i)
 
 -- what is then known for states for which the freemap stood
 pub record RenewedFor (bigblocks : ℕ) (lack : List Bool) (fresh : List ℕ) (k next : ℕ) (append append' : List ℕ) (maps maps' : Maps) (states : References) : Type 0 where
@@ -34,12 +35,16 @@ pub record RenewedFor (bigblocks : ℕ) (lack : List Bool) (fresh : List ℕ) (k
   pub no_more : free_blocks bigblocks append' states ≤ free_blocks bigblocks append states
   pub paid : free_blocks bigblocks append states ≤ free_blocks bigblocks append' states + next
   pub left : (i : ℕ) → next ≤ i → i < count_of lack → is_append append' (slice_index fresh i) ≡ false
+  pub begun : (j : ℕ) → j < 4 → j < k → lacks_at lack j ≡ true → slice_index append' j ≡ slice_index fresh (count_first lack j)
+  pub others : (j : ℕ) → j < 4 → (k ≤ j) ⊎ (lacks_at lack j ≡ false) → slice_index append' j ≡ slice_index append j
   pub done : (j : ℕ) → j < 4 → j < k → lacks_at lack j ≡ true → room_in append' maps'.current (TREE_ZONE + j) ≡ BIGBLOCK_BYTES
   pub undone : (j : ℕ) → j < 4 → (k ≤ j) ⊎ (lacks_at lack j ≡ false) → room_in append' maps'.current (TREE_ZONE + j) ≡ room_in append maps.current (TREE_ZONE + j)
 
 -- the first k zones have begun a new big-block each, where they lack room
 pub record Renewing (lack : List Bool) (fresh : List ℕ) (k next : ℕ) (append append' : List ℕ) (old now : PageMap) : Type 0 where
   pub pages : (at : ℕ) → zone_of at ≢ FREEMAP_ZONE → now at ≡ old at
+  pub entries : (block : ℕ) → ((j : ℕ) → j < 4 → j < k → lacks_at lack j ≡ true → slice_index fresh (count_first lack j) ≢ block)
+      → entry_of now block ≡ entry_of old block
   pub each : (bigblocks : ℕ) (c f : PageMap) (states : References)
       → StandBy bigblocks append (record { committed = c; frozen = f; current = old }) states
       → AreFresh bigblocks append states fresh (count_of lack)

@@ -124,6 +124,10 @@ pub record EntryPut (block : ℕ) (entry : Entry) (old new : PageMap) : Type 0 w
   pub zeros : (other : ℕ) → other ≢ block → get (entry_page new other) (place_of other + 12) 4 ≡ get (entry_page old other) (place_of other + 12) 4
   pub pages : (at : ℕ) → at ≢ page_of block → new at ≡ old at
 
+-- the entry of a big-block became what this makes of it
+abbrev pub EntryChanged : ℕ → (Entry → Entry) → PageMap → PageMap → Type 0
+EntryChanged block next old new = EntryPut block (next (entry_of old block)) old new
+
 -- the append big-blocks lie on the volume
 abbrev pub AreBelow : ℕ → List ℕ → Type 0
 AreBelow bigblocks append = (k : ℕ) → k < 4 → slice_index append k < bigblocks

@@ -236,9 +236,10 @@ fn renew<P: FreemapPages>(
 
 impl<P: FreemapPages> Freemap<P> {
     /// Lets each named zone have room of at least its reserve: 1,048,576 bytes in zone 8, and
-    /// 131,072 bytes in the zones 9, 10 and 11. A zone that has less room begins a free big-block.
-    /// `NoSpace` exactly where more zones need one than are free after `held` of them were held
-    /// back; nothing changed then.
+    /// 131,072 bytes in the zones 9, 10 and 11. A zone that has less room begins a free big-block:
+    /// in the order of zones, each the lowest one that no zone before it began. `NoSpace` exactly
+    /// where more zones need one than are free after `held` of them were held back; nothing changed
+    /// then.
     ///
     /// It looks at the append big-blocks of the named zones, and at others only where one needs a
     /// new one: then at the lowest ones, until it has found those that are needed and held back.

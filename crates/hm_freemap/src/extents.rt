@@ -5,6 +5,7 @@ ghost use Rattle.hm_types.specs.Offset.{raw_of, byte_of, zone_of};
 ghost use Rattle.hm_types.specs.Space.{rounded};
 ghost use Rattle.hm_types.specs.declared.limits.TheConstants.{LEAST_BIGBLOCKS, MOST_BIGBLOCKS};
 ghost use Rattle.hm_types.specs.declared.zone.TheConstants.{TREE_ZONE, SMALL_ZONE};
+ghost use Rattle.hm_freemap.specs.Change.{given, shared};
 ghost use Rattle.hm_freemap.specs.Entry.{entry_in};
 ghost use Rattle.hm_freemap.specs.Extents.{
   Moves,
@@ -79,7 +80,8 @@ fn block_at(at: HOff) -> u64
 
 impl<P: FreemapPages> Freemap<P> {
     /// Takes a new extent of `len` bytes, at least 1, in zone 8, 9, 10 or 11, which must have room
-    /// for it. Nothing in it is live in any of the three states. It reads and changes one page.
+    /// for it: the one behind the last that the zone took. Nothing in it is live in any of the three
+    /// states. It reads and changes one page.
     pub fn take_extent(&mut self, zone: u8, len: u32) -> Result<HOff, Fault>
         requires some { 1 ≤ len }
         requires room { rounded len ≤ room self.old.append (P.pages self.old.pages) zone }
@@ -112,7 +114,8 @@ impl<P: FreemapPages> Freemap<P> {
         ensures ok { OnOk result (Moves (P.committed self.old.pages) (P.frozen self.old.pages)
             (P.pages self.old.pages) (P.pages self.new.pages)
             (Changes self.old.bigblocks self.old.append (reference at len)
-            (IsReferred (reference at len)) (unreferred (reference at len)))) }
+            (IsReferred (reference at len)) (unreferred (reference at len))
+            (given (rounded len)))) }
         ensures same { (P.rest self.new.pages ≡ P.rest self.old.pages)
             × (self.new.append ≡ self.old.append) × (self.new.bigblocks ≡ self.old.bigblocks) }
         ensures name { P.name self.new.pages ≡ P.name self.old.pages }
@@ -135,7 +138,8 @@ impl<P: FreemapPages> Freemap<P> {
         ensures ok { OnOk result (Moves (P.committed self.old.pages) (P.frozen self.old.pages)
             (P.pages self.old.pages) (P.pages self.new.pages)
             (Changes self.old.bigblocks self.old.append (reference at len)
-            (IsShareable (reference at len)) (referred (reference at len)))) }
+            (IsShareable (reference at len)) (referred (reference at len))
+            (shared (rounded len)))) }
         ensures same { (P.rest self.new.pages ≡ P.rest self.old.pages)
             × (self.new.append ≡ self.old.append) × (self.new.bigblocks ≡ self.old.bigblocks) }
         ensures name { P.name self.new.pages ≡ P.name self.old.pages }

@@ -1,6 +1,6 @@
 // A volume of any size for tests, as it was just made: each page is made as it is read.
 ghost use Rattle.std.specs.Prelude.{◌≤◌};
-ghost use Rattle.hm_types.specs.declared.limits.TheConstants.{LEAST_BIGBLOCKS, MOST_BIGBLOCKS};
+ghost use Rattle.hm_types.specs.declared.limits.TheConstants.{BIGBLOCK_BYTES, LEAST_BIGBLOCKS, MOST_BIGBLOCKS};
 
 use crate::fresh::fresh_page;
 use crate::pages::FreemapPages;
@@ -8,13 +8,16 @@ use hm_fields::{Page, Pages, State, States};
 use hm_types::{BIGBLOCK_BYTES, Counted, Fault, HOff, PAGE_BYTES};
 
 /// The pages of layer 2 of a volume of so many big-blocks, of which nothing is told, with a count of
-/// reads. They do not change.
+/// reads. What is put into them is forgotten.
 #[derive(Drop)]
 pub(crate) struct Made {
     pub(crate) bigblocks: u32,
+    // How many bytes zone 8 has taken.
+    pub(crate) taken: u32,
     pub(crate) reads: u64,
     ghost least: { LEAST_BIGBLOCKS ≤ bigblocks },
     ghost most: { bigblocks ≤ MOST_BIGBLOCKS },
+    ghost few: { taken ≤ BIGBLOCK_BYTES },
 }
 
 impl Counted for Made {
@@ -37,7 +40,7 @@ impl Pages for Made {
         let number = at.byte().saturating_sub(2 * BIGBLOCK_BYTES) / PAGE_BYTES as u64;
         fresh_page(
             self.bigblocks,
-            &[4_096, 80, 0, 0],
+            &[self.taken, 80, 0, 0],
             (number % 8_192) as u32 * 256,
             into,
         );
@@ -45,7 +48,7 @@ impl Pages for Made {
     }
 
     fn change(&mut self, _at: HOff, _with: &Page) -> Result<(), Fault> {
-        Err(Fault::NoMemory)
+        Ok(())
     }
 }
 

@@ -1,5 +1,5 @@
 // Entries, places and calls on small volumes, which were reckoned by hand.
-ghost use Rattle.std.specs.Prelude.{◌≤◌};
+ghost use Rattle.std.specs.Prelude.{◌≤◌, ◌<◌};
 
 use crate::made::Made;
 use crate::one_page::{OnePage, Quiet};
@@ -7,8 +7,8 @@ use crate::{
     Entry, Freemap, fresh_page, layer1_offset, page_of, place_of, read_layer1, write_layer1,
 };
 use bitflags::Flags;
-use hm_fields::{Page, put_u8, put_u64};
-use hm_types::{BAD_FREEMAP, Fault, HOff, SpaceFault, Zones};
+use hm_fields::{Page, State, put_u8, put_u64};
+use hm_types::{Fault, HOff, SpaceFault, Zones};
 use std::process::Abort;
 use std::test::Fail;
 
@@ -119,17 +119,20 @@ fn layer_1_tells_where_layer_2_is(rt: HostRuntime) {
         let mut page = Page::zero();
         write_layer1(&mut page, 64, offset);
         assert_eq!(rt; read_layer1(&page, 64), Some(offset));
-        for place in [72usize, 80, 95] {
+        for place in 72..96usize {
             let mut bad = page;
-            assert!(rt; place <= 95);
             put_u8(&mut bad, place, 1);
             assert!(rt; read_layer1(&bad, 64).is_none(), "{place}");
         }
     }
     for raw in [
+        // No zone, another zone, and none that there is.
         0u64,
-        0x4000_0000_0100_1000,
         0x3000_0000_0100_0000,
+        0x5000_0000_0100_0000,
+        // Another volume, no big-block's beginning, and more than byte 0 of zone 15.
+        0x4010_0000_0100_0000,
+        0x4000_0000_0100_1000,
         0xF000_0000_0000_0010,
     ] {
         let mut page = Page::zero();
@@ -167,33 +170,150 @@ fn a_small_volume_has_nine_free_big_blocks(rt: HostRuntime) -> Result<(), Fail> 
 
 #[test]
 fn a_large_volume_is_counted_page_by_page(rt: HostRuntime) -> Result<(), Fail> {
-    let pages = Made {
-        bigblocks: 524_289,
-        reads: 0,
-    };
-    let mut freemap = Freemap::over(pages, 524_289, [12, 13, 14, 15]);
+    let mut freemap = large(4_096);
     assert_eq!(rt; freemap.free_blocks()?, 524_273);
     let (pages, _) = freemap.into_parts();
     assert_eq!(rt; pages.reads, 3 * 2_049);
     Ok(())
 }
 
+// A volume of 524,289 big-blocks, in which zone 8 has taken so many bytes.
+fn large(taken: u32) -> Freemap<Made>
+    requires { taken ≤ 8388608 }
+{
+    let pages = Made {
+        bigblocks: 524_289,
+        taken,
+        reads: 0,
+    };
+    Freemap::over(pages, 524_289, [12, 13, 14, 15])
+}
+
 #[test]
-fn bad_entries_are_told_at_their_page(rt: HostRuntime) {
-    let want = Err(Fault::Damaged {
-        at: page_of(0),
-        kind: BAD_FREEMAP,
-    });
-    for (block, entry) in [
-        (23u64, owned(4, 0, 0)),
-        (16, owned(8, 16, 0)),
-        (20, owned(0, 0, 0)),
+fn admit_looks_no_further_than_it_needs(rt: HostRuntime) {
+    for (taken, held, free, reads) in [
+        // The zone has room.
+        (4_096u32, 4u32, None, 1u64),
+        // The first page of layer 2 has 240 free big-blocks, and one is needed.
+        (8_388_608, 239, None, 1 + 3 + 1),
+        (8_388_608, 240, None, 1 + 6 + 1),
+        // All of them are not enough.
+        (8_388_608, 524_273, Some(524_273), 1 + 3 * 2_049),
     ] {
-        let mut freemap = put(volume(), block, &entry);
-        assert_eq!(rt; freemap.free_blocks(), want, "{block}");
+        assert!(rt; taken <= 8_388_608);
+        let mut freemap = large(taken);
+        let want = match free {
+            Some(free) => Err(SpaceFault::NoSpace { free, needed: 1 }),
+            None => Ok(()),
+        };
+        assert_eq!(rt; freemap.admit(Zones::TREE, held), want, "{held}");
+        let (pages, _) = freemap.into_parts();
+        assert_eq!(rt; pages.reads, reads, "{held}");
     }
-    assert!(rt; volume().live_bytes(10).is_err());
-    assert!(rt; volume().live_bytes(24).is_err());
+}
+
+// The first page of layer 2, in bytes from the start of the volume.
+const FIRST_PAGE: u64 = 16_777_216;
+
+// What is told of a page with a bad entry.
+fn damage_at(page: u64) -> Fault {
+    Fault::Damaged {
+        at: HOff::make(4, page).unwrap_or_default(),
+        kind: 7,
+    }
+}
+
+// A small volume where one byte of the entry of a big-block is another one, in one of the states.
+fn with_byte(state: State, block: u64, place: usize, value: u8) -> Freemap<Quiet>
+    requires { place < 16 }
+{
+    let (mut pages, _) = volume().into_parts();
+    let page = match state {
+        State::Committed => &mut pages.0.committed,
+        State::Frozen => &mut pages.0.frozen,
+        State::Current => &mut pages.0.current,
+    };
+    put_u8(page, place_of(block) + place, value);
+    again(pages)
+}
+
+#[test]
+fn each_field_of_a_bad_entry_is_told_at_its_page(rt: HostRuntime) {
+    for (block, place, value) in [
+        // The zone: of the freemap, none that there is, and a second byte.
+        (16u64, 0usize, 4u8),
+        (16, 0, 5),
+        (16, 1, 1),
+        (16, 2, 1),
+        (16, 3, 1),
+        // The offset of an unused big-block, no whole page, no multiple of 16, and past the end.
+        (16, 4, 16),
+        (11, 4, 16),
+        (12, 4, 88),
+        (12, 7, 1),
+        // The free bytes of an unused one.
+        (16, 8, 16),
+        // What must be zero.
+        (16, 12, 1),
+        (12, 13, 1),
+        (12, 14, 1),
+        (23, 15, 1),
+    ] {
+        for state in [State::Committed, State::Frozen, State::Current] {
+            assert!(rt; place < 16);
+            let mut freemap = with_byte(state, block, place, value);
+            assert_eq!(rt;
+                freemap.free_blocks(),
+                Err(damage_at(FIRST_PAGE)),
+                "{block} {place} {state:?}"
+            );
+        }
+    }
+}
+
+#[test]
+fn calls_on_a_bad_entry_tell_it(rt: HostRuntime) {
+    let mut freemap = with_byte(State::Current, 12, 0, 10);
+    assert_eq!(rt; take(&mut freemap, 9, 16), Err(damage_at(FIRST_PAGE)));
+    assert_eq!(rt;
+        freemap.admit(Zones::META, 0),
+        Err(SpaceFault::Fault(damage_at(FIRST_PAGE)))
+    );
+    let mut freemap = with_byte(State::Current, 12, 4, 88);
+    let at = HOff::make(9, 12 * 8_388_608).unwrap_or_default();
+    assert_eq!(rt; take(&mut freemap, 9, 16), Err(damage_at(FIRST_PAGE)));
+    assert_eq!(rt; freemap.share_extent(at, 80), Err(damage_at(FIRST_PAGE)));
+    assert_eq!(rt; freemap.give_extent(at, 80), Err(damage_at(FIRST_PAGE)));
+    assert_eq!(rt; freemap.live_bytes(12), Err(damage_at(FIRST_PAGE)));
+    assert_eq!(rt; freemap.live_bytes(11), Ok(4_096));
+}
+
+#[test]
+fn offsets_outside_the_pool_are_damage_at_the_page_of_their_entry(rt: HostRuntime) {
+    for (zone, block, page) in [
+        (8u8, 0u32, FIRST_PAGE),
+        (4, 1, FIRST_PAGE),
+        (3, 10, FIRST_PAGE),
+        (9, 24, FIRST_PAGE),
+        (11, 256, 16_781_312),
+        (15, 536_870_911, 8_606_707_712),
+    ] {
+        let mut freemap = volume();
+        let at = HOff::make(zone, u64::from(block) * 8_388_608).unwrap_or_default();
+        assert_eq!(rt;
+            freemap.give_extent(at, 16),
+            Err(damage_at(page)),
+            "{block}"
+        );
+        assert_eq!(rt;
+            freemap.share_extent(at, 16),
+            Err(damage_at(page)),
+            "{block}"
+        );
+        assert_eq!(rt; freemap.live_bytes(block), Err(damage_at(page)), "{block}");
+        let (pages, _) = freemap.into_parts();
+        assert_eq!(rt; (pages.0.reads, pages.0.changes), (0, 0));
+    }
 }
 
 // Takes an extent.

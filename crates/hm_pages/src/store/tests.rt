@@ -145,12 +145,13 @@ fn steps_do_what_they_do_to_three_plain_maps(rt: HostRuntime) -> Result<(), Fail
         Step::Keep,
         Step::Begin,
         Step::Undo,
-        // A call that is dropped: a page removed, one changed, a new one.
+        // A call that is dropped: a page removed, one changed, new ones of the tree and the freemap.
         Step::Begin,
         Step::Remove(0),
         Step::Change(1, 21),
         Step::Change(2, 22),
         Step::Change(6, 26),
+        Step::Change(7, 27),
         Step::Undo,
         // The same call, kept.
         Step::Begin,

@@ -1,7 +1,6 @@
 use Rattle.std.proofs.Common.{◌≡◌, ◌∙◌, ◌^◌, ◌<◌, slice_index, refl, arith}
 use Rattle.hm_freemap.specs.Renew.{lacks_at}
-use Rattle.hm_freemap.proofs.CountLemmas.{bit, bool_bit}
-use Rattle.hm_freemap.proofs.RenewLemmas.{bit_one}
+use Rattle.hm_freemap.proofs.CountLemmas.{bit, bit_one, bool_bit}
 use Rattle.hm_freemap.proofs.StepLemmas.{first_more, told_step}
 use Rattle.hm_freemap.proofs.admit.renew.Goals as goal
 

@@ -1,8 +1,7 @@
 use Rattle.std.proofs.Common.{◌≡◌, ◌≤◌}
 use Rattle.hm_types.specs.Told.{BothTell}
-use Rattle.hm_freemap.specs.Renew.{Renewing}
+use Rattle.hm_freemap.specs.Renew.{Renewing, count_first}
 use Rattle.hm_freemap.specs.Stand.{AreBelow}
-use Rattle.hm_freemap.proofs.StepLemmas.{count_first}
 use Rattle.hm_freemap.proofs.admit.renew.Given as goal
 
 abbrev pub invariant-loop-k : goal.invariant-loop-k

@@ -37,7 +37,7 @@ returns-clause-ok g c =
     let next : c.given-next.result ≡ given (rounded c.args.len) entry = c.given-next.ensures ∙ ap (λ (size : ℕ). given size entry) (c.rounded.ensures ∙ ap rounded c.from.ensures) in
     ok_moves committed frozen current new
     (λ maps now. EntryPut block c.given-next.result maps.current now × (entry_page maps.current block ≡ page))
-    (Changes self.bigblocks self.append r (IsReferred r) (unreferred r))
+    (Changes self.bigblocks self.append r (IsReferred r) (unreferred r) (given (rounded c.args.len)))
     c.put_entry.result
     (λ (maps : Maps) (now : PageMap) fact.
     give_changes self.bigblocks self.append r maps now block entry c.block_at-block.ensures.value

@@ -37,7 +37,7 @@ returns-clause-ok g c =
     let next : c.shared-next.result ≡ shared (rounded c.args.len) entry = c.shared-next.ensures ∙ ap (λ (size : ℕ). shared size entry) (c.rounded.ensures ∙ ap rounded c.from.ensures) in
     ok_moves committed frozen current new
     (λ maps now. EntryPut block c.shared-next.result maps.current now × (entry_page maps.current block ≡ page))
-    (Changes self.bigblocks self.append r (IsShareable r) (referred r))
+    (Changes self.bigblocks self.append r (IsShareable r) (referred r) (shared (rounded c.args.len)))
     c.put_entry.result
     (λ (maps : Maps) (now : PageMap) fact.
     share_changes self.bigblocks self.append r maps now block entry c.block_at-block.ensures.value
