@@ -1,0 +1,6 @@
+pub mod ByteLemmas
+pub mod FirstLemmas
+mod PieceLemmas
+mod ReadLemmas
+mod CloseLemmas
+mod CloseToldLemmas
