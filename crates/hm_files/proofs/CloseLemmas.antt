@@ -64,7 +64,7 @@ placed_both was mid now first second = record {
 
 module _ (at : Key) (pfs obj key last i : ℕ) (here : subject_of at ≡ bytes_subject pfs obj key) where
   -- where what is seen ends at `limit` or later, no bytes count that end before it
-  nothing_between : (lists : Lists) (limit : ℕ) → limit ≤ last + 1 → ((y : Element) → Contains lists.0 y → IsSeenIn at last i y → limit ≤ y.base.key)
+  pub nothing_between : (lists : Lists) (limit : ℕ) → limit ≤ last + 1 → ((y : Element) → Contains lists.0 y → IsSeenIn at last i y → limit ≤ y.base.key)
       → (n : ℕ) → key ≤ n → n < limit → CountsNothing (Counts (fulls lists) i) (bytes_subject pfs obj n)
   nothing_between lists limit within least n from below bytes counts =
       by_element counts.element counts.about counts.seen (map_has (full_of lists.1) lists.0 counts.element counts.there) where
@@ -80,30 +80,30 @@ module _ (at : Key) (pfs obj key last i : ℕ) (here : subject_of at ≡ bytes_s
             }) in
             absurd (omega (arith, up, number, below))
 
-  module _ (first end : ℕ) (was mid : Lists) (older : AreOlder pfs obj i first end (fulls was)) (gone : HaveClosed pfs obj i first key was mid) where
+  module _ (first : ℕ) (was mid : Lists) (older : AreOlder pfs obj i first (fulls was)) (gone : HaveClosed pfs obj i first key was mid) where
     -- what is not closed yet is older still
-    still_older : (n : ℕ) → first ≤ n → n < end → IsFreshFor (bytes_subject pfs obj n) i (fulls mid)
-    still_older n from below = gone.closes.writes.fresh (bytes_subject pfs obj n) (λ x new. absurd new) (older n from below)
+    still_older : (n : ℕ) → first ≤ n → IsFreshFor (bytes_subject pfs obj n) i (fulls mid)
+    still_older n from = gone.closes.writes.fresh (bytes_subject pfs obj n) (λ x new. absurd new) (older n from)
 
     -- and does not count later either
-    nothing_later : (limit : ℕ) → limit ≤ last + 1 → first ≤ key → limit ≤ end
+    nothing_later : (limit : ℕ) → limit ≤ last + 1 → first ≤ key
         → ((y : Element) → Contains mid.0 y → IsSeenIn at last i y → limit ≤ y.base.key)
         → (t n : ℕ) → i ≤ t → key ≤ n → n < limit → CountsNothing (Counts (fulls mid) t) (bytes_subject pfs obj n)
-    nothing_later limit within low high least t n late from below bytes counts =
+    nothing_later limit within low least t n late from below bytes counts =
         nothing_between mid limit within least n from below bytes
-        ((fresh_later (bytes_subject pfs obj n) i t (fulls mid) bytes (still_older n (omega (arith, low, from)) (omega (arith, below, high))) late).0 counts)
+        ((fresh_later (bytes_subject pfs obj n) i t (fulls mid) bytes (still_older n (omega (arith, low, from))) late).0 counts)
 
     -- what was found may be closed
-    pub closed_fresh : (e : Element) → IsFirst mid.0 at last i (Some e) → first ≤ key → last < end → IsFreshFor (subject_of (element_key e)) i (fulls mid)
-    closed_fresh e found low high =
+    pub closed_fresh : (e : Element) → IsFirst mid.0 at last i (Some e) → first ≤ key → IsFreshFor (subject_of (element_key e)) i (fulls mid)
+    closed_fresh e found low =
         subst (λ (s : Subject). IsFreshFor s i (fulls mid)) (sym (span_about at last pfs obj key e here found.place))
-        (still_older e.base.key (omega (arith, low, found.place.from, ap (λ (s : Subject). s.key) here)) (omega (arith, high, found.place.to)))
+        (still_older e.base.key (omega (arith, low, found.place.from, ap (λ (s : Subject). s.key) here)))
 
     -- one more is closed
-    pub closed_more : (e : Element) (now : Lists) → IsFirst mid.0 at last i (Some e) → first ≤ key → last < end → IsBalanced now.0 now.1
+    pub closed_more : (e : Element) (now : Lists) → IsFirst mid.0 at last i (Some e) → first ≤ key → IsBalanced now.0 now.1
         → KeepPlaces mid now → Rewrites (subject_of (element_key e)) None i (fulls mid) (fulls now)
         → HaveClosed pfs obj i first (e.base.key + 1) was now
-    closed_more e now found low high balanced placed rewrites = record {
+    closed_more e now found low balanced placed rewrites = record {
       balanced = balanced;
       placed = placed_both was mid now gone.placed placed;
       closes = record {
@@ -131,7 +131,7 @@ module _ (at : Key) (pfs obj key last i : ℕ) (here : subject_of at ≡ bytes_s
           stays t n late (λ is. absurd (omega (arith, before, up, is))) (gone.closes.gone t n late from before)
       by_place t n late from (inr not) (inl less) below =
           stays t n late (λ is. absurd (omega (arith, less, is)))
-          (nothing_later e.base.key (omega (arith, found.place.to)) low (omega (arith, high, found.place.to)) (λ y has seen. found.first y has seen) t n late not less)
+          (nothing_later e.base.key (omega (arith, found.place.to)) low (λ y has seen. found.first y has seen) t n late not less)
       by_place t n late from (inr not) (inr there) below =
           let same : n ≡ e.base.key = omega (arith, there, below) in
           λ bytes counts. none_some bytes (((wrote.present t late).about bytes).0 (subst (λ (m : ℕ). Counts (fulls now) t (bytes_subject pfs obj m) bytes) same counts))
@@ -148,8 +148,8 @@ module _ (at : Key) (pfs obj key last i : ℕ) (here : subject_of at ≡ bytes_s
           step (inr late) = (wrote.present t late).elsewhere s bytes (apart e.base.key (omega (arith, low, up)) (omega arith))
 
     -- none is left
-    pub closed_all : IsFirst mid.0 at last i None → first ≤ key → key ≤ last → last < end → HaveClosed pfs obj i first (last + 1) was mid
-    closed_all none low more high = record {
+    pub closed_all : IsFirst mid.0 at last i None → first ≤ key → key ≤ last → HaveClosed pfs obj i first (last + 1) was mid
+    closed_all none low more = record {
       balanced = gone.balanced;
       placed = gone.placed;
       closes = record {
@@ -161,7 +161,7 @@ module _ (at : Key) (pfs obj key last i : ℕ) (here : subject_of at ≡ bytes_s
       by_place : (t n : ℕ) → i ≤ t → first ≤ n → (n < key) ⊎ (key ≤ n) → n < last + 1 → CountsNothing (Counts (fulls mid) t) (bytes_subject pfs obj n)
       by_place t n late from (inl before) below = gone.closes.gone t n late from before
       by_place t n late from (inr not) below =
-          nothing_later (last + 1) (omega arith) low (omega (arith, high)) (λ y has seen. absurd (none y has seen)) t n late not below
+          nothing_later (last + 1) (omega arith) low (λ y has seen. absurd (none y has seen)) t n late not below
 
 -- ---- an object without an inode
 

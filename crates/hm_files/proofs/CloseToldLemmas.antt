@@ -88,17 +88,17 @@ module _ (pfs obj i first : ℕ) where
 
   module _ (at : Key) (key last : ℕ) (here : subject_of at ≡ bytes_subject pfs obj key) (low : first ≤ key) where
     pub told_all : (es es' : Option (List Element)) (xs xs' : Option (List Extent)) → key ≤ last
-        → IfSome (content_of es xs) (λ was. AreOlder pfs obj i first (last + 1) (fulls was)) → IfSome es' (λ list. IsFirst list at last i None)
+        → IfSome (content_of es xs) (λ was. AreOlder pfs obj i first (fulls was)) → IfSome es' (λ list. IsFirst list at last i None)
         → ClosedTold pfs obj i first key es xs es' xs' → ClosedTold pfs obj i first (last + 1) es xs es' xs'
     told_all None es' xs xs' more older none closed = tt
     told_all (Some es) es' None xs' more older none closed = tt
     told_all (Some es) None (Some xs) xs' more older none closed = absurd closed
     told_all (Some es) (Some es') (Some xs) None more older none closed = absurd closed
     told_all (Some es) (Some es') (Some xs) (Some xs') more older none closed =
-        closed_all at pfs obj key last i here first (last + 1) (es, xs) (es', xs') older closed none low more (omega arith)
+        closed_all at pfs obj key last i here first (es, xs) (es', xs') older closed none low more
 
     pub told_fresh : (e : Element) (es es' : Option (List Element)) (xs xs' : Option (List Extent))
-        → IfSome (content_of es xs) (λ was. AreOlder pfs obj i first (last + 1) (fulls was)) → IfSome es' (λ list. IsFirst list at last i (Some e))
+        → IfSome (content_of es xs) (λ was. AreOlder pfs obj i first (fulls was)) → IfSome es' (λ list. IsFirst list at last i (Some e))
         → ClosedTold pfs obj i first key es xs es' xs'
         → is_some (content_of es' xs') ≡ is_some (content_of es xs)
         → IfSome (content_of es' xs') (λ mid. IsFreshFor (subject_of (element_key e)) i (fulls mid))
@@ -107,10 +107,10 @@ module _ (pfs obj i first : ℕ) where
     told_fresh e (Some es) None (Some xs) xs' older found closed told = absurd closed
     told_fresh e (Some es) (Some es') (Some xs) None older found closed told = absurd closed
     told_fresh e (Some es) (Some es') (Some xs) (Some xs') older found closed told =
-        closed_fresh at pfs obj key last i here first (last + 1) (es, xs) (es', xs') older closed e found low (omega arith)
+        closed_fresh at pfs obj key last i here first (es, xs) (es', xs') older closed e found low
 
     pub told_more : (e : Element) (es es' es'' : Option (List Element)) (xs xs' xs'' : Option (List Extent))
-        → IfSome (content_of es xs) (λ was. AreOlder pfs obj i first (last + 1) (fulls was)) → IfSome es' (λ list. IsFirst list at last i (Some e))
+        → IfSome (content_of es xs) (λ was. AreOlder pfs obj i first (fulls was)) → IfSome es' (λ list. IsFirst list at last i (Some e))
         → IfSome (content_of es' xs') (λ mid. IsBalanced mid.0 mid.1
         → IsSomeAnd (content_of es'' xs'') (λ now. IsBalanced now.0 now.1 × Rewrites (subject_of (element_key e)) None i (fulls mid) (fulls now)))
         → IfSome (content_of es' xs') (λ mid. IsSomeAnd (content_of es'' xs'') (KeepPlaces mid))
@@ -126,12 +126,12 @@ module _ (pfs obj i first : ℕ) where
               → IsSomeAnd now (KeepPlaces (es', xs')) → IsSomeAnd now (HaveClosed pfs obj i first (e.base.key + 1) (es, xs))
           by_now None wrote placed = absurd wrote
           by_now (Some now) wrote placed =
-              closed_more at pfs obj key last i here first (last + 1) (es, xs) (es', xs') older closed e now found low (omega arith) wrote.0 placed wrote.1
+              closed_more at pfs obj key last i here first (es, xs) (es', xs') older closed e now found low wrote.0 placed wrote.1
 
     -- what was found is closed, after a search that left the store as it was
     pub told_step : (found : Option Element) (e : Element) (es es' mid es'' : Option (List Element)) (xs xs' mid_xs xs'' : Option (List Extent))
         → mid ≡ es' → mid_xs ≡ xs' → found ≡ Some e
-        → IfSome (content_of es xs) (λ was. AreOlder pfs obj i first (last + 1) (fulls was)) → IfSome es' (λ list. IsFirst list at last i found)
+        → IfSome (content_of es xs) (λ was. AreOlder pfs obj i first (fulls was)) → IfSome es' (λ list. IsFirst list at last i found)
         → IfSome (content_of mid mid_xs) (λ mid. IsBalanced mid.0 mid.1
         → IsSomeAnd (content_of es'' xs'') (λ now. IsBalanced now.0 now.1 × Rewrites (subject_of (element_key e)) None i (fulls mid) (fulls now)))
         → IfSome (content_of mid mid_xs) (λ mid. IsSomeAnd (content_of es'' xs'') (KeepPlaces mid))

@@ -4,3 +4,8 @@ mod PieceLemmas
 mod ReadLemmas
 mod CloseLemmas
 mod CloseToldLemmas
+mod VersionLemmas
+mod PutLemmas
+mod CutLemmas
+mod TellLemmas
+mod CutToldLemmas

@@ -10,13 +10,13 @@ use Rattle.hm_cursor.specs.Told.{fulls}
 use Rattle.hm_cursor.specs.Views.{Shows, WritesIn}
 use Rattle.hm_cursor.specs.Write.{IsFreshFor}
 
--- bytes of a file that end from one offset on and before another one are older than `i`
-abbrev pub AreOlder : ℕ → ℕ → ℕ → ℕ → ℕ → List FullElement → Type 0
-AreOlder pfs obj i first end es = (n : ℕ) → first ≤ n → n < end → IsFreshFor (bytes_subject pfs obj n) i es
+-- the bytes of a file that end from an offset on are older than `i`
+abbrev pub AreOlder : ℕ → ℕ → ℕ → ℕ → List FullElement → Type 0
+AreOlder pfs obj i first es = (n : ℕ) → first ≤ n → IsFreshFor (bytes_subject pfs obj n) i es
 
 -- the same of a store, where it tells its content
-abbrev pub AreOlderIn : Option (List Element) → Option (List Extent) → ℕ → ℕ → ℕ → ℕ → ℕ → Type 0
-AreOlderIn es xs pfs obj i first end = IfSome (content_of es xs) (λ lists. AreOlder pfs obj i first end (fulls lists))
+abbrev pub AreOlderIn : Option (List Element) → Option (List Extent) → ℕ → ℕ → ℕ → ℕ → Type 0
+AreOlderIn es xs pfs obj i first = IfSome (content_of es xs) (λ lists. AreOlder pfs obj i first (fulls lists))
 
 -- no element is new
 abbrev pub IsNothing : FullElement → Type 0

@@ -11,7 +11,8 @@ use hm_types::{BLOCK_BYTES, Obj, Pfs};
 
 /// The base of the bytes of a file that end at `end`, but for the id that made it.
 pub(crate) fn bytes_base(pfs: Pfs, obj: Obj, end: u64) -> Base
-    ensures { subject_of (key_of result) ≡ bytes_subject pfs.0 obj.0 end }
+    ensures about { subject_of (key_of result) ≡ bytes_subject pfs.0 obj.0 end }
+    ensures open { (result.delete ≡ 0) × (result.obj_type ≡ FILE) × (result.btype ≡ ELEMENT) }
 {
     Base {
         obj,

@@ -23,7 +23,7 @@ pub fn remove_bytes<T: ElementStore + Extents>(
 ) -> Result<(), Fault>
     requires balanced { Balanced (T.elements store.old) (T.extents store.old) }
     requires older { AreOlderIn (T.elements store.old) (T.extents store.old)
-        pfs.0 obj.0 id.0 0 (2 ^ 64) }
+        pfs.0 obj.0 id.0 0 }
     ensures ok { OnOk result (Writes T.elements T.extents
         (RemovesBytes pfs.0 obj.0 id.0 (2 ^ 64)) store.old store.new) }
     ensures placed { OnOk result (StayPlaced T.elements T.extents store.old store.new) }
@@ -49,7 +49,7 @@ pub(crate) fn close_between<T: ElementStore + Extents>(
 ) -> Result<(), Fault>
     requires balanced { Balanced (T.elements store.old) (T.extents store.old) }
     requires older { AreOlderIn (T.elements store.old) (T.extents store.old)
-        pfs.0 obj.0 id.0 first (last + 1) }
+        pfs.0 obj.0 id.0 first }
     ensures ok { OnOk result (Writes T.elements T.extents
         (ClosesBytes pfs.0 obj.0 id.0 first (last + 1)) store.old store.new) }
     ensures placed { OnOk result (StayPlaced T.elements T.extents store.old store.new) }

@@ -3,11 +3,14 @@
 
 mod block;
 mod close;
+mod cut;
 #[cfg(test)]
 mod limited;
+mod put;
 mod read;
 #[cfg(test)]
 mod read_tests;
 
 pub use close::remove_bytes;
+pub use cut::resize_bytes;
 pub use read::read_bytes;

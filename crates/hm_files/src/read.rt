@@ -45,8 +45,8 @@ pub fn read_bytes<T: ElementStore + Extents>(
     Ok(count)
 }
 
-// Fills a buffer with the bytes of a file from an offset on.
-fn read_all<T: ElementStore + Extents>(
+/// Fills a buffer with the bytes of a file from an offset on.
+pub(crate) fn read_all<T: ElementStore + Extents>(
     store: &mut T,
     pfs: Pfs,
     obj: Obj,

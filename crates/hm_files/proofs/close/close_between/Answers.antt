@@ -25,7 +25,7 @@ returns-in_default-clause-ok g c =
     let none = first_still (elements c.loop-key.store) (elements now) at c.args.last i c.in_ok-element.field-0 None (sym searched.keeps.elements)
     c.in_default.is searched.ok in
     told_closed pfs obj i c.args.first (c.args.last + 1) (elements old) (elements now) (extents old) (extents now)
-    (told_all pfs obj i c.args.first at c.loop-key.key c.args.last c.bytes_base-at.ensures was.from (elements old) (elements now) (extents old) (extents now)
+    (told_all pfs obj i c.args.first at c.loop-key.key c.args.last c.bytes_base-at.ensures.about was.from (elements old) (elements now) (extents old) (extents now)
     c.loop-key-test.true c.requires.older none
     (told_moved pfs obj i c.args.first c.loop-key.key (elements old) (elements c.loop-key.store) (elements now) (extents old) (extents c.loop-key.store)
     (extents now) searched.keeps.elements searched.keeps.extents was.closed))
@@ -56,7 +56,7 @@ close_versions-requires-clause-fresh g c =
     let searched = c.in_ok-element.ensures in
     let found = first_still (elements c.loop-key.store) (elements mid) at c.args.last i c.in_ok-element.field-0 (Some c.in-Some.element)
     (sym searched.keeps.elements) c.in-Some.is searched.ok in
-    told_fresh pfs obj i c.args.first at c.loop-key.key c.args.last c.bytes_base-at.ensures was.from c.in-Some.element (elements old) (elements mid)
+    told_fresh pfs obj i c.args.first at c.loop-key.key c.args.last c.bytes_base-at.ensures.about was.from c.in-Some.element (elements old) (elements mid)
     (extents old) (extents mid) c.requires.older found
     (told_moved pfs obj i c.args.first c.loop-key.key (elements old) (elements c.loop-key.store) (elements mid) (extents old) (extents c.loop-key.store)
     (extents mid) searched.keeps.elements searched.keeps.extents was.closed)
@@ -77,7 +77,7 @@ one_more g c =
     let now = c.close_versions.new.store in
     let searched = c.in_ok-element.ensures in
     let closed = c.in_ok-close_versions.ensures in
-    told_step c.args.pfs.0 c.args.obj.0 c.args.id.0 c.args.first (key_of c.bytes_base-at.result) c.loop-key.key c.args.last c.bytes_base-at.ensures was.from
+    told_step c.args.pfs.0 c.args.obj.0 c.args.id.0 c.args.first (key_of c.bytes_base-at.result) c.loop-key.key c.args.last c.bytes_base-at.ensures.about was.from
     c.in_ok-element.field-0 c.in-Some.element (elements old) (elements loop) (elements mid) (elements now) (extents old) (extents loop) (extents mid) (extents now)
     searched.keeps.elements searched.keeps.extents c.in-Some.is c.requires.older searched.ok closed.ok closed.placed was.closed
 
@@ -108,7 +108,7 @@ loop-key-preserved g c =
     let found : IfSome (Some c.in-Some.element) (IsFoundIn (key_of c.bytes_base-at.result) c.args.last c.args.id.0) =
     subst (λ (o : Option Element). IfSome o (IsFoundIn (key_of c.bytes_base-at.result) c.args.last c.args.id.0)) c.in-Some.is searched.found in
     let place = found.seen.place in
-    let up : c.loop-key.key ≤ c.in-Some.element.base.key = omega (arith, place.from, ap (λ (s : Subject). s.key) c.bytes_base-at.ensures) in
+    let up : c.loop-key.key ≤ c.in-Some.element.base.key = omega (arith, place.from, ap (λ (s : Subject). s.key) c.bytes_base-at.ensures.about) in
     record {
       from = omega (arith, was.from, up);
       to = omega (arith, place.to, c.if-element-last.false);
