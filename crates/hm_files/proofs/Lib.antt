@@ -9,3 +9,4 @@ mod PutLemmas
 mod CutLemmas
 mod TellLemmas
 mod CutToldLemmas
+mod TestLemmas

@@ -5,6 +5,8 @@ mod block;
 mod close;
 mod cut;
 #[cfg(test)]
+mod cut_tests;
+#[cfg(test)]
 mod limited;
 mod put;
 mod read;

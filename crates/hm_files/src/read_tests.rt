@@ -10,20 +10,20 @@ use hm_types::{Fault, HOff, INSERT_ROOM, Id, META_ZONE, Obj, Pfs, TREE_ZONE, rou
 use std::alloc::Global;
 use std::test::Fail;
 
-const PFS: Pfs = Pfs(3);
+pub(crate) const PFS: Pfs = Pfs(3);
 
-const FILE: Obj = Obj(7);
+pub(crate) const FILE: Obj = Obj(7);
 
 // Some bytes of the file: where they end, the ids that made and closed them, one of them, and how
 // many they are.
-type Piece = (u64, u64, u64, u8, usize);
+pub(crate) type Piece = (u64, u64, u64, u8, usize);
 
 // How many bytes of one kind.
-type Run = (usize, u8);
+pub(crate) type Run = (usize, u8);
 
 // The first block is written three times, the next two never, the fourth has 3 bytes, and the last
 // one of the longest file is whole.
-const PIECES: [Piece; 5] = [
+pub(crate) const PIECES: [Piece; 5] = [
     (5, 2, 4, b'a', 5),
     (16_384, 4, 9, b'b', 16_384),
     (16_384, 9, 0, b'c', 16_384),
@@ -71,7 +71,7 @@ fn add(
 }
 
 // A store with these bytes of the file.
-fn store_of(alloc: Global, pieces: &[Piece]) -> Result<MemStore, Fail>
+pub(crate) fn store_of(alloc: Global, pieces: &[Piece]) -> Result<MemStore, Fail>
     ensures { IfOk result (λ store. Balanced (⟦<MemStore as HasElements>⟧.elements store)
         (⟦<MemStore as HasRoom>⟧.extents store)) }
 {
@@ -85,7 +85,7 @@ fn store_of(alloc: Global, pieces: &[Piece]) -> Result<MemStore, Fail>
 }
 
 // All bytes of some runs.
-fn all_of(alloc: Global, runs: &[Run]) -> Result<Vec<u8>, Fail> {
+pub(crate) fn all_of(alloc: Global, runs: &[Run]) -> Result<Vec<u8>, Fail> {
     let mut bytes = Vec::new(alloc);
     for (count, byte) in runs {
         bytes.extend_from_slice(&Vec::from_elem(alloc, *byte, *count)?)?;
