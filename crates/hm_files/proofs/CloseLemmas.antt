@@ -1,0 +1,219 @@
+-- The bytes of a file, as they are closed one after another.
+use Rattle.std.proofs.Common.{◌≡◌, ◌≢◌, ℕ, ◌+◌, ◌<◌, ◌≤◌, List, None, Some, refl, ap, sym, subst, ◌∙◌, inl, inr, arith}
+use Rattle.std.specs.Prelude.{◌↔◌, ◌⊎◌}
+use Rattle.std.specs.List.{Contains}
+use Rattle.std.proofs.lemmas.Bool.{cases_lt}
+use Rattle.hm_types.specs.Elements.{FullElement, Key}
+use Rattle.hm_types.specs.Tree.{FileTree}
+use Rattle.hm_types.specs.declared.object.Object.{Object}
+use Rattle.hm_key.specs.Balance.{IsBalanced, full_of}
+use Rattle.hm_key.specs.Counts.{Content, Counts, IsSeen, Subject, bytes_subject, entry_subject, inode_subject, subject_of, target_subject}
+use Rattle.hm_key.specs.Elements.{element_key}
+use Rattle.hm_key.specs.declared.element.Element.{Element}
+use Rattle.hm_records.specs.Changes.{AgreeButObject, ChangesObject, CountsNothing, IsSettled}
+use Rattle.hm_records.specs.Inode.{inode_bytes}
+use Rattle.hm_records.specs.Laws.{HasView}
+use Rattle.hm_records.specs.View.{IsObject}
+use Rattle.hm_records.proofs.MemberLemmas.{map_has}
+use Rattle.hm_records.proofs.ObjectChangeLemmas.{object_same_view}
+use Rattle.hm_records.proofs.SubjectLemmas.{same_subject}
+use Rattle.hm_cursor.specs.Told.{Lists, fulls}
+use Rattle.hm_cursor.specs.Version.{IsFirst, IsSeenIn}
+use Rattle.hm_cursor.specs.Views.{WritesIn}
+use Rattle.hm_cursor.specs.Write.{IsFreshFor, KeepPlaces, Rewrites}
+use Rattle.hm_cursor.proofs.ViewsLemmas.{IsWithin, fresh_later, nothing_written, writes_again, writes_within}
+use Rattle.hm_files.specs.Close.{AreOlder, ClosesBytes, IsApart, IsMissing, IsNothing, RemovesBytes}
+use Rattle.hm_files.proofs.PieceLemmas.{in_span, span_about}
+
+-- bytes are of their pseudo file system, and no record
+pub bytes_within : (pfs obj n : ℕ) → IsWithin pfs (bytes_subject pfs obj n)
+bytes_within pfs obj n = record { place = inr refl; no_record = λ is. absurd (omega (arith, is)) }
+
+-- bytes that end elsewhere are another subject
+pub ends_apart : (pfs obj n m : ℕ) → n ≢ m → bytes_subject pfs obj n ≢ bytes_subject pfs obj m
+ends_apart pfs obj n m differ is = differ (ap (λ (s : Subject). s.key) is)
+
+none_some : (bytes : List ℕ) → None ≡ Some bytes → ⊥
+none_some bytes is = cc
+
+-- of a file's bytes those that end from `first` on and before `end` are closed at `i`, and all else is as it was
+pub record HaveClosed (pfs obj i first end : ℕ) (was now : Lists) : Type 0 where
+  pub balanced : IsBalanced now.0 now.1
+  pub placed : KeepPlaces was now
+  pub closes : ClosesBytes pfs obj i first end (fulls was) (fulls now)
+
+pub none_closed : (pfs obj i first : ℕ) (was : Lists) → IsBalanced was.0 was.1 → HaveClosed pfs obj i first first was was
+none_closed pfs obj i first was balanced = record {
+  balanced = balanced;
+  placed = record { extents = refl; elements = λ x has. (x, has, refl, refl, refl) };
+  closes = record {
+    writes = nothing_written pfs i IsNothing (fulls was);
+    gone = λ t n late from below. absurd (omega (arith, from, below));
+    beside = λ t s bytes apart. (λ h. h, λ h. h);
+  };
+}
+
+placed_both : (was mid now : Lists) → KeepPlaces was mid → KeepPlaces mid now → KeepPlaces was now
+placed_both was mid now first second = record {
+  extents = second.extents ∙ first.extents;
+  elements = λ x has.
+      let m = second.elements x has in
+      let e = first.elements m.0 m.1 in
+      (e.0, e.1, m.2 ∙ e.2, m.3 ∙ e.3, m.4 ∙ e.4);
+}
+
+module _ (at : Key) (pfs obj key last i : ℕ) (here : subject_of at ≡ bytes_subject pfs obj key) where
+  -- where what is seen ends at `limit` or later, no bytes count that end before it
+  pub nothing_between : (lists : Lists) (limit : ℕ) → limit ≤ last + 1 → ((y : Element) → Contains lists.0 y → IsSeenIn at last i y → limit ≤ y.base.key)
+      → (n : ℕ) → key ≤ n → n < limit → CountsNothing (Counts (fulls lists) i) (bytes_subject pfs obj n)
+  nothing_between lists limit within least n from below bytes counts =
+      by_element counts.element counts.about counts.seen (map_has (full_of lists.1) lists.0 counts.element counts.there) where
+        by_element : (f : FullElement) → subject_of f.key ≡ bytes_subject pfs obj n → IsSeen i f
+            → (y : Element) × Contains lists.0 y × (full_of lists.1 y ≡ f) → ⊥
+        by_element f about seen (y, has, is) =
+            let about' : subject_of (element_key y) ≡ bytes_subject pfs obj n = subst (λ (z : FullElement). subject_of z.key ≡ bytes_subject pfs obj n) (sym is) about in
+            let number : y.base.key ≡ n = ap (λ (s : Subject). s.key) about' in
+            let up = least y has (record {
+              place = in_span at last pfs obj key y here (about' ∙ ap (bytes_subject pfs obj) (sym number)) (omega (arith, from, number))
+                  (omega (arith, below, within, number));
+              seen = subst (λ (z : FullElement). IsSeen i z) (sym is) seen;
+            }) in
+            absurd (omega (arith, up, number, below))
+
+  module _ (first : ℕ) (was mid : Lists) (older : AreOlder pfs obj i first (fulls was)) (gone : HaveClosed pfs obj i first key was mid) where
+    -- what is not closed yet is older still
+    still_older : (n : ℕ) → first ≤ n → IsFreshFor (bytes_subject pfs obj n) i (fulls mid)
+    still_older n from = gone.closes.writes.fresh (bytes_subject pfs obj n) (λ x new. absurd new) (older n from)
+
+    -- and does not count later either
+    nothing_later : (limit : ℕ) → limit ≤ last + 1 → first ≤ key
+        → ((y : Element) → Contains mid.0 y → IsSeenIn at last i y → limit ≤ y.base.key)
+        → (t n : ℕ) → i ≤ t → key ≤ n → n < limit → CountsNothing (Counts (fulls mid) t) (bytes_subject pfs obj n)
+    nothing_later limit within low least t n late from below bytes counts =
+        nothing_between mid limit within least n from below bytes
+        ((fresh_later (bytes_subject pfs obj n) i t (fulls mid) bytes (still_older n (omega (arith, low, from))) late).0 counts)
+
+    -- what was found may be closed
+    pub closed_fresh : (e : Element) → IsFirst mid.0 at last i (Some e) → first ≤ key → IsFreshFor (subject_of (element_key e)) i (fulls mid)
+    closed_fresh e found low =
+        subst (λ (s : Subject). IsFreshFor s i (fulls mid)) (sym (span_about at last pfs obj key e here found.place))
+        (still_older e.base.key (omega (arith, low, found.place.from, ap (λ (s : Subject). s.key) here)))
+
+    -- one more is closed
+    pub closed_more : (e : Element) (now : Lists) → IsFirst mid.0 at last i (Some e) → first ≤ key → IsBalanced now.0 now.1
+        → KeepPlaces mid now → Rewrites (subject_of (element_key e)) None i (fulls mid) (fulls now)
+        → HaveClosed pfs obj i first (e.base.key + 1) was now
+    closed_more e now found low balanced placed rewrites = record {
+      balanced = balanced;
+      placed = placed_both was mid now gone.placed placed;
+      closes = record {
+        writes = writes_again pfs i IsNothing (fulls was) (fulls mid) (fulls now) (λ x y same kind bytes new. new) gone.closes.writes
+            (writes_within pfs i (bytes_subject pfs obj e.base.key) None IsNothing (fulls mid) (fulls now) (bytes_within pfs obj e.base.key)
+            (λ x about made now. none_some x.bytes now) wrote);
+        gone = λ t n late from below. by_place t n late from (cases_lt n key) (cases_lt n e.base.key) below;
+        beside = λ t s bytes apart. both t s bytes apart (cases_lt t i);
+      };
+    } where
+      up : key ≤ e.base.key
+      up = omega (arith, found.place.from, ap (λ (s : Subject). s.key) here)
+
+      wrote : Rewrites (bytes_subject pfs obj e.base.key) None i (fulls mid) (fulls now)
+      wrote = subst (λ (s : Subject). Rewrites s None i (fulls mid) (fulls now)) (span_about at last pfs obj key e here found.place) rewrites
+
+      stays : (t n : ℕ) → i ≤ t → n ≢ e.base.key → CountsNothing (Counts (fulls mid) t) (bytes_subject pfs obj n)
+          → CountsNothing (Counts (fulls now) t) (bytes_subject pfs obj n)
+      stays t n late differ nothing bytes counts =
+          nothing bytes (((wrote.present t late).elsewhere (bytes_subject pfs obj n) bytes (ends_apart pfs obj n e.base.key differ)).0 counts)
+
+      by_place : (t n : ℕ) → i ≤ t → first ≤ n → (n < key) ⊎ (key ≤ n) → (n < e.base.key) ⊎ (e.base.key ≤ n) → n < e.base.key + 1
+          → CountsNothing (Counts (fulls now) t) (bytes_subject pfs obj n)
+      by_place t n late from (inl before) less below =
+          stays t n late (λ is. absurd (omega (arith, before, up, is))) (gone.closes.gone t n late from before)
+      by_place t n late from (inr not) (inl less) below =
+          stays t n late (λ is. absurd (omega (arith, less, is)))
+          (nothing_later e.base.key (omega (arith, found.place.to)) low (λ y has seen. found.first y has seen) t n late not less)
+      by_place t n late from (inr not) (inr there) below =
+          let same : n ≡ e.base.key = omega (arith, there, below) in
+          λ bytes counts. none_some bytes (((wrote.present t late).about bytes).0 (subst (λ (m : ℕ). Counts (fulls now) t (bytes_subject pfs obj m) bytes) same counts))
+
+      both : (t : ℕ) (s : Subject) (bytes : List ℕ) → IsApart pfs obj first (e.base.key + 1) s → (t < i) ⊎ (i ≤ t)
+          → Counts (fulls now) t s bytes ↔ Counts (fulls was) t s bytes
+      both t s bytes apart time =
+          let one = gone.closes.beside t s bytes (λ n from below. apart n from (omega (arith, below, up))) in
+          let other = step time in
+          (λ h. one.0 (other.0 h), λ h. other.1 (one.1 h))
+        where
+          step : (t < i) ⊎ (i ≤ t) → Counts (fulls now) t s bytes ↔ Counts (fulls mid) t s bytes
+          step (inl before) = wrote.past t before s bytes
+          step (inr late) = (wrote.present t late).elsewhere s bytes (apart e.base.key (omega (arith, low, up)) (omega arith))
+
+    -- none is left
+    pub closed_all : IsFirst mid.0 at last i None → first ≤ key → key ≤ last → HaveClosed pfs obj i first (last + 1) was mid
+    closed_all none low more = record {
+      balanced = gone.balanced;
+      placed = gone.placed;
+      closes = record {
+        writes = gone.closes.writes;
+        gone = λ t n late from below. by_place t n late from (cases_lt n key) below;
+        beside = λ t s bytes apart. gone.closes.beside t s bytes (λ n from below. apart n from (omega (arith, below, more)));
+      };
+    } where
+      by_place : (t n : ℕ) → i ≤ t → first ≤ n → (n < key) ⊎ (key ≤ n) → n < last + 1 → CountsNothing (Counts (fulls mid) t) (bytes_subject pfs obj n)
+      by_place t n late from (inl before) below = gone.closes.gone t n late from before
+      by_place t n late from (inr not) below =
+          nothing_later (last + 1) (omega arith) low (λ y has seen. absurd (none y has seen)) t n late not below
+
+-- ---- an object without an inode
+
+module _ (pfs obj i end : ℕ) (es es' : List FullElement) (closes : ClosesBytes pfs obj i 0 end es es') where
+  -- what is about no bytes of the object counts as before
+  apart_of : (s : Subject) → s ≢ bytes_subject pfs obj s.key → IsApart pfs obj 0 end s
+  apart_of s differ n from below is = differ (is ∙ ap (bytes_subject pfs obj) (sym (ap (λ (z : Subject). z.key) is)))
+
+  same_apart : (t : ℕ) (s : Subject) (bytes : List ℕ) → s ≢ bytes_subject pfs obj s.key → Counts es' t s bytes ↔ Counts es t s bytes
+  same_apart t s bytes differ = closes.beside t s bytes (apart_of s differ)
+
+  settled_still : (t : ℕ) → i ≤ t → IsSettled (Counts es t) → IsSettled (Counts es' t)
+  settled_still t late settled s a b first second = elim (same_subject s (bytes_subject pfs obj s.key)) [
+    | inr differ ↦ settled s a b ((same_apart t s a differ).0 first) ((same_apart t s b differ).0 second)
+    | inl same ↦ elim (cases_lt s.key end) [
+      | inl below ↦ absurd (closes.gone t s.key late (omega arith) below a (subst (λ (z : Subject). Counts es' t z a) same first))
+      | inr past ↦
+          let far : IsApart pfs obj 0 end s = λ n from below is. absurd (omega (arith, past, below, ap (λ (z : Subject). z.key) is)) in
+          settled s a b ((closes.beside t s a far).0 first) ((closes.beside t s b far).0 second)
+    ]
+  ]
+
+  agree_still : (t : ℕ) → AgreeButObject pfs obj (Counts es t) (Counts es' t)
+  agree_still t = record {
+    objects = λ other differ. record {
+      inode = λ bytes. same_apart t (inode_subject pfs other) bytes (λ is. absurd (omega (arith, ap (λ (z : Subject). z.rec_type) is)));
+      bytes = λ n bytes. same_apart t (bytes_subject pfs other n) bytes (λ is. differ (ap (λ (z : Subject). z.obj) is));
+      target = λ bytes. same_apart t (target_subject pfs other) bytes (λ is. absurd (omega (arith, ap (λ (z : Subject). z.rec_type) is)));
+    };
+    entries = λ directory name key object. (
+      λ has. record { ranges = has.ranges; there = (entry_same directory.0 key _).0 has.there },
+      λ has. record { ranges = has.ranges; there = (entry_same directory.0 key _).1 has.there },
+    );
+  } where
+    entry_same : (directory key : ℕ) (bytes : List ℕ) → Counts es' t (entry_subject pfs directory key) bytes ↔ Counts es t (entry_subject pfs directory key) bytes
+    entry_same directory key bytes =
+        same_apart t (entry_subject pfs directory key) bytes (λ is. absurd (omega (arith, ap (λ (z : Subject). z.rec_type) is)))
+
+  inode_same : (t : ℕ) (bytes : List ℕ) → Counts es' t (inode_subject pfs obj) bytes ↔ Counts es t (inode_subject pfs obj) bytes
+  inode_same t bytes = same_apart t (inode_subject pfs obj) bytes (λ is. absurd (omega (arith, ap (λ (z : Subject). z.rec_type) is)))
+
+  no_object : (C : Content) → CountsNothing C (inode_subject pfs obj) → (o : Object) → o.number.0 ≡ obj → IsObject C pfs o → ⊥
+  no_object C none o same is = none (inode_bytes is.inode) (subst (λ (n : ℕ). C (inode_subject pfs n) (inode_bytes is.inode)) same is.there)
+
+  pub bytes_removed : RemovesBytes pfs obj i end es es'
+  bytes_removed = record {
+    closes = closes;
+    shows = λ missing t tree late has.
+        object_same_view pfs obj tree (Counts es t) (Counts es' t) has
+        (record { agree = agree_still t; settled = settled_still t late has.settled })
+        (λ o same. (
+          λ is. absurd (no_object (Counts es t) (missing t late) o same is),
+          λ is. absurd (no_object (Counts es' t) (λ bytes counts. missing t late bytes ((inode_same t bytes).0 counts)) o same is),
+        ));
+  }

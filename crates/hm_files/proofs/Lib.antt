@@ -1,0 +1,12 @@
+pub mod ByteLemmas
+pub mod FirstLemmas
+mod PieceLemmas
+mod ReadLemmas
+mod CloseLemmas
+mod CloseToldLemmas
+mod VersionLemmas
+mod PutLemmas
+mod CutLemmas
+mod TellLemmas
+mod CutToldLemmas
+mod TestLemmas

@@ -1,0 +1,53 @@
+use Rattle.std.proofs.Common.{◌≡◌, ◌+◌, ◌-◌, ℕ, List, Some, arith, length, refl, subst, sym}
+use Rattle.std.proofs.lemmas.Result.{on_ok_weaker}
+use Rattle.hm_types.specs.Elements.{FullElement}
+use Rattle.hm_key.specs.Balance.{content_of}
+use Rattle.hm_key.specs.Counts.{Subject, subject_of}
+use Rattle.hm_key.specs.Key.{key_of}
+use Rattle.hm_key.specs.declared.base.Base.{Base}
+use Rattle.hm_cursor.specs.Told.{Lists, fulls}
+use Rattle.hm_cursor.specs.Write.{Rewrites}
+use Rattle.hm_cursor.proofs.CallLemmas.{Change, Then, writes_both, writes_so}
+use Rattle.hm_cursor.proofs.StoreLemmas.{nothing_known}
+use Rattle.hm_files.specs.Close.{ClosesBytes}
+use Rattle.hm_files.specs.Put.{PutsBlock}
+use Rattle.hm_files.proofs.PutLemmas.{block_put, new_bytes}
+use Rattle.hm_files.proofs.put.put_block.Goals as goal
+
+pub put_version-requires-clause-new : goal.put_version-requires-clause-new
+put_version-requires-clause-new g c =
+    let base : Base = record c.bytes_base.result { create = c.args.id.0 } in
+    let open' = c.bytes_base.ensures.open in
+    new_bytes base c.args.pfs.0 c.args.obj.0 c.args.begin c.zone_of.result c.args.bytes.now c.bytes_base.ensures.about c.requires.id
+    open'.0 open'.1 open'.2 c.requires.block.0 c.requires.sized.0 c.requires.sized.1 c.zone_of.ensures
+
+pub returns-clause-ok : goal.returns-clause-ok
+returns-clause-ok g c =
+    let elements = g.T.HasElements.elements in
+    let extents = g.T.HasRoom.extents in
+    let pfs = c.args.pfs.0 in
+    let obj = c.args.obj.0 in
+    let i = c.args.id.0 in
+    let begin = c.args.begin in
+    let bytes = c.args.bytes.now in
+    let old = c.args.store.now in
+    let low = c.close_between.new.store in
+    let high = c.close_between-2.new.store in
+    let new = c.put_version.new.store in
+    let end = begin + length bytes in
+    let One : Change = ClosesBytes pfs obj i (begin + 1) (end - 1 + 1) in
+    let Two : Change = ClosesBytes pfs obj i (end + 1) (begin + 16384 + 1) in
+    let Three : Change = Rewrites (subject_of (key_of (record c.bytes_base.result { create = i }))) (Some bytes) i in
+    let same : end - 1 + 1 ≡ end = let some = c.requires.sized.0 in omega (arith, some) in
+    on_ok_weaker c.put_version.result
+    (λ put. writes_so elements extents (Then (Then One Two) Three) (PutsBlock pfs obj i begin bytes) (λ lists. Unit {0}) old new
+    (nothing_known (content_of (elements old) (extents old)))
+    (λ was es' known steps.
+    let (mid, both, third) = steps in
+    let (first, one, two) = both in
+    block_put pfs obj i begin bytes (fulls was) first mid es' c.requires.block.0 c.requires.sized.0 c.requires.sized.1
+    (subst (λ (n : ℕ). ClosesBytes pfs obj i (begin + 1) n (fulls was) first) same one) two
+    (subst (λ (s : Subject). Rewrites s (Some bytes) i mid es') c.bytes_base.ensures.about third))
+    (writes_both elements extents (Then One Two) Three old high new
+    (writes_both elements extents One Two old low high c.in_ok-close_between.ensures.ok c.in_ok-close_between-2.ensures.ok) put))
+    c.put_version.ensures.ok

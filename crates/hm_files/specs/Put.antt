@@ -1,0 +1,64 @@
+-- Bytes that are put into a file, or cut off it.
+use Rattle.std.specs.Prelude.{◌≡◌, ◌≢◌, ◌↔◌, ℕ, ◌+◌, ◌-◌, ◌*◌, ◌^◌, ◌<◌, ◌≤◌, List, ◌++◌, if◌then◌else◌, length, nat_lt, replicate, take}
+use Rattle.hm_types.specs.Elements.{FullElement}
+use Rattle.hm_types.specs.Space.{in_zone}
+use Rattle.hm_types.specs.declared.limits.TheConstants.{BLOCK_BYTES}
+use Rattle.hm_types.specs.declared.space.TheConstants.{INSERT_ROOM}
+use Rattle.hm_types.specs.declared.zone.TheConstants.{LARGE_ZONE, SMALL_ZONE, TREE_ZONE}
+use Rattle.hm_key.specs.Counts.{Counts, Subject, bytes_subject, subject_of}
+use Rattle.hm_records.specs.Payload.{IsPayload}
+use Rattle.hm_records.specs.View.{AreFileBytes, IsFileByte}
+use Rattle.hm_cursor.specs.Views.{WritesIn}
+use Rattle.hm_files.specs.Close.{IsApart}
+
+-- the zone of so many bytes: whole blocks stand apart from shorter ones
+abbrev pub zone_of : ℕ → ℕ
+zone_of len = if nat_lt len BLOCK_BYTES then SMALL_ZONE else LARGE_ZONE
+
+-- a new element has bytes of a file, was made by `i`, and keeps the grammar of payloads
+pub record IsBytesOf (pfs obj i : ℕ) (x : FullElement) : Type 0 where
+  pub about : subject_of x.key ≡ bytes_subject pfs obj x.key.key
+  pub made : x.key.create ≡ i
+  pub payload : IsPayload x
+
+-- From `i` on these bytes are the only ones that count in a block, from where it begins. For all other subjects the same
+-- counts, as of any id.
+pub record PutsBlock (pfs obj i begin : ℕ) (bytes : List ℕ) (es es' : List FullElement) : Type 0 where
+  pub writes : WritesIn pfs i (IsBytesOf pfs obj i) es es'
+  pub there : (t : ℕ) → i ≤ t → Counts es' t (bytes_subject pfs obj (begin + length bytes)) bytes
+  pub only : (t n : ℕ) (other : List ℕ) → i ≤ t → begin < n → n ≤ begin + BLOCK_BYTES → Counts es' t (bytes_subject pfs obj n) other
+      → n ≡ begin + length bytes
+  pub beside : (t : ℕ) (s : Subject) (other : List ℕ) → IsApart pfs obj (begin + 1) (begin + BLOCK_BYTES + 1) s → Counts es' t s other ↔ Counts es t s other
+
+-- for what is about no bytes of an object the same counts, as of any id
+abbrev pub KeepOthers : ℕ → ℕ → List FullElement → List FullElement → Type 0
+KeepOthers pfs obj es es' = (t : ℕ) (s : Subject) (bytes : List ℕ) → s ≢ bytes_subject pfs obj s.key → Counts es' t s bytes ↔ Counts es t s bytes
+
+-- From `i` on a file's bytes before an offset are as they were, and from it on they are zero.
+pub record CutsBytes (pfs obj i keep : ℕ) (es es' : List FullElement) : Type 0 where
+  pub writes : WritesIn pfs i (IsBytesOf pfs obj i) es es'
+  pub kept : (t x byte : ℕ) → i ≤ t → x < keep → IsFileByte (Counts es t) pfs obj x byte → IsFileByte (Counts es' t) pfs obj x byte
+  pub zero : (t x : ℕ) → i ≤ t → keep ≤ x → x + BLOCK_BYTES < 2 ^ 64 → IsFileByte (Counts es' t) pfs obj x 0
+  pub others : KeepOthers pfs obj es es'
+
+-- the bytes of a file with another size: cut, or with zeros added
+abbrev pub resized : ℕ → List ℕ → List ℕ
+resized size bytes = take size (bytes ++ replicate (size - length bytes) 0)
+
+-- From `i` on a file of a size has another one, whatever bytes it had.
+pub record ResizesBytes (pfs obj i size new_size : ℕ) (es es' : List FullElement) : Type 0 where
+  pub writes : WritesIn pfs i (IsBytesOf pfs obj i) es es'
+  pub resizes : (t : ℕ) (content : List ℕ) → i ≤ t → AreFileBytes (Counts es t) pfs obj size content
+      → AreFileBytes (Counts es' t) pfs obj new_size (resized new_size content)
+  pub others : KeepOthers pfs obj es es'
+
+-- room for so many elements, each with a block of bytes
+pub record HasBlockRoom (room : ℕ → ℕ) (blocks : ℕ) : Type 0 where
+  pub tree : blocks * INSERT_ROOM ≤ room TREE_ZONE
+  pub large : blocks * BLOCK_BYTES ≤ room LARGE_ZONE
+  pub small : blocks * BLOCK_BYTES ≤ room SMALL_ZONE
+
+-- what they take of each zone at most
+abbrev pub block_space : ℕ → ℕ → ℕ
+block_space blocks zone =
+    in_zone TREE_ZONE (blocks * INSERT_ROOM) zone + (in_zone LARGE_ZONE (blocks * BLOCK_BYTES) zone + in_zone SMALL_ZONE (blocks * BLOCK_BYTES) zone)

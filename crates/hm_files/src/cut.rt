@@ -1,0 +1,87 @@
+// Bytes that are cut off a file.
+ghost use Rattle.std.specs.Prelude.{◌≡◌, ◌+◌, ◌*◌, ◌^◌, ◌≤◌, OnOk};
+ghost use Rattle.hm_types.specs.Faults.{HasStoreCause};
+ghost use Rattle.hm_types.specs.Space.{Spends};
+ghost use Rattle.hm_key.specs.Balance.{Balanced, content_of};
+ghost use Rattle.hm_key.specs.Stores.{Keeps};
+ghost use Rattle.hm_cursor.specs.Write.{Writes};
+ghost use Rattle.hm_files.specs.Close.{AreOlderIn};
+ghost use Rattle.hm_files.specs.Put.{CutsBytes, HasBlockRoom, ResizesBytes, block_space};
+
+use crate::block::bytes_base;
+use crate::close::close_between;
+use crate::put::put_block;
+use crate::read::read_all;
+use hm_cursor::first_version;
+use hm_key::{ElementStore, Extents, HasElements, HasRoom};
+use hm_types::{BLOCK_BYTES, Counted, Fault, Id, MOST_FILE_BYTES, Obj, Pfs};
+
+/// Lets a file of a size have another one, at most 15,728,640, from an id of 1 or more on: what is
+/// past the lesser of both is closed, so that it never shows again, and the block in which that lies
+/// keeps what is before it. The inode, which says the size, is the caller's. It takes at most 40,960
+/// bytes of zone 8 and a block of the zones 10 and 11, and a search for each version that it closes.
+/// The faults are those of the store; after one nothing is known of the content.
+pub fn resize_bytes<T: ElementStore + Extents>(
+    store: &mut T,
+    pfs: Pfs,
+    obj: Obj,
+    size: u64,
+    new_size: u64,
+    id: Id,
+) -> Result<(), Fault>
+    requires id { 1 ≤ id.0 }
+    requires size { new_size ≤ MOST_FILE_BYTES }
+    requires balanced { Balanced (T.elements store.old) (T.extents store.old) }
+    requires older { AreOlderIn (T.elements store.old) (T.extents store.old)
+        pfs.0 obj.0 id.0 0 }
+    requires room { HasBlockRoom (T.room store.old) 1 }
+    ensures ok { OnOk result (Writes T.elements T.extents
+        (ResizesBytes pfs.0 obj.0 id.0 size new_size) store.old store.new) }
+    ensures keeps { Keeps T.elements T.extents store.old store.new result }
+    ensures space { Spends T.room T.free (block_space 1) store.old store.new }
+    ensures borrowed { (T.name store.new ≡ T.name store.old)
+        × (T.frame store.new ≡ T.frame store.old) }
+    ensures cause { HasStoreCause (content_of (T.elements store.old) (T.extents store.old))
+        (T.faults store.old) (T.faults store.new) result }
+{
+    cut_bytes(store, pfs, obj, size.min(new_size), id)
+}
+
+/// Lets a file's bytes be zero from an offset on, at most 15,728,640, from an id of 1 or more on.
+pub(crate) fn cut_bytes<T: ElementStore + Extents>(
+    store: &mut T,
+    pfs: Pfs,
+    obj: Obj,
+    keep: u64,
+    id: Id,
+) -> Result<(), Fault>
+    requires id { 1 ≤ id.0 }
+    requires keep { keep ≤ MOST_FILE_BYTES }
+    requires balanced { Balanced (T.elements store.old) (T.extents store.old) }
+    requires older { AreOlderIn (T.elements store.old) (T.extents store.old)
+        pfs.0 obj.0 id.0 0 }
+    requires room { HasBlockRoom (T.room store.old) 1 }
+    ensures ok { OnOk result (Writes T.elements T.extents
+        (CutsBytes pfs.0 obj.0 id.0 keep) store.old store.new) }
+    ensures keeps { Keeps T.elements T.extents store.old store.new result }
+    ensures space { Spends T.room T.free (block_space 1) store.old store.new }
+    ensures borrowed { (T.name store.new ≡ T.name store.old)
+        × (T.frame store.new ≡ T.frame store.old) }
+    ensures cause { HasStoreCause (content_of (T.elements store.old) (T.extents store.old))
+        (T.faults store.old) (T.faults store.new) result }
+{
+    let block = BLOCK_BYTES as u64;
+    let begin = keep / block * block;
+    if begin == keep {
+        return close_between(store, pfs, obj, keep + 1, u64::MAX, id);
+    }
+    close_between(store, pfs, obj, begin + block + 1, u64::MAX, id)?;
+    let at = bytes_base(pfs, obj, keep + 1);
+    if first_version(store, &at, begin + block, id)?.is_none() {
+        return Ok(());
+    }
+    let mut bytes = [0; BLOCK_BYTES];
+    let front = &mut bytes[..(keep - begin) as usize];
+    read_all(store, pfs, obj, begin, id, front)?;
+    put_block(store, pfs, obj, begin, front, id)
+}

@@ -1,0 +1,192 @@
+// Bytes that are cut off and closed, over a store in memory whose elements are worked out by hand.
+ghost use Rattle.std.specs.Prelude.{ℕ, ◌<◌, ◌≤◌, IfOk, IsTrue};
+ghost use Rattle.std.specs.List.{All};
+ghost use Rattle.hm_key.specs.Balance.{Balanced};
+ghost use Rattle.hm_files.specs.Close.{AreOlderIn};
+ghost use Rattle.hm_files.specs.Put.{HasBlockRoom};
+
+use crate::read_tests::{FILE, PFS, PIECES, Run, all_of, store_of};
+use crate::{read_bytes, remove_bytes, resize_bytes};
+use hm_key::{Element, ElementStore, Extents, HasElements, HasRoom, MemStore};
+use hm_types::{BLOCK_BYTES, INSERT_ROOM, Id, LARGE_ZONE, MOST_FILE_BYTES, SMALL_ZONE, TREE_ZONE};
+use std::alloc::Global;
+use std::test::Fail;
+
+// What is done with the file.
+#[derive(Clone, Copy, Debug)]
+enum Step {
+    // From a size to another one.
+    Resize(u64, u64),
+    Remove,
+}
+
+// Whether all elements are older than an id.
+fn is_older(store: &MemStore, id: u64) -> bool
+    ensures { IsTrue result → (pfs obj : ℕ) → AreOlderIn (⟦<MemStore as HasElements>⟧.elements store.now)
+        (⟦<MemStore as HasRoom>⟧.extents store.now) pfs obj id 0 }
+{
+    are_older(store.elements(), id)
+}
+
+fn are_older(elements: &[Element], id: u64) -> bool
+    ensures { IsTrue result → All (λ e. (e.base.create < id) × (e.base.delete ≤ id)) elements.now }
+{
+    elements
+        .iter()
+        .all(|e| e.base.create < id && e.base.delete <= id)
+}
+
+// Whether a store has room for a block.
+fn has_room(store: &MemStore) -> bool
+    ensures { IsTrue result → HasBlockRoom (⟦<MemStore as HasRoom>⟧.room store.now) 1 }
+{
+    store.room(TREE_ZONE) >= u64::from(INSERT_ROOM)
+        && store.room(LARGE_ZONE) >= BLOCK_BYTES as u64
+        && store.room(SMALL_ZONE) >= BLOCK_BYTES as u64
+}
+
+// Takes a step by an id above all others.
+fn take(store: &mut MemStore, step: Step, id: u64) -> Result<(), Fail>
+    requires { Balanced (⟦<MemStore as HasElements>⟧.elements store.old)
+        (⟦<MemStore as HasRoom>⟧.extents store.old) }
+    ensures { IfOk result (λ _. Balanced (⟦<MemStore as HasElements>⟧.elements store.new)
+        (⟦<MemStore as HasRoom>⟧.extents store.new)) }
+{
+    if id == 0 || !is_older(store, id) || !has_room(store) {
+        return Err("not ready")?;
+    }
+    match step {
+        Step::Resize(size, new) => {
+            if new > MOST_FILE_BYTES {
+                return Err("too big")?;
+            }
+            resize_bytes(store, PFS, FILE, size, new, Id(id))?;
+        }
+        Step::Remove => remove_bytes(store, PFS, FILE, Id(id))?,
+    }
+    Ok(())
+}
+
+// The store of the pieces after steps by rising ids.
+fn store_after(alloc: Global, steps: &[(Step, u64)]) -> Result<MemStore, Fail>
+    ensures { IfOk result (λ store. Balanced (⟦<MemStore as HasElements>⟧.elements store)
+        (⟦<MemStore as HasRoom>⟧.extents store)) }
+{
+    let mut store = store_of(alloc, &PIECES)?;
+    for (step, id) in steps {
+        take(&mut store, *step, *id)?;
+    }
+    Ok(store)
+}
+
+// Whether these are the bytes of a file of a size after steps, from an offset on.
+fn reads_after(
+    alloc: Global,
+    steps: &[(Step, u64)],
+    size: u64,
+    offset: u64,
+    asked: usize,
+    as_of: u64,
+    runs: &[Run],
+) -> Result<bool, Fail> {
+    let mut store = store_after(alloc, steps)?;
+    let mut buffer = Vec::from_elem(alloc, 0xEE, asked)?;
+    let count = read_bytes(&mut store, PFS, FILE, size, offset, Id(as_of), &mut buffer)?;
+    let want = all_of(alloc, runs)?;
+    Ok(count == want.len() && buffer[..count] == want[..])
+}
+
+#[test]
+fn what_is_cut_off_never_shows_again(rt: HostRuntime) -> Result<(), Fail> {
+    for (new, offset, asked, runs) in [
+        (0, 0, 3, [(3, 0)].as_slice()),
+        (1, 0, 3, [(1, b'c'), (2, 0)].as_slice()),
+        (10, 0, 20, [(10, b'c'), (10, 0)].as_slice()),
+        (16_383, 16_382, 3, [(1, b'c'), (2, 0)].as_slice()),
+        (16_384, 16_383, 3, [(1, b'c'), (2, 0)].as_slice()),
+        (16_384, 49_151, 4, [(4, 0)].as_slice()),
+        (40_000, 16_383, 2, [(1, b'c'), (1, 0)].as_slice()),
+        (49_154, 49_151, 5, [(1, 0), (2, b'd'), (2, 0)].as_slice()),
+        (15_728_639, 15_728_637, 3, [(2, b'e'), (1, 0)].as_slice()),
+        (15_728_640, 15_728_639, 1, [(1, b'e')].as_slice()),
+        (49_155, 15_728_639, 1, [(1, 0)].as_slice()),
+    ] {
+        let cut = [(Step::Resize(15_728_640, new), 20)];
+        assert!(rt;
+            reads_after(rt.alloc(), &cut, 15_728_640, offset, asked, 20, runs)?,
+            "{offset} after a cut at {new}"
+        );
+    }
+    Ok(())
+}
+
+#[test]
+fn past_bytes_stay_after_a_cut(rt: HostRuntime) -> Result<(), Fail> {
+    let cut = [
+        (Step::Resize(15_728_640, 10), 20),
+        (Step::Resize(10, 5_000), 21),
+    ];
+    for (size, offset, asked, as_of, runs) in [
+        (15_728_640, 0, 20, 19, [(20, b'c')].as_slice()),
+        (15_728_640, 15_728_639, 1, 19, [(1, b'e')].as_slice()),
+        (15_728_640, 49_152, 3, 19, [(3, b'd')].as_slice()),
+        (16_384, 0, 2, 4, [(2, b'b')].as_slice()),
+        (10, 8, 4, 20, [(2, b'c')].as_slice()),
+        (5_000, 8, 4, 21, [(2, b'c'), (2, 0)].as_slice()),
+    ] {
+        assert!(rt;
+            reads_after(rt.alloc(), &cut, size, offset, asked, as_of, runs)?,
+            "{offset} as of {as_of}"
+        );
+    }
+    Ok(())
+}
+
+#[test]
+fn a_longer_file_shows_nothing_that_its_old_size_hid(rt: HostRuntime) -> Result<(), Fail> {
+    for (size, new, offset, asked, runs) in [
+        (20, 16_384, 18, 4, [(2, b'c'), (2, 0)].as_slice()),
+        (0, 15_728_640, 0, 2, [(2, 0)].as_slice()),
+        (0, 15_728_640, 15_728_639, 1, [(1, 0)].as_slice()),
+        (16_384, 49_155, 49_152, 3, [(3, 0)].as_slice()),
+        (49_153, 49_155, 49_152, 3, [(1, b'd'), (2, 0)].as_slice()),
+    ] {
+        let longer = [(Step::Resize(size, new), 20)];
+        assert!(rt;
+            reads_after(rt.alloc(), &longer, new, offset, asked, 20, runs)?,
+            "{offset} from {size} to {new}"
+        );
+    }
+    Ok(())
+}
+
+#[test]
+fn a_removed_file_has_no_open_bytes(rt: HostRuntime) -> Result<(), Fail> {
+    let store = store_after(rt.alloc(), &[(Step::Remove, 20)])?;
+    assert_eq!(rt; store.elements().len(), PIECES.len());
+    assert!(rt; store.elements().iter().all(|e| e.base.delete != 0));
+    for (as_of, want) in [(19, b'c'), (20, 0), (u64::MAX, 0)] {
+        assert!(rt;
+            reads_after(
+                rt.alloc(),
+                &[(Step::Remove, 20)],
+                9,
+                0,
+                1,
+                as_of,
+                &[(1, want)]
+            )?,
+            "as of {as_of}"
+        );
+    }
+    Ok(())
+}
+
+#[test]
+fn a_cut_takes_an_element_for_a_block_that_it_shortens_alone(rt: HostRuntime) -> Result<(), Fail> {
+    for (new, more) in [(10, 1), (16_384, 0), (40_000, 0), (49_154, 1), (49_155, 0)] {
+        let store = store_after(rt.alloc(), &[(Step::Resize(15_728_640, new), 20)])?;
+        assert_eq!(rt; store.elements().len(), PIECES.len() + more, "{new}");
+    }
+    Ok(())
+}

@@ -1,0 +1,94 @@
+// The bytes of one block that are put in place of what it had.
+ghost use Rattle.std.specs.Prelude.{◌≡◌, ◌+◌, ◌*◌, ◌%◌, ◌^◌, ◌<◌, ◌≤◌, Some, OnOk, length};
+ghost use Rattle.hm_types.specs.Faults.{HasStoreCause};
+ghost use Rattle.hm_types.specs.Space.{Spends};
+ghost use Rattle.hm_key.specs.Balance.{Balanced, content_of};
+ghost use Rattle.hm_key.specs.Counts.{bytes_subject, subject_of};
+ghost use Rattle.hm_key.specs.Key.{key_of};
+ghost use Rattle.hm_key.specs.Stores.{Keeps};
+ghost use Rattle.hm_cursor.specs.Write.{HasRoomFor, IsFresh, IsNew, Rewrites, Writes, taken};
+ghost use Rattle.hm_files.specs.Close.{AreOlderIn};
+ghost use Rattle.hm_files.specs.Put.{HasBlockRoom, PutsBlock, block_space, zone_of};
+
+use crate::block::bytes_base;
+use crate::close::close_between;
+use hm_cursor::{add_version, renew_version, version_at};
+use hm_key::{Base, ElementStore, Extents, HasElements, HasRoom};
+use hm_types::{BLOCK_BYTES, Counted, Fault, Id, LARGE_ZONE, Obj, Pfs, SMALL_ZONE};
+
+/// Lets a block of a file have these bytes from an id on: at least one, at most a block. What it had
+/// is closed. It takes at most 40,960 bytes of zone 8, and those of the bytes in zone 10 for a whole
+/// block, and in zone 11 else. The faults are those of the store; after one nothing is known of the
+/// content.
+pub(crate) fn put_block<T: ElementStore + Extents>(
+    store: &mut T,
+    pfs: Pfs,
+    obj: Obj,
+    begin: u64,
+    bytes: &[u8],
+    id: Id,
+) -> Result<(), Fault>
+    requires id { 1 ≤ id.0 }
+    requires block { (begin % BLOCK_BYTES ≡ 0) × (begin + 2 * BLOCK_BYTES < 2 ^ 64) }
+    requires sized { (1 ≤ length bytes.now) × (length bytes.now ≤ BLOCK_BYTES) }
+    requires balanced { Balanced (T.elements store.old) (T.extents store.old) }
+    requires older { AreOlderIn (T.elements store.old) (T.extents store.old)
+        pfs.0 obj.0 id.0 (begin + 1) }
+    requires room { HasBlockRoom (T.room store.old) 1 }
+    ensures ok { OnOk result (Writes T.elements T.extents
+        (PutsBlock pfs.0 obj.0 id.0 begin bytes.now) store.old store.new) }
+    ensures keeps { Keeps T.elements T.extents store.old store.new result }
+    ensures space { Spends T.room T.free (block_space 1) store.old store.new }
+    ensures borrowed { (T.name store.new ≡ T.name store.old)
+        × (T.frame store.new ≡ T.frame store.old) }
+    ensures cause { HasStoreCause (content_of (T.elements store.old) (T.extents store.old))
+        (T.faults store.old) (T.faults store.new) result }
+{
+    let end = begin + bytes.len() as u64;
+    close_between(store, pfs, obj, begin + 1, end - 1, id)?;
+    close_between(store, pfs, obj, end + 1, begin + BLOCK_BYTES as u64, id)?;
+    let base = Base {
+        create: id.0,
+        ..bytes_base(pfs, obj, end)
+    };
+    put_version(store, &base, zone_of(bytes.len()), bytes)
+}
+
+// Adds an element and its payload, as `add_version` does, and closes the one that counted.
+fn put_version<T: ElementStore + Extents>(
+    store: &mut T,
+    base: &Base,
+    zone: u8,
+    bytes: &[u8],
+) -> Result<(), Fault>
+    requires new { IsNew base.now zone bytes.now }
+    requires balanced { Balanced (T.elements store.old) (T.extents store.old) }
+    requires fresh { IsFresh (T.elements store.old) (T.extents store.old)
+        (subject_of (key_of base.now)) base.now.create }
+    requires room { HasRoomFor (T.room store.old) zone bytes.now }
+    ensures ok { OnOk result (Writes T.elements T.extents
+        (Rewrites (subject_of (key_of base.now)) (Some bytes.now) base.now.create)
+        store.old store.new) }
+    ensures keeps { Keeps T.elements T.extents store.old store.new result }
+    ensures space { Spends T.room T.free (taken zone bytes.now) store.old store.new }
+    ensures borrowed { (T.name store.new ≡ T.name store.old)
+        × (T.frame store.new ≡ T.frame store.old) }
+    ensures cause { HasStoreCause (content_of (T.elements store.old) (T.extents store.old))
+        (T.faults store.old) (T.faults store.new) result }
+{
+    match version_at(store, base, Id(base.create))? {
+        Some(old) => renew_version(store, &old.base, base, zone, bytes),
+        None => add_version(store, base, zone, bytes),
+    }
+}
+
+// The zone of so many bytes.
+fn zone_of(len: usize) -> u8
+    ensures { result ≡ zone_of len }
+{
+    if len < BLOCK_BYTES {
+        SMALL_ZONE
+    } else {
+        LARGE_ZONE
+    }
+}

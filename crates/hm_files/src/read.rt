@@ -1,0 +1,196 @@
+// Bytes that are read.
+ghost use Rattle.std.specs.Prelude.{◌≡◌, ◌+◌, ◌^◌, ◌<◌, ◌≤◌, IfOk, IfSome, OnOk, drop, length, min, replicate, take};
+ghost use Rattle.hm_types.specs.Faults.{HasStoreCause};
+ghost use Rattle.hm_key.specs.Balance.{Balanced, IsHeld, content_of, payload_of};
+ghost use Rattle.hm_key.specs.Element.{IsInBlock};
+ghost use Rattle.hm_key.specs.Stores.{Same};
+ghost use Rattle.hm_cursor.specs.Told.{OnBalanced};
+ghost use Rattle.hm_files.specs.Bytes.{AreOf, AreRead, AreShown, count_from};
+
+use crate::block::{bytes_base, end_of_block};
+use hm_cursor::first_version;
+use hm_key::{Element, ElementStore, Extents, HasElements, HasRoom};
+use hm_types::{BLOCK_BYTES, Counted, Fault, Id, Obj, Pfs};
+
+/// Puts the bytes of a file as of an id, from an offset on, at the front of a buffer, and answers
+/// how many these are: as many as the buffer has room for, up to the file's size, which its inode
+/// tells. Bytes that no call wrote are zero.
+///
+/// Each element that shows some of them is found by a search from its place on, besides those that
+/// find the version that counts; elements that are not seen are passed up to the end of the last
+/// byte's block. The faults are those of the store. It takes no memory of its own.
+pub fn read_bytes<T: ElementStore + Extents>(
+    store: &mut T,
+    pfs: Pfs,
+    obj: Obj,
+    size: u64,
+    offset: u64,
+    as_of: Id,
+    buffer: &mut [u8],
+) -> Result<usize, Fault>
+    requires balanced { Balanced (T.elements store.old) (T.extents store.old) }
+    ensures count { IfOk result (λ count. count ≡ count_from size offset (length buffer.new)) }
+    ensures ok { IfOk result (λ count. OnBalanced (T.elements store.old) (T.extents store.old)
+        (AreRead as_of.0 pfs.0 obj.0 offset (take count buffer.new))) }
+    ensures shown { IfOk result (λ count. OnBalanced (T.elements store.old) (T.extents store.old)
+        (AreShown as_of.0 pfs.0 obj.0 size offset (length buffer.new) (take count buffer.new))) }
+    ensures keeps { Same T.elements T.mark T.extents T.room T.free store.old store.new }
+    ensures borrowed { (T.name store.new ≡ T.name store.old)
+        × (T.frame store.new ≡ T.frame store.old) }
+    ensures cause { HasStoreCause (content_of (T.elements store.old) (T.extents store.old))
+        (T.faults store.old) (T.faults store.new) result }
+{
+    let count = shorter(buffer.len(), size.saturating_sub(offset));
+    read_all(store, pfs, obj, offset, as_of, &mut buffer[..count])?;
+    Ok(count)
+}
+
+/// Fills a buffer with the bytes of a file from an offset on.
+pub(crate) fn read_all<T: ElementStore + Extents>(
+    store: &mut T,
+    pfs: Pfs,
+    obj: Obj,
+    offset: u64,
+    as_of: Id,
+    buffer: &mut [u8],
+) -> Result<(), Fault>
+    requires fits { offset + length buffer.old < 2 ^ 64 }
+    requires balanced { Balanced (T.elements store.old) (T.extents store.old) }
+    ensures ok { OnOk result (OnBalanced (T.elements store.old) (T.extents store.old)
+        (AreRead as_of.0 pfs.0 obj.0 offset buffer.new)) }
+    ensures keeps { Same T.elements T.mark T.extents T.room T.free store.old store.new }
+    ensures borrowed { (T.name store.new ≡ T.name store.old)
+        × (T.frame store.new ≡ T.frame store.old) }
+    ensures cause { HasStoreCause (content_of (T.elements store.old) (T.extents store.old))
+        (T.faults store.old) (T.faults store.new) result }
+{
+    let mut done = 0;
+    while done < buffer.len() {
+        let at = offset + done as u64;
+        done += read_piece(store, pfs, obj, at, as_of, &mut buffer[done..])?;
+    }
+    Ok(())
+}
+
+// Puts the first bytes of a file from an offset on at the front of a buffer, and answers how many:
+// those of one element, or the zeros before the next one.
+fn read_piece<T: ElementStore + Extents>(
+    store: &mut T,
+    pfs: Pfs,
+    obj: Obj,
+    offset: u64,
+    as_of: Id,
+    buffer: &mut [u8],
+) -> Result<usize, Fault>
+    requires some { 1 ≤ length buffer.old }
+    requires fits { offset + length buffer.old < 2 ^ 64 }
+    requires balanced { Balanced (T.elements store.old) (T.extents store.old) }
+    ensures some { IfOk result (λ count. 1 ≤ count) }
+    ensures fits { IfOk result (λ count. count ≤ length buffer.new) }
+    ensures ok { IfOk result (λ count. OnBalanced (T.elements store.old) (T.extents store.old)
+        (AreRead as_of.0 pfs.0 obj.0 offset (take count buffer.new))) }
+    ensures keeps { Same T.elements T.mark T.extents T.room T.free store.old store.new }
+    ensures borrowed { (T.name store.new ≡ T.name store.old)
+        × (T.frame store.new ≡ T.frame store.old) }
+    ensures cause { HasStoreCause (content_of (T.elements store.old) (T.extents store.old))
+        (T.faults store.old) (T.faults store.new) result }
+{
+    let last = end_of_block(offset + (buffer.len() as u64 - 1));
+    let at = bytes_base(pfs, obj, offset + 1);
+    match first_version(store, &at, last, as_of)? {
+        Some(element) => read_element(store, &element, offset, buffer),
+        None => {
+            clear(buffer);
+            Ok(buffer.len())
+        }
+    }
+}
+
+// The same of the element that has the first bytes which end after the offset.
+fn read_element<T: Extents>(
+    store: &mut T,
+    element: &Element,
+    offset: u64,
+    buffer: &mut [u8],
+) -> Result<usize, Fault>
+    requires some { 1 ≤ length buffer.old }
+    requires after { offset < element.now.base.key }
+    requires block { IsInBlock element.now.base.key element.now.len }
+    requires held { IfSome (T.extents store.old) (λ xs. IsHeld xs element.now) }
+    ensures some { IfOk result (λ count. 1 ≤ count) }
+    ensures fits { IfOk result (λ count. count ≤ length buffer.new) }
+    ensures ok { IfSome (T.extents store.old) (λ xs. IfOk result (λ count.
+        AreOf element.now.base.key element.now.len (payload_of xs element.now) offset
+        (take count buffer.new))) }
+    ensures keeps { Same T.elements T.mark T.extents T.room T.free store.old store.new }
+    ensures borrowed { (T.name store.new ≡ T.name store.old)
+        × (T.frame store.new ≡ T.frame store.old) }
+    ensures cause { HasStoreCause (T.extents store.old)
+        (T.faults store.old) (T.faults store.new) result }
+{
+    let begin = element.base.key - u64::from(element.len);
+    if offset < begin {
+        let count = shorter(buffer.len(), begin - offset);
+        clear(&mut buffer[..count]);
+        return Ok(count);
+    }
+    let skip = (offset - begin) as usize;
+    let count = shorter(buffer.len(), element.base.key - offset);
+    read_payload_from(store, element, skip, &mut buffer[..count])?;
+    Ok(count)
+}
+
+// Fills a buffer with the bytes of a payload from one of them on. From the first one on they come
+// straight into it.
+fn read_payload_from<T: Extents>(
+    store: &mut T,
+    element: &Element,
+    skip: usize,
+    buffer: &mut [u8],
+) -> Result<(), Fault>
+    requires inside { skip + length buffer.old ≤ element.now.len }
+    requires few { element.now.len ≤ BLOCK_BYTES }
+    requires held { IfSome (T.extents store.old) (λ xs. IsHeld xs element.now) }
+    ensures ok { IfSome (T.extents store.old) (λ xs. OnOk result
+        (buffer.new ≡ take (length buffer.old) (drop skip (payload_of xs element.now)))) }
+    ensures keeps { Same T.elements T.mark T.extents T.room T.free store.old store.new }
+    ensures borrowed { (T.name store.new ≡ T.name store.old)
+        × (T.frame store.new ≡ T.frame store.old) }
+    ensures cause { HasStoreCause (T.extents store.old)
+        (T.faults store.old) (T.faults store.new) result }
+{
+    if skip == 0 {
+        return store.fetch(element.payload, buffer);
+    }
+    let mut block = [0; BLOCK_BYTES];
+    let front = &mut block[..skip + buffer.len()];
+    store.fetch(element.payload, front)?;
+    copy_rest(front, skip, buffer);
+    Ok(())
+}
+
+// Copies the bytes from a place on into a buffer as long as they are.
+fn copy_rest(from: &[u8], skip: usize, into: &mut [u8])
+    requires { skip + length into.old ≡ length from.now }
+    ensures { into.new ≡ drop skip from.now }
+{
+    into.copy_from_slice(&from[skip..]);
+}
+
+// The less of a length and a number.
+fn shorter(len: usize, most: u64) -> usize
+    ensures { result ≡ min len most }
+{
+    if most < len as u64 {
+        most as usize
+    } else {
+        len
+    }
+}
+
+// Fills a buffer with zeros.
+fn clear(buffer: &mut [u8])
+    ensures { buffer.new ≡ replicate (length buffer.old) 0 }
+{
+    buffer.fill(0);
+}
