@@ -6,11 +6,12 @@ use Rattle.hm_disk.specs.Moments.{Each, LeftSince, SyncElapses, WriteElapses}
 use Rattle.hm_disk.proofs.CrashLemmas.{MayLeave-fewer, MayLeave-same, MayLeave-through}
 use Rattle.hm_disk.proofs.MomentLemmas.{Elapses-more, Elapses-none}
 use Rattle.hm_disk.proofs.OverwriteLemmas.{MayLeave-overwritten, get_or-overwritten_out, length-overwritten}
-use Rattle.hm_header.specs.OnDisk.{HasSlots, gate_place, slot_in}
+use Rattle.hm_header.specs.OnDisk.{HasFault, HasSlots, gate_place, slot_in}
+use Rattle.hm_header.specs.declared.fault.HeaderFault.TheVariants.{NotVolume}
 use Rattle.hm_header.specs.Slots.{IsClosed}
 use Rattle.hm_header.proofs.GateLemmas.{closed-by-byte, gate-overwritten}
 use Rattle.hm_header.proofs.OnDiskLemmas.{slot-byte}
-use Rattle.hm_newfs.specs.Steps.{ClosesGates, ClosingElapses, HasOldButGates, LacksVolume}
+use Rattle.hm_newfs.specs.Steps.{ClosesGates, ClosingElapses, HasOldButGates, AreGatesClosed}
 
 -- a gate whose byte stays is closed still
 closed-from : (number : ℕ) (old new : List ℕ) → number ≤ 1 → slice_index new (gate_place number) ≡ slice_index old (gate_place number)
@@ -20,11 +21,15 @@ closed-from number old new small same closed is_open =
 
 -- so both are where ranges change that have neither
 pub lacks-kept : (old new : List ℕ) (ranges : List (ℕ × ℕ)) → HasSlots old → MayLeave old ranges new
-    → ((number : ℕ) → number ≤ 1 → Outside ranges (gate_place number)) → LacksVolume old → LacksVolume new
+    → ((number : ℕ) → number ≤ 1 → Outside ranges (gate_place number)) → AreGatesClosed old → AreGatesClosed new
 lacks-kept old new ranges both change apart lacks = record {
   first = closed-from 0 old new (omega arith) (change.same (gate_place 0) (omega (arith, both)) (apart 0 (omega arith))) lacks.first;
   second = closed-from 1 old new (omega arith) (change.same (gate_place 1) (omega (arith, both)) (apart 1 (omega arith))) lacks.second;
 }
+
+-- where they are no slot takes part
+pub no-volume : (bytes : List ℕ) → AreGatesClosed bytes → HasFault bytes NotVolume
+no-volume bytes closed = (λ part. closed.first part.open_gate, λ part. closed.second part.open_gate)
 
 -- ---- closing them
 

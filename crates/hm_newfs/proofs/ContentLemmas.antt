@@ -12,7 +12,7 @@ use Rattle.hm_image.proofs.OffsetLemmas.{layer2_is, pool_is}
 use Rattle.hm_node.specs.Node.{Spells}
 use Rattle.hm_newfs.specs.Contents.{HasBody, HasContents, HasTree}
 use Rattle.hm_newfs.specs.Layers.{HasLayer, HasPage, layer_bytes, layer_start}
-use Rattle.hm_newfs.specs.Steps.{Fills, HasClosedGates, LacksVolume}
+use Rattle.hm_newfs.specs.Steps.{Fills, HasClosedGates, AreGatesClosed}
 use Rattle.hm_newfs.specs.declared.layer.Layer.{Layer}
 use Rattle.hm_newfs.specs.declared.layer.Layer.TheVariants.{First, Second}
 use Rattle.hm_newfs.proofs.ClosingLemmas.{lacks-kept}
@@ -30,25 +30,25 @@ clear-gate place count number (inr after) small = inl (omega arith)
 pub record Beneath (Has : List ℕ → Type 0) (past since : LeftSince) (s t : Told) : Type 0 where
   pub has : Has t.bytes
   pub gates : HasClosedGates t
-  pub time : Elapses LacksVolume past since s t
+  pub time : Elapses AreGatesClosed past since s t
 
 -- before the first step
 pub beneath-none : (past : LeftSince) (s : Told) → HasClosedGates s → Beneath (λ bytes. Unit {0}) past past s s
-beneath-none past s gates = record { has = tt; gates = gates; time = Elapses-none LacksVolume past s }
+beneath-none past s gates = record { has = tt; gates = gates; time = Elapses-none AreGatesClosed past s }
 
 module _ (Has : List ℕ → Type 0) (place count : ℕ) (clear : IsClear place count) (past middle since : LeftSince) (s t u : Told)
     (both : HasSlots s.bytes) (so_far : Beneath Has past middle s t) where
   slots : HasSlots t.bytes
   slots = omega (arith, both, so_far.time.size)
 
-  within : Each (MayLeave t.bytes ((place, count) ∷ t.unsettled)) LacksVolume
+  within : Each (MayLeave t.bytes ((place, count) ∷ t.unsettled)) AreGatesClosed
   within image left =
       lacks-kept t.bytes image ((place, count) ∷ t.unsettled) slots left
       (λ number small. (clear-gate place count number clear small, so_far.gates.settled number small)) so_far.gates.closed
 
   -- a step more, whether it succeeds or not
-  pub beneath-elapses : WriteElapses place count middle since t u → Elapses LacksVolume past since s u
-  beneath-elapses then = Elapses-more LacksVolume _ past middle since s t u so_far.time then within
+  pub beneath-elapses : WriteElapses place count middle since t u → Elapses AreGatesClosed past since s u
+  beneath-elapses then = Elapses-more AreGatesClosed _ past middle since s t u so_far.time then within
 
   pub beneath-more : (Next : List ℕ → Type 0) → (MayLeave t.bytes ((place, count) ∷ []) u.bytes → Has t.bytes → Has u.bytes)
       → Fills Next place count t u → WriteElapses place count middle since t u → Beneath (λ bytes. Has bytes × Next bytes) past since s u
@@ -65,9 +65,9 @@ module _ (Has : List ℕ → Type 0) (place count : ℕ) (clear : IsClear place 
 
 -- the sync after all steps
 pub beneath-synced : (Has : List ℕ → Type 0) (past middle since : LeftSince) (s t u : Told) → HasSlots s.bytes
-    → Beneath Has past middle s t → SyncElapses middle since t u → Elapses LacksVolume past since s u
+    → Beneath Has past middle s t → SyncElapses middle since t u → Elapses AreGatesClosed past since s u
 beneath-synced Has past middle since s t u both so_far then =
-    Elapses-more LacksVolume _ past middle since s t u so_far.time then
+    Elapses-more AreGatesClosed _ past middle since s t u so_far.time then
     (λ image left. lacks-kept t.bytes image t.unsettled (omega (arith, both, so_far.time.size)) left so_far.gates.settled so_far.gates.closed)
 
 -- ---- what a later step keeps

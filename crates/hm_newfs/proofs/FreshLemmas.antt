@@ -13,7 +13,8 @@ use Rattle.hm_freemap.specs.Entry.{SpellsEntry}
 use Rattle.hm_freemap.specs.Layer1.{layer1_bytes, layer1_of}
 use Rattle.hm_freemap.specs.Places.{page_of, place_of}
 use Rattle.hm_header.specs.Layout.{body_of}
-use Rattle.hm_header.specs.OnDisk.{HasSlots, first_slot, gate_place, second_slot}
+use Rattle.hm_header.specs.OnDisk.{HasFault, HasSlots, first_slot, gate_place, second_slot}
+use Rattle.hm_header.specs.declared.fault.HeaderFault.TheVariants.{NotVolume}
 use Rattle.hm_header.specs.Range.{IsSize}
 use Rattle.hm_header.specs.Slots.{IsClosed}
 use Rattle.hm_header.specs.declared.header.TheConstants.{GATE_OPEN}
@@ -31,7 +32,8 @@ use Rattle.hm_records.specs.Inode.{inode_bytes}
 use Rattle.hm_records.specs.PfsRecord.{head_bytes, interval_bytes, pfs_bytes}
 use Rattle.hm_records.proofs.InodeLemmas.{length-inode}
 use Rattle.hm_newfs.specs.Contents.{HasContents}
-use Rattle.hm_newfs.specs.Steps.{LacksVolume}
+use Rattle.hm_newfs.specs.Steps.{AreGatesClosed}
+use Rattle.hm_newfs.proofs.ClosingLemmas.{no-volume}
 use Rattle.hm_newfs.proofs.ContentLemmas.{contents-kept}
 use Rattle.hm_newfs.proofs.PageLemmas.{slice-slice}
 
@@ -130,7 +132,7 @@ module _ (bigblocks : ℕ) (size : IsSize bigblocks) (image : List ℕ) (room : 
 
 -- The gate of the first slot is written over the contents, and no other byte.
 module _ (bigblocks : ℕ) (size : IsSize bigblocks) (old new : List ℕ) (room : bigblocks * 8388608 ≤ length old)
-    (contents : HasContents bigblocks old) (lacks : LacksVolume old) (change : MayLeave old ((gate_place 0, 1) ∷ []) new) where
+    (contents : HasContents bigblocks old) (lacks : AreGatesClosed old) (change : MayLeave old ((gate_place 0, 1) ∷ []) new) where
   inside : bigblocks * 8388608 ≤ length new
   inside = omega (arith, room, change.size)
 
@@ -144,7 +146,8 @@ module _ (bigblocks : ℕ) (size : IsSize bigblocks) (old new : List ℕ) (room 
       (contents-kept bigblocks size (gate_place 0) old new (omega arith) (omega arith) change contents) gate second-closed
 
   -- and else there is none
-  pub opened-or-not : LacksVolume new ⊎ IsFresh bigblocks new
+  pub opened-or-not : HasFault new NotVolume ⊎ IsFresh bigblocks new
   opened-or-not =
-      ⊎_elim (λ gate. inr (opened gate)) (λ shut. inl (record { first = closed-by-byte 0 new (omega arith) shut; second = second-closed }))
+      ⊎_elim (λ gate. inr (opened gate))
+      (λ shut. inl (no-volume new (record { first = closed-by-byte 0 new (omega arith) shut; second = second-closed })))
       (is-open (slice_index new (gate_place 0)))

@@ -12,7 +12,7 @@ use Rattle.hm_header.proofs.AnswerLemmas.{IfSome-map}
 use Rattle.hm_image.proofs.OffsetLemmas.{pool_is}
 use Rattle.hm_newfs.specs.Contents.{HasBody, HasContents, HasTree, tree_bytes}
 use Rattle.hm_newfs.specs.Layers.{HasLayer, layer_bytes}
-use Rattle.hm_newfs.specs.Steps.{Fills, HasClosedGates, HasSpace, LacksVolume, WritesContents}
+use Rattle.hm_newfs.specs.Steps.{Fills, HasClosedGates, HasSpace, AreGatesClosed, WritesContents}
 use Rattle.hm_newfs.specs.declared.layer.Layer.TheVariants.{First, Second}
 use Rattle.hm_newfs.proofs.ContentLemmas.{Beneath, IsClear, beneath-elapses, beneath-more, beneath-none, beneath-synced}
 use Rattle.hm_newfs.proofs.ContentLemmas.{body-kept, first-kept, layer-clear, second-kept}
@@ -26,7 +26,7 @@ module _ (bigblocks : ℕ) (size : IsSize bigblocks) (Has : List ℕ → Type 0)
     (past middle since : LeftSince) (old told new : Option Told) (room : IfSome old (HasSpace bigblocks))
     (so_far : BothTell old told (Beneath Has past middle)) where
   -- it ended, one way or the other
-  step-elapses : BothTell told new (WriteElapses place count middle since) → BothTell old new (Elapses LacksVolume past since)
+  step-elapses : BothTell told new (WriteElapses place count middle since) → BothTell old new (Elapses AreGatesClosed past since)
   step-elapses then =
       BothTell-then old told new (HasSpace bigblocks) _ _ _
       (λ s t u room so_far then. beneath-elapses Has place count clear past middle since s t u (slots bigblocks size s room) so_far then) room so_far then
@@ -75,21 +75,21 @@ module _ (bigblocks : ℕ) (size : IsSize bigblocks) where
 
     module _ (middle since : LeftSince) (told new : Option Told) where
       -- each ended, one way or the other
-      pub body-ended : IfSome old HasClosedGates → BothTell old new (WriteElapses 0 16383 past since) → BothTell old new (Elapses LacksVolume past since)
+      pub body-ended : IfSome old HasClosedGates → BothTell old new (WriteElapses 0 16383 past since) → BothTell old new (Elapses AreGatesClosed past since)
       body-ended closed then = step-elapses bigblocks size WithNone 0 16383 (inl (omega arith)) past past since old old new room (begun closed) then
 
       pub first-ended : BothTell old told (Beneath WithBody past middle) → BothTell told new (WriteElapses (start_of 1) (start_of 1) middle since)
-          → BothTell old new (Elapses LacksVolume past since)
+          → BothTell old new (Elapses AreGatesClosed past since)
       first-ended so_far then =
           step-elapses bigblocks size WithBody (start_of 1) (start_of 1) (layer-clear bigblocks size First) past middle since old told new room so_far then
 
       pub second-ended : BothTell old told (Beneath WithFirst past middle) → BothTell told new (WriteElapses (start_of 2) layer2 middle since)
-          → BothTell old new (Elapses LacksVolume past since)
+          → BothTell old new (Elapses AreGatesClosed past since)
       second-ended so_far then =
           step-elapses bigblocks size WithFirst (start_of 2) layer2 (layer-clear bigblocks size Second) past middle since old told new room so_far then
 
       pub tree-ended : BothTell old told (Beneath WithSecond past middle) → BothTell told new (WriteElapses P tree_bytes middle since)
-          → BothTell old new (Elapses LacksVolume past since)
+          → BothTell old new (Elapses AreGatesClosed past since)
       tree-ended so_far then = step-elapses bigblocks size WithSecond P tree_bytes tree-clear past middle since old told new room so_far then
 
       -- each succeeded
@@ -134,7 +134,7 @@ module _ (bigblocks : ℕ) (size : IsSize bigblocks) where
 
       -- the sync
       pub all-ended : BothTell old told (Beneath WithTree past middle) → BothTell told new (SyncElapses middle since)
-          → BothTell old new (Elapses LacksVolume past since)
+          → BothTell old new (Elapses AreGatesClosed past since)
       all-ended so_far then =
           BothTell-then old told new (HasSpace bigblocks) _ _ _
           (λ s t u room so_far then. beneath-synced WithTree past middle since s t u (slots bigblocks size s room) so_far then) room so_far then
@@ -146,7 +146,7 @@ module _ (bigblocks : ℕ) (size : IsSize bigblocks) where
           done s t u so_far synced = record {
             contents = subst (HasContents bigblocks) (sym synced.bytes_are)
                 (record { body = so_far.has.0.0.0.1; layer1 = so_far.has.0.0.1; layer2 = so_far.has.0.1; tree = so_far.has.1 });
-            closed = subst LacksVolume (sym synced.bytes_are) so_far.gates.closed;
+            closed = subst AreGatesClosed (sym synced.bytes_are) so_far.gates.closed;
             settled = synced.unsettled_are;
             size = subst (λ (bs : List ℕ). length bs ≡ length s.bytes) (sym synced.bytes_are) so_far.time.size;
           }

@@ -13,8 +13,9 @@ use Rattle.hm_header.specs.Range.{IsSize}
 use Rattle.hm_header.specs.declared.header.TheConstants.{GATE_OPEN}
 use Rattle.hm_header.proofs.GateLemmas.{gate-overwritten}
 use Rattle.hm_header.proofs.StageLemmas.{Elapses-within}
-use Rattle.hm_newfs.specs.Steps.{ClosesGates, ClosingElapses, ContentsElapse, HasSpace, LacksVolume, WritesContents}
+use Rattle.hm_newfs.specs.Steps.{ClosesGates, ClosingElapses, ContentsElapse, HasSpace, AreGatesClosed, WritesContents}
 use Rattle.hm_newfs.specs.Volume.{FailsToMake, MakesVolume, MayBeMade, VolumeElapses}
+use Rattle.hm_newfs.proofs.ClosingLemmas.{no-volume}
 use Rattle.hm_newfs.proofs.FreshLemmas.{opened, opened-or-not}
 
 -- what a crash leaves within the first step, and within the second
@@ -24,8 +25,8 @@ closing-time bigblocks past since s t closing = Elapses-within _ (MayBeMade bigb
 pub contents-time : (bigblocks : ℕ) (past middle since : LeftSince) (s t u : Told) → ClosingElapses past middle s t → ContentsElapse middle since t u
     → VolumeElapses bigblocks past since s u
 contents-time bigblocks past middle since s t u closing writing =
-    Elapses-more (MayBeMade bigblocks s) LacksVolume past middle since s t u (closing-time bigblocks past middle s t closing) writing
-    (λ image lacks. inr (inl lacks))
+    Elapses-more (MayBeMade bigblocks s) AreGatesClosed past middle since s t u (closing-time bigblocks past middle s t closing) writing
+    (λ image closed. inr (inl (no-volume image closed)))
 
 -- all but the gate of the first slot is written, and settled
 pub record IsReady (bigblocks : ℕ) (past since : LeftSince) (s u : Told) : Type 0 where

@@ -17,14 +17,14 @@ pub record Fills (Has : List ℕ → Type 0) (place count : ℕ) (old new : Told
   pub has : Has new.bytes
   pub others : TornAll place count old new
 
--- there is no volume: both gates are closed
-pub record LacksVolume (bytes : List ℕ) : Type 0 where
+-- both gates are closed, so there is no volume
+pub record AreGatesClosed (bytes : List ℕ) : Type 0 where
   pub first : IsClosed (first_slot bytes)
   pub second : IsClosed (second_slot bytes)
 
--- both gates are closed, whatever a crash leaves
+-- so they are whatever a crash leaves
 pub record HasClosedGates (t : Told) : Type 0 where
-  pub closed : LacksVolume t.bytes
+  pub closed : AreGatesClosed t.bytes
   pub settled : (number : ℕ) → number ≤ 1 → Outside t.unsettled (gate_place number)
 
 -- the first step closed both gates
@@ -42,10 +42,10 @@ ClosingElapses past since old new = Elapses (HasOldButGates old) past since old 
 -- the second step wrote all but the gates, and nothing is unsettled
 pub record WritesContents (bigblocks : ℕ) (old new : Told) : Type 0 where
   pub contents : HasContents bigblocks new.bytes
-  pub closed : LacksVolume new.bytes
+  pub closed : AreGatesClosed new.bytes
   pub settled : new.unsettled ≡ []
   pub size : length new.bytes ≡ length old.bytes
 
--- within it a crash leaves no volume
+-- within it a crash leaves closed gates
 abbrev pub ContentsElapse : LeftSince → LeftSince → Told → Told → Type 0
-ContentsElapse past since old new = Elapses LacksVolume past since old new
+ContentsElapse past since old new = Elapses AreGatesClosed past since old new

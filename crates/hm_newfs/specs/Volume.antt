@@ -2,8 +2,10 @@
 use Rattle.std.specs.Prelude.{◌≡◌, ◌⊎◌, ℕ, List, [], length}
 use Rattle.hm_disk.specs.Crash.{Told}
 use Rattle.hm_disk.specs.Moments.{Elapses, LeftSince}
+use Rattle.hm_header.specs.OnDisk.{HasFault}
+use Rattle.hm_header.specs.declared.fault.HeaderFault.TheVariants.{NotVolume}
 use Rattle.hm_image.specs.Fresh.{IsFresh}
-use Rattle.hm_newfs.specs.Steps.{HasOldButGates, LacksVolume}
+use Rattle.hm_newfs.specs.Steps.{HasOldButGates}
 
 -- the disk has the bytes of the volume as it is made, none of them is unsettled, and its size is as before
 pub record MakesVolume (bigblocks : ℕ) (old new : Told) : Type 0 where
@@ -13,7 +15,7 @@ pub record MakesVolume (bigblocks : ℕ) (old new : Told) : Type 0 where
 
 -- what a crash within may leave: what one might have left before, but for the two gates, or no volume, or the new one
 abbrev pub MayBeMade : ℕ → Told → List ℕ → Type 0
-MayBeMade bigblocks old image = HasOldButGates old image ⊎ LacksVolume image ⊎ IsFresh bigblocks image
+MayBeMade bigblocks old image = HasOldButGates old image ⊎ HasFault image NotVolume ⊎ IsFresh bigblocks image
 
 -- so at each moment, whether it succeeds or not; and the disk keeps its size
 abbrev pub VolumeElapses : ℕ → LeftSince → LeftSince → Told → Told → Type 0

@@ -56,23 +56,27 @@ returns-clause-any_moment g c =
     (λ s u v room is written. volume-elapses b c.requires.size past l2 since s u v is written) c.requires.room ready
     (subst (λ (place : ℕ). BothTell told new (WriteElapses place 1 l2 since)) c.gate_place.ensures c.write_synced.ensures.any_moment)
 
+pub returns-in_err-close_gates-clause-any_moment : goal.returns-in_err-close_gates-clause-any_moment
+returns-in_err-close_gates-clause-any_moment g c =
+    BothTell-map _ _ (HasSpace c.args.bigblocks) _ _ (λ s t room time. closing-time c.args.bigblocks _ _ s t time) c.requires.room
+    c.in_err-close_gates.ensures.any_moment
+
+pub returns-in_err-write_contents-clause-any_moment : goal.returns-in_err-write_contents-clause-any_moment
+returns-in_err-write_contents-clause-any_moment g c =
+    BothTell-then _ _ _ (HasSpace c.args.bigblocks) _ _ _
+    (λ s t u room closing writing. contents-time c.args.bigblocks _ (g.D.Disk.left_since c.close_gates.new.disk) _ s t u closing writing) c.requires.room
+    c.in_ok-close_gates.ensures.any_moment c.in_err-write_contents.ensures.any_moment
+
+-- whatever failed, the disk reads as a crash may leave it
 pub returns-in_err-close_gates-clause-err : goal.returns-in_err-close_gates-clause-err
 returns-in_err-close_gates-clause-err g c =
-    let b = c.args.bigblocks in
-    let past = g.D.Disk.left_since c.args.disk.now in
-    let since = g.D.Disk.left_since c.close_gates.new.disk in
-    OnErr-all _ _ (failed b past since _ _ (g.met.D.Disk.only_now c.args.disk.now) (g.met.D.Disk.counts_now c.close_gates.new.disk)
-    (BothTell-map _ _ (HasSpace b) _ _ (λ s t room time. closing-time b past since s t time) c.requires.room c.in_err-close_gates.ensures.any_moment))
+    OnErr-all _ _ (failed c.args.bigblocks (g.D.Disk.left_since c.args.disk.now) (g.D.Disk.left_since c.close_gates.new.disk) _ _
+    (g.met.D.Disk.only_now c.args.disk.now) (g.met.D.Disk.counts_now c.close_gates.new.disk) (returns-in_err-close_gates-clause-any_moment g c))
 
 pub returns-in_err-write_contents-clause-err : goal.returns-in_err-write_contents-clause-err
 returns-in_err-write_contents-clause-err g c =
-    let b = c.args.bigblocks in
-    let past = g.D.Disk.left_since c.args.disk.now in
-    let middle = g.D.Disk.left_since c.close_gates.new.disk in
-    let since = g.D.Disk.left_since c.write_contents.new.disk in
-    OnErr-all _ _ (failed b past since _ _ (g.met.D.Disk.only_now c.args.disk.now) (g.met.D.Disk.counts_now c.write_contents.new.disk)
-    (BothTell-then _ _ _ (HasSpace b) _ _ _ (λ s t u room closing writing. contents-time b past middle since s t u closing writing) c.requires.room
-    c.in_ok-close_gates.ensures.any_moment c.in_err-write_contents.ensures.any_moment))
+    OnErr-all _ _ (failed c.args.bigblocks (g.D.Disk.left_since c.args.disk.now) (g.D.Disk.left_since c.write_contents.new.disk) _ _
+    (g.met.D.Disk.only_now c.args.disk.now) (g.met.D.Disk.counts_now c.write_contents.new.disk) (returns-in_err-write_contents-clause-any_moment g c))
 
 pub returns-clause-err : goal.returns-clause-err
 returns-clause-err g c =
