@@ -62,11 +62,11 @@ pub(crate) fn check_master<T: ElementStore + Extents>(
     Ok(())
 }
 
-// Whether it is the record of a slave.
-fn is_slave(record: &Option<PfsRecord>) -> bool
-    ensures { result ≡ option_map_or (λ (r : Told). if r.master then false else true) record.now false }
+// Whether there is a record, and it is that of a slave.
+fn is_slave(found: &Option<PfsRecord>) -> bool
+    ensures { result ≡ option_map_or (λ (r : Told). if r.master then false else true) found.now false }
 {
-    match record {
+    match found {
         Some(record) => !record.master,
         None => false,
     }
