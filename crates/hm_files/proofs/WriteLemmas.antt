@@ -34,8 +34,10 @@ module _ (pfs obj i size at : ℕ) (piece bytes : List ℕ) (es es' : List FullE
 
   beside_put : (t n : ℕ) (other : List ℕ) → (n ≤ block_start at) ⊎ (block_start at + BLOCK_BYTES < n)
       → Counts es' t (bytes_subject pfs obj n) other ↔ Counts es t (bytes_subject pfs obj n) other
-  beside_put t n other (inl low) = puts.beside t (bytes_subject pfs obj n) other (λ m up down is. absurd (omega (arith, low, up, ap (λ (s : Subject). s.key) is)))
-  beside_put t n other (inr high) = puts.beside t (bytes_subject pfs obj n) other (λ m up down is. absurd (omega (arith, high, down, ap (λ (s : Subject). s.key) is)))
+  beside_put t n other (inl low) = puts.beside t (bytes_subject pfs obj n) other
+      (λ m up down is. absurd (omega (arith, low, up, ap (λ (s : Subject). s.key) is)))
+  beside_put t n other (inr high) = puts.beside t (bytes_subject pfs obj n) other
+      (λ m up down is. absurd (omega (arith, high, down, ap (λ (s : Subject). s.key) is)))
 
   old_blocks : (t n : ℕ) (other : List ℕ) → Counts es t (bytes_subject pfs obj n) other → IsInBlock n (length other)
   old_blocks t n other counts = counted_block es t pfs obj n other blocks counts
