@@ -21,7 +21,14 @@ use Rattle.hm_files.specs.Bytes.{AreBytesFrom}
 part_of_front : (xs : List ℕ) (len skip n : ℕ) → skip + n ≤ len → take n (drop skip (take len xs)) ≡ take n (drop skip xs)
 part_of_front xs len skip n within =
     ext_get_or 0 (take n (drop skip (take len xs))) (take n (drop skip xs))
-    (omega (arith, length-take n (drop skip (take len xs)), length-take n (drop skip xs), length-drop skip (take len xs), length-drop skip xs, length-take len xs))
+    (omega (
+      arith,
+      length-take n (drop skip (take len xs)),
+      length-take n (drop skip xs),
+      length-drop skip (take len xs),
+      length-drop skip xs,
+      length-take len xs,
+    ))
     (λ i below.
     let small : i < n = omega (arith, below, length-take n (drop skip (take len xs))) in
     get_or-take n (drop skip (take len xs)) i 0 small ∙ get_or-drop skip (take len xs) i 0 ∙ get_or-take len xs (skip + i) 0 (omega (arith, small, within))

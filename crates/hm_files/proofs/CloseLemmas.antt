@@ -71,7 +71,8 @@ module _ (at : Key) (pfs obj key last i : ℕ) (here : subject_of at ≡ bytes_s
         by_element : (f : FullElement) → subject_of f.key ≡ bytes_subject pfs obj n → IsSeen i f
             → (y : Element) × Contains lists.0 y × (full_of lists.1 y ≡ f) → ⊥
         by_element f about seen (y, has, is) =
-            let about' : subject_of (element_key y) ≡ bytes_subject pfs obj n = subst (λ (z : FullElement). subject_of z.key ≡ bytes_subject pfs obj n) (sym is) about in
+            let about' : subject_of (element_key y) ≡ bytes_subject pfs obj n
+            = subst (λ (z : FullElement). subject_of z.key ≡ bytes_subject pfs obj n) (sym is) about in
             let number : y.base.key ≡ n = ap (λ (s : Subject). s.key) about' in
             let up = least y has (record {
               place = in_span at last pfs obj key y here (about' ∙ ap (bytes_subject pfs obj) (sym number)) (omega (arith, from, number))
@@ -134,7 +135,8 @@ module _ (at : Key) (pfs obj key last i : ℕ) (here : subject_of at ≡ bytes_s
           (nothing_later e.base.key (omega (arith, found.place.to)) low (λ y has seen. found.first y has seen) t n late not less)
       by_place t n late from (inr not) (inr there) below =
           let same : n ≡ e.base.key = omega (arith, there, below) in
-          λ bytes counts. none_some bytes (((wrote.present t late).about bytes).0 (subst (λ (m : ℕ). Counts (fulls now) t (bytes_subject pfs obj m) bytes) same counts))
+          λ bytes counts. none_some bytes (((wrote.present t late).about bytes).0
+          (subst (λ (m : ℕ). Counts (fulls now) t (bytes_subject pfs obj m) bytes) same counts))
 
       both : (t : ℕ) (s : Subject) (bytes : List ℕ) → IsApart pfs obj first (e.base.key + 1) s → (t < i) ⊎ (i ≤ t)
           → Counts (fulls now) t s bytes ↔ Counts (fulls was) t s bytes
@@ -196,7 +198,8 @@ module _ (pfs obj i end : ℕ) (es es' : List FullElement) (closes : ClosesBytes
       λ has. record { ranges = has.ranges; there = (entry_same directory.0 key _).1 has.there },
     );
   } where
-    entry_same : (directory key : ℕ) (bytes : List ℕ) → Counts es' t (entry_subject pfs directory key) bytes ↔ Counts es t (entry_subject pfs directory key) bytes
+    entry_same : (directory key : ℕ) (bytes : List ℕ)
+        → Counts es' t (entry_subject pfs directory key) bytes ↔ Counts es t (entry_subject pfs directory key) bytes
     entry_same directory key bytes =
         same_apart t (entry_subject pfs directory key) bytes (λ is. absurd (omega (arith, ap (λ (z : Subject). z.rec_type) is)))
 

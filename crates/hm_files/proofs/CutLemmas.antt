@@ -71,7 +71,8 @@ module _ (pfs obj i end : ℕ) (es mid : List FullElement) (aligned : end % BLOC
     | inr low ↦ (same_low t n bytes low).0 counts
     | inl high ↦ elim (cases_lt n (2 ^ 64)) [
       | inl small ↦ absurd (closes.gone t n late (omega (arith, high)) small bytes counts)
-      | inr great ↦ (closes.beside t (bytes_subject pfs obj n) bytes (λ m up down is. absurd (omega (arith, great, down, ap (λ (s : Subject). s.key) is)))).0 counts
+      | inr great ↦ (closes.beside t (bytes_subject pfs obj n) bytes
+          (λ m up down is. absurd (omega (arith, great, down, ap (λ (s : Subject). s.key) is)))).0 counts
     ]
   ]
 
@@ -142,8 +143,10 @@ module _ (pfs obj i end : ℕ) (es mid : List FullElement) (aligned : end % BLOC
 
     beside_put : (t n : ℕ) (bytes : List ℕ) → (n ≤ begin) ⊎ (begin + BLOCK_BYTES < n)
         → Counts es' t (bytes_subject pfs obj n) bytes ↔ Counts mid t (bytes_subject pfs obj n) bytes
-    beside_put t n bytes (inl low) = puts.beside t (bytes_subject pfs obj n) bytes (λ m up down is. absurd (omega (arith, low, up, ap (λ (s : Subject). s.key) is)))
-    beside_put t n bytes (inr high) = puts.beside t (bytes_subject pfs obj n) bytes (λ m up down is. absurd (omega (arith, high, down, ap (λ (s : Subject). s.key) is)))
+    beside_put t n bytes (inl low) = puts.beside t (bytes_subject pfs obj n) bytes
+        (λ m up down is. absurd (omega (arith, low, up, ap (λ (s : Subject). s.key) is)))
+    beside_put t n bytes (inr high) = puts.beside t (bytes_subject pfs obj n) bytes
+        (λ m up down is. absurd (omega (arith, high, down, ap (λ (s : Subject). s.key) is)))
 
     mid_blocks : (t n : ℕ) (bytes : List ℕ) → Counts mid t (bytes_subject pfs obj n) bytes → IsInBlock n (length bytes)
     mid_blocks t n bytes counts = counted_block mid t pfs obj n bytes closed_blocks counts

@@ -37,7 +37,8 @@ module _ (pfs obj i end : ℕ) (aligned : end % BLOCK_BYTES ≡ 0) (was mid : Li
 
   -- where its block is put with what was read of it
   pub cut_read : (begin keep : ℕ) (front : List ℕ) (es' : List FullElement) → end ≡ begin + BLOCK_BYTES → keep ≡ begin + length front → 1 ≤ length front
-      → length front ≤ BLOCK_BYTES → keep ≤ MOST_FILE_BYTES → IsContent mid.0 → AreRead i pfs obj begin front mid → PutsBlock pfs obj i begin front (fulls mid) es'
+      → length front ≤ BLOCK_BYTES → keep ≤ MOST_FILE_BYTES → IsContent mid.0 → AreRead i pfs obj begin front mid
+      → PutsBlock pfs obj i begin front (fulls mid) es'
       → CutsBytes pfs obj i keep (fulls was) es'
   cut_read begin keep front es' at_end sized some few small content read puts =
       cut_put pfs obj i end (fulls was) (fulls mid) aligned known.0 closes begin keep front es' at_end sized some few

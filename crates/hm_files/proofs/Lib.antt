@@ -9,4 +9,6 @@ mod PutLemmas
 mod CutLemmas
 mod TellLemmas
 mod CutToldLemmas
+mod WriteLemmas
+mod MergeLemmas
 mod TestLemmas

@@ -66,7 +66,8 @@ module _ (es : List Element) (xs : List Extent) (at : Key) (pfs obj offset last 
     by_end : (end : ℕ) → x < end → (f : FullElement) → subject_of f.key ≡ bytes_subject pfs obj end → IsSeen t f
         → (y : Element) × Contains es y × (full_of xs y ≡ f) → e.base.key ≤ end
     by_end end after f about seen (y, has, is) =
-        let about' : subject_of (element_key y) ≡ bytes_subject pfs obj end = subst (λ (z : FullElement). subject_of z.key ≡ bytes_subject pfs obj end) (sym is) about in
+        let about' : subject_of (element_key y) ≡ bytes_subject pfs obj end
+        = subst (λ (z : FullElement). subject_of z.key ≡ bytes_subject pfs obj end) (sym is) about in
         let key : y.base.key ≡ end = ap (λ (s : Subject). s.key) about' in
         elim (cases_lt last end) [
           | inl past' ↦ omega (arith, past', found.place.to)

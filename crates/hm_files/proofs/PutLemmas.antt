@@ -18,7 +18,7 @@ use Rattle.hm_records.specs.Payload.{IsPayload}
 use Rattle.hm_records.specs.View.{IsFileByte, IsFirstAfter, covered, hole, past}
 use Rattle.hm_cursor.specs.Views.{WritesIn}
 use Rattle.hm_cursor.specs.Write.{IsNew, Rewrites}
-use Rattle.hm_cursor.proofs.ViewsLemmas.{IsSteady, writes_again, writes_wider, writes_within}
+use Rattle.hm_cursor.proofs.ViewsLemmas.{IsSteady, fresh_beside, writes_again, writes_wider, writes_within}
 use Rattle.hm_files.specs.Close.{AreOlder, ClosesBytes, IsApart, IsNothing}
 use Rattle.hm_files.specs.Put.{IsBytesOf, PutsBlock, zone_of}
 use Rattle.hm_files.proofs.CloseLemmas.{bytes_within, ends_apart}
@@ -122,11 +122,16 @@ module _ (pfs obj i begin : ℕ) (bytes : List ℕ) (es low high es' : List Full
         (writes_again pfs i (IsBytesOf pfs obj i) es low high (steady pfs obj i)
         (closes_writes pfs obj i (begin + 1) (begin + length bytes) es low first)
         (closes_writes pfs obj i (begin + length bytes + 1) (begin + BLOCK_BYTES + 1) low high second))
-        (writes_within pfs i (bytes_subject pfs obj (begin + length bytes)) (Some bytes) (IsBytesOf pfs obj i) high es' (bytes_within pfs obj (begin + length bytes))
+        (writes_within pfs i (bytes_subject pfs obj (begin + length bytes)) (Some bytes) (IsBytesOf pfs obj i) high es'
+        (bytes_within pfs obj (begin + length bytes))
         (λ x about made now. makes_bytes pfs obj i (begin + length bytes) bytes x (in_its_block begin (length bytes) aligned some few) about made now) third);
     there = λ t late. ((third.present t late).about bytes).1 refl;
     only = λ t n other late from to counts. at_end t n other late from to counts (cases_eq n (begin + length bytes)) (cases_lt n (begin + length bytes));
     beside = λ t s other apart. beside t s other apart (cases_lt t i);
+    fresh = λ n differ is.
+        fresh_beside (bytes_subject pfs obj (begin + length bytes)) (bytes_subject pfs obj n) (Some bytes) i i high es' third
+        (ends_apart pfs obj n (begin + length bytes) differ)
+        (second.writes.fresh (bytes_subject pfs obj n) (λ x new. absurd new) (first.writes.fresh (bytes_subject pfs obj n) (λ x new. absurd new) is));
   } where
     at_end : (t n : ℕ) (other : List ℕ) → i ≤ t → begin < n → n ≤ begin + BLOCK_BYTES → Counts es' t (bytes_subject pfs obj n) other
         → (n ≡ begin + length bytes) ⊎ (n ≡ begin + length bytes → ⊥) → (n < begin + length bytes) ⊎ (begin + length bytes ≤ n) → n ≡ begin + length bytes
@@ -156,7 +161,8 @@ module _ (pfs obj i begin : ℕ) (bytes : List ℕ) (es low high es' : List Full
 -- ---- which bytes the file has
 
 -- a byte is as what counts and ends after it
-pub byte_alike : (pfs obj x byte : ℕ) (C D : Content) → ((n : ℕ) (bytes : List ℕ) → x < n → D (bytes_subject pfs obj n) bytes ↔ C (bytes_subject pfs obj n) bytes)
+pub byte_alike : (pfs obj x byte : ℕ) (C D : Content)
+    → ((n : ℕ) (bytes : List ℕ) → x < n → D (bytes_subject pfs obj n) bytes ↔ C (bytes_subject pfs obj n) bytes)
     → IsFileByte C pfs obj x byte → IsFileByte D pfs obj x byte
 byte_alike pfs obj x byte C D same (covered end bytes first reaches is) = covered end bytes (first_alike first) reaches is where
   first_alike : IsFirstAfter C pfs obj x end bytes → IsFirstAfter D pfs obj x end bytes

@@ -53,7 +53,8 @@ read_more (Some es) None t pfs obj offset done front piece all sized is one othe
 read_more (Some es) (Some xs) t pfs obj offset done front piece all sized is one other = λ balanced reached.
     rw is (joined (Counts (fulls (es, xs)) t) pfs obj offset done front piece sized
     (one balanced (reached_less es (offset + length front) (offset + length all) (omega (arith, length-append front piece, ap length is)) reached))
-    (other balanced (reached_less es (offset + done + length piece) (offset + length all) (omega (arith, length-append front piece, ap length is, sized)) reached)))
+    (other balanced (reached_less es (offset + done + length piece) (offset + length all)
+    (omega (arith, length-append front piece, ap length is, sized)) reached)))
   where
     reached_less : (es : List Element) (end end' : ℕ) → end ≤ end' → IsReached es end' → IsReached es end
     reached_less es end end' less (inl near) = inl (omega (arith, less, near))

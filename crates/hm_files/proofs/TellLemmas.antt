@@ -84,7 +84,8 @@ module _ {S : Type 0} (elements_of : S → Option (List Element)) (extents_of : 
 
   -- and what is known between two calls says more of both
   pub writes_via : (A B C : Change) (K L : Lists → Type 0) (old mid new : S)
-      → ((was mid : Lists) (es' : List FullElement) → K was → L mid → IsBalanced mid.0 mid.1 → A (fulls was) (fulls mid) → B (fulls mid) es' → C (fulls was) es')
+      → ((was mid : Lists) (es' : List FullElement) → K was → L mid → IsBalanced mid.0 mid.1 → A (fulls was) (fulls mid)
+      → B (fulls mid) es' → C (fulls was) es')
       → IfSome (content_of (elements_of old) (extents_of old)) K → IfSome (content_of (elements_of mid) (extents_of mid)) L
       → Writes elements_of extents_of A old mid → Writes elements_of extents_of B mid new → Writes elements_of extents_of C old new
   writes_via A B C K L old mid new =

@@ -11,8 +11,8 @@ use Rattle.hm_files.specs.Close.{AreOlder}
 
 -- where all elements are older than an id, the bytes of each file are
 pub all_older : (es : List Element) (xs : List Extent) (i : ℕ) → All (λ (e : Element). (e.base.create < i) × (e.base.delete ≤ i)) es
-    → (pfs obj : ℕ) → AreOlder pfs obj i 0 (full_elements es xs)
-all_older es xs i all pfs obj n from = record {
+    → (pfs obj first : ℕ) → AreOlder pfs obj i first (full_elements es xs)
+all_older es xs i all pfs obj first n from = record {
   made = λ x has about. (each x (map_has (full_of xs) es x has)).0;
   closed = λ x has about. (each x (map_has (full_of xs) es x has)).1;
 } where

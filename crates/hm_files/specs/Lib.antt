@@ -1,3 +1,4 @@
 pub mod Bytes
 pub mod Close
 pub mod Put
+pub mod Write

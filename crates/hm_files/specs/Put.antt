@@ -9,6 +9,7 @@ use Rattle.hm_key.specs.Counts.{Counts, Subject, bytes_subject, subject_of}
 use Rattle.hm_records.specs.Payload.{IsPayload}
 use Rattle.hm_records.specs.View.{AreFileBytes, IsFileByte}
 use Rattle.hm_cursor.specs.Views.{WritesIn}
+use Rattle.hm_cursor.specs.Write.{IsFreshFor}
 use Rattle.hm_files.specs.Close.{IsApart}
 
 -- the zone of so many bytes: whole blocks stand apart from shorter ones
@@ -29,6 +30,7 @@ pub record PutsBlock (pfs obj i begin : ℕ) (bytes : List ℕ) (es es' : List F
   pub only : (t n : ℕ) (other : List ℕ) → i ≤ t → begin < n → n ≤ begin + BLOCK_BYTES → Counts es' t (bytes_subject pfs obj n) other
       → n ≡ begin + length bytes
   pub beside : (t : ℕ) (s : Subject) (other : List ℕ) → IsApart pfs obj (begin + 1) (begin + BLOCK_BYTES + 1) s → Counts es' t s other ↔ Counts es t s other
+  pub fresh : (n : ℕ) → n ≢ begin + length bytes → IsFreshFor (bytes_subject pfs obj n) i es → IsFreshFor (bytes_subject pfs obj n) i es'
 
 -- for what is about no bytes of an object the same counts, as of any id
 abbrev pub KeepOthers : ℕ → ℕ → List FullElement → List FullElement → Type 0

@@ -6,7 +6,7 @@ ghost use Rattle.hm_files.specs.Close.{AreOlderIn};
 ghost use Rattle.hm_files.specs.Put.{HasBlockRoom};
 
 use crate::read_tests::{FILE, PFS, PIECES, Run, all_of, store_of};
-use crate::{read_bytes, remove_bytes, resize_bytes};
+use crate::{read_bytes, remove_bytes, resize_bytes, write_piece};
 use hm_key::{Element, ElementStore, Extents, HasElements, HasRoom, MemStore};
 use hm_types::{BLOCK_BYTES, INSERT_ROOM, Id, LARGE_ZONE, MOST_FILE_BYTES, SMALL_ZONE, TREE_ZONE};
 use std::alloc::Global;
@@ -17,13 +17,15 @@ use std::test::Fail;
 enum Step {
     // From a size to another one.
     Resize(u64, u64),
+    // Two bytes into a file of a size, at an offset.
+    Write(u64, u64),
     Remove,
 }
 
 // Whether all elements are older than an id.
 fn is_older(store: &MemStore, id: u64) -> bool
-    ensures { IsTrue result → (pfs obj : ℕ) → AreOlderIn (⟦<MemStore as HasElements>⟧.elements store.now)
-        (⟦<MemStore as HasRoom>⟧.extents store.now) pfs obj id 0 }
+    ensures { IsTrue result → (pfs obj first : ℕ) → AreOlderIn (⟦<MemStore as HasElements>⟧.elements store.now)
+        (⟦<MemStore as HasRoom>⟧.extents store.now) pfs obj id first }
 {
     are_older(store.elements(), id)
 }
@@ -61,6 +63,12 @@ fn take(store: &mut MemStore, step: Step, id: u64) -> Result<(), Fail>
                 return Err("too big")?;
             }
             resize_bytes(store, PFS, FILE, size, new, Id(id))?;
+        }
+        Step::Write(size, at) => {
+            if at % BLOCK_BYTES as u64 > BLOCK_BYTES as u64 - 2 || at > MOST_FILE_BYTES - 2 {
+                return Err("not in a block")?;
+            }
+            write_piece(store, PFS, FILE, size, at, b"xy", Id(id))?;
         }
         Step::Remove => remove_bytes(store, PFS, FILE, Id(id))?,
     }
@@ -187,6 +195,67 @@ fn a_cut_takes_an_element_for_a_block_that_it_shortens_alone(rt: HostRuntime) ->
     for (new, more) in [(10, 1), (16_384, 0), (40_000, 0), (49_154, 1), (49_155, 0)] {
         let store = store_after(rt.alloc(), &[(Step::Resize(15_728_640, new), 20)])?;
         assert_eq!(rt; store.elements().len(), PIECES.len() + more, "{new}");
+    }
+    Ok(())
+}
+
+#[test]
+fn a_written_block_keeps_what_it_has_besides(rt: HostRuntime) -> Result<(), Fail> {
+    let all = 15_728_640;
+    for (size, at, offset, asked, runs) in [
+        (all, 0, 0, 4, [(1, b'x'), (1, b'y'), (2, b'c')].as_slice()),
+        (
+            all,
+            16_382,
+            16_381,
+            4,
+            [(1, b'c'), (1, b'x'), (1, b'y'), (1, 0)].as_slice(),
+        ),
+        (
+            all,
+            16_384,
+            16_383,
+            4,
+            [(1, b'c'), (1, b'x'), (1, b'y'), (1, 0)].as_slice(),
+        ),
+        (
+            all,
+            49_153,
+            49_152,
+            4,
+            [(1, b'd'), (1, b'x'), (1, b'y'), (1, 0)].as_slice(),
+        ),
+        (
+            all,
+            49_160,
+            49_152,
+            10,
+            [(3, b'd'), (5, 0), (1, b'x'), (1, b'y')].as_slice(),
+        ),
+        (
+            10,
+            20,
+            8,
+            14,
+            [(2, b'c'), (10, 0), (1, b'x'), (1, b'y')].as_slice(),
+        ),
+        (
+            all,
+            15_728_638,
+            15_728_637,
+            3,
+            [(1, b'e'), (1, b'x'), (1, b'y')].as_slice(),
+        ),
+    ] {
+        let write = [(Step::Write(size, at), 20)];
+        assert!(rt;
+            reads_after(rt.alloc(), &write, all, offset, asked, 20, runs)?,
+            "{at} in {size}"
+        );
+        assert!(rt;
+            reads_after(rt.alloc(), &write, 9, 0, 2, 19, &[(2, b'c')])?,
+            "{at} before"
+        );
     }
     Ok(())
 }

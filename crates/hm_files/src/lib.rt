@@ -12,7 +12,9 @@ mod put;
 mod read;
 #[cfg(test)]
 mod read_tests;
+mod write;
 
 pub use close::remove_bytes;
 pub use cut::resize_bytes;
 pub use read::read_bytes;
+pub use write::write_piece;

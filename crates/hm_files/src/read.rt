@@ -177,8 +177,8 @@ fn copy_rest(from: &[u8], skip: usize, into: &mut [u8])
     into.copy_from_slice(&from[skip..]);
 }
 
-// The less of a length and a number.
-fn shorter(len: usize, most: u64) -> usize
+/// The less of a length and a number.
+pub(crate) fn shorter(len: usize, most: u64) -> usize
     ensures { result ≡ min len most }
 {
     if most < len as u64 {

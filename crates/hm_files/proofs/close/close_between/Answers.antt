@@ -25,7 +25,8 @@ returns-in_default-clause-ok g c =
     let none = first_still (elements c.loop-key.store) (elements now) at c.args.last i c.in_ok-element.field-0 None (sym searched.keeps.elements)
     c.in_default.is searched.ok in
     told_closed pfs obj i c.args.first (c.args.last + 1) (elements old) (elements now) (extents old) (extents now)
-    (told_all pfs obj i c.args.first at c.loop-key.key c.args.last c.bytes_base-at.ensures.about was.from (elements old) (elements now) (extents old) (extents now)
+    (told_all pfs obj i c.args.first at c.loop-key.key c.args.last c.bytes_base-at.ensures.about was.from (elements old) (elements now)
+    (extents old) (extents now)
     c.loop-key-test.true c.requires.older none
     (told_moved pfs obj i c.args.first c.loop-key.key (elements old) (elements c.loop-key.store) (elements now) (extents old) (extents c.loop-key.store)
     (extents now) searched.keeps.elements searched.keeps.extents was.closed))
@@ -77,8 +78,10 @@ one_more g c =
     let now = c.close_versions.new.store in
     let searched = c.in_ok-element.ensures in
     let closed = c.in_ok-close_versions.ensures in
-    told_step c.args.pfs.0 c.args.obj.0 c.args.id.0 c.args.first (key_of c.bytes_base-at.result) c.loop-key.key c.args.last c.bytes_base-at.ensures.about was.from
-    c.in_ok-element.field-0 c.in-Some.element (elements old) (elements loop) (elements mid) (elements now) (extents old) (extents loop) (extents mid) (extents now)
+    told_step c.args.pfs.0 c.args.obj.0 c.args.id.0 c.args.first (key_of c.bytes_base-at.result) c.loop-key.key c.args.last
+    c.bytes_base-at.ensures.about was.from
+    c.in_ok-element.field-0 c.in-Some.element (elements old) (elements loop) (elements mid) (elements now)
+    (extents old) (extents loop) (extents mid) (extents now)
     searched.keeps.elements searched.keeps.extents c.in-Some.is c.requires.older searched.ok closed.ok closed.placed was.closed
 
 pub returns-then-element-last-clause-ok : goal.returns-then-element-last-clause-ok
@@ -87,7 +90,8 @@ returns-then-element-last-clause-ok g c =
     let extents = g.T.HasRoom.extents in
     let old = c.args.store.now in
     let now = c.close_versions.new.store in
-    let closed = subst (λ (n : ℕ). ClosedTold c.args.pfs.0 c.args.obj.0 c.args.id.0 c.args.first (n + 1) (elements old) (extents old) (elements now) (extents now))
+    let closed = subst (λ (n : ℕ). ClosedTold c.args.pfs.0 c.args.obj.0 c.args.id.0 c.args.first (n + 1)
+    (elements old) (extents old) (elements now) (extents now))
     c.if-element-last.true (one_more g c.before) in
     told_closed c.args.pfs.0 c.args.obj.0 c.args.id.0 c.args.first (c.args.last + 1) (elements old) (elements now) (extents old) (extents now) closed
 

@@ -1,0 +1,75 @@
+// Bytes that are written into a file.
+ghost use Rattle.std.specs.Prelude.{◌≡◌, ◌+◌, ◌*◌, ◌^◌, ◌<◌, ◌≤◌, ◌++◌, OnOk, drop, length, take};
+ghost use Rattle.hm_types.specs.Faults.{HasStoreCause};
+ghost use Rattle.hm_types.specs.Space.{Spends};
+ghost use Rattle.hm_key.specs.Balance.{Balanced, content_of};
+ghost use Rattle.hm_key.specs.Stores.{Keeps};
+ghost use Rattle.hm_cursor.specs.Write.{Writes};
+ghost use Rattle.hm_files.specs.Close.{AreOlderIn};
+ghost use Rattle.hm_files.specs.Put.{HasBlockRoom, block_space};
+ghost use Rattle.hm_files.specs.Write.{PutsPiece, block_start};
+
+use crate::put::put_block;
+use crate::read::{read_all, shorter};
+use hm_key::{ElementStore, Extents, HasElements, HasRoom};
+use hm_types::{BLOCK_BYTES, Counted, Fault, Id, MOST_FILE_BYTES, Obj, Pfs};
+
+/// Puts bytes into a file of a size, from an offset on, by an id of 1 or more: at least one, all of
+/// one block, and none past 15,728,640. The block keeps what it has besides, up to the file's new
+/// end, where the last byte written is past its size; between the size and the offset it is zero. A
+/// whole block is put as it comes. The inode, which says the size, is the caller's, and so are the
+/// other blocks: where the size lies in one before this, what is past it is cut off first.
+///
+/// It takes at most 40,960 bytes of zone 8, and those of the block's bytes in zone 10 for a whole
+/// block, and in zone 11 else. The faults are those of the store; after one nothing is known of the
+/// content.
+pub fn write_piece<T: ElementStore + Extents>(
+    store: &mut T,
+    pfs: Pfs,
+    obj: Obj,
+    size: u64,
+    at: u64,
+    piece: &[u8],
+    id: Id,
+) -> Result<(), Fault>
+    requires id { 1 ≤ id.0 }
+    requires some { 1 ≤ length piece.now }
+    requires within { at + length piece.now ≤ block_start at + BLOCK_BYTES }
+    requires few { at + length piece.now ≤ MOST_FILE_BYTES }
+    requires balanced { Balanced (T.elements store.old) (T.extents store.old) }
+    requires older { AreOlderIn (T.elements store.old) (T.extents store.old)
+        pfs.0 obj.0 id.0 (block_start at + 1) }
+    requires room { HasBlockRoom (T.room store.old) 1 }
+    ensures ok { OnOk result (Writes T.elements T.extents
+        (PutsPiece pfs.0 obj.0 id.0 size at piece.now) store.old store.new) }
+    ensures keeps { Keeps T.elements T.extents store.old store.new result }
+    ensures space { Spends T.room T.free (block_space 1) store.old store.new }
+    ensures borrowed { (T.name store.new ≡ T.name store.old)
+        × (T.frame store.new ≡ T.frame store.old) }
+    ensures cause { HasStoreCause (content_of (T.elements store.old) (T.extents store.old))
+        (T.faults store.old) (T.faults store.new) result }
+{
+    let begin = at / BLOCK_BYTES as u64 * BLOCK_BYTES as u64;
+    if piece.len() == BLOCK_BYTES {
+        return put_block(store, pfs, obj, begin, piece, id);
+    }
+    let inner = (at - begin) as usize;
+    let end = size
+        .max(at + piece.len() as u64)
+        .min(begin + BLOCK_BYTES as u64);
+    let mut bytes = [0; BLOCK_BYTES];
+    let front = &mut bytes[..(end - begin) as usize];
+    let shown = shorter(front.len(), size.saturating_sub(begin));
+    read_all(store, pfs, obj, begin, id, &mut front[..shown])?;
+    lay_over(front, inner, piece);
+    put_block(store, pfs, obj, begin, front, id)
+}
+
+// Puts a piece over a part of a block.
+fn lay_over(front: &mut [u8], inner: usize, piece: &[u8])
+    requires { inner + length piece.now ≤ length front.old }
+    ensures { front.new ≡ take inner front.old ++
+        (piece.now ++ drop (inner + length piece.now) front.old) }
+{
+    front[inner..inner + piece.len()].copy_from_slice(piece);
+}
