@@ -17,7 +17,6 @@ took() {
     local store=$1 operation=$2 names=$3 first= before=0 calls
     case $operation in
         stat | ls) first=touch ;;
-        now | past) first=relink ;;
     esac
     if [ -n "$first" ]; then
         measure_best "$program" "$store" "$first" "$names"
@@ -56,7 +55,4 @@ stat 1000 both
 stat 10000 both
 stat 100000 tree
 ls 4096 both
-relink 10000 both
-now 10000 both
-past 10000 both
 ROWS
