@@ -12,7 +12,7 @@ use hm_types::{Id, Names};
 use std::alloc::Global;
 use std::test::Fail;
 
-const SCRIPTS: u64 = 20;
+const SCRIPTS: u64 = 5;
 
 const CALLS: u64 = 100;
 
