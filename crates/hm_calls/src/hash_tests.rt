@@ -3,8 +3,8 @@ ghost use Rattle.std.specs.Prelude.{IfOk};
 ghost use Rattle.hm_calls.specs.Tests.{IsMade, IsReady};
 
 use crate::testing::{
-    FRESH, Item, Volume, Zero, entry_as_bytes, fill_meta_zone, first_other_of, forge, forge_all,
-    nothing, opened,
+    FRESH, Item, Volume, Zero, entry_as_bytes, fill_meta_zone, first_other, first_other_of, forge,
+    forge_all, nothing, opened,
 };
 use hm_cursor::entry_base;
 use hm_key::{HasElements, HasRoom, MemStore};
@@ -55,6 +55,21 @@ fn first_other_in<'a>(
 ) -> Result<Option<(&'a str, Vec<u8>)>, Fail> {
     let mut volume = opened(full_directory(alloc, alike)?);
     first_other_of(alloc, &mut volume, &Zero, rows)
+}
+
+#[test]
+fn two_names_of_one_hash_come_and_go_apart(rt: HostRuntime) -> Result<(), Fail> {
+    let rows = [
+        ("mkdir /a", "ok"),
+        ("touch /b", "ok"),
+        ("ls /", "ok 2 d:a f:b"),
+        ("rmdir /a", "ok"),
+        ("stat /a", "not found"),
+        ("stat /b", "ok f 0x0000000000000004 0 1"),
+    ];
+    let other = first_other(rt.alloc(), &Zero, &FRESH, &rows)?;
+    assert_eq!(rt; other, None);
+    Ok(())
 }
 
 #[test]

@@ -18,6 +18,8 @@ mod make;
 mod metered;
 mod moves;
 mod new;
+#[cfg(test)]
+mod past_trees;
 mod places;
 mod put;
 #[cfg(test)]
@@ -28,6 +30,8 @@ mod remove;
 mod rename;
 mod room;
 mod stop;
+#[cfg(test)]
+mod system_tests;
 mod take;
 #[cfg(test)]
 mod testing;

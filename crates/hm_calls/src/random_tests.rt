@@ -1,15 +1,13 @@
 // Scripts of calls on names beside the plain program of the model, by numbers drawn at random.
-ghost use Rattle.std.specs.Prelude.{◌≤◌};
-ghost use Rattle.hm_types.specs.declared.limits.TheConstants.{GREATEST_ID};
-
+use crate::past_trees::PastTrees;
 use crate::testing::{FRESH, command_of, reply_to, volume_of};
 use hm_dirs::Fnv;
-use hm_model::{Command, Reply, Tree, apply, look, next_number};
-use hm_types::{GREATEST_ID, Id};
+use hm_model::next_number;
+use hm_types::GREATEST_ID;
 use std::alloc::Global;
 use std::test::Fail;
 
-const SCRIPTS: u64 = 100;
+const SCRIPTS: u64 = 300;
 
 const CALLS: u64 = 200;
 
@@ -48,22 +46,10 @@ fn line_of(alloc: Global, number: u64) -> Result<String, Fail> {
     })
 }
 
-// The reply of the model to a call, and its tree after it.
-fn model_reply(alloc: Global, tree: Tree, command: &Command, id: Id) -> Result<(Reply, Tree), Fail>
-    requires { (1 ≤ id.0) × (id.0 ≤ GREATEST_ID) }
-{
-    match command {
-        Command::Ls { .. } | Command::Stat { .. } | Command::Readlink { .. } => {
-            Ok((look(alloc, &tree, command)?, tree))
-        }
-        _ => Ok(apply(alloc, &tree, command, id)?),
-    }
-}
-
 // The first line of a script whose reply is not that of the model, if there is one.
 fn first_other_line(alloc: Global, seed: u64) -> Result<Option<String>, Fail> {
     let mut volume = volume_of(alloc, &Fnv, &FRESH)?;
-    let mut tree = Tree::root(alloc)?;
+    let mut trees = PastTrees::new(alloc, volume.next)?;
     let mut number = seed;
     for _ in 0..CALLS {
         number = next_number(number);
@@ -72,10 +58,8 @@ fn first_other_line(alloc: Global, seed: u64) -> Result<Option<String>, Fail> {
         if volume.next == 0 || volume.next > GREATEST_ID {
             return Err("no id")?;
         }
-        let (due, after) = model_reply(alloc, tree, &command, Id(volume.next))?;
-        let reply = reply_to(alloc, &mut volume, &Fnv, &command)?;
-        tree = after;
-        if reply != due {
+        let due = trees.call(alloc, &command, volume.next)?;
+        if reply_to(alloc, &mut volume, &Fnv, &command)? != due {
             return Ok(Some(line));
         }
     }

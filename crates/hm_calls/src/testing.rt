@@ -38,6 +38,25 @@ impl NameHash for Zero {
     }
 }
 
+/// A hash of two values: the names of one byte have one, and all others the other.
+pub(crate) struct ByLength;
+
+impl NameHash for ByLength {
+    ghost use Rattle.hm_calls.specs.Tests.{length_hash, length_hash_few};
+
+    ghost hash_of = { λ _. length_hash };
+
+    ghost bounded = { λ _. length_hash_few };
+
+    fn hash(&self, name: &[u8]) -> u64 {
+        if name.len() == 1 {
+            0
+        } else {
+            1_099_511_627_776
+        }
+    }
+}
+
 fn text(alloc: Global, word: &str) -> Result<Text, Fail>
     ensures { IfOk result (λ text. text ≡ word.now) }
 {

@@ -30,6 +30,23 @@ fn kinds_are_told_apart(rt: HostRuntime) -> Result<(), Fail> {
 }
 
 #[test]
+fn names_have_at_most_255_bytes(rt: HostRuntime) -> Result<(), Fail> {
+    let alloc = rt.alloc();
+    let name = "a".repeat(alloc, 255)?;
+    let longest = format!(in alloc; "mkdir /{name}")?;
+    let longer = format!(in alloc; "mkdir /{name}a")?;
+    let rows = [
+        (longest.as_str(), "ok"),
+        (longer.as_str(), "bad path 1"),
+        ("mkdir /", "bad path 0"),
+        ("ls /a//b", "bad path 3"),
+    ];
+    let other = first_other(alloc, &Fnv, &FRESH, &rows)?;
+    assert_eq!(rt; other, None);
+    Ok(())
+}
+
+#[test]
 fn names_move(rt: HostRuntime) -> Result<(), Fail> {
     let rows = [
         ("mkdir /a", "ok"),
