@@ -4,25 +4,22 @@ use Rattle.std.specs.Prelude.{◌↔◌, ◌⊎◌}
 use Rattle.std.specs.List.{Contains}
 use Rattle.std.proofs.lemmas.Bool.{cases_lt}
 use Rattle.hm_types.specs.Elements.{FullElement, Key}
-use Rattle.hm_types.specs.Tree.{FileTree}
 use Rattle.hm_types.specs.declared.object.Object.{Object}
 use Rattle.hm_key.specs.Balance.{IsBalanced, full_of}
 use Rattle.hm_key.specs.Counts.{Content, Counts, IsSeen, Subject, bytes_subject, entry_subject, inode_subject, subject_of, target_subject}
 use Rattle.hm_key.specs.Elements.{element_key}
 use Rattle.hm_key.specs.declared.element.Element.{Element}
-use Rattle.hm_records.specs.Changes.{AgreeButObject, ChangesObject, CountsNothing, IsSettled}
+use Rattle.hm_records.specs.Changes.{AgreeButObject, CountsNothing, IsSettled}
 use Rattle.hm_records.specs.Inode.{inode_bytes}
-use Rattle.hm_records.specs.Laws.{HasView}
 use Rattle.hm_records.specs.View.{IsObject}
 use Rattle.hm_records.proofs.MemberLemmas.{map_has}
 use Rattle.hm_records.proofs.ObjectChangeLemmas.{object_same_view}
 use Rattle.hm_records.proofs.SubjectLemmas.{same_subject}
 use Rattle.hm_cursor.specs.Told.{Lists, fulls}
 use Rattle.hm_cursor.specs.Version.{IsFirst, IsSeenIn}
-use Rattle.hm_cursor.specs.Views.{WritesIn}
 use Rattle.hm_cursor.specs.Write.{IsFreshFor, KeepPlaces, Rewrites}
 use Rattle.hm_cursor.proofs.ViewsLemmas.{IsWithin, fresh_later, nothing_written, writes_again, writes_within}
-use Rattle.hm_files.specs.Close.{AreOlder, ClosesBytes, IsApart, IsMissing, IsNothing, RemovesBytes}
+use Rattle.hm_files.specs.Close.{AreOlder, ClosesBytes, IsApart, IsNothing, RemovesBytes}
 use Rattle.hm_files.proofs.PieceLemmas.{in_span, span_about}
 
 -- bytes are of their pseudo file system, and no record

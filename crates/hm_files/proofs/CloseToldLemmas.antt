@@ -1,7 +1,7 @@
 -- Bytes that are closed, in stores that may tell their content.
-use Rattle.std.proofs.Common.{◌≡◌, ℕ, ◌+◌, ◌<◌, ◌≤◌, List, Option, None, Some, arith, false, refl, sym, subst, true≢false}
+use Rattle.std.proofs.Common.{◌≡◌, ℕ, ◌+◌, ◌≤◌, List, Option, None, Some, arith, false, refl, sym, subst, true≢false}
 use Rattle.std.specs.Prelude.{IfSome, IsSomeAnd, is_some}
-use Rattle.hm_types.specs.Elements.{FullElement, Key}
+use Rattle.hm_types.specs.Elements.{Key}
 use Rattle.hm_key.specs.Balance.{IsBalanced, content_of}
 use Rattle.hm_key.specs.Counts.{bytes_subject, subject_of}
 use Rattle.hm_key.specs.Elements.{element_key}

@@ -1,24 +1,23 @@
 -- Bytes that are cut off a file.
-use Rattle.std.proofs.Common.{◌≡◌, ◌≢◌, ℕ, ◌+◌, ◌-◌, ◌*◌, ◌%◌, ◌/◌, ◌^◌, ◌<◌, ◌≤◌, List, ◌++◌, length, length-append, min, replicate, refl, ap, sym, subst, ◌∙◌, inl, inr, arith}
+use Rattle.std.proofs.Common.{◌≡◌, ℕ, ◌+◌, ◌-◌, ◌%◌, ◌^◌, ◌<◌, ◌≤◌, List, ◌++◌, length, length-append, min, replicate, refl, ap, sym, subst, ◌∙◌, inl, inr, arith}
 use Rattle.std.specs.Prelude.{◌↔◌, ◌⊎◌, slice_index}
 use Rattle.std.specs.List.{Contains}
 use Rattle.std.proofs.lemmas.Bool.{cases_lt}
 use Rattle.std.proofs.lemmas.List.{get_or-append_right, get_or-replicate, get_or-take, get_or_append_left, length-replicate, length-take}
 use Rattle.hm_types.specs.Elements.{FullElement, Key}
 use Rattle.hm_types.specs.declared.limits.TheConstants.{BLOCK_BYTES, MOST_FILE_BYTES}
-use Rattle.hm_key.specs.Counts.{Content, Counts, Subject, bytes_subject, subject_of}
+use Rattle.hm_key.specs.Counts.{Counts, Subject, bytes_subject}
 use Rattle.hm_key.specs.Element.{IsInBlock}
 use Rattle.hm_key.specs.declared.rec_type.TheConstants.{FILE_BYTES}
 use Rattle.hm_records.specs.Changes.{CountsNothing, IsSettled}
 use Rattle.hm_records.specs.View.{AreFileBytes, IsFileByte, IsFirstAfter, covered, hole, past}
 use Rattle.hm_cursor.specs.Views.{CameAs, WritesIn}
-use Rattle.hm_cursor.specs.Write.{IsFreshFor}
 use Rattle.hm_cursor.proofs.ViewsLemmas.{fresh_later, writes_again}
 use Rattle.hm_files.specs.Bytes.{AreBytesFrom}
-use Rattle.hm_files.specs.Close.{AreOlder, ClosesBytes, IsApart}
+use Rattle.hm_files.specs.Close.{AreOlder, ClosesBytes}
 use Rattle.hm_files.specs.Put.{CutsBytes, IsBytesOf, KeepOthers, PutsBlock, ResizesBytes, resized}
 use Rattle.hm_files.proofs.ByteLemmas.{byte_one}
-use Rattle.hm_files.proofs.FirstLemmas.{IsFirstOne, first_counts, first_or_none, none_counts}
+use Rattle.hm_files.proofs.FirstLemmas.{first_counts, first_or_none, none_counts}
 use Rattle.hm_files.proofs.PutLemmas.{byte_alike, byte_earlier, byte_put, closes_writes, steady}
 
 -- the bytes of files lie in blocks
@@ -131,6 +130,7 @@ module _ (pfs obj i end : ℕ) (es mid : List FullElement) (aligned : end % BLOC
     writes = closed_writes;
     kept = λ t x v late below is. byte_closed t x v late (omega (arith, below, within)) is;
     zero = λ t x late from small. zero_from t keep x late from small (λ n above low. none t n late above low);
+    fresh = λ n differ older. closes.writes.fresh (bytes_subject pfs obj n) (λ x new. absurd new) older;
     others = closed_others;
   }
 
@@ -198,6 +198,8 @@ module _ (pfs obj i end : ℕ) (es mid : List FullElement) (aligned : end % BLOC
       writes = writes_again pfs i (IsBytesOf pfs obj i) es mid es' (steady pfs obj i) closed_writes puts.writes;
       kept = kept_put;
       zero = zero_put;
+      fresh = λ n differ older'.
+          puts.fresh n (λ is. differ (is ∙ sym sized)) (closes.writes.fresh (bytes_subject pfs obj n) (λ x new. absurd new) older');
       others = λ t s bytes differ.
           let one = closed_others t s bytes differ in
           let two = puts.beside t s bytes (λ n up down is. differ (is ∙ ap (bytes_subject pfs obj) (sym (ap (λ (z : Subject). z.key) is)))) in

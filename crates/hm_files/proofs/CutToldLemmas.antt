@@ -2,7 +2,7 @@
 use Rattle.std.proofs.Common.{◌≡◌, ℕ, ◌+◌, ◌%◌, ◌^◌, ◌≤◌, List, None, length, inl, arith}
 use Rattle.hm_types.specs.Elements.{FullElement, Key}
 use Rattle.hm_types.specs.declared.limits.TheConstants.{BLOCK_BYTES, MOST_FILE_BYTES}
-use Rattle.hm_key.specs.Balance.{IsBalanced, full_elements}
+use Rattle.hm_key.specs.Balance.{full_elements}
 use Rattle.hm_key.specs.Counts.{bytes_subject, subject_of}
 use Rattle.hm_key.specs.Elements.{IsContent}
 use Rattle.hm_records.proofs.CountsLemmas.{own_keys-sorted, settled}

@@ -2,6 +2,7 @@ pub mod ByteLemmas
 pub mod FirstLemmas
 mod PieceLemmas
 mod ReadLemmas
+mod SpanLemmas
 mod CloseLemmas
 mod CloseToldLemmas
 mod VersionLemmas

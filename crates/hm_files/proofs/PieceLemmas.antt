@@ -1,22 +1,20 @@
 -- What a search for bytes from an offset on finds of a file.
-use Rattle.std.proofs.Common.{◌≡◌, ℕ, ◌+◌, ◌-◌, ◌^◌, ◌<◌, ◌≤◌, List, None, Some, refl, sym, ap, subst, ◌∙◌, inl, inr, arith, length, min, replicate}
+use Rattle.std.proofs.Common.{◌≡◌, ℕ, ◌+◌, ◌-◌, ◌^◌, ◌<◌, ◌≤◌, List, None, refl, sym, ap, subst, ◌∙◌, inl, inr, arith, length, min, replicate}
 use Rattle.std.specs.Prelude.{◌⊎◌, slice_index}
 use Rattle.std.specs.List.{Contains}
 use Rattle.std.proofs.lemmas.Bool.{cases_lt}
 use Rattle.std.proofs.lemmas.List.{get_or-replicate, length-replicate}
 use Rattle.std.proofs.lemmas.List.Elements.{All-contains}
 use Rattle.hm_types.specs.Elements.{FullElement, Key}
-use Rattle.hm_types.specs.declared.limits.TheConstants.{BLOCK_BYTES}
 use Rattle.hm_key.specs.Balance.{IsBalanced, IsHeld, full_elements, full_of, payload_of}
 use Rattle.hm_key.specs.Counts.{Counts, IsSeen, Subject, bytes_subject, subject_of}
 use Rattle.hm_key.specs.Element.{IsElement, IsInBlock}
 use Rattle.hm_key.specs.Elements.{IsContent, element_key}
 use Rattle.hm_key.specs.Extents.{AreExtents, Extent}
 use Rattle.hm_key.specs.declared.element.Element.{Element}
-use Rattle.hm_key.specs.declared.rec_type.TheConstants.{FILE_BYTES}
 use Rattle.hm_records.specs.View.{IsFileByte, IsFirstAfter, covered, hole, past}
 use Rattle.hm_records.proofs.MemberLemmas.{map_has}
-use Rattle.hm_cursor.specs.Version.{IsFirst, IsFirstIn, IsInSpan, IsSeenIn}
+use Rattle.hm_cursor.specs.Version.{IsFirst, IsFirstIn, IsInSpan}
 use Rattle.hm_cursor.proofs.PayloadLemmas.{length-payload}
 use Rattle.hm_cursor.proofs.ToldLemmas.{counts_newest}
 use Rattle.hm_files.specs.Bytes.{AreBytesFrom, AreOf, IsReached, IsShownBy, before, block_end, inside}

@@ -1,5 +1,5 @@
 -- A block that is put: what counts in it, and which bytes the file has then.
-use Rattle.std.proofs.Common.{◌≡◌, ◌≢◌, ℕ, ◌+◌, ◌-◌, ◌*◌, ◌%◌, ◌/◌, ◌^◌, ◌<◌, ◌≤◌, List, Option, None, Some, length, refl, ap, sym, subst, ◌∙◌, inl, inr, arith}
+use Rattle.std.proofs.Common.{◌≡◌, ℕ, ◌+◌, ◌-◌, ◌%◌, ◌<◌, ◌≤◌, List, Some, length, refl, ap, sym, subst, ◌∙◌, inl, inr, arith}
 use Rattle.std.specs.Prelude.{◌↔◌, ◌⊎◌, Bool, true, false, if◌then◌else◌, nat_lt, slice_index}
 use Rattle.std.proofs.lemmas.Bool.{cases_eq, cases_lt}
 use Rattle.hm_types.specs.Elements.{FullElement, Key}
@@ -13,13 +13,12 @@ use Rattle.hm_key.specs.declared.base.Base.{Base}
 use Rattle.hm_key.specs.declared.base.TheConstants.{ELEMENT}
 use Rattle.hm_key.specs.declared.rec_type.TheConstants.{FILE_BYTES, OTHER_PART}
 use Rattle.hm_records.specs.declared.kind.TheConstants.{FILE}
-use Rattle.hm_records.specs.Changes.{CountsNothing}
 use Rattle.hm_records.specs.Payload.{IsPayload}
 use Rattle.hm_records.specs.View.{IsFileByte, IsFirstAfter, covered, hole, past}
 use Rattle.hm_cursor.specs.Views.{WritesIn}
 use Rattle.hm_cursor.specs.Write.{IsNew, Rewrites}
 use Rattle.hm_cursor.proofs.ViewsLemmas.{IsSteady, fresh_beside, writes_again, writes_wider, writes_within}
-use Rattle.hm_files.specs.Close.{AreOlder, ClosesBytes, IsApart, IsNothing}
+use Rattle.hm_files.specs.Close.{ClosesBytes, IsApart, IsNothing}
 use Rattle.hm_files.specs.Put.{IsBytesOf, PutsBlock, zone_of}
 use Rattle.hm_files.proofs.CloseLemmas.{bytes_within, ends_apart}
 

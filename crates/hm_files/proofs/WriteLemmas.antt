@@ -1,5 +1,5 @@
 -- A piece that is put into a file.
-use Rattle.std.proofs.Common.{◌≡◌, ◌≢◌, ℕ, ◌+◌, ◌-◌, ◌*◌, ◌%◌, ◌/◌, ◌<◌, ◌≤◌, List, length, max, min, refl, ap, sym, subst, ◌∙◌, inl, inr, arith}
+use Rattle.std.proofs.Common.{◌≡◌, ℕ, ◌+◌, ◌-◌, ◌%◌, ◌<◌, ◌≤◌, List, length, ap, sym, subst, ◌∙◌, inl, inr, arith}
 use Rattle.std.specs.Prelude.{◌↔◌, ◌⊎◌, slice_index}
 use Rattle.std.proofs.lemmas.Bool.{cases_lt}
 use Rattle.hm_types.specs.Elements.{FullElement}
@@ -9,7 +9,6 @@ use Rattle.hm_key.specs.Element.{IsInBlock}
 use Rattle.hm_records.specs.Changes.{IsSettled}
 use Rattle.hm_records.specs.View.{IsFileByte}
 use Rattle.hm_cursor.proofs.ViewsLemmas.{fresh_later}
-use Rattle.hm_files.specs.Bytes.{AreBytesFrom}
 use Rattle.hm_files.specs.Close.{AreOlder}
 use Rattle.hm_files.specs.Put.{PutsBlock}
 use Rattle.hm_files.specs.Write.{PutsPiece, block_start}

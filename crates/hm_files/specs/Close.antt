@@ -1,5 +1,5 @@
 -- Bytes of a file that are closed.
-use Rattle.std.specs.Prelude.{◌≡◌, ◌≢◌, ◌↔◌, ℕ, ◌<◌, ◌≤◌, List, Option, IfSome}
+use Rattle.std.specs.Prelude.{◌≢◌, ◌↔◌, ℕ, ◌<◌, ◌≤◌, List, Option, IfSome}
 use Rattle.hm_types.specs.Elements.{FullElement}
 use Rattle.hm_key.specs.Balance.{content_of}
 use Rattle.hm_key.specs.Counts.{Counts, Subject, bytes_subject, inode_subject}

@@ -36,11 +36,12 @@ pub record PutsBlock (pfs obj i begin : ℕ) (bytes : List ℕ) (es es' : List F
 abbrev pub KeepOthers : ℕ → ℕ → List FullElement → List FullElement → Type 0
 KeepOthers pfs obj es es' = (t : ℕ) (s : Subject) (bytes : List ℕ) → s ≢ bytes_subject pfs obj s.key → Counts es' t s bytes ↔ Counts es t s bytes
 
--- From `i` on a file's bytes before an offset are as they were, and from it on they are zero.
+-- From `i` on a file's bytes before an offset are as they were, and from it on they are zero. New bytes end at the offset.
 pub record CutsBytes (pfs obj i keep : ℕ) (es es' : List FullElement) : Type 0 where
   pub writes : WritesIn pfs i (IsBytesOf pfs obj i) es es'
   pub kept : (t x byte : ℕ) → i ≤ t → x < keep → IsFileByte (Counts es t) pfs obj x byte → IsFileByte (Counts es' t) pfs obj x byte
   pub zero : (t x : ℕ) → i ≤ t → keep ≤ x → x + BLOCK_BYTES < 2 ^ 64 → IsFileByte (Counts es' t) pfs obj x 0
+  pub fresh : (n : ℕ) → n ≢ keep → IsFreshFor (bytes_subject pfs obj n) i es → IsFreshFor (bytes_subject pfs obj n) i es'
   pub others : KeepOthers pfs obj es es'
 
 -- the bytes of a file with another size: cut, or with zeros added

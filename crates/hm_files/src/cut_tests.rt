@@ -1,4 +1,4 @@
-// Bytes that are cut off and closed, over a store in memory whose elements are worked out by hand.
+// Bytes that are cut off, closed and written, over a store in memory whose elements are worked out by hand.
 ghost use Rattle.std.specs.Prelude.{ℕ, ◌<◌, ◌≤◌, IfOk, IsTrue};
 ghost use Rattle.std.specs.List.{All};
 ghost use Rattle.hm_key.specs.Balance.{Balanced};
@@ -6,7 +6,7 @@ ghost use Rattle.hm_files.specs.Close.{AreOlderIn};
 ghost use Rattle.hm_files.specs.Put.{HasBlockRoom};
 
 use crate::read_tests::{FILE, PFS, PIECES, Run, all_of, store_of};
-use crate::{read_bytes, remove_bytes, resize_bytes, write_piece};
+use crate::{read_bytes, remove_bytes, resize_bytes, write_bytes};
 use hm_key::{Element, ElementStore, Extents, HasElements, HasRoom, MemStore};
 use hm_types::{BLOCK_BYTES, INSERT_ROOM, Id, LARGE_ZONE, MOST_FILE_BYTES, SMALL_ZONE, TREE_ZONE};
 use std::alloc::Global;
@@ -17,8 +17,8 @@ use std::test::Fail;
 enum Step {
     // From a size to another one.
     Resize(u64, u64),
-    // Two bytes into a file of a size, at an offset.
-    Write(u64, u64),
+    // Into a file of a size, from an offset on, so many bytes.
+    Write(u64, u64, u32),
     Remove,
 }
 
@@ -38,23 +38,24 @@ fn are_older(elements: &[Element], id: u64) -> bool
         .all(|e| e.base.create < id && e.base.delete <= id)
 }
 
-// Whether a store has room for a block.
-fn has_room(store: &MemStore) -> bool
-    ensures { IsTrue result → HasBlockRoom (⟦<MemStore as HasRoom>⟧.room store.now) 1 }
+// Whether a store has room for some blocks, at most 960.
+fn has_room(store: &MemStore, blocks: u64) -> bool
+    requires { blocks ≤ 960 }
+    ensures { IsTrue result → HasBlockRoom (⟦<MemStore as HasRoom>⟧.room store.now) blocks }
 {
-    store.room(TREE_ZONE) >= u64::from(INSERT_ROOM)
-        && store.room(LARGE_ZONE) >= BLOCK_BYTES as u64
-        && store.room(SMALL_ZONE) >= BLOCK_BYTES as u64
+    store.room(TREE_ZONE) >= blocks * u64::from(INSERT_ROOM)
+        && store.room(LARGE_ZONE) >= blocks * BLOCK_BYTES as u64
+        && store.room(SMALL_ZONE) >= blocks * BLOCK_BYTES as u64
 }
 
 // Takes a step by an id above all others.
-fn take(store: &mut MemStore, step: Step, id: u64) -> Result<(), Fail>
+fn take(alloc: Global, store: &mut MemStore, step: Step, id: u64) -> Result<(), Fail>
     requires { Balanced (⟦<MemStore as HasElements>⟧.elements store.old)
         (⟦<MemStore as HasRoom>⟧.extents store.old) }
     ensures { IfOk result (λ _. Balanced (⟦<MemStore as HasElements>⟧.elements store.new)
         (⟦<MemStore as HasRoom>⟧.extents store.new)) }
 {
-    if id == 0 || !is_older(store, id) || !has_room(store) {
+    if id == 0 || !is_older(store, id) || !has_room(store, 1) {
         return Err("not ready")?;
     }
     match step {
@@ -64,14 +65,42 @@ fn take(store: &mut MemStore, step: Step, id: u64) -> Result<(), Fail>
             }
             resize_bytes(store, PFS, FILE, size, new, Id(id))?;
         }
-        Step::Write(size, at) => {
-            if at % BLOCK_BYTES as u64 > BLOCK_BYTES as u64 - 2 || at > MOST_FILE_BYTES - 2 {
-                return Err("not in a block")?;
-            }
-            write_piece(store, PFS, FILE, size, at, b"xy", Id(id))?;
-        }
+        Step::Write(size, at, count) => write(alloc, store, size, at, count, id)?,
         Step::Remove => remove_bytes(store, PFS, FILE, Id(id))?,
     }
+    Ok(())
+}
+
+// Writes so many bytes into the file of a size, from an offset on.
+fn write(
+    alloc: Global,
+    store: &mut MemStore,
+    size: u64,
+    at: u64,
+    count: u32,
+    id: u64,
+) -> Result<(), Fail>
+    requires id { 1 ≤ id }
+    requires balanced { Balanced (⟦<MemStore as HasElements>⟧.elements store.old)
+        (⟦<MemStore as HasRoom>⟧.extents store.old) }
+    requires older { AreOlderIn (⟦<MemStore as HasElements>⟧.elements store.old)
+        (⟦<MemStore as HasRoom>⟧.extents store.old) PFS.0 FILE.0 id 0 }
+    ensures { IfOk result (λ _. Balanced (⟦<MemStore as HasElements>⟧.elements store.new)
+        (⟦<MemStore as HasRoom>⟧.extents store.new)) }
+{
+    let bytes = Vec::from_elem(alloc, b'x', count as usize)?;
+    if count == 0 || count > 65_536 || size > MOST_FILE_BYTES {
+        return Err("too big")?;
+    }
+    if at > MOST_FILE_BYTES - u64::from(count) {
+        return Err("too far")?;
+    }
+    let block = BLOCK_BYTES as u64;
+    let blocks = (at + u64::from(count) - 1) / block + 1 - at / block;
+    if blocks >= 960 || !has_room(store, blocks + 1) {
+        return Err("no room")?;
+    }
+    write_bytes(store, PFS, FILE, size, at, &bytes, Id(id))?;
     Ok(())
 }
 
@@ -82,7 +111,7 @@ fn store_after(alloc: Global, steps: &[(Step, u64)]) -> Result<MemStore, Fail>
 {
     let mut store = store_of(alloc, &PIECES)?;
     for (step, id) in steps {
-        take(&mut store, *step, *id)?;
+        take(alloc, &mut store, *step, *id)?;
     }
     Ok(store)
 }
@@ -203,51 +232,45 @@ fn a_cut_takes_an_element_for_a_block_that_it_shortens_alone(rt: HostRuntime) ->
 fn a_written_block_keeps_what_it_has_besides(rt: HostRuntime) -> Result<(), Fail> {
     let all = 15_728_640;
     for (size, at, offset, asked, runs) in [
-        (all, 0, 0, 4, [(1, b'x'), (1, b'y'), (2, b'c')].as_slice()),
+        (all, 0, 0, 4, [(2, b'x'), (2, b'c')].as_slice()),
         (
             all,
             16_382,
             16_381,
             4,
-            [(1, b'c'), (1, b'x'), (1, b'y'), (1, 0)].as_slice(),
+            [(1, b'c'), (2, b'x'), (1, 0)].as_slice(),
         ),
         (
             all,
             16_384,
             16_383,
             4,
-            [(1, b'c'), (1, b'x'), (1, b'y'), (1, 0)].as_slice(),
+            [(1, b'c'), (2, b'x'), (1, 0)].as_slice(),
         ),
         (
             all,
             49_153,
             49_152,
             4,
-            [(1, b'd'), (1, b'x'), (1, b'y'), (1, 0)].as_slice(),
+            [(1, b'd'), (2, b'x'), (1, 0)].as_slice(),
         ),
         (
             all,
             49_160,
             49_152,
             10,
-            [(3, b'd'), (5, 0), (1, b'x'), (1, b'y')].as_slice(),
+            [(3, b'd'), (5, 0), (2, b'x')].as_slice(),
         ),
-        (
-            10,
-            20,
-            8,
-            14,
-            [(2, b'c'), (10, 0), (1, b'x'), (1, b'y')].as_slice(),
-        ),
+        (10, 20, 8, 14, [(2, b'c'), (10, 0), (2, b'x')].as_slice()),
         (
             all,
             15_728_638,
             15_728_637,
             3,
-            [(1, b'e'), (1, b'x'), (1, b'y')].as_slice(),
+            [(1, b'e'), (2, b'x')].as_slice(),
         ),
     ] {
-        let write = [(Step::Write(size, at), 20)];
+        let write = [(Step::Write(size, at, 2), 20)];
         assert!(rt;
             reads_after(rt.alloc(), &write, all, offset, asked, 20, runs)?,
             "{at} in {size}"
@@ -255,6 +278,73 @@ fn a_written_block_keeps_what_it_has_besides(rt: HostRuntime) -> Result<(), Fail
         assert!(rt;
             reads_after(rt.alloc(), &write, 9, 0, 2, 19, &[(2, b'c')])?,
             "{at} before"
+        );
+    }
+    Ok(())
+}
+
+#[test]
+fn bytes_are_written_over_several_blocks(rt: HostRuntime) -> Result<(), Fail> {
+    let all = 15_728_640;
+    for (size, at, count, new_size, offset, asked, runs) in [
+        (
+            all,
+            16_380,
+            40_000,
+            all,
+            16_378,
+            40_006,
+            [(2, b'c'), (40_000, b'x'), (4, 0)].as_slice(),
+        ),
+        (
+            all,
+            49_100,
+            53,
+            all,
+            49_099,
+            58,
+            [(1, 0), (53, b'x'), (2, b'd'), (2, 0)].as_slice(),
+        ),
+        (
+            10,
+            40_000,
+            20_000,
+            60_000,
+            8,
+            60_010,
+            [(2, b'c'), (39_990, 0), (20_000, b'x')].as_slice(),
+        ),
+        (
+            20_000,
+            10_000,
+            30_000,
+            49_155,
+            39_999,
+            9_156,
+            [(1, b'x'), (9_155, 0)].as_slice(),
+        ),
+    ] {
+        let write = [(Step::Write(size, at, count), 20)];
+        assert!(rt;
+            reads_after(rt.alloc(), &write, new_size, offset, asked, 20, runs)?,
+            "{at} in {size}"
+        );
+    }
+    Ok(())
+}
+
+#[test]
+fn a_block_that_no_call_wrote_takes_no_element(rt: HostRuntime) -> Result<(), Fail> {
+    for (size, at, count, more) in [
+        (15_728_640, 16_380, 40_000, 4),
+        (10, 40_000, 20_000, 3),
+        (16_384, 15_728_639, 1, 1),
+    ] {
+        let store = store_after(rt.alloc(), &[(Step::Write(size, at, count), 20)])?;
+        assert_eq!(rt;
+            store.elements().len(),
+            PIECES.len() + more,
+            "{at} in {size}"
         );
     }
     Ok(())

@@ -17,4 +17,4 @@ mod write;
 pub use close::remove_bytes;
 pub use cut::resize_bytes;
 pub use read::read_bytes;
-pub use write::write_piece;
+pub use write::write_bytes;

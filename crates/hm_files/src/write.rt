@@ -1,5 +1,5 @@
 // Bytes that are written into a file.
-ghost use Rattle.std.specs.Prelude.{◌≡◌, ◌+◌, ◌*◌, ◌^◌, ◌<◌, ◌≤◌, ◌++◌, OnOk, drop, length, take};
+ghost use Rattle.std.specs.Prelude.{◌≡◌, ◌+◌, ◌*◌, ◌/◌, ◌^◌, ◌<◌, ◌≤◌, ◌++◌, ◌-◌, OnOk, drop, length, take};
 ghost use Rattle.hm_types.specs.Faults.{HasStoreCause};
 ghost use Rattle.hm_types.specs.Space.{Spends};
 ghost use Rattle.hm_key.specs.Balance.{Balanced, content_of};
@@ -7,12 +7,131 @@ ghost use Rattle.hm_key.specs.Stores.{Keeps};
 ghost use Rattle.hm_cursor.specs.Write.{Writes};
 ghost use Rattle.hm_files.specs.Close.{AreOlderIn};
 ghost use Rattle.hm_files.specs.Put.{HasBlockRoom, block_space};
-ghost use Rattle.hm_files.specs.Write.{PutsPiece, block_start};
+ghost use Rattle.hm_files.specs.Write.{ClearsWay, PutsBefore, PutsPiece, WritesBytes};
+ghost use Rattle.hm_files.specs.Write.{block_count, block_start};
 
+use crate::close::close_between;
+use crate::cut::cut_bytes;
 use crate::put::put_block;
 use crate::read::{read_all, shorter};
 use hm_key::{ElementStore, Extents, HasElements, HasRoom};
 use hm_types::{BLOCK_BYTES, Counted, Fault, Id, MOST_FILE_BYTES, Obj, Pfs};
+
+/// Puts bytes into a file of a size, from an offset on, by an id of 1 or more: at least one, and none
+/// past 15,728,640. Where they end past the size, whatever was past it is closed first, so that it
+/// never shows again, and what lies between the size and the offset is zero: of the blocks between
+/// them none takes an element. Each block that has some of the bytes keeps what it has besides. The
+/// inode, which says the size, is the caller's.
+///
+/// For each of these blocks, and one more, it takes at most 40,960 bytes of zone 8, and a block of
+/// the zones 10 and 11. The faults are those of the store; after one nothing is known of the content.
+pub fn write_bytes<T: ElementStore + Extents>(
+    store: &mut T,
+    pfs: Pfs,
+    obj: Obj,
+    size: u64,
+    offset: u64,
+    bytes: &[u8],
+    id: Id,
+) -> Result<(), Fault>
+    requires id { 1 ≤ id.0 }
+    requires some { 1 ≤ length bytes.now }
+    requires few { (size ≤ MOST_FILE_BYTES) × (offset + length bytes.now ≤ MOST_FILE_BYTES) }
+    requires balanced { Balanced (T.elements store.old) (T.extents store.old) }
+    requires older { AreOlderIn (T.elements store.old) (T.extents store.old)
+        pfs.0 obj.0 id.0 0 }
+    requires room { HasBlockRoom (T.room store.old)
+        (block_count offset (offset + length bytes.now) + 1) }
+    ensures ok { OnOk result (Writes T.elements T.extents
+        (WritesBytes pfs.0 obj.0 id.0 size offset bytes.now) store.old store.new) }
+    ensures keeps { Keeps T.elements T.extents store.old store.new result }
+    ensures space { Spends T.room T.free
+        (block_space (block_count offset (offset + length bytes.now) + 1)) store.old store.new }
+    ensures borrowed { (T.name store.new ≡ T.name store.old)
+        × (T.frame store.new ≡ T.frame store.old) }
+    ensures cause { HasStoreCause (content_of (T.elements store.old) (T.extents store.old))
+        (T.faults store.old) (T.faults store.new) result }
+{
+    if offset + bytes.len() as u64 <= size {
+        return put_pieces(store, pfs, obj, size, offset, bytes, id);
+    }
+    clear_way(store, pfs, obj, size, offset, id)?;
+    put_pieces(store, pfs, obj, size, offset, bytes, id)
+}
+
+// Closes what is past a file's size, so that bytes can be written from an offset on.
+fn clear_way<T: ElementStore + Extents>(
+    store: &mut T,
+    pfs: Pfs,
+    obj: Obj,
+    size: u64,
+    offset: u64,
+    id: Id,
+) -> Result<(), Fault>
+    requires id { 1 ≤ id.0 }
+    requires few { (size ≤ MOST_FILE_BYTES) × (offset ≤ MOST_FILE_BYTES) }
+    requires balanced { Balanced (T.elements store.old) (T.extents store.old) }
+    requires older { AreOlderIn (T.elements store.old) (T.extents store.old)
+        pfs.0 obj.0 id.0 0 }
+    requires room { HasBlockRoom (T.room store.old) 1 }
+    ensures ok { OnOk result (Writes T.elements T.extents
+        (ClearsWay pfs.0 obj.0 id.0 size offset) store.old store.new) }
+    ensures keeps { Keeps T.elements T.extents store.old store.new result }
+    ensures space { Spends T.room T.free (block_space 1) store.old store.new }
+    ensures borrowed { (T.name store.new ≡ T.name store.old)
+        × (T.frame store.new ≡ T.frame store.old) }
+    ensures cause { HasStoreCause (content_of (T.elements store.old) (T.extents store.old))
+        (T.faults store.old) (T.faults store.new) result }
+{
+    let block = BLOCK_BYTES as u64;
+    if size < offset / block * block {
+        return cut_bytes(store, pfs, obj, size, id);
+    }
+    let past = (size + (block - 1)) / block * block;
+    close_between(store, pfs, obj, past + 1, u64::MAX, id)
+}
+
+// Puts bytes into a file of a size, block by block, where all that is past the size is closed.
+fn put_pieces<T: ElementStore + Extents>(
+    store: &mut T,
+    pfs: Pfs,
+    obj: Obj,
+    size: u64,
+    offset: u64,
+    bytes: &[u8],
+    id: Id,
+) -> Result<(), Fault>
+    requires id { 1 ≤ id.0 }
+    requires some { 1 ≤ length bytes.now }
+    requires few { offset + length bytes.now ≤ MOST_FILE_BYTES }
+    requires balanced { Balanced (T.elements store.old) (T.extents store.old) }
+    requires older { AreOlderIn (T.elements store.old) (T.extents store.old)
+        pfs.0 obj.0 id.0 (block_start offset + 1) }
+    requires room { HasBlockRoom (T.room store.old)
+        (block_count offset (offset + length bytes.now)) }
+    ensures ok { OnOk result (Writes T.elements T.extents (PutsBefore pfs.0 obj.0 id.0 size
+        offset bytes.now ((offset + length bytes.now - 1) / BLOCK_BYTES + 1)) store.old store.new) }
+    ensures keeps { Keeps T.elements T.extents store.old store.new result }
+    ensures space { Spends T.room T.free
+        (block_space (block_count offset (offset + length bytes.now))) store.old store.new }
+    ensures borrowed { (T.name store.new ≡ T.name store.old)
+        × (T.frame store.new ≡ T.frame store.old) }
+    ensures cause { HasStoreCause (content_of (T.elements store.old) (T.extents store.old))
+        (T.faults store.old) (T.faults store.new) result }
+{
+    let block = BLOCK_BYTES as u64;
+    let end = offset + bytes.len() as u64;
+    let blocks = (end - 1) / block + 1;
+    let mut next = offset / block;
+    while next < blocks {
+        let at = offset.max(next * block);
+        let to = end.min(next * block + block);
+        let piece = &bytes[(at - offset) as usize..(to - offset) as usize];
+        write_piece(store, pfs, obj, size, at, piece, id)?;
+        next += 1;
+    }
+    Ok(())
+}
 
 /// Puts bytes into a file of a size, from an offset on, by an id of 1 or more: at least one, all of
 /// one block, and none past 15,728,640. The block keeps what it has besides, up to the file's new
@@ -23,7 +142,7 @@ use hm_types::{BLOCK_BYTES, Counted, Fault, Id, MOST_FILE_BYTES, Obj, Pfs};
 /// It takes at most 40,960 bytes of zone 8, and those of the block's bytes in zone 10 for a whole
 /// block, and in zone 11 else. The faults are those of the store; after one nothing is known of the
 /// content.
-pub fn write_piece<T: ElementStore + Extents>(
+pub(crate) fn write_piece<T: ElementStore + Extents>(
     store: &mut T,
     pfs: Pfs,
     obj: Obj,

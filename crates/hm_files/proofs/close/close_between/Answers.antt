@@ -1,4 +1,4 @@
-use Rattle.std.proofs.Common.{◌≡◌, ◌≤◌, ◌<◌, ◌+◌, ◌∙◌, ℕ, None, Some, Option, ap, arith, rules, subst, sym}
+use Rattle.std.proofs.Common.{◌≡◌, ◌≤◌, ◌+◌, ◌∙◌, ℕ, None, Some, Option, ap, arith, subst, sym}
 use Rattle.std.specs.Prelude.{is_some, IfSome}
 use Rattle.hm_key.specs.Counts.{Subject}
 use Rattle.hm_key.specs.Key.{key_of}

@@ -1,11 +1,11 @@
-use Rattle.std.proofs.Common.{◌≡◌, ◌+◌, ◌-◌, ◌^◌, ◌%◌, ◌/◌, ◌*◌, ◌≤◌, ◌∙◌, ℕ, None, Option, ap, arith, length, rules, subst, sym}
+use Rattle.std.proofs.Common.{◌≡◌, ◌+◌, ◌-◌, ◌^◌, ◌%◌, ◌/◌, ◌*◌, ◌≤◌, ◌∙◌, None, Option, ap, arith, length, rules, subst}
 use Rattle.std.specs.Prelude.{IfSome, is_some}
 use Rattle.std.proofs.lemmas.Result.{on_ok_weaker}
 use Rattle.hm_key.specs.Balance.{IsBalanced, content_of}
 use Rattle.hm_key.specs.Elements.{IsContent}
 use Rattle.hm_key.specs.Key.{key_of}
 use Rattle.hm_key.specs.declared.element.Element.{Element}
-use Rattle.hm_cursor.specs.Told.{Lists, OnBalanced, fulls}
+use Rattle.hm_cursor.specs.Told.{Lists, fulls}
 use Rattle.hm_cursor.specs.Version.{IsFirst}
 use Rattle.hm_cursor.proofs.CallLemmas.{Change, writes_from, writes_so}
 use Rattle.hm_files.specs.Bytes.{AreRead}

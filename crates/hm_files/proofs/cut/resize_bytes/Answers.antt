@@ -1,4 +1,4 @@
-use Rattle.std.proofs.Common.{ℕ, min, subst}
+use Rattle.std.proofs.Common.{ℕ, subst}
 use Rattle.std.proofs.lemmas.Result.{on_ok_weaker}
 use Rattle.hm_key.specs.Balance.{content_of}
 use Rattle.hm_cursor.specs.Told.{fulls}

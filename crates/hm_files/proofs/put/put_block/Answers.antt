@@ -1,11 +1,10 @@
-use Rattle.std.proofs.Common.{◌≡◌, ◌+◌, ◌-◌, ℕ, List, Some, arith, length, refl, subst, sym}
+use Rattle.std.proofs.Common.{◌≡◌, ◌+◌, ◌-◌, ℕ, Some, arith, length, subst}
 use Rattle.std.proofs.lemmas.Result.{on_ok_weaker}
-use Rattle.hm_types.specs.Elements.{FullElement}
 use Rattle.hm_key.specs.Balance.{content_of}
 use Rattle.hm_key.specs.Counts.{Subject, subject_of}
 use Rattle.hm_key.specs.Key.{key_of}
 use Rattle.hm_key.specs.declared.base.Base.{Base}
-use Rattle.hm_cursor.specs.Told.{Lists, fulls}
+use Rattle.hm_cursor.specs.Told.{fulls}
 use Rattle.hm_cursor.specs.Write.{Rewrites}
 use Rattle.hm_cursor.proofs.CallLemmas.{Change, Then, writes_both, writes_so}
 use Rattle.hm_cursor.proofs.StoreLemmas.{nothing_known}

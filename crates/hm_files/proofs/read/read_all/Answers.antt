@@ -1,4 +1,4 @@
-use Rattle.std.proofs.Common.{◌≡◌, ◌+◌, ◌-◌, ◌≤◌, ◌∙◌, length, take, arith, rules}
+use Rattle.std.proofs.Common.{◌≡◌, ◌+◌, ◌-◌, length, take, arith, rules}
 use Rattle.std.proofs.lemmas.List.{length-take-le}
 use Rattle.hm_cursor.proofs.StoreLemmas.{same_both}
 use Rattle.hm_files.proofs.ByteLemmas.{front_put}

@@ -1,4 +1,4 @@
-use Rattle.std.proofs.Common.{◌≡◌, ℕ, ap, sym, ◌∙◌, ◌-◌, ◌++◌, length, drop, take, min, arith, rules}
+use Rattle.std.proofs.Common.{◌≡◌, ℕ, ap, sym, ◌∙◌, ◌-◌, ◌++◌, length, drop, take, min, rules}
 use Rattle.std.proofs.Math.Seq.{take-append_seam}
 use Rattle.hm_cursor.specs.Told.{OnBalanced}
 use Rattle.hm_files.specs.Bytes.{AreRead}

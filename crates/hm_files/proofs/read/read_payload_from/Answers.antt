@@ -1,4 +1,4 @@
-use Rattle.std.proofs.Common.{◌≡◌, ◌+◌, length, arith, rules}
+use Rattle.std.proofs.Common.{length, rules}
 use Rattle.hm_files.proofs.ByteLemmas.{part_fetched, part_of_fetched}
 use Rattle.hm_files.proofs.read.read_payload_from.Goals as goal
 

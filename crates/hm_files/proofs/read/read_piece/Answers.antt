@@ -1,4 +1,4 @@
-use Rattle.std.proofs.Common.{◌≡◌, length, replicate, take, arith, rules, ◌∙◌}
+use Rattle.std.proofs.Common.{◌≡◌, length, replicate, take, rules, ◌∙◌}
 use Rattle.std.proofs.Math.Seq.{take-length}
 use Rattle.hm_key.specs.Key.{key_of}
 use Rattle.hm_files.proofs.ReadLemmas.{piece_found, piece_none}

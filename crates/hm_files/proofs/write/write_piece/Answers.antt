@@ -1,7 +1,6 @@
-use Rattle.std.proofs.Common.{◌≡◌, ◌+◌, ◌-◌, ◌*◌, ◌/◌, ◌<◌, ◌≤◌, ◌++◌, ◌∙◌, ℕ, List, arith, drop, inl, length, max, min, replicate, rules, take}
+use Rattle.std.proofs.Common.{◌≡◌, ◌+◌, ◌-◌, ◌*◌, ◌/◌, ◌++◌, ◌∙◌, arith, drop, inl, length, max, min, replicate, rules, take}
 use Rattle.std.proofs.lemmas.List.{get_or-drop}
 use Rattle.std.proofs.lemmas.Result.{on_ok_weaker}
-use Rattle.hm_types.specs.Elements.{FullElement}
 use Rattle.hm_key.specs.Balance.{content_of, full_elements}
 use Rattle.hm_key.specs.Elements.{IsContent}
 use Rattle.hm_records.proofs.CountsLemmas.{own_keys-sorted, settled}
