@@ -12,13 +12,13 @@ use hm_types::{BLOCK_BYTES, INSERT_ROOM, Id, LARGE_ZONE, MOST_FILE_BYTES, SMALL_
 use std::alloc::Global;
 use std::test::Fail;
 
-// What is done with the file.
+/// What is done with the file.
 #[derive(Clone, Copy, Debug)]
-enum Step {
-    // From a size to another one.
+pub(crate) enum Step {
+    /// From a size to another one.
     Resize(u64, u64),
-    // Into a file of a size, from an offset on, so many bytes.
-    Write(u64, u64, u32),
+    /// Into a file of a size, from an offset on, so many bytes of one kind.
+    Write(u64, u64, u32, u8),
     Remove,
 }
 
@@ -48,8 +48,8 @@ fn has_room(store: &MemStore, blocks: u64) -> bool
         && store.room(SMALL_ZONE) >= blocks * BLOCK_BYTES as u64
 }
 
-// Takes a step by an id above all others.
-fn take(alloc: Global, store: &mut MemStore, step: Step, id: u64) -> Result<(), Fail>
+/// Takes a step by an id above all others.
+pub(crate) fn take(alloc: Global, store: &mut MemStore, step: Step, id: u64) -> Result<(), Fail>
     requires { Balanced (⟦<MemStore as HasElements>⟧.elements store.old)
         (⟦<MemStore as HasRoom>⟧.extents store.old) }
     ensures { IfOk result (λ _. Balanced (⟦<MemStore as HasElements>⟧.elements store.new)
@@ -65,21 +65,17 @@ fn take(alloc: Global, store: &mut MemStore, step: Step, id: u64) -> Result<(), 
             }
             resize_bytes(store, PFS, FILE, size, new, Id(id))?;
         }
-        Step::Write(size, at, count) => write(alloc, store, size, at, count, id)?,
+        Step::Write(size, at, count, byte) => {
+            let bytes = Vec::from_elem(alloc, byte, count as usize)?;
+            write(store, size, at, &bytes, id)?;
+        }
         Step::Remove => remove_bytes(store, PFS, FILE, Id(id))?,
     }
     Ok(())
 }
 
-// Writes so many bytes into the file of a size, from an offset on.
-fn write(
-    alloc: Global,
-    store: &mut MemStore,
-    size: u64,
-    at: u64,
-    count: u32,
-    id: u64,
-) -> Result<(), Fail>
+// Writes bytes into the file of a size, from an offset on.
+fn write(store: &mut MemStore, size: u64, at: u64, bytes: &[u8], id: u64) -> Result<(), Fail>
     requires id { 1 ≤ id }
     requires balanced { Balanced (⟦<MemStore as HasElements>⟧.elements store.old)
         (⟦<MemStore as HasRoom>⟧.extents store.old) }
@@ -88,19 +84,19 @@ fn write(
     ensures { IfOk result (λ _. Balanced (⟦<MemStore as HasElements>⟧.elements store.new)
         (⟦<MemStore as HasRoom>⟧.extents store.new)) }
 {
-    let bytes = Vec::from_elem(alloc, b'x', count as usize)?;
-    if count == 0 || count > 65_536 || size > MOST_FILE_BYTES {
+    if bytes.is_empty() || bytes.len() > 65_536 || size > MOST_FILE_BYTES {
         return Err("too big")?;
     }
-    if at > MOST_FILE_BYTES - u64::from(count) {
+    let count = bytes.len() as u64;
+    if at > MOST_FILE_BYTES - count {
         return Err("too far")?;
     }
     let block = BLOCK_BYTES as u64;
-    let blocks = (at + u64::from(count) - 1) / block + 1 - at / block;
+    let blocks = (at + count - 1) / block + 1 - at / block;
     if blocks >= 960 || !has_room(store, blocks + 1) {
         return Err("no room")?;
     }
-    write_bytes(store, PFS, FILE, size, at, &bytes, Id(id))?;
+    write_bytes(store, PFS, FILE, size, at, bytes, Id(id))?;
     Ok(())
 }
 
@@ -270,7 +266,7 @@ fn a_written_block_keeps_what_it_has_besides(rt: HostRuntime) -> Result<(), Fail
             [(1, b'e'), (2, b'x')].as_slice(),
         ),
     ] {
-        let write = [(Step::Write(size, at, 2), 20)];
+        let write = [(Step::Write(size, at, 2, b'x'), 20)];
         assert!(rt;
             reads_after(rt.alloc(), &write, all, offset, asked, 20, runs)?,
             "{at} in {size}"
@@ -324,7 +320,7 @@ fn bytes_are_written_over_several_blocks(rt: HostRuntime) -> Result<(), Fail> {
             [(1, b'x'), (9_155, 0)].as_slice(),
         ),
     ] {
-        let write = [(Step::Write(size, at, count), 20)];
+        let write = [(Step::Write(size, at, count, b'x'), 20)];
         assert!(rt;
             reads_after(rt.alloc(), &write, new_size, offset, asked, 20, runs)?,
             "{at} in {size}"
@@ -340,7 +336,7 @@ fn a_block_that_no_call_wrote_takes_no_element(rt: HostRuntime) -> Result<(), Fa
         (10, 40_000, 20_000, 3),
         (16_384, 15_728_639, 1, 1),
     ] {
-        let store = store_after(rt.alloc(), &[(Step::Write(size, at, count), 20)])?;
+        let store = store_after(rt.alloc(), &[(Step::Write(size, at, count, b'x'), 20)])?;
         assert_eq!(rt;
             store.elements().len(),
             PIECES.len() + more,

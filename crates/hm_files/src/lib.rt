@@ -9,6 +9,8 @@ mod cut_tests;
 #[cfg(test)]
 mod limited;
 mod put;
+#[cfg(test)]
+mod random_tests;
 mod read;
 #[cfg(test)]
 mod read_tests;
