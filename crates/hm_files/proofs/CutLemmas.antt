@@ -237,5 +237,6 @@ module _ (pfs obj i size new : ℕ) (es es' : List FullElement) (small : new ≤
           omega (arith, length-take new (content ++ replicate (new - length content) 0), all, zeros, file.sized);
       each = λ x below. resized_each t content late file x below;
     };
+    zero = cuts.zero;
     others = cuts.others;
   }

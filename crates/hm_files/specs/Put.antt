@@ -1,5 +1,5 @@
 -- Bytes that are put into a file, or cut off it.
-use Rattle.std.specs.Prelude.{◌≡◌, ◌≢◌, ◌↔◌, ℕ, ◌+◌, ◌-◌, ◌*◌, ◌^◌, ◌<◌, ◌≤◌, List, ◌++◌, if◌then◌else◌, length, nat_lt, replicate, take}
+use Rattle.std.specs.Prelude.{◌≡◌, ◌≢◌, ◌↔◌, ℕ, ◌+◌, ◌-◌, ◌*◌, ◌^◌, ◌<◌, ◌≤◌, List, ◌++◌, if◌then◌else◌, length, min, nat_lt, replicate, take}
 use Rattle.hm_types.specs.Elements.{FullElement}
 use Rattle.hm_types.specs.Space.{in_zone}
 use Rattle.hm_types.specs.declared.limits.TheConstants.{BLOCK_BYTES}
@@ -48,11 +48,13 @@ pub record CutsBytes (pfs obj i keep : ℕ) (es es' : List FullElement) : Type 0
 abbrev pub resized : ℕ → List ℕ → List ℕ
 resized size bytes = take size (bytes ++ replicate (size - length bytes) 0)
 
--- From `i` on a file of a size has another one, whatever bytes it had.
+-- From `i` on a file of a size has another one, whatever bytes it had. From the lesser of both on all bytes are zero, so that
+-- what was cut off, or what the old size hid, does not show in a longer file either.
 pub record ResizesBytes (pfs obj i size new_size : ℕ) (es es' : List FullElement) : Type 0 where
   pub writes : WritesIn pfs i (IsBytesOf pfs obj i) es es'
   pub resizes : (t : ℕ) (content : List ℕ) → i ≤ t → AreFileBytes (Counts es t) pfs obj size content
       → AreFileBytes (Counts es' t) pfs obj new_size (resized new_size content)
+  pub zero : (t x : ℕ) → i ≤ t → min size new_size ≤ x → x + BLOCK_BYTES < 2 ^ 64 → IsFileByte (Counts es' t) pfs obj x 0
   pub others : KeepOthers pfs obj es es'
 
 -- room for so many elements, each with a block of bytes
