@@ -76,10 +76,10 @@ pub read_there : (map : PageMap) (s : Subtree) (at : ℕ) (child : Node) → s.a
 read_there map s at child same there here = ap (node_at map) (sym same) ∙ (here.spelled (subst (λ (x : ℕ). IsSome (map x)) (sym same) there)).value
 
 -- the cause of a fault of the read, and of one further down
-pub edit_cause_read : (told : Option PageMap) (node : Node) (inner : Inner) (i : ℕ) (s : Subtree) (old new : ℕ) (fault : Fault)
+pub edit_cause_read : {T : Type 0} (told : Option PageMap) (node : Node) (inner : Inner) (i : ℕ) (s : Subtree) (old new : ℕ) (fault : Fault)
     → node ≡ inner_node inner → slice_get (children_of inner) i ≡ Some s
     → HasFaultCause {T = Node} old new (Err fault) → IfSome told (λ map. TellsDamage s (map s.at) fault)
-    → HasEditCause {T = Unit {0}} told node old new (Err fault)
+    → HasEditCause {T = T} told node old new (Err fault)
 edit_cause_read told node inner i s old new fault is at counted damage = record {
   counted = record { never_falls = counted.never_falls; caused = counted.caused };
   damage = IfSome_then told damage (λ map damage place here. fault_below map place s fault

@@ -41,4 +41,5 @@ pub mod ToldLemmas
 pub mod TopLemmas
 pub mod UnderLemmas
 pub mod UnrootLemmas
+pub mod UpdateLemmas
 pub mod WorksLemmas

@@ -13,9 +13,9 @@ use Rattle.hm_key.specs.declared.base.Base.{Base}
 use Rattle.hm_key.specs.declared.element.Element.{Element}
 use Rattle.hm_search.specs.Descent.{HasSearchCause}
 use Rattle.hm_search.specs.Tree.{IsSoundTree, elements_of, mark_of, root_place, height_of, node_at}
-use Rattle.hm_btree.specs.Tree.{HasTreeCause, IsIntact, told_elements, told_mark}
+use Rattle.hm_btree.specs.Tree.{IsIntact, told_elements, told_mark}
 use Rattle.hm_btree.proofs.IntactLemmas.{told_intact}
-use Rattle.hm_btree.proofs.StoreLemmas.{store_cause}
+use Rattle.hm_btree.proofs.StoreLemmas.{caused_in_store}
 
 -- the first element from a key on
 pub first_in_store : (intact : Bool) (told : Option PageMap) (root : ℕ) (key : Key) (r : Result (Option Element) Fault) → ∥ IsIntact intact told root ∥₁
@@ -40,14 +40,7 @@ quiet_in_store intact told root at since r sound quiet =
       by_result mark (Err fault) = hlevel props
 
 -- the cause of each fault
-tree_cause : {T : Type 0} (told : Option PageMap) (root old new : ℕ) (r : Result T Fault) → HasSearchCause told
-    (root_place root) old new r → HasTreeCause told root old new r
-tree_cause told root old new r cause = record {
-  counted = cause.counted;
-  damage = cause.damage;
-  undamaged = IfSome_then told cause.undamaged (λ pages undamaged sound. undamaged (height_of (node_at pages root)) sound);
-}
-
 pub cause_in_store : {T : Type 0} (intact : Bool) (told : Option PageMap) (root old new : ℕ) (r : Result T Fault)
     → ∥ IsIntact intact told root ∥₁ → HasSearchCause told (root_place root) old new r → HasStoreCause (told_elements intact told root) old new r
-cause_in_store intact told root old new r sound cause = store_cause intact told root old new r sound (tree_cause told root old new r cause)
+cause_in_store intact told root old new r sound cause = caused_in_store intact told root old new r sound cause.counted
+    (IfSome_then told cause.undamaged (λ pages undamaged sound. undamaged (height_of (node_at pages root)) sound))

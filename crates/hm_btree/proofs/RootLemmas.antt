@@ -23,7 +23,7 @@ use Rattle.hm_search.proofs.FrameLemmas.{IsSameBelow, frame_elements, frame_mark
 use Rattle.hm_search.proofs.ReachLemmas.{not_below_itself}
 use Rattle.hm_btree.specs.Marking.{Marking, MarksBy}
 use Rattle.hm_btree.specs.Below.{Replaces, Changed, HasEditCause, Works}
-use Rattle.hm_btree.specs.Space.{HasWritten, IsSpot}
+use Rattle.hm_btree.specs.Space.{HasWritten, IsSpot, IsUpdated}
 use Rattle.hm_btree.specs.Tree.{IsTreeSpace, TreeChanged, ChangesTree, HasTreeCause}
 use Rattle.hm_btree.proofs.EditLemmas.{undamaged_below}
 use Rattle.hm_btree.proofs.LocalLemmas.{element_each}
@@ -31,6 +31,7 @@ use Rattle.hm_btree.proofs.MarkLemmas.{same_marks, marks_whole}
 use Rattle.hm_btree.proofs.NodeLemmas.{not_reached}
 use Rattle.hm_btree.proofs.PutLemmas.{put_at, put_other, replaces_put, other_test}
 use Rattle.hm_btree.proofs.ToldLemmas.{IfSome_all, IfSome_both, IfSome_kept, told_after}
+use Rattle.hm_btree.proofs.UpdateLemmas.{written_below}
 
 -- pages that are all that a call leaves
 pub whole_after : (olds news : ℕ → Bool) (old new : PageMap) → Replaces olds news old new
@@ -92,20 +93,32 @@ module _ (f : List Element → List Element) (key : Key) (marking : Marking) (ro
             (marks_whole marking key (root_place root).left (root_place root).right (mark_of old root) (mark_in mid h after) change.mark);
       }
 
+-- a root that is written where its node changed
+pub root_updated : (f : List Element → List Element) (key : Key) (marking : Marking) (root : ℕ) (old mid new : PageMap) (after : Node)
+    (changed : Bool) → (changed ≡ false → after ≡ node_at old root) → IsTreeSpace old root
+    → Changed f key marking (root_place root) (height_of (node_at old root)) old mid (node_at old root) after
+    → IsUpdated changed root after mid new → TreeChanged f key marking old new root root
+root_updated f key marking root old mid new after changed kept tree change updated =
+    let h : ℕ = height_of (node_at old root) in
+    root_written f key marking root old mid new after tree change
+    (written_below changed root h (root_place root) (node_at old root) after old mid new (reaches mid h after) updated kept
+    tree.sound.there tree.sound.spelled refl tree.sound.tree change.pages)
+
 -- the same where the pages are told
 pub root_works : (f : List Element → List Element) (key : Key) (marking : Marking) (root : ℕ) (Needs : Option Element → Type 0)
-    (p0 p1 p2 p3 : Option PageMap) (node after : Node)
+    (p0 p1 p2 p3 : Option PageMap) (node after : Node) (changed : Bool) → (changed ≡ false → after ≡ node)
     → ((old : PageMap) → IsTreeSpace old root → Needs (element_at key (elements_of old root)) → IsInside (root_place root).left (root_place root).right key)
-    → p1 ≡ p0 → IfSome p0 (λ map. StandsHere map (root_place root) node) → Works f key marking Needs p1 p2 node after → BothTell p2 p3 (HasWritten root after)
+    → p1 ≡ p0 → IfSome p0 (λ map. StandsHere map (root_place root) node) → Works f key marking Needs p1 p2 node after
+    → BothTell p2 p3 (IsUpdated changed root after)
     → ChangesTree f key marking (λ es. Needs (element_at key es)) p0 p3 root root
-root_works f key marking root Needs p0 p1 p2 p3 node after inside same here works written =
+root_works f key marking root Needs p0 p1 p2 p3 node after changed kept inside same here works written =
     IfSome_both p0 here (subst (λ (p : Option PageMap). Works f key marking Needs p p2 node after) same works) (λ old here works tree needs.
     let read : node_at old root ≡ node = (here.spelled tree.sound.there).value in
     let h : ℕ = height_of (node_at old root) in
     let change : IfSome p2 (λ mid. Changed f key marking (root_place root) h old mid node after) =
     works (root_place root) h (subst (λ (n : Node). IsTree old h (root_place root) n) read tree.sound.tree) (inside old tree needs)
     (subst (λ (n : Node). Needs (element_at key (elements_in old h n))) read needs) in
-    told_after p2 p3 written change (λ mid new written change. root_written f key marking root old mid new after tree
+    told_after p2 p3 written change (λ mid new written change. root_updated f key marking root old mid new after changed (λ is. kept is ∙ sym read) tree
     (subst (λ (n : Node). Changed f key marking (root_place root) h old mid n after) (sym read) change) written))
 
 -- an element that is there stands inside the boundaries of the whole tree

@@ -1,6 +1,6 @@
 -- Calls that take an element out below a node, where the pages are told.
 use Rattle.std.proofs.Common.{◌≡◌, Bool, false, true≢false, ℕ, zero, suc, ◌<◌, ◌≤◌, inl, inr, List, ◌∷◌, ◌++◌, length, take, drop}
-use Rattle.std.proofs.Common.{remove, sym, ap, subst, ◌∙◌, arith, max, Some, None}
+use Rattle.std.proofs.Common.{remove, refl, sym, ap, subst, ◌∙◌, arith, max, Some, None}
 use Rattle.std.proofs.lemmas.Bool.{cases_lt}
 use Rattle.std.specs.Prelude.{◌↔◌, Option, IsTrue, IsSome, is_some, IfSome, slice_get}
 use Rattle.std.proofs.lemmas.Option.{IfSome_then}
@@ -19,20 +19,21 @@ use Rattle.hm_node.specs.declared.node.Node.TheVariants.{Leaf as leaf_node, Inne
 use Rattle.hm_search.specs.Descent.{StandsHere}
 use Rattle.hm_search.specs.Place.{IsInside, least_count, mirror_of}
 use Rattle.hm_search.specs.Search.{holder_place}
-use Rattle.hm_search.specs.Tree.{node_at, elements_in, next_left, child_place, children_of, IsTree}
+use Rattle.hm_search.specs.Tree.{node_at, elements_in, reaches, next_left, child_place, children_of, IsTree, IsStoredTree}
 use Rattle.hm_search.specs.declared.subtree.Subtree.{Subtree}
 use Rattle.hm_btree.specs.Marking.{TakesOut}
 use Rattle.hm_btree.specs.Below.{IsLocal, Changed}
 use Rattle.hm_btree.specs.Edits.{inner_of, leaf_of, with_mirror, ChildChange}
 use Rattle.hm_btree.specs.Shrink.{loose, Shrinks, IsJoinedAt, IsLevelBelow}
 use Rattle.hm_btree.specs.Shape.{IsShaped}
-use Rattle.hm_btree.specs.Space.{HasWritten}
+use Rattle.hm_btree.specs.Space.{IsUpdated}
 use Rattle.hm_btree.proofs.EditLemmas.{split_at, set_at_place}
 use Rattle.hm_btree.proofs.HoldsLemmas.{holder_below}
 use Rattle.hm_btree.proofs.PairJoinedLemmas.{joined_changed}
 use Rattle.hm_btree.proofs.RemoveLemmas.{removed_leaf}
 use Rattle.hm_btree.proofs.ShrinkLemmas.{as_written}
 use Rattle.hm_btree.proofs.ToldLemmas.{IfSome_all, IfSome_both, IfSome_where, both_then}
+use Rattle.hm_btree.proofs.UpdateLemmas.{written_below}
 use Rattle.hm_btree.proofs.WorksLemmas.{inner_is}
 
 module _ (f : List Element → List Element) (key : Key) (local : IsLocal f key) (inner inner' : Inner) (i : ℕ) (s : Subtree) (child after : Node)
@@ -41,6 +42,7 @@ module _ (f : List Element → List Element) (key : Key) (local : IsLocal f key)
   below_shrinks : (Result : PageMap → PageMap → Type 0)
       → ((old mid new : PageMap) (place : Subtree) (lower : ℕ) (one : Child) → IsTree old (suc lower) place (inner_node inner)
       → IsInside place.left place.right key → slice_get inner.places.items i ≡ Some one → s.at ≡ one.child
+      → node_at old one.child ≡ child → IsStoredTree old lower (child_place inner.level (next_left inner.right (drop (suc i) inner.places.items)) one)
       → IsInside one.left (next_left inner.right (drop (suc i) inner.places.items)) key
       → Changed f key TakesOut (loose (child_place inner.level (next_left inner.right (drop (suc i) inner.places.items)) one))
       lower old mid (node_at old one.child) after → Result mid new
@@ -73,7 +75,8 @@ module _ (f : List Element → List Element) (key : Key) (local : IsLocal f key)
             subst (λ (n : ℕ). Changed f key TakesOut (loose spot) n old mid (node_at old below.one.child) after) (sym lower)
             (subst (λ (n : Node). Changed f key TakesOut (loose spot) below.lower old mid n after) (sym below.read) change) in
             IfSome_then p3 result (λ new result.
-            step old mid new place height below.one tree inside below.at below.where_is below.inside change' result)))
+            step old mid new place height below.one tree inside below.at below.where_is below.read
+            (subst (λ (n : ℕ). IsStoredTree old n spot) (sym lower) below.stored) below.inside change' result)))
 
   -- it has too few places, and was joined with a neighbour
   pub small_shrinks : (node : Node) (p0 p1 p2 p3 : Option PageMap) → node ≡ inner_node inner → p1 ≡ p0
@@ -82,19 +85,20 @@ module _ (f : List Element → List Element) (key : Key) (local : IsLocal f key)
       → Shrinks f key TakesOut (λ o. IsSome o) p0 p3 node (inner_node inner')
   small_shrinks node p0 p1 p2 p3 is same here shrinks told small result =
       below_shrinks (λ mid new. IsJoinedAt inner i after mid new inner')
-      (λ old mid new place lower one tree inside one_at where_is one_inside change joined. joined_changed f key local place lower
+      (λ old mid new place lower one tree inside one_at where_is read stored one_inside change joined. joined_changed f key local place lower
       inner inner' old mid new tree i one after one_at one_inside change small joined)
       node p0 p1 p2 p3 is same here shrinks told result
 
-  -- it has enough, and was written
-  pub large_shrinks : (m : ℕ) (node : Node) (p0 p1 p2 p3 : Option PageMap) → node ≡ inner_node inner → p1 ≡ p0
+  -- it has enough, and was written where its node changed
+  pub large_shrinks : (m : ℕ) (changed : Bool) → (changed ≡ false → after ≡ child) → (node : Node) (p0 p1 p2 p3 : Option PageMap) → node ≡ inner_node inner
+      → p1 ≡ p0
       → IfSome p0 (λ map. StandsHere map s child) → Shrinks f key TakesOut (λ o. IsSome o) p1 p2 child after → is_some p2 ≡ is_some p1
-      → 16 ≤ count_of after → BothTell p2 p3 (HasWritten s.at after)
+      → 16 ≤ count_of after → BothTell p2 p3 (IsUpdated changed s.at after)
       → inner'.level ≡ inner.level → inner'.mirror ≡ max inner.mirror m → m ≡ mirror_of after → ChildChange (with_mirror m)
       inner.places.items i inner'.places.items → inner'.right ≡ inner.right
       → Shrinks f key TakesOut (λ o. IsSome o) p0 p3 node (inner_node inner')
-  large_shrinks m node p0 p1 p2 p3 same_node same here shrinks told many written level mirror is items right =
-      below_shrinks (HasWritten s.at after) step node p0 p1 p2 p3 same_node same here shrinks told
+  large_shrinks m changed kept node p0 p1 p2 p3 same_node same here shrinks told many written level mirror is items right =
+      below_shrinks (IsUpdated changed s.at after) step node p0 p1 p2 p3 same_node same here shrinks told
       (both_then p2 p3 written (λ mid new written. written)) where
         enough : (n : Node) → 16 ≤ count_of n → least_count n ≤ count_of n
         enough (leaf_node leaf) many = omega arith
@@ -102,11 +106,12 @@ module _ (f : List Element → List Element) (key : Key) (local : IsLocal f key)
 
         step : (old mid new : PageMap) (place : Subtree) (lower : ℕ) (one : Child) → IsTree old (suc lower) place
             (inner_node inner) → IsInside place.left place.right key → slice_get inner.places.items i ≡ Some one → s.at ≡ one.child
+            → node_at old one.child ≡ child → IsStoredTree old lower (child_place inner.level (next_left inner.right (drop (suc i) inner.places.items)) one)
             → IsInside one.left (next_left inner.right (drop (suc i) inner.places.items)) key
             → Changed f key TakesOut (loose (child_place inner.level (next_left inner.right (drop (suc i) inner.places.items))
-            one)) lower old mid (node_at old one.child) after → HasWritten s.at after mid new
+            one)) lower old mid (node_at old one.child) after → IsUpdated changed s.at after mid new
             → Changed f key TakesOut (loose place) (suc lower) old new (inner_node inner) (inner_node inner')
-        step old mid new place lower c tree inside c_at where_is c_inside change written =
+        step old mid new place lower c tree inside c_at where_is read stored c_inside change written =
             let cs : List Child = inner.places.items in
             let pre : List Child = take i cs in
             let post : List Child = drop (suc i) cs in
@@ -115,7 +120,10 @@ module _ (f : List Element → List Element) (key : Key) (local : IsLocal f key)
             subst (λ (l : List Child). IsTree old (suc lower) place (inner_node (inner_of inner.level inner.mirror l inner.right))) split.0 tree in
             let held : length pre ≡ holder_place key (pre ++ c ∷ post) = split.1 ∙ holder ∙ ap (holder_place key) split.0 in
             let whole = as_written key place lower inner.level inner.mirror inner.right old pre c post tree' held inside f
-            TakesOut mid new after local change (enough after many) (subst (λ (a : ℕ). HasWritten a after mid new) where_is written) in
+            TakesOut mid new after local change (enough after many)
+            (written_below changed c.child lower (child_place inner.level (next_left inner.right post) c) (node_at old c.child) after old mid new
+            (reaches mid lower after) (subst (λ (a : ℕ). IsUpdated changed a after mid new) where_is written)
+            (λ is. kept is ∙ sym read) stored.there stored.spelled refl stored.tree change.pages) in
             let items' : inner'.places.items ≡ pre ++ with_mirror (mirror_of after) c ∷ post =
             items c ∙ set_at_place (with_mirror m) cs i c c_at ∙ ap (λ (n : ℕ). pre ++ with_mirror n c ∷ post) is in
             let end : inner' ≡ inner_of inner.level (max inner.mirror (mirror_of after)) (pre ++ with_mirror (mirror_of after) c ∷ post) inner.right =

@@ -6,8 +6,9 @@ use Rattle.hm_types.specs.Elements.{Key}
 use Rattle.hm_types.specs.declared.fault.Fault.{Fault}
 use Rattle.hm_types.specs.declared.fault.Fault.TheVariants.{Media, Damaged, NoMemory}
 use Rattle.hm_fields.specs.Pages.{PageMap}
-use Rattle.hm_types.specs.Faults.{IsUndamaged, HasStoreCause}
+use Rattle.hm_types.specs.Faults.{IsUndamaged, HasFaultCause, HasStoreCause}
 use Rattle.hm_key.specs.declared.element.Element.{Element}
+use Rattle.hm_search.specs.Tree.{IsSoundTree}
 use Rattle.hm_btree.specs.Marking.{Marking, MarksBy}
 use Rattle.hm_btree.specs.Tree.{ChangesTree, HasTreeCause, IsIntact, told_elements, told_mark}
 use Rattle.hm_btree.proofs.IntactLemmas.{intact_tree, told_intact}
@@ -37,15 +38,20 @@ undamaged_prop (Damaged at kind) = hlevel props
 undamaged_prop NoMemory = hlevel props
 
 -- no damage is told where the elements are
-pub store_cause : {T : Type 0} (intact : Bool) (told : Option PageMap) (root old new : ℕ) (result : Result T Fault)
-    → ∥ IsIntact intact told root ∥₁ → HasTreeCause told root old new result → HasStoreCause (told_elements intact told root) old new result
-store_cause intact told root old new result sound cause = record {
-  counted = cause.counted;
-  undamaged = told_intact (λ _ _. IfErr result IsUndamaged) intact told root (λ pages. by_result result) sound cause.undamaged;
+pub caused_in_store : {T : Type 0} (intact : Bool) (told : Option PageMap) (root old new : ℕ) (result : Result T Fault) → ∥ IsIntact intact told root ∥₁
+    → HasFaultCause old new result → IfSome told (λ pages. IsSoundTree pages root → IfErr result IsUndamaged)
+    → HasStoreCause (told_elements intact told root) old new result
+caused_in_store intact told root old new result sound counted undamaged = record {
+  counted = counted;
+  undamaged = told_intact (λ _ _. IfErr result IsUndamaged) intact told root (λ pages. by_result result) sound undamaged;
 } where
   by_result : {T : Type 0} (r : Result T Fault) → IsProp (IfErr r IsUndamaged)
   by_result (Ok x) = hlevel props
   by_result (Err fault) = undamaged_prop fault
+
+pub store_cause : {T : Type 0} (intact : Bool) (told : Option PageMap) (root old new : ℕ) (result : Result T Fault)
+    → ∥ IsIntact intact told root ∥₁ → HasTreeCause told root old new result → HasStoreCause (told_elements intact told root) old new result
+store_cause intact told root old new result sound cause = caused_in_store intact told root old new result sound cause.counted cause.undamaged
 
 -- the number of told lists stays
 pub told_kept : (f : List Element → List Element) (intact : Bool) (old new : Option PageMap) (root root' : ℕ)

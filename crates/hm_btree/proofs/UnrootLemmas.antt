@@ -15,13 +15,13 @@ use Rattle.hm_btree.specs.Marking.{Marking, MarksBy}
 use Rattle.hm_btree.specs.Below.{Replaces, Changed}
 use Rattle.hm_btree.specs.Edits.{inner_of}
 use Rattle.hm_btree.specs.Shrink.{Shrinks, HoldsElement, IsLowered, IsOnlyChild}
-use Rattle.hm_btree.specs.Space.{HasWritten, HasLost}
+use Rattle.hm_btree.specs.Space.{HasLost, IsUpdated}
 use Rattle.hm_btree.specs.Tree.{IsTreeSpace, TreeChanged, ChangesTree}
 use Rattle.hm_btree.proofs.LowestLemmas.{only_sound, only_elements, only_mark, only_reached}
 use Rattle.hm_btree.proofs.MarkLemmas.{as_marks, same_marks, marks_whole}
 use Rattle.hm_btree.proofs.NodeLemmas.{not_reached}
 use Rattle.hm_btree.proofs.PutLemmas.{replaces_lost}
-use Rattle.hm_btree.proofs.RootLemmas.{root_written, there_inside, whole_after, spots_after, turned}
+use Rattle.hm_btree.proofs.RootLemmas.{root_updated, there_inside, whole_after, spots_after, turned}
 use Rattle.hm_btree.proofs.ToldLemmas.{IfSome_alike, IfSome_both, both_alike, told_after}
 use Rattle.hm_btree.proofs.WorksLemmas.{inner_is}
 
@@ -130,22 +130,22 @@ module _ (key : Key) (root low : ℕ) (node : Node) (p0 p1 p2 : Option PageMap) 
         subst (λ (o : Option (List ℕ)). IsSome o) (sym (change.pages.kept low itself holds.tree.sound.there)) holds.tree.sound.there)))
 
     by_result : (p4 : Option PageMap) (root' : ℕ) (Ends : PageMap → PageMap → Type 0)
-        → ((mid now new : PageMap) → IsTreeSpace mid low → Changed f key marking (root_place low) (height_of (node_at mid low))
+        → ((mid now new : PageMap) → IsTreeSpace mid low → node_at mid low ≡ node → Changed f key marking (root_place low) (height_of (node_at mid low))
         mid now (node_at mid low) after → Ends now new → TreeChanged f key marking mid new low root')
         → BothTell p3 p4 Ends → ChangesTree f key marking (λ es. IsSome (element_at key es)) p0 p4 root root'
     by_result p4 root' Ends step ended = IfSome_then p0 lowered_first (λ old lowered tree there.
         IfSome_alike p2 p4 _ (both_alike p3 p4 Ends ended ∙ told3) (IfSome_both p2 lowered shrinks (λ mid lowered shrinks.
         told_after p3 p4 ended (change_of mid (holds_low key root low node old mid lowered there) shrinks) (λ now new ended change.
-        changed_lowered f key marking old mid new root low root' node lowered (step mid now new lowered.tree change ended)))))
+        changed_lowered f key marking old mid new root low root' node lowered (step mid now new lowered.tree lowered.here change ended)))))
 
-    -- it is written
-    pub written_result : (p4 : Option PageMap) → BothTell p3 p4 (HasWritten low after) → ChangesTree f key marking
-        (λ es. IsSome (element_at key es)) p0 p4 root low
-    written_result p4 written = by_result p4 low (HasWritten low after) (λ mid now new tree change ended. root_written f key
-        marking low mid now new after tree change ended) written
+    -- it is written where it changed
+    pub updated_result : (p4 : Option PageMap) (changed : Bool) → (changed ≡ false → after ≡ node) → BothTell p3 p4 (IsUpdated changed low after)
+        → ChangesTree f key marking (λ es. IsSome (element_at key es)) p0 p4 root low
+    updated_result p4 changed kept updated = by_result p4 low (IsUpdated changed low after) (λ mid now new tree here change ended. root_updated f key
+        marking low mid now new after changed (λ is. kept is ∙ sym here) tree change ended) updated
 
     -- it goes
     pub dropped_result : (p4 : Option PageMap) (below : ℕ) → IsOnlyChild after below → BothTell p3 p4 (HasLost low)
         → ChangesTree f key marking (λ es. IsSome (element_at key es)) p0 p4 root below
-    dropped_result p4 below only lost = by_result p4 below (HasLost low) (λ mid now new tree change ended. root_dropped f key
+    dropped_result p4 below only lost = by_result p4 below (HasLost low) (λ mid now new tree here change ended. root_dropped f key
         marking low mid now new after below tree change only ended) lost

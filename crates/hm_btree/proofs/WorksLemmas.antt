@@ -1,5 +1,5 @@
 -- Calls below a node, where the pages are told.
-use Rattle.std.proofs.Common.{◌≡◌, false, true≢false, ℕ, zero, suc, List, ◌∷◌, ◌++◌, length, take, drop, sym, ap, subst, ◌∙◌, arith, max, Some, None}
+use Rattle.std.proofs.Common.{◌≡◌, Bool, false, true≢false, ℕ, zero, suc, List, ◌∷◌, ◌++◌, length, take, drop, sym, ap, subst, ◌∙◌, arith, max, Some, None}
 use Rattle.std.specs.Prelude.{Option, IsSome, is_some, IfSome, slice_get}
 use Rattle.hm_types.specs.Elements.{Key}
 use Rattle.hm_fields.specs.Pages.{PageMap}
@@ -16,16 +16,17 @@ use Rattle.hm_node.specs.declared.node.Node.TheVariants.{Leaf as leaf_node, Inne
 use Rattle.hm_search.specs.Descent.{StandsHere}
 use Rattle.hm_search.specs.Place.{IsInside, mirror_of}
 use Rattle.hm_search.specs.Search.{holder_place}
-use Rattle.hm_search.specs.Tree.{node_at, elements_in, next_left, child_place, children_of, IsTree, IsStoredTree}
+use Rattle.hm_search.specs.Tree.{node_at, elements_in, reaches, next_left, child_place, children_of, IsTree, IsStoredTree}
 use Rattle.hm_search.specs.declared.subtree.Subtree.{Subtree}
 use Rattle.hm_search.proofs.ChildLemmas.{IsChildAt, place_is}
 use Rattle.hm_btree.specs.Marking.{Marking}
 use Rattle.hm_btree.specs.Edits.{inner_of, with_mirror, ChildChange, ElementChange}
-use Rattle.hm_btree.specs.Space.{HasWritten}
+use Rattle.hm_btree.specs.Space.{IsUpdated}
 use Rattle.hm_btree.specs.Below.{IsLocal, Changed, Works}
 use Rattle.hm_btree.specs.Change.{change_of, id_of, marking_of, MayChange, with_change}
 use Rattle.hm_btree.specs.declared.change.Change.{Change}
 use Rattle.hm_btree.proofs.EditLemmas.{read_there, split_at, set_at_place, child_inside, child_tree, child_element, changed_parent}
+use Rattle.hm_btree.proofs.UpdateLemmas.{written_below}
 use Rattle.hm_search.proofs.ContentLemmas.{elements_inside}
 use Rattle.hm_btree.proofs.LeafLemmas.{element_changed}
 use Rattle.hm_btree.proofs.LocalLemmas.{element_each}
@@ -37,11 +38,12 @@ pub inner_is : (x : Inner) (level mirror : ℕ) (cs : List Child) (right : Base)
 inner_is x level mirror cs right a b c d i = record { level = a i; mirror = b i; places = record { items = c i }; right = d i }
 
 module _ (f : List Element → List Element) (key : Key) (marking : Marking) (Needs : Option Element → Type 0)
-    (local : IsLocal f key) (inner inner' : Inner) (i : ℕ) (s : Subtree) (child after : Node) (m : ℕ) where
-  -- the child that holds the key changed, and was written
+    (local : IsLocal f key) (inner inner' : Inner) (i : ℕ) (s : Subtree) (child after : Node) (m : ℕ)
+    (changed : Bool) (kept : changed ≡ false → after ≡ child) where
+  -- the child that holds the key changed, and was written where its node did
   parent_changed : (old : PageMap) (p2 p3 : Option PageMap) (height : ℕ) (place : Subtree) → IsTree old height place (inner_node inner)
       → IsInside place.left place.right key → i ≡ holder_place key inner.places.items
-      → IsChildAt inner.level inner.right inner.places.items i s → StandsHere old s child → BothTell p2 p3 (HasWritten s.at after)
+      → IsChildAt inner.level inner.right inner.places.items i s → StandsHere old s child → BothTell p2 p3 (IsUpdated changed s.at after)
       → Works f key marking Needs (Some old) p2 child after → Needs (element_at key (elements_in old height (inner_node inner)))
       → inner'.level ≡ inner.level → inner'.mirror ≡ max inner.mirror m → m ≡ mirror_of after → ChildChange (with_mirror m)
       inner.places.items i inner'.places.items → inner'.right ≡ inner.right
@@ -75,9 +77,12 @@ module _ (f : List Element → List Element) (key : Key) (marking : Marking) (Ne
       inner_is inner' inner.level (max inner.mirror (mirror_of after)) (pre ++ with_mirror (mirror_of after) c ∷ post) inner.right
       level (mirror ∙ ap (max inner.mirror) is) items' right in
       told_after p2 p3 written below (λ mid new written below.
+      let put = written_below changed c.child lower spot child after old mid new (reaches mid lower after)
+      (subst (λ (a : ℕ). IsUpdated changed a after mid new) where_is written) kept stored.there stored.spelled read
+      (subst (λ (n : Node). IsTree old lower spot n) read stored.tree) below.pages in
       let whole = changed_parent key place lower inner.level inner.mirror inner.right old pre c post tree' held inside f marking mid new after local
       (subst (λ (n : Node). Changed f key marking spot lower old mid n after) (sym read) below)
-      (subst (λ (a : ℕ). HasWritten a after mid new) where_is written) in
+      put in
       subst (λ (x : Inner). Changed f key marking place (suc lower) old new (inner_node inner) (inner_node x)) (sym end)
       (subst (λ (l : List Child). Changed f key marking place (suc lower) old new
       (inner_node (inner_of inner.level inner.mirror l inner.right))
@@ -86,7 +91,7 @@ module _ (f : List Element → List Element) (key : Key) (marking : Marking) (Ne
 
   pub inner_works : (node : Node) (p0 p1 p2 p3 : Option PageMap) → node ≡ inner_node inner
       → i ≡ holder_place key inner.places.items → slice_get (children_of inner) i ≡ Some s → p1 ≡ p0 → IfSome p0 (λ map. StandsHere map s child)
-      → Works f key marking Needs p1 p2 child after → BothTell p2 p3 (HasWritten s.at after)
+      → Works f key marking Needs p1 p2 child after → BothTell p2 p3 (IsUpdated changed s.at after)
       → inner'.level ≡ inner.level → inner'.mirror ≡ max inner.mirror m → m ≡ mirror_of after → ChildChange (with_mirror m)
       inner.places.items i inner'.places.items → inner'.right ≡ inner.right
       → Works f key marking Needs p0 p3 node (inner_node inner')

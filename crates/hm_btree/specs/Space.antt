@@ -1,5 +1,5 @@
 -- What the calls of a space of nodes do to its pages.
-use Rattle.std.specs.Prelude.{◌≡◌, ℕ, ◌+◌, ◌==◌, ◌<◌, ◌^◌, List, Option, None, if◌then◌else◌}
+use Rattle.std.specs.Prelude.{◌≡◌, ℕ, ◌+◌, ◌==◌, ◌<◌, ◌^◌, Bool, true, false, List, Option, None, if◌then◌else◌}
 use Rattle.hm_types.specs.Offset.{byte_of}
 use Rattle.hm_types.specs.Space.{in_zone}
 use Rattle.hm_types.specs.Told.{BothTell}
@@ -23,6 +23,11 @@ HasLost at old new = (other : ℕ) → new other ≡ (if other == at then None e
 -- a node was written to the page at the offset
 abbrev pub HasWritten : ℕ → Node → PageMap → PageMap → Type 0
 HasWritten at node old new = (page : List ℕ) × Spells page node × HasPut at page old new
+
+-- a node was written to the page at the offset where it changed, and else the pages stay
+abbrev pub IsUpdated : Bool → ℕ → Node → PageMap → PageMap → Type 0
+IsUpdated true at node old new = HasWritten at node old new
+IsUpdated false at node old new = new ≡ old
 
 -- a node was written to a page at an offset that had none
 abbrev pub HasAdded : ℕ → Node → PageMap → PageMap → Type 0

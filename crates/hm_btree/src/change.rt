@@ -1,5 +1,5 @@
 // Changes of an element that stays where it is.
-ghost use Rattle.std.specs.Prelude.{◌≡◌, ◌<◌, max, OnOk, IsTrue, is_some};
+ghost use Rattle.std.specs.Prelude.{◌≡◌, ◌<◌, max, IfOk, OnOk, IsTrue, is_some};
 ghost use Rattle.arrayvec.specs.ArrayVec.{array_vec_len};
 ghost use Rattle.hm_key.specs.Elements.{element_at};
 ghost use Rattle.hm_key.specs.Key.{key_of};
@@ -16,7 +16,7 @@ ghost use Rattle.hm_btree.specs.Tree.{HasTreeCause};
 
 use crate::inner_edit::set_mirror;
 use crate::leaf_edit::{close_element, move_payload};
-use crate::node_edit::{mirror, write_node};
+use crate::node_edit::{mirror, update_node};
 use crate::space::NodeSpace;
 use hm_key::Base;
 use hm_node::{Leaf, Node};
@@ -51,20 +51,21 @@ pub fn change_element<S: NodeSpace>(
 {
     let place = Subtree::root(root);
     let mut node = read_node(space, &place)?;
-    change_in(space, &mut node, at, change)?;
-    write_node(space, root, &node)
+    let changed = change_in(space, &mut node, at, change)?;
+    update_node(space, root, &node, changed)
 }
 
-// Changes the element at the key of `at` below a node, which is not written.
+// Changes the element at the key of `at` below a node, which is not written, and answers whether the
+// node changed.
 fn change_in<S: NodeSpace>(
     space: &mut S,
     node: &mut Node,
     at: &Base,
     change: Change,
-) -> Result<(), Fault>
+) -> Result<bool, Fault>
     requires node { IsNode node.old }
     requires may { MayChange (key_of at.now) change }
-    ensures done { OnOk result (ChangesBelow (key_of at.now) change
+    ensures done { IfOk result (ChangesBelow (key_of at.now) change
         (S.pages space.old) (S.pages space.new) node.old node.new) }
     ensures rest { S.rest space.new ≡ S.rest space.old }
     ensures stays { Stays S.Counted space.old space.new }
@@ -74,19 +75,19 @@ fn change_in<S: NodeSpace>(
     match node {
         Node::Leaf(leaf) => {
             let place = leaf_place(leaf, at);
-            if has_element(leaf, place, at) {
+            let there = has_element(leaf, place, at);
+            if there {
                 change_at(leaf, place, change);
             }
-            Ok(())
+            Ok(there)
         }
         Node::Inner(inner) => {
             let i = holder_place(inner, at);
             let place = Subtree::child(inner, i);
             let mut child = read_node(space, &place)?;
-            change_in(space, &mut child, at, change)?;
-            write_node(space, place.at, &child)?;
-            set_mirror(inner, i, mirror(&child));
-            Ok(())
+            let changed = change_in(space, &mut child, at, change)?;
+            update_node(space, place.at, &child, changed)?;
+            Ok(set_mirror(inner, i, mirror(&child)))
         }
     }
 }

@@ -1,5 +1,5 @@
 // Edits of inner nodes.
-ghost use Rattle.std.specs.Prelude.{◌≡◌, ◌+◌, ◌/◌, ◌≤◌, ◌<◌, ◌++◌, if◌then◌else◌, max, take, drop, insert, remove, nat_lt};
+ghost use Rattle.std.specs.Prelude.{◌≡◌, ◌+◌, ◌/◌, ◌≤◌, ◌<◌, ◌++◌, if◌then◌else◌, false, max, take, drop, insert, remove, nat_lt};
 ghost use Rattle.arrayvec.specs.ArrayVec.{array_vec_len};
 ghost use Rattle.hm_btree.specs.Edits.{inner_of, left_of, with_mirror, with_left, InnerGrown, ChildChange};
 
@@ -7,19 +7,25 @@ use crate::places::{append, insert_and_split, share_out};
 use hm_key::Base;
 use hm_node::{Child, Inner};
 
-/// Gives the child at a place another `mirror`, to which the node's own is raised.
-pub fn set_mirror(inner: &mut Inner, at: usize, mirror: u64)
+/// Gives the child at a place this `mirror`, to which the node's own is raised. Answers whether that
+/// changed the node.
+pub fn set_mirror(inner: &mut Inner, at: usize, mirror: u64) -> bool
     requires { at < array_vec_len inner.old.places }
     ensures level { inner.new.level ≡ inner.old.level }
     ensures mirror { inner.new.mirror ≡ max inner.old.mirror mirror }
     ensures items { ChildChange (with_mirror mirror)
         inner.old.places.items at inner.new.places.items }
     ensures right { inner.new.right ≡ inner.old.right }
+    ensures same { result ≡ false → inner.new ≡ inner.old }
 {
+    if mirror <= inner.mirror && inner.places[at].mirror == mirror {
+        return false;
+    }
     inner.mirror = inner.mirror.max(mirror);
     if let Some(child) = inner.places.get_mut(at) {
         child.mirror = mirror;
     }
+    true
 }
 
 /// Gives the child at a place another left boundary.

@@ -12,9 +12,9 @@ ghost use Rattle.hm_btree.specs.Grow.{LeafBecomes, InnerBecomes};
 
 use crate::inner_edit::{insert_child, set_mirror};
 use crate::leaf_edit::insert_element;
-use crate::node_edit::{add_node, mirror, write_node};
+use crate::node_edit::{add_node, mirror, update_node};
 use crate::space::{NODE_BYTES, NodeSpace};
-use crate::upper::Upper;
+use crate::upper::{Grown, Upper};
 use hm_key::Element;
 use hm_node::{Child, Inner, Leaf, Node};
 use hm_search::{Subtree, holder_place, leaf_place, read_node};
@@ -26,7 +26,7 @@ pub fn insert_into<S: NodeSpace>(
     space: &mut S,
     node: &mut Node,
     element: &Element,
-) -> Result<Option<Upper>, Fault>
+) -> Result<Grown, Fault>
     requires node { IsNode node.old }
     requires element { IsPlaced element.now }
     requires room { NODE_BYTES * (level_of node.old - 1) ≤ S.room space.old TREE_ZONE }
@@ -38,16 +38,22 @@ pub fn insert_into<S: NodeSpace>(
         (S.faults space.old) (S.faults space.new) result }
 {
     match node {
-        Node::Leaf(leaf) => Ok(insert_in_leaf(leaf, element)),
+        Node::Leaf(leaf) => Ok(Grown {
+            changed: true,
+            upper: insert_in_leaf(leaf, element),
+        }),
         Node::Inner(inner) => {
             let i = holder_place(inner, &element.base);
             let place = Subtree::child(inner, i);
             let mut child = read_node(space, &place)?;
-            let upper = insert_into(space, &mut child, element)?;
-            write_node(space, place.at, &child)?;
-            set_mirror(inner, i, mirror(&child));
+            let Grown { changed, upper } = insert_into(space, &mut child, element)?;
+            update_node(space, place.at, &child, changed)?;
+            let changed = set_mirror(inner, i, mirror(&child));
             match upper {
-                None => Ok(None),
+                None => Ok(Grown {
+                    changed,
+                    upper: None,
+                }),
                 Some(upper) => {
                     let at = add_node(space, &upper.node)?;
                     let next = Child {
@@ -55,7 +61,10 @@ pub fn insert_into<S: NodeSpace>(
                         child: at,
                         mirror: mirror(&upper.node),
                     };
-                    Ok(insert_beside(inner, i + 1, next))
+                    Ok(Grown {
+                        changed: true,
+                        upper: insert_beside(inner, i + 1, next),
+                    })
                 }
             }
         }

@@ -8,7 +8,7 @@ ghost use Rattle.hm_search.specs.Place.{mirror_of};
 ghost use Rattle.hm_types.specs.Space.{in_zone};
 ghost use Rattle.hm_btree.specs.Calls.Space.{Stays, StaysWithin};
 ghost use Rattle.hm_btree.specs.Shape.{IsShaped};
-ghost use Rattle.hm_btree.specs.Space.{AddsNode, HasWritten};
+ghost use Rattle.hm_btree.specs.Space.{AddsNode, HasWritten, IsUpdated};
 
 use crate::space::{NODE_BYTES, NodeSpace};
 use hm_fields::Page;
@@ -39,6 +39,29 @@ pub fn write_node<S: NodeSpace>(space: &mut S, at: HOff, node: &Node) -> Result<
     let mut page = Page::zero();
     encode(node, &mut page);
     space.change(at, &page)
+}
+
+/// Writes a node to its page where it changed. One that is as it was read stays there.
+pub fn update_node<S: NodeSpace>(
+    space: &mut S,
+    at: HOff,
+    node: &Node,
+    changed: bool,
+) -> Result<(), Fault>
+    requires at { IsNodeOffset at }
+    requires node { IsShaped node.now }
+    ensures ok { OnOk result
+        (BothTell (S.pages space.old) (S.pages space.new) (IsUpdated changed at node.now)) }
+    ensures rest { S.rest space.new ≡ S.rest space.old }
+    ensures stays { Stays S.Counted space.old space.new }
+    ensures cause { HasStoreCause (S.pages space.old)
+        (S.faults space.old) (S.faults space.new) result }
+{
+    if changed {
+        write_node(space, at, node)
+    } else {
+        Ok(())
+    }
 }
 
 /// Writes a node to a page of its own.

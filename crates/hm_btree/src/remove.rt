@@ -1,5 +1,5 @@
 // Removal of an element below a node.
-ghost use Rattle.std.specs.Prelude.{◌≡◌, ◌+◌, ◌<◌, IfSome, IsSome, OnOk, Some, slice_get};
+ghost use Rattle.std.specs.Prelude.{◌≡◌, ◌+◌, ◌<◌, IfSome, IsSome, IfOk, OnOk, Some, slice_get};
 ghost use Rattle.hm_types.specs.Faults.{HasStoreCause};
 ghost use Rattle.hm_key.specs.Key.{key_of};
 ghost use Rattle.hm_types.specs.Space.{nothing};
@@ -13,7 +13,7 @@ use crate::change::has_element;
 use crate::inner_edit::{remove_child, set_left, set_mirror};
 use crate::join::{is_small, join};
 use crate::leaf_edit::remove_element;
-use crate::node_edit::{mirror, write_node};
+use crate::node_edit::{mirror, update_node, write_node};
 use crate::space::NodeSpace;
 use hm_key::Base;
 use hm_node::{Inner, Node};
@@ -21,13 +21,13 @@ use hm_search::{Subtree, holder_place, leaf_place, read_node};
 use hm_types::{Counted, Fault};
 
 /// Removes the element at the key of `at` below a node, which is not written and may be left with
-/// too few places. Where the pages are told, they must be sound and have the element. An inner node
-/// must have two children.
-pub fn remove_below<S: NodeSpace>(space: &mut S, node: &mut Node, at: &Base) -> Result<(), Fault>
+/// too few places, and answers whether the node changed. Where the pages are told, they must be
+/// sound and have the element. An inner node must have two children.
+pub fn remove_below<S: NodeSpace>(space: &mut S, node: &mut Node, at: &Base) -> Result<bool, Fault>
     requires node { IsNode node.old }
     requires many { HasNeighbours node.old }
     requires told { IfSome (S.pages space.old) (HoldsElement (key_of at.now) node.old) }
-    ensures done { OnOk result (RemovesBelow S.pages S.extents (key_of at.now)
+    ensures done { IfOk result (RemovesBelow S.pages S.extents (key_of at.now)
         space.old space.new node.old node.new) }
     ensures spent { StaysWithin S.HasRoom nothing space.old space.new }
     ensures cause { HasStoreCause (S.pages space.old)
@@ -36,22 +36,23 @@ pub fn remove_below<S: NodeSpace>(space: &mut S, node: &mut Node, at: &Base) -> 
     match node {
         Node::Leaf(leaf) => {
             let place = leaf_place(leaf, at);
-            if has_element(leaf, place, at) {
+            let there = has_element(leaf, place, at);
+            if there {
                 remove_element(leaf, place);
             }
-            Ok(())
+            Ok(there)
         }
         Node::Inner(inner) => {
             let i = holder_place(inner, at);
             let place = Subtree::child(inner, i);
             let mut child = read_node(space, &place)?;
-            remove_below(space, &mut child, at)?;
+            let changed = remove_below(space, &mut child, at)?;
             if is_small(&child) {
-                return rejoin(space, inner, i, child);
+                rejoin(space, inner, i, child)?;
+                return Ok(true);
             }
-            write_node(space, place.at, &child)?;
-            set_mirror(inner, i, mirror(&child));
-            Ok(())
+            update_node(space, place.at, &child, changed)?;
+            Ok(set_mirror(inner, i, mirror(&child)))
         }
     }
 }

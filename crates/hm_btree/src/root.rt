@@ -11,9 +11,9 @@ ghost use Rattle.hm_btree.specs.Grow.{AddsTop, top_of};
 ghost use Rattle.hm_btree.specs.Tree.{HasTreeCause};
 
 use crate::insert::insert_into;
-use crate::node_edit::{add_node, level, mirror, write_node};
+use crate::node_edit::{add_node, level, mirror, update_node};
 use crate::space::{NODE_BYTES, NodeSpace};
-use crate::upper::Upper;
+use crate::upper::{Grown, Upper};
 use arrayvec::ArrayVec;
 use hm_key::Element;
 use hm_node::{Child, Inner, Node};
@@ -39,8 +39,8 @@ pub fn insert_from<S: NodeSpace>(
     known_range(element);
     let place = Subtree::root(root);
     let mut node = read_node(space, &place)?;
-    let upper = insert_into(space, &mut node, element)?;
-    write_node(space, root, &node)?;
+    let Grown { changed, upper } = insert_into(space, &mut node, element)?;
+    update_node(space, root, &node, changed)?;
     match upper {
         None => Ok(root),
         Some(upper) => add_root(space, &place, &node, &upper),

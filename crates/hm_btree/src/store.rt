@@ -17,6 +17,7 @@ impl<S: NodeSpace> ElementStore for BTree<S> {
 
     fn first_at_or_after(&mut self, at: &Base) -> Result<Option<Element>, Fault> {
         self.require_intact()?;
+        self.require_root()?;
         first_at_or_after(&mut self.space, self.root, at)
     }
 
@@ -62,6 +63,7 @@ impl<S: NodeSpace> ElementStore for BTree<S> {
 
     fn unchanged_until(&mut self, at: &Base, since: Id) -> Result<Option<Base>, Fault> {
         self.require_intact()?;
+        self.require_root()?;
         unchanged_until(&mut self.space, self.root, at, since)
     }
 }

@@ -236,6 +236,30 @@ fn quiet(tree: &mut BTree<NodeTable>, key: u64, since: u64) -> Result<Option<Bas
     tree.unchanged_until(&element(key, 1).base, Id(since))
 }
 
+// How many nodes a tree wrote since it had written so many.
+fn written(tree: &BTree<NodeTable>, before: u64) -> u64 {
+    tree.space().writes().saturating_sub(before)
+}
+
+#[test]
+fn a_node_whose_bytes_stay_is_not_written(rt: HostRuntime) -> Result<(), Fail> {
+    let mut tree = marked(rt.alloc())?;
+    let before = tree.space().writes();
+    tree.readdress(&element(10, 1).base, HOff::default())?;
+    assert_eq!(rt; written(&tree, before), 1);
+    insert(&mut tree, &element(1_000, 1))?;
+    assert_eq!(rt; written(&tree, before), 2);
+    tree.remove(&element(1_000, 1).base)?;
+    assert_eq!(rt; written(&tree, before), 3);
+    // The leaf of key 500 has this id already, and so has the root.
+    tree.set_delete(&element(501, 1).base, 9)?;
+    assert_eq!(rt; written(&tree, before), 4);
+    // It is new to the leaf of key 10, of which the root says so.
+    tree.set_delete(&element(10, 1).base, 9)?;
+    assert_eq!(rt; written(&tree, before), 6);
+    Ok(())
+}
+
 #[test]
 fn marks_stay_when_an_element_is_readdressed(rt: HostRuntime) -> Result<(), Fail> {
     let mut tree = marked(rt.alloc())?;
@@ -374,7 +398,7 @@ fn astray(alloc: Global) -> BTree<NodeTable> {
 }
 
 #[test]
-fn a_root_that_no_node_can_be_is_not_changed(rt: HostRuntime) -> Result<(), Fail> {
+fn a_root_that_no_node_can_be_is_neither_changed_nor_searched(rt: HostRuntime) -> Result<(), Fail> {
     let mut tree = astray(rt.alloc());
     let e = element(1, 1);
     assert_eq!(rt; insert(&mut tree, &e), Err(Fault::NoMemory));
@@ -384,11 +408,8 @@ fn a_root_that_no_node_can_be_is_not_changed(rt: HostRuntime) -> Result<(), Fail
         tree.readdress(&e.base, HOff::default()),
         Err(Fault::NoMemory)
     );
-    let absent = Fault::Damaged {
-        at: HOff::default(),
-        kind: BAD_LEVEL,
-    };
-    assert_eq!(rt; tree.first_at_or_after(&e.base), Err(absent));
+    assert_eq!(rt; tree.first_at_or_after(&e.base), Err(Fault::NoMemory));
+    assert_eq!(rt; tree.unchanged_until(&e.base, Id(1)), Err(Fault::NoMemory));
     Ok(())
 }
 

@@ -12,7 +12,7 @@ ghost use Rattle.hm_btree.specs.Calls.Space.{StaysWithin};
 ghost use Rattle.hm_btree.specs.Shrink.{HasNeighbours, IsOnlyChild};
 ghost use Rattle.hm_btree.specs.Tree.{IsTreeSpace};
 
-use crate::node_edit::write_node;
+use crate::node_edit::update_node;
 use crate::remove::remove_below;
 use crate::space::NodeSpace;
 use hm_key::Base;
@@ -35,14 +35,14 @@ pub fn remove_from<S: NodeSpace>(space: &mut S, root: HOff, at: &Base) -> Result
 {
     let node = read_node(space, &Subtree::root(root))?;
     let (root, mut node) = lowest(space, root, node)?;
-    remove_below(space, &mut node, at)?;
+    let changed = remove_below(space, &mut node, at)?;
     match only_child(&node) {
         Some(below) => {
             space.drop_node(root)?;
             Ok(below)
         }
         None => {
-            write_node(space, root, &node)?;
+            update_node(space, root, &node, changed)?;
             Ok(root)
         }
     }

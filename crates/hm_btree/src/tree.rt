@@ -10,8 +10,8 @@ use hm_types::{Counted, Fault, HOff};
 /// The B-tree of the elements, over a space of nodes. Once a call has failed in the middle of a
 /// change, each call answers `NoMemory`, since the space may hold half of that change.
 ///
-/// A call that changes also answers `NoMemory` where no node may stand at the root: such a root can
-/// be handed in only where the space does not tell its pages.
+/// A call also answers `NoMemory` where no node may stand at the root: such a root can be handed in only
+/// where the space does not tell its pages.
 #[derive(Drop)]
 pub struct BTree<S: NodeSpace> {
     pub(crate) space: S,

@@ -1,4 +1,4 @@
-// The upper part of a node that became two.
+// What an insertion makes of a node, which may become two.
 
 use hm_key::Base;
 use hm_node::Node;
@@ -9,4 +9,13 @@ pub struct Upper {
     /// The boundary between the two parts.
     pub left: Base,
     pub node: Node,
+}
+
+/// What an insertion made of a node.
+#[derive(Drop)]
+pub struct Grown {
+    /// Whether the node is another than it was.
+    pub changed: bool,
+    /// Its upper part, where it became two.
+    pub upper: Option<Upper>,
 }

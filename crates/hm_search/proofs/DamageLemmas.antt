@@ -1,6 +1,7 @@
 -- Pages that are sound where they stand, and what may be told of the others.
-use Rattle.std.proofs.Common.{◌≡◌, ℕ, ◌<◌, ◌≤◌, List, inl, inr, refl, sym, subst, arith, true≢false}
-use Rattle.std.specs.Prelude.{Option, None, Some, IsSome, Result, Ok, Err}
+use Rattle.std.proofs.Common.{◌≡◌, ℕ, ◌-◌, ◌<◌, ◌≤◌, List, length, inl, inr, refl, sym, subst, arith, true≢false}
+use Rattle.std.specs.Prelude.{Option, None, Some, IsSome, IfSome, All, Result, Ok, Err, slice_get}
+use Rattle.std.proofs.lemmas.List.Elements.{recursion_from_All}
 use Rattle.hm_types.specs.Faults.{IsCaused, HasFaultCause}
 use Rattle.hm_types.specs.declared.fault.Fault.{Fault}
 use Rattle.hm_types.specs.declared.fault.Fault.TheVariants.{Media, Damaged, NoMemory}
@@ -11,11 +12,16 @@ use Rattle.hm_node.specs.Node.{node_in, IsNode, Spells}
 use Rattle.hm_node.specs.declared.node.Node.{Node}
 use Rattle.hm_node.specs.declared.rule.Rule.{Rule}
 use Rattle.hm_node.proofs.NodeLemmas.{spells_kept}
-use Rattle.hm_search.specs.Place.{Fits, FitsBy, place_number, SpellsHere, Breaks, IsLowestBroken, TellsDamage}
+use Rattle.hm_key.specs.Elements.{element_key}
+use Rattle.hm_key.specs.declared.base.Base.{Base}
+use Rattle.hm_node.specs.declared.node.Node.TheVariants.{Leaf as leaf_node, Inner as inner_node}
+use Rattle.hm_search.specs.Place.{Fits, FitsBounds, FitsBy, IsInside, MeetsBounds, MeetsBy, place_number, SpellsHere, Breaks, IsFirstUnmet, IsLowestBroken}
+use Rattle.hm_search.specs.Place.{TellsDamage, TellsUnmet}
 use Rattle.hm_search.specs.Tree.{node_at, IsStoredTree}
 use Rattle.hm_search.specs.declared.place_rule.PlaceRule.{PlaceRule}
 use Rattle.hm_search.specs.declared.place_rule.PlaceRule.TheVariants.{Level, Count, Bounds, Mirror}
 use Rattle.hm_search.specs.declared.subtree.Subtree.{Subtree}
+use Rattle.hm_search.proofs.ListLemmas.{each_get}
 
 -- a node that keeps each rule of its place fits there
 pub fits_all : (s : Subtree) (page : List ℕ) (node : Node) → node_in page ≡ node → ((rule : PlaceRule) → place_number rule < 10 → FitsBy s (node_in page) rule) → Fits s node
@@ -83,6 +89,37 @@ tells_undamaged s page node (Media before after) there here tells = tt
 tells_undamaged s (Some page) node (Damaged at kind) there here tells = not_broken s page node kind here tells.1
 tells_undamaged s None node (Damaged at kind) there here tells = absurd (true≢false (sym there))
 tells_undamaged s page node NoMemory there here tells = tt
+
+-- what holds of all holds at each place
+all_at : {A : Type 0} (P : A → Type 0) (xs : List A) (i : ℕ) → All P xs → IfSome (slice_get xs i) P
+all_at {A = A} P xs i all = by_value (slice_get xs i) refl where
+  by_value : (o : Option A) → slice_get xs i ≡ o → IfSome o P
+  by_value None is = tt
+  by_value (Some x) is = each_get P xs i x is (recursion_from_All P xs all)
+
+bounds_met : (left right : Base) (node : Node) → FitsBounds left right node → MeetsBounds left right node
+bounds_met left right (leaf_node leaf) fits = (
+  all_at (λ e. IsInside left right (element_key e)) leaf.places.items 0 fits,
+  all_at (λ e. IsInside left right (element_key e)) leaf.places.items (length leaf.places.items - 1) fits,
+)
+bounds_met left right (inner_node inner) fits = fits
+
+-- a node that fits its place breaks no rule there that a search checks
+pub fits_meets : (s : Subtree) (node : Node) → Fits s node → (rule : PlaceRule) → MeetsBy s node rule
+fits_meets s node fits Level = fits.level
+fits_meets s node fits Count = fits.count
+fits_meets s node fits Bounds = bounds_met s.left s.right node fits.bounds
+fits_meets s node fits Mirror = fits.mirror
+
+-- so a search tells no damage of it
+pub tells_met : (s : Subtree) (page : Option (List ℕ)) (fault : Fault) → IsSome page → Fits s (node_in (page_in page)) → TellsUnmet s page fault
+    → IsUndamaged fault
+tells_met s page (Media before after) there fits tells = tt
+tells_met s (Some page) (Damaged at kind) there fits tells =
+    let unmet : (rule : PlaceRule) × (place_number rule ≡ kind) × IsFirstUnmet s page rule = tells.1 in
+    unmet.2.broken (fits_meets s (node_in page) fits unmet.0)
+tells_met s None (Damaged at kind) there fits tells = absurd (true≢false (sym there))
+tells_met s page NoMemory there fits tells = tt
 
 -- causes within a longer call
 pub caused_since : (old mid new : ℕ) (fault : Fault) → old ≤ mid → IsCaused mid new fault → IsCaused old new fault

@@ -7,17 +7,20 @@ use Rattle.hm_types.specs.declared.fault.Fault.{Fault}
 use Rattle.hm_types.specs.declared.fault.Fault.TheVariants.{Media, Damaged, NoMemory}
 use Rattle.hm_fields.specs.Pages.{PageMap}
 use Rattle.hm_types.specs.Faults.{IsUndamaged}
-use Rattle.hm_node.specs.Node.{IsNode}
+use Rattle.hm_node.specs.Node.{HasLevel, IsNode}
 use Rattle.hm_node.specs.declared.inner.Inner.{Inner}
 use Rattle.hm_node.specs.declared.node.Node.{Node}
 use Rattle.hm_node.specs.declared.node.Node.TheVariants.{Inner as inner_node}
-use Rattle.hm_search.specs.Descent.{StandsHere, levels_under, levels_below, LeadsTo, Descends, IsFaultBelow, HasSearchCause}
-use Rattle.hm_search.specs.Place.{Fits, FitsLevel, TellsDamage}
+use Rattle.hm_search.specs.Descent.{StandsHere, levels_under, levels_below, LeadsTo, Descends, IsFaultBelow}
+use Rattle.hm_search.specs.Descent.{PassesHere, GoesTo, Goes, IsUnmetBelow, HasSearchCause}
+use Rattle.hm_search.specs.Place.{Fits, FitsLevel, MeetsBy, TellsDamage, TellsUnmet}
 use Rattle.hm_search.specs.Tree.{node_at, children_of, IsTree, IsStoredTree}
+use Rattle.hm_search.specs.declared.place_rule.PlaceRule.{PlaceRule}
+use Rattle.hm_search.specs.declared.place_rule.PlaceRule.TheVariants.{Level}
 use Rattle.hm_search.specs.declared.subtree.Parent.{Parent}
 use Rattle.hm_search.specs.declared.subtree.Subtree.{Subtree}
 use Rattle.hm_search.proofs.ChildLemmas.{place_is}
-use Rattle.hm_search.proofs.DamageLemmas.{stored_here, tells_undamaged, cause_since}
+use Rattle.hm_search.proofs.DamageLemmas.{stored_here, tells_met, tells_undamaged, cause_since}
 use Rattle.hm_search.proofs.ListLemmas.{each_get}
 
 -- what an inner node says of the parent of its children
@@ -76,13 +79,50 @@ sound_undamaged map height s (Damaged at kind) stored (steps, end, descends, tel
     tells_undamaged end (map end.at) (node_at map end.at) (Damaged at kind) sound.1.there (stored_here map sound.0 end sound.1) tells
 sound_undamaged map height s NoMemory stored below = tt
 
+-- Descents of searches. A child of a node that passes has fewer levels below it.
+pub goes_lower : (s : Subtree) (inner : Inner) (i : ℕ) (child : Subtree) → HasLevel (inner_node inner)
+    → ((rule : PlaceRule) → MeetsBy s (inner_node inner) rule)
+    → slice_get (children_of inner) i ≡ Some child → levels_below child < levels_below s
+goes_lower s inner i child level meets is = by_parent s.parent (meets Level) where
+  by_parent : (p : Option Parent) → FitsLevel p (inner_node inner) → levels_below child < levels_under p
+  by_parent None fits = omega (arith, child_parent inner i child is, level.1)
+  by_parent (Some p) fits = omega (arith, child_parent inner i child is, fits)
+
+-- a fault at the place itself, and one further down
+pub unmet_here : (map : PageMap) (s : Subtree) (fault : Fault) → TellsUnmet s (map s.at) fault → IsUnmetBelow map s fault
+unmet_here map s (Media before after) tells = tt
+unmet_here map s (Damaged at kind) tells = (0, s, refl, tells)
+unmet_here map s NoMemory tells = tt
+
+pub unmet_below : (map : PageMap) (s child : Subtree) (fault : Fault) → GoesTo map s child → IsUnmetBelow map child fault → IsUnmetBelow map s fault
+unmet_below map s child (Media before after) to below = tt
+unmet_below map s child (Damaged at kind) to (steps, end, goes, tells) = (suc steps, end, (child, to, goes), tells)
+unmet_below map s child NoMemory to below = tt
+
+-- searches in a sound tree come to sound trees alone
+pub goes_sound : (map : PageMap) (steps height : ℕ) (s end : Subtree) → IsStoredTree map height s → Goes map steps s end
+    → (lower : ℕ) × IsStoredTree map lower end
+goes_sound map zero height s end stored is = (height, subst (IsStoredTree map height) is stored)
+goes_sound map (suc steps) height s end stored (next, (inner, here, i, at), goes) =
+    let below = child_stored map height s inner i next stored (here.spelled stored.there).value at in
+    goes_sound map steps below.lower next end below.stored goes
+
+pub unmet_undamaged : (map : PageMap) (height : ℕ) (s : Subtree) (fault : Fault) → IsStoredTree map height s → IsUnmetBelow map s fault → IsUndamaged fault
+unmet_undamaged map height s (Media before after) stored below = tt
+unmet_undamaged map height s (Damaged at kind) stored (steps, end, goes, tells) =
+    let sound = goes_sound map steps height s end stored goes in
+    tells_met end (map end.at) (Damaged at kind) sound.1.there sound.1.tree.fits tells
+unmet_undamaged map height s NoMemory stored below = tt
+
 -- the cause of each fault of a search
-pub search_cause : {T : Type 0} (told : Option PageMap) (s : Subtree) (old new : ℕ) (result : Result T Fault) → HasFaultCause old new result → IfSome told (λ map. IfErr result (IsFaultBelow map s)) → HasSearchCause told s old new result
+pub search_cause : {T : Type 0} (told : Option PageMap) (s : Subtree) (old new : ℕ) (result : Result T Fault) → HasFaultCause old new result
+    → IfSome told (λ map. IfErr result (IsUnmetBelow map s))
+    → HasSearchCause told s old new result
 search_cause None s old new result counted damage = record { counted = counted; damage = tt; undamaged = tt }
 search_cause (Some map) s old new result counted damage = record {
   counted = counted;
   damage = damage;
-  undamaged = λ height stored. IfErr-weaker result (IsFaultBelow map s) IsUndamaged (λ fault below. sound_undamaged map height s fault stored below) damage;
+  undamaged = λ height stored. IfErr-weaker result (IsUnmetBelow map s) IsUndamaged (λ fault below. unmet_undamaged map height s fault stored below) damage;
 }
 
 -- a result that is no fault
@@ -92,29 +132,30 @@ cause_ok told s old new value low = search_cause told s old new (Ok value) (reco
   if_told None = tt
   if_told (Some map) = tt
 
--- a fault of the first node that is read
-pub cause_here : {T : Type 0} (told : Option PageMap) (s : Subtree) (old new : ℕ) (fault : Fault) → HasFaultCause {T = Node} old new (Err fault) → IfSome told (λ map. TellsDamage s (map s.at) fault) → HasSearchCause {T = T} told s old new (Err fault)
+-- a fault of the first page that is read
+pub cause_here : {T U : Type 0} (told : Option PageMap) (s : Subtree) (old new : ℕ) (fault : Fault) → HasFaultCause {T = U} old new (Err fault)
+    → IfSome told (λ map. TellsUnmet s (map s.at) fault)
+    → HasSearchCause {T = T} told s old new (Err fault)
 cause_here {T = T} told s old new fault counted damage = search_cause {T = T} told s old new (Err fault) (record { never_falls = counted.never_falls; caused = counted.caused }) (if_told told damage) where
-  if_told : (o : Option PageMap) → IfSome o (λ map. TellsDamage s (map s.at) fault) → IfSome o (λ map. IsFaultBelow map s fault)
+  if_told : (o : Option PageMap) → IfSome o (λ map. TellsUnmet s (map s.at) fault) → IfSome o (λ map. IsUnmetBelow map s fault)
   if_told None damage = tt
-  if_told (Some map) damage = fault_here map s fault damage
+  if_told (Some map) damage = unmet_here map s fault damage
 
--- a fault of a search that goes on at a child, after a node was read
-pub cause_below : {T : Type 0} (told now : Option PageMap) (s child : Subtree) (old mid new : ℕ) (result : Result T Fault) → now ≡ told → old ≤ mid → IfSome told (λ map. LeadsTo map s child)
+-- a fault of a search that goes on at a child
+pub cause_below : {T : Type 0} (told now : Option PageMap) (s child : Subtree) (old mid new : ℕ) (result : Result T Fault) → now ≡ told → old ≤ mid
+    → IfSome told (λ map. GoesTo map s child)
     → HasSearchCause now child mid new result → HasSearchCause told s old new result
 cause_below told now s child old mid new result same low to cause =
     search_cause told s old new result (cause_since old mid new result low cause.counted)
-    (if_told told to (subst (λ (o : Option PageMap). IfSome o (λ map. IfErr result (IsFaultBelow map child))) same cause.damage)) where
-      if_told : (o : Option PageMap) → IfSome o (λ map. LeadsTo map s child) → IfSome o (λ map. IfErr result (IsFaultBelow map child)) → IfSome o (λ map. IfErr result (IsFaultBelow map s))
+    (if_told told to (subst (λ (o : Option PageMap). IfSome o (λ map. IfErr result (IsUnmetBelow map child))) same cause.damage)) where
+      if_told : (o : Option PageMap) → IfSome o (λ map. GoesTo map s child) → IfSome o (λ map. IfErr result (IsUnmetBelow map child))
+          → IfSome o (λ map. IfErr result (IsUnmetBelow map s))
       if_told None to damage = tt
-      if_told (Some map) to damage = IfErr-weaker result (IsFaultBelow map child) (IsFaultBelow map s) (λ fault below. fault_below map s child fault to below) damage
-
--- the same fault as another result's
-pub cause_other : {T U : Type 0} (told : Option PageMap) (s : Subtree) (old new : ℕ) (fault : Fault) → HasSearchCause {T = T} told s old new (Err fault) → HasSearchCause {T = U} told s old new (Err fault)
-cause_other told s old new fault cause = record { counted = record { never_falls = cause.counted.never_falls; caused = cause.counted.caused }; damage = cause.damage; undamaged = cause.undamaged }
+      if_told (Some map) to damage = IfErr-weaker result (IsUnmetBelow map child) (IsUnmetBelow map s)
+          (λ fault below. unmet_below map s child fault to below) damage
 
 -- the step to a child, where the pages are told
-pub leads_told : (told : Option PageMap) (s : Subtree) (node : Node) (inner : Inner) (i : ℕ) (child : Subtree) → IfSome told (λ map. StandsHere map s node) → node ≡ inner_node inner
-    → slice_get (children_of inner) i ≡ Some child → IfSome told (λ map. LeadsTo map s child)
-leads_told None s node inner i child here is at = tt
-leads_told (Some map) s node inner i child here is at = leads map s inner i child (subst (λ (n : Node). StandsHere map s n) is here) at
+pub goes_told : (told : Option PageMap) (s : Subtree) (inner : Inner) (child : Subtree) → IfSome told (λ map. PassesHere map s (inner_node inner))
+    → (i : ℕ) × (slice_get (children_of inner) i ≡ Some child) → IfSome told (λ map. GoesTo map s child)
+goes_told None s inner child here at = tt
+goes_told (Some map) s inner child here (i, at) = (inner, here, i, at)

@@ -5,6 +5,7 @@ pub mod DescentLemmas
 pub mod FirstLemmas
 pub mod FrameLemmas
 pub mod LawLemmas
+pub mod HeldLemmas
 pub mod ListLemmas
 pub mod LookLemmas
 pub mod MarkLemmas

@@ -1,5 +1,6 @@
 -- What a node must be where it stands: the rules that its own page does not tell.
-use Rattle.std.specs.Prelude.{◌≡◌, ◌⊎◌, ℕ, ◌+◌, ◌<◌, ◌≤◌, List, [], ◌∷◌, Option, None, Some, All, IfSome, ⊤}
+use Rattle.std.specs.Prelude.{◌≡◌, ◌⊎◌, ℕ, ◌+◌, ◌-◌, ◌<◌, ◌≤◌, List, [], ◌∷◌, Option, None, Some, All, IfSome, slice_get, ⊤}
+use Rattle.arrayvec.specs.ArrayVec.{array_vec_len}
 use Rattle.hm_types.specs.declared.damage.TheConstants.{BAD_LEVEL, BAD_COUNT, BAD_BOUNDS, BAD_MIRROR}
 use Rattle.hm_types.specs.declared.fault.Fault.{Fault}
 use Rattle.hm_types.specs.declared.fault.Fault.TheVariants.{Media, Damaged, NoMemory}
@@ -8,6 +9,7 @@ use Rattle.hm_types.specs.Elements.{Key}
 use Rattle.hm_key.specs.Key.{key_of, IsBefore, IsFrom}
 use Rattle.hm_key.specs.Elements.{element_key}
 use Rattle.hm_key.specs.declared.base.Base.{Base}
+use Rattle.hm_key.specs.declared.element.Element.{Element}
 use Rattle.hm_node.specs.Damage.{Keeps, number_of}
 use Rattle.hm_node.specs.Node.{node_in, level_of, count_of, IsNode, Spells}
 use Rattle.hm_node.specs.declared.inner.Child.{Child}
@@ -110,3 +112,34 @@ abbrev pub TellsDamage : Subtree → Option (List ℕ) → Fault → Type 0
 TellsDamage subtree page (Media before after) = ⊤
 TellsDamage subtree page (Damaged at kind) = (at ≡ subtree.at) × IfSome page (λ bytes. IsLowestBroken subtree bytes kind)
 TellsDamage subtree page NoMemory = ⊤
+
+-- the element at a place of a leaf, where it has so many, lies inside boundaries
+abbrev pub IsInsideAt : Base → Base → List Element → ℕ → Type 0
+IsInsideAt left right es i = IfSome (slice_get es i) (λ e. IsInside left right (element_key e))
+
+-- The rule of boundaries as a search checks it, at a cost that does not grow with the node: of a leaf, the first and
+-- the last element lie inside them. Where the elements are in order, so do all.
+abbrev pub MeetsBounds : Base → Base → Node → Type 0
+MeetsBounds left right (leaf_node leaf) =
+    IsInsideAt left right leaf.places.items 0 × IsInsideAt left right leaf.places.items (array_vec_len leaf.places - 1)
+MeetsBounds left right (inner_node inner) = FitsBounds left right (inner_node inner)
+
+-- a rule of its place, as a search checks it
+abbrev pub MeetsBy : Subtree → Node → PlaceRule → Type 0
+MeetsBy subtree node Level = FitsLevel subtree.parent node
+MeetsBy subtree node Count = FitsCount subtree.parent node
+MeetsBy subtree node Bounds = MeetsBounds subtree.left subtree.right node
+MeetsBy subtree node Mirror = FitsMirror subtree.parent node
+
+-- the node in a page breaks a rule of its place, and none with a lower number
+pub record IsFirstUnmet (subtree : Subtree) (page : List ℕ) (rule : PlaceRule) : Type 0 where
+  pub broken : MeetsBy subtree (node_in page) rule → ⊥
+  pub kept : (other : PlaceRule) → place_number other < place_number rule → MeetsBy subtree (node_in page) other
+
+-- A fault that tells damage tells it of this place, and where a page is there, with the lowest number of a rule of the
+-- place that its node breaks. The page's own rules were checked where it came from.
+abbrev pub TellsUnmet : Subtree → Option (List ℕ) → Fault → Type 0
+TellsUnmet subtree page (Media before after) = ⊤
+TellsUnmet subtree page (Damaged at kind) =
+    (at ≡ subtree.at) × IfSome page (λ bytes. (rule : PlaceRule) × (place_number rule ≡ kind) × IsFirstUnmet subtree bytes rule)
+TellsUnmet subtree page NoMemory = ⊤

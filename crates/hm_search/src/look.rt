@@ -4,20 +4,21 @@ ghost use Rattle.hm_types.specs.Faults.{HasFaultCause};
 ghost use Rattle.hm_key.specs.Key.{key_of};
 ghost use Rattle.hm_node.specs.Base.{base_in};
 ghost use Rattle.hm_node.specs.Head.{head_in};
-ghost use Rattle.hm_node.specs.Inner.{inner_in, AreChildPlaces, HasInnerOrder};
-ghost use Rattle.hm_node.specs.Leaf.{leaf_in, first_elements, ArePlaces, HasLeafOrder};
-ghost use Rattle.hm_node.specs.Node.{node_in, IsNode, Spells};
+ghost use Rattle.hm_node.specs.Inner.{inner_in, AreChildPlaces, IsNodeOffset};
+ghost use Rattle.hm_node.specs.Leaf.{leaf_in, first_elements, ArePlaces};
+ghost use Rattle.hm_node.specs.Node.{node_in};
 ghost use Rattle.hm_node.specs.Places.{place as place_at};
+ghost use Rattle.hm_node.specs.Shape.{HoldsNode};
 ghost use Rattle.hm_search.specs.Descent.{Reads};
-ghost use Rattle.hm_search.specs.Look.{is_by, Falls, IsRank, IsSeen, IsSeenLeaf, IsSeenInner, Sees};
-ghost use Rattle.hm_search.specs.Place.{TellsDamage};
+ghost use Rattle.hm_search.specs.Look.{is_by, Glances, IsTurn, Shows, ShowsInner, ShowsLeaf};
+ghost use Rattle.hm_search.specs.Place.{TellsUnmet};
 ghost use Rattle.hm_search.specs.Tree.{children_of};
 
-use crate::read::read_page;
+use crate::read::damage;
 use crate::subtree::{Parent, Subtree};
-use hm_fields::{Page, Pages};
+use hm_fields::Page;
 use hm_key::{Base, Element};
-use hm_node::{Head, LEAF, place, read_base, read_child, read_element};
+use hm_node::{Head, LEAF, NodePages, place, read_base, read_child, read_element};
 use hm_types::{Counted, Fault};
 
 /// What a search for a key sees in a leaf.
@@ -49,25 +50,33 @@ pub(crate) enum Seen {
     Inner(SeenInner),
 }
 
-// What a search for the key of `at` sees in the node at a place. The page is let go before the search
-// goes on.
-pub(crate) fn look_for<P: Pages>(pages: &mut P, subtree: &Subtree, at: &Base) -> Result<Seen, Fault>
-    ensures sees { IfOk result (Sees subtree.now (P.pages pages.old) (key_of at.now)) }
+// What a search for the key of `at` sees in the node at a place. The shape of its page is believed, and
+// the rules of the place alone are checked: none of them at a cost that grows with the node. The page is
+// read into `page`, which a search has once.
+pub(crate) fn glance_at<P: NodePages>(
+    pages: &mut P,
+    subtree: &Subtree,
+    at: &Base,
+    page: &mut Page,
+) -> Result<Seen, Fault>
+    requires { IsNodeOffset subtree.now.at }
+    ensures sees { IfOk result (Glances subtree.now (P.pages pages.old) (key_of at.now)) }
     ensures damage { IfSome (P.pages pages.old) (λ map.
-        IfErr result (TellsDamage subtree.now (map subtree.now.at))) }
+        IfErr result (TellsUnmet subtree.now (map subtree.now.at))) }
     ensures same { Reads P.name P.frame P.rest P.pages pages.old pages.new }
     ensures cause { HasFaultCause (P.faults pages.old) (P.faults pages.new) result }
 {
-    let mut page = Page::zero();
-    read_page(pages, subtree, &mut page)?;
-    Ok(see(&page, at))
+    pages.page(subtree.at, page)?;
+    match subtree.first_unmet(page) {
+        None => Ok(see(page, at)),
+        Some(rule) => Err(damage(subtree, rule.kind())),
+    }
 }
 
-// What is seen in the page of a sound node.
+// What is seen in the page of a node.
 fn see(page: &Page, at: &Base) -> Seen
-    requires sound { IsNode (node_in page.now) }
-    requires spelled { Spells page.now (node_in page.now) }
-    ensures { IsSeen (key_of at.now) (node_in page.now) result }
+    requires { HoldsNode page.now }
+    ensures { Shows (key_of at.now) (node_in page.now) result }
 {
     let head = Head::read(page);
     if head.kind == LEAF {
@@ -82,8 +91,7 @@ fn see_leaf(page: &Page, head: &Head, at: &Base) -> SeenLeaf
     requires head { head.now ≡ head_in page.now }
     requires few { head.now.count ≤ 63 }
     requires places { ArePlaces page.now head.now.count }
-    requires order { HasLeafOrder (leaf_in page.now) }
-    ensures { IsSeenLeaf (key_of at.now) (leaf_in page.now) result }
+    ensures { ShowsLeaf (key_of at.now) (leaf_in page.now) result }
 {
     let count = usize::from(head.count);
     let before = rank(page, count, at, false);
@@ -100,8 +108,7 @@ fn see_inner(page: &Page, head: &Head, at: &Base) -> SeenInner
     requires some { 1 ≤ head.now.count }
     requires few { head.now.count ≤ 62 }
     requires places { AreChildPlaces page.now head.now.count }
-    requires order { HasInnerOrder (inner_in page.now) }
-    ensures { IsSeenInner (key_of at.now) (inner_in page.now) result }
+    ensures { ShowsInner (key_of at.now) (inner_in page.now) result }
 {
     let count = usize::from(head.count);
     let holder = rank(page, count, at, true).saturating_sub(1);
@@ -159,11 +166,11 @@ fn child_at(page: &Page, head: &Head, i: usize) -> Subtree
     }
 }
 
-// How many of so many bases stand before the key of `at`, or also at it, by halving.
+// How many of so many bases stand before the key of `at`, or also at it, by halving. Where they are not in
+// order, it is a place where the one before does, and the one there does not.
 fn rank(page: &Page, count: usize, at: &Base, also_at: bool) -> usize
     requires few { count ≤ 63 }
-    requires order { Falls (λ i. is_by also_at (key_of at.now) (base_in page.now (place_at i))) count }
-    ensures { IsRank (λ i. is_by also_at (key_of at.now) (base_in page.now (place_at i))) count result }
+    ensures { IsTurn (λ i. is_by also_at (key_of at.now) (base_in page.now (place_at i))) count result }
 {
     let mut low = 0;
     let mut high = count;

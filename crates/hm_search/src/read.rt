@@ -35,11 +35,7 @@ pub fn read_node<P: Pages>(pages: &mut P, subtree: &Subtree) -> Result<Node, Fau
 }
 
 // Reads the page of a node and checks it where it stands. It builds no node.
-pub(crate) fn read_page<P: Pages>(
-    pages: &mut P,
-    subtree: &Subtree,
-    page: &mut Page,
-) -> Result<(), Fault>
+fn read_page<P: Pages>(pages: &mut P, subtree: &Subtree, page: &mut Page) -> Result<(), Fault>
     ensures sound { IfOk result (λ _. SpellsHere subtree.now page.new (node_in page.new)) }
     ensures there { IfSome (P.pages pages.old) (λ map. IfOk result (λ _.
         IsSome (map subtree.now.at) → page.new ≡ page_in (map subtree.now.at))) }
@@ -73,7 +69,7 @@ fn lowest_broken(subtree: &Subtree, page: &Page) -> Option<u8>
 }
 
 // Damage of the page at a place.
-fn damage(subtree: &Subtree, kind: u8) -> Fault
+pub(crate) fn damage(subtree: &Subtree, kind: u8) -> Fault
     ensures { result ≡ Damaged subtree.now.at kind }
 {
     Fault::Damaged {

@@ -4,17 +4,18 @@ ghost use Rattle.hm_key.specs.Elements.{first_from};
 ghost use Rattle.hm_key.specs.Key.{key_of, greatest_key, IsBefore};
 ghost use Rattle.hm_key.specs.Marks.{IsQuiet};
 ghost use Rattle.hm_key.specs.Stores.{IsFound, IsEnd};
-ghost use Rattle.hm_node.specs.Inner.{IsBound};
+ghost use Rattle.hm_node.specs.Inner.{IsNodeOffset};
 ghost use Rattle.hm_search.specs.Descent.{HasSearchCause, Reads};
 ghost use Rattle.hm_search.specs.Look.{seen_mirror};
-ghost use Rattle.hm_search.specs.Search.{IsPlaceOf, IsEndBy};
+ghost use Rattle.hm_search.specs.Search.{IsAsked, IsPlaceOf, IsQuietBy};
 ghost use Rattle.hm_search.specs.Tree.{node_at, elements_in, elements_of, mark_in, mark_of};
 ghost use Rattle.hm_search.specs.Tree.{height_of, root_place, IsStoredTree, IsSoundTree};
 
-use crate::look::{Seen, look_for};
+use crate::look::{Seen, glance_at};
 use crate::subtree::Subtree;
-use hm_fields::Pages;
+use hm_fields::Page;
 use hm_key::{Base, Element};
+use hm_node::NodePages;
 use hm_types::{Counted, Fault, HOff, Id};
 
 /// The place of a key: its leaf, and how many elements of the leaf stand before it.
@@ -26,7 +27,8 @@ pub struct Found {
 
 /// The leaf whose boundaries hold the key of `at`, and how many of its elements stand before the
 /// key. One node a level is read, and nothing changes.
-pub fn find<P: Pages>(pages: &mut P, root: HOff, at: &Base) -> Result<Found, Fault>
+pub fn find<P: NodePages>(pages: &mut P, root: HOff, at: &Base) -> Result<Found, Fault>
+    requires { IsNodeOffset root }
     ensures ok { IfSome (P.pages pages.old) (λ map. IsSoundTree map root →
         IfOk result (IsPlaceOf map (height_of (node_at map root)) (root_place root)
         (key_of at.now))) }
@@ -34,17 +36,19 @@ pub fn find<P: Pages>(pages: &mut P, root: HOff, at: &Base) -> Result<Found, Fau
     ensures cause { HasSearchCause (P.pages pages.old) (root_place root)
         (P.faults pages.old) (P.faults pages.new) result }
 {
-    find_below(pages, &Subtree::root(root), at)
+    let mut page = Page::zero();
+    find_below(pages, &Subtree::root(root), at, &mut page)
 }
 
 /// The first element at the key of `at` or after it, and None where no element is there. A node a
 /// level is read, and where the leaf of the key has nothing from there on, the leftmost nodes of
 /// the next subtree to the right. No node is read twice, and nothing changes.
-pub fn first_at_or_after<P: Pages>(
+pub fn first_at_or_after<P: NodePages>(
     pages: &mut P,
     root: HOff,
     at: &Base,
 ) -> Result<Option<Element>, Fault>
+    requires { IsNodeOffset root }
     ensures ok { IfSome (P.pages pages.old) (λ map. IsSoundTree map root →
         IfOk result (λ found. found ≡ first_from (key_of at.now) (elements_of map root))) }
     ensures found { IfOk result (λ found. IfSome found (IsFound (key_of at.now))) }
@@ -52,18 +56,20 @@ pub fn first_at_or_after<P: Pages>(
     ensures cause { HasSearchCause (P.pages pages.old) (root_place root)
         (P.faults pages.old) (P.faults pages.new) result }
 {
-    first_below(pages, &Subtree::root(root), at)
+    let mut page = Page::zero();
+    first_below(pages, &Subtree::root(root), at, &mut page)
 }
 
 /// How far from the key of `at` on the marks are at most `since`: a boundary after that key,
 /// before which they all are, or None exactly where the key's own mark is above `since`. The search
 /// ends at the first node whose `mirror` is at most `since`, and nothing changes.
-pub fn unchanged_until<P: Pages>(
+pub fn unchanged_until<P: NodePages>(
     pages: &mut P,
     root: HOff,
     at: &Base,
     since: Id,
 ) -> Result<Option<Base>, Fault>
+    requires root { IsNodeOffset root }
     requires before { IsBefore (key_of at.now) greatest_key }
     ensures ok { IfSome (P.pages pages.old) (λ map. IsSoundTree map root →
         IfOk result (IsQuiet (mark_of map root) (key_of at.now) since.0)) }
@@ -72,11 +78,18 @@ pub fn unchanged_until<P: Pages>(
     ensures cause { HasSearchCause (P.pages pages.old) (root_place root)
         (P.faults pages.old) (P.faults pages.new) result }
 {
-    quiet_below(pages, &Subtree::root(root), at, since)
+    let mut page = Page::zero();
+    quiet_below(pages, &Subtree::root(root), at, since, &mut page)
 }
 
 // The place of a key in the tree below a place.
-fn find_below<P: Pages>(pages: &mut P, subtree: &Subtree, at: &Base) -> Result<Found, Fault>
+fn find_below<P: NodePages>(
+    pages: &mut P,
+    subtree: &Subtree,
+    at: &Base,
+    page: &mut Page,
+) -> Result<Found, Fault>
+    requires { IsNodeOffset subtree.now.at }
     ensures ok { IfSome (P.pages pages.old) (λ map. (height : ℕ) →
         IsStoredTree map height subtree.now →
         IfOk result (IsPlaceOf map height subtree.now (key_of at.now))) }
@@ -84,21 +97,23 @@ fn find_below<P: Pages>(pages: &mut P, subtree: &Subtree, at: &Base) -> Result<F
     ensures cause { HasSearchCause (P.pages pages.old) subtree.now
         (P.faults pages.old) (P.faults pages.new) result }
 {
-    match look_for(pages, subtree, at)? {
+    match glance_at(pages, subtree, at, page)? {
         Seen::Leaf(leaf) => Ok(Found {
             leaf: subtree.at,
             place: leaf.place,
         }),
-        Seen::Inner(inner) => find_below(pages, &inner.child, at),
+        Seen::Inner(inner) => find_below(pages, &inner.child, at, page),
     }
 }
 
 // The first element from a key on in the tree below a place.
-fn first_below<P: Pages>(
+fn first_below<P: NodePages>(
     pages: &mut P,
     subtree: &Subtree,
     at: &Base,
+    page: &mut Page,
 ) -> Result<Option<Element>, Fault>
+    requires { IsNodeOffset subtree.now.at }
     ensures ok { IfSome (P.pages pages.old) (λ map. (height : ℕ) →
         IsStoredTree map height subtree.now → IfOk result (λ found.
         found ≡ first_from (key_of at.now) (elements_in map height (node_at map subtree.now.at)))) }
@@ -107,12 +122,12 @@ fn first_below<P: Pages>(
     ensures cause { HasSearchCause (P.pages pages.old) subtree.now
         (P.faults pages.old) (P.faults pages.new) result }
 {
-    match look_for(pages, subtree, at)? {
+    match glance_at(pages, subtree, at, page)? {
         Seen::Leaf(leaf) => Ok(leaf.first),
-        Seen::Inner(inner) => match first_below(pages, &inner.child, at)? {
+        Seen::Inner(inner) => match first_below(pages, &inner.child, at, page)? {
             Some(found) => Ok(Some(found)),
             None => match inner.next {
-                Some(next) => first_below(pages, &next, at),
+                Some(next) => first_below(pages, &next, at, page),
                 None => Ok(None),
             },
         },
@@ -120,29 +135,30 @@ fn first_below<P: Pages>(
 }
 
 // How far from a key on the marks below a place are at most `since`.
-fn quiet_below<P: Pages>(
+fn quiet_below<P: NodePages>(
     pages: &mut P,
     subtree: &Subtree,
     at: &Base,
     since: Id,
+    page: &mut Page,
 ) -> Result<Option<Base>, Fault>
-    requires before { IsBefore (key_of at.now) (key_of subtree.now.right) }
-    requires bound { IsBound subtree.now.right }
+    requires { IsAsked (key_of at.now) subtree.now }
     ensures ok { IfSome (P.pages pages.old) (λ map. (height : ℕ) →
         IsStoredTree map height subtree.now → IfOk result
-        (IsQuiet (mark_in map height (node_at map subtree.now.at)) (key_of at.now) since.0)) }
-    ensures found { IfOk result (λ end. IfSome end (IsEndBy (key_of at.now) subtree.now.right)) }
+        (IsQuietBy (mark_in map height (node_at map subtree.now.at)) (key_of at.now) since.0
+        subtree.now.right)) }
+    ensures found { IfOk result (λ end. IfSome end (IsEnd (key_of at.now))) }
     ensures same { Reads P.name P.frame P.rest P.pages pages.old pages.new }
     ensures cause { HasSearchCause (P.pages pages.old) subtree.now
         (P.faults pages.old) (P.faults pages.new) result }
 {
-    let seen = look_for(pages, subtree, at)?;
+    let seen = glance_at(pages, subtree, at, page)?;
     if mirror(&seen) <= since.0 {
         return Ok(Some(subtree.right));
     }
     match seen {
         Seen::Leaf(_) => Ok(None),
-        Seen::Inner(inner) => quiet_below(pages, &inner.child, at, since),
+        Seen::Inner(inner) => quiet_below(pages, &inner.child, at, since, page),
     }
 }
 

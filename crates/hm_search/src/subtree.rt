@@ -1,5 +1,5 @@
 // Where a node stands in the tree, and what that asks of its page.
-ghost use Rattle.std.specs.Prelude.{◌≡◌, ◌≤◌, ◌<◌, ◌+◌, ◌↔◌, ℕ, All, IfSome, IfNone, IsTrue, slice_get, drop, Some};
+ghost use Rattle.std.specs.Prelude.{◌≡◌, ◌≤◌, ◌<◌, ◌+◌, ◌-◌, ◌↔◌, ℕ, All, IfSome, IfNone, IsTrue, slice_get, drop, Some};
 ghost use Rattle.std.specs.List.Sorted.{IsStrictlySortedBy};
 ghost use Rattle.arrayvec.specs.ArrayVec.{array_vec_len};
 ghost use Rattle.hm_key.specs.Key.{key_of};
@@ -10,8 +10,10 @@ ghost use Rattle.hm_node.specs.Head.{head_in};
 ghost use Rattle.hm_node.specs.Leaf.{first_elements};
 ghost use Rattle.hm_node.specs.Node.{node_in, SaysLevel, HasCount, HasOrder};
 ghost use Rattle.hm_node.specs.Places.{place as place_at};
+ghost use Rattle.hm_node.specs.Shape.{HoldsNode};
 ghost use Rattle.hm_node.specs.declared.rule.Rule.{Rule as NodeRule};
-ghost use Rattle.hm_search.specs.Place.{FitsBy, FitsLevel, FitsCount, FitsBounds, FitsMirror, IsInside, place_number};
+ghost use Rattle.hm_search.specs.Place.{FitsBy, FitsLevel, FitsCount, FitsBounds, FitsMirror, IsInside, IsInsideAt};
+ghost use Rattle.hm_search.specs.Place.{MeetsBounds, MeetsBy, place_number};
 ghost use Rattle.hm_search.specs.Tree.{root_place, children_of, next_left};
 
 use crate::place_rule::PlaceRule;
@@ -111,6 +113,30 @@ impl Subtree {
         None
     }
 
+    // The first rule of this place that the node in a page breaks, as a search checks them.
+    pub(crate) fn first_unmet(&self, page: &Page) -> Option<PlaceRule>
+        requires { HoldsNode page.now }
+        ensures broken { IfSome result (λ rule. MeetsBy self.now (node_in page.now) rule → ⊥) }
+        ensures kept { IfSome result (λ rule. (other : PlaceRule) →
+            place_number other < place_number rule → MeetsBy self.now (node_in page.now) other) }
+        ensures none { IfNone result ((rule : PlaceRule) → MeetsBy self.now (node_in page.now) rule) }
+    {
+        let head = Head::read(page);
+        if !self.fits_level(page, &head) {
+            return Some(PlaceRule::Level);
+        }
+        if !self.fits_count(page, &head) {
+            return Some(PlaceRule::Count);
+        }
+        if !self.meets_bounds(page, &head) {
+            return Some(PlaceRule::Bounds);
+        }
+        if !self.fits_mirror(page, &head) {
+            return Some(PlaceRule::Mirror);
+        }
+        None
+    }
+
     // Whether the node's level is the parent's less 1.
     fn fits_level(&self, page: &Page, head: &Head) -> bool
         requires head { head.now ≡ head_in page.now }
@@ -150,13 +176,26 @@ impl Subtree {
         }
     }
 
-    // Whether the bases of so many elements in order lie inside the boundaries: the first and the
-    // last do.
-    fn holds_all(&self, page: &Page, count: usize) -> bool
-        requires few { count ≤ 63 }
-        requires order { IsStrictlySortedBy element_cmp (first_elements page.now count) }
-        ensures { IsTrue result ↔ All (λ e. IsInside self.now.left self.now.right (element_key e))
-            (first_elements page.now count) }
+    // Whether it lies inside the boundaries, as its ends tell.
+    fn meets_bounds(&self, page: &Page, head: &Head) -> bool
+        requires head { head.now ≡ head_in page.now }
+        requires count { HasCount (node_in page.now) }
+        ensures { IsTrue result ↔ MeetsBounds self.now.left self.now.right (node_in page.now) }
+    {
+        let count = usize::from(head.count);
+        if head.kind == LEAF {
+            self.holds_ends(page, count)
+        } else {
+            self.bounds_all(page, count)
+        }
+    }
+
+    // Whether the first and the last of so many elements lie inside the boundaries.
+    fn holds_ends(&self, page: &Page, count: usize) -> bool
+        requires { count ≤ 63 }
+        ensures { IsTrue result ↔ (
+            IsInsideAt self.now.left self.now.right (first_elements page.now count) 0
+            × IsInsideAt self.now.left self.now.right (first_elements page.now count) (count - 1)) }
     {
         if count == 0 {
             return true;
@@ -165,6 +204,17 @@ impl Subtree {
             return false;
         }
         self.holds(&read_base(page, place(count - 1)))
+    }
+
+    // Whether the bases of so many elements in order lie inside the boundaries: the first and the
+    // last do.
+    fn holds_all(&self, page: &Page, count: usize) -> bool
+        requires few { count ≤ 63 }
+        requires order { IsStrictlySortedBy element_cmp (first_elements page.now count) }
+        ensures { IsTrue result ↔ All (λ e. IsInside self.now.left self.now.right (element_key e))
+            (first_elements page.now count) }
+    {
+        self.holds_ends(page, count)
     }
 
     // Whether a base lies inside the boundaries.

@@ -1,22 +1,72 @@
 // Searches in a tree of three levels that is written by hand, and what each damage below its root
 // is told as.
-ghost use Rattle.std.specs.Prelude.{◌<◌};
+ghost use Rattle.std.specs.Prelude.{◌<◌, IfOk};
 ghost use Rattle.hm_key.specs.Key.{key_of, greatest_key, IsBefore};
+ghost use Rattle.hm_node.specs.Inner.{IsNodeOffset};
+ghost use Rattle.hm_node.specs.Shape.{HoldsNode};
 
-use crate::{Found, find, first_at_or_after, unchanged_until};
+use crate::{Found, Parent, Subtree, find, first_at_or_after, read_node, unchanged_until};
 use arrayvec::ArrayVec;
 use hm_fields::{MemPages, Page, Pages, put_u8, put_u64};
 use hm_key::{Base, DIRECTORY_ENTRY, ELEMENT, Element};
-use hm_node::{Child, Inner, Leaf, Node, encode};
+use hm_node::{Child, Inner, Leaf, Node, NodePages, broken_rule, encode};
 use hm_types::{
-    BAD_BOUNDS, BAD_COUNT, BAD_FIELD, BAD_LEVEL, BAD_MIRROR, BAD_ORDER, Fault, HOff, Id, Obj,
-    TREE_ZONE,
+    BAD_BOUNDS, BAD_COUNT, BAD_FIELD, BAD_LEVEL, BAD_MIRROR, BAD_ORDER, Counted, Fault, HOff, Id,
+    Obj, TREE_ZONE,
 };
 use std::alloc::Global;
 use std::test::Fail;
 
+// Pages of which each is checked by itself as it is read. A page of a space over a device is checked
+// so once, as it comes in.
+#[derive(Drop)]
+struct CheckedPages {
+    stored: MemPages,
+}
+
+impl Counted for CheckedPages {
+    ghost faults = { λ _. 0 };
+
+    ghost name = { λ _. 0 };
+
+    ghost frame = { λ _. tt };
+}
+
+impl Pages for CheckedPages {
+    ghost use Rattle.std.specs.Prelude.{None};
+
+    ghost pages = { λ _. None };
+
+    ghost kept = { λ _ bytes. HoldsNode bytes };
+
+    ghost rest = { λ _. tt };
+
+    fn page(&mut self, at: HOff, into: &mut Page) -> Result<(), Fault> {
+        self.stored.page(at, into)?;
+        match broken_rule(into) {
+            None => Ok(()),
+            Some(rule) => Err(Fault::Damaged {
+                at,
+                kind: rule.kind(),
+            }),
+        }
+    }
+
+    fn change(&mut self, at: HOff, with: &Page) -> Result<(), Fault> {
+        self.stored.change(at, with)
+    }
+}
+
+impl NodePages for CheckedPages {
+    ghost kept_is_node = { λ at bytes spot node. node };
+
+    ghost node_is_kept = { λ at bytes spot node. node };
+}
+
 // The page with this number.
-fn offset(number: u8) -> Result<HOff, Fail> {
+fn offset(number: u8) -> Result<HOff, Fail>
+    ensures { IfOk result IsNodeOffset }
+{
     Ok(HOff::make(TREE_ZONE, u64::from(number) * 4_096).ok_or("no offset")?)
 }
 
@@ -109,16 +159,18 @@ fn root() -> Result<Node, Fail> {
     }))
 }
 
-fn put(pages: &mut MemPages, number: u8, node: &Node) -> Result<(), Fail> {
+fn put(pages: &mut CheckedPages, number: u8, node: &Node) -> Result<(), Fail> {
     let mut page = Page::zero();
     encode(node, &mut page);
-    pages.change(offset(number)?, &page)?;
+    pages.stored.change(offset(number)?, &page)?;
     Ok(())
 }
 
 // The whole tree.
-fn tree(alloc: Global) -> Result<MemPages, Fail> {
-    let mut pages = MemPages::new(alloc);
+fn tree(alloc: Global) -> Result<CheckedPages, Fail> {
+    let mut pages = CheckedPages {
+        stored: MemPages::new(alloc),
+    };
     put(&mut pages, 1, &root()?)?;
     put(&mut pages, 2, &inner(2, 25, 0, 16)?)?;
     put(&mut pages, 3, &inner(2, 41, 16, 16)?)?;
@@ -195,7 +247,7 @@ fn what_did_not_change_goes_as_far_as_marks_say(rt: HostRuntime) -> Result<(), F
 
 // Puts a node at a page, with bytes of it changed.
 fn put_damaged(
-    pages: &mut MemPages,
+    pages: &mut CheckedPages,
     number: u8,
     node: &Node,
     bytes: &[(u16, u8)],
@@ -207,8 +259,18 @@ fn put_damaged(
             put_u8(&mut page, usize::from(at), byte);
         }
     }
-    pages.change(offset(number)?, &page)?;
+    pages.stored.change(offset(number)?, &page)?;
     Ok(())
+}
+
+// What a parent of this level says of a node, with its boundaries and its `mirror`.
+fn place_of(at: HOff, bounds: (u8, u8), level: u8, mirror: u64) -> Subtree {
+    Subtree {
+        at,
+        left: boundary(bounds.0),
+        right: boundary(bounds.1),
+        parent: Some(Parent { level, mirror }),
+    }
 }
 
 #[test]
@@ -290,7 +352,8 @@ fn a_damaged_leaf_below_the_root_tells_the_first_rule_that_it_breaks(
         let mut pages = tree(rt.alloc())?;
         put_damaged(&mut pages, 11, &leaf_of(mirror, objects)?, bytes)?;
         let at = offset(11)?;
-        let told = find(&mut pages, offset(1)?, &entry(15).base).err();
+        let place = place_of(at, (1, 2), 2, 11);
+        let told = read_node(&mut pages.stored, &place).err();
         assert_eq!(rt; told, Some(Fault::Damaged { at, kind }), "{damage}");
     }
     Ok(())
@@ -336,8 +399,37 @@ fn a_damaged_inner_node_below_the_root_tells_the_first_rule_that_it_breaks(
         let mut pages = tree(rt.alloc())?;
         put_damaged(&mut pages, 2, &node, bytes)?;
         let at = offset(2)?;
-        let told = find(&mut pages, offset(1)?, &entry(15).base).err();
+        let place = place_of(at, (0, 16), 3, 25);
+        let told = read_node(&mut pages.stored, &place).err();
         assert_eq!(rt; told, Some(Fault::Damaged { at, kind }), "{damage}");
+    }
+    Ok(())
+}
+
+#[test]
+fn a_search_tells_which_rule_of_its_place_a_node_breaks(rt: HostRuntime) -> Result<(), Fail> {
+    let rows: [(&str, u8, Node, u8); 9] = [
+        ("an inner node", 11, inner(2, 25, 0, 16)?, BAD_LEVEL),
+        ("no element", 11, leaf_of(12, &[])?, BAD_COUNT),
+        ("an element before", 11, leaf_of(11, &[9, 16])?, BAD_BOUNDS),
+        ("one at the right", 11, leaf_of(11, &[13, 20])?, BAD_BOUNDS),
+        ("and a mirror", 11, leaf_of(12, &[13, 21])?, BAD_BOUNDS),
+        ("another mirror", 11, leaf_of(12, &[13, 16])?, BAD_MIRROR),
+        ("15 children", 2, inner(2, 25, 0, 15)?, BAD_COUNT),
+        ("another boundary", 2, inner(2, 26, 0, 17)?, BAD_BOUNDS),
+        ("a mirror", 2, inner(2, 26, 0, 16)?, BAD_MIRROR),
+    ];
+    for (damage, number, node, kind) in rows {
+        let mut pages = tree(rt.alloc())?;
+        put(&mut pages, number, &node)?;
+        let at = offset(number)?;
+        let base = entry(15).base;
+        let told = Some(Fault::Damaged { at, kind });
+        assert_eq!(rt; find(&mut pages, offset(1)?, &base).err(), told, "{damage}");
+        let found = first_at_or_after(&mut pages, offset(1)?, &base);
+        assert_eq!(rt; found.err(), told, "{damage}");
+        let end = unchanged_until(&mut pages, offset(1)?, &base, Id(9));
+        assert_eq!(rt; end.err(), told, "{damage}");
     }
     Ok(())
 }
@@ -349,7 +441,7 @@ fn a_child_that_is_its_own_parent_is_damage(rt: HostRuntime) -> Result<(), Fail>
     encode(&root()?, &mut page);
     let at = offset(1)?;
     put_u64(&mut page, 104, at.raw());
-    pages.change(at, &page)?;
+    pages.stored.change(at, &page)?;
     let damage = Fault::Damaged {
         at,
         kind: BAD_LEVEL,
@@ -369,7 +461,9 @@ fn a_child_that_is_its_own_parent_is_damage(rt: HostRuntime) -> Result<(), Fail>
 
 #[test]
 fn a_root_may_be_a_leaf_without_elements(rt: HostRuntime) -> Result<(), Fail> {
-    let mut pages = MemPages::new(rt.alloc());
+    let mut pages = CheckedPages {
+        stored: MemPages::new(rt.alloc()),
+    };
     put(&mut pages, 1, &leaf_of(5, &[])?)?;
     let at = offset(1)?;
     let base = entry(15).base;

@@ -1,5 +1,5 @@
 -- What the calls do that insert an element.
-use Rattle.std.specs.Prelude.{ℕ, List, Option, IsNone}
+use Rattle.std.specs.Prelude.{◌≡◌, ℕ, false, List, Option, IsNone}
 use Rattle.hm_fields.specs.Pages.{PageMap}
 use Rattle.hm_key.specs.Elements.{element_at, inserted, last_id}
 use Rattle.hm_key.specs.Extents.{Extent}
@@ -13,14 +13,17 @@ use Rattle.hm_btree.specs.Grow.{Grows}
 use Rattle.hm_btree.specs.Marking.{Writes}
 use Rattle.hm_btree.specs.Shape.{AreShaped, IsShaped, IsShapedUpper}
 use Rattle.hm_btree.specs.Tree.{ChangesTree}
+use Rattle.hm_btree.specs.declared.upper.Grown.{Grown}
 use Rattle.hm_btree.specs.declared.upper.Upper.{Upper}
 
--- an element was inserted below a node, the node and its upper part have their shape, and the space tells what it told
+-- an element was inserted below a node, the node and its upper part have their shape, the space tells what it told, and
+-- it is said whether the node changed
 pub record InsertsBelow {S : Type 0} (pages_of : S → Option PageMap) (extents_of : S → Option (List Extent)) (element : Element)
-    (old new : S) (before after : Node) (upper : Option Upper) : Type 0 where
-  pub grows : Grows (inserted element) (key_of element.base) (Writes (last_id element)) (λ o. IsNone o) (pages_of old) (pages_of new) before after upper
-  pub shape : AreShaped after upper
+    (old new : S) (before after : Node) (grown : Grown) : Type 0 where
+  pub grows : Grows (inserted element) (key_of element.base) (Writes (last_id element)) (λ o. IsNone o) (pages_of old) (pages_of new) before after grown.upper
+  pub shape : AreShaped after grown.upper
   pub kept : HasKept pages_of extents_of old new
+  pub same : grown.changed ≡ false → (after ≡ before) × IsNone grown.upper
 
 -- an element was inserted into the tree from a root on, which then has this root, and the space tells what it told
 pub record InsertsFrom {S : Type 0} (pages_of : S → Option PageMap) (extents_of : S → Option (List Extent)) (element : Element)

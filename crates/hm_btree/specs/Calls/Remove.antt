@@ -1,5 +1,5 @@
 -- What the calls ask and do that remove an element.
-use Rattle.std.specs.Prelude.{◌≡◌, ℕ, ◌+◌, ◌<◌, ◌≤◌, List, Option, IfSome, IsSome}
+use Rattle.std.specs.Prelude.{◌≡◌, ℕ, Bool, false, ◌+◌, ◌<◌, ◌≤◌, List, Option, IfSome, IsSome}
 use Rattle.arrayvec.specs.ArrayVec.{array_vec_len}
 use Rattle.hm_types.specs.Elements.{Key}
 use Rattle.hm_fields.specs.Pages.{PageMap}
@@ -17,12 +17,14 @@ use Rattle.hm_btree.specs.Shape.{IsShaped, IsShapedLike}
 use Rattle.hm_btree.specs.Shrink.{Shrinks, HasNeighbours, IsJoinedAt, IsLevelBelow, IsLowered, IsPairJoined}
 use Rattle.hm_btree.specs.Tree.{ChangesTree, IsTreeSpace}
 
--- the element at a key was removed below a node, which has its shape and its level, and the space tells what it told
+-- the element at a key was removed below a node, which has its shape and its level, the space tells what it told, and it
+-- is said whether the node changed
 pub record RemovesBelow {S : Type 0} (pages_of : S → Option PageMap) (extents_of : S → Option (List Extent)) (key : Key)
-    (old new : S) (before after : Node) : Type 0 where
+    (old new : S) (before after : Node) (changed : Bool) : Type 0 where
   pub shrinks : Shrinks (removed key) key TakesOut (λ o. IsSome o) (pages_of old) (pages_of new) before after
   pub shape : IsShapedLike before after
   pub kept : HasKept pages_of extents_of old new
+  pub same : changed ≡ false → after ≡ before
 
 -- an inner node with its shape has a child at a place, and one beside it
 pub record HasPair (inner : Inner) (i : ℕ) : Type 0 where

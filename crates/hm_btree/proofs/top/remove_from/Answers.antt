@@ -1,10 +1,10 @@
 use Rattle.hm_key.specs.Elements.{removed}
 use Rattle.hm_key.specs.Key.{key_of}
 use Rattle.hm_btree.specs.Marking.{TakesOut}
-use Rattle.hm_btree.specs.Space.{HasLost, HasWritten}
+use Rattle.hm_btree.specs.Space.{HasLost, IsUpdated}
 use Rattle.hm_btree.proofs.KeptLemmas.{kept_read, kept_change, kept_both}
 use Rattle.hm_btree.proofs.SpendLemmas.{spends_nothing, spends_both}
-use Rattle.hm_btree.proofs.UnrootLemmas.{holds_lowered, low_there, written_result, dropped_result}
+use Rattle.hm_btree.proofs.UnrootLemmas.{holds_lowered, low_there, updated_result, dropped_result}
 use Rattle.hm_btree.proofs.top.remove_from.Goals as goal
 
 pub returns-in_err-node-clause-spent : goal.returns-in_err-node-clause-spent
@@ -24,8 +24,8 @@ remove_below-requires-clause-told g c =
     (g.S.Pages.pages c.read_node.new.pages) (g.S.Pages.pages c.lowest.new.space) c.read_node.ensures.same.pages
     c.in_ok-root.ensures.done.lowered c.in_ok-root.ensures.done.kept.told c.requires.there
 
-pub returns-in_err-remove_below-clause-spent : goal.returns-in_err-remove_below-clause-spent
-returns-in_err-remove_below-clause-spent g c =
+pub returns-in_err-changed-clause-spent : goal.returns-in_err-changed-clause-spent
+returns-in_err-changed-clause-spent g c =
     let same = g.met.S.NodeSpace.rests c.args.space.now c.read_node.new.pages c.read_node.ensures.same.rest in
     let lower = spends_both g.S.Counted g.S.HasRoom c.args.space.now c.read_node.new.pages c.lowest.new.space
     (spends_nothing g.S.Counted g.S.HasRoom c.args.space.now c.read_node.new.pages same c.read_node.ensures.same.name c.read_node.ensures.same.frame)
@@ -38,7 +38,7 @@ drop_node-requires g c =
     (g.S.Pages.pages c.read_node.new.pages) (g.S.Pages.pages c.lowest.new.space) c.read_node.ensures.same.pages
     c.in_ok-root.ensures.done.lowered c.in_ok-root.ensures.done.kept.told
     (removed (key_of c.args.at.now)) TakesOut (g.S.Pages.pages c.remove_below.new.space) c.remove_below.new.node
-    c.in_ok-remove_below.ensures.done.shrinks c.in_ok-remove_below.ensures.done.kept.told c.requires.there
+    c.in_ok-changed.ensures.done.shrinks c.in_ok-changed.ensures.done.kept.told c.requires.there
 
 pub returns-in_err-drop_node-in-Some-clause-spent : goal.returns-in_err-drop_node-in-Some-clause-spent
 returns-in_err-drop_node-in-Some-clause-spent g c =
@@ -49,17 +49,17 @@ returns-in_err-drop_node-in-Some-clause-spent g c =
     let shrunk = spends_both g.S.Counted g.S.HasRoom c.args.space.now c.lowest.new.space c.remove_below.new.space lower c.remove_below.ensures.spent in
     spends_both g.S.Counted g.S.HasRoom c.args.space.now c.remove_below.new.space c.drop_node.new.self shrunk c.drop_node.ensures.spent
 
-pub returns-in_err-write_node-in-None-clause-spent : goal.returns-in_err-write_node-in-None-clause-spent
-returns-in_err-write_node-in-None-clause-spent g c =
+pub returns-in_err-update_node-in-None-clause-spent : goal.returns-in_err-update_node-in-None-clause-spent
+returns-in_err-update_node-in-None-clause-spent g c =
     let same = g.met.S.NodeSpace.rests c.args.space.now c.read_node.new.pages c.read_node.ensures.same.rest in
     let lower = spends_both g.S.Counted g.S.HasRoom c.args.space.now c.read_node.new.pages c.lowest.new.space
     (spends_nothing g.S.Counted g.S.HasRoom c.args.space.now c.read_node.new.pages same c.read_node.ensures.same.name c.read_node.ensures.same.frame)
     c.lowest.ensures.spent in
     let shrunk = spends_both g.S.Counted g.S.HasRoom c.args.space.now c.lowest.new.space c.remove_below.new.space lower c.remove_below.ensures.spent in
-    let kept = g.met.S.NodeSpace.rests c.remove_below.new.space c.write_node.new.space c.write_node.ensures.rest in
-    spends_both g.S.Counted g.S.HasRoom c.args.space.now c.remove_below.new.space c.write_node.new.space shrunk
-    (spends_nothing g.S.Counted g.S.HasRoom c.remove_below.new.space c.write_node.new.space kept c.write_node.ensures.stays.name
-    c.write_node.ensures.stays.frame)
+    let kept = g.met.S.NodeSpace.rests c.remove_below.new.space c.update_node.new.space c.update_node.ensures.rest in
+    spends_both g.S.Counted g.S.HasRoom c.args.space.now c.remove_below.new.space c.update_node.new.space shrunk
+    (spends_nothing g.S.Counted g.S.HasRoom c.remove_below.new.space c.update_node.new.space kept c.update_node.ensures.stays.name
+    c.update_node.ensures.stays.frame)
 
 pub returns-in_ok-drop_node-in-Some-clause-done : goal.returns-in_ok-drop_node-in-Some-clause-done
 returns-in_ok-drop_node-in-Some-clause-done g c =
@@ -68,13 +68,13 @@ returns-in_ok-drop_node-in-Some-clause-done g c =
           (g.S.Pages.pages c.read_node.new.pages) (g.S.Pages.pages c.lowest.new.space) c.read_node.ensures.same.pages
           c.in_ok-root.ensures.done.lowered c.in_ok-root.ensures.done.kept.told
           (removed (key_of c.args.at.now)) TakesOut (g.S.Pages.pages c.remove_below.new.space) c.remove_below.new.node
-          c.in_ok-remove_below.ensures.done.shrinks c.in_ok-remove_below.ensures.done.kept.told (g.S.Pages.pages c.drop_node.new.self)
+          c.in_ok-changed.ensures.done.shrinks c.in_ok-changed.ensures.done.kept.told (g.S.Pages.pages c.drop_node.new.self)
           c.in-Some.below c.in-Some.ensures.one c.in_ok-drop_node-in-Some.ensures.ok;
       kept = let same = g.met.S.NodeSpace.rests c.args.space.now c.read_node.new.pages c.read_node.ensures.same.rest in
           let read = kept_read g.S.Pages g.S.HasRoom c.args.space.now c.read_node.new.pages same.2 c.read_node.ensures.same.pages in
           let low = kept_both g.S.Pages g.S.HasRoom c.args.space.now c.read_node.new.pages c.lowest.new.space read c.in_ok-root.ensures.done.kept in
           let below = kept_both g.S.Pages g.S.HasRoom c.args.space.now c.lowest.new.space c.remove_below.new.space low
-          c.in_ok-remove_below.ensures.done.kept in
+          c.in_ok-changed.ensures.done.kept in
           kept_both g.S.Pages g.S.HasRoom c.args.space.now c.remove_below.new.space c.drop_node.new.self below
           (kept_change g.S.Pages g.S.HasRoom c.remove_below.new.space c.drop_node.new.self (HasLost c.in_ok-root.root)
           c.in_ok-drop_node-in-Some.ensures.extents c.in_ok-drop_node-in-Some.ensures.ok);
@@ -89,34 +89,34 @@ returns-in_ok-drop_node-in-Some-clause-spent g c =
     let shrunk = spends_both g.S.Counted g.S.HasRoom c.args.space.now c.lowest.new.space c.remove_below.new.space lower c.remove_below.ensures.spent in
     spends_both g.S.Counted g.S.HasRoom c.args.space.now c.remove_below.new.space c.drop_node.new.self shrunk c.drop_node.ensures.spent
 
-pub returns-in_ok-write_node-in-None-clause-done : goal.returns-in_ok-write_node-in-None-clause-done
-returns-in_ok-write_node-in-None-clause-done g c =
+pub returns-in_ok-update_node-in-None-clause-done : goal.returns-in_ok-update_node-in-None-clause-done
+returns-in_ok-update_node-in-None-clause-done g c =
     record {
-      tree = written_result (key_of c.args.at.now) c.args.root c.in_ok-root.root c.in_ok-root.node (g.S.Pages.pages c.args.space.now)
+      tree = updated_result (key_of c.args.at.now) c.args.root c.in_ok-root.root c.in_ok-root.node (g.S.Pages.pages c.args.space.now)
           (g.S.Pages.pages c.read_node.new.pages) (g.S.Pages.pages c.lowest.new.space) c.read_node.ensures.same.pages
           c.in_ok-root.ensures.done.lowered c.in_ok-root.ensures.done.kept.told
           (removed (key_of c.args.at.now)) TakesOut (g.S.Pages.pages c.remove_below.new.space) c.remove_below.new.node
-          c.in_ok-remove_below.ensures.done.shrinks c.in_ok-remove_below.ensures.done.kept.told (g.S.Pages.pages c.write_node.new.space)
-          c.in_ok-write_node-in-None.ensures.ok;
+          c.in_ok-changed.ensures.done.shrinks c.in_ok-changed.ensures.done.kept.told (g.S.Pages.pages c.update_node.new.space)
+          c.in_ok-changed.changed c.in_ok-changed.ensures.done.same c.in_ok-update_node-in-None.ensures.ok;
       kept = let same = g.met.S.NodeSpace.rests c.args.space.now c.read_node.new.pages c.read_node.ensures.same.rest in
-          let kept = g.met.S.NodeSpace.rests c.remove_below.new.space c.write_node.new.space c.write_node.ensures.rest in
+          let kept = g.met.S.NodeSpace.rests c.remove_below.new.space c.update_node.new.space c.update_node.ensures.rest in
           let read = kept_read g.S.Pages g.S.HasRoom c.args.space.now c.read_node.new.pages same.2 c.read_node.ensures.same.pages in
           let low = kept_both g.S.Pages g.S.HasRoom c.args.space.now c.read_node.new.pages c.lowest.new.space read c.in_ok-root.ensures.done.kept in
           let below = kept_both g.S.Pages g.S.HasRoom c.args.space.now c.lowest.new.space c.remove_below.new.space low
-          c.in_ok-remove_below.ensures.done.kept in
-          kept_both g.S.Pages g.S.HasRoom c.args.space.now c.remove_below.new.space c.write_node.new.space below
-          (kept_change g.S.Pages g.S.HasRoom c.remove_below.new.space c.write_node.new.space
-          (HasWritten c.in_ok-root.root c.remove_below.new.node) kept.2 c.in_ok-write_node-in-None.ensures.ok);
+          c.in_ok-changed.ensures.done.kept in
+          kept_both g.S.Pages g.S.HasRoom c.args.space.now c.remove_below.new.space c.update_node.new.space below
+          (kept_change g.S.Pages g.S.HasRoom c.remove_below.new.space c.update_node.new.space
+          (IsUpdated c.in_ok-changed.changed c.in_ok-root.root c.remove_below.new.node) kept.2 c.in_ok-update_node-in-None.ensures.ok);
     }
 
-pub returns-in_ok-write_node-in-None-clause-spent : goal.returns-in_ok-write_node-in-None-clause-spent
-returns-in_ok-write_node-in-None-clause-spent g c =
+pub returns-in_ok-update_node-in-None-clause-spent : goal.returns-in_ok-update_node-in-None-clause-spent
+returns-in_ok-update_node-in-None-clause-spent g c =
     let same = g.met.S.NodeSpace.rests c.args.space.now c.read_node.new.pages c.read_node.ensures.same.rest in
     let lower = spends_both g.S.Counted g.S.HasRoom c.args.space.now c.read_node.new.pages c.lowest.new.space
     (spends_nothing g.S.Counted g.S.HasRoom c.args.space.now c.read_node.new.pages same c.read_node.ensures.same.name c.read_node.ensures.same.frame)
     c.lowest.ensures.spent in
     let shrunk = spends_both g.S.Counted g.S.HasRoom c.args.space.now c.lowest.new.space c.remove_below.new.space lower c.remove_below.ensures.spent in
-    let kept = g.met.S.NodeSpace.rests c.remove_below.new.space c.write_node.new.space c.write_node.ensures.rest in
-    spends_both g.S.Counted g.S.HasRoom c.args.space.now c.remove_below.new.space c.write_node.new.space shrunk
-    (spends_nothing g.S.Counted g.S.HasRoom c.remove_below.new.space c.write_node.new.space kept c.write_node.ensures.stays.name
-    c.write_node.ensures.stays.frame)
+    let kept = g.met.S.NodeSpace.rests c.remove_below.new.space c.update_node.new.space c.update_node.ensures.rest in
+    spends_both g.S.Counted g.S.HasRoom c.args.space.now c.remove_below.new.space c.update_node.new.space shrunk
+    (spends_nothing g.S.Counted g.S.HasRoom c.remove_below.new.space c.update_node.new.space kept c.update_node.ensures.stays.name
+    c.update_node.ensures.stays.frame)

@@ -1,32 +1,38 @@
-use Rattle.std.proofs.Common.{◌≡◌, ℕ, ◌+◌, ap, ◌∙◌, subst, sym}
+use Rattle.std.proofs.Common.{◌≡◌, ℕ, true, ◌+◌, ap, ◌∙◌, subst, sym, arith}
 use Rattle.std.specs.Prelude.{Some, slice_get}
 use Rattle.std.specs.List.Sorted.{IsStrictlySortedBy}
 use Rattle.hm_key.specs.Key.{key_of}
-use Rattle.hm_node.specs.Base.{base_cmp}
+use Rattle.hm_node.specs.Base.{base_cmp, base_in}
 use Rattle.hm_node.specs.Inner.{first_children, inner_in}
+use Rattle.hm_node.specs.Places.{place}
 use Rattle.hm_node.specs.declared.head.Head.{Head}
+use Rattle.hm_search.specs.Look.{is_by}
 use Rattle.hm_search.specs.Search.{holder_place}
 use Rattle.hm_search.specs.Tree.{children_of}
 use Rattle.hm_search.proofs.ChildLemmas.{bounds}
-use Rattle.hm_search.proofs.LookLemmas.{inner_falls, inner_rank}
+use Rattle.hm_search.proofs.LookLemmas.{inner_falls, inner_rank, place_some, turn_inside, turn_rank}
 use Rattle.hm_search.proofs.look.see_inner.Goals as goal
-
-pub rank-requires-clause-order : goal.rank-requires-clause-order
-rank-requires-clause-order c =
-    let count = c.from-count.ensures ∙ ap (λ (h : Head). h.count) c.requires.head in
-    let right = (inner_in c.args.page.now).right in
-    inner_falls (key_of c.args.at.now) c.args.page.now c.from-count.result right
-    (subst (λ (n : ℕ). IsStrictlySortedBy base_cmp (bounds right (first_children c.args.page.now n))) (sym count) c.requires.order)
 
 pub returns : goal.returns
 returns c =
     let key = key_of c.args.at.now in
-    let inner = inner_in c.args.page.now in
+    let page = c.args.page.now in
+    let inner = inner_in page in
+    let n = c.from-count.result in
     let count = c.from-count.ensures ∙ ap (λ (h : Head). h.count) c.requires.head in
-    let sorted = subst (λ (n : ℕ). IsStrictlySortedBy base_cmp (bounds inner.right (first_children c.args.page.now n))) (sym count) c.requires.order in
-    let holder : c.saturating_sub-holder.result ≡ holder_place key inner.places.items =
-    c.saturating_sub-holder.ensures ∙ inner_rank key c.args.page.now c.from-count.result c.rank.result inner.right sorted c.rank.ensures ∙ ap (λ (n : ℕ). holder_place key (first_children c.args.page.now n)) count in record {
+    record {
       mirror = ap (λ (h : Head). h.mirror) c.requires.head;
-      child = subst (λ (i : ℕ). slice_get (children_of inner) i ≡ Some c.child_at.result) holder c.child_at.ensures;
-      next = subst (λ (i : ℕ). slice_get (children_of inner) (i + 1) ≡ c.next_at.result) holder c.next_at.ensures;
+      child = (c.saturating_sub-holder.result, c.child_at.ensures);
+      next = place_some (children_of inner) (c.saturating_sub-holder.result + 1) c.next_at.result c.next_at.ensures;
+      inside = turn_inside key page n c.rank.result c.rank.ensures c.child_at.result count (omega (arith, c.from-count.ensures, c.requires.some))
+          (subst (λ (i : ℕ). slice_get (children_of inner) i ≡ Some c.child_at.result) c.saturating_sub-holder.ensures c.child_at.ensures);
+      ordered = λ order.
+          let sorted = subst (λ (k : ℕ). IsStrictlySortedBy base_cmp (bounds inner.right (first_children page k))) (sym count) order in
+          let rank = turn_rank (λ i. is_by true key (base_in page (place i))) n c.rank.result (inner_falls key page n inner.right sorted) c.rank.ensures in
+          let holder : c.saturating_sub-holder.result ≡ holder_place key inner.places.items =
+          c.saturating_sub-holder.ensures ∙ inner_rank key page n c.rank.result inner.right sorted rank ∙ ap
+          (λ (k : ℕ). holder_place key (first_children page k)) count in record {
+            child = subst (λ (i : ℕ). slice_get (children_of inner) i ≡ Some c.child_at.result) holder c.child_at.ensures;
+            next = subst (λ (i : ℕ). slice_get (children_of inner) (i + 1) ≡ c.next_at.result) holder c.next_at.ensures;
+          };
     }

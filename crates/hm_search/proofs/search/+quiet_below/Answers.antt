@@ -1,53 +1,58 @@
-use Rattle.std.proofs.Common.{ℕ, ◌<◌, ◌≤◌, ◌∙◌, refl, subst, rules}
-use Rattle.hm_key.specs.Key.{key_of, IsBefore}
-use Rattle.hm_node.specs.Inner.{IsBound}
-use Rattle.hm_node.specs.declared.node.Node.TheVariants.{Inner as inner_node}
+use Rattle.std.proofs.Common.{ℕ, ◌<◌, ◌≤◌, ◌∙◌, subst, rules, arith}
+use Rattle.hm_key.specs.Key.{key_of}
 use Rattle.hm_search.specs.Descent.{levels_below}
-use Rattle.hm_search.specs.Search.{holder_place}
-use Rattle.hm_search.proofs.DescentLemmas.{cause_below, leads_told}
-use Rattle.hm_search.proofs.LookLemmas.{sees_inner, sees_mirror}
-use Rattle.hm_search.proofs.SearchLemmas.{lower_at, quiet_told, quiet_below_told, child_before, child_bound, end_below}
+use Rattle.hm_search.specs.Search.{IsAsked}
+use Rattle.hm_search.specs.declared.place_rule.PlaceRule.TheVariants.{Bounds}
+use Rattle.hm_search.proofs.DescentLemmas.{goes_lower, goes_told, cause_below}
+use Rattle.hm_search.proofs.LookLemmas.{glances_leaf, glances_inner, shows_mirror}
+use Rattle.hm_search.proofs.SearchLemmas.{child_bound, child_spot, leaf_quiet_told, node_inside, quiet_told, quiet_below_told}
 use Rattle.hm_search.proofs.search.+quiet_below.Goals as goal
 
 pub returns-then-mirror-since-clause-ok : goal.returns-then-mirror-since-clause-ok
 returns-then-mirror-since-clause-ok g t c =
-    let sees = c.in_ok-seen.ensures.sees in
-    quiet_told (g.P.Pages.pages c.args.pages.now) c.args.subtree.now (key_of c.args.at.now) c.args.since.0 sees.node c.args.subtree.now.right
-    (subst (λ (n : ℕ). n ≤ c.args.since.0) (c.mirror.ensures ∙ sees_mirror (key_of c.args.at.now) sees.node c.in_ok-seen.seen sees.view) c.if-mirror-since.true) sees.there
+    let seen = c.in_ok-seen.ensures.sees in
+    quiet_told (g.P.Pages.pages c.args.pages.now) c.args.subtree.now (key_of c.args.at.now) c.args.since.0 seen.node
+    (subst (λ (n : ℕ). n ≤ c.args.since.0) (c.mirror.ensures ∙ shows_mirror (key_of c.args.at.now) seen.node c.in_ok-seen.seen seen.view)
+    c.if-mirror-since.true) seen.there
+
+pub returns-in-Leaf-clause-ok : goal.returns-in-Leaf-clause-ok
+returns-in-Leaf-clause-ok g t c =
+    let key = key_of c.args.at.now in
+    let told = g.P.Pages.pages c.args.pages.now in
+    let all = c.in_ok-seen.ensures.sees in
+    let seen = glances_leaf c.args.subtree.now told key c.in_ok-seen.seen c.in-Leaf.field-0 c.in-Leaf.is all in
+    leaf_quiet_told told c.args.subtree.now key c.args.since.0 seen.leaf
+    (omega (arith, c.mirror.ensures, c.if-mirror-since.false, seen.view.mirror, rw c.in-Leaf.is at c.mirror.ensures)) seen.there
 
 pub quiet_below-requires : goal.quiet_below-requires
 quiet_below-requires g t c κs within =
     let key = key_of c.args.at.now in
     let child = c.in-Inner.inner.child in
-    let seen = sees_inner c.args.subtree.now (g.P.Pages.pages c.args.pages.now) key c.in_ok-seen.seen c.in-Inner.inner c.in-Inner.is c.in_ok-seen.ensures.sees in
-    let place = holder_place key seen.inner.places.items in
+    let seen = glances_inner c.args.subtree.now (g.P.Pages.pages c.args.pages.now) key c.in_ok-seen.seen c.in-Inner.inner c.in-Inner.is
+    c.in_ok-seen.ensures.sees in
     let smaller : levels_below c.in-Inner.inner.child < levels_below c.args.subtree.now =
-    lower_at c.args.subtree.now (inner_node seen.inner) seen.inner place child seen.sound seen.fits refl seen.view.child in
-    let before : IsBefore (key_of c.args.at.now) (key_of c.in-Inner.inner.child.right) =
-    child_before c.args.subtree.now child (inner_node seen.inner) seen.inner key place seen.fits refl refl seen.view.child c.requires.before in
-    let bound : IsBound c.in-Inner.inner.child.right = child_bound child (inner_node seen.inner) seen.inner place seen.sound refl seen.view.child in
+    goes_lower c.args.subtree.now seen.inner seen.view.child.0 child seen.level seen.meets seen.view.child.1 in
+    let asked : IsAsked (key_of c.args.at.now) c.in-Inner.inner.child = record {
+      spot = child_spot seen.inner seen.view.child.0 child seen.fields seen.view.child.1;
+      bound = child_bound child seen.inner seen.view.child.0 seen.fields seen.view.child.1;
+      inside = seen.view.inside (node_inside c.args.subtree.now seen.inner key (seen.meets Bounds) c.requires.inside);
+    } in
     search rules
 
 pub returns-in-Inner-clause-ok : goal.returns-in-Inner-clause-ok
 returns-in-Inner-clause-ok g t c =
     let key = key_of c.args.at.now in
     let told = g.P.Pages.pages c.args.pages.now in
-    let seen = sees_inner c.args.subtree.now told key c.in_ok-seen.seen c.in-Inner.inner c.in-Inner.is c.in_ok-seen.ensures.sees in
-    quiet_below_told told (g.P.Pages.pages c.look_for.new.pages) c.args.subtree.now c.in-Inner.inner.child key c.args.since.0 (inner_node seen.inner) seen.inner (holder_place key seen.inner.places.items) c.quiet_below.result
-    c.look_for.ensures.same.pages refl seen.there refl seen.view.child c.quiet_below.ensures.found c.quiet_below.ensures.ok
-
-pub returns-in-Inner-clause-found : goal.returns-in-Inner-clause-found
-returns-in-Inner-clause-found g t c =
-    let key = key_of c.args.at.now in
-    let seen = sees_inner c.args.subtree.now (g.P.Pages.pages c.args.pages.now) key c.in_ok-seen.seen c.in-Inner.inner c.in-Inner.is c.in_ok-seen.ensures.sees in
-    end_below c.args.subtree.now c.in-Inner.inner.child (inner_node seen.inner) seen.inner key (holder_place key seen.inner.places.items) c.quiet_below.result
-    seen.sound seen.fits refl seen.view.child c.quiet_below.ensures.found
+    let seen = glances_inner c.args.subtree.now told key c.in_ok-seen.seen c.in-Inner.inner c.in-Inner.is c.in_ok-seen.ensures.sees in
+    quiet_below_told told (g.P.Pages.pages c.glance_at.new.pages) c.args.subtree.now c.in-Inner.inner.child key c.args.since.0 seen.inner c.quiet_below.result
+    c.glance_at.ensures.same.pages seen.there (λ order. (seen.view.ordered order).child) c.quiet_below.ensures.ok
 
 pub returns-in-Inner-clause-cause : goal.returns-in-Inner-clause-cause
 returns-in-Inner-clause-cause g t c =
     let key = key_of c.args.at.now in
     let told = g.P.Pages.pages c.args.pages.now in
-    let seen = sees_inner c.args.subtree.now told key c.in_ok-seen.seen c.in-Inner.inner c.in-Inner.is c.in_ok-seen.ensures.sees in
-    cause_below told (g.P.Pages.pages c.look_for.new.pages) c.args.subtree.now c.in-Inner.inner.child (g.P.Counted.faults c.args.pages.now) (g.P.Counted.faults c.look_for.new.pages) (g.P.Counted.faults c.quiet_below.new.pages) c.quiet_below.result
-    c.look_for.ensures.same.pages c.look_for.ensures.cause.never_falls
-    (leads_told told c.args.subtree.now (inner_node seen.inner) seen.inner (holder_place key seen.inner.places.items) c.in-Inner.inner.child seen.there refl seen.view.child) c.quiet_below.ensures.cause
+    let seen = glances_inner c.args.subtree.now told key c.in_ok-seen.seen c.in-Inner.inner c.in-Inner.is c.in_ok-seen.ensures.sees in
+    cause_below told (g.P.Pages.pages c.glance_at.new.pages) c.args.subtree.now c.in-Inner.inner.child (g.P.Counted.faults c.args.pages.now)
+    (g.P.Counted.faults c.glance_at.new.pages) (g.P.Counted.faults c.quiet_below.new.pages) c.quiet_below.result
+    c.glance_at.ensures.same.pages c.glance_at.ensures.cause.never_falls
+    (goes_told told c.args.subtree.now seen.inner c.in-Inner.inner.child seen.there seen.view.child) c.quiet_below.ensures.cause

@@ -1,30 +1,24 @@
-use Rattle.std.proofs.Common.{◌-◌, refl, sym, ap, subst, ◌∙◌, true≢false, arith}
-use Rattle.hm_key.specs.Key.{key_of}
-use Rattle.hm_key.specs.declared.base.Base.{Base}
-use Rattle.hm_node.specs.Base.{base_in}
-use Rattle.hm_search.specs.Place.{IsInside}
+use Rattle.std.proofs.Common.{◌-◌, inl, inr, arith}
+use Rattle.std.proofs.lemmas.Bool.{cases_lt}
+use Rattle.hm_search.proofs.HeldLemmas.{inside_at, at_inside}
 use Rattle.hm_search.proofs.PageLemmas.{inside_places, places_inside, ends_inside}
 use Rattle.hm_search.proofs.subtree.Subtree.holds_all.Goals as goal
 
-pub returns-then-count-eq0 : goal.returns-then-count-eq0
-returns-then-count-eq0 c = (λ is. inside_places c.args.self.now.left c.args.self.now.right c.args.page.now c.args.count (λ k low. absurd (omega (arith, c.if-count-eq0.true))), λ all. refl)
-
-pub returns-then-not-holds : goal.returns-then-not-holds
-returns-then-not-holds c =
-    let base = c.read_base.ensures ∙ ap (base_in c.args.page.now) c.place.ensures in (
-      λ is. absurd cc,
-      λ all.
-          let inside = places_inside c.args.self.now.left c.args.self.now.right c.args.page.now c.args.count all 0 (omega (arith, c.if-count-eq0.false)) in
-          absurd (true≢false (sym (c.holds.ensures.1 (subst (λ (b : Base). IsInside c.args.self.now.left c.args.self.now.right (key_of b)) (sym base) inside)) ∙ c.if-not-holds.true)),
-    )
-
 pub returns : goal.returns
 returns c =
-    let front = c.read_base.ensures ∙ ap (base_in c.args.page.now) c.place.ensures in
-    let last = c.read_base-2.ensures ∙ ap (base_in c.args.page.now) c.place-2.ensures in (
-      λ is. ends_inside c.args.self.now.left c.args.self.now.right c.args.page.now c.args.count (omega (arith, c.if-count-eq0.false)) c.requires.order
-          (subst (λ (b : Base). IsInside c.args.self.now.left c.args.self.now.right (key_of b)) front (c.holds.ensures.0 c.if-not-holds.false))
-          (subst (λ (b : Base). IsInside c.args.self.now.left c.args.self.now.right (key_of b)) last (c.holds-2.ensures.0 is)),
-      λ all. c.holds-2.ensures.1 (subst (λ (b : Base). IsInside c.args.self.now.left c.args.self.now.right (key_of b)) (sym last)
-          (places_inside c.args.self.now.left c.args.self.now.right c.args.page.now c.args.count all (c.args.count - 1) (omega (arith, c.if-count-eq0.false)))),
+    let left = c.args.self.now.left in
+    let right = c.args.self.now.right in
+    let page = c.args.page.now in
+    let count = c.args.count in (
+      λ is.
+          let ends = c.holds_ends.ensures.0 is in
+          elim (cases_lt 0 count) [
+            | inl some ↦ ends_inside left right page count some c.requires.order (at_inside left right page count 0 some ends.0)
+                (at_inside left right page count (count - 1) (omega arith) ends.1)
+            | inr none ↦ inside_places left right page count (λ k low. absurd (omega arith))
+          ],
+      λ all. c.holds_ends.ensures.1 (
+        inside_at left right page count 0 (λ low. places_inside left right page count all 0 low),
+        inside_at left right page count (count - 1) (λ low. places_inside left right page count all (count - 1) low),
+      ),
     )
