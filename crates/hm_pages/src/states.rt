@@ -33,7 +33,7 @@ impl Pages for PageStore {
         ensures value { into.new ≡ page_in ((contents self.old).current at) }
         ensures unchanged { contents self.new ≡ contents self.old }
     {
-        read(self.current_at(at), into);
+        read(self.look(at), into);
         Ok(())
     }
 

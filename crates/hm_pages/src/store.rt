@@ -293,6 +293,13 @@ impl PageStore {
         self.committed.get(self.places[i as usize]).is_some()
     }
 
+    /// Whether the current map has a page at an offset.
+    pub fn has_page(&self, at: HOff) -> bool
+        ensures { result ≡ is_some ((contents self.now).current at) }
+    {
+        self.look(at).is_some()
+    }
+
     // The committed page at an offset.
     #[tactic(auto, unfolding(crate::specs::Store::contents))]
     fn committed_at(&self, at: HOff) -> Option<&Page>
@@ -312,9 +319,9 @@ impl PageStore {
         }
     }
 
-    // The page at an offset as calls see it.
+    /// The page at an offset as calls see it, if one stands there.
     #[tactic(auto, unfolding(crate::specs::Store::contents))]
-    pub(crate) fn current_at(&self, at: HOff) -> Option<&Page>
+    pub fn look(&self, at: HOff) -> Option<&Page>
         ensures { option_map (λ p. p.now) result ≡ (contents self.now).current at }
     {
         if let Some(page) = self.call.get(at) {
@@ -333,7 +340,7 @@ impl PageStore {
         match state {
             State::Committed => self.committed_at(at),
             State::Frozen => self.frozen_at(at),
-            State::Current => self.current_at(at),
+            State::Current => self.look(at),
         }
     }
 }
