@@ -5,18 +5,17 @@ use Rattle.std.specs.List.{range_with_len}
 use Rattle.std.proofs.lemmas.Bool.{cases_eq}
 use Rattle.std.proofs.lemmas.Bool.Decides.{nat_tests}
 use Rattle.std.proofs.lemmas.List.Sums.{length-filter}
-use Rattle.hm_types.specs.Layout.{IsPool, first_pool}
-use Rattle.hm_types.specs.References.{References, is_free, pool}
+use Rattle.hm_types.specs.Layout.{first_pool}
+use Rattle.hm_types.specs.References.{pool}
 use Rattle.hm_types.specs.Space.{names_zone, reserve_of, needed}
 use Rattle.hm_types.specs.declared.zone.TheConstants.{TREE_ZONE, SMALL_ZONE}
 use Rattle.hm_types.specs.declared.zones.Zones.{Zones}
 use Rattle.hm_freemap.specs.Admit.{IsAdmitted, does_lack, lacking, lacking_before}
 use Rattle.hm_freemap.specs.Renew.{AreFresh, count_first, count_of, lacks_at}
 use Rattle.hm_freemap.specs.Scan.{Finds}
-use Rattle.hm_freemap.specs.Stand.{Maps, StandBy, is_free_by, room_in}
+use Rattle.hm_freemap.specs.Stand.{Maps, room_in}
 use Rattle.hm_freemap.specs.declared.scan.Found.{Found}
-use Rattle.hm_freemap.proofs.CountLemmas.{bit, count-cons, count-range, count_same}
-use Rattle.hm_freemap.proofs.FreeLemmas.{free_is_unused}
+use Rattle.hm_freemap.proofs.CountLemmas.{bit, count-cons, count-range}
 use Rattle.hm_freemap.proofs.PutLemmas.{other_test, fails}
 use Rattle.hm_freemap.proofs.StepLemmas.{first_few, first_more}
 
@@ -71,38 +70,34 @@ rank_at p a (suc n) i low = by_test (p a) refl i low (λ j more. rank_at p (a + 
       omega (arith, rank_step p a x (passes i low).low, ranks i low, none)
 
 -- the big-blocks that a look found are the lowest free ones
-pub found_fresh : (bigblocks : ℕ) (append : List ℕ) (maps : Maps) (states : References) (limit many : ℕ) (found : Found) → StandBy bigblocks append maps states
-    → Finds (is_free_by append maps) limit (pool bigblocks) found → many ≤ found.count → many ≤ 4 → AreFresh bigblocks append states found.first many
-found_fresh bigblocks append maps states limit many found stand finds enough few = record {
+pub found_fresh : (bigblocks : ℕ) (test : ℕ → Bool) (limit many : ℕ) (found : Found)
+    → Finds test limit (pool bigblocks) found → many ≤ found.count → many ≤ 4 → AreFresh bigblocks test found.first many
+found_fresh bigblocks test limit many found finds enough few = record {
   each = λ i low.
       let at = passes i low in
-      let block = slice_index found.first i in
-      let inside : IsPool bigblocks block = (omega (arith, at.low), omega (arith, at.high, at.low)) in
       record {
-        pool = inside;
-        free = sym (free_is_unused bigblocks append maps states block stand inside) ∙ at.test;
-        lower = count_same (is_free append states) (is_free_by append maps) first (block - first)
-            (λ b least most. sym (free_is_unused bigblocks append maps states b stand (least, omega (arith, most, at.low, at.high))))
-            ∙ ap (λ (b : ℕ). count_by (is_free_by append maps) (range_with_len first (b - first))) (is_there i low)
-            ∙ rank_at (is_free_by append maps) first (bigblocks - first) i (inside_list i low);
+        pool = (omega (arith, at.low), omega (arith, at.high, at.low));
+        free = at.test;
+        lower = ap (λ (b : ℕ). count_by test (range_with_len first (b - first))) (is_there i low)
+            ∙ rank_at test first (bigblocks - first) i (inside_list i low);
       };
 } where
   first : ℕ
   first = first_pool bigblocks
 
-  sized : length (filter (is_free_by append maps) (pool bigblocks)) ≡ count_by (is_free_by append maps) (pool bigblocks)
-  sized = length-filter (is_free_by append maps) (pool bigblocks)
+  sized : length (filter test (pool bigblocks)) ≡ count_by test (pool bigblocks)
+  sized = length-filter test (pool bigblocks)
 
-  inside_list : (i : ℕ) → i < many → i < length (filter (is_free_by append maps) (pool bigblocks))
+  inside_list : (i : ℕ) → i < many → i < length (filter test (pool bigblocks))
   inside_list i low = omega (arith, sized, finds.count, low, enough)
 
-  is_there : (i : ℕ) → i < many → slice_index found.first i ≡ slice_index (filter (is_free_by append maps) (pool bigblocks)) i
+  is_there : (i : ℕ) → i < many → slice_index found.first i ≡ slice_index (filter test (pool bigblocks)) i
   is_there i low = finds.first i (omega (arith, low, enough)) (omega (arith, low, few))
 
-  passes : (i : ℕ) → i < many → Passes (is_free_by append maps) (first_pool bigblocks) (bigblocks - first_pool bigblocks) (slice_index found.first i)
+  passes : (i : ℕ) → i < many → Passes test (first_pool bigblocks) (bigblocks - first_pool bigblocks) (slice_index found.first i)
   passes i low =
-      subst (Passes (is_free_by append maps) (first_pool bigblocks) (bigblocks - first_pool bigblocks)) (sym (is_there i low))
-      (passes_at (is_free_by append maps) (first_pool bigblocks) (bigblocks - first_pool bigblocks) i (inside_list i low))
+      subst (Passes test (first_pool bigblocks) (bigblocks - first_pool bigblocks)) (sym (is_there i low))
+      (passes_at test (first_pool bigblocks) (bigblocks - first_pool bigblocks) i (inside_list i low))
 
 -- the number of zones that lack room
 pub needed_is : (zones : Zones) (room : ℕ → ℕ) → needed zones room ≡ count_of (lacking zones room)
@@ -166,8 +161,7 @@ pub admitted_none : (bigblocks : ℕ) (zones : Zones) (held : ℕ) (append : Lis
     → IsAdmitted bigblocks zones held append append maps maps.current
 admitted_none bigblocks zones held append maps none = record {
   pages = λ at other. refl;
-  stand = λ states stand. stand;
-  admits = λ states stand. record {
+  admits = record {
     enough = omega (arith, needed_is zones room, none);
     no_more = omega arith;
     paid = omega arith;
@@ -176,13 +170,17 @@ admitted_none bigblocks zones held append maps none = record {
         let place : TREE_ZONE + (zone - TREE_ZONE) ≡ zone = omega (arith, range) in
         reserve_kept zones room zone names (ap (does_lack zones room) (sym place) ∙ has_room (zone - TREE_ZONE) (omega (arith, range)));
   };
-  lowest = λ states stand. record {
+  lowest = record {
     begun = λ k low lacks. absurd (true≢false (sym lacks ∙ has_room k low));
     whole = λ k low lacks. absurd (true≢false (sym lacks ∙ has_room k low));
     others = λ k low has. refl;
     entries = λ block apart. refl;
     room = λ k low has. refl;
   };
+  room = λ zone. omega arith;
+  distinct = λ distinct. distinct;
+  pool = λ pool. pool;
+  stand = λ states stand. stand;
 } where
   room : ℕ → ℕ
   room = room_in append maps.current

@@ -1,8 +1,10 @@
 -- Extents that are shared and given back: the freemap stands for one reference more, and for one less.
-use Rattle.std.proofs.Common.{◌≡◌, ◌≢◌, Bool, true, false, true≢false, ℕ, ◌+◌, ◌-◌, ◌*◌, ◌%◌, ◌<◌, ◌≤◌, inl, inr, ⊎_elim, List, [], ◌∷◌, ◌++◌, refl, sym, ap, subst, ◌∙◌, arith, cond, nat_eq, eq-eqb, pos, ◌+ℤ◌}
+use Rattle.std.proofs.Common.{◌≡◌, ◌≢◌, Bool, true, false, true≢false, ℕ, ◌+◌, ◌-◌, ◌*◌, ◌%◌, ◌^◌, ◌<◌, ◌≤◌, inl, inr, ⊎_elim, List, [], ◌∷◌, ◌++◌}
+use Rattle.std.proofs.Common.{refl, sym, ap, subst, ◌∙◌, arith, cond, nat_eq, eq-eqb, pos, ◌+ℤ◌}
 use Rattle.std.specs.Prelude.{All, count_by}
 use Rattle.std.specs.List.{list_any}
 use Rattle.std.proofs.lemmas.Bool.{cases_eq}
+use Rattle.std.proofs.lemmas.Int.{ints}
 use Rattle.std.proofs.lemmas.List.Elements.{All-head, All-tail, All-cons, All-weaker}
 use Rattle.hm_types.specs.Layout.{IsPool, block_of, start_of}
 use Rattle.hm_types.specs.Offset.{zone_of, volume_of, byte_of}
@@ -12,15 +14,17 @@ use Rattle.hm_types.specs.declared.limits.TheConstants.{BIGBLOCK_BYTES}
 use Rattle.hm_types.specs.declared.space.TheConstants.{MOST_REFERENCES}
 use Rattle.hm_types.specs.declared.zone.TheConstants.{TREE_ZONE, SMALL_ZONE}
 use Rattle.hm_fields.specs.Pages.{PageMap}
-use Rattle.hm_freemap.specs.Change.{shared, given}
+use Rattle.hm_freemap.specs.Change.{MayHold, shared, given}
 use Rattle.hm_freemap.specs.Entry.{IsOwned, IsPoolEntry}
 use Rattle.hm_freemap.specs.Extents.{Changes, IsReferred, IsShareable, is_extent, referred, unreferred, without_one, with_current}
-use Rattle.hm_freemap.specs.Stand.{Maps, StandBy, IsBelow, EntryPut, all_of, home_of, entry_of}
+use Rattle.hm_freemap.specs.Stand.{Maps, StandBy, IsBelow, EntryPut, all_of, home_of, entry_of, is_free_by, is_whole_block, room_in}
 use Rattle.hm_freemap.specs.declared.entry.Entry.{Entry}
 use Rattle.hm_freemap.proofs.BoundLemmas.{live_few, placed_size}
 use Rattle.hm_freemap.proofs.CountLemmas.{bit, count-cons}
 use Rattle.hm_freemap.proofs.EntryLemmas.{free_less, free_more}
 use Rattle.hm_freemap.proofs.ListLemmas.{all_left, all_without, apart_left, apart_without, few_without, live_without, one_extent, or_second}
+use Rattle.hm_freemap.proofs.MapsLemmas.{clear_block, free_kept, given_whole, shared_whole}
+use Rattle.hm_freemap.proofs.PlaceLemmas.{page_zone}
 use Rattle.hm_freemap.proofs.PutLemmas.{other_test, same_test}
 use Rattle.hm_freemap.proofs.StandLemmas.{changed_at, stand_after, all_below, room_kept}
 
@@ -47,7 +51,7 @@ same_home : (r s : Reference) → IsOneExtent r s → home_of r ≡ home_of s
 same_home r s same = ap block_of (same_begin r s same)
 
 -- what does not overlap an extent does not overlap another reference to it
-overlap_same : (r s t : Reference) → IsOneExtent r s → DoNotOverlap s t → DoNotOverlap r t
+pub overlap_same : (r s t : Reference) → IsOneExtent r s → DoNotOverlap s t → DoNotOverlap r t
 overlap_same r s t same apart =
     let begin = same_begin r s same in
     let end = same_end r s same in
@@ -59,7 +63,7 @@ overlap_same r s t same apart =
       ]
     ]
 
-overlap_turned : (r s : Reference) → DoNotOverlap r s → DoNotOverlap s r
+pub overlap_turned : (r s : Reference) → DoNotOverlap r s → DoNotOverlap s r
 overlap_turned r s apart = elim apart [
   | inl one ↦ inl (record { place = sym one.place; size = sym one.size })
   | inr other ↦ elim other [
@@ -117,7 +121,7 @@ here r b live same =
     let is : is_in b r ≡ true = eq-eqb (home_of r) b (sym same) in
     ap (λ (x : Bool). cond x (rounded r.len) 0 + live) is
 
-placed_same : (bigblocks : ℕ) (q s : Reference) → 1 ≤ q.len → IsOneExtent q s → IsPlaced bigblocks s → IsPlaced bigblocks q
+pub placed_same : (bigblocks : ℕ) (q s : Reference) → 1 ≤ q.len → IsOneExtent q s → IsPlaced bigblocks s → IsPlaced bigblocks q
 placed_same bigblocks q s some same placed = record {
   some = some;
   volume = ap volume_of same.place ∙ placed.volume;
@@ -127,7 +131,7 @@ placed_same bigblocks q s some same placed = record {
   inside = ap (λ (e : ℕ). block_of (e - 1)) (same_end q s same) ∙ placed.inside ∙ ap block_of (sym (same_begin q s same));
 }
 
-below_same : (current : PageMap) (q s : Reference) → IsOneExtent q s → IsBelow current s → IsBelow current q
+pub below_same : (current : PageMap) (q s : Reference) → IsOneExtent q s → IsBelow current s → IsBelow current q
 below_same current q s same below =
     let home = same_home q s same in
     record {
@@ -135,8 +139,34 @@ below_same current q s same below =
       end = subst (λ (b : ℕ). end_of q ≤ start_of b + (entry_of current b).append_off) (sym home) (omega (arith, below.end, same_end q s same));
     }
 
+pub placed_extent : (bigblocks : ℕ) (append : List ℕ) (r : Reference) (maps : Maps) (states : References) → StandBy bigblocks append maps states
+    → IsReferred r states → IsPlaced bigblocks r
+placed_extent bigblocks append r maps states stand live =
+    let placed = find_one r (IsPlaced bigblocks) states.current (states.frozen ++ states.committed) live stand.placed in
+    let size = placed_size placed.s.len placed.holds.some in
+    let some : 1 ≤ r.len = omega (arith, size, placed.same.size) in
+    placed_same bigblocks r placed.s some placed.same placed.holds
+
+-- the entry of its big-block leaves room for what is live
+pub held_extent : (bigblocks : ℕ) (append : List ℕ) (r : Reference) (maps : Maps) (states : References) → StandBy bigblocks append maps states
+    → IsReferred r states → MayHold (rounded r.len) (entry_of maps.current (home_of r))
+held_extent bigblocks append r maps states stand live =
+    let home = home_of r in
+    let rest = live_bytes (without_one r states.current) home in
+    let all : live_bytes states.current home ≡ rounded r.len + rest = live_without home r states.current live ∙ here r home rest refl in
+    let free = (stand.current home (placed_extent bigblocks append r maps states stand live).pool).free in
+    record { leaves = omega (arith, ints, all, free) }
+
 module _ (bigblocks : ℕ) (append : List ℕ) (r : Reference) (maps : Maps) (now : PageMap) (block : ℕ) (entry : Entry)
-    (at : block ≡ home_of r) (read : entry ≡ entry_of maps.current block) (holds : IsPoolEntry entry) where
+    (at : block ≡ home_of r) (small : block < 2 ^ 32) (read : entry ≡ entry_of maps.current block) (holds : IsPoolEntry entry)
+    (held : MayHold (rounded r.len) entry) where
+  held_there : MayHold (rounded r.len) (entry_of maps.current (home_of r))
+  held_there = subst (λ (b : ℕ). MayHold (rounded r.len) (entry_of maps.current b)) at (subst (MayHold (rounded r.len)) read held)
+
+  -- an entry that was read is clear where the big-block is free
+  was_whole : is_free_by append maps block ≡ true → is_whole_block entry.bytes_free ≡ true
+  was_whole is = subst (λ (e : Entry). is_whole_block e.bytes_free ≡ true) (sym read) (clear_block append maps block is).current
+
   entry_owned : (states : References) → StandBy bigblocks append maps states → IsReferred r states → IsOwned entry
   entry_owned states stand live =
       let placed = find_one r (IsPlaced bigblocks) states.current (states.frozen ++ states.committed) live stand.placed in
@@ -145,13 +175,6 @@ module _ (bigblocks : ℕ) (append : List ℕ) (r : Reference) (maps : Maps) (no
       let zone : entry.zone ≡ zone_of below.s.at =
       ap (λ (e : Entry). e.zone) read ∙ ap (λ (b : ℕ). (entry_of maps.current b).zone) (at ∙ same_home r below.s below.same) ∙ below.holds.zone in
       owned entry holds (omega (arith, placed.holds.zone, mine, zone))
-
-  placed_here : (states : References) → StandBy bigblocks append maps states → IsReferred r states → IsPlaced bigblocks r
-  placed_here states stand live =
-      let placed = find_one r (IsPlaced bigblocks) states.current (states.frozen ++ states.committed) live stand.placed in
-      let size = placed_size placed.s.len placed.holds.some in
-      let some : 1 ≤ r.len = omega (arith, size, placed.same.size) in
-      placed_same bigblocks r placed.s some placed.same placed.holds
 
   tells_here : (states : References) → StandBy bigblocks append maps states → IsPlaced bigblocks r → entry.bytes_free +ℤ pos (live_bytes states.current block) ≡ pos BIGBLOCK_BYTES
   tells_here states stand placed =
@@ -172,7 +195,7 @@ module _ (bigblocks : ℕ) (append : List ℕ) (r : Reference) (maps : Maps) (no
         let zone : next.zone ≡ (entry_of maps.current block).zone = ap (λ (e : Entry). e.zone) read in
         let up : (entry_of maps.current block).append_off ≤ next.append_off = omega (arith, ap (λ (e : Entry). e.append_off) read) in
         let all = all_below bigblocks append maps states stand block next now put zone up in
-        let mine = placed_here states stand needs.live in
+        let mine = placed_extent bigblocks append r maps states stand needs.live in
         let placed : All (IsPlaced bigblocks) (r ∷ states.current ++ rest) = All-cons (IsPlaced bigblocks) r (all_of states) mine stand.placed in
         let apart : NoneOverlap (r ∷ states.current ++ rest) = (overlaps_none r states.current rest needs.live stand.apart, stand.apart) in
         let few = few_more r states.current needs.few stand.few.2 in
@@ -191,11 +214,21 @@ module _ (bigblocks : ℕ) (append : List ℕ) (r : Reference) (maps : Maps) (no
           owned_again : IsOwned entry → IsOwned (shared (rounded r.len) entry)
           owned_again is = record { zone = is.zone; append = is.append; unit = is.unit }
 
+    shared_rooms : (zone : ℕ) → room_in append now zone ≡ room_in append maps.current zone
+    shared_rooms = room_kept block (shared (rounded r.len) entry) maps.current now put append (ap (λ (e : Entry). e.append_off) read)
+
     pub share_changes : Changes bigblocks append r (IsShareable r) (referred r) (shared (rounded r.len)) maps now
     share_changes = record {
+      held = held_there;
       put = changed_at (shared (rounded r.len)) block (home_of r) entry maps.current now at read put;
+      pages = λ other apart. put.pages other (λ same. apart (ap zone_of same ∙ page_zone block small));
+      room = shared_rooms;
+      spends = record {
+        room = λ zone. omega (arith, shared_rooms zone);
+        free = free_kept maps block (shared (rounded r.len) entry) now put bigblocks append
+            (λ is. shared_whole entry.bytes_free (rounded r.len) held.leaves (was_whole is));
+      };
       stand = share_stands;
-      room = room_kept block (shared (rounded r.len) entry) maps.current now put append (ap (λ (e : Entry). e.append_off) read);
     }
 
   module _ (put : EntryPut block (given (rounded r.len) entry) maps.current now) where
@@ -208,7 +241,7 @@ module _ (bigblocks : ℕ) (append : List ℕ) (r : Reference) (maps : Maps) (no
         let zone : next.zone ≡ (entry_of maps.current block).zone = ap (λ (e : Entry). e.zone) read in
         let up : (entry_of maps.current block).append_off ≤ next.append_off = omega (arith, ap (λ (e : Entry). e.append_off) read) in
         let all = all_below bigblocks append maps states stand block next now put zone up in
-        let mine = placed_here states stand live in
+        let mine = placed_extent bigblocks append r maps states stand live in
         let sum : live_bytes states.current block ≡ rounded r.len + live_bytes less block = live_without block r states.current live ∙ here r block (live_bytes less block) at in
         let most = bound states stand in
         let before : entry.bytes_free +ℤ pos (rounded r.len + live_bytes less block) ≡ pos BIGBLOCK_BYTES =
@@ -225,9 +258,19 @@ module _ (bigblocks : ℕ) (append : List ℕ) (r : Reference) (maps : Maps) (no
           owned_again : IsOwned entry → IsOwned (given (rounded r.len) entry)
           owned_again is = record { zone = is.zone; append = is.append; unit = is.unit }
 
+    given_rooms : (zone : ℕ) → room_in append now zone ≡ room_in append maps.current zone
+    given_rooms = room_kept block (given (rounded r.len) entry) maps.current now put append (ap (λ (e : Entry). e.append_off) read)
+
     pub give_changes : Changes bigblocks append r (IsReferred r) (unreferred r) (given (rounded r.len)) maps now
     give_changes = record {
+      held = held_there;
       put = changed_at (given (rounded r.len)) block (home_of r) entry maps.current now at read put;
+      pages = λ other apart. put.pages other (λ same. apart (ap zone_of same ∙ page_zone block small));
+      room = given_rooms;
+      spends = record {
+        room = λ zone. omega (arith, given_rooms zone);
+        free = free_kept maps block (given (rounded r.len) entry) now put bigblocks append
+            (λ is. given_whole entry.bytes_free (rounded r.len) held.leaves (was_whole is));
+      };
       stand = give_stands;
-      room = room_kept block (given (rounded r.len) entry) maps.current now put append (ap (λ (e : Entry). e.append_off) read);
     }

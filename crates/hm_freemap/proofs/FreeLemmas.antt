@@ -8,6 +8,7 @@ use Rattle.hm_types.specs.declared.limits.TheConstants.{BIGBLOCK_BYTES}
 use Rattle.hm_freemap.specs.Stand.{Maps, StandBy, entry_of, entry_page, is_whole_block, is_clear_in, is_free_by, free_by}
 use Rattle.std.proofs.lemmas.List.FromFn.{length-range_with_len}
 use Rattle.std.proofs.lemmas.List.Sums.{count_by-le-length}
+use Rattle.hm_freemap.specs.Admit.{IsFreeAt}
 use Rattle.hm_freemap.specs.Calls.{CountsFree}
 use Rattle.hm_freemap.specs.Scan.{Finds}
 use Rattle.hm_freemap.specs.declared.scan.Found.{Found}
@@ -52,6 +53,17 @@ free_same bigblocks append maps states stand =
     let first = first_pool bigblocks in
     count_same (is_free_by append maps) (is_free append states) first (bigblocks - first)
     (λ block low high. free_is_unused bigblocks append maps states block stand (low, omega arith))
+
+-- the free big-block with so many before it is the same one by both
+pub rank_same : (bigblocks : ℕ) (append : List ℕ) (maps : Maps) (states : References) → StandBy bigblocks append maps states
+    → (rank block : ℕ) → IsFreeAt bigblocks (is_free_by append maps) rank block → IsFreeAt bigblocks (is_free append states) rank block
+rank_same bigblocks append maps states stand rank block here = record {
+  pool = here.pool;
+  free = sym (free_is_unused bigblocks append maps states block stand here.pool) ∙ here.free;
+  lower = count_same (is_free append states) (is_free_by append maps) (first_pool bigblocks) (block - first_pool bigblocks)
+      (λ b low high. sym (free_is_unused bigblocks append maps states b stand (low, omega (arith, high, here.pool))))
+      ∙ here.lower;
+}
 
 -- a look that asked for as many big-blocks as there are counts the free ones
 pub counts : (bigblocks : ℕ) (append : List ℕ) (maps : Maps) (found : Found) → Finds (is_free_by append maps) bigblocks (pool bigblocks) found

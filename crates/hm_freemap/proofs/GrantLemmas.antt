@@ -4,28 +4,36 @@ use Rattle.std.specs.Prelude.{IfSome}
 use Rattle.std.proofs.lemmas.List.FromFn.{length-range_with_len}
 use Rattle.std.proofs.lemmas.List.Sums.{count_by-le-length}
 use Rattle.hm_types.specs.Layout.{first_pool}
-use Rattle.hm_types.specs.References.{References, pool}
+use Rattle.hm_types.specs.References.{pool}
 use Rattle.hm_types.specs.Space.{names_zone, reserve_of, needed, Admits}
 use Rattle.hm_types.specs.Told.{BothTell}
 use Rattle.hm_types.specs.declared.limits.TheConstants.{BIGBLOCK_BYTES, MOST_BIGBLOCKS}
 use Rattle.hm_types.specs.declared.zone.TheConstants.{TREE_ZONE}
 use Rattle.hm_types.specs.declared.zones.Zones.{Zones}
 use Rattle.hm_fields.specs.Pages.{PageMap}
-use Rattle.hm_freemap.specs.Admit.{IsAdmitted, IsFreeAt, BeginsLowest, does_lack, lacking, lacking_before, room_at, free_at, space_of}
+use Rattle.hm_freemap.specs.Admit.{IsAdmitted, IsFreeAt, BeginsLowest, does_lack, lacking, lacking_before}
 use Rattle.hm_freemap.specs.Extents.{Moves, with_current}
-use Rattle.hm_freemap.specs.Renew.{AreFresh, RenewedFor, Renewing, count_first, count_of, lacks_at}
+use Rattle.hm_freemap.specs.Renew.{AreFresh, Renewed, Renewing, count_first, count_of, lacks_at}
 use Rattle.hm_freemap.specs.Scan.{Finds}
-use Rattle.hm_freemap.specs.Stand.{Maps, StandBy, WhereTold, free_by, is_free_by, room_in}
+use Rattle.hm_freemap.specs.Space.{free_at, room_at, space_of}
+use Rattle.hm_freemap.specs.Stand.{Maps, WhereTold, append_of, entry_of, free_by, is_free_by, is_handed_out, room_in}
 use Rattle.hm_freemap.specs.declared.scan.Found.{Found}
 use Rattle.hm_freemap.proofs.AdmitLemmas.{before_is, found_fresh, lacks_is, named_zone, needed_is, reserve_kept, admitted_none}
 use Rattle.hm_freemap.proofs.CountLemmas.{bit}
-use Rattle.hm_freemap.proofs.FreeLemmas.{free_same}
 use Rattle.hm_freemap.proofs.StepLemmas.{first_few, first_more}
+use Rattle.hm_freemap.proofs.TakeLemmas.{is_handed}
 
 -- a zone that lacks room is one of which the reserve is less than a big-block
 reserve_small : (zone : ℕ) → reserve_of zone ≤ BIGBLOCK_BYTES
 reserve_small zone = by_test (nat_eq zone TREE_ZONE) where
   by_test : (b : Bool) → cond b 1048576 131072 ≤ BIGBLOCK_BYTES
+  by_test true = omega arith
+  by_test false = omega arith
+
+-- a zone has at most a whole big-block left
+room_most : (append : List ℕ) (map : PageMap) (zone : ℕ) → room_in append map zone ≤ BIGBLOCK_BYTES
+room_most append map zone = by_test (is_handed_out zone) where
+  by_test : (b : Bool) → cond b (BIGBLOCK_BYTES - (entry_of map (append_of append zone)).append_off) 0 ≤ BIGBLOCK_BYTES
   by_test true = omega arith
   by_test false = omega arith
 
@@ -49,75 +57,97 @@ module _ (bigblocks : ℕ) (zones : Zones) (held : ℕ) (append append' : List �
       let long = length-range_with_len (first_pool bigblocks) (bigblocks - first_pool bigblocks) in
       omega (arith, sized, enough, finds.count, most, long, few)
 
-  module _ (states : References) (stand : StandBy bigblocks append maps states) where
-    fresh : AreFresh bigblocks append states found.first (count_of lack)
-    fresh = found_fresh bigblocks append maps states wanted (count_of lack) found stand finds (omega (arith, sized, enough, four)) four
+  fresh : AreFresh bigblocks (is_free_by append maps) found.first (count_of lack)
+  fresh = found_fresh bigblocks (is_free_by append maps) wanted (count_of lack) found finds (omega (arith, sized, enough, four)) four
 
-    renewed : RenewedFor bigblocks lack found.first 4 (count_of lack) append append' maps (with_current now maps) states
-    renewed = renewing.each bigblocks maps.committed maps.frozen states stand fresh
+  renewed : Renewed bigblocks lack found.first 4 (count_of lack) append append' maps (with_current now maps)
+  renewed = renewing.each bigblocks maps.committed maps.frozen fresh
 
-    reserved : (zone : ℕ) → names_zone zones zone ≡ true → reserve_of zone ≤ room_in append' now zone
-    reserved zone names =
-        let range = named_zone zones zone names in
-        let place : TREE_ZONE + (zone - TREE_ZONE) ≡ zone = omega (arith, range) in
-        let low : zone - TREE_ZONE < 4 = omega (arith, range) in
-        by_test (zone - TREE_ZONE) low place (lacks_at lack (zone - TREE_ZONE)) refl where
-          by_test : (j : ℕ) → j < 4 → TREE_ZONE + j ≡ zone → (b : Bool) → lacks_at lack j ≡ b → reserve_of zone ≤ room_in append' now zone
-          by_test j low place true has =
-              let whole : room_in append' now zone ≡ BIGBLOCK_BYTES = ap (room_in append' now) (sym place) ∙ renewed.done j low low has in
-              omega (arith, whole, reserve_small zone)
-          by_test j low place false has =
-              let same : room_in append' now zone ≡ room_in append maps.current zone =
-              ap (room_in append' now) (sym place) ∙ renewed.undone j low (inr has) ∙ ap (room_in append maps.current) place in
-              let has_room : does_lack zones (room_in append maps.current) zone ≡ false =
-              ap (does_lack zones (room_in append maps.current)) (sym place) ∙ sym (lacks_is zones (room_in append maps.current) j low)
-              ∙ ap (λ (l : List Bool). lacks_at l j) (sym is) ∙ has in
-              let kept = reserve_kept zones (room_in append maps.current) zone names has_room in
-              omega (arith, same, kept)
+  reserved : (zone : ℕ) → names_zone zones zone ≡ true → reserve_of zone ≤ room_in append' now zone
+  reserved zone names =
+      let range = named_zone zones zone names in
+      let place : TREE_ZONE + (zone - TREE_ZONE) ≡ zone = omega (arith, range) in
+      let low : zone - TREE_ZONE < 4 = omega (arith, range) in
+      by_test (zone - TREE_ZONE) low place (lacks_at lack (zone - TREE_ZONE)) refl where
+        by_test : (j : ℕ) → j < 4 → TREE_ZONE + j ≡ zone → (b : Bool) → lacks_at lack j ≡ b → reserve_of zone ≤ room_in append' now zone
+        by_test j low place true has =
+            let whole : room_in append' now zone ≡ BIGBLOCK_BYTES = ap (room_in append' now) (sym place) ∙ renewed.done j low low has in
+            omega (arith, whole, reserve_small zone)
+        by_test j low place false has =
+            let same : room_in append' now zone ≡ room_in append maps.current zone =
+            ap (room_in append' now) (sym place) ∙ renewed.undone j low (inr has) ∙ ap (room_in append maps.current) place in
+            let has_room : does_lack zones (room_in append maps.current) zone ≡ false =
+            ap (does_lack zones (room_in append maps.current)) (sym place) ∙ sym (lacks_is zones (room_in append maps.current) j low)
+            ∙ ap (λ (l : List Bool). lacks_at l j) (sym is) ∙ has in
+            let kept = reserve_kept zones (room_in append maps.current) zone names has_room in
+            omega (arith, same, kept)
 
-    admits_all : Admits room_at (free_at bigblocks) zones held (space_of append maps) (space_of append' (with_current now maps))
-    admits_all =
-        let before = free_same bigblocks append maps states stand in
-        let after = free_same bigblocks append' (with_current now maps) states renewed.stand in
-        record {
-          enough = omega (arith, total, there);
-          no_more = omega (arith, before, after, renewed.no_more);
-          paid = omega (arith, before, after, total, renewed.paid);
-          reserve = reserved;
-        }
+  admits_all : Admits room_at (free_at bigblocks) zones held (space_of append maps) (space_of append' (with_current now maps))
+  admits_all = record {
+    enough = omega (arith, total, there);
+    no_more = renewed.no_more;
+    paid = omega (arith, total, renewed.paid);
+    reserve = reserved;
+  }
 
-    -- whether a zone lacks room, by its place among the four
-    lacks_here : (k : ℕ) → k < 4 → lacks_at lack k ≡ does_lack zones (room_in append maps.current) (TREE_ZONE + k)
-    lacks_here k low = ap (λ (l : List Bool). lacks_at l k) is ∙ lacks_is zones (room_in append maps.current) k low
+  -- whether a zone lacks room, by its place among the four
+  lacks_here : (k : ℕ) → k < 4 → lacks_at lack k ≡ does_lack zones (room_in append maps.current) (TREE_ZONE + k)
+  lacks_here k low = ap (λ (l : List Bool). lacks_at l k) is ∙ lacks_is zones (room_in append maps.current) k low
 
-    begun_lowest : (k : ℕ) → k < 4 → does_lack zones (room_in append maps.current) (TREE_ZONE + k) ≡ true
-        → IsFreeAt bigblocks append states (lacking_before zones (room_in append maps.current) k) (slice_index append' k)
-    begun_lowest k low lacks =
-        let here : lacks_at lack k ≡ true = lacks_here k low ∙ lacks in
-        let before : count_first lack k ≡ lacking_before zones (room_in append maps.current) k =
-        ap (λ (l : List Bool). count_first l k) is ∙ before_is zones (room_in append maps.current) k low in
-        let one : bit (lacks_at lack k) ≡ 1 = ap bit here in
-        let more = first_more lack k (omega (arith, low, ap length is)) in
-        let inside : count_first lack k < count_of lack = omega (arith, more, first_few lack (k + 1), one) in
-        subst (λ (b : ℕ). IsFreeAt bigblocks append states (lacking_before zones (room_in append maps.current) k) b) (sym (renewed.begun k low low here))
-        (subst (λ (n : ℕ). IsFreeAt bigblocks append states n (slice_index found.first (count_first lack k))) before (fresh.each (count_first lack k) inside))
+  begun_lowest : (k : ℕ) → k < 4 → does_lack zones (room_in append maps.current) (TREE_ZONE + k) ≡ true
+      → IsFreeAt bigblocks (is_free_by append maps) (lacking_before zones (room_in append maps.current) k) (slice_index append' k)
+  begun_lowest k low lacks =
+      let here : lacks_at lack k ≡ true = lacks_here k low ∙ lacks in
+      let before : count_first lack k ≡ lacking_before zones (room_in append maps.current) k =
+      ap (λ (l : List Bool). count_first l k) is ∙ before_is zones (room_in append maps.current) k low in
+      let one : bit (lacks_at lack k) ≡ 1 = ap bit here in
+      let more = first_more lack k (omega (arith, low, ap length is)) in
+      let inside : count_first lack k < count_of lack = omega (arith, more, first_few lack (k + 1), one) in
+      subst (λ (b : ℕ). IsFreeAt bigblocks (is_free_by append maps) (lacking_before zones (room_in append maps.current) k) b)
+      (sym (renewed.begun k low low here))
+      (subst (λ (n : ℕ). IsFreeAt bigblocks (is_free_by append maps) n (slice_index found.first (count_first lack k)))
+      before (fresh.each (count_first lack k) inside))
 
-    lowest_all : BeginsLowest bigblocks zones states (space_of append maps) (space_of append' (with_current now maps))
-    lowest_all = record {
-      begun = begun_lowest;
-      whole = λ k low lacks. renewed.done k low low (lacks_here k low ∙ lacks);
-      others = λ k low has. renewed.others k low (inr (lacks_here k low ∙ has));
-      entries = λ block apart. renewing.entries block
-          (λ j few early lacks same. apart j few (sym (lacks_here j few) ∙ lacks) (renewed.begun j few few lacks ∙ same));
-      room = λ k low has. renewed.undone k low (inr (lacks_here k low ∙ has));
-    }
+  lowest_all : BeginsLowest bigblocks zones (is_free_by append maps) (space_of append maps) (space_of append' (with_current now maps))
+  lowest_all = record {
+    begun = begun_lowest;
+    whole = λ k low lacks. renewed.done k low low (lacks_here k low ∙ lacks);
+    others = λ k low has. renewed.others k low (inr (lacks_here k low ∙ has));
+    entries = λ block apart. renewing.entries block
+        (λ j few early lacks same. apart j few (sym (lacks_here j few) ∙ lacks) (renewed.begun j few few lacks ∙ same));
+    room = λ k low has. renewed.undone k low (inr (lacks_here k low ∙ has));
+  }
+
+  -- the room of a zone never falls
+  risen : (zone : ℕ) → room_in append maps.current zone ≤ room_in append' now zone
+  risen zone = by_zone (is_handed_out zone) refl where
+    by_place : (j : ℕ) → j < 4 → TREE_ZONE + j ≡ zone → (b : Bool) → lacks_at lack j ≡ b → room_in append maps.current zone ≤ room_in append' now zone
+    by_place j low place true lacks =
+        let whole : room_in append' now zone ≡ BIGBLOCK_BYTES = ap (room_in append' now) (sym place) ∙ renewed.done j low low lacks in
+        omega (arith, whole, room_most append maps.current zone)
+    by_place j low place false has =
+        let same : room_in append' now zone ≡ room_in append maps.current zone =
+        ap (room_in append' now) (sym place) ∙ renewed.undone j low (inr has) ∙ ap (room_in append maps.current) place in
+        omega (arith, same)
+
+    by_zone : (b : Bool) → is_handed_out zone ≡ b → room_in append maps.current zone ≤ room_in append' now zone
+    by_zone true is =
+        let range = is_handed zone is in
+        by_place (zone - TREE_ZONE) (omega (arith, range)) (omega (arith, range)) (lacks_at lack (zone - TREE_ZONE)) refl
+    by_zone false is =
+        let none : room_in append maps.current zone ≡ 0 =
+        ap (λ (b : Bool). cond b (BIGBLOCK_BYTES - (entry_of maps.current (append_of append zone)).append_off) 0) is in
+        omega (arith, none)
 
   pub admitted_some : IsAdmitted bigblocks zones held append append' maps now
   admitted_some = record {
     pages = renewing.pages;
-    stand = λ states stand. (renewed states stand).stand;
     admits = admits_all;
     lowest = lowest_all;
+    room = risen;
+    distinct = renewed.distinct;
+    pool = renewed.pool;
+    stand = renewed.stand;
   }
 
 -- the same where pages are told

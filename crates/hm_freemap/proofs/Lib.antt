@@ -2,6 +2,7 @@ pub mod AdmitLemmas
 pub mod BoundLemmas
 pub mod CauseLemmas
 pub mod CountLemmas
+pub mod DecideLemmas
 pub mod EntryLemmas
 pub mod ExtentLemmas
 pub mod FreeLemmas
@@ -9,7 +10,9 @@ pub mod FreshLemmas
 pub mod GoodLemmas
 pub mod GrantLemmas
 pub mod ListLemmas
+pub mod MapsLemmas
 pub mod OnePageLemmas
+pub mod OrderLemmas
 pub mod PlaceLemmas
 pub mod PutLemmas
 pub mod RenewLemmas

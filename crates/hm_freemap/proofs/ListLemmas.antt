@@ -55,8 +55,8 @@ few_without r xs few =
     All-weaker (λ y. count_by (is_there y) xs ≤ MOST_REFERENCES) (λ y. count_by (is_there y) (without_one r xs) ≤ MOST_REFERENCES)
     (λ y le. omega (arith, le, count_without (is_there y) r xs)) (without_one r xs) (all_alone (λ y. count_by (is_there y) xs ≤ MOST_REFERENCES) r xs few)
 
--- what one of its references to an extent takes
-pub size_in : ℕ → Reference → ℕ
+-- what a reference takes of a big-block
+abbrev pub size_in : ℕ → Reference → ℕ
 size_in block r = cond (is_in block r) (rounded r.len) 0
 
 pub or_second : (a b : Bool) → (a || b) ≡ true → a ≡ false → b ≡ true

@@ -1,12 +1,12 @@
 -- A zone begins a big-block that is free: the freemap stands for the same states.
 use Rattle.std.proofs.Common.{◌≡◌, ◌≢◌, Bool, true, false, true≢false, ℕ, zero, suc, ◌+◌, ◌-◌, ◌%◌, ◌<◌, ◌≤◌, inl, ⊎_elim, List, [], ◌∷◌, ◌++◌, length, set, slice_index, slice_set, refl, sym, ap, subst, ◌∙◌, arith, cond, not, ◌&&◌, ◌||◌, nat_eq, eqb-true, eq-eqb, pos, ◌+ℤ◌}
 use Rattle.std.specs.Prelude.{All}
-use Rattle.std.proofs.lemmas.Bool.{cases_eq}
+use Rattle.std.proofs.lemmas.Bool.{cases_eq, not-true}
 use Rattle.std.proofs.lemmas.List.{get_or-set_same, get_or-set_other, length-set}
-use Rattle.std.proofs.lemmas.List.Elements.{All-head, All-tail, All-cons, All-nil}
+use Rattle.std.proofs.lemmas.List.Elements.{All-append, All-head, All-tail, All-cons, All-nil}
 use Rattle.std.proofs.lemmas.Int.{ints}
 use Rattle.hm_types.specs.Layout.{IsPool, first_pool}
-use Rattle.hm_types.specs.References.{Reference, References, IsPlaced, is_in, unit_of, is_append, is_unused, is_free, free_blocks, live_bytes}
+use Rattle.hm_types.specs.References.{Reference, References, IsPlaced, is_in, unit_of, is_append, is_unused, is_free, live_bytes}
 use Rattle.hm_types.specs.Space.{rounded}
 use Rattle.hm_types.specs.declared.limits.TheConstants.{BIGBLOCK_BYTES}
 use Rattle.hm_types.specs.declared.zone.TheConstants.{TREE_ZONE}
@@ -14,11 +14,14 @@ use Rattle.hm_fields.specs.Pages.{PageMap}
 use Rattle.hm_freemap.specs.Admit.{begun}
 use Rattle.hm_freemap.specs.Entry.{IsPoolEntry}
 use Rattle.hm_freemap.specs.Extents.{with_current}
-use Rattle.hm_freemap.specs.Stand.{Maps, StandBy, IsBelow, AreAppended, EntryPut, all_of, home_of, entry_of, room_in, append_of, is_handed_out}
+use Rattle.hm_freemap.specs.Stand.{Maps, StandBy, IsBelow, AreAppended, AreDistinct, AreOfPool, EntryPut, all_of, home_of, entry_of, room_in}
+use Rattle.hm_freemap.specs.Stand.{append_of, is_handed_out, is_free_by, free_by}
 use Rattle.hm_freemap.specs.declared.entry.Entry.{Entry}
 use Rattle.hm_freemap.proofs.BoundLemmas.{placed_size}
 use Rattle.hm_freemap.proofs.CountLemmas.{bit, bit_one, is_one, one_most, one_there, pair_less, pair_more}
+use Rattle.hm_freemap.proofs.FreeLemmas.{free_is_unused}
 use Rattle.hm_freemap.proofs.ListLemmas.{all_left, all_right, and_left, and_right}
+use Rattle.hm_freemap.proofs.MapsLemmas.{IsClear, clear_block, clear_other, has_at, is_clear_at, not_free_by}
 use Rattle.hm_freemap.proofs.PutLemmas.{other_test, same_test}
 use Rattle.hm_freemap.proofs.StandLemmas.{tells_after}
 use Rattle.hm_freemap.proofs.TakeLemmas.{all_both, handed_out}
@@ -34,10 +37,6 @@ unused_home bigblocks block (r ∷ rs) placed none =
     absurd (omega (arith, none, is, size)))
     (unused_home bigblocks block rs (All-tail (IsPlaced bigblocks) r rs placed) (omega (arith, none)))
 
-all_append : {X : Type 0} (P : X → Type 0) (xs ys : List X) → All P xs → All P ys → All P (xs ++ ys)
-all_append P [] ys first second = second
-all_append P (x ∷ xs) ys first second = All-cons P x (xs ++ ys) (All-head P x xs first) (all_append P xs ys (All-tail P x xs first) second)
-
 pub zero_test : (n : ℕ) → nat_eq n 0 ≡ true → n ≡ 0
 zero_test n is = eqb-true n 0 is
 
@@ -48,10 +47,6 @@ pub record IsFreeBlock (append : List ℕ) (states : References) (block : ℕ) :
   pub frozen : live_bytes states.frozen block ≡ 0
   pub current : live_bytes states.current block ≡ 0
 
-not_true : (b : Bool) → not b ≡ true → b ≡ false
-not_true true is = absurd (true≢false (sym is))
-not_true false is = refl
-
 pub free_block : (append : List ℕ) (states : References) (block : ℕ) → is_free append states block ≡ true → IsFreeBlock append states block
 free_block append states block is =
     let c = nat_eq (live_bytes states.committed block) 0 in
@@ -61,7 +56,7 @@ free_block append states block is =
     let rest = and_right n ((c && f) && u) is in
     let both = and_left (c && f) u rest in
     record {
-      apart = not_true (is_append append block) (and_left n ((c && f) && u) is);
+      apart = not-true (is_append append block) (and_left n ((c && f) && u) is);
       committed = zero_test (live_bytes states.committed block) (and_left c f both);
       frozen = zero_test (live_bytes states.frozen block) (and_right c f both);
       current = zero_test (live_bytes states.current block) (and_right (c && f) u rest);
@@ -104,14 +99,6 @@ set_has (y ∷ ys) (suc k) new low = or_true (nat_eq y new) (is_append (set ys k
   or_true true b is = refl
   or_true false b is = is
 
-pub has_at : (xs : List ℕ) (k : ℕ) → k < length xs → is_append xs (slice_index xs k) ≡ true
-has_at [] k low = absurd (omega arith)
-has_at (y ∷ ys) zero low = rw (same_test y) refl
-has_at (y ∷ ys) (suc k) low = or_true (nat_eq y (slice_index ys k)) (is_append ys (slice_index ys k)) (has_at ys k (omega arith)) where
-  or_true : (a b : Bool) → b ≡ true → (a || b) ≡ true
-  or_true true b is = refl
-  or_true false b is = is
-
 pub free_is : (append : List ℕ) (states : References) (block : ℕ) → is_append append block ≡ false → live_bytes states.committed block ≡ 0
     → live_bytes states.frozen block ≡ 0 → live_bytes states.current block ≡ 0 → is_free append states block ≡ true
 free_is append states block apart committed frozen current =
@@ -129,33 +116,23 @@ zero_unit zone = by_test (nat_eq zone TREE_ZONE) where
   by_test true = omega arith
   by_test false = omega arith
 
-module _ (bigblocks : ℕ) (append : List ℕ) (maps : Maps) (states : References) (stand : StandBy bigblocks append maps states)
-    (k : ℕ) (low : k < 4) (block : ℕ) (inside : IsPool bigblocks block) (is : is_free append states block ≡ true)
+module _ (bigblocks : ℕ) (append : List ℕ) (maps : Maps) (four : length append ≡ 4)
+    (k : ℕ) (low : k < 4) (block : ℕ) (inside : IsPool bigblocks block) (is : is_free_by append maps block ≡ true)
     (now : PageMap) (put : EntryPut block (begun (TREE_ZONE + k)) maps.current now) where
   abbrev after : List ℕ
   after = slice_set append k block
 
-  free : IsFreeBlock append states block
-  free = free_block append states block is
+  clear : IsClear append maps block
+  clear = clear_block append maps block is
 
   at_place : slice_index after k ≡ block
-  at_place = get_or-set_same append k block 0 (omega (arith, stand.appended.four))
+  at_place = get_or-set_same append k block 0 (omega (arith, four))
 
   at_other : (j : ℕ) → j ≢ k → slice_index after j ≡ slice_index append j
   at_other j other = get_or-set_other append k j block 0 other
 
   append_apart : (j : ℕ) → j < 4 → slice_index append j ≢ block
-  append_apart j few = none_at append block j free.apart (omega (arith, stand.appended.four))
-
-  homes : All (λ r. home_of r ≢ block) (all_of states)
-  homes =
-      let rest = states.frozen ++ states.committed in
-      let more = all_right (IsPlaced bigblocks) states.current rest stand.placed in
-      all_append (λ r. home_of r ≢ block) states.current rest
-      (unused_home bigblocks block states.current (all_left (IsPlaced bigblocks) states.current rest stand.placed) free.current)
-      (all_append (λ r. home_of r ≢ block) states.frozen states.committed
-      (unused_home bigblocks block states.frozen (all_left (IsPlaced bigblocks) states.frozen states.committed more) free.frozen)
-      (unused_home bigblocks block states.committed (all_right (IsPlaced bigblocks) states.frozen states.committed more) free.committed))
+  append_apart j few = none_at append block j clear.apart (omega (arith, four))
 
   below_begun : (r : Reference) → home_of r ≢ block → IsBelow maps.current r → IsBelow now r
   below_begun r apart below =
@@ -172,91 +149,127 @@ module _ (bigblocks : ℕ) (append : List ℕ) (maps : Maps) (states : Reference
     unit = zero_unit (TREE_ZONE + k);
   })
 
-  begun_free : pos BIGBLOCK_BYTES +ℤ pos (live_bytes states.current block) ≡ pos BIGBLOCK_BYTES
-  begun_free = let none = free.current in omega (arith, ints, none)
+  pub begun_pool : AreOfPool bigblocks append → AreOfPool bigblocks (slice_set append k block)
+  begun_pool pool j few = ⊎_elim
+      (λ (same : j ≡ k). subst (IsPool bigblocks) (sym (ap (slice_index after) same ∙ at_place)) inside)
+      (λ other. subst (IsPool bigblocks) (sym (at_other j other)) (pool j few))
+      (cases_eq j k)
 
-  begun_appended : AreAppended bigblocks after now
-  begun_appended = record {
-    four = length-set append k block ∙ stand.appended.four;
-    pool = λ j few. ⊎_elim
-        (λ (same : j ≡ k). subst (IsPool bigblocks) (sym (ap (slice_index after) same ∙ at_place)) inside)
-        (λ other. subst (IsPool bigblocks) (sym (at_other j other)) (stand.appended.pool j few))
-        (cases_eq j k);
+  pub begun_distinct : AreDistinct append → AreDistinct (slice_set append k block)
+  begun_distinct distinct i j less few same = ⊎_elim
+      (λ (first : i ≡ k). ⊎_elim
+      (λ (second : j ≡ k). first ∙ sym second)
+      (λ other. absurd (append_apart j few (sym (at_other j other) ∙ (sym same ∙ (ap (slice_index after) first ∙ at_place)))))
+      (cases_eq j k))
+      (λ apart. ⊎_elim
+      (λ (second : j ≡ k). absurd (append_apart i less (sym (at_other i apart) ∙ (same ∙ (ap (slice_index after) second ∙ at_place)))))
+      (λ other. distinct i j less few (sym (at_other i apart) ∙ (same ∙ at_other j other)))
+      (cases_eq j k))
+      (cases_eq i k)
+
+  begun_appended : AreAppended bigblocks append maps.current → AreAppended bigblocks after now
+  begun_appended appended = record {
+    four = length-set append k block ∙ appended.four;
+    pool = begun_pool appended.pool;
     zone = λ j few. ⊎_elim
         (λ (same : j ≡ k). ap (λ (b : ℕ). (entry_of now b).zone) (ap (slice_index after) same ∙ at_place) ∙ ap (λ (e : Entry). e.zone) put.put ∙ omega (arith, same))
-        (λ other. ap (λ (b : ℕ). (entry_of now b).zone) (at_other j other) ∙ ap (λ (e : Entry). e.zone) (put.others (slice_index append j) (append_apart j few)) ∙ stand.appended.zone j few)
+        (λ other. ap (λ (b : ℕ). (entry_of now b).zone) (at_other j other)
+        ∙ ap (λ (e : Entry). e.zone) (put.others (slice_index append j) (append_apart j few)) ∙ appended.zone j few)
         (cases_eq j k);
   }
 
-  pub begun_stands : StandBy bigblocks (slice_set append k block) (with_current now maps) states
-  begun_stands = record {
-    committed = stand.committed;
-    frozen = stand.frozen;
-    current = tells_after block (begun (TREE_ZONE + k)) maps.current now put bigblocks states.current states.current begun_entry begun_free (λ b other. refl) stand.current;
-    appended = begun_appended;
-    placed = stand.placed;
-    below = all_both (λ r. home_of r ≢ block) (IsBelow maps.current) (IsBelow now) (all_of states) below_begun homes stand.below;
-    apart = stand.apart;
-    few = stand.few;
-  }
+  module _ (states : References) (stand : StandBy bigblocks append maps states) where
+    unused : IsFreeBlock append states block
+    unused = free_block append states block (sym (free_is_unused bigblocks append maps states block stand inside) ∙ is)
+
+    homes : All (λ r. home_of r ≢ block) (all_of states)
+    homes =
+        let rest = states.frozen ++ states.committed in
+        let more = all_right (IsPlaced bigblocks) states.current rest stand.placed in
+        All-append (λ r. home_of r ≢ block) states.current rest
+        (unused_home bigblocks block states.current (all_left (IsPlaced bigblocks) states.current rest stand.placed) unused.current)
+        (All-append (λ r. home_of r ≢ block) states.frozen states.committed
+        (unused_home bigblocks block states.frozen (all_left (IsPlaced bigblocks) states.frozen states.committed more) unused.frozen)
+        (unused_home bigblocks block states.committed (all_right (IsPlaced bigblocks) states.frozen states.committed more) unused.committed))
+
+    begun_free : pos BIGBLOCK_BYTES +ℤ pos (live_bytes states.current block) ≡ pos BIGBLOCK_BYTES
+    begun_free = let none = unused.current in omega (arith, ints, none)
+
+    pub begun_stands : StandBy bigblocks (slice_set append k block) (with_current now maps) states
+    begun_stands = record {
+      committed = stand.committed;
+      frozen = stand.frozen;
+      current = tells_after block (begun (TREE_ZONE + k)) maps.current now put bigblocks states.current states.current
+          begun_entry begun_free (λ b other. refl) stand.current;
+      appended = begun_appended stand.appended;
+      placed = stand.placed;
+      below = all_both (λ r. home_of r ≢ block) (IsBelow maps.current) (IsBelow now) (all_of states) below_begun homes stand.below;
+      apart = stand.apart;
+      few = stand.few;
+    }
 
   -- which big-blocks are free changed at the new one and the old one alone
-  same_free : (x : ℕ) → x ≢ block → x ≢ slice_index append k → is_free after states x ≡ is_free append states x
+  same_free : (x : ℕ) → x ≢ block → x ≢ slice_index append k → is_free_by after (with_current now maps) x ≡ is_free_by append maps x
   same_free x other apart =
-      ap (λ (b : Bool). not b && is_unused states x) (set_same append k block x (λ e. other (sym e)) (λ e. apart (sym e)))
+      let c = is_clear_at maps.committed x in
+      let f = is_clear_at maps.frozen x in
+      ap (λ (b : Bool). not b && (c && (f && is_clear_at now x))) (set_same append k block x (λ e. other (sym e)) (λ e. apart (sym e)))
+      ∙ ap (λ (b : Bool). not (is_append append x) && (c && (f && b))) (clear_other maps block (begun (TREE_ZONE + k)) now put x other)
 
-  gone : is_free after states block ≡ false
-  gone = not_free after states block (set_has append k block (omega (arith, stand.appended.four)))
+  gone : is_free_by after (with_current now maps) block ≡ false
+  gone = not_free_by after (with_current now maps) block (set_has append k block (omega (arith, four)))
 
-  used : is_free append states (slice_index append k) ≡ false
-  used = not_free append states (slice_index append k) (has_at append k (omega (arith, stand.appended.four)))
+  used : is_free_by append maps (slice_index append k) ≡ false
+  used = not_free_by append maps (slice_index append k) (has_at append k (omega (arith, four)))
 
-  each_more : (x : ℕ) → bit (is_free after states x) + bit (is_one block x) ≤ bit (is_free append states x) + bit (is_one (slice_index append k) x)
+  each_more : (x : ℕ) → bit (is_free_by after (with_current now maps) x) + bit (is_one block x)
+      ≤ bit (is_free_by append maps x) + bit (is_one (slice_index append k) x)
   each_more x = ⊎_elim
       (λ (same : x ≡ block).
-      let a : bit (is_free after states x) ≡ 0 = ap (λ (y : ℕ). bit (is_free after states y)) same ∙ ap bit gone in
-      let b : bit (is_free append states x) ≡ 1 = ap (λ (y : ℕ). bit (is_free append states y)) same ∙ ap bit is in
+      let a : bit (is_free_by after (with_current now maps) x) ≡ 0 = ap (λ (y : ℕ). bit (is_free_by after (with_current now maps) y)) same ∙ ap bit gone in
+      let b : bit (is_free_by append maps x) ≡ 1 = ap (λ (y : ℕ). bit (is_free_by append maps y)) same ∙ ap bit is in
       omega (arith, a, b, bit_one (is_one block x)))
       (λ other.
       let none : bit (is_one block x) ≡ 0 = ap bit (other_test x block other) in
       ⊎_elim
       (λ (old : x ≡ slice_index append k).
       let one : bit (is_one (slice_index append k) x) ≡ 1 = ap bit (eq-eqb x (slice_index append k) old) in
-      omega (arith, none, one, bit_one (is_free after states x)))
+      omega (arith, none, one, bit_one (is_free_by after (with_current now maps) x)))
       (λ apart.
-      let same : bit (is_free after states x) ≡ bit (is_free append states x) = ap bit (same_free x other apart) in
+      let same : bit (is_free_by after (with_current now maps) x) ≡ bit (is_free_by append maps x) = ap bit (same_free x other apart) in
       omega (arith, none, same))
       (cases_eq x (slice_index append k)))
       (cases_eq x block)
 
-  each_less : (x : ℕ) → bit (is_free append states x) ≤ bit (is_free after states x) + bit (is_one block x)
+  each_less : (x : ℕ) → bit (is_free_by append maps x) ≤ bit (is_free_by after (with_current now maps) x) + bit (is_one block x)
   each_less x = ⊎_elim
       (λ (same : x ≡ block).
       let one : bit (is_one block x) ≡ 1 = ap bit (eq-eqb x block same) in
-      omega (arith, one, bit_one (is_free append states x)))
+      omega (arith, one, bit_one (is_free_by append maps x)))
       (λ other. ⊎_elim
       (λ (old : x ≡ slice_index append k).
-      let none : bit (is_free append states x) ≡ 0 = ap (λ (y : ℕ). bit (is_free append states y)) old ∙ ap bit used in
+      let none : bit (is_free_by append maps x) ≡ 0 = ap (λ (y : ℕ). bit (is_free_by append maps y)) old ∙ ap bit used in
       omega (arith, none))
       (λ apart.
-      let same : bit (is_free after states x) ≡ bit (is_free append states x) = ap bit (same_free x other apart) in
+      let same : bit (is_free_by after (with_current now maps) x) ≡ bit (is_free_by append maps x) = ap bit (same_free x other apart) in
       omega (arith, same))
       (cases_eq x (slice_index append k)))
       (cases_eq x block)
 
-  pub no_more : free_blocks bigblocks (slice_set append k block) states ≤ free_blocks bigblocks append states
+  pub no_more : free_by bigblocks (slice_set append k block) (with_current now maps) ≤ free_by bigblocks append maps
   no_more =
       let first = first_pool bigblocks in
       let n = bigblocks - first in
-      let sum = pair_more (is_free append states) (is_free after states) (is_one block) (is_one (slice_index append k)) first n each_more in
+      let sum =
+      pair_more (is_free_by append maps) (is_free_by after (with_current now maps)) (is_one block) (is_one (slice_index append k)) first n each_more in
       let one = one_there block first n inside.0 (omega (arith, inside.0, inside.1)) in
       omega (arith, sum, one, one_most (slice_index append k) first n)
 
-  pub one_less : free_blocks bigblocks append states ≤ free_blocks bigblocks (slice_set append k block) states + 1
+  pub one_less : free_by bigblocks append maps ≤ free_by bigblocks (slice_set append k block) (with_current now maps) + 1
   one_less =
       let first = first_pool bigblocks in
       let n = bigblocks - first in
-      let sum = pair_less (is_free append states) (is_free after states) (is_one block) first n each_less in
+      let sum = pair_less (is_free_by append maps) (is_free_by after (with_current now maps)) (is_one block) first n each_less in
       omega (arith, sum, one_most block first n)
 
   pub room_begun : room_in (slice_set append k block) now (TREE_ZONE + k) ≡ BIGBLOCK_BYTES

@@ -6,21 +6,21 @@ use Rattle.std.proofs.lemmas.Bool.{cases_eq, cases_lt}
 use Rattle.hm_types.specs.Layout.{block_of, start_of, first_pool}
 use Rattle.hm_types.specs.Offset.{byte_of}
 use Rattle.hm_types.specs.References.{Reference, References, is_in, is_append, is_unused, is_free, free_blocks, live_bytes}
-use Rattle.hm_types.specs.Space.{Spends, nothing, rounded, in_zone}
+use Rattle.hm_types.specs.Space.{rounded, in_zone}
 use Rattle.hm_types.specs.declared.limits.TheConstants.{BIGBLOCK_BYTES}
 use Rattle.hm_types.specs.declared.zone.TheConstants.{TREE_ZONE, SMALL_ZONE}
 use Rattle.hm_types.specs.declared.zones.Zones.{Zones}
 use Rattle.hm_fields.specs.Pages.{PageMap}
-use Rattle.hm_freemap.specs.Admit.{IsAdmitted, IsFreeAt, does_lack, free_at, free_before, room_at, space_of}
-use Rattle.hm_freemap.specs.Extents.{Changes, IsReferred, IsShareable, IsUnit, Takes, with_current, is_extent, reference, referred, unreferred, without_one}
+use Rattle.hm_freemap.specs.Admit.{IsAdmitted, IsFreeAt, does_lack, free_before}
+use Rattle.hm_freemap.specs.Extents.{Takes, is_extent, reference, referred, unreferred, without_one}
 use Rattle.hm_freemap.specs.Stand.{Maps, StandBy, append_of, entry_of, home_of, room_in}
-use Rattle.hm_freemap.specs.declared.entry.Entry.{Entry}
 use Rattle.hm_freemap.proofs.BoundLemmas.{placed_size}
 use Rattle.hm_freemap.proofs.CountLemmas.{bit, bit_one, count-append, count_less, count_same, is_one, one_most, pair_less}
-use Rattle.hm_freemap.proofs.FreeLemmas.{free_same}
+use Rattle.hm_freemap.proofs.GoodLemmas.{stand_distinct}
 use Rattle.hm_freemap.proofs.ListLemmas.{live_without, one_extent}
+use Rattle.hm_freemap.proofs.MapsLemmas.{clear_block, has_at}
 use Rattle.hm_freemap.proofs.PutLemmas.{other_test, same_test}
-use Rattle.hm_freemap.proofs.RenewLemmas.{free_block, free_is, has_at, not_free}
+use Rattle.hm_freemap.proofs.RenewLemmas.{free_block, free_is, not_free}
 use Rattle.hm_freemap.proofs.ScanLemmas.{range-one, range-split}
 use Rattle.hm_freemap.proofs.TakeLemmas.{handed_out, zone_of_room}
 
@@ -126,7 +126,7 @@ module _ (bigblocks : ℕ) (append : List ℕ) (maps : Maps) (states : Reference
   has_room : rounded len ≤ room_in append maps.current zone
   has_room =
       let all : in_zone zone (rounded len) zone ≡ rounded len = ap (λ (b : Bool). cond b (rounded len) 0) (same_test zone) in
-      omega (arith, takes.room states stand zone, all)
+      omega (arith, takes.room (stand_distinct bigblocks append maps states stand) zone, all)
 
   taken_zone : (TREE_ZONE ≤ zone) × (zone ≤ SMALL_ZONE)
   taken_zone = zone_of_room append (Some maps.current) zone len some has_room
@@ -157,63 +157,29 @@ module _ (bigblocks : ℕ) (append : List ℕ) (maps : Maps) (states : Reference
   pub taken_blocks : free_blocks bigblocks append (referred (reference at len) states) ≡ free_blocks bigblocks append states
   taken_blocks = all_as bigblocks append states (referred (reference at len) states) taken_free
 
--- the room of zones and the number of free big-blocks, by the maps, after a call on extents
-spent : (bigblocks : ℕ) (append : List ℕ) (maps : Maps) (now : PageMap) (old new : References) (most : ℕ → ℕ) → StandBy bigblocks append maps old
-    → StandBy bigblocks append (with_current now maps) new → free_blocks bigblocks append old ≤ free_blocks bigblocks append new
-    → ((zone : ℕ) → room_in append maps.current zone ≤ room_in append now zone + most zone)
-    → Spends room_at (free_at bigblocks) most (space_of append maps) (space_of append (with_current now maps))
-spent bigblocks append maps now old new most before after more room = record {
-  room = room;
-  free = omega (arith, free_same bigblocks append maps old before, free_same bigblocks append (with_current now maps) new after, more);
-}
-
-pub taken_spends : (bigblocks : ℕ) (append : List ℕ) (maps : Maps) (states : References) → StandBy bigblocks append maps states
-    → (zone len at : ℕ) (now : PageMap) → 1 ≤ len → IsUnit zone len → Takes bigblocks append zone len at maps now
-    → Spends room_at (free_at bigblocks) (in_zone zone (rounded len)) (space_of append maps) (space_of append (with_current now maps))
-taken_spends bigblocks append maps states stand zone len at now some unit takes =
-    let same = taken_blocks bigblocks append maps states stand zone len at now some takes in
-    spent bigblocks append maps now states (referred (reference at len) states) (in_zone zone (rounded len)) stand (takes.stand states stand unit)
-    (omega (arith, same)) (λ other. omega (arith, takes.room states stand other))
-
-pub shared_spends : (bigblocks : ℕ) (append : List ℕ) (maps : Maps) (states : References) → StandBy bigblocks append maps states
-    → (r : Reference) (next : Entry → Entry) (now : PageMap) → IsShareable r states → Changes bigblocks append r (IsShareable r) (referred r) next maps now
-    → Spends room_at (free_at bigblocks) nothing (space_of append maps) (space_of append (with_current now maps))
-shared_spends bigblocks append maps states stand r next now needs changes =
-    let same = shared_blocks bigblocks append r states needs.live in
-    spent bigblocks append maps now states (referred r states) nothing stand (changes.stand states stand needs)
-    (omega (arith, same)) (λ zone. omega (arith, changes.room zone))
-
-pub given_spends : (bigblocks : ℕ) (append : List ℕ) (maps : Maps) (states : References) → StandBy bigblocks append maps states
-    → (r : Reference) (next : Entry → Entry) (now : PageMap) → IsReferred r states → Changes bigblocks append r (IsReferred r) (unreferred r) next maps now
-    → Spends room_at (free_at bigblocks) nothing (space_of append maps) (space_of append (with_current now maps))
-given_spends bigblocks append maps states stand r next now needs changes =
-    spent bigblocks append maps now states (unreferred r states) nothing stand (changes.stand states stand needs)
-    (given_more bigblocks append r states) (λ zone. omega (arith, changes.room zone))
-
 -- a free big-block is counted before each higher one
-counted_before : (bigblocks : ℕ) (append : List ℕ) (states : References) (low high : ℕ) → first_pool bigblocks ≤ low → low < high
-    → is_free append states low ≡ true → free_before bigblocks append states low < free_before bigblocks append states high
-counted_before bigblocks append states low high least below is =
+counted_before : (bigblocks : ℕ) (test : ℕ → Bool) (low high : ℕ) → first_pool bigblocks ≤ low → low < high
+    → test low ≡ true → free_before bigblocks test low < free_before bigblocks test high
+counted_before bigblocks test low high least below is =
     let first = first_pool bigblocks in
-    let free = is_free append states in
     let front = range_with_len first (low - first) in
     let rest = range_with_len (low + 1) (high - (low + 1)) in
     let parts : range_with_len first (high - first) ≡ (front ++ low ∷ []) ++ rest =
     range-split first (low + 1) high (omega arith) (omega arith) ∙ ap (λ (l : List ℕ). l ++ rest) (range-one first low least) in
-    let one : count_by free (low ∷ []) ≡ 1 = rw is refl in
-    omega (arith, ap (count_by free) parts, count-append free (front ++ low ∷ []) rest, count-append free front (low ∷ []), one)
+    let one : count_by test (low ∷ []) ≡ 1 = rw is refl in
+    omega (arith, ap (count_by test) parts, count-append test (front ++ low ∷ []) rest, count-append test front (low ∷ []), one)
 
 -- so many free ones come before one alone
-pub same_rank : (bigblocks : ℕ) (append : List ℕ) (states : References) (rank one other : ℕ) → IsFreeAt bigblocks append states rank one
-    → IsFreeAt bigblocks append states rank other → one ≡ other
-same_rank bigblocks append states rank one other here there = ⊎_elim
+pub same_rank : (bigblocks : ℕ) (test : ℕ → Bool) (rank one other : ℕ) → IsFreeAt bigblocks test rank one
+    → IsFreeAt bigblocks test rank other → one ≡ other
+same_rank bigblocks test rank one other here there = ⊎_elim
     (λ (same : one ≡ other). same)
     (λ apart. ⊎_elim
     (λ (below : one < other).
-    let less = counted_before bigblocks append states one other here.pool.0 below here.free in
+    let less = counted_before bigblocks test one other here.pool.0 below here.free in
     absurd (omega (arith, less, here.lower, there.lower)))
     (λ above.
-    let less = counted_before bigblocks append states other one there.pool.0 (omega (arith, above, apart)) there.free in
+    let less = counted_before bigblocks test other one there.pool.0 (omega (arith, above, apart)) there.free in
     absurd (omega (arith, less, here.lower, there.lower)))
     (cases_lt one other))
     (cases_eq one other)
@@ -240,10 +206,10 @@ replaced_free bigblocks zones held append append' maps now states stand admitted
 
         by_test : (b : Bool) → does_lack zones (room_in append maps.current) (TREE_ZONE + j) ≡ b → ⊥
         by_test true is =
-            let fresh = free_block append states (slice_index append' j) ((admitted.lowest states stand).begun j few is).free in
+            let fresh = clear_block append maps (slice_index append' j) (admitted.lowest.begun j few is).free in
             true≢false (sym (ap (is_append append) same ∙ has_at append k (omega (arith, low, stand.appended.four))) ∙ fresh.apart)
         by_test false has =
-            let both : slice_index append j ≡ slice_index append k = sym ((admitted.lowest states stand).others j few has) ∙ same in
+            let both : slice_index append j ≡ slice_index append k = sym (admitted.lowest.others j few has) ∙ same in
             let zones_same : TREE_ZONE + j ≡ TREE_ZONE + k =
             sym (stand.appended.zone j few) ∙ ap (λ (b : ℕ). (entry_of maps.current b).zone) both ∙ stand.appended.zone k low in
             let here : j ≡ k = omega (arith, zones_same) in

@@ -1,19 +1,20 @@
 -- One zone after the other begins a big-block.
 use Rattle.std.proofs.Common.{◌≡◌, ◌≢◌, Bool, true, false, true≢false, ℕ, ◌+◌, ◌^◌, ◌<◌, ◌≤◌, inl, inr, ◌⊎◌, ⊎_elim, List, length, slice_index, slice_set, refl, sym, ap, subst, ◌∙◌, arith, cond, Option, Some, None}
 use Rattle.std.proofs.lemmas.Bool.{cases_eq}
-use Rattle.std.proofs.lemmas.List.{get_or-set_same, get_or-set_other}
+use Rattle.std.proofs.lemmas.List.{get_or-set_same, get_or-set_other, length-set}
 use Rattle.std.proofs.lemmas.List.Sums.{count_by_more_yes, count_by_more_no, sum_by-take-le}
 use Rattle.hm_types.specs.Offset.{zone_of}
-use Rattle.hm_types.specs.References.{is_free}
 use Rattle.hm_types.specs.Told.{BothTell}
 use Rattle.hm_types.specs.declared.zone.TheConstants.{TREE_ZONE}
 use Rattle.hm_fields.specs.Pages.{PageMap}
 use Rattle.hm_freemap.specs.Admit.{begun, free_before}
-use Rattle.hm_freemap.specs.Renew.{Begins, Renewing, count_first, count_of, lacks_at}
-use Rattle.hm_freemap.specs.Stand.{Maps, EntryPut, room_in}
+use Rattle.hm_freemap.specs.Renew.{Begins, Renewing, count_first, count_of, lacks_at, maps_of}
+use Rattle.hm_freemap.specs.Stand.{EntryPut, is_free_by, is_whole_block, room_in}
+use Rattle.hm_freemap.specs.declared.entry.Entry.{Entry}
 use Rattle.hm_freemap.proofs.CountLemmas.{bit}
+use Rattle.hm_freemap.proofs.MapsLemmas.{clear_block, clear_is_free, is_clear_at}
 use Rattle.hm_freemap.proofs.PlaceLemmas.{page_zone}
-use Rattle.hm_freemap.proofs.RenewLemmas.{free_block, free_is, set_none, begun_stands, no_more, one_less, room_begun, room_other}
+use Rattle.hm_freemap.proofs.RenewLemmas.{set_none, begun_distinct, begun_pool, begun_stands, no_more, one_less, room_begun, room_other}
 
 pub first_few : (lack : List Bool) (k : ℕ) → count_first lack k ≤ count_of lack
 first_few lack k = sum_by-take-le (λ lacks. cond lacks 1 0) lack k
@@ -27,13 +28,17 @@ first_more lack k low = by_test (lacks_at lack k) refl where
 -- nothing has begun yet
 pub renewing_none : (lack : List Bool) (fresh append : List ℕ) (map : PageMap) → length append ≡ 4 → Renewing lack fresh 0 0 append append map map
 renewing_none lack fresh append map four = record {
+  four = four;
   pages = λ at other. refl;
   entries = λ block apart. refl;
-  each = λ bigblocks c f states stand facts. record {
-    stand = stand;
+  each = λ bigblocks c f facts. record {
+    stand = λ states stand. stand;
+    pool = λ pool. pool;
+    distinct = λ distinct. distinct;
     no_more = omega arith;
     paid = omega arith;
-    left = λ i low high. (free_block append states (slice_index fresh i) (facts.each i high).free).apart;
+    left = λ i low high. (clear_block append (maps_of c f map) (slice_index fresh i) (facts.each i high).free).apart;
+    kept = λ i low high. refl;
     begun = λ j few early. absurd (omega arith);
     others = λ j few later. refl;
     done = λ j few early. absurd (omega arith);
@@ -56,15 +61,19 @@ module _ (lack : List Bool) (fresh : List ℕ) (k : ℕ) (append0 append' : List
       (λ other. omega (arith, early, other))
       (cases_eq j k) in
       record {
+        four = renewing.four;
         pages = renewing.pages;
         entries = λ block apart. renewing.entries block (λ j few early lacks. apart j few (omega arith) lacks);
-        each = λ bigblocks c f states stand facts.
-            let r = renewing.each bigblocks c f states stand facts in
+        each = λ bigblocks c f facts.
+            let r = renewing.each bigblocks c f facts in
             record {
               stand = r.stand;
+              pool = r.pool;
+              distinct = r.distinct;
               no_more = r.no_more;
               paid = omega (arith, r.paid, same);
               left = λ i later high. r.left i (omega (arith, same, later)) high;
+              kept = λ i later high. r.kept i (omega (arith, same, later)) high;
               begun = λ j few early lacks. r.begun j few (passed j early lacks) lacks;
               others = λ j few which. r.others j few (sooner j which);
               done = λ j few early lacks. r.done j few (passed j early lacks) lacks;
@@ -82,47 +91,56 @@ module _ (lack : List Bool) (fresh : List ℕ) (k : ℕ) (append0 append' : List
       let one : count_first lack (k + 1) ≡ next + 1 = first_more lack k (omega (arith, four)) ∙ (let bits : bit (lacks_at lack k) ≡ 1 = ap bit lacks in omega (arith, bits)) in
       let inside : next < count_of lack = omega (arith, one, first_few lack (k + 1)) in
       record {
+        four = length-set append' k block ∙ renewing.four;
         pages = λ at other. put.pages at (λ same. other (ap zone_of same ∙ page_zone block small)) ∙ renewing.pages at other;
         entries = λ other apart.
             let here : other ≢ block = λ same. apart k low (omega arith) lacks (sym same) in
             put.others other here ∙ renewing.entries other (λ j few early needs. apart j few (omega (arith, early)) needs);
-        each = λ bigblocks c f states stand facts.
-            let r = renewing.each bigblocks c f states stand facts in
-            let maps : Maps = record { committed = c; frozen = f; current = mid } in
+        each = λ bigblocks c f facts.
+            let r = renewing.each bigblocks c f facts in
+            let maps = maps_of c f mid in
+            let four = renewing.four in
             let fact = facts.each next inside in
-            let was = free_block append0 states block fact.free in
-            let free : is_free append' states block ≡ true =
-            free_is append' states block (r.left next (omega arith) inside) was.committed was.frozen was.current in
+            let was = clear_block append0 (maps_of c f old) block fact.free in
+            let clear : is_clear_at mid block ≡ true =
+            ap (λ (e : Entry). is_whole_block e.bytes_free) (r.kept next (omega arith) inside) ∙ was.current in
+            let free : is_free_by append' maps block ≡ true =
+            clear_is_free append' maps block (r.left next (omega arith) inside) was.committed was.frozen clear in
             let pool = fact.pool in
             let apart : (i : ℕ) → next < i → i < count_of lack → block ≢ slice_index fresh i = λ i later high same.
-            absurd (omega (arith, later, fact.lower, (facts.each i high).lower, ap (free_before bigblocks append0 states) same)) in
+            absurd (omega (arith, later, fact.lower, (facts.each i high).lower, ap (free_before bigblocks (is_free_by append0 (maps_of c f old))) same)) in
             let after : (j : ℕ) → (k + 1 ≤ j) ⊎ (lacks_at lack j ≡ false) → j ≢ k = λ j which here.
             ⊎_elim (λ (later : k + 1 ≤ j). absurd (omega (arith, later, here)))
             (λ none. absurd (true≢false (sym (ap (lacks_at lack) here ∙ lacks) ∙ none))) which in
-            let more = no_more bigblocks append' maps states r.stand k low block pool free now put in
-            let less = one_less bigblocks append' maps states r.stand k low block pool free now put in
+            let more = no_more bigblocks append' maps four k low block pool free now put in
+            let less = one_less bigblocks append' maps four k low block pool free now put in
             record {
-              stand = begun_stands bigblocks append' maps states r.stand k low block pool free now put;
+              stand = λ states stand. begun_stands bigblocks append' maps four k low block pool free now put states (r.stand states stand);
+              pool = λ before. begun_pool bigblocks append' maps four k low block pool free now put (r.pool before);
+              distinct = λ before. begun_distinct bigblocks append' maps four k low block pool free now put (r.distinct before);
               no_more = omega (arith, more, r.no_more);
               paid = omega (arith, less, r.paid, one);
               left = λ i later high.
                   let after_next : next < i = omega (arith, later, one) in
                   set_none append' k block (slice_index fresh i) (r.left i (omega arith) high) (apart i after_next high);
+              kept = λ i later high.
+                  let after_next : next < i = omega (arith, later, one) in
+                  put.others (slice_index fresh i) (λ same. apart i after_next high (sym same)) ∙ r.kept i (omega arith) high;
               begun = λ j few early needs. ⊎_elim
                   (λ (here : j ≡ k). ap (slice_index (slice_set append' k block)) here
-                  ∙ get_or-set_same append' k block 0 (omega (arith, low, r.stand.appended.four))
+                  ∙ get_or-set_same append' k block 0 (omega (arith, low, four))
                   ∙ ap (λ (x : ℕ). slice_index fresh (count_first lack x)) (sym here))
                   (λ other. get_or-set_other append' k j block 0 other ∙ r.begun j few (omega (arith, early, other)) needs)
                   (cases_eq j k);
               others = λ j few which. get_or-set_other append' k j block 0 (after j which) ∙ r.others j few (sooner j which);
               done = λ j few early needs. ⊎_elim
                   (λ (here : j ≡ k). ap (λ (x : ℕ). room_in (slice_set append' k block) now (TREE_ZONE + x)) here
-                  ∙ room_begun bigblocks append' maps states r.stand k low block pool free now put)
-                  (λ other. room_other bigblocks append' maps states r.stand k low block pool free now put j few other
+                  ∙ room_begun bigblocks append' maps four k low block pool free now put)
+                  (λ other. room_other bigblocks append' maps four k low block pool free now put j few other
                   ∙ r.done j few (omega (arith, early, other)) needs)
                   (cases_eq j k);
               undone = λ j few which.
-                  room_other bigblocks append' maps states r.stand k low block pool free now put j few (after j which)
+                  room_other bigblocks append' maps four k low block pool free now put j few (after j which)
                   ∙ r.undone j few (sooner j which);
             };
       }

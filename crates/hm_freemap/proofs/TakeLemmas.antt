@@ -1,5 +1,6 @@
 -- An extent that is taken: it stands behind all that is live in its big-block.
-use Rattle.std.proofs.Common.{◌≡◌, ◌≢◌, Bool, true, false, ℕ, ◌+◌, ◌-◌, ◌%◌, ◌<◌, ◌≤◌, inl, inr, ⊎_elim, List, [], ◌∷◌, ◌++◌, Option, Some, None, Err, refl, sym, ap, subst, ◌∙◌, arith, cond, nat_eq, eq-eqb, pos, ◌+ℤ◌}
+use Rattle.std.proofs.Common.{◌≡◌, ◌≢◌, Bool, true, false, true≢false, ℕ, ◌+◌, ◌-◌, ◌%◌, ◌<◌, ◌≤◌, inl, inr, ⊎_elim, List, [], ◌∷◌, ◌++◌, length}
+use Rattle.std.proofs.Common.{Option, Some, None, Err, refl, sym, ap, subst, ◌∙◌, arith, cond, nat_eq, eq-eqb, pos, ◌+ℤ◌}
 use Rattle.std.specs.Prelude.{All, count_by, IfSome}
 use Rattle.std.proofs.lemmas.Bool.{cases_eq, cases_lt}
 use Rattle.std.proofs.lemmas.Bool.Decides.{nat_tests}
@@ -10,8 +11,8 @@ use Rattle.hm_types.specs.declared.fault.Fault.{Fault}
 use Rattle.hm_types.specs.declared.fault.Fault.TheVariants.{Damaged}
 use Rattle.hm_types.specs.Layout.{IsPool, block_of, start_of}
 use Rattle.hm_types.specs.Offset.{zone_of, byte_of, raw_of}
-use Rattle.hm_types.specs.References.{Reference, References, end_of, IsPlaced, NoneOverlap, DoNotOverlap, AreFew, is_there, unit_of, live_bytes}
-use Rattle.hm_types.specs.Space.{rounded, in_zone}
+use Rattle.hm_types.specs.References.{Reference, References, end_of, IsPlaced, NoneOverlap, DoNotOverlap, AreFew, is_append, is_there, unit_of, live_bytes}
+use Rattle.hm_types.specs.Space.{Spends, rounded, in_zone}
 use Rattle.hm_types.specs.declared.limits.TheConstants.{BIGBLOCK_BYTES, MOST_BIGBLOCKS}
 use Rattle.hm_types.specs.declared.zone.TheConstants.{TREE_ZONE, SMALL_ZONE}
 use Rattle.hm_fields.specs.Pages.{PageMap, page_in}
@@ -20,13 +21,16 @@ use Rattle.hm_freemap.specs.Entry.{IsOwned, IsPoolEntry, entry_in}
 use Rattle.hm_freemap.specs.Extents.{Takes, IsApart, IsUnit, reference, referred, with_current}
 use Rattle.hm_freemap.specs.Faults.{HasFreemapCause, IsFreemapDamage, IsGoodBlock}
 use Rattle.hm_freemap.specs.Places.{page_of, place_of}
-use Rattle.hm_freemap.specs.Stand.{Maps, StandBy, IsBelow, EntryPut, all_of, append_of, home_of, entry_of, room, room_in, is_handed_out, WhereTold}
+use Rattle.hm_freemap.specs.Space.{free_at, room_at, space_of}
+use Rattle.hm_freemap.specs.Stand.{Maps, StandBy, AreDistinct, IsBelow, EntryPut, all_of, append_of, home_of, entry_of, room, room_in, is_handed_out, WhereTold}
 use Rattle.hm_freemap.specs.declared.entry.Entry.{Entry}
 use Rattle.hm_freemap.proofs.BoundLemmas.{live_few, placed_size, placed_low, placed_high}
 use Rattle.hm_freemap.proofs.CountLemmas.{bit, count-cons}
 use Rattle.hm_freemap.proofs.EntryLemmas.{free_less}
 use Rattle.hm_freemap.proofs.ExtentLemmas.{few_more, owned, here, elsewhere}
 use Rattle.hm_freemap.proofs.ListLemmas.{all_left, apart_left}
+use Rattle.hm_freemap.proofs.MapsLemmas.{free_kept, has_at, not_free_by}
+use Rattle.hm_freemap.proofs.PlaceLemmas.{page_zone}
 use Rattle.hm_freemap.proofs.PutLemmas.{other_test}
 use Rattle.hm_freemap.proofs.StandLemmas.{changed_at, stand_after, all_below}
 
@@ -58,7 +62,7 @@ none_there r (x ∷ xs) each =
 pub handed_out : (zone : ℕ) → TREE_ZONE ≤ zone → zone ≤ SMALL_ZONE → is_handed_out zone ≡ true
 handed_out zone low high = grind (arith, nat_tests)
 
-is_handed : (zone : ℕ) → is_handed_out zone ≡ true → (TREE_ZONE ≤ zone) × (zone ≤ SMALL_ZONE)
+pub is_handed : (zone : ℕ) → is_handed_out zone ≡ true → (TREE_ZONE ≤ zone) × (zone ≤ SMALL_ZONE)
 is_handed zone is = grind (arith, nat_tests)
 
 -- a zone that has room is one that space is handed out in
@@ -110,7 +114,8 @@ bad_append bigblocks append zone len block page c f u old new fault some enough 
       })
 
 module _ (bigblocks : ℕ) (append : List ℕ) (zone len at : ℕ) (maps : Maps) (now : PageMap) (block : ℕ) (entry : Entry)
-    (one : block ≡ append_of append zone) (low : TREE_ZONE ≤ zone) (high : zone ≤ SMALL_ZONE) (few : block < MOST_BIGBLOCKS) (some : 1 ≤ len)
+    (four : length append ≡ 4) (one : block ≡ append_of append zone) (low : TREE_ZONE ≤ zone) (high : zone ≤ SMALL_ZONE)
+    (few : block < MOST_BIGBLOCKS) (some : 1 ≤ len)
     (read : entry ≡ entry_of maps.current block) (holds : IsPoolEntry entry) (room : HasRoomFor zone (rounded len) entry)
     (raw : at ≡ raw_of zone (start_of block + entry.append_off)) (place : zone_of at ≡ zone) (begin : byte_of at ≡ start_of block + entry.append_off)
     (put : EntryPut block (appended (rounded len) entry) maps.current now) where
@@ -224,14 +229,12 @@ module _ (bigblocks : ℕ) (append : List ℕ) (zone len at : ℕ) (maps : Maps)
             unit = sum_unit entry.zone entry.append_off (rounded len) taken_owned.unit (subst (λ (z : ℕ). rounded len % unit_of z ≡ 0) (sym room.same) unit);
           }
 
+  module _ (distinct : AreDistinct append) where
     -- the append big-block of another zone is another one
     other_append : (other : ℕ) → TREE_ZONE ≤ other → other ≤ SMALL_ZONE → other ≢ zone → append_of append other ≢ block
     other_append other least most apart same =
-        let mine = stand.appended.zone (zone - TREE_ZONE) (omega (arith, low, high)) in
-        let its = stand.appended.zone (other - TREE_ZONE) (omega (arith, least, most)) in
-        let both : append_of append other ≡ append_of append zone = same ∙ one in
-        let zones = ap (λ (b : ℕ). (entry_of maps.current b).zone) both in
-        apart (omega (arith, mine, its, zones, low, least))
+        let places = distinct (other - TREE_ZONE) (zone - TREE_ZONE) (omega (arith, least, most)) (omega (arith, low, high)) (same ∙ one) in
+        apart (omega (arith, places, low, least))
 
     taken_room : (other : ℕ) → room_in append now other + in_zone zone (rounded len) other ≡ room_in append maps.current other
     taken_room other = ⊎_elim
@@ -267,12 +270,22 @@ module _ (bigblocks : ℕ) (append : List ℕ) (zone len at : ℕ) (maps : Maps)
                 by_test false is = ap (λ (x : Bool). cond x (BIGBLOCK_BYTES - (entry_of now (append_of append other)).append_off) 0) is
                     ∙ sym (ap (λ (x : Bool). cond x (BIGBLOCK_BYTES - (entry_of maps.current (append_of append other)).append_off) 0) is)
 
+    taken_spends : Spends room_at (free_at bigblocks) (in_zone zone (rounded len)) (space_of append maps) (space_of append (with_current now maps))
+    taken_spends =
+        let mine : is_append append block ≡ true = ap (is_append append) one ∙ has_at append (zone - TREE_ZONE) (omega (arith, low, high, four)) in
+        record {
+          room = λ other. omega (arith, taken_room other);
+          free = free_kept maps block next now put bigblocks append (λ is. absurd (true≢false (sym is ∙ not_free_by append maps block mine)));
+        }
+
   pub take_takes : Takes bigblocks append zone len at maps now
   take_takes = record {
     place = place;
     begin = begin ∙ ap (λ (e : Entry). start_of block + e.append_off) read ∙ ap (λ (b : ℕ). start_of b + (entry_of maps.current b).append_off) one;
     put = changed_at (appended (rounded len)) block (append_of append zone) entry maps.current now one read put;
+    pages = λ other apart. put.pages other (λ same. apart (ap zone_of same ∙ page_zone block (omega (arith, few))));
+    room = taken_room;
+    spends = taken_spends;
     stand = λ states stand unit. taken_stands states stand unit;
     dead = λ states stand. dead states stand;
-    room = λ states stand other. taken_room states stand other;
   }

@@ -1,5 +1,5 @@
 -- What becomes of the entry of a big-block as bytes of it become live or free.
-use Rattle.std.specs.Prelude.{◌≡◌, ℕ, ◌+◌, ◌-◌, ◌^◌, ◌≤◌, min, ℤ, pos, ◌+ℤ◌, ◌-ℤ◌}
+use Rattle.std.specs.Prelude.{◌≡◌, ℕ, ◌+◌, ◌-◌, ◌^◌, ◌≤◌, min, ℤ, pos, ◌+ℤ◌, ◌-ℤ◌, ◌≤ℤ◌}
 use Rattle.std.specs.Int.{w32, saturate_signed}
 use Rattle.hm_types.specs.declared.limits.TheConstants.{BIGBLOCK_BYTES}
 use Rattle.hm_freemap.specs.declared.entry.Entry.{Entry}
@@ -19,6 +19,10 @@ more free size = saturate_signed w32 (free +ℤ pos (fitted size))
 pub record HasRoomFor (zone size : ℕ) (e : Entry) : Type 0 where
   pub same : e.zone ≡ zone
   pub room : e.append_off + size ≤ BIGBLOCK_BYTES
+
+-- an extent of so many bytes may be live in the big-block: no more bytes are free than it leaves
+pub record MayHold (size : ℕ) (e : Entry) : Type 0 where
+  pub leaves : (e.bytes_free +ℤ pos size) ≤ℤ pos BIGBLOCK_BYTES
 
 -- an extent was appended
 abbrev pub appended : ℕ → Entry → Entry

@@ -2,12 +2,15 @@ pub mod Entry
 pub mod Layer1
 pub mod Places
 pub mod Stand
+pub mod Space
 pub mod Faults
 pub mod Scan
 pub mod Calls
 pub mod Change
 pub mod Extents
 pub mod Free
+pub mod Order
+pub mod Decide
 pub mod Admit
 pub mod Renew
 pub mod Fresh

@@ -53,10 +53,14 @@ pub record IsBelow (current : PageMap) (r : Reference) : Type 0 where
   pub zone : (entry_of current (home_of r)).zone ≡ zone_of r.at
   pub end : end_of r ≤ start_of (home_of r) + (entry_of current (home_of r)).append_off
 
--- the append big-blocks are four of the pool, each of its own zone
+-- the append big-blocks are of the pool
+abbrev pub AreOfPool : ℕ → List ℕ → Type 0
+AreOfPool bigblocks append = (k : ℕ) → k < 4 → IsPool bigblocks (slice_index append k)
+
+-- they are four of the pool, each of its own zone
 pub record AreAppended (bigblocks : ℕ) (append : List ℕ) (current : PageMap) : Type 0 where
   pub four : length append ≡ 4
-  pub pool : (k : ℕ) → k < 4 → IsPool bigblocks (slice_index append k)
+  pub pool : AreOfPool bigblocks append
   pub zone : (k : ℕ) → k < 4 → (entry_of current (slice_index append k)).zone ≡ TREE_ZONE + k
 
 -- what any of the three states refers to
@@ -127,6 +131,10 @@ pub record EntryPut (block : ℕ) (entry : Entry) (old new : PageMap) : Type 0 w
 -- the entry of a big-block became what this makes of it
 abbrev pub EntryChanged : ℕ → (Entry → Entry) → PageMap → PageMap → Type 0
 EntryChanged block next old new = EntryPut block (next (entry_of old block)) old new
+
+-- no two of the append big-blocks are one
+abbrev pub AreDistinct : List ℕ → Type 0
+AreDistinct append = (j k : ℕ) → j < 4 → k < 4 → slice_index append j ≡ slice_index append k → j ≡ k
 
 -- the append big-blocks lie on the volume
 abbrev pub AreBelow : ℕ → List ℕ → Type 0

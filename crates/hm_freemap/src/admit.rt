@@ -28,6 +28,7 @@ ghost use Rattle.hm_types.specs.declared.zone.TheConstants.{TREE_ZONE, SMALL_ZON
 ghost use Rattle.hm_freemap.specs.Admit.{
   HasAdmissionCause,
   IsAdmitted,
+  IsLookedAt,
   IsRefused,
   begun,
   does_lack,
@@ -86,7 +87,6 @@ fn lacks<P: FreemapPages>(
 ) -> Result<bool, Fault>
     requires most { bigblocks ≤ MOST_BIGBLOCKS }
     requires there { HasLayer2 bigblocks (P.layer2 pages.old) }
-    requires below { AreBelow bigblocks append.now }
     requires zone { (TREE_ZONE ≤ zone) × (zone ≤ SMALL_ZONE) }
     ensures ok { IfOk result (λ lacks. IfSome (P.pages pages.old) (λ map.
         lacks ≡ does_lack zones (room_in append.now map) zone)) }
@@ -97,7 +97,7 @@ fn lacks<P: FreemapPages>(
     ensures rest { P.rest pages.new ≡ P.rest pages.old }
     ensures name { P.name pages.new ≡ P.name pages.old }
     ensures frame { P.frame pages.new ≡ P.frame pages.old }
-    ensures cause { HasFreemapCause bigblocks append.now (λ one. one < bigblocks)
+    ensures cause { HasFreemapCause bigblocks append.now (IsLookedAt bigblocks append.now)
         (P.committed pages.old) (P.frozen pages.old) (P.pages pages.old)
         (P.faults pages.old) (P.faults pages.new) result }
 {
@@ -122,7 +122,6 @@ fn lacking<P: FreemapPages>(
 ) -> Result<[bool; 4], Fault>
     requires most { bigblocks ≤ MOST_BIGBLOCKS }
     requires there { HasLayer2 bigblocks (P.layer2 pages.old) }
-    requires below { AreBelow bigblocks append.now }
     ensures ok { IfOk result (λ all. IfSome (P.pages pages.old) (λ map.
         all ≡ lacking zones (room_in append.now map))) }
     ensures same { (P.pages pages.new ≡ P.pages pages.old)
@@ -132,7 +131,7 @@ fn lacking<P: FreemapPages>(
     ensures rest { P.rest pages.new ≡ P.rest pages.old }
     ensures name { P.name pages.new ≡ P.name pages.old }
     ensures frame { P.frame pages.new ≡ P.frame pages.old }
-    ensures cause { HasFreemapCause bigblocks append.now (λ one. one < bigblocks)
+    ensures cause { HasFreemapCause bigblocks append.now (IsLookedAt bigblocks append.now)
         (P.committed pages.old) (P.frozen pages.old) (P.pages pages.old)
         (P.faults pages.old) (P.faults pages.new) result }
 {

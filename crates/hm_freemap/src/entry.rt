@@ -4,7 +4,7 @@ ghost use Rattle.hm_types.specs.References.{unit_of};
 ghost use Rattle.hm_types.specs.declared.limits.TheConstants.{PAGE_BYTES, MOST_BIGBLOCKS};
 ghost use Rattle.hm_fields.specs.Fields.{Apart, get};
 ghost use Rattle.hm_freemap.specs.Admit.{begun};
-ghost use Rattle.hm_freemap.specs.Change.{HasRoomFor, appended, shared, given};
+ghost use Rattle.hm_freemap.specs.Change.{HasRoomFor, MayHold, appended, shared, given};
 ghost use Rattle.hm_freemap.specs.Fresh.{unused_entry};
 ghost use Rattle.hm_freemap.specs.Entry.{
   entry_in,
@@ -152,6 +152,15 @@ impl Entry {
             append_off: end as u32,
             bytes_free: self.bytes_free.saturating_sub(signed(size)),
         })
+    }
+
+    /// Whether an extent of `size` bytes may be live in the big-block: no more of its bytes are free
+    /// than that leaves.
+    pub(crate) fn may_hold(&self, size: u64) -> bool
+        requires { size ≤ 2 ^ 33 }
+        ensures { IsTrue result ↔ MayHold size self.now }
+    {
+        i64::from(self.bytes_free) + size as i64 <= BIGBLOCK_BYTES as i64
     }
 
     /// The entry after `size` bytes of the big-block became live.

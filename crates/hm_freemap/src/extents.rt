@@ -5,7 +5,7 @@ ghost use Rattle.hm_types.specs.Offset.{raw_of, byte_of, zone_of};
 ghost use Rattle.hm_types.specs.Space.{rounded};
 ghost use Rattle.hm_types.specs.declared.limits.TheConstants.{LEAST_BIGBLOCKS, MOST_BIGBLOCKS};
 ghost use Rattle.hm_types.specs.declared.zone.TheConstants.{TREE_ZONE, SMALL_ZONE};
-ghost use Rattle.hm_freemap.specs.Change.{given, shared};
+ghost use Rattle.hm_freemap.specs.Change.{MayHold, given, shared};
 ghost use Rattle.hm_freemap.specs.Entry.{entry_in};
 ghost use Rattle.hm_freemap.specs.Extents.{
   Moves,
@@ -17,7 +17,7 @@ ghost use Rattle.hm_freemap.specs.Extents.{
   unreferred,
   reference,
 };
-ghost use Rattle.hm_freemap.specs.Faults.{HasFreemapCause};
+ghost use Rattle.hm_freemap.specs.Faults.{HasExtentCause, HasFreemapCause};
 ghost use Rattle.hm_freemap.specs.Places.{HasLayer2, page_of, place_of};
 ghost use Rattle.hm_freemap.specs.Stand.{HoldsPoolEntry, append_of, room};
 
@@ -58,6 +58,42 @@ pub(crate) fn read_entry<P: FreemapPages>(
     }
     read_page(pages, State::Current, block, page)?;
     pool_entry(page, block).ok_or(bad_entry(block))
+}
+
+// The entry of a big-block of the pool in which an extent of `size` bytes is live in the current
+// state, and its page. Where the entry tells more free bytes than that leaves, it is damage.
+fn read_live<P: FreemapPages>(
+    pages: &mut P,
+    bigblocks: u32,
+    block: u64,
+    size: u64,
+    page: &mut Page,
+) -> Result<Entry, Fault>
+    requires block { block < 2 ^ 32 }
+    requires size { size ≤ 2 ^ 33 }
+    requires most { bigblocks ≤ MOST_BIGBLOCKS }
+    requires there { HasLayer2 bigblocks (P.layer2 pages.old) }
+    ensures ok { IfOk result (λ entry. (entry ≡ entry_in page.new (place_of block))
+        × HoldsPoolEntry page.new block × MayHold size entry) }
+    ensures read { OnOk result (IfSome (P.pages pages.old) (λ map.
+        map (page_of block) ≡ Some page.new)) }
+    ensures same { (P.pages pages.new ≡ P.pages pages.old)
+        × (P.committed pages.new ≡ P.committed pages.old)
+        × (P.frozen pages.new ≡ P.frozen pages.old)
+        × (P.layer2 pages.new ≡ P.layer2 pages.old) }
+    ensures rest { P.rest pages.new ≡ P.rest pages.old }
+    ensures name { P.name pages.new ≡ P.name pages.old }
+    ensures frame { P.frame pages.new ≡ P.frame pages.old }
+    ensures cause { (append : List ℕ) → HasExtentCause bigblocks append block size
+        (P.committed pages.old) (P.frozen pages.old) (P.pages pages.old)
+        (P.faults pages.old) (P.faults pages.new) result }
+{
+    let entry = read_entry(pages, bigblocks, block, page)?;
+    if entry.may_hold(size) {
+        Ok(entry)
+    } else {
+        Err(bad_entry(block))
+    }
 }
 
 // The offset of a byte of a big-block, in a zone that space is handed out in.
@@ -109,7 +145,8 @@ impl<P: FreemapPages> Freemap<P> {
     }
 
     /// Takes one reference off an extent that is live in the current state. With its last one its
-    /// bytes are free in that state. It reads and changes one page.
+    /// bytes are free in that state. It reads and changes one page. Where the entry of the big-block
+    /// tells more free bytes than the extent leaves, it tells damage.
     pub fn give_extent(&mut self, at: HOff, len: u32) -> Result<(), Fault>
         ensures ok { OnOk result (Moves (P.committed self.old.pages) (P.frozen self.old.pages)
             (P.pages self.old.pages) (P.pages self.new.pages)
@@ -120,20 +157,21 @@ impl<P: FreemapPages> Freemap<P> {
             × (self.new.append ≡ self.old.append) × (self.new.bigblocks ≡ self.old.bigblocks) }
         ensures name { P.name self.new.pages ≡ P.name self.old.pages }
         ensures frame { P.frame self.new.pages ≡ P.frame self.old.pages }
-        ensures cause { HasFreemapCause self.old.bigblocks self.old.append
-            (λ one. one ≡ block_of (byte_of at))
+        ensures cause { HasExtentCause self.old.bigblocks self.old.append
+            (block_of (byte_of at)) (rounded len)
             (P.committed self.old.pages) (P.frozen self.old.pages) (P.pages self.old.pages)
             (P.faults self.old.pages) (P.faults self.new.pages) result }
     {
         let block = block_at(at);
+        let size = rounded(u64::from(len));
         let mut page = Page::zero();
-        let entry = read_entry(&mut self.pages, self.bigblocks, block, &mut page)?;
-        let next = entry.given(rounded(u64::from(len)));
+        let entry = read_live(&mut self.pages, self.bigblocks, block, size, &mut page)?;
+        let next = entry.given(size);
         put_entry(&mut self.pages, block, &next, &mut page)
     }
 
     /// Adds one reference to an extent that is live in the current state with fewer than 64. It
-    /// reads and changes one page.
+    /// reads and changes one page. It tells damage as `give_extent` does.
     pub fn share_extent(&mut self, at: HOff, len: u32) -> Result<(), Fault>
         ensures ok { OnOk result (Moves (P.committed self.old.pages) (P.frozen self.old.pages)
             (P.pages self.old.pages) (P.pages self.new.pages)
@@ -144,15 +182,16 @@ impl<P: FreemapPages> Freemap<P> {
             × (self.new.append ≡ self.old.append) × (self.new.bigblocks ≡ self.old.bigblocks) }
         ensures name { P.name self.new.pages ≡ P.name self.old.pages }
         ensures frame { P.frame self.new.pages ≡ P.frame self.old.pages }
-        ensures cause { HasFreemapCause self.old.bigblocks self.old.append
-            (λ one. one ≡ block_of (byte_of at))
+        ensures cause { HasExtentCause self.old.bigblocks self.old.append
+            (block_of (byte_of at)) (rounded len)
             (P.committed self.old.pages) (P.frozen self.old.pages) (P.pages self.old.pages)
             (P.faults self.old.pages) (P.faults self.new.pages) result }
     {
         let block = block_at(at);
+        let size = rounded(u64::from(len));
         let mut page = Page::zero();
-        let entry = read_entry(&mut self.pages, self.bigblocks, block, &mut page)?;
-        let next = entry.shared(rounded(u64::from(len)));
+        let entry = read_live(&mut self.pages, self.bigblocks, block, size, &mut page)?;
+        let next = entry.shared(size);
         put_entry(&mut self.pages, block, &next, &mut page)
     }
 }

@@ -52,10 +52,13 @@ impl<P: FreemapPages> Freemap<P> {
         }
     }
 
-    /// The pages, and the big-blocks that the zones 8 to 11 append to. It takes no memory.
+    /// The pages, and the big-blocks that the zones 8 to 11 append to. A freemap can be made over them
+    /// again. It takes no memory.
     pub fn into_parts(self) -> (P, [u32; 4])
         ensures pages { result.0 ≡ self.pages }
         ensures append { result.1 ≡ self.append }
+        ensures below { AreBelow self.bigblocks result.1 }
+        ensures there { HasLayer2 self.bigblocks (P.layer2 result.0) }
     {
         let Freemap {
             pages,

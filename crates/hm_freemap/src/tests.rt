@@ -289,6 +289,48 @@ fn calls_on_a_bad_entry_tell_it(rt: HostRuntime) {
 }
 
 #[test]
+fn an_entry_that_tells_more_free_bytes_than_an_extent_leaves_is_damage(
+    rt: HostRuntime,
+) -> Result<(), Fail> {
+    for (bytes_free, len, live) in [
+        // As many bytes are live as the extent has, or some more.
+        (8_388_528i32, 80u32, Some((0i64, 160i64))),
+        (8_388_592, 1, Some((0, 32))),
+        (-1, 16, Some((8_388_593, 8_388_625))),
+        // One fewer, none, and fewer than none.
+        (8_388_528, 81, None),
+        (8_388_593, 1, None),
+        (8_388_608, 16, None),
+        (2_147_483_647, 1, None),
+        (-2_147_483_648, 4_294_967_295, None),
+    ] {
+        let entry = owned(9, 80, bytes_free);
+        let at = HOff::make(9, 12 * 8_388_608).unwrap_or_default();
+        let mut giving = put(volume(), 12, &entry);
+        let mut sharing = put(volume(), 12, &entry);
+        let given = giving.give_extent(at, len);
+        let shared = sharing.share_extent(at, len);
+        if let Some((after_giving, after_sharing)) = live {
+            assert_eq!(rt; given, Ok(()), "{bytes_free} {len}");
+            assert_eq!(rt; shared, Ok(()), "{bytes_free} {len}");
+            assert_eq!(rt; giving.live_bytes(12)?, after_giving, "{bytes_free} {len}");
+            assert_eq!(rt;
+                sharing.live_bytes(12)?,
+                after_sharing,
+                "{bytes_free} {len}"
+            );
+        } else {
+            assert_eq!(rt; given, Err(damage_at(FIRST_PAGE)), "{bytes_free} {len}");
+            assert_eq!(rt; shared, Err(damage_at(FIRST_PAGE)), "{bytes_free} {len}");
+            let (given, _) = giving.into_parts();
+            let (shared, _) = sharing.into_parts();
+            assert_eq!(rt; (given.0.changes, shared.0.changes), (0, 0));
+        }
+    }
+    Ok(())
+}
+
+#[test]
 fn offsets_outside_the_pool_are_damage_at_the_page_of_their_entry(rt: HostRuntime) {
     for (zone, block, page) in [
         (8u8, 0u32, FIRST_PAGE),

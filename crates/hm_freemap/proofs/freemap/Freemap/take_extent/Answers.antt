@@ -1,4 +1,4 @@
-use Rattle.std.proofs.Common.{◌≡◌, ◌∙◌, ◌<◌, ℕ, List, slice_index, sym, ap, subst, true≢false, refl, Ok, Err, rules, arith}
+use Rattle.std.proofs.Common.{◌≡◌, ◌∙◌, ◌<◌, ℕ, List, length, slice_index, sym, ap, subst, true≢false, refl, Ok, Err, rules, arith}
 use Rattle.hm_fields.specs.Pages.{PageMap}
 use Rattle.hm_types.specs.Space.{rounded}
 use Rattle.hm_types.specs.declared.limits.TheConstants.{MOST_BIGBLOCKS}
@@ -64,12 +64,13 @@ returns-clause-ok g c =
     let zones = zone_of_room self.append current zone len c.requires.some c.requires.room in
     let next : c.in-Some.next ≡ appended (rounded len) entry = c.in-Some.ensures.value ∙ ap (λ (n : ℕ). appended n entry) size in
     let room : HasRoomFor zone (rounded len) entry = subst (λ (n : ℕ). HasRoomFor zone n entry) size (c.in-Some.ensures.some.0 refl) in
+    let four : length self.append ≡ 4 = search rules in
     let few : block < MOST_BIGBLOCKS = omega (arith, ok.2, self.most) in
     moves_map committed frozen current new
     (λ maps now. EntryPut block c.in-Some.next maps.current now × (entry_page maps.current block ≡ page))
     (Takes self.bigblocks self.append zone len at)
     (λ (maps : Maps) (now : PageMap) fact.
-    take_takes self.bigblocks self.append zone len at maps now block entry one zones.0 zones.1 few c.requires.some
+    take_takes self.bigblocks self.append zone len at maps now block entry four one zones.0 zones.1 few c.requires.some
     (ok.0 ∙ ap (λ (p : List ℕ). entry_in p (place_of block)) (sym fact.1))
     (subst IsPoolEntry (sym ok.0) ok.1.entry)
     room c.offset_of.ensures.value c.offset_of.ensures.parts.0 c.offset_of.ensures.parts.1
