@@ -19,3 +19,10 @@ pub mod ApartLemmas
 pub mod FreshPageLemmas
 pub mod FreshImageLemmas
 pub mod FreshThereLemmas
+pub mod CountLemmas
+pub mod NodeCountLemmas
+pub mod ReferredLemmas
+pub mod FoundLemmas
+pub mod CountedLemmas
+pub mod ExtentsOfLemmas
+pub mod SoundPlacesLemmas

@@ -28,7 +28,7 @@ All-right P xs ys all =
 
 module _ (pages : PageMap) where
   -- a child and what is below it
-  abbrev with_below : ℕ → Child → List Reference
+  abbrev pub with_below : ℕ → Child → List Reference
   with_below height c = to_node c.child ∷ nodes_below pages height (node_at pages c.child)
 
   module _ (height x : ℕ) (deeper : (node : Node) → Reaches pages height node x → Contains (nodes_below pages height node) (to_node x)) where

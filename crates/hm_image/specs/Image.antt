@@ -1,6 +1,6 @@
 -- What the bytes of a volume hold: its pages, the elements of its tree, and what that tree refers to.
 -- An image is the list of these bytes.
-use Rattle.std.specs.Prelude.{ℕ, zero, suc, ◌+◌, ◌*◌, List, [], ◌∷◌, ◌++◌, Some, None, if◌then◌else◌, nat_le, length, map, take, slice_range}
+use Rattle.std.specs.Prelude.{ℕ, zero, suc, ◌+◌, List, [], ◌∷◌, ◌++◌, Some, None, if◌then◌else◌, nat_le, length, map, slice_range}
 use Rattle.std.specs.List.{flat_map}
 use Rattle.hm_types.specs.Elements.{FullElement}
 use Rattle.hm_types.specs.Offset.{byte_of}

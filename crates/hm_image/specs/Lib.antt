@@ -1,6 +1,8 @@
 pub mod Examples
+pub mod Extents
 pub mod Fresh
 pub mod Image
+pub mod Referred
 pub mod Same
 pub mod Sound
 pub mod StandFor

@@ -5,6 +5,7 @@ ghost use Rattle.hm_types.specs.References.{DoNotOverlap, NoneOverlap, Reference
 ghost use Rattle.hm_header.specs.declared.header.Header.{Header};
 ghost use Rattle.hm_key.specs.Elements.{IsContent};
 ghost use Rattle.hm_search.specs.Tree.{elements_of};
+ghost use Rattle.hm_image.specs.Extents.{HavePlaces};
 ghost use Rattle.hm_image.specs.Image.{pages_of, references_from};
 ghost use Rattle.hm_image.specs.Sound.{IsSoundBy};
 
@@ -35,4 +36,10 @@ pub fn extents_of_a_sound_image_are_apart()
     ensures image { (image : List ℕ) (header : Header) (r s : Reference) → IsSoundBy image header →
         Contains (references_from (pages_of image) header.root) r →
         Contains (references_from (pages_of image) header.root) s → DoNotOverlap r s }
+{}
+
+/// The payloads of a sound image may stand where they do, so that its elements have their extents.
+pub fn payloads_of_a_sound_image_have_places()
+    ensures { (image : List ℕ) (header : Header) → IsSoundBy image header →
+        HavePlaces image header.bigblocks (elements_of (pages_of image) header.root) }
 {}
