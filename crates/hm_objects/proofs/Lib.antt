@@ -3,3 +3,4 @@ pub mod ShownLemmas
 pub mod SpaceLemmas
 pub mod TestLemmas
 pub mod VersionLemmas
+pub mod SizeLemmas

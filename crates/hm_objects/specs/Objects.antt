@@ -1,5 +1,5 @@
 -- What the calls on objects need, and what they do to the tree.
-use Rattle.std.specs.Prelude.{◌≡◌, ◌⊎◌, ◌↔◌, ℕ, ◌+◌, ◌*◌, ◌≤◌, List, [], Option, None, Some, IfSome}
+use Rattle.std.specs.Prelude.{◌≡◌, ◌≢◌, ◌⊎◌, ◌↔◌, ℕ, ◌+◌, ◌*◌, ◌≤◌, List, [], Option, None, Some, IfSome}
 use Rattle.hm_types.specs.Elements.{FullElement}
 use Rattle.hm_types.specs.Space.{in_zone}
 use Rattle.hm_types.specs.Tree.{FileTree}
@@ -11,17 +11,18 @@ use Rattle.hm_types.specs.declared.object.Kind.TheVariants.{File, Softlink}
 use Rattle.hm_types.specs.declared.space.TheConstants.{INSERT_ROOM}
 use Rattle.hm_types.specs.declared.zone.TheConstants.{META_ZONE, TREE_ZONE}
 use Rattle.hm_key.specs.Balance.{content_of}
-use Rattle.hm_key.specs.Counts.{Counts, entry_subject, inode_subject, target_subject, subject_of}
+use Rattle.hm_key.specs.Counts.{Counts, Subject, entry_subject, inode_subject, target_subject, subject_of}
 use Rattle.hm_key.specs.Elements.{element_key}
 use Rattle.hm_key.specs.Extents.{Extent}
 use Rattle.hm_key.specs.declared.base.Base.{Base}
 use Rattle.hm_key.specs.declared.base.TheConstants.{ELEMENT}
 use Rattle.hm_key.specs.declared.element.Element.{Element}
-use Rattle.hm_records.specs.Changes.{CountsNothing, HasInode}
+use Rattle.hm_records.specs.Changes.{CountsNothing, HasInode, IsSettled}
 use Rattle.hm_records.specs.KeysFit.{KeysFit}
 use Rattle.hm_records.specs.Laws.{with_inode}
 use Rattle.hm_records.specs.Payload.{IsPayload}
 use Rattle.hm_records.specs.declared.inode.Inode.{Inode}
+use Rattle.hm_records.specs.declared.kind.TheConstants.{FILE}
 use Rattle.hm_cursor.specs.Told.{Lists, fulls}
 use Rattle.hm_cursor.specs.Version.{IsNewestOf}
 use Rattle.hm_cursor.specs.Views.{Shows, WritesIn}
@@ -96,6 +97,19 @@ pub record ChangesBy (pfs obj i : ℕ) (change : FileTree → FileTree) (es es' 
   pub shows : Shows pfs i change es es'
   pub fits : (hash : List ℕ → ℕ) → KeysFit hash es → KeysFit hash es'
   pub entries : KeepEntries pfs es es'
+
+-- an inode with another size
+abbrev pub sized : ℕ → Inode → Inode
+sized size inode = record inode { size = size }
+
+-- A file gets another size by `i`: the inode that it has counts with that size from then on, and all else counts as before.
+-- The keys of entries stay fit.
+pub record ResizesObject (pfs obj i size : ℕ) (es es' : List FullElement) : Type 0 where
+  pub writes : WritesIn pfs i (IsOfObject pfs obj i) es es'
+  pub inode : (t : ℕ) (inode : Inode) → i ≤ t → IsSettled (Counts es t) → HasInode (Counts es t) pfs obj inode → inode.kind ≡ FILE
+      → HasInode (Counts es' t) pfs obj (sized size inode)
+  pub beside : (t : ℕ) (s : Subject) (bytes : List ℕ) → s ≢ inode_subject pfs obj → Counts es' t s bytes ↔ Counts es t s bytes
+  pub fits : (hash : List ℕ → ℕ) → KeysFit hash es → KeysFit hash es'
 
 -- room for so many elements, and for so many bytes of their payloads
 pub record HasRooms (room : ℕ → ℕ) (elements bytes : ℕ) : Type 0 where

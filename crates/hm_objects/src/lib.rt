@@ -5,9 +5,11 @@
 mod add;
 mod links;
 mod remove;
+mod sizes;
 #[cfg(test)]
 mod tests;
 
 pub use add::{add_directory, add_file, add_softlink};
 pub use links::set_links;
 pub use remove::remove_object;
+pub use sizes::set_size;

@@ -67,9 +67,9 @@ pub fn set_links<T: ElementStore + Extents>(
     renew_version(store, &old, &base, META_ZONE, &bytes)
 }
 
-// The inode of an object as of an id, and the id that made it. None exactly where it has none. The
-// faults are those of `set_links`.
-fn find_made_inode<T: ElementStore + Extents>(
+/// The inode of an object as of an id, and the id that made it. None exactly where it has none. The
+/// faults are those of `set_links`.
+pub(crate) fn find_made_inode<T: ElementStore + Extents>(
     store: &mut T,
     pfs: Pfs,
     obj: Obj,

@@ -4,7 +4,7 @@ ghost use Rattle.hm_objects.specs.Objects.{HasRooms};
 ghost use Rattle.hm_objects.specs.Tests.{IsReady};
 
 use crate::add::made_by;
-use crate::{add_directory, add_file, add_softlink, remove_object, set_links};
+use crate::{add_directory, add_file, add_softlink, remove_object, set_links, set_size};
 use hm_cursor::{add_version, find_inode, find_payload, inode_base, target_base};
 use hm_key::{ElementStore, Extents, HasElements, HasRoom, MemStore};
 use hm_records::{DIRECTORY, FILE, SOFTLINK};
@@ -32,6 +32,7 @@ enum Step {
     // With an inode that is a byte too short.
     AddDamaged,
     SetLinks(u32),
+    SetSize(u64),
     Remove,
 }
 
@@ -56,6 +57,7 @@ fn take(alloc: Global, store: &mut MemStore, step: Step, obj: Obj, id: Id) -> Re
             add_version(store, &base, META_ZONE, &CUT_INODE)
         }
         Step::SetLinks(links) => set_links(alloc, store, PFS, obj, links, id),
+        Step::SetSize(size) => set_size(alloc, store, PFS, obj, size, id),
         Step::Remove => remove_object(store, PFS, obj, id),
     }
 }
@@ -199,6 +201,31 @@ fn links_are_those_of_the_newest_id(rt: HostRuntime) -> Result<(), Fail> {
         (40, 8, Some((SOFTLINK, 7, 5))),
         (40, 9, Some((SOFTLINK, 7, 0))),
         (50, 6, Some((FILE, 0, 1))),
+    ] {
+        let found = found_after(rt.alloc(), &steps, 0, obj, as_of)?;
+        assert_eq!(rt; found, want, "{obj} as of {as_of}");
+    }
+    Ok(())
+}
+
+#[test]
+fn sizes_are_those_of_the_newest_id_and_of_files_alone(rt: HostRuntime) -> Result<(), Fail> {
+    let steps = [
+        (Step::AddFile, 30, 3),
+        (Step::AddSoftlink, 40, 4),
+        (Step::SetLinks(2), 30, 5),
+        (Step::SetSize(u64::MAX), 30, 6),
+        (Step::SetSize(5), 40, 7),
+        (Step::SetSize(5), 50, 8),
+        (Step::SetSize(0), 30, 9),
+    ];
+    for (obj, as_of, want) in [
+        (30, 5, Some((FILE, 0, 2))),
+        (30, 6, Some((FILE, u64::MAX, 2))),
+        (30, 8, Some((FILE, u64::MAX, 2))),
+        (30, 9, Some((FILE, 0, 2))),
+        (40, 9, Some((SOFTLINK, 7, 1))),
+        (50, 9, None),
     ] {
         let found = found_after(rt.alloc(), &steps, 0, obj, as_of)?;
         assert_eq!(rt; found, want, "{obj} as of {as_of}");

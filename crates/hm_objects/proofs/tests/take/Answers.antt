@@ -8,7 +8,7 @@ use Rattle.hm_key.specs.declared.base.Base.{Base}
 use Rattle.hm_key.specs.declared.memory.MemStore.{MemStore}
 use Rattle.hm_cursor.specs.Told.{Lists, fulls}
 use Rattle.hm_cursor.specs.Write.{Rewrites}
-use Rattle.hm_objects.specs.Objects.{AddsObject, ChangesBy, file_of, softlink_of}
+use Rattle.hm_objects.specs.Objects.{AddsObject, ChangesBy, ResizesObject, file_of, softlink_of}
 use Rattle.hm_objects.proofs.TestLemmas.{fresh_below, ready_after}
 use Rattle.hm_cursor.proofs.ViewsLemmas.{below_still}
 use Rattle.hm_objects.proofs.tests.take.Goals as goal
@@ -54,6 +54,12 @@ returns-in-SetLinks c =
     ready_after c.set_links.result c.args.id.0 (lists_of c.args.store.now) (lists_of c.set_links.new.store)
     (ChangesBy 0 c.args.obj.0 c.args.id.0 (λ tree. with_change tree c.args.obj (with_links _)))
     c.requires.ready (λ done. below_still done.writes.up_to) c.set_links.ensures.ok
+
+pub returns-in-SetSize : goal.returns-in-SetSize
+returns-in-SetSize c =
+    ready_after c.set_size.result c.args.id.0 (lists_of c.args.store.now) (lists_of c.set_size.new.store)
+    (ResizesObject 0 c.args.obj.0 c.args.id.0 _)
+    c.requires.ready (λ done. below_still done.writes.up_to) c.set_size.ensures.ok
 
 pub returns-in-Remove : goal.returns-in-Remove
 returns-in-Remove c =
