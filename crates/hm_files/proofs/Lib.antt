@@ -2,13 +2,13 @@ pub mod ByteLemmas
 pub mod FirstLemmas
 mod PieceLemmas
 mod ReadLemmas
-mod SpanLemmas
+pub mod SpanLemmas
 mod CloseLemmas
 mod CloseToldLemmas
 mod VersionLemmas
-mod PutLemmas
+pub mod PutLemmas
 mod CutLemmas
-mod TellLemmas
+pub mod TellLemmas
 mod CutToldLemmas
 mod WriteLemmas
 mod MergeLemmas

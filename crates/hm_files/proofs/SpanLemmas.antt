@@ -13,8 +13,8 @@ use Rattle.hm_records.specs.View.{AreFileBytes, IsFileByte}
 use Rattle.hm_cursor.proofs.ViewsLemmas.{nothing_written, writes_again}
 use Rattle.hm_files.specs.Close.{ClosesBytes}
 use Rattle.hm_files.specs.Put.{CutsBytes, HasBlockRoom, IsBytesOf, block_space}
-use Rattle.hm_files.specs.Write.{ClearsWay, PutsBefore, PutsPiece, WritesBytes, block_start, reach, written}
-use Rattle.hm_files.proofs.CutLemmas.{AreBlocks, byte_closed, closed_others}
+use Rattle.hm_files.specs.Write.{ClearsWay, PutsBefore, PutsPiece, WritesBytes, block_start, reach, rounded_up, written}
+use Rattle.hm_files.proofs.CutLemmas.{AreBlocks, byte_closed, closed_others, zero_from}
 use Rattle.hm_files.proofs.PutLemmas.{closes_writes, steady}
 
 -- ---- what is past the size is closed
@@ -26,20 +26,29 @@ module _ (pfs obj i size offset : ℕ) (es es' : List FullElement) where
     writes = cuts.writes;
     kept = cuts.kept;
     zero = λ t x late past below. cuts.zero t x late past (omega (arith, below, small));
+    past = λ t x late beyond near. cuts.zero t x late (omega (arith, beyond)) near;
     fresh = λ n above older. cuts.fresh n (λ is. absurd (omega (arith, above, before, is))) older;
     others = cuts.others;
   }
 
   -- and where it does not
-  pub way_closed : (past : ℕ) → past % BLOCK_BYTES ≡ 0 → size ≤ past → block_start offset ≤ size → AreBlocks es
+  pub way_closed : (past : ℕ) → past ≡ rounded_up size → block_start offset ≤ size → AreBlocks es
       → ClosesBytes pfs obj i (past + 1) (2 ^ 64) es es' → ClearsWay pfs obj i size offset es es'
-  way_closed past aligned within from blocks closes = record {
+  way_closed past past_is from blocks closes = record {
     writes = closes_writes pfs obj i (past + 1) (2 ^ 64) es es' closes;
     kept = λ t x v late below is. byte_closed pfs obj i past es es' aligned blocks closes t x v late (omega (arith, below, within)) is;
     zero = λ t x late above below. absurd (omega (arith, above, below, from));
+    past = λ t x late beyond near.
+        zero_from pfs obj i past es es' aligned blocks closes t past x late (omega (arith, beyond, past_is)) near
+        (λ n above low. absurd (omega (arith, above, low)));
     fresh = λ n above older. closes.writes.fresh (bytes_subject pfs obj n) (λ x new. absurd new) older;
     others = closed_others pfs obj i past es es' aligned blocks closes;
-  }
+  } where
+    aligned : past % BLOCK_BYTES ≡ 0
+    aligned = omega (arith, past_is)
+
+    within : size ≤ past
+    within = omega (arith, past_is)
 
 -- ---- the room of several blocks
 
@@ -83,14 +92,19 @@ module _ {S : Type 0} (room : S → ℕ → ℕ) (free : S → ℕ) where
 
 -- ---- block by block
 
--- a part of a list, byte by byte
-pub part_byte : (bytes : List ℕ) (from count k : ℕ) → k < length (take count (drop from bytes))
-    → slice_index (take count (drop from bytes)) k ≡ slice_index bytes (from + k)
-part_byte bytes from count k inside =
-    get_or-take count (drop from bytes) k 0 (omega (arith, inside, length-take count (drop from bytes))) ∙ get_or-drop from bytes k 0
+pub filled_long : (len to byte : ℕ) → to ≤ length (replicate len byte) → to ≤ len
+filled_long len to byte inside =
+    let long : length (replicate {A = ℕ} len byte) ≡ len = length-replicate {A = ℕ} len byte in
+    omega (arith, inside, long)
 
-pub part_long : (bytes : List ℕ) (from count : ℕ) → from + count ≤ length bytes → length (take count (drop from bytes)) ≡ count
-part_long bytes from count inside = omega (arith, length-take count (drop from bytes), length-drop from bytes, inside)
+-- a part of a block of one byte is a part of any number of it
+pub filled_part : (block : List ℕ) (from to len k : ℕ) → block ≡ replicate BLOCK_BYTES (slice_index block 0) → to ≤ from + BLOCK_BYTES → to ≤ len
+    → k < to - from → slice_index (take (to - from) block) k ≡ slice_index (replicate len (slice_index block 0)) (from + k)
+filled_part block from to len k is few inside below =
+    get_or-take (to - from) block k 0 below
+    ∙ (ap (λ (b : List ℕ). slice_index b k) is
+    ∙ (get_or-replicate BLOCK_BYTES k (slice_index block 0) 0 (omega (arith, below, few))
+    ∙ sym (get_or-replicate len (from + k) (slice_index block 0) 0 (omega (arith, below, inside)))))
 
 module _ (pfs obj i size offset : ℕ) (new : List ℕ) where
   -- before the first one
@@ -101,6 +115,8 @@ module _ (pfs obj i size offset : ℕ) (new : List ℕ) where
     kept = λ t x v late below out is. is;
     zero = λ t x late some. absurd (omega (arith, some));
     before = λ t x v late below is. is;
+    past = λ t x late beyond behind below. absurd (omega (arith, behind, below));
+    after = λ t x v late above is. is;
     fresh = λ n above older. older;
     others = λ t s bytes differ. (λ h. h, λ h. h);
   }
@@ -141,6 +157,10 @@ module _ (pfs obj i size offset : ℕ) (new : List ℕ) where
       | inr now ↦ puts.zero t x late past (omega (arith, from, now, start)) (omega (arith, below, at_is))
     ]
 
+    past_more : (t x : ℕ) → i ≤ t → size ≤ x → offset + length new ≤ x → x < (block + 1) * BLOCK_BYTES → IsFileByte (Counts es' t) pfs obj x 0
+    past_more t x late beyond behind below =
+        puts.past t x late beyond (omega (arith, behind, sized, at_is, to_is, first, last)) (omega (arith, below, start))
+
     pub puts_more : PutsBefore pfs obj i size offset new (block + 1) es es'
     puts_more = record {
       writes = writes_again pfs i (IsBytesOf pfs obj i) es mid es' (steady pfs obj i) so_far.writes puts.writes;
@@ -148,6 +168,9 @@ module _ (pfs obj i size offset : ℕ) (new : List ℕ) where
       kept = kept_more;
       zero = λ t x late some past from below. zero_more t x late past from below;
       before = λ t x v late below is. puts.beside t x v late (inl (omega (arith, below, first, start))) (so_far.before t x v late below is);
+      past = past_more;
+      after = λ t x v late above is.
+          puts.beside t x v late (inr (omega (arith, above, start))) (so_far.after t x v late (omega (arith, above)) is);
       fresh = λ n above older. puts.fresh n (omega (arith, above, start)) (so_far.fresh n (omega (arith, above)) older);
       others = λ t s bytes differ.
           let one = so_far.others t s bytes differ in
@@ -233,6 +256,15 @@ module _ (pfs obj i size offset : ℕ) (new : List ℕ) where
     all_written t content late file = all_bytes t late content file
 
   module _ (es es' : List FullElement) (some : 1 ≤ length new) where
+    -- past both ends a byte is zero where it was, or where the blocks with the new bytes have it
+    past_zero : (mid : List FullElement) (t x : ℕ) → i ≤ t → max size (offset + length new) ≤ x
+        → ((offset + length new - 1) / BLOCK_BYTES * BLOCK_BYTES + BLOCK_BYTES ≤ x → IsFileByte (Counts mid t) pfs obj x 0)
+        → PutsBefore pfs obj i size offset new ((offset + length new - 1) / BLOCK_BYTES + 1) mid es' → IsFileByte (Counts es' t) pfs obj x 0
+    past_zero mid t x late beyond there puts = elim (cases_lt x (((offset + length new - 1) / BLOCK_BYTES + 1) * BLOCK_BYTES)) [
+      | inl inside ↦ puts.past t x late (omega (arith, beyond)) (omega (arith, beyond)) inside
+      | inr above ↦ puts.after t x 0 late above (there (omega (arith, above)))
+    ]
+
     -- where they end by the size
     pub written_at_once : offset + length new ≤ size → PutsBefore pfs obj i size offset new ((offset + length new - 1) / BLOCK_BYTES + 1) es es'
         → WritesBytes pfs obj i size offset new es es'
@@ -241,15 +273,18 @@ module _ (pfs obj i size offset : ℕ) (new : List ℕ) where
       holds = λ t content late file.
           all_written es es es' some (λ t' x v late' below is. is) (λ t' x late' past below. absurd (omega (arith, past, below, within, some))) puts
           t content late file;
+      past = λ t x late beyond near was.
+          past_zero es t x late beyond (λ above. elim was [ inl longer ↦ absurd (omega (arith, longer, within)) | inr zero ↦ zero ]) puts;
       others = puts.others;
     }
 
     -- and where what was past it is closed first
-    pub written_after : (mid : List FullElement) → ClearsWay pfs obj i size offset es mid
+    pub written_after : size < offset + length new → (mid : List FullElement) → ClearsWay pfs obj i size offset es mid
         → PutsBefore pfs obj i size offset new ((offset + length new - 1) / BLOCK_BYTES + 1) mid es' → WritesBytes pfs obj i size offset new es es'
-    written_after mid way puts = record {
+    written_after longer mid way puts = record {
       writes = writes_again pfs i (IsBytesOf pfs obj i) es mid es' (steady pfs obj i) way.writes puts.writes;
       holds = λ t content late file. all_written es mid es' some way.kept way.zero puts t content late file;
+      past = λ t x late beyond near was. past_zero mid t x late beyond (λ above. way.past t x late (omega (arith, above, longer)) near) puts;
       others = λ t s bytes differ.
           let one = way.others t s bytes differ in
           let two = puts.others t s bytes differ in

@@ -1,5 +1,5 @@
 -- A piece that is put into a file.
-use Rattle.std.proofs.Common.{◌≡◌, ℕ, ◌+◌, ◌-◌, ◌%◌, ◌<◌, ◌≤◌, List, length, ap, sym, subst, ◌∙◌, inl, inr, arith}
+use Rattle.std.proofs.Common.{◌≡◌, ℕ, ◌+◌, ◌-◌, ◌%◌, ◌<◌, ◌≤◌, List, length, max, ap, sym, subst, ◌∙◌, inl, inr, arith}
 use Rattle.std.specs.Prelude.{◌↔◌, ◌⊎◌, slice_index}
 use Rattle.std.proofs.lemmas.Bool.{cases_lt}
 use Rattle.hm_types.specs.Elements.{FullElement}
@@ -13,7 +13,7 @@ use Rattle.hm_files.specs.Close.{AreOlder}
 use Rattle.hm_files.specs.Put.{PutsBlock}
 use Rattle.hm_files.specs.Write.{PutsPiece, block_start}
 use Rattle.hm_files.proofs.ByteLemmas.{byte_one}
-use Rattle.hm_files.proofs.CutLemmas.{AreBlocks, counted_block}
+use Rattle.hm_files.proofs.CutLemmas.{AreBlocks, blocks_still, byte_zero, counted_block}
 use Rattle.hm_files.proofs.PutLemmas.{byte_alike, byte_earlier, byte_later, byte_put}
 
 -- what stands at a place of the new bytes of a block: of the piece, of what the block had, or zero
@@ -27,7 +27,8 @@ module _ (pfs obj i size at : ℕ) (piece bytes : List ℕ) (es es' : List FullE
     (older : AreOlder pfs obj i (block_start at + 1) es) (some : 1 ≤ length bytes) (few : length bytes ≤ BLOCK_BYTES)
     (reaches : at + length piece ≤ block_start at + length bytes)
     (whole : (x : ℕ) → x < size → block_start at ≤ x → x < block_start at + BLOCK_BYTES → x < block_start at + length bytes)
-    (merged : IsMerged (Counts es i) pfs obj size at (block_start at) piece bytes) (puts : PutsBlock pfs obj i (block_start at) bytes es es') where
+    (short : block_start at + length bytes ≤ max size (at + length piece)) (merged : IsMerged (Counts es i) pfs obj size at (block_start at) piece bytes)
+    (puts : PutsBlock pfs obj i (block_start at) bytes es es') where
   aligned : block_start at % BLOCK_BYTES ≡ 0
   aligned = omega arith
 
@@ -76,6 +77,19 @@ module _ (pfs obj i size at : ℕ) (piece bytes : List ℕ) (es es' : List FullE
         byte_one pfs obj x (slice_index bytes (x - block_start at)) v (Counts es i) settled (merged.kept x from below there out) now in
         subst (λ (b : ℕ). IsFileByte (Counts es' t) pfs obj x b) same (new_byte t x late from there)
 
+  -- past both ends the block has nothing
+  past_byte : (t x : ℕ) → i ≤ t → size ≤ x → at + length piece ≤ x → x < block_start at + BLOCK_BYTES → IsFileByte (Counts es' t) pfs obj x 0
+  past_byte t x late beyond behind inside =
+      byte_zero es' t pfs obj x (λ n other counts after. by_place n other counts after (cases_lt (block_start at + BLOCK_BYTES) n))
+    where
+      by_place : (n : ℕ) (other : List ℕ) → Counts es' t (bytes_subject pfs obj n) other → x < n
+          → (block_start at + BLOCK_BYTES < n) ⊎ (n ≤ block_start at + BLOCK_BYTES) → x + length other < n
+      by_place n other counts after (inl high) =
+          let block = counted_block es' t pfs obj n other (blocks_still pfs obj i es es' puts.writes blocks) counts in
+          omega (arith, high, inside, block.few, block.within, block.aligned, aligned)
+      by_place n other counts after (inr low) =
+          absurd (omega (arith, puts.only t n other late (omega (arith, behind, after, reaches)) low counts, after, short, beyond, behind))
+
   pub piece_put : PutsPiece pfs obj i size at piece es es'
   piece_put = record {
     writes = puts.writes;
@@ -86,6 +100,7 @@ module _ (pfs obj i size at : ℕ) (piece bytes : List ℕ) (es es' : List FullE
     zero = λ t x late past' from to.
         subst (λ (b : ℕ). IsFileByte (Counts es' t) pfs obj x b) (merged.zero x from past' to)
         (new_byte t x late from (omega (arith, to, reaches)));
+    past = past_byte;
     beside = other_byte;
     fresh = λ n above fresh. puts.fresh n (λ is. absurd (omega (arith, is, above, few))) fresh;
     others = λ t s other differ.

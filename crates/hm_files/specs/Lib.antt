@@ -2,3 +2,4 @@ pub mod Bytes
 pub mod Close
 pub mod Put
 pub mod Write
+pub mod Source

@@ -6,7 +6,7 @@ ghost use Rattle.hm_files.specs.Close.{AreOlderIn};
 ghost use Rattle.hm_files.specs.Put.{HasBlockRoom};
 
 use crate::read_tests::{FILE, PFS, PIECES, Run, all_of, store_of};
-use crate::{read_bytes, remove_bytes, resize_bytes, write_bytes};
+use crate::{fill_bytes, read_bytes, remove_bytes, resize_bytes, write_bytes};
 use hm_key::{Element, ElementStore, Extents, HasElements, HasRoom, MemStore};
 use hm_types::{BLOCK_BYTES, INSERT_ROOM, Id, LARGE_ZONE, MOST_FILE_BYTES, SMALL_ZONE, TREE_ZONE};
 use std::alloc::Global;
@@ -19,6 +19,8 @@ pub(crate) enum Step {
     Resize(u64, u64),
     /// Into a file of a size, from an offset on, so many bytes of one kind.
     Write(u64, u64, u32, u8),
+    /// The same, by one byte that is put so many times.
+    Fill(u64, u64, u32, u8),
     Remove,
 }
 
@@ -69,6 +71,7 @@ pub(crate) fn take(alloc: Global, store: &mut MemStore, step: Step, id: u64) -> 
             let bytes = Vec::from_elem(alloc, byte, count as usize)?;
             write(store, size, at, &bytes, id)?;
         }
+        Step::Fill(size, at, count, byte) => fill(store, size, at, count, byte, id)?,
         Step::Remove => remove_bytes(store, PFS, FILE, Id(id))?,
     }
     Ok(())
@@ -84,7 +87,7 @@ fn write(store: &mut MemStore, size: u64, at: u64, bytes: &[u8], id: u64) -> Res
     ensures { IfOk result (λ _. Balanced (⟦<MemStore as HasElements>⟧.elements store.new)
         (⟦<MemStore as HasRoom>⟧.extents store.new)) }
 {
-    if bytes.is_empty() || bytes.len() > 65_536 || size > MOST_FILE_BYTES {
+    if bytes.is_empty() || bytes.len() > 65_536 {
         return Err("too big")?;
     }
     let count = bytes.len() as u64;
@@ -97,6 +100,32 @@ fn write(store: &mut MemStore, size: u64, at: u64, bytes: &[u8], id: u64) -> Res
         return Err("no room")?;
     }
     write_bytes(store, PFS, FILE, size, at, bytes, Id(id))?;
+    Ok(())
+}
+
+// Puts a byte into the file of a size, from an offset on, so many times.
+fn fill(store: &mut MemStore, size: u64, at: u64, count: u32, byte: u8, id: u64) -> Result<(), Fail>
+    requires id { 1 ≤ id }
+    requires balanced { Balanced (⟦<MemStore as HasElements>⟧.elements store.old)
+        (⟦<MemStore as HasRoom>⟧.extents store.old) }
+    requires older { AreOlderIn (⟦<MemStore as HasElements>⟧.elements store.old)
+        (⟦<MemStore as HasRoom>⟧.extents store.old) PFS.0 FILE.0 id 0 }
+    ensures { IfOk result (λ _. Balanced (⟦<MemStore as HasElements>⟧.elements store.new)
+        (⟦<MemStore as HasRoom>⟧.extents store.new)) }
+{
+    if count == 0 || count > 65_536 {
+        return Err("too big")?;
+    }
+    let len = u64::from(count);
+    if at > MOST_FILE_BYTES - len {
+        return Err("too far")?;
+    }
+    let block = BLOCK_BYTES as u64;
+    let blocks = (at + len - 1) / block + 1 - at / block;
+    if blocks >= 960 || !has_room(store, blocks + 1) {
+        return Err("no room")?;
+    }
+    fill_bytes(store, PFS, FILE, size, at, count, byte, Id(id))?;
     Ok(())
 }
 
@@ -342,6 +371,35 @@ fn a_block_that_no_call_wrote_takes_no_element(rt: HostRuntime) -> Result<(), Fa
             PIECES.len() + more,
             "{at} in {size}"
         );
+    }
+    Ok(())
+}
+
+#[test]
+fn a_fill_is_a_write_of_as_many_bytes(rt: HostRuntime) -> Result<(), Fail> {
+    let alloc = rt.alloc();
+    for (size, at, count) in [
+        (100_000, 0, 1),
+        (100_000, 16_383, 1),
+        (100_000, 16_383, 2),
+        (100_000, 16_384, 16_384),
+        (100_000, 5, 65_536),
+        (20_000, 40_000, 3),
+        (20_000, 90_000, 65_536),
+        (u64::MAX, 16_384, 40_000),
+        (20_000, MOST_FILE_BYTES - 1, 1),
+    ] {
+        let filled = store_after(alloc, &[(Step::Fill(size, at, count, 7), 1_000)])?;
+        let written = store_after(alloc, &[(Step::Write(size, at, count, 7), 1_000)])?;
+        let len = (count as usize).min(100);
+        let fill = [(Step::Fill(size, at, count, 7), 1_000)];
+        let sevens = reads_after(alloc, &fill, u64::MAX, at, len, 1_000, &[(len, 7)])?;
+        assert_eq!(rt;
+            filled.elements(),
+            written.elements(),
+            "{count} at {at} of {size}"
+        );
+        assert!(rt; sevens, "{count} at {at} of {size}");
     }
     Ok(())
 }

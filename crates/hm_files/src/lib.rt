@@ -14,9 +14,10 @@ mod random_tests;
 mod read;
 #[cfg(test)]
 mod read_tests;
+mod source;
 mod write;
 
 pub use close::remove_bytes;
 pub use cut::resize_bytes;
 pub use read::read_bytes;
-pub use write::write_bytes;
+pub use write::{fill_bytes, write_bytes};

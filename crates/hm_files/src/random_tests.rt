@@ -45,7 +45,7 @@ fn change(bytes: &mut Vec<u8>, step: Step) -> Result<(), Fail> {
             bytes.truncate(size);
             bytes.resize(size, 0)?;
         }
-        Step::Write(_, at, count, byte) => {
+        Step::Write(_, at, count, byte) | Step::Fill(_, at, count, byte) => {
             let from = at.min(MOST_FILE_BYTES) as usize;
             let end = from + count as usize;
             if bytes.len() < end {

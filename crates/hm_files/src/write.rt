@@ -1,5 +1,5 @@
 // Bytes that are written into a file.
-ghost use Rattle.std.specs.Prelude.{◌≡◌, ◌+◌, ◌*◌, ◌/◌, ◌^◌, ◌<◌, ◌≤◌, ◌++◌, ◌-◌, OnOk, drop, length, take};
+ghost use Rattle.std.specs.Prelude.{◌≡◌, ◌+◌, ◌*◌, ◌/◌, ◌^◌, ◌<◌, ◌≤◌, ◌++◌, ◌-◌, OnOk, drop, length, replicate, take};
 ghost use Rattle.hm_types.specs.Faults.{HasStoreCause};
 ghost use Rattle.hm_types.specs.Space.{Spends};
 ghost use Rattle.hm_key.specs.Balance.{Balanced, content_of};
@@ -7,6 +7,7 @@ ghost use Rattle.hm_key.specs.Stores.{Keeps};
 ghost use Rattle.hm_cursor.specs.Write.{Writes};
 ghost use Rattle.hm_files.specs.Close.{AreOlderIn};
 ghost use Rattle.hm_files.specs.Put.{HasBlockRoom, block_space};
+ghost use Rattle.hm_files.specs.Source.{IsSource, bytes_of};
 ghost use Rattle.hm_files.specs.Write.{ClearsWay, PutsBefore, PutsPiece, WritesBytes};
 ghost use Rattle.hm_files.specs.Write.{block_count, block_start};
 
@@ -14,6 +15,7 @@ use crate::close::close_between;
 use crate::cut::cut_bytes;
 use crate::put::put_block;
 use crate::read::{read_all, shorter};
+use crate::source::Source;
 use hm_key::{ElementStore, Extents, HasElements, HasRoom};
 use hm_types::{BLOCK_BYTES, Counted, Fault, Id, MOST_FILE_BYTES, Obj, Pfs};
 
@@ -36,7 +38,7 @@ pub fn write_bytes<T: ElementStore + Extents>(
 ) -> Result<(), Fault>
     requires id { 1 ≤ id.0 }
     requires some { 1 ≤ length bytes.now }
-    requires few { (size ≤ MOST_FILE_BYTES) × (offset + length bytes.now ≤ MOST_FILE_BYTES) }
+    requires few { offset + length bytes.now ≤ MOST_FILE_BYTES }
     requires balanced { Balanced (T.elements store.old) (T.extents store.old) }
     requires older { AreOlderIn (T.elements store.old) (T.extents store.old)
         pfs.0 obj.0 id.0 0 }
@@ -52,11 +54,78 @@ pub fn write_bytes<T: ElementStore + Extents>(
     ensures cause { HasStoreCause (content_of (T.elements store.old) (T.extents store.old))
         (T.faults store.old) (T.faults store.new) result }
 {
-    if offset + bytes.len() as u64 <= size {
-        return put_pieces(store, pfs, obj, size, offset, bytes, id);
+    put_source(store, pfs, obj, size, offset, Source::Bytes(bytes), id)
+}
+
+/// Puts a byte into a file of a size, from an offset on, so many times, as `write_bytes` puts bytes.
+/// It needs a block of memory on the stack.
+pub fn fill_bytes<T: ElementStore + Extents>(
+    store: &mut T,
+    pfs: Pfs,
+    obj: Obj,
+    size: u64,
+    offset: u64,
+    count: u32,
+    byte: u8,
+    id: Id,
+) -> Result<(), Fault>
+    requires id { 1 ≤ id.0 }
+    requires some { 1 ≤ count }
+    requires few { offset + count ≤ MOST_FILE_BYTES }
+    requires balanced { Balanced (T.elements store.old) (T.extents store.old) }
+    requires older { AreOlderIn (T.elements store.old) (T.extents store.old)
+        pfs.0 obj.0 id.0 0 }
+    requires room { HasBlockRoom (T.room store.old)
+        (block_count offset (offset + count) + 1) }
+    ensures ok { OnOk result (Writes T.elements T.extents
+        (WritesBytes pfs.0 obj.0 id.0 size offset (replicate count byte)) store.old store.new) }
+    ensures keeps { Keeps T.elements T.extents store.old store.new result }
+    ensures space { Spends T.room T.free
+        (block_space (block_count offset (offset + count) + 1)) store.old store.new }
+    ensures borrowed { (T.name store.new ≡ T.name store.old)
+        × (T.frame store.new ≡ T.frame store.old) }
+    ensures cause { HasStoreCause (content_of (T.elements store.old) (T.extents store.old))
+        (T.faults store.old) (T.faults store.new) result }
+{
+    let block = [byte; BLOCK_BYTES];
+    let source = Source::Filled(&block, count as usize);
+    put_source(store, pfs, obj, size, offset, source, id)
+}
+
+// Puts what is written into a file of a size.
+fn put_source<T: ElementStore + Extents>(
+    store: &mut T,
+    pfs: Pfs,
+    obj: Obj,
+    size: u64,
+    offset: u64,
+    source: Source,
+    id: Id,
+) -> Result<(), Fault>
+    requires id { 1 ≤ id.0 }
+    requires some { 1 ≤ length (bytes_of source) }
+    requires few { offset + length (bytes_of source) ≤ MOST_FILE_BYTES }
+    requires source { IsSource source }
+    requires balanced { Balanced (T.elements store.old) (T.extents store.old) }
+    requires older { AreOlderIn (T.elements store.old) (T.extents store.old)
+        pfs.0 obj.0 id.0 0 }
+    requires room { HasBlockRoom (T.room store.old)
+        (block_count offset (offset + length (bytes_of source)) + 1) }
+    ensures ok { OnOk result (Writes T.elements T.extents
+        (WritesBytes pfs.0 obj.0 id.0 size offset (bytes_of source.entry)) store.old store.new) }
+    ensures keeps { Keeps T.elements T.extents store.old store.new result }
+    ensures space { Spends T.room T.free
+        (block_space (block_count offset (offset + length (bytes_of source.entry)) + 1)) store.old store.new }
+    ensures borrowed { (T.name store.new ≡ T.name store.old)
+        × (T.frame store.new ≡ T.frame store.old) }
+    ensures cause { HasStoreCause (content_of (T.elements store.old) (T.extents store.old))
+        (T.faults store.old) (T.faults store.new) result }
+{
+    if offset + source.len() as u64 <= size {
+        return put_pieces(store, pfs, obj, size, offset, source, id);
     }
     clear_way(store, pfs, obj, size, offset, id)?;
-    put_pieces(store, pfs, obj, size, offset, bytes, id)
+    put_pieces(store, pfs, obj, size, offset, source, id)
 }
 
 // Closes what is past a file's size, so that bytes can be written from an offset on.
@@ -91,42 +160,43 @@ fn clear_way<T: ElementStore + Extents>(
     close_between(store, pfs, obj, past + 1, u64::MAX, id)
 }
 
-// Puts bytes into a file of a size, block by block, where all that is past the size is closed.
+// Puts what is written into a file of a size, block by block, where all that is past the size is closed.
 fn put_pieces<T: ElementStore + Extents>(
     store: &mut T,
     pfs: Pfs,
     obj: Obj,
     size: u64,
     offset: u64,
-    bytes: &[u8],
+    source: Source,
     id: Id,
 ) -> Result<(), Fault>
     requires id { 1 ≤ id.0 }
-    requires some { 1 ≤ length bytes.now }
-    requires few { offset + length bytes.now ≤ MOST_FILE_BYTES }
+    requires some { 1 ≤ length (bytes_of source) }
+    requires few { offset + length (bytes_of source) ≤ MOST_FILE_BYTES }
+    requires source { IsSource source }
     requires balanced { Balanced (T.elements store.old) (T.extents store.old) }
     requires older { AreOlderIn (T.elements store.old) (T.extents store.old)
         pfs.0 obj.0 id.0 (block_start offset + 1) }
     requires room { HasBlockRoom (T.room store.old)
-        (block_count offset (offset + length bytes.now)) }
+        (block_count offset (offset + length (bytes_of source))) }
     ensures ok { OnOk result (Writes T.elements T.extents (PutsBefore pfs.0 obj.0 id.0 size
-        offset bytes.now ((offset + length bytes.now - 1) / BLOCK_BYTES + 1)) store.old store.new) }
+        offset (bytes_of source.entry) ((offset + length (bytes_of source.entry) - 1) / BLOCK_BYTES + 1)) store.old store.new) }
     ensures keeps { Keeps T.elements T.extents store.old store.new result }
     ensures space { Spends T.room T.free
-        (block_space (block_count offset (offset + length bytes.now))) store.old store.new }
+        (block_space (block_count offset (offset + length (bytes_of source.entry)))) store.old store.new }
     ensures borrowed { (T.name store.new ≡ T.name store.old)
         × (T.frame store.new ≡ T.frame store.old) }
     ensures cause { HasStoreCause (content_of (T.elements store.old) (T.extents store.old))
         (T.faults store.old) (T.faults store.new) result }
 {
     let block = BLOCK_BYTES as u64;
-    let end = offset + bytes.len() as u64;
+    let end = offset + source.len() as u64;
     let blocks = (end - 1) / block + 1;
     let mut next = offset / block;
     while next < blocks {
         let at = offset.max(next * block);
         let to = end.min(next * block + block);
-        let piece = &bytes[(at - offset) as usize..(to - offset) as usize];
+        let piece = source.piece((at - offset) as usize, (to - offset) as usize);
         write_piece(store, pfs, obj, size, at, piece, id)?;
         next += 1;
     }

@@ -1,4 +1,4 @@
-use Rattle.std.proofs.Common.{◌≡◌, ◌+◌, ◌*◌, ◌/◌, ◌%◌, ◌^◌, ◌≤◌, arith}
+use Rattle.std.proofs.Common.{◌≡◌, ◌+◌, ◌*◌, ◌/◌, ◌^◌, refl}
 use Rattle.std.proofs.lemmas.Result.{on_ok_weaker}
 use Rattle.hm_cursor.specs.Told.{fulls}
 use Rattle.hm_cursor.proofs.CallLemmas.{writes_so}
@@ -39,11 +39,9 @@ returns-clause-ok g c =
     let offset = c.args.offset in
     let past = (size + 16383) / 16384 * 16384 in
     let old = c.args.store.now in
-    let aligned : past % 16384 ≡ 0 = omega arith in
-    let within : size ≤ past = omega arith in
     on_ok_weaker c.close_between.result
     (λ wrote. writes_so elements extents (ClosesBytes pfs obj i (past + 1) (2 ^ 64)) (ClearsWay pfs obj i size offset) (λ lists. AreBlocks (fulls lists)) old
     c.close_between.new.store
     (known_blocks (elements old) (extents old) (g.met.T.ElementStore.sorted old) (g.met.T.Extents.live old) c.requires.balanced)
-    (λ was es' blocks closes. way_closed pfs obj i size offset (fulls was) es' past aligned within c.if-size-offset.false blocks closes) wrote)
+    (λ was es' blocks closes. way_closed pfs obj i size offset (fulls was) es' past refl c.if-size-offset.false blocks closes) wrote)
     c.close_between.ensures.ok

@@ -4,6 +4,7 @@ use Rattle.hm_types.specs.Space.{Spends}
 use Rattle.hm_key.specs.Balance.{Balanced}
 use Rattle.hm_cursor.specs.Write.{Writes}
 use Rattle.hm_files.specs.Put.{block_space}
+use Rattle.hm_files.specs.Source.{bytes_of}
 use Rattle.hm_files.specs.Write.{PutsBefore}
 use Rattle.hm_files.proofs.write.put_pieces.Given as goal
 
@@ -12,7 +13,7 @@ abbrev pub invariant-loop-next : goal.invariant-loop-next
 invariant-loop-next g l = record {
   from : l.fn.offset / 16384 ≤ l.next;
   to : l.next ≤ l.blocks;
-  wrote : Writes g.T.HasElements.elements g.T.HasRoom.extents (PutsBefore l.fn.pfs.0 l.fn.obj.0 l.fn.id.0 l.fn.size l.fn.offset l.fn.bytes l.next)
+  wrote : Writes g.T.HasElements.elements g.T.HasRoom.extents (PutsBefore l.fn.pfs.0 l.fn.obj.0 l.fn.id.0 l.fn.size l.fn.offset (bytes_of l.fn.source) l.next)
       l.fn.store l.store;
   balanced : Balanced (g.T.HasElements.elements l.store) (g.T.HasRoom.extents l.store);
   elements : is_some (g.T.HasElements.elements l.store) ≡ is_some (g.T.HasElements.elements l.fn.store);

@@ -42,7 +42,7 @@ returns-then-piece-eq-BLOCK_BYTES-clause-ok g c =
     (λ was es' known puts. piece_put pfs obj i size at piece piece (fulls was) es' known.0.0
     (settled (full_elements was.0 was.1) i (own_keys-sorted (full_elements was.0 was.1) (full_sorted was.0 was.1 known.1.rising)))
     known.0.1 (omega (arith, whole)) (omega (arith, whole)) (omega (arith, same)) (λ x below from inside. omega (arith, inside, whole))
-    (merged_whole _ pfs obj size at begin piece same) puts) put)
+    (omega (arith, whole, same)) (merged_whole _ pfs obj size at begin piece same) puts) put)
     c.put_block.ensures.ok
 
 pub returns-clause-ok : goal.returns-clause-ok
@@ -87,7 +87,7 @@ returns-clause-ok g c =
     (settled (full_elements was.0 was.1) i (own_keys-sorted (full_elements was.0 was.1) (full_sorted was.0 was.1 known.1.0.rising)))
     known.0.1 (omega (arith, long, high, some)) (omega (arith, long, high)) (omega (arith, long, high, within))
     (λ x below from inside. omega (arith, inside, below, long, high))
-    (merged_laid _ pfs obj size at begin piece read rest bytes (omega arith) sized laid (omega (arith, all, high, within))
+    (omega (arith, long, high)) (merged_laid _ pfs obj size at begin piece read rest bytes (omega arith) sized laid (omega (arith, all, high, within))
     (λ k. get_or-drop c.shorter-shown.result (take (end - begin) (replicate 16384 0)) k 0 ∙ zeros_front (end - begin) 16384 (c.shorter-shown.result + k))
     (known.1.1 (inl (omega (arith, few, sized, long, high))))) puts)
     (writes_from elements extents Put old last c.put_block-2.new.store reads.keeps.elements reads.keeps.extents put))
