@@ -17,6 +17,7 @@ took() {
     local store=$1 operation=$2 names=$3 first= before=0 calls
     case $operation in
         stat | ls) first=touch ;;
+        now | past) first=relink ;;
     esac
     if [ -n "$first" ]; then
         measure_best "$program" "$store" "$first" "$names"
@@ -55,4 +56,10 @@ stat 1000 both
 stat 10000 both
 stat 100000 tree
 ls 4096 both
+relink 1000 both
+relink 10000 tree
+now 1000 both
+now 10000 tree
+past 1000 both
+past 10000 tree
 ROWS

@@ -6,6 +6,11 @@ pub mod CheckLemmas
 pub mod PlaceLemmas
 pub mod EffectLemmas
 pub mod LookLemmas
+pub mod CatLemmas
+pub mod ReadLemmas
+pub mod CommandLemmas
+pub mod FileLemmas
+pub mod EditLemmas
 pub mod NowLemmas
 pub mod StageLemmas
 pub mod RemoveLemmas

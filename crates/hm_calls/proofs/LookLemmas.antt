@@ -59,12 +59,12 @@ no_zones free = let no : nat_lt (free - 0) 0 ≡ false = grind (arith, nat_tests
 
 -- ---- the object at the end of a walk
 
-found_object : (counts : Content) (pfs : ℕ) (o : Option Object) (inode : Inode) → IsFoundBy counts pfs o (Some inode)
+pub found_object : (counts : Content) (pfs : ℕ) (o : Option Object) (inode : Inode) → IsFoundBy counts pfs o (Some inode)
     → (x : Object) × (o ≡ Some x) × IsMadeBy counts pfs inode x
 found_object counts pfs (Some x) inode made = (x, refl, made)
 found_object counts pfs None inode made = absurd made
 
-no_object : (counts : Content) (pfs : ℕ) (o : Option Object) → IsFoundBy counts pfs o None → o ≡ None
+pub no_object : (counts : Content) (pfs : ℕ) (o : Option Object) → IsFoundBy counts pfs o None → o ≡ None
 no_object counts pfs None none = refl
 no_object counts pfs (Some x) none = absurd none
 
@@ -78,7 +78,7 @@ numbers_are File = refl
 numbers_are Softlink = refl
 numbers_are PfsLink = refl
 
-number_is : (view : View) (here : Place) (o : Object) → object_at view here ≡ Some o → o.number ≡ here.object
+pub number_is : (view : View) (here : Place) (o : Object) → object_at view here ≡ Some o → o.number ≡ here.object
 number_is view here o is = ap (λ (n : ℕ). let number : Obj = record { 0 = n } in number) (number_found (view here.pfs here.when) here.object o is)
 
 -- the names of the directory where a walk ended are these
@@ -105,19 +105,19 @@ none_some : (o : Object) → None ≡ Some o → ⊥
 none_some o is = cc
 
 -- what a call that looks answers of a place
-abbrev answer_of : Call → Place → Reply
+abbrev pub answer_of : Call → Place → Reply
 answer_of call here = option_map_or (answer_at call (call.view here.pfs here.when)) (object_at call.view here) NotFound
 
 module _ (hash : List ℕ → ℕ) (id : ℕ) (course : Course) (before : course.last.0 + 1 ≡ id) (most : id ≤ GREATEST_ID) (word : List ℕ) (parts : List Part)
     (path_is : IsPath word parts) (es : Option (List Element)) (xs : Option (List Extent)) (room : ℕ → ℕ) (free : ℕ) (stand : Stand) where
   -- what is answered of the end of the walk
-  answered_there : (call : Call) (w : Walked) (mode : Mode) (scene : Scene) (reply : Reply) → IsEnd scene mode w stand
+  pub answered_there : (call : Call) (w : Walked) (mode : Mode) (scene : Scene) (reply : Reply) → IsEnd scene mode w stand
       → answer_of call (place_of stand.at) ≡ reply → answer_of call (site_in (at_end w)).at ≡ reply
   answered_there call w mode scene reply end is =
       subst (λ (v : Walked). answer_of call (site_in (at_end v)).at ≡ reply) (sym end.walked_is)
       (subst (λ (p : Place). answer_of call p ≡ reply) end.ends.place is)
 
-  answered_object : (call : Call) (o : Object) (reply : Reply) → object_at call.view (place_of stand.at) ≡ Some o
+  pub answered_object : (call : Call) (o : Object) (reply : Reply) → object_at call.view (place_of stand.at) ≡ Some o
       → answer_at call (call.view stand.at.pfs.0 (when_of stand.at.when)) o ≡ reply → answer_of call (place_of stand.at) ≡ reply
   answered_object call o reply there is =
       subst (λ (x : Option Object). option_map_or (answer_at call (call.view stand.at.pfs.0 (when_of stand.at.when))) x NotFound ≡ reply) (sym there) is
@@ -129,7 +129,7 @@ module _ (hash : List ℕ → ℕ) (id : ℕ) (course : Course) (before : course
       subst (λ (v : Walked). ask_kind test refusal (object_at scene.view (site_in (at_end v)).at) ≡ check) (sym end.walked_is)
       (subst (λ (p : Place). ask_kind test refusal (object_at scene.view p) ≡ check) end.ends.place is)
 
-  there : (w : Walked) (mode : Mode) (scene : Scene) → IsEnd scene mode w stand → walks (at_end w) ≡ None
+  pub there : (w : Walked) (mode : Mode) (scene : Scene) → IsEnd scene mode w stand → walks (at_end w) ≡ None
   there w mode scene end = subst (λ (v : Walked). walks (at_end v) ≡ None) (sym end.walked_is) refl
 
   -- ---- a list of names

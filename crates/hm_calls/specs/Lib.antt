@@ -7,5 +7,8 @@ pub mod Places
 pub mod Writes
 pub mod Changes
 pub mod Replies
+pub mod Commands
+pub mod Bytes
+pub mod Edits
 pub mod Moves
 pub mod Tests

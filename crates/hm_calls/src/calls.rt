@@ -8,12 +8,13 @@ ghost use Rattle.hm_model.specs.Due.{is_tree_call};
 ghost use Rattle.hm_model.specs.Forms.{IsInRange};
 ghost use Rattle.hm_model.specs.declared.reply.Reply.TheVariants.{Done as done};
 ghost use Rattle.hm_cursor.specs.Told.{HasReadingCause};
+ghost use Rattle.hm_calls.specs.Commands.{IsOnTrees};
 ghost use Rattle.hm_calls.specs.Known.{AreKnown};
-ghost use Rattle.hm_calls.specs.Replies.{Asks, IsAnswered, IsOnNames, LowersRoom, Replies};
+ghost use Rattle.hm_calls.specs.Replies.{Asks, IsAnswered, LowersRoom, Replies};
 ghost use Rattle.hm_calls.specs.Stop.{HasStopCause};
 
 use crate::links::link;
-use crate::looks::{list_names, tell_status, tell_target};
+use crate::looks::{list_names, tell_bytes, tell_status, tell_target};
 use crate::make::make;
 use crate::moves::move_to;
 use crate::new::New;
@@ -25,20 +26,21 @@ use hm_model::{Command, Reply};
 use hm_types::{Counted, Fault, Id};
 use std::alloc::Global;
 
-/// Answers a call on names by its id, the one after the last that was drawn: `mkdir`, `touch`,
-/// `symlink`, `snapshot`, `ln`, `mv`, `rm`, `rmdir`, `ls`, `stat` or `readlink`. The reply is the one
-/// that the call is due, by the volume that the elements show: the refusal of the first of its checks
-/// that fails, and `no space` as the last of them, or else what it looked for or `ok`. What is
-/// accepted changes the tree of the pseudo file system in which its walk ends, from its id on, and
-/// leaves every older view. A refusal and a call that looks leave the store as it was.
+/// Answers a call by its id, the one after the last that was drawn: `mkdir`, `touch`, `symlink`,
+/// `snapshot`, `ln`, `mv`, `rm`, `rmdir`, `ls`, `cat`, `stat` or `readlink`. The reply is the one
+/// that the call is due, by the volume that the elements show: the refusal of the first of its
+/// checks that fails, and `no space` as the last of them, or else what it looked for or `ok`. What
+/// is accepted changes the tree of the pseudo file system in which its walk ends, from its id on,
+/// and leaves every older view. A refusal and a call that looks leave the store as it was.
 ///
-/// Each pseudo file system is a slave by its record, or all ids of its elements are below the call's
-/// own; so it is again for the id after it. `busy` is the id by which a mirror or upgrade call was
-/// opened that is open; no call on names minds it. The zones 8 and 9 lose at most their reserves,
-/// 1,048,576 and 131,072 bytes, and no other zone loses room.
+/// Each pseudo file system is a slave by its record, or all ids of its elements are below the
+/// call's own; so it is again for the id after it. `busy` is the id by which a mirror or upgrade
+/// call was opened that is open; none of these calls minds it. The zones 8 and 9 lose at most their
+/// reserves, 1,048,576 and 131,072 bytes, and no other zone loses room.
 ///
-/// `Damaged` at a payload that breaks its grammar, of kind 6, and `NoMemory` where an allocation was
-/// refused. The other faults are those of the store. After a fault nothing is known of the content.
+/// `Damaged` at a payload that breaks its grammar, of kind 6, and `NoMemory` where an allocation
+/// was refused, or where `cat` is asked for bytes past 15,728,640 of a file that has so many. The
+/// other faults are those of the store. After a fault nothing is known of the content.
 pub fn answer<T: ElementStore + Extents, H: NameHash>(
     alloc: Global,
     store: &mut T,
@@ -47,7 +49,7 @@ pub fn answer<T: ElementStore + Extents, H: NameHash>(
     id: Id,
     busy: Option<Id>,
 ) -> Result<Reply, Fault>
-    requires command { IsOnNames command.now × IsInRange command.now }
+    requires command { IsOnTrees command.now × IsInRange command.now }
     requires id { (1 ≤ id.0) × (id.0 ≤ GREATEST_ID) }
     requires balanced { Balanced (T.elements store.old) (T.extents store.old) }
     requires known { AreKnown (T.elements store.old) (T.extents store.old) id.0 }
@@ -77,7 +79,7 @@ fn serve<T: ElementStore + Extents, H: NameHash>(
     command: &Command,
     id: Id,
 ) -> Result<Reply, Stop>
-    requires command { IsOnNames command.now × IsInRange command.now }
+    requires command { IsOnTrees command.now × IsInRange command.now }
     requires id { (1 ≤ id.0) × (id.0 ≤ GREATEST_ID) }
     requires balanced { Balanced (T.elements store.old) (T.extents store.old) }
     requires known { AreKnown (T.elements store.old) (T.extents store.old) id.0 }
@@ -104,6 +106,11 @@ fn serve<T: ElementStore + Extents, H: NameHash>(
         Command::Rm { path } => remove(alloc, store, hash, path, id),
         Command::Rmdir { path } => remove_directory(alloc, store, hash, path, id),
         Command::Ls { path } => list_names(alloc, store, hash, path, id),
+        Command::Cat {
+            path,
+            offset,
+            count,
+        } => tell_bytes(alloc, store, hash, path, *offset, *count, id),
         Command::Stat { path } => tell_status(alloc, store, hash, path, id),
         Command::Readlink { path } => tell_target(alloc, store, hash, path, id),
         _ => unreachable!(),

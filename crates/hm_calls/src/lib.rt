@@ -1,13 +1,20 @@
-//! The calls on names: what each answers, and what it does to the elements of a store.
+//! The calls on names, and the one that reads a file: what each answers, and what it does to the
+//! elements of a store.
 #![tactic(auto)]
 
+#[cfg(test)]
+mod byte_tests;
+mod bytes;
 mod calls;
 mod checks;
 #[cfg(test)]
 mod count_tests;
 mod course;
+mod edit;
+mod edits;
 #[cfg(test)]
 mod fault_tests;
+mod files;
 #[cfg(test)]
 mod hash_tests;
 mod kinds;

@@ -32,9 +32,10 @@ impl PastTrees {
             return Err("no tree")?;
         };
         match command {
-            Command::Ls { .. } | Command::Stat { .. } | Command::Readlink { .. } => {
-                Ok(look(alloc, tree, command)?)
-            }
+            Command::Ls { .. }
+            | Command::Cat { .. }
+            | Command::Stat { .. }
+            | Command::Readlink { .. } => { Ok(look(alloc, tree, command)?) }
             _ => {
                 let (reply, after) = apply(alloc, tree, command, Id(id))?;
                 self.list.push((id, after))?;

@@ -14,7 +14,7 @@ const CALLS: u64 = 200;
 const COMMANDS: [&str; 16] = [
     "mkdir",
     "mkdir",
-    "mkdir",
+    "cat",
     "touch",
     "symlink t",
     "snapshot",
@@ -41,6 +41,7 @@ fn line_of(alloc: Global, number: u64) -> Result<String, Fail> {
     let first = WORDS[(number / 1_099_511_627_776 % 16) as usize];
     let second = WORDS[(number / 17_592_186_044_416 % 16) as usize];
     Ok(match command {
+        "cat" => format!(in alloc; "{command} {first} 0 9")?,
         "ln" | "mv" => format!(in alloc; "{command} {first} {second}")?,
         _ => format!(in alloc; "{command} {first}")?,
     })

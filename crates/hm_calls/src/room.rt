@@ -3,9 +3,10 @@ ghost use Rattle.std.specs.Prelude.{◌≡◌, ◌-◌, ◌≤◌, ℕ, IfErr, O
 ghost use Rattle.std.specs.Bool.{nat_lt};
 ghost use Rattle.hm_key.specs.Stores.{Same, SameContent};
 ghost use Rattle.hm_model.specs.Due.{refuse_if};
-ghost use Rattle.hm_model.specs.Needs.{names_zones};
+ghost use Rattle.hm_model.specs.Needs.{bytes_zones, names_zones};
 ghost use Rattle.hm_model.specs.declared.reply.Reply.TheVariants.{NoSpace as no_space};
 ghost use Rattle.hm_calls.specs.Due.{lacking};
+ghost use Rattle.hm_calls.specs.Edits.{HasAllReserves};
 ghost use Rattle.hm_calls.specs.Stop.{Answers, HasStopCause, IfRefused};
 ghost use Rattle.hm_calls.specs.Writes.{HasReserves};
 
@@ -31,6 +32,36 @@ pub(crate) fn admit_names<T: ElementStore + Extents>(store: &mut T, held: u32) -
         (T.faults store.old) (T.faults store.new) result }
 {
     match store.admit(Zones::TREE.union(Zones::META), held) {
+        Ok(()) => Ok(()),
+        Err(SpaceFault::NoSpace { free, needed }) => {
+            Err(Stop::Refused(Reply::NoSpace { free, needed }))
+        }
+        Err(SpaceFault::Fault(fault)) => Err(Stop::Failed(fault)),
+    }
+}
+
+// Lets the zones 8, 9, 10 and 11 have their reserves, while so many free big-blocks are held back. `no space`
+// where too few are free; the store is then as it was.
+pub(crate) fn admit_bytes<T: ElementStore + Extents>(store: &mut T, held: u32) -> Result<(), Stop>
+    ensures check { Answers (refuse_if (nat_lt (T.free store.old - held)
+        (lacking bytes_zones (T.room store.old)))
+        (no_space (T.free store.old) (lacking bytes_zones (T.room store.old)))) result }
+    ensures reserves { OnOk result (HasAllReserves (T.room store.new)) }
+    ensures content { OnOk result (SameContent T.elements T.mark T.extents store.old store.new) }
+    ensures refused { IfRefused result (λ _.
+        Same T.elements T.mark T.extents T.room T.free store.old store.new) }
+    ensures room { ((zone : ℕ) → T.room store.old zone ≤ T.room store.new zone)
+        × (T.name store.new ≡ T.name store.old) × (T.frame store.new ≡ T.frame store.old) }
+    ensures cause { HasStopCause (T.elements store.old) (T.extents store.old)
+        (T.faults store.old) (T.faults store.new) result }
+{
+    match store.admit(
+        Zones::TREE
+            .union(Zones::META)
+            .union(Zones::LARGE)
+            .union(Zones::SMALL),
+        held,
+    ) {
         Ok(()) => Ok(()),
         Err(SpaceFault::NoSpace { free, needed }) => {
             Err(Stop::Refused(Reply::NoSpace { free, needed }))

@@ -1,18 +1,21 @@
 // Scripts of calls on two pseudo file systems, by numbers drawn at random, beside a list of the trees
-// that the plain program of the model makes of each. The names of a directory have two hashes.
+// that the plain program of the model makes of each. The names of a directory have two hashes. The
+// link from one to the other is asked for, and moved, as any object is.
 ghost use Rattle.std.specs.Prelude.{IfOk};
 ghost use Rattle.hm_calls.specs.Tests.{IsReady};
 
-use crate::past_trees::PastTrees;
-use crate::testing::{ByLength, Item, Volume, ask, command_of, volume_of};
+mod systems;
+
+use crate::testing::{ByLength, Item, Volume, ask, command_of, first_other, volume_of};
 use hm_key::{ElementStore, Extents, HasElements, HasRoom};
-use hm_model::{Command, Reply, next_number, push_answer};
-use hm_records::{DIRECTORY, FILE, PFS_LINK};
-use hm_types::{Id, Names};
+use hm_model::{Reply, next_number, push_answer};
+use hm_records::DIRECTORY;
+use hm_types::Id;
 use std::alloc::Global;
 use std::test::Fail;
+use systems::{LINK, Line, Systems};
 
-const SCRIPTS: u64 = 5;
+const SCRIPTS: u64 = 100;
 
 const CALLS: u64 = 100;
 
@@ -22,13 +25,11 @@ const SYSTEMS: [Item; 6] = [
     Item::Object(0, 1, DIRECTORY, 1),
     Item::Master(1),
     Item::Object(1, 1, DIRECTORY, 1),
-    Item::Link(5, 1),
-    Item::Entry(0, 1, "m", 0, 5),
+    Item::Link(LINK, 1),
+    Item::Entry(0, 1, "m", 0, LINK),
 ];
 
-// The id by which its object was made, and the last id of `SYSTEMS`.
-const LINK_ID: u64 = 5;
-
+// The last id of `SYSTEMS`.
 const LAST_ID: u64 = 6;
 
 const COMMANDS: [&str; 16] = [
@@ -45,9 +46,29 @@ const COMMANDS: [&str; 16] = [
     "mv",
     "mv",
     "rm",
+    "rmdir",
+    "readlink",
+    "stat",
+];
+
+// The calls on the link itself.
+const LINK_COMMANDS: [&str; 16] = [
+    "mv",
+    "mv",
+    "mv",
+    "mv",
+    "mv",
+    "mv",
+    "mv",
+    "mv",
+    "ln",
     "rm",
     "rmdir",
     "readlink",
+    "stat",
+    "mkdir",
+    "touch",
+    "symlink t",
 ];
 
 const DIRECTORIES: [&str; 8] = ["", "", "", "", "/a", "/a", "/bb", "/a/b"];
@@ -73,172 +94,65 @@ const LOOKS: [(&str, &str); 15] = [
     ("readlink", "/c"),
 ];
 
-// A name in a directory of one of the two systems.
+// Whose path is drawn: the link's, or that of a name of PFS 0 or of PFS 1.
+#[derive(Clone, Copy)]
+enum Owner {
+    Link,
+    First,
+    Second,
+}
+
+// A path of the volume.
 #[derive(Clone, Copy)]
 struct Place {
-    in_second: bool,
+    owner: Owner,
     directory: &'static str,
     name: &'static str,
 }
 
 impl Place {
-    // One of the 128 that a number draws.
-    fn drawn(number: u64) -> Place {
+    // The one that a number draws, the link's path so often of sixteen times.
+    fn drawn(number: u64, links: u64) -> Place {
         Place {
-            in_second: number % 2 == 1,
-            directory: DIRECTORIES[(number / 2 % 8) as usize],
-            name: NAMES[(number / 16 % 8) as usize],
+            owner: match number % 16 {
+                kind if kind < links => Owner::Link,
+                kind if kind % 2 == 0 => Owner::First,
+                _ => Owner::Second,
+            },
+            directory: DIRECTORIES[(number / 16 % 8) as usize],
+            name: NAMES[(number / 128 % 8) as usize],
         }
     }
 
-    // Its path in its own tree.
-    fn path(&self, alloc: Global) -> Result<String, Fail> {
-        Ok(format!(in alloc; "{}/{}", self.directory, self.name)?)
-    }
-
-    // Its path from the root of PFS 0.
-    fn word(&self, alloc: Global) -> Result<String, Fail> {
-        let way = if self.in_second { "/m" } else { "" };
+    // Its path from the root of PFS 0, by that of the link.
+    fn word(&self, alloc: Global, link: &str) -> Result<String, Fail> {
+        let way = match self.owner {
+            Owner::Link => return Ok(format!(in alloc; "{link}")?),
+            Owner::First => "",
+            Owner::Second => link,
+        };
         Ok(format!(in alloc; "{way}{}/{}", self.directory, self.name)?)
     }
-
-    // The path of its directory in its own tree.
-    fn parent(&self) -> &'static str {
-        if self.directory.is_empty() {
-            "/"
-        } else {
-            self.directory
-        }
-    }
 }
 
-// A call on one place or two.
-#[derive(Clone, Copy)]
-struct Line {
-    command: &'static str,
-    first: Place,
-    second: Place,
-}
-
-impl Line {
-    // The line that a number draws.
-    fn drawn(number: u64) -> Line {
-        Line {
-            command: COMMANDS[(number / 68_719_476_736 % 16) as usize],
-            first: Place::drawn(number / 1_099_511_627_776),
-            second: Place::drawn(number / 140_737_488_355_328),
-        }
-    }
-
-    fn has_two(&self) -> bool {
-        self.command == "ln" || self.command == "mv"
-    }
-
-    // Its text.
-    fn text(&self, alloc: Global) -> Result<String, Fail> {
-        let first = self.first.word(alloc)?;
-        if !self.has_two() {
-            return Ok(format!(in alloc; "{} {first}", self.command)?);
-        }
-        let second = self.second.word(alloc)?;
-        Ok(format!(in alloc; "{} {first} {second}", self.command)?)
-    }
-
-    // What it asks of the tree in which its places are.
-    fn within(&self, alloc: Global) -> Result<Command, Fail> {
-        let first = self.first.path(alloc)?;
-        if !self.has_two() {
-            let text = format!(in alloc; "{} {first}", self.command)?;
-            return command_of(alloc, &text);
-        }
-        let second = self.second.path(alloc)?;
-        let text = format!(in alloc; "{} {first} {second}", self.command)?;
-        command_of(alloc, &text)
-    }
-}
-
-// The trees of both systems. In those of PFS 0 a directory stands for the link `m`.
-#[derive(Drop)]
-struct Systems {
-    first: PastTrees,
-    second: PastTrees,
-}
-
-impl Systems {
-    // The trees of `SYSTEMS`.
-    fn new(alloc: Global) -> Result<Systems, Fail> {
-        let mut first = PastTrees::new(alloc, 1)?;
-        first.call(alloc, &command_of(alloc, "mkdir /m")?, LINK_ID)?;
-        Ok(Systems {
-            first,
-            second: PastTrees::new(alloc, 1)?,
-        })
-    }
-
-    // The reply that a line is due by its id.
-    fn call(&mut self, alloc: Global, line: &Line, id: u64) -> Result<Reply, Fail> {
-        if line.has_two() && line.first.in_second != line.second.in_second {
-            return self.cross(alloc, line, id);
-        }
-        let command = line.within(alloc)?;
-        if line.first.in_second {
-            self.second.call(alloc, &command, id)
-        } else {
-            self.first.call(alloc, &command, id)
-        }
-    }
-
-    // The reply to `ln` or `mv` from one system to the other. Each path is walked in its own tree, and
-    // what they lead to does not cross.
-    fn cross(&self, alloc: Global, line: &Line, id: u64) -> Result<Reply, Fail> {
-        let path = line.first.path(alloc)?;
-        let kind = match self.look(alloc, line.first.in_second, "stat", &path, id)? {
-            Reply::Status { kind, .. } => kind,
-            refusal => return Ok(refusal),
-        };
-        let parent = line.second.parent();
-        match self.look(alloc, line.second.in_second, "ls", parent, id)? {
-            Reply::Listing { .. } => {}
-            refusal => return Ok(refusal),
-        }
-        Ok(match (line.command, kind) {
-            ("ln", DIRECTORY) => Reply::IsDir,
-            ("ln", FILE) | ("mv", _) => Reply::CrossPfs,
-            _ => Reply::NotFile,
-        })
-    }
-
-    // The reply to a look at a path of one of them as of an id.
-    fn look(
-        &self,
-        alloc: Global,
-        in_second: bool,
-        name: &str,
-        path: &str,
-        id: u64,
-    ) -> Result<Reply, Fail> {
-        let text = format!(in alloc; "{name} {path}")?;
-        let command = command_of(alloc, &text)?;
-        if in_second {
-            return self.second.look(alloc, &command, id);
-        }
-        with_link(alloc, self.first.look(alloc, &command, id)?)
-    }
-}
-
-// A reply in which `m` is a link.
-fn with_link(alloc: Global, reply: Reply) -> Result<Reply, Fail> {
-    let names = match reply {
-        Reply::Listing { names } => names,
-        other => return Ok(other),
+// The line that a number draws, where the link has this path.
+fn line_of(alloc: Global, number: u64, link: &str) -> Result<Line, Fail> {
+    let first = Place::drawn(number / 1_099_511_627_776, 4);
+    let second = Place::drawn(number / 1_125_899_906_842_624, 1);
+    let commands = match first.owner {
+        Owner::Link => &LINK_COMMANDS,
+        Owner::First | Owner::Second => &COMMANDS,
     };
-    let mut list = Vec::new(alloc);
-    for (kind, name) in names.list() {
-        let is_link = name.bytes() == b"m".as_slice();
-        list.push((if is_link { PFS_LINK } else { *kind }, name.clone()?))?;
-    }
-    Ok(Reply::Listing {
-        names: Names::of(list),
+    let command = commands[(number / 68_719_476_736 % 16) as usize];
+    let has_two = command == "ln" || command == "mv";
+    Ok(Line {
+        command,
+        first: first.word(alloc, link)?,
+        second: if has_two {
+            Some(second.word(alloc, link)?)
+        } else {
+            None
+        },
     })
 }
 
@@ -247,39 +161,6 @@ fn text_of(alloc: Global, reply: &Reply) -> Result<Vec<u8>, Fail> {
     let mut text = Vec::new(alloc);
     push_answer(alloc, &mut text, &command_of(alloc, "ls /")?, reply)?;
     Ok(text)
-}
-
-// A look at a path of one of the systems as of an id.
-#[derive(Clone, Copy)]
-struct View {
-    in_second: bool,
-    name: &'static str,
-    path: &'static str,
-    id: u64,
-}
-
-// How many of them there are for each id.
-const VIEWS: u64 = 30;
-
-impl View {
-    // The one that comes after so many, from the last id of `SYSTEMS` on.
-    fn after(before: u64) -> View {
-        let (name, path) = LOOKS[(before / 2 % 15) as usize];
-        View {
-            in_second: before % 2 == 1,
-            name,
-            path,
-            id: (before / VIEWS).saturating_add(LAST_ID),
-        }
-    }
-
-    // Its line.
-    fn text(&self, alloc: Global) -> Result<String, Fail> {
-        let way = if self.in_second { "/m" } else { "" };
-        let rest = if self.path == "/" { "" } else { self.path };
-        let id = Id(self.id);
-        Ok(format!(in alloc; "{} {way}/@@{id}{rest}", self.name)?)
-    }
 }
 
 // The first line of a script with another answer than the trees give, if there is one.
@@ -297,7 +178,7 @@ fn first_other_line<T: ElementStore + Extents>(
     let mut number = seed;
     for _ in 0..CALLS {
         number = next_number(number);
-        let line = Line::drawn(number);
+        let line = line_of(alloc, number, systems.link(volume.next)?)?;
         let due = systems.call(alloc, &line, volume.next)?;
         let text = line.text(alloc)?;
         if ask(alloc, volume, &ByLength, &text)? != text_of(alloc, &due)? {
@@ -307,7 +188,57 @@ fn first_other_line<T: ElementStore + Extents>(
     Ok(None)
 }
 
-// The first look at the past with another answer than the trees give, if there is one.
+// The line that asks for a path of PFS 1 as it was: by the path that the link has now, or by the one
+// that it had then.
+fn second_line(
+    alloc: Global,
+    name: &str,
+    links: (&str, &str),
+    rest: &str,
+    id: u64,
+) -> Result<String, Fail> {
+    let (now, then) = links;
+    let at = Id(id);
+    Ok(if id % 2 == 0 {
+        format!(in alloc; "{name} {now}/@@{at}{rest}")?
+    } else {
+        format!(in alloc; "{name} /@@{at}{then}{rest}")?
+    })
+}
+
+// The first look at the volume as of an id with another answer than the trees give, if there is one.
+fn first_other_look<T: ElementStore + Extents>(
+    alloc: Global,
+    volume: &mut Volume<T>,
+    systems: &Systems,
+    now: &str,
+    id: u64,
+) -> Result<Option<String>, Fail>
+    requires { IsReady (T.elements volume.old.store) (T.extents volume.old.store)
+        volume.old.next }
+    ensures { IfOk result (λ _. IsReady (T.elements volume.new.store)
+        (T.extents volume.new.store) volume.new.next) }
+{
+    let then = systems.link(id)?;
+    let at = Id(id);
+    for (name, path) in &LOOKS {
+        let rest = if *path == "/" { "" } else { *path };
+        let first = format!(in alloc; "{name} /@@{at}{rest}")?;
+        let due = systems.look(alloc, name, path, id)?;
+        if ask(alloc, volume, &ByLength, &first)? != text_of(alloc, &due)? {
+            return Ok(Some(first));
+        }
+        let second = second_line(alloc, name, (now, then), rest, id)?;
+        let word = format!(in alloc; "{then}{rest}")?;
+        let due = systems.look(alloc, name, &word, id)?;
+        if ask(alloc, volume, &ByLength, &second)? != text_of(alloc, &due)? {
+            return Ok(Some(second));
+        }
+    }
+    Ok(None)
+}
+
+// The same as of each id of a script.
 fn first_other_view<T: ElementStore + Extents>(
     alloc: Global,
     volume: &mut Volume<T>,
@@ -318,35 +249,71 @@ fn first_other_view<T: ElementStore + Extents>(
     ensures { IfOk result (λ _. IsReady (T.elements volume.new.store)
         (T.extents volume.new.store) volume.new.next) }
 {
-    for before in 0..VIEWS * (CALLS + 1) {
-        let view = View::after(before);
-        let due = systems.look(alloc, view.in_second, view.name, view.path, view.id)?;
-        let text = view.text(alloc)?;
-        if ask(alloc, volume, &ByLength, &text)? != text_of(alloc, &due)? {
-            return Ok(Some(text));
+    let now = systems.link(volume.next)?;
+    for id in LAST_ID..LAST_ID + CALLS + 1 {
+        let other = first_other_look(alloc, volume, systems, now, id)?;
+        if other.is_some() {
+            return Ok(other);
         }
     }
     Ok(None)
 }
 
-// The first line of a script, or look at what it left, with another answer, if there is one.
-fn first_other(alloc: Global, seed: u64) -> Result<Option<String>, Fail> {
+// The first line of a script, or look at what it left, with another answer, if there is one; and how
+// often the link got a path.
+fn run_script(alloc: Global, seed: u64) -> Result<(Option<String>, u64), Fail> {
     let mut volume = volume_of(alloc, &ByLength, &SYSTEMS)?;
     let mut systems = Systems::new(alloc)?;
     let other = first_other_line(alloc, &mut volume, &mut systems, seed)?;
     if other.is_some() {
-        return Ok(other);
+        return Ok((other, systems.links()));
     }
-    first_other_view(alloc, &mut volume, &systems)
+    let other = first_other_view(alloc, &mut volume, &systems)?;
+    Ok((other, systems.links()))
+}
+
+// Names of the link itself, from the id 7 on. It is no directory, so that a file and a softlink give
+// way to it.
+#[test]
+fn a_link_is_an_object_of_its_own_system(rt: HostRuntime) -> Result<(), Fail> {
+    let rows = [
+        ("touch /f", "ok"),
+        ("mv /m /f", "ok"),
+        ("ls /", "ok 1 p:f"),
+        ("ls /m", "not found"),
+        ("touch /f/x", "ok"),
+        ("ls /f", "ok 1 f:x"),
+        ("symlink t /s", "ok"),
+        ("mv /f /s", "ok"),
+        ("ls /", "ok 1 p:s"),
+        ("stat /s", "ok p 0x0000000000000005 1 1"),
+        ("readlink /s", "ok @@-1:00001"),
+        ("mkdir /d", "ok"),
+        ("mv /s /d", "exists"),
+        ("mv /s /d/m", "ok"),
+        ("mv /d /d/m/d", "crosses a pfs"),
+        ("mv /d/m/x /x", "crosses a pfs"),
+        ("ln /d/m /n", "is a directory"),
+        ("rm /d/m", "is a directory"),
+        ("rmdir /d/m", "not a directory"),
+        ("rmdir /d", "not empty"),
+        ("ls /d/m", "ok 1 f:x"),
+    ];
+    let other = first_other(rt.alloc(), &ByLength, &SYSTEMS, &rows)?;
+    assert_eq!(rt; other, None);
+    Ok(())
 }
 
 #[test]
 fn two_systems_and_all_their_past_are_those_of_the_plain_program(
     rt: HostRuntime,
 ) -> Result<(), Fail> {
+    let mut links: u64 = 0;
     for seed in 0..SCRIPTS {
-        let other = first_other(rt.alloc(), seed)?;
+        let (other, paths) = run_script(rt.alloc(), seed)?;
         assert_eq!(rt; other, None, "script {seed}");
+        links = links.saturating_add(paths);
     }
+    assert!(rt; links >= 2 * SCRIPTS, "the link seldom moves");
     Ok(())
 }

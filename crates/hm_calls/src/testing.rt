@@ -2,7 +2,7 @@
 ghost use Rattle.std.specs.Prelude.{◌≡◌, ◌≤◌, IfOk, OnOk};
 ghost use Rattle.hm_types.specs.declared.limits.TheConstants.{GREATEST_ID};
 ghost use Rattle.hm_model.specs.Forms.{IsInRange};
-ghost use Rattle.hm_calls.specs.Replies.{IsOnNames};
+ghost use Rattle.hm_calls.specs.Commands.{IsOnTrees};
 ghost use Rattle.hm_calls.specs.Tests.{IsMade, IsReady};
 
 use crate::answer;
@@ -65,7 +65,7 @@ fn text(alloc: Global, word: &str) -> Result<Text, Fail>
 
 // The command of a line of one path word.
 fn command_of_path(alloc: Global, name: &str, word: &str) -> Result<Command, Fail>
-    ensures { IfOk result (λ command. IsOnNames command × IsInRange command) }
+    ensures { IfOk result (λ command. IsOnTrees command × IsInRange command) }
 {
     let path = text(alloc, word)?;
     match name {
@@ -81,9 +81,35 @@ fn command_of_path(alloc: Global, name: &str, word: &str) -> Result<Command, Fai
     }
 }
 
-/// The command of a line on names.
+// The number that a word spells.
+fn number(word: &str) -> Result<u64, Fail> {
+    match word.parse::<u64>() {
+        Ok(number) => Ok(number),
+        Err(_) => Err("no number")?,
+    }
+}
+
+// The command of a line that reads a file, by its words behind the path.
+fn command_of_cat(path: Text, words: &str) -> Result<Command, Fail>
+    ensures { IfOk result (λ command. IsOnTrees command × IsInRange command) }
+{
+    let Some((offset, count)) = words.split_once(' ') else {
+        return Err("no count")?;
+    };
+    let (offset, count) = (number(offset)?, number(count)?);
+    if count == 0 || count > 16_384 {
+        return Err("no count")?;
+    }
+    Ok(Command::Cat {
+        path,
+        offset,
+        count: count as u32,
+    })
+}
+
+/// The command of a line on names, or of one that reads a file.
 pub(crate) fn command_of(alloc: Global, line: &str) -> Result<Command, Fail>
-    ensures { IfOk result (λ command. IsOnNames command × IsInRange command) }
+    ensures { IfOk result (λ command. IsOnTrees command × IsInRange command) }
 {
     let Some((name, words)) = line.split_once(' ') else {
         return Err("no word")?;
@@ -91,6 +117,9 @@ pub(crate) fn command_of(alloc: Global, line: &str) -> Result<Command, Fail>
     let Some((first, second)) = words.split_once(' ') else {
         return command_of_path(alloc, name, words);
     };
+    if name == "cat" {
+        return command_of_cat(text(alloc, first)?, second);
+    }
     if first.is_empty() || first.len() > 1_023 {
         return Err("no target")?;
     }
@@ -126,7 +155,7 @@ pub(crate) fn reply_to<T: ElementStore + Extents, H: NameHash>(
     hash: &H,
     command: &Command,
 ) -> Result<Reply, Fault>
-    requires command { IsOnNames command.now × IsInRange command.now }
+    requires command { IsOnTrees command.now × IsInRange command.now }
     requires id { (1 ≤ volume.old.next) × (volume.old.next ≤ GREATEST_ID) }
     requires ready { IsReady (T.elements volume.old.store) (T.extents volume.old.store)
         volume.old.next }

@@ -1,6 +1,6 @@
 // The calls of a job.
 ghost use Rattle.std.specs.Prelude.{◌≡◌, IfOk};
-ghost use Rattle.hm_calls.specs.Replies.{IsOnNames};
+ghost use Rattle.hm_calls.specs.Commands.{IsOnTrees};
 ghost use Rattle.hm_model.specs.Forms.{IsInRange};
 
 use hm_model::Command;
@@ -14,8 +14,8 @@ pub enum Operation {
     Touch,
     /// Directories are.
     Mkdir,
-    /// One file is made, and gets and loses a second name in turn: each call makes a new version of
-    /// its inode.
+    /// One file is made, and gets one further name after another: each call makes a new version of its
+    /// inode.
     Relink,
     /// Files are made, and then each of them is asked for.
     Stat,
@@ -33,7 +33,7 @@ const FIRST_ID: u64 = 3;
 // How often a listing, and one file, are asked for.
 const LISTINGS: u32 = 10;
 
-const LOOKS: u32 = 1_000;
+const LOOKS: u32 = 20_000;
 
 impl Operation {
     /// The operation with this name.
@@ -70,7 +70,7 @@ impl Operation {
 
     /// The call that comes after so many of its own.
     pub fn command(self, alloc: Global, before: u32, names: u32) -> Result<Command, Fault>
-        ensures { IfOk result (λ command. IsOnNames command × IsInRange command) }
+        ensures { IfOk result (λ command. IsOnTrees command × IsInRange command) }
     {
         match self {
             Operation::Touch => Ok(Command::Touch {
@@ -100,21 +100,16 @@ impl Operation {
 }
 
 fn relink(alloc: Global, before: u32) -> Result<Command, Fault>
-    ensures { IfOk result (λ command. IsOnNames command × IsInRange command) }
+    ensures { IfOk result (λ command. IsOnTrees command × IsInRange command) }
 {
     if before == 0 {
         return Ok(Command::Touch {
             path: text(alloc, "/f")?,
         });
     }
-    if before % 2 == 1 {
-        return Ok(Command::Ln {
-            old: text(alloc, "/f")?,
-            new: text(alloc, "/g")?,
-        });
-    }
-    Ok(Command::Rm {
-        path: text(alloc, "/g")?,
+    Ok(Command::Ln {
+        old: text(alloc, "/f")?,
+        new: text(alloc, &format!(in alloc; "/g{before}")?)?,
     })
 }
 

@@ -2,7 +2,7 @@
 ghost use Rattle.std.specs.Prelude.{◌≡◌, ◌≤◌, ◌+◌, IfOk, OnOk};
 ghost use Rattle.hm_types.specs.declared.limits.TheConstants.{GREATEST_ID};
 ghost use Rattle.hm_model.specs.Forms.{IsInRange};
-ghost use Rattle.hm_calls.specs.Replies.{IsOnNames};
+ghost use Rattle.hm_calls.specs.Commands.{IsOnTrees};
 ghost use Rattle.hm_calls.specs.Tests.{IsMade, IsReady};
 
 use bitflags::Flags;
@@ -52,7 +52,7 @@ impl<T: ElementStore + Extents + Drop> Volume<T> {
 
     /// Makes the next call, and tells whether it was accepted.
     pub fn ask(&mut self, alloc: Global, command: &Command) -> Result<bool, Fault>
-        requires command { IsOnNames command.now × IsInRange command.now }
+        requires command { IsOnTrees command.now × IsInRange command.now }
         requires ready { IsReady (T.elements self.old.store) (T.extents self.old.store)
             self.old.next }
         ensures { OnOk result (IsReady (T.elements self.new.store) (T.extents self.new.store)

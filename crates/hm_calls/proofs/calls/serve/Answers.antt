@@ -23,3 +23,9 @@ returns-in-Readlink-clause-known g c =
     on_ok_always c.tell_target.result _ (known_same (g.T.HasElements.elements c.args.store.now) (g.T.HasElements.elements c.tell_target.new.store)
     (g.T.HasRoom.extents c.args.store.now) (g.T.HasRoom.extents c.tell_target.new.store) c.args.id.0 c.tell_target.ensures.keeps.elements
     c.tell_target.ensures.keeps.extents c.requires.known)
+
+pub returns-in-Cat-clause-known : goal.returns-in-Cat-clause-known
+returns-in-Cat-clause-known g c =
+    on_ok_always c.tell_bytes.result _ (known_same (g.T.HasElements.elements c.args.store.now) (g.T.HasElements.elements c.tell_bytes.new.store)
+    (g.T.HasRoom.extents c.args.store.now) (g.T.HasRoom.extents c.tell_bytes.new.store) c.args.id.0 c.tell_bytes.ensures.keeps.elements
+    c.tell_bytes.ensures.keeps.extents c.requires.known)
