@@ -1,0 +1,16 @@
+pub mod ApartLemmas
+pub mod EntryLemmas
+pub mod ImageLemmas
+pub mod LayerLemmas
+pub mod LayerToldLemmas
+pub mod LoadedLemmas
+pub mod NodeLemmas
+pub mod OffsetLemmas
+pub mod OnceLemmas
+pub mod PayloadLemmas
+pub mod RangeLemmas
+pub mod SoundLemmas
+pub mod StoreLemmas
+pub mod TreeLemmas
+pub mod TwiceLemmas
+pub mod WholeLemmas

@@ -1,0 +1,9 @@
+pub mod Damage
+pub mod Faults
+pub mod Freemap
+pub mod Layer1
+pub mod Held
+pub mod Loaded
+pub mod Payload
+pub mod Reading
+pub mod Tree
