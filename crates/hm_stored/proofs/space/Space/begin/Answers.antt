@@ -1,0 +1,37 @@
+-- A call is opened.
+use Rattle.std.proofs.Common.{refl, ap, false}
+use Rattle.std.proofs.Math.Logic.{∥∥₁_map}
+use Rattle.hm_pages.specs.Store.{contents}
+use Rattle.hm_stored.specs.Heap.{heap_of}
+use Rattle.hm_stored.proofs.TurnLemmas.{begin_kept, layer2_kept}
+use Rattle.hm_stored.proofs.space.Space.begin.Goals as goal
+
+pub begin-requires : goal.begin-requires
+unfolding heap_of
+begin-requires g c = record { closed = c.requires.closed.begin }
+
+pub invariant_of-self-6 : goal.invariant_of-self-6
+invariant_of-self-6 g c =
+    let s = c.args.self.now in
+    record {
+      there = layer2_kept (contents s.pages.store) (contents c.begin.new.self) s.books.bigblocks c.begin.ensures.flush.committed s.there;
+      kept = ∥∥₁_map s.kept (begin_kept (contents s.pages.store) (contents c.begin.new.self)
+          (g.D.Disk.told s.disk) s.books _ c.requires.closed c.begin.ensures
+          refl refl c.clear.ensures.items);
+    }
+
+pub returns : goal.returns
+unfolding heap_of
+returns g c = record {
+  turn = record {
+    pages = c.begin.ensures;
+    rest = ap (λ l. record (heap_of (contents c.begin.new.self) (g.D.Disk.told c.args.self.now.disk) c.args.self.now.books) {
+      begun = c.args.self.now.books.append;
+      roots = record c.args.self.now.books.roots { current = c.args.root };
+      last = c.args.last.0;
+      log = l;
+      gave = false;
+    }) c.clear.ensures.items;
+  };
+  disk = refl;
+}

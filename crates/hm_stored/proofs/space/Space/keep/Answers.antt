@@ -1,0 +1,19 @@
+-- A call is closed, and kept.
+use Rattle.std.proofs.Common.{refl}
+use Rattle.std.proofs.Math.Logic.{∥∥₁_map}
+use Rattle.hm_pages.specs.Store.{contents}
+use Rattle.hm_stored.specs.Heap.{heap_of}
+use Rattle.hm_stored.proofs.TurnLemmas.{keep_kept, layer2_kept}
+use Rattle.hm_stored.proofs.space.Space.keep.Goals as goal
+
+pub invariant_of-self : goal.invariant_of-self
+invariant_of-self g c =
+    let s = c.args.self.now in
+    record {
+      there = layer2_kept (contents s.pages.store) (contents c.keep.new.self) s.books.bigblocks c.keep.ensures.flush.committed s.there;
+      kept = ∥∥₁_map s.kept (keep_kept (contents s.pages.store) (contents c.keep.new.self) (g.D.Disk.told s.disk) s.books c.requires.whole c.keep.ensures);
+    }
+
+pub returns : goal.returns
+unfolding heap_of
+returns g c = record { turn = record { pages = c.keep.ensures; rest = refl }; disk = refl }

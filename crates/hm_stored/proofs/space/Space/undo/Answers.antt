@@ -1,0 +1,20 @@
+-- A call is closed, and dropped.
+use Rattle.std.proofs.Common.{refl}
+use Rattle.std.proofs.Math.Logic.{∥∥₁_map}
+use Rattle.hm_pages.specs.Store.{contents}
+use Rattle.hm_stored.specs.Heap.{heap_of}
+use Rattle.hm_stored.proofs.TurnLemmas.{undo_kept, layer2_kept}
+use Rattle.hm_stored.proofs.space.Space.undo.Goals as goal
+
+pub invariant_of-self-3 : goal.invariant_of-self-3
+invariant_of-self-3 g c =
+    let s = c.args.self.now in
+    record {
+      there = layer2_kept (contents s.pages.store) (contents c.undo.new.self) s.books.bigblocks c.undo.ensures.flush.committed s.there;
+      kept = ∥∥₁_map s.kept (undo_kept (contents s.pages.store) (contents c.undo.new.self)
+          (g.D.Disk.told s.disk) s.books _ c.undo.ensures c.requires.opened refl);
+    }
+
+pub returns : goal.returns
+unfolding heap_of
+returns g c = record { turn = record { pages = c.undo.ensures; rest = refl }; disk = refl }

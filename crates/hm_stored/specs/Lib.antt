@@ -1,0 +1,13 @@
+pub mod Log
+pub mod Basis
+pub mod Decide
+pub mod DecideTree
+pub mod Known
+pub mod DecideFirm
+pub mod Heap
+pub mod Held
+pub mod Calls
+pub mod Nodes
+pub mod Laws
+pub mod Turn
+pub mod Mounted

@@ -1,0 +1,32 @@
+-- How a call on a space is opened and closed.
+use Rattle.std.specs.Prelude.{◌≡◌, ℕ, true, false, [], None}
+use Rattle.hm_pages.specs.Calls.{IsBegun, IsKept as IsPagesKept, IsUndone}
+use Rattle.hm_stored.specs.Heap.{Heap}
+
+-- no call is open
+pub record IsClosed (h : Heap) : Type 0 where
+  pub begin : h.pages.begin ≡ None
+  pub whole : h.whole ≡ true
+
+-- A call was opened, over the tree from this root on and with this last id. What it tells is from here on told by what
+-- there is now.
+pub record IsOpened (root last : ℕ) (old new : Heap) : Type 0 where
+  pub pages : IsBegun old.pages new.pages
+  pub rest : new ≡ record old {
+    pages = new.pages;
+    begun = old.append;
+    roots = record old.roots { current = root };
+    last = last;
+    log = [];
+    gave = false;
+  }
+
+-- the open call was closed, and what it changed stays
+pub record IsKeptOf (old new : Heap) : Type 0 where
+  pub pages : IsPagesKept old.pages new.pages
+  pub rest : new ≡ record old { pages = new.pages }
+
+-- the open call was closed, and its changes of pages and of append big-blocks were dropped
+pub record IsDropped (old new : Heap) : Type 0 where
+  pub pages : IsUndone old.pages new.pages
+  pub rest : new ≡ record old { pages = new.pages; append = old.begun; whole = true }

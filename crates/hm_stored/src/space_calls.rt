@@ -1,0 +1,130 @@
+// The calls of a space on extents of payloads.
+ghost use Rattle.std.specs.Prelude.{◌≡◌, ◌≤◌, ◌<◌, IfErr, IfOk, IfSome, IsSomeAnd, OnOk, length, take as first};
+ghost use Rattle.hm_types.specs.Faults.{HasAdmitCause, HasStoreCause};
+ghost use Rattle.hm_types.specs.Space.{IsPayloadZone, in_zone, nothing, rounded};
+ghost use Rattle.hm_key.specs.Extents.{extent_at, given_back_at, shared_at};
+ghost use Rattle.hm_pages.specs.Store.{contents};
+ghost use Rattle.hm_stored.specs.Calls.{AnswersRoom, ChangesExtents, Places, Stays};
+ghost use Rattle.hm_stored.specs.Heap.{extents_in, heap_of, room_of};
+
+use crate::extents::{give, renew, share};
+use crate::payloads::{put, read};
+use crate::space::Space;
+use hm_disk::{Disk, MOST_CALL_BYTES};
+use hm_types::{BAD_PAYLOAD, BIGBLOCK_BYTES, Fault, HOff, SpaceFault, Zones};
+
+impl<D: Disk> Space<D> {
+    /// Puts the bytes, of which there is at least one, into a new extent of a zone, 9, 10 or 11,
+    /// which must have room for it. More bytes than a disk takes in one call are refused.
+    pub fn place(&mut self, zone: u8, bytes: &[u8]) -> Result<HOff, Fault>
+        requires zone { IsPayloadZone zone }
+        requires some { 1 ≤ length bytes.now }
+        requires room { rounded (length bytes.now) ≤ room_of
+            (heap_of (contents self.old.pages.store) (D.told self.old.disk) self.old.books) zone }
+        ensures ok { IfOk result (Places zone bytes.now
+            (heap_of (contents self.old.pages.store) (D.told self.old.disk) self.old.books)
+            (heap_of (contents self.new.pages.store) (D.told self.new.disk) self.new.books)) }
+        ensures stays { Stays (in_zone zone (rounded (length bytes.now)))
+            (heap_of (contents self.old.pages.store) (D.told self.old.disk) self.old.books)
+            (heap_of (contents self.new.pages.store) (D.told self.new.disk) self.new.books) }
+        ensures cause { HasStoreCause (extents_in
+            (heap_of (contents self.old.pages.store) (D.told self.old.disk) self.old.books))
+            (D.faults self.old.disk) (D.faults self.new.disk) result }
+    {
+        if !self.books.whole || bytes.len() > MOST_CALL_BYTES {
+            return Err(Fault::NoMemory);
+        }
+        put(
+            &mut self.pages,
+            &mut self.disk,
+            &mut self.books,
+            zone,
+            bytes,
+        )
+    }
+
+    /// Adds a reference to the live extent at `at`, which is as long as `len` bytes take, and has
+    /// fewer than 64.
+    pub fn share(&mut self, at: HOff, len: u32) -> Result<(), Fault>
+        requires live { IfSome (extents_in (heap_of (contents self.old.pages.store) (D.told self.old.disk) self.old.books)) (λ xs.
+            IsSomeAnd (extent_at at xs) (λ x. (x.len ≡ rounded len) × (x.refs < 64))) }
+        ensures ok { OnOk result (ChangesExtents (λ xs ys. ys ≡ shared_at at xs)
+            (heap_of (contents self.old.pages.store) (D.told self.old.disk) self.old.books)
+            (heap_of (contents self.new.pages.store) (D.told self.new.disk) self.new.books)) }
+        ensures stays { Stays nothing
+            (heap_of (contents self.old.pages.store) (D.told self.old.disk) self.old.books)
+            (heap_of (contents self.new.pages.store) (D.told self.new.disk) self.new.books) }
+        ensures cause { HasStoreCause (extents_in
+            (heap_of (contents self.old.pages.store) (D.told self.old.disk) self.old.books))
+            (D.faults self.old.disk) (D.faults self.new.disk) result }
+    {
+        if !self.books.whole {
+            return Err(Fault::NoMemory);
+        }
+        share(&mut self.pages, &mut self.books, at, len)
+    }
+
+    /// Takes a reference off the live extent at `at`, which is as long as `len` bytes take. With its
+    /// last one the extent is gone.
+    pub fn give_back(&mut self, at: HOff, len: u32) -> Result<(), Fault>
+        requires live { IfSome (extents_in (heap_of (contents self.old.pages.store) (D.told self.old.disk) self.old.books)) (λ xs.
+            IsSomeAnd (extent_at at xs) (λ x. x.len ≡ rounded len)) }
+        ensures ok { OnOk result (ChangesExtents (λ xs ys. ys ≡ given_back_at at xs)
+            (heap_of (contents self.old.pages.store) (D.told self.old.disk) self.old.books)
+            (heap_of (contents self.new.pages.store) (D.told self.new.disk) self.new.books)) }
+        ensures stays { Stays nothing
+            (heap_of (contents self.old.pages.store) (D.told self.old.disk) self.old.books)
+            (heap_of (contents self.new.pages.store) (D.told self.new.disk) self.new.books) }
+        ensures cause { HasStoreCause (extents_in
+            (heap_of (contents self.old.pages.store) (D.told self.old.disk) self.old.books))
+            (D.faults self.old.disk) (D.faults self.new.disk) result }
+    {
+        if !self.books.whole {
+            return Err(Fault::NoMemory);
+        }
+        give(&mut self.pages, &mut self.books, at, len)
+    }
+
+    /// Lets each named zone have room of at least its reserve, while so many big-blocks are held back.
+    /// A call asks for it before it gives anything back: a big-block that it freed could else be begun
+    /// while the call may still be undone.
+    pub fn admit(&mut self, zones: Zones, held: u32) -> Result<(), SpaceFault>
+        ensures answers { AnswersRoom zones held
+            (heap_of (contents self.old.pages.store) (D.told self.old.disk) self.old.books)
+            (heap_of (contents self.new.pages.store) (D.told self.new.disk) self.new.books) result }
+        ensures cause { HasAdmitCause (extents_in
+            (heap_of (contents self.old.pages.store) (D.told self.old.disk) self.old.books))
+            (D.faults self.old.disk) (D.faults self.new.disk) result }
+    {
+        if self.books.gave || !self.books.whole {
+            return Err(SpaceFault::Fault(Fault::NoMemory));
+        }
+        renew(&mut self.pages, &mut self.books, zones, held)
+    }
+
+    /// Reads the first bytes of a live extent, which is at least as long as the buffer. More bytes than
+    /// a disk gives in one call are refused.
+    pub fn fetch(&mut self, at: HOff, buf: &mut [u8]) -> Result<(), Fault>
+        requires live { IfSome (extents_in (heap_of (contents self.old.pages.store) (D.told self.old.disk) self.old.books)) (λ xs.
+            IsSomeAnd (extent_at at xs) (λ x. length buf.old ≤ x.len)) }
+        ensures ok { IfSome (extents_in (heap_of (contents self.old.pages.store) (D.told self.old.disk) self.old.books)) (λ xs.
+            IfSome (extent_at at xs) (λ x. OnOk result (buf.new ≡ first (length buf.old) x.bytes))) }
+        ensures same { heap_of (contents self.new.pages.store) (D.told self.new.disk) self.new.books ≡
+            heap_of (contents self.old.pages.store) (D.told self.old.disk) self.old.books }
+        ensures cause { HasStoreCause (extents_in
+            (heap_of (contents self.old.pages.store) (D.told self.old.disk) self.old.books))
+            (D.faults self.old.disk) (D.faults self.new.disk) result }
+    {
+        if buf.len() > MOST_CALL_BYTES {
+            return Err(Fault::NoMemory);
+        }
+        let size = u64::from(self.books.bigblocks) * BIGBLOCK_BYTES;
+        if at.byte() + buf.len() as u64 > size {
+            return Err(Fault::Damaged {
+                at,
+                kind: BAD_PAYLOAD,
+            });
+        }
+        read(&mut self.disk, at.byte(), buf)
+    }
+}

@@ -1,0 +1,87 @@
+// The nodes of a space, as a tree reads and changes them.
+ghost use Rattle.std.specs.Prelude.{◌<◌, ◌^◌};
+ghost use Rattle.hm_pages.specs.Store.{contents};
+ghost use Rattle.hm_stored.specs.Heap.{heap_of};
+
+use crate::space::Space;
+use hm_disk::Disk;
+use hm_fields::{Page, Pages};
+use hm_key::HasRoom;
+use hm_node::NodePages;
+use hm_types::{BAD_LEVEL, Counted, Fault, HOff, TREE_ZONE};
+
+impl<D: Disk> Counted for Space<D> {
+    ghost use Rattle.hm_stored.specs.Heap.{Frame, frame_of};
+
+    ghost faults = { λ s. D.faults s.disk };
+
+    ghost name = { λ _. 0 };
+
+    ghost Frame = { Frame };
+
+    ghost frame = { λ s. frame_of (heap_of (contents s.pages.store) (D.told s.disk) s.books) };
+}
+
+impl<D: Disk> Pages for Space<D> {
+    ghost use Rattle.hm_stored.specs.Heap.{Rest, pages_of, rest_of};
+    ghost use Rattle.hm_stored.specs.Nodes.{KeepsNodes};
+
+    ghost pages = { λ s. pages_of (heap_of (contents s.pages.store) (D.told s.disk) s.books) };
+
+    ghost kept = { KeepsNodes };
+
+    ghost Rest = { Rest };
+
+    ghost rest = { λ s. rest_of (heap_of (contents s.pages.store) (D.told s.disk) s.books) };
+
+    /// Reads the node at `at`. Where none stands, it tells damage.
+    fn page(&mut self, at: HOff, into: &mut Page) -> Result<(), Fault> {
+        if !self.books.whole {
+            return Err(Fault::NoMemory);
+        }
+        match self.pages.store.look(at) {
+            Some(page) => {
+                *into = *page;
+                Ok(())
+            }
+            None => Err(Fault::Damaged {
+                at,
+                kind: BAD_LEVEL,
+            }),
+        }
+    }
+
+    /// Puts a node in place of the one that stands at `at`. Where none stands, it answers `NoMemory`.
+    fn change(&mut self, at: HOff, with: &Page) -> Result<(), Fault> {
+        known_offset(at);
+        if at.zone() != TREE_ZONE || self.pages.store.look(at).is_none() {
+            return Err(Fault::NoMemory);
+        }
+        match self.pages.store.change(at, with) {
+            Ok(()) => Ok(()),
+            Err(_) => Err(Fault::NoMemory),
+        }
+    }
+}
+
+impl<D: Disk> NodePages for Space<D> {
+    ghost kept_is_node = { λ at bytes spot kept. kept.node spot };
+
+    ghost node_is_kept = { λ at bytes spot holds. record { node = λ _. holds } };
+}
+
+impl<D: Disk> HasRoom for Space<D> {
+    ghost use Rattle.hm_stored.specs.Heap.{extents_in, free_of, room_of};
+
+    ghost room = { λ s. room_of (heap_of (contents s.pages.store) (D.told s.disk) s.books) };
+
+    ghost free = { λ s. free_of (heap_of (contents s.pages.store) (D.told s.disk) s.books) };
+
+    ghost extents = { λ s. extents_in (heap_of (contents s.pages.store) (D.told s.disk) s.books) };
+}
+
+// Does nothing, and says what the type of an offset tells of it.
+#[inline]
+fn known_offset(at: HOff)
+    ensures { at < 2 ^ 64 }
+{}

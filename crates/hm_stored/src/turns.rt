@@ -1,0 +1,80 @@
+// How a call on a space is opened and closed.
+ghost use Rattle.std.specs.Prelude.{◌≡◌, ◌≤◌, ◌*◌, IfSome, IsSome, true, length};
+ghost use Rattle.hm_types.specs.declared.limits.TheConstants.{BIGBLOCK_BYTES};
+ghost use Rattle.hm_btree.specs.Tree.{IsTreeSpace};
+ghost use Rattle.hm_freemap.specs.Places.{HasLayer2};
+ghost use Rattle.hm_pages.specs.Store.{contents, layer2};
+ghost use Rattle.hm_stored.specs.Heap.{heap_of};
+ghost use Rattle.hm_stored.specs.Basis.{nodes};
+ghost use Rattle.hm_stored.specs.Turn.{IsClosed, IsDropped, IsKeptOf, IsOpened};
+
+use crate::books::Books;
+use crate::pages::VolumePages;
+use crate::space::Space;
+use hm_disk::Disk;
+use hm_pages::PageStore;
+use hm_types::{HOff, Id};
+
+impl<D: Disk> Space<D> {
+    /// A space over the pages of a volume, its disk and its books. No call is open, the pages of zone 8
+    /// are the tree from the current root on, and the disk is as long as the volume.
+    pub fn over(store: PageStore, disk: D, books: Books) -> Space<D>
+        requires layer2 { HasLayer2 books.bigblocks (layer2 (contents store)) }
+        requires closed { IsClosed (heap_of (contents store) (D.told disk) books) }
+        requires tree { IsTreeSpace (nodes (contents store).current) books.roots.current }
+        requires size { IfSome (D.told disk) (λ t. books.bigblocks * BIGBLOCK_BYTES ≤ length t.bytes) }
+        ensures heap { heap_of (contents result.pages.store) (D.told result.disk) result.books
+            ≡ heap_of (contents store) (D.told disk) books }
+        ensures disk { result.disk ≡ disk }
+    {
+        Space {
+            pages: VolumePages { store },
+            disk,
+            books,
+        }
+    }
+
+    /// Opens a call, over the tree that begins at `root` and with the last id that was drawn. No call
+    /// may be open. It takes no memory.
+    pub fn begin(&mut self, root: HOff, last: Id)
+        requires closed { IsClosed (heap_of (contents self.old.pages.store) (D.told self.old.disk) self.old.books) }
+        ensures turn { IsOpened root last.0
+            (heap_of (contents self.old.pages.store) (D.told self.old.disk) self.old.books)
+            (heap_of (contents self.new.pages.store) (D.told self.new.disk) self.new.books) }
+        ensures disk { self.new.disk ≡ self.old.disk }
+    {
+        self.pages.store.begin();
+        self.books.begun = self.books.append;
+        self.books.roots.current = root;
+        self.books.last = last;
+        self.books.log.clear();
+        self.books.gave = false;
+    }
+
+    /// Closes the open call, none of whose changes failed half-way, and keeps what it changed. It takes
+    /// no memory.
+    pub fn keep(&mut self)
+        requires opened { IsSome (contents self.old.pages.store).begin }
+        requires whole { self.old.books.whole ≡ true }
+        ensures turn { IsKeptOf
+            (heap_of (contents self.old.pages.store) (D.told self.old.disk) self.old.books)
+            (heap_of (contents self.new.pages.store) (D.told self.new.disk) self.new.books) }
+        ensures disk { self.new.disk ≡ self.old.disk }
+    {
+        self.pages.store.keep();
+    }
+
+    /// Closes the open call, and drops what it changed: pages and append big-blocks are as they were
+    /// when it was opened. It takes no memory.
+    pub fn undo(&mut self)
+        requires opened { IsSome (contents self.old.pages.store).begin }
+        ensures turn { IsDropped
+            (heap_of (contents self.old.pages.store) (D.told self.old.disk) self.old.books)
+            (heap_of (contents self.new.pages.store) (D.told self.new.disk) self.new.books) }
+        ensures disk { self.new.disk ≡ self.old.disk }
+    {
+        self.pages.store.undo();
+        self.books.append = self.books.begun;
+        self.books.whole = true;
+    }
+}
