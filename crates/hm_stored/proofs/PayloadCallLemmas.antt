@@ -49,7 +49,7 @@ module _ (h h' : Heap) (same : SameTree h h') (tells : does_tell h' ≡ does_tel
       (by_test (does_tell h) is) where
         by_test : (t : Bool) → (t ≡ true → R (map (filled (bytes_of h.disk)) (places_in h)) (map (filled (bytes_of h'.disk)) (places_in h')))
             → BothTell (cond t (Some (map (filled (bytes_of h.disk)) (places_in h))) None)
-                (cond t (Some (map (filled (bytes_of h'.disk)) (places_in h'))) None) R
+            (cond t (Some (map (filled (bytes_of h'.disk)) (places_in h'))) None) R
         by_test true is = is refl
         by_test false is = tt
 
