@@ -11,3 +11,4 @@ pub mod Nodes
 pub mod Laws
 pub mod Turn
 pub mod Mounted
+pub mod Standing
