@@ -175,6 +175,8 @@ admitted_none bigblocks zones held append maps none = record {
     whole = λ k low lacks. absurd (true≢false (sym lacks ∙ has_room k low));
     others = λ k low has. refl;
     entries = λ block apart. refl;
+    bytes = λ block apart. refl;
+    elsewhere = λ at apart. refl;
     room = λ k low has. refl;
   };
   room = λ zone. omega arith;

@@ -1,5 +1,6 @@
 -- Zones that lacked room have begun new big-blocks: the call is admitted.
 use Rattle.std.proofs.Common.{◌≡◌, Bool, true, false, ℕ, ◌+◌, ◌-◌, ◌^◌, ◌<◌, ◌≤◌, min, inr, List, length, slice_index, refl, sym, ap, subst, ◌∙◌, arith, cond, nat_eq, Option, Some, None}
+use Rattle.std.proofs.Common.{◌≢◌}
 use Rattle.std.specs.Prelude.{IfSome}
 use Rattle.std.proofs.lemmas.List.FromFn.{length-range_with_len}
 use Rattle.std.proofs.lemmas.List.Sums.{count_by-le-length}
@@ -13,10 +14,11 @@ use Rattle.hm_types.specs.declared.zones.Zones.{Zones}
 use Rattle.hm_fields.specs.Pages.{PageMap}
 use Rattle.hm_freemap.specs.Admit.{IsAdmitted, IsFreeAt, BeginsLowest, does_lack, lacking, lacking_before}
 use Rattle.hm_freemap.specs.Extents.{Moves, with_current}
+use Rattle.hm_freemap.specs.Places.{page_of}
 use Rattle.hm_freemap.specs.Renew.{AreFresh, Renewed, Renewing, count_first, count_of, lacks_at}
 use Rattle.hm_freemap.specs.Scan.{Finds}
 use Rattle.hm_freemap.specs.Space.{free_at, room_at, space_of}
-use Rattle.hm_freemap.specs.Stand.{Maps, WhereTold, append_of, entry_of, free_by, is_free_by, is_handed_out, room_in}
+use Rattle.hm_freemap.specs.Stand.{Maps, WhereTold, append_of, entry_of, entry_part, free_by, is_free_by, is_handed_out, room_in}
 use Rattle.hm_freemap.specs.declared.scan.Found.{Found}
 use Rattle.hm_freemap.proofs.AdmitLemmas.{before_is, found_fresh, lacks_is, named_zone, needed_is, reserve_kept, admitted_none}
 use Rattle.hm_freemap.proofs.CountLemmas.{bit}
@@ -108,13 +110,21 @@ module _ (bigblocks : ℕ) (zones : Zones) (held : ℕ) (append append' : List �
       (subst (λ (n : ℕ). IsFreeAt bigblocks (is_free_by append maps) n (slice_index found.first (count_first lack k)))
       before (fresh.each (count_first lack k) inside))
 
+  -- the entry of a big-block that none began
+  stays : (block : ℕ) → ((k : ℕ) → k < 4 → does_lack zones (room_in append maps.current) (TREE_ZONE + k) ≡ true → slice_index append' k ≢ block)
+      → (entry_of now block ≡ entry_of maps.current block) × (entry_part now block ≡ entry_part maps.current block)
+  stays block apart = renewing.entries block
+      (λ j few early lacks same. apart j few (sym (lacks_here j few) ∙ lacks) (renewed.begun j few few lacks ∙ same))
+
   lowest_all : BeginsLowest bigblocks zones (is_free_by append maps) (space_of append maps) (space_of append' (with_current now maps))
   lowest_all = record {
     begun = begun_lowest;
     whole = λ k low lacks. renewed.done k low low (lacks_here k low ∙ lacks);
     others = λ k low has. renewed.others k low (inr (lacks_here k low ∙ has));
-    entries = λ block apart. renewing.entries block
-        (λ j few early lacks same. apart j few (sym (lacks_here j few) ∙ lacks) (renewed.begun j few few lacks ∙ same));
+    entries = λ block apart. (stays block apart).0;
+    bytes = λ block apart. (stays block apart).1;
+    elsewhere = λ at apart. renewing.elsewhere at
+        (λ j few early lacks same. apart j few (sym (lacks_here j few) ∙ lacks) (ap page_of (renewed.begun j few few lacks) ∙ same));
     room = λ k low has. renewed.undone k low (inr (lacks_here k low ∙ has));
   }
 

@@ -24,7 +24,7 @@ little_from-drop at i (suc n) xs =
     rw (byte, rest) refl
 
 -- a field that lies in a part of a page
-get_part : (page part : List ℕ) (at size i n : ℕ) → slice_range page at (at + size) ≡ part → i + n ≤ size
+pub get_part : (page part : List ℕ) (at size i n : ℕ) → slice_range page at (at + size) ≡ part → i + n ≤ size
     → get page (at + i) n ≡ get part i n
 unfolding get
 get_part page part at size i n is fits =

@@ -30,7 +30,8 @@ pub renewing_none : (lack : List Bool) (fresh append : List ℕ) (map : PageMap)
 renewing_none lack fresh append map four = record {
   four = four;
   pages = λ at other. refl;
-  entries = λ block apart. refl;
+  entries = λ block apart. (refl, refl);
+  elsewhere = λ at apart. refl;
   each = λ bigblocks c f facts. record {
     stand = λ states stand. stand;
     pool = λ pool. pool;
@@ -64,6 +65,7 @@ module _ (lack : List Bool) (fresh : List ℕ) (k : ℕ) (append0 append' : List
         four = renewing.four;
         pages = renewing.pages;
         entries = λ block apart. renewing.entries block (λ j few early lacks. apart j few (omega arith) lacks);
+        elsewhere = λ at apart. renewing.elsewhere at (λ j few early lacks. apart j few (omega arith) lacks);
         each = λ bigblocks c f facts.
             let r = renewing.each bigblocks c f facts in
             record {
@@ -95,7 +97,11 @@ module _ (lack : List Bool) (fresh : List ℕ) (k : ℕ) (append0 append' : List
         pages = λ at other. put.pages at (λ same. other (ap zone_of same ∙ page_zone block small)) ∙ renewing.pages at other;
         entries = λ other apart.
             let here : other ≢ block = λ same. apart k low (omega arith) lacks (sym same) in
-            put.others other here ∙ renewing.entries other (λ j few early needs. apart j few (omega (arith, early)) needs);
+            let before = renewing.entries other (λ j few early needs. apart j few (omega (arith, early)) needs) in
+            (put.others other here ∙ before.0, put.bytes other here ∙ before.1);
+        elsewhere = λ at apart.
+            put.pages at (λ same. apart k low (omega arith) lacks (sym same))
+            ∙ renewing.elsewhere at (λ j few early needs. apart j few (omega (arith, early)) needs);
         each = λ bigblocks c f facts.
             let r = renewing.each bigblocks c f facts in
             let maps = maps_of c f mid in

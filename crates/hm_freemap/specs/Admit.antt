@@ -15,8 +15,9 @@ use Rattle.hm_types.specs.declared.zones.Zones.{Zones}
 use Rattle.hm_fields.specs.Pages.{PageMap}
 use Rattle.hm_freemap.specs.Extents.{with_current}
 use Rattle.hm_freemap.specs.Faults.{IsFreemapDamage}
+use Rattle.hm_freemap.specs.Places.{page_of}
 use Rattle.hm_freemap.specs.Space.{Space, free_at, room_at, space_of}
-use Rattle.hm_freemap.specs.Stand.{Maps, WhereTold, StandBy, AreDistinct, AreOfPool, entry_of, room_in, is_free_by, free_by}
+use Rattle.hm_freemap.specs.Stand.{Maps, WhereTold, StandBy, AreDistinct, AreOfPool, entry_of, entry_part, room_in, is_free_by, free_by}
 use Rattle.hm_freemap.specs.declared.entry.Entry.{Entry}
 
 -- a zone is named and has less room than its reserve
@@ -51,7 +52,8 @@ lacks_in zones space k = does_lack zones (room_at space) (TREE_ZONE + k)
 
 -- Which big-blocks the four zones append to afterwards, where those that pass a test are free. In their order, each that
 -- lacked room began the lowest free big-block that no zone before it began, and has all its bytes left. The others have
--- theirs still, and its room. The entry of each big-block that none began stays.
+-- theirs still, and its room. The entry of each big-block that none began stays, with all its bytes, and so does each page
+-- without an entry of one that was begun.
 pub record BeginsLowest (bigblocks : ℕ) (zones : Zones) (test : ℕ → Bool) (old new : Space) : Type 0 where
   pub begun : (k : ℕ) → k < 4 → IsTrue (lacks_in zones old k)
       → IsFreeAt bigblocks test (lacking_before zones (room_at old) k) (slice_index new.append k)
@@ -59,6 +61,10 @@ pub record BeginsLowest (bigblocks : ℕ) (zones : Zones) (test : ℕ → Bool) 
   pub others : (k : ℕ) → k < 4 → lacks_in zones old k ≡ false → slice_index new.append k ≡ slice_index old.append k
   pub entries : (block : ℕ) → ((k : ℕ) → k < 4 → IsTrue (lacks_in zones old k) → slice_index new.append k ≢ block)
       → entry_of new.maps.current block ≡ entry_of old.maps.current block
+  pub bytes : (block : ℕ) → ((k : ℕ) → k < 4 → IsTrue (lacks_in zones old k) → slice_index new.append k ≢ block)
+      → entry_part new.maps.current block ≡ entry_part old.maps.current block
+  pub elsewhere : (at : ℕ) → ((k : ℕ) → k < 4 → IsTrue (lacks_in zones old k) → page_of (slice_index new.append k) ≢ at)
+      → new.maps.current at ≡ old.maps.current at
   pub room : (k : ℕ) → k < 4 → lacks_in zones old k ≡ false → room_at new (TREE_ZONE + k) ≡ room_at old (TREE_ZONE + k)
 
 -- The zones have the room that they need: each that lacked it appends to a free big-block, in order the lowest, by the

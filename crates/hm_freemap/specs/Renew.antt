@@ -6,7 +6,8 @@ use Rattle.hm_types.specs.declared.limits.TheConstants.{BIGBLOCK_BYTES}
 use Rattle.hm_types.specs.declared.zone.TheConstants.{TREE_ZONE, FREEMAP_ZONE}
 use Rattle.hm_fields.specs.Pages.{PageMap}
 use Rattle.hm_freemap.specs.Admit.{IsFreeAt, begun}
-use Rattle.hm_freemap.specs.Stand.{Maps, StandBy, AreDistinct, AreOfPool, EntryPut, entry_of, room_in, is_free_by, free_by}
+use Rattle.hm_freemap.specs.Places.{page_of}
+use Rattle.hm_freemap.specs.Stand.{Maps, StandBy, AreDistinct, AreOfPool, EntryPut, entry_of, entry_part, room_in, is_free_by, free_by}
 
 -- how many zones lack room
 abbrev pub count_of : List Bool → ℕ
@@ -52,6 +53,7 @@ pub record Renewing (lack : List Bool) (fresh : List ℕ) (k next : ℕ) (append
   pub four : length append' ≡ 4
   pub pages : (at : ℕ) → zone_of at ≢ FREEMAP_ZONE → now at ≡ old at
   pub entries : (block : ℕ) → ((j : ℕ) → j < 4 → j < k → lacks_at lack j ≡ true → slice_index fresh (count_first lack j) ≢ block)
-      → entry_of now block ≡ entry_of old block
+      → (entry_of now block ≡ entry_of old block) × (entry_part now block ≡ entry_part old block)
+  pub elsewhere : (at : ℕ) → ((j : ℕ) → j < 4 → j < k → lacks_at lack j ≡ true → page_of (slice_index fresh (count_first lack j)) ≢ at) → now at ≡ old at
   pub each : (bigblocks : ℕ) (c f : PageMap) → AreFresh bigblocks (is_free_by append (maps_of c f old)) fresh (count_of lack)
       → Renewed bigblocks lack fresh k next append append' (maps_of c f old) (maps_of c f now)

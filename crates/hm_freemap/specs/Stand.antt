@@ -1,5 +1,5 @@
 -- When the freemap of a volume stands for what the trees of three states refer to.
-use Rattle.std.specs.Prelude.{◌≡◌, ◌≢◌, ℕ, ◌+◌, ◌-◌, ◌<◌, ◌≤◌, Bool, ◌&&◌, not, nat_le, nat_eq, if◌then◌else◌, false, List, ◌++◌, length, slice_index, Option, None, Some, IfSome, All, ℤ, pos, negsuc, ◌+ℤ◌, count_by}
+use Rattle.std.specs.Prelude.{◌≡◌, ◌≢◌, ℕ, ◌+◌, ◌-◌, ◌<◌, ◌≤◌, Bool, ◌&&◌, not, nat_le, nat_eq, if◌then◌else◌, false, List, ◌++◌, length, slice_index, slice_range, Option, None, Some, IfSome, All, ℤ, pos, negsuc, ◌+ℤ◌, count_by}
 use Rattle.hm_types.specs.Layout.{IsPool, block_of, start_of}
 use Rattle.hm_types.specs.Offset.{zone_of}
 use Rattle.hm_types.specs.References.{Reference, References, IsPlaced, NoneOverlap, AreFew, begin_of, end_of, live_bytes, is_append, pool}
@@ -120,12 +120,17 @@ is_free_by append maps block =
 abbrev pub free_by : ℕ → List ℕ → Maps → ℕ
 free_by bigblocks append maps = count_by (is_free_by append maps) (pool bigblocks)
 
+-- the 16 bytes of the entry of a big-block in a map
+abbrev pub entry_part : PageMap → ℕ → List ℕ
+entry_part map block = slice_range (entry_page map block) (place_of block) (place_of block + 16)
+
 -- an entry was put in place of that of a big-block, and all else stayed
 pub record EntryPut (block : ℕ) (entry : Entry) (old new : PageMap) : Type 0 where
   pub put : entry_of new block ≡ entry
   pub zero : get (entry_page new block) (place_of block + 12) 4 ≡ 0
   pub others : (other : ℕ) → other ≢ block → entry_of new other ≡ entry_of old other
   pub zeros : (other : ℕ) → other ≢ block → get (entry_page new other) (place_of other + 12) 4 ≡ get (entry_page old other) (place_of other + 12) 4
+  pub bytes : (other : ℕ) → other ≢ block → entry_part new other ≡ entry_part old other
   pub pages : (at : ℕ) → at ≢ page_of block → new at ≡ old at
 
 -- the entry of a big-block became what this makes of it

@@ -71,6 +71,8 @@ pub(crate) fn put_entry<P: FreemapPages>(
     ensures frame { P.frame pages.new ≡ P.frame pages.old }
     ensures cause { HasStoreCause (P.pages pages.old) (P.faults pages.old) (P.faults pages.new) result }
 {
+    // Says how long the page is that was read.
+    let _sized = page.bytes();
     entry.write(page, place_of(block));
     pages.change(page_of(block), page)
 }

@@ -1,3 +1,4 @@
+use Rattle.std.proofs.Common.{sym, ◌∙◌}
 use Rattle.hm_freemap.proofs.PlaceLemmas.{page_zone}
 use Rattle.hm_freemap.proofs.PutLemmas.{told_put}
 use Rattle.hm_freemap.proofs.pages.put_entry.Goals as goal
@@ -12,3 +13,4 @@ returns-clause-ok g c =
     (rw (← c.place_of.ensures.value) c.write.ensures.value)
     (rw (← c.place_of.ensures.value) c.write.ensures.zero)
     (rw (← c.place_of.ensures.value) c.write.ensures.others)
+    (c.write.ensures.sized ∙ sym c.bytes-sized.ensures.sized)
