@@ -171,7 +171,7 @@ module _ (h h' : Heap) (few : h.bigblocks ≤ MOST_BIGBLOCKS) (below : AreBelow 
         (λ block. record { zone = refl; filled = omega arith }) (λ none. (sym gave ∙ none, λ block used. used))) k.safe;
     held = held_map h h' basis (λ told. sym tells_same ∙ told) (λ b refs _ is. (
       refs,
-      held_after h h' b refs refs h.pages.current few (beside h h' basis append) is freemap_same is.stand
+      held_after h h' b refs refs h.pages.current few (beside h h' basis append) is freemap_same is.stand is.fixed
           (λ x l. is.counted x l ∙ (ap (λ (m : PageMap). expected (nodes m) (places_in h) x l) (sym current)
           ∙ ap (λ (xs : List Extent). expected (nodes h'.pages.current) xs x l) (sym (places_same h h' basis log))))
           (subst (λ (xs : List Extent). AreExtents (map (filled (bytes_of h'.disk)) xs)) (sym (places_same h h' basis log))

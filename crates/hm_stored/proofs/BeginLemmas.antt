@@ -1,12 +1,12 @@
 -- The books of a space as a call is opened, and as zones begin new big-blocks.
-use Rattle.std.proofs.Common.{◌≡◌, Bool, true, false, ℕ, ◌*◌, ◌≤◌, List, [], ◌∷◌, map, Option, Some, None, refl, sym, ap, subst, ◌∙◌, arith, cond}
-use Rattle.std.proofs.Common.{nat_eq, is_some, length}
-use Rattle.std.specs.Prelude.{option_map, ◌&&◌}
+use Rattle.std.proofs.Common.{◌≡◌, true, false, ℕ, ◌*◌, ◌≤◌, List, [], ◌∷◌, map, Option, Some, None, refl, sym, ap, subst, ◌∙◌}
+use Rattle.std.proofs.Common.{is_some, length}
+use Rattle.std.specs.Prelude.{option_map}
 use Rattle.hm_types.specs.References.{Reference, IsPlaced}
-use Rattle.hm_types.specs.Space.{rounded}
 use Rattle.hm_types.specs.declared.limits.TheConstants.{BIGBLOCK_BYTES}
 use Rattle.hm_types.specs.declared.zones.Zones.{Zones}
 use Rattle.hm_fields.specs.Pages.{PageMap}
+use Rattle.hm_key.specs.Balance.{IsBalanced}
 use Rattle.hm_key.specs.Extents.{AreExtents, Extent, extent_at, shared_at, with_extent}
 use Rattle.hm_key.specs.declared.element.Element.{Element}
 use Rattle.hm_freemap.specs.Admit.{IsAdmitted}
@@ -15,18 +15,18 @@ use Rattle.hm_freemap.specs.Stand.{Maps, StandBy}
 use Rattle.hm_freemap.proofs.ListLemmas.{all_left, all_right, apart_left}
 use Rattle.hm_image.specs.Extents as image
 use Rattle.hm_image.specs.Image.{to_payload}
-use Rattle.hm_image.specs.Referred.{is_node, is_node_extent, nodes_of, one_if, references_of}
+use Rattle.hm_image.specs.Referred.{nodes_of}
 use Rattle.hm_image.proofs.ExtentsOfLemmas.{placed_balanced, placed_live}
-use Rattle.hm_image.proofs.NodeCountLemmas.{node_once, page_once}
-use Rattle.hm_image.proofs.ReferredLemmas.{elements_counted, references_counted}
 use Rattle.hm_image.proofs.SoundPlacesLemmas.{apart_right, few_right}
-use Rattle.hm_stored.specs.Basis.{Basis, IsFirm, elements_in, nodes, states_of}
+use Rattle.hm_stored.specs.Basis.{AreFixed, Basis, IsFirm, elements_in, nodes, states_of}
 use Rattle.hm_stored.specs.Heap.{Heap, bytes_of, maps_of, places_in}
-use Rattle.hm_stored.specs.Held.{HeldBy, expected, uses_of, with_refs}
+use Rattle.hm_stored.specs.Held.{HeldBy, expected, with_refs}
 use Rattle.hm_stored.specs.Log.{filled, places_of, referred_at}
 use Rattle.hm_stored.proofs.BookLemmas.{expected_same, nodes_kept}
+use Rattle.hm_stored.proofs.FixedLemmas.{fixed_admit}
 use Rattle.hm_stored.proofs.PlaceLemmas.{at_filled, shared_filled, with_filled}
 use Rattle.hm_stored.proofs.ReferLemmas.{times}
+use Rattle.hm_stored.proofs.TreeCountLemmas.{tree_counted}
 
 -- the extents of elements with their bytes are those that the image has
 pub image_extents : (bytes : List ℕ) (es : List Element) → map (filled bytes) (places_of es) ≡ image.extents_of bytes es
@@ -48,13 +48,6 @@ image_extents bytes (e ∷ es) = by_found (extent_at e.payload (places_of es)) r
       ∙ ap (λ (o : Option Extent). is_some (option_map (filled bytes) o)) is) in
       rw there (sym (shared_filled bytes e.payload (places_of es)) ∙ ap (λ (xs : List Extent). shared_at e.payload xs) rest)
 
--- two tests that count alike are one
-one_test : (s t : Bool) → one_if s ≡ one_if t → s ≡ t
-one_test true true same = refl
-one_test true false same = absurd (omega (arith, same))
-one_test false true same = absurd (omega (arith, same))
-one_test false false same = refl
-
 -- the payloads of a state whose books are in order stand where they may
 pub firm_places : (b : Basis) (bytes : List ℕ) → b.bigblocks * BIGBLOCK_BYTES ≤ length bytes → IsFirm b → image.HavePlaces bytes b.bigblocks (elements_in b)
 firm_places b bytes room firm =
@@ -67,10 +60,6 @@ firm_places b bytes room firm =
       apart = apart_right mine payloads (apart_left (states_of b).current _ firm.stand.apart);
       few = few_right mine payloads firm.stand.few.2;
     }
-
-same_uses : (bytes : List ℕ) (len : ℕ) (o : Option Extent) → references_of len (option_map (filled bytes) o) ≡ uses_of (rounded len) o
-same_uses bytes len None = refl
-same_uses bytes len (Some x) = refl
 
 -- As a call is opened, the current tree refers to what there is.
 module _ (h : Heap) (b : Basis) (firm : IsFirm b) (bigblocks : h.bigblocks ≡ b.bigblocks) (append : h.append ≡ b.append) (maps : maps_of h ≡ b.maps)
@@ -93,34 +82,20 @@ module _ (h : Heap) (b : Basis) (firm : IsFirm b) (bigblocks : h.bigblocks ≡ b
       (subst (λ (a : List ℕ). StandBy b.bigblocks a (maps_of h) (states_of b)) (sym append)
       (subst (λ (m : Maps). StandBy b.bigblocks b.append m (states_of b)) (sym maps) firm.stand))
 
+  balanced : IsBalanced (elements_in b) (map (filled bytes) (places_in h))
+  balanced = subst (IsBalanced (elements_in b)) (sym extents_are) (placed_balanced bytes b.bigblocks (elements_in b) have)
+
   counted : (at len : ℕ) → times at len (states_of b).current ≡ expected (nodes h.pages.current) (places_in h) at len
   counted at len =
-      let mine = nodes b.maps.current in
-      let root = b.roots.current in
-      let all = references_counted at len mine root firm.tree.sound in
-      let uses = elements_counted at len (image.extents_of bytes (elements_in b)) (elements_in b) (placed_balanced bytes b.bigblocks (elements_in b) have) in
-      let found : references_of len (extent_at at (image.extents_of bytes (elements_in b))) ≡ uses_of (rounded len) (extent_at at (places_in h)) =
-      ap (λ (xs : List Extent). references_of len (extent_at at xs)) (sym extents_are)
-      ∙ (ap (references_of len) (at_filled bytes at (places_in h)) ∙ same_uses bytes len (extent_at at (places_in h))) in
-      let once : is_node mine root at ≡ is_some (mine at) =
-      one_test (is_node mine root at) (is_some (mine at))
-      (sym (node_once mine root at firm.tree.sound) ∙ page_once mine root at firm.tree.sound firm.tree.whole) in
-      let node : one_if (is_node_extent mine root at len) ≡ cond (nat_eq (rounded len) 4096 && is_some (nodes h.pages.current at)) 1 0 =
-      ap (λ (t : Bool). one_if (t && nat_eq (rounded len) 4096)) once
-      ∙ (both (is_some (mine at)) (nat_eq (rounded len) 4096)
-      ∙ ap (λ (m : PageMap). cond (nat_eq (rounded len) 4096 && is_some (nodes m at)) 1 0) (sym current)) in
-      omega (arith, all, uses, found, node) where
-        both : (s t : Bool) → one_if (s && t) ≡ cond (t && s) 1 0
-        both true true = refl
-        both true false = refl
-        both false true = refl
-        both false false = refl
+      tree_counted b.maps.current b.roots.current bytes (places_in h) at len firm.tree balanced
+      ∙ ap (λ (m : PageMap). expected (nodes m) (places_in h) at len) (sym current)
 
   pub held_begin : HeldBy h b (states_of b).current
   held_begin = record {
     stand = stands;
     counted = counted;
     extents = subst AreExtents (sym extents_are) (placed_live bytes b.bigblocks (elements_in b) have);
+    fixed = subst (λ (n : ℕ). AreFixed n h.pages.current) (sym bigblocks) (subst (AreFixed b.bigblocks) (sym current) firm.fixed);
   }
 
 -- Zones began new big-blocks, before anything was given back.
@@ -137,6 +112,8 @@ held_admit h h' b refs zones most now held admitted put committed frozen bigbloc
       ∙ ap (λ (xs : List Extent). expected (nodes h'.pages.current) xs at len) (sym places));
   extents = subst (λ (xs : List Extent). AreExtents (map (filled (bytes_of h'.disk)) xs)) (sym places)
       (subst (λ (bs : List ℕ). AreExtents (map (filled bs) (places_in h))) (sym bytes) held.extents);
+  fixed = subst (λ (n : ℕ). AreFixed n h'.pages.current) (sym bigblocks) (subst (AreFixed h.bigblocks) (sym put)
+      (fixed_admit h.bigblocks h.append (maps_of h) (with_refs refs (states_of b)) held.stand now zones most h'.append admitted held.fixed));
 } where
   maps_are : with_current now (maps_of h) ≡ maps_of h'
   maps_are = by_parts h'.pages.committed h'.pages.frozen h'.pages.current committed frozen put where

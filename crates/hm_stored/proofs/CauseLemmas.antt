@@ -36,14 +36,18 @@ tells_parts h told = both h.whole (is_some (content_of h)) told where
   both false t is = absurd (true≢false (sym is))
 
 -- a space that tells has books in order
-pub on_books : (h : Heap) (P : Type 0) → IsTrue (does_tell h) → Held h → ((b : Basis) (refs : List Reference) → HeldBy h b refs → P) → P
-on_books h P told held use_them = by_begin h.pages.begin refl (held told) where
+pub on_begin : (h : Heap) (P : Type 0) → IsTrue (does_tell h) → Held h
+    → ((begin : PageMap) (refs : List Reference) → HeldBy h (basis_with h begin) refs → P) → P
+on_begin h P told held use_them = by_begin h.pages.begin refl (held told) where
   by_begin : (o : Option PageMap) → h.pages.begin ≡ o → IfSome o (λ begin. (refs : List Reference) × HeldBy h (basis_with h begin) refs) → P
   by_begin None none is =
       let empty : is_some (content_of h) ≡ false =
       ap (λ (o : Option PageMap). is_some (content_with h.last (option_map (basis_with h) o) h.disk)) none in
       absurd (true≢false (sym ((tells_parts h told).1) ∙ empty))
-  by_begin (Some begin) there is = use_them (basis_with h begin) is.0 is.1
+  by_begin (Some begin) there is = use_them begin is.0 is.1
+
+pub on_books : (h : Heap) (P : Type 0) → IsTrue (does_tell h) → Held h → ((b : Basis) (refs : List Reference) → HeldBy h b refs → P) → P
+on_books h P told held use_them = on_begin h P told held (λ begin refs is. use_them (basis_with h begin) refs is)
 
 -- no call on pages in memory fails for a device
 pub memory_caused : (n : ℕ) (fault : Fault) → IsCaused 0 0 fault → IsCaused n n fault

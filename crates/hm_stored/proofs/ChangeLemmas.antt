@@ -89,7 +89,7 @@ module _ (h h' : Heap) (at : ℕ) (page : List ℕ) (few : h.bigblocks ≤ MOST_
   held_put = held_map h h' puts.basis (λ told. sym tells ∙ told)
       (λ b refs told held. (
         refs,
-        held_after h h' b refs refs h.pages.current few (beside h h' puts.basis puts.append) held freemap held.stand
+        held_after h h' b refs refs h.pages.current few (beside h h' puts.basis puts.append) held freemap held.stand held.fixed
             (λ x l. held.counted x l ∙ sym (expected_same (nodes h.pages.current) (nodes h'.pages.current) (places_in h') x l (presence x)
             ∙ ap (λ (xs : List Extent). expected (nodes h.pages.current) xs x l) places))
             (subst (λ (xs : List Extent). AreExtents (map (filled (bytes_of h'.disk)) xs)) (sym places)

@@ -6,10 +6,11 @@ use Rattle.hm_fields.specs.Pages.{PageMap}
 use Rattle.hm_key.specs.Extents.{AreExtents}
 use Rattle.hm_freemap.specs.Extents.{with_current}
 use Rattle.hm_freemap.specs.Stand.{Maps, StandBy}
-use Rattle.hm_stored.specs.Basis.{Basis, nodes, states_of}
+use Rattle.hm_stored.specs.Basis.{AreFixed, Basis, nodes, states_of}
 use Rattle.hm_stored.specs.Heap.{Heap, bytes_of, maps_of, places_in}
 use Rattle.hm_stored.specs.Held.{HeldBy, expected, with_refs}
 use Rattle.hm_stored.specs.Log.{filled}
+use Rattle.hm_stored.proofs.FixedLemmas.{fixed_same}
 use Rattle.hm_stored.proofs.MapLemmas.{SameFreemap, stand_same}
 use Rattle.hm_stored.proofs.ReferLemmas.{times}
 
@@ -39,8 +40,13 @@ module _ (h h' : Heap) (b : Basis) (refs refs' : List Reference) (now : PageMap)
       (subst (λ (a : List ℕ). StandBy h.bigblocks a (maps_of h') (with_refs refs' (states_of b))) (sym same.append)
       (subst (λ (m : Maps). StandBy h.bigblocks h.append m (with_refs refs' (states_of b))) (maps_with h h' same) moved))
 
-  pub held_after : StandBy h.bigblocks h.append (with_current now (maps_of h)) (with_refs refs' (states_of b))
+  pub held_after : StandBy h.bigblocks h.append (with_current now (maps_of h)) (with_refs refs' (states_of b)) → AreFixed h.bigblocks now
       → ((at len : ℕ) → times at len refs' ≡ expected (nodes h'.pages.current) (places_in h') at len)
       → AreExtents (map (filled (bytes_of h'.disk)) (places_in h'))
       → HeldBy h' b refs'
-  held_after stand counted extents = record { stand = stands stand; counted = counted; extents = extents }
+  held_after stand fixed counted extents = record {
+    stand = stands stand;
+    counted = counted;
+    extents = extents;
+    fixed = subst (λ (n : ℕ). AreFixed n h'.pages.current) (sym same.bigblocks) (fixed_same h.bigblocks now h'.pages.current few freemap fixed);
+  }

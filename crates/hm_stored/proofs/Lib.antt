@@ -8,6 +8,7 @@ mod CauseLemmas
 mod ChangeLemmas
 mod ExtentCallLemmas
 mod FetchLemmas
+mod FixedLemmas
 mod HeldLemmas
 pub mod KnownLemmas
 mod LogLemmas
@@ -28,3 +29,6 @@ mod UseLemmas
 mod TurnLemmas
 mod TreeLemmas
 mod MountLemmas
+mod ToldLemmas
+mod TreeCountLemmas
+mod KeptLemmas

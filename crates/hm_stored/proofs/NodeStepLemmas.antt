@@ -19,6 +19,7 @@ use Rattle.hm_stored.specs.Heap.{Heap, bytes_of, maps_of, places_in}
 use Rattle.hm_stored.specs.Held.{HeldBy, expected, uses_of, with_refs}
 use Rattle.hm_stored.specs.Log.{filled}
 use Rattle.hm_stored.proofs.BookLemmas.{eq_either, expected_more, node_uses, nodes_kept}
+use Rattle.hm_stored.proofs.FixedLemmas.{fixed_change, fixed_take}
 use Rattle.hm_stored.proofs.HeldLemmas.{StaysBeside, held_after}
 use Rattle.hm_stored.proofs.MapLemmas.{SameFreemap}
 use Rattle.hm_stored.proofs.ReferLemmas.{referred_where, times, times_less, times_more, times_none}
@@ -68,6 +69,7 @@ module _ (h h' : Heap) (b : Basis) (refs : List Reference) (at : ℕ) (now : Pag
       held_after h h' b refs (r ∷ refs) now few same held
       (λ other zone. ap (λ (m : PageMap). m other) put ∙ freemap_set at (Some page) now takes.place other zone)
       (takes.stand (with_refs refs (states_of b)) held.stand refl)
+      (fixed_take h.bigblocks h.append (maps_of h) (with_refs refs (states_of b)) held.stand now TREE_ZONE 4096 at (omega arith) (omega arith) takes held.fixed)
       counted extents_kept where
         dead : All (IsApart r) refs
         dead = all_left (IsApart r) refs _ (takes.dead (with_refs refs (states_of b)) held.stand)
@@ -95,6 +97,7 @@ module _ (h h' : Heap) (b : Basis) (refs : List Reference) (at : ℕ) (now : Pag
       held_after h h' b refs (without_one r refs) now few same held
       (λ other zone. ap (λ (m : PageMap). m other) put ∙ freemap_set at None now tree other zone)
       (changes.stand (with_refs refs (states_of b)) held.stand found)
+      (fixed_change h.bigblocks h.append (maps_of h) (with_refs refs (states_of b)) held.stand now r _ _ _ found changes held.fixed)
       counted extents_kept where
         some : 1 ≤ times at 4096 refs
         some =

@@ -26,6 +26,7 @@ use Rattle.hm_stored.specs.Held.{HeldBy, expected, uses_of, with_refs}
 use Rattle.hm_stored.specs.Log.{filled, one_of}
 use Rattle.hm_stored.proofs.ApartLemmas.{IsBeside, apart_times, each_at, extents_with, filled_kept}
 use Rattle.hm_stored.proofs.BookLemmas.{Agrees, IsLong, SamePages, all_agree, expected_same, node_uses, nodes_kept, there_counts}
+use Rattle.hm_stored.proofs.FixedLemmas.{fixed_change, fixed_take}
 use Rattle.hm_stored.proofs.HeldLemmas.{StaysBeside, held_after}
 use Rattle.hm_stored.proofs.MapLemmas.{SameFreemap}
 use Rattle.hm_stored.proofs.PlaceLemmas.{at_filled, given_filled, shared_filled, with_filled}
@@ -113,6 +114,7 @@ module _ (h h' : Heap) (b : Basis) (refs : List Reference) (at len : ℕ) (now :
         held_after h h' b refs (r ∷ refs) now few same held same_map
         (changes.stand (with_refs refs (states_of b)) held.stand
         (record { live = live; few = let count = counts in let one = there_counts r some refs agree in omega (arith, count, one, less) }))
+        (fixed_change h.bigblocks h.append (maps_of h) (with_refs refs (states_of b)) held.stand now r _ _ _ live changes held.fixed)
         (λ x' l.
         let uses = uses_shared at len x' l place.0 xs place.1 (place.2 ∙ long) in
         let moved : expected (nodes h.pages.current) (places_in h') x' l ≡ expected (nodes h.pages.current) (shared_at at xs) x' l =
@@ -129,6 +131,7 @@ module _ (h h' : Heap) (b : Basis) (refs : List Reference) (at len : ℕ) (now :
     held_give changes places bytes =
         held_after h h' b refs (without_one r refs) now few same held same_map
         (changes.stand (with_refs refs (states_of b)) held.stand live)
+        (fixed_change h.bigblocks h.append (maps_of h) (with_refs refs (states_of b)) held.stand now r _ _ _ live changes held.fixed)
         (λ x' l.
         let uses = uses_back x' l in
         let moved : expected (nodes h.pages.current) (places_in h') x' l ≡ expected (nodes h.pages.current) (given_back_at at xs) x' l =
@@ -255,6 +258,8 @@ module _ (h h' : Heap) (b : Basis) (refs : List Reference) (zone at len : ℕ) (
     pub held_place : HeldBy h' b (new_one ∷ refs)
     held_place =
         held_after h h' b refs (new_one ∷ refs) now few same held (λ other zone. ap (λ (m : PageMap). m other) put) after
+        (fixed_take h.bigblocks h.append (maps_of h) (with_refs refs (states_of b)) held.stand now zone len at
+        (omega (arith, payload.0)) payload.1 takes held.fixed)
         (λ x l.
         let uses = uses_placed at len x l old_xs none_there in
         let moved : expected (nodes h.pages.current) (places_in h') x l ≡ expected (nodes h.pages.current) (with_extent (one_of at len) old_xs) x l =

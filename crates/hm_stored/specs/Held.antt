@@ -10,7 +10,7 @@ use Rattle.hm_node.specs.Inner.{IsNodeOffset}
 use Rattle.hm_node.specs.Shape.{HoldsNode}
 use Rattle.hm_freemap.specs.Extents.{is_extent, reference}
 use Rattle.hm_freemap.specs.Stand.{IsBelow, StandBy, entry_of, home_of}
-use Rattle.hm_stored.specs.Basis.{Basis, nodes, states_of}
+use Rattle.hm_stored.specs.Basis.{AreFixed, Basis, nodes, states_of}
 use Rattle.hm_stored.specs.Heap.{Heap, basis_with, bytes_of, does_hold, does_tell, maps_of, places_in}
 use Rattle.hm_stored.specs.Log.{filled}
 
@@ -29,11 +29,13 @@ abbrev pub with_refs : List Reference → References → References
 with_refs refs states = record states { current = refs }
 
 -- The books of a space that tells are in order at each moment of the open call: the freemap stands for what the
--- committed and the frozen tree refer to and for these references, which are as many as nodes and extents have.
+-- committed and the frozen tree refer to and for these references, which are as many as nodes and extents have; entries
+-- outside the pool are as they must be.
 pub record HeldBy (h : Heap) (b : Basis) (refs : List Reference) : Type 0 where
   pub stand : StandBy h.bigblocks h.append (maps_of h) (with_refs refs (states_of b))
   pub counted : (at len : ℕ) → count_by (is_extent (reference at len)) refs ≡ expected (nodes h.pages.current) (places_in h) at len
   pub extents : AreExtents (map (filled (bytes_of h.disk)) (places_in h))
+  pub fixed : AreFixed h.bigblocks h.pages.current
 
 -- bytes of the big-block of a reference are in use by its entry
 abbrev pub IsInUse : PageMap → Reference → Type 0

@@ -12,3 +12,4 @@ pub mod Laws
 pub mod Turn
 pub mod Mounted
 pub mod Standing
+pub mod Content

@@ -6,6 +6,7 @@ ghost use Rattle.hm_freemap.specs.Places.{HasLayer2};
 ghost use Rattle.hm_pages.specs.Store.{contents, layer2};
 ghost use Rattle.hm_stored.specs.Heap.{heap_of};
 ghost use Rattle.hm_stored.specs.Basis.{nodes};
+ghost use Rattle.hm_stored.specs.Content.{KeepsContent};
 ghost use Rattle.hm_stored.specs.Turn.{IsClosed, IsDropped, IsKeptOf, IsOpened};
 
 use crate::books::Books;
@@ -57,6 +58,9 @@ impl<D: Disk> Space<D> {
         requires opened { IsSome (contents self.old.pages.store).begin }
         requires whole { self.old.books.whole ≡ true }
         ensures turn { IsKeptOf
+            (heap_of (contents self.old.pages.store) (D.told self.old.disk) self.old.books)
+            (heap_of (contents self.new.pages.store) (D.told self.new.disk) self.new.books) }
+        ensures content { KeepsContent
             (heap_of (contents self.old.pages.store) (D.told self.old.disk) self.old.books)
             (heap_of (contents self.new.pages.store) (D.told self.new.disk) self.new.books) }
         ensures disk { self.new.disk ≡ self.old.disk }

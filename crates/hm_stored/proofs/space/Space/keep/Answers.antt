@@ -3,6 +3,7 @@ use Rattle.std.proofs.Common.{refl}
 use Rattle.std.proofs.Math.Logic.{∥∥₁_map}
 use Rattle.hm_pages.specs.Store.{contents}
 use Rattle.hm_stored.specs.Heap.{heap_of}
+use Rattle.hm_stored.proofs.KeptLemmas.{keeps_content}
 use Rattle.hm_stored.proofs.TurnLemmas.{keep_kept, layer2_kept}
 use Rattle.hm_stored.proofs.space.Space.keep.Goals as goal
 
@@ -14,6 +15,9 @@ invariant_of-self g c =
       kept = ∥∥₁_map s.kept (keep_kept (contents s.pages.store) (contents c.keep.new.self) (g.D.Disk.told s.disk) s.books c.requires.whole c.keep.ensures);
     }
 
-pub returns : goal.returns
+pub returns-clause-turn : goal.returns-clause-turn
 unfolding heap_of
-returns g c = record { turn = record { pages = c.keep.ensures; rest = refl }; disk = refl }
+returns-clause-turn g c = record { pages = c.keep.ensures; rest = refl }
+
+pub returns-clause-content : goal.returns-clause-content
+returns-clause-content g c = keeps_content _ _ (returns-clause-turn g c) c.args.self.now.kept
