@@ -30,5 +30,7 @@ mod TurnLemmas
 mod TreeLemmas
 mod MountLemmas
 mod ToldLemmas
+mod OpenedLemmas
+mod DroppedLemmas
 mod TreeCountLemmas
 mod KeptLemmas

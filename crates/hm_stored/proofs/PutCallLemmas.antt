@@ -53,14 +53,17 @@ written_there (Some t) (Some u) place bytes most size within both told =
     ap (λ (b : List ℕ). slice_range b place (place + length bytes)) both.bytes_are ∙ slice-overwritten t.bytes place bytes (omega (arith, size, within))
 
 -- what a disk that tells has of the volume
+pub sized_kept : (h : Heap) → ∥ IsKept h ∥₁ → IfSome h.disk (λ (t : Told). h.bigblocks * BIGBLOCK_BYTES ≤ length t.bytes)
+sized_kept h kept = by_disk h.disk (∥∥₁_elim kept squash₁ (λ k. ∣ k.size ∣₁)) where
+  by_disk : (o : Option Told) → ∥ IfSome o (λ (t : Told). h.bigblocks * BIGBLOCK_BYTES ≤ length t.bytes) ∥₁
+      → IfSome o (λ (t : Told). h.bigblocks * BIGBLOCK_BYTES ≤ length t.bytes)
+  by_disk None size = tt
+  by_disk (Some t) size = ∥∥₁_elim size (hlevel props) (λ is. is)
+
 pub sized_of : (old : Store) (disk : Option Told) (books : Books) → ∥ IsKept (heap_of old disk books) ∥₁
     → IfSome disk (λ (t : Told). books.bigblocks * BIGBLOCK_BYTES ≤ length t.bytes)
 unfolding heap_of
-sized_of old disk books kept = by_disk disk (∥∥₁_elim kept squash₁ (λ k. ∣ k.size ∣₁)) where
-  by_disk : (o : Option Told) → ∥ IfSome o (λ (t : Told). books.bigblocks * BIGBLOCK_BYTES ≤ length t.bytes) ∥₁
-      → IfSome o (λ (t : Told). books.bigblocks * BIGBLOCK_BYTES ≤ length t.bytes)
-  by_disk None size = tt
-  by_disk (Some t) size = ∥∥₁_elim size (hlevel props) (λ is. is)
+sized_of old disk books kept = sized_kept (heap_of old disk books) kept
 
 module _ (old new : Store) (was is : Option Told) (books books' : Books) (zone : ℕ) (bytes : List ℕ) (frame : pages_frame new ≡ pages_frame old)
     (moment : moment_of is ≡ moment_of was) (whole : books.whole ≡ true) (kept : ∥ IsKept (heap_of old was books) ∥₁) (payload : IsPayloadZone zone)

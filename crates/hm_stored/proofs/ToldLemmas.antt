@@ -1,14 +1,17 @@
--- The lists that a space tells.
+-- The lists that a space tells, and the content by which it tells.
 use Rattle.std.proofs.Common.{◌≡◌, Bool, true, false, ℕ, List, map, Option, Some, None, refl, sym, ap, subst, ◌∙◌, cond}
-use Rattle.std.specs.Prelude.{IfSome, IsTrue}
+use Rattle.std.specs.Prelude.{IfSome, IsTrue, ◌&&◌}
+use Rattle.hm_types.specs.Elements.{FullElement}
 use Rattle.hm_btree.specs.Tree.{told_elements}
 use Rattle.hm_key.specs.Balance.{content_of as lists_of}
 use Rattle.hm_key.specs.Extents.{Extent}
 use Rattle.hm_key.specs.declared.element.Element.{Element}
 use Rattle.hm_search.specs.Tree.{elements_of}
-use Rattle.hm_stored.specs.Basis.{nodes}
+use Rattle.hm_stored.specs.Basis.{Basis, IsFirm, fulls_in, nodes}
 use Rattle.hm_stored.specs.Content.{OfLists}
-use Rattle.hm_stored.specs.Heap.{Heap, bytes_of, does_tell, extents_in, pages_of, places_in}
+use Rattle.hm_stored.specs.DecideFirm.{from_firm, is_firm, to_firm}
+use Rattle.hm_stored.specs.Heap.{Heap, bytes_of, content_by, does_tell, extents_in, pages_of, places_in}
+use Rattle.hm_stored.specs.Known.{is_known}
 use Rattle.hm_stored.specs.Log.{filled}
 
 -- the extents of a space with their bytes
@@ -34,3 +37,20 @@ of_lists h root P is = by_test (does_tell h) refl where
   by_test : (t : Bool) → does_tell h ≡ t → OfLists h root P
   by_test true told = subst (λ (o : Option (List Element × List Extent)). IfSome o (λ lists. P lists.0 lists.1)) (sym (told_lists h root true told)) (is told)
   by_test false told = subst (λ (o : Option (List Element × List Extent)). IfSome o (λ lists. P lists.0 lists.1)) (sym (told_lists h root false told)) tt
+
+-- the content of a state whose books are in order and whose ids are known
+pub content_found : (last : ℕ) (b : Basis) (bytes : List ℕ) (es : List FullElement) → IsFirm b → is_known last es ≡ true → fulls_in b bytes ≡ es
+    → content_by last b bytes ≡ Some es
+unfolding content_by
+content_found last b bytes es firm known same =
+    ap (λ (t : Bool). cond (t && is_known last (fulls_in b bytes)) (Some (fulls_in b bytes)) None) (to_firm b firm)
+    ∙ (ap (λ (fs : List FullElement). cond (is_known last fs) (Some fs) None) same ∙ ap (λ (t : Bool). cond t (Some es) None) known)
+
+-- where there is a content, the books are in order
+pub content_firm : (last : ℕ) (b : Basis) (bytes : List ℕ) (es : List FullElement) → content_by last b bytes ≡ Some es → IsFirm b × (fulls_in b bytes ≡ es)
+unfolding content_by
+content_firm last b bytes es told = by_tests (is_firm b) (is_known last (fulls_in b bytes)) refl told where
+  by_tests : (f k : Bool) → is_firm b ≡ f → cond (f && k) (Some (fulls_in b bytes)) None ≡ Some es → IsFirm b × (fulls_in b bytes ≡ es)
+  by_tests true true firm told = (from_firm b firm, cc)
+  by_tests true false firm told = absurd (cc)
+  by_tests false k firm told = absurd (cc)

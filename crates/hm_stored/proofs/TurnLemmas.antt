@@ -28,7 +28,7 @@ use Rattle.hm_stored.proofs.CauseLemmas.{tells_parts}
 use Rattle.hm_stored.proofs.PutLemmas.{unfirm}
 
 -- the disk has the size of the volume
-abbrev IsSized : Heap → Type 0
+abbrev pub IsSized : Heap → Type 0
 IsSized h = IfSome h.disk (λ (t : Told). h.bigblocks * BIGBLOCK_BYTES ≤ length t.bytes)
 
 -- where no call is open, nothing is told
@@ -82,7 +82,7 @@ module _ (h : Heap) (begin : h.pages.begin ≡ Some h.pages.current) (append : h
         used = λ none. used_each h.pages.current h.bigblocks (states_of b).current (states_of b).current firm.stand.current (λ block. omega arith) placed;
       }
 
-  places_are : places_in h ≡ places_of (elements_in b)
+  pub places_are : places_in h ≡ places_of (elements_in b)
   unfolding after_changes places_of
   places_are = ap (λ l. after_changes l (places_of (elements_with (option_map (basis_with h) h.pages.begin)))) log
       ∙ ap (λ (o : Option PageMap). places_of (elements_with (option_map (basis_with h) o))) begin

@@ -6,7 +6,7 @@ ghost use Rattle.hm_freemap.specs.Places.{HasLayer2};
 ghost use Rattle.hm_pages.specs.Store.{contents, layer2};
 ghost use Rattle.hm_stored.specs.Heap.{heap_of};
 ghost use Rattle.hm_stored.specs.Basis.{nodes};
-ghost use Rattle.hm_stored.specs.Content.{KeepsContent};
+ghost use Rattle.hm_stored.specs.Content.{DropsContent, KeepsContent, OpensContent};
 ghost use Rattle.hm_stored.specs.Turn.{IsClosed, IsDropped, IsKeptOf, IsOpened};
 
 use crate::books::Books;
@@ -42,6 +42,9 @@ impl<D: Disk> Space<D> {
         ensures turn { IsOpened root last.0
             (heap_of (contents self.old.pages.store) (D.told self.old.disk) self.old.books)
             (heap_of (contents self.new.pages.store) (D.told self.new.disk) self.new.books) }
+        ensures content { OpensContent root last.0
+            (heap_of (contents self.old.pages.store) (D.told self.old.disk) self.old.books)
+            (heap_of (contents self.new.pages.store) (D.told self.new.disk) self.new.books) }
         ensures disk { self.new.disk ≡ self.old.disk }
     {
         self.pages.store.begin();
@@ -73,6 +76,9 @@ impl<D: Disk> Space<D> {
     pub fn undo(&mut self)
         requires opened { IsSome (contents self.old.pages.store).begin }
         ensures turn { IsDropped
+            (heap_of (contents self.old.pages.store) (D.told self.old.disk) self.old.books)
+            (heap_of (contents self.new.pages.store) (D.told self.new.disk) self.new.books) }
+        ensures content { DropsContent
             (heap_of (contents self.old.pages.store) (D.told self.old.disk) self.old.books)
             (heap_of (contents self.new.pages.store) (D.told self.new.disk) self.new.books) }
         ensures disk { self.new.disk ≡ self.old.disk }

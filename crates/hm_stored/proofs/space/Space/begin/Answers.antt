@@ -1,8 +1,9 @@
 -- A call is opened.
-use Rattle.std.proofs.Common.{refl, ap, false}
+use Rattle.std.proofs.Common.{ap, false, refl}
 use Rattle.std.proofs.Math.Logic.{∥∥₁_map}
 use Rattle.hm_pages.specs.Store.{contents}
 use Rattle.hm_stored.specs.Heap.{heap_of}
+use Rattle.hm_stored.proofs.OpenedLemmas.{opens_content}
 use Rattle.hm_stored.proofs.TurnLemmas.{begin_kept, layer2_kept}
 use Rattle.hm_stored.proofs.space.Space.begin.Goals as goal
 
@@ -20,18 +21,18 @@ invariant_of-self-6 g c =
           refl refl c.clear.ensures.items);
     }
 
-pub returns : goal.returns
+pub returns-clause-turn : goal.returns-clause-turn
 unfolding heap_of
-returns g c = record {
-  turn = record {
-    pages = c.begin.ensures;
-    rest = ap (λ l. record (heap_of (contents c.begin.new.self) (g.D.Disk.told c.args.self.now.disk) c.args.self.now.books) {
-      begun = c.args.self.now.books.append;
-      roots = record c.args.self.now.books.roots { current = c.args.root };
-      last = c.args.last.0;
-      log = l;
-      gave = false;
-    }) c.clear.ensures.items;
-  };
-  disk = refl;
+returns-clause-turn g c = record {
+  pages = c.begin.ensures;
+  rest = ap (λ l. record (heap_of (contents c.begin.new.self) (g.D.Disk.told c.args.self.now.disk) c.args.self.now.books) {
+    begun = c.args.self.now.books.append;
+    roots = record c.args.self.now.books.roots { current = c.args.root };
+    last = c.args.last.0;
+    log = l;
+    gave = false;
+  }) c.clear.ensures.items;
 }
+
+pub returns-clause-content : goal.returns-clause-content
+returns-clause-content g c = opens_content _ _ c.args.root c.args.last.0 c.requires.closed c.args.self.now.kept (returns-clause-turn g c)

@@ -3,6 +3,7 @@ use Rattle.std.proofs.Common.{refl}
 use Rattle.std.proofs.Math.Logic.{∥∥₁_map}
 use Rattle.hm_pages.specs.Store.{contents}
 use Rattle.hm_stored.specs.Heap.{heap_of}
+use Rattle.hm_stored.proofs.DroppedLemmas.{drops_content}
 use Rattle.hm_stored.proofs.TurnLemmas.{undo_kept, layer2_kept}
 use Rattle.hm_stored.proofs.space.Space.undo.Goals as goal
 
@@ -15,6 +16,9 @@ invariant_of-self-3 g c =
           (g.D.Disk.told s.disk) s.books _ c.undo.ensures c.requires.opened refl);
     }
 
-pub returns : goal.returns
+pub returns-clause-turn : goal.returns-clause-turn
 unfolding heap_of
-returns g c = record { turn = record { pages = c.undo.ensures; rest = refl }; disk = refl }
+returns-clause-turn g c = record { pages = c.undo.ensures; rest = refl }
+
+pub returns-clause-content : goal.returns-clause-content
+returns-clause-content g c = drops_content _ _ (returns-clause-turn g c)
