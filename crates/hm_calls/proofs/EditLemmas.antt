@@ -46,7 +46,7 @@ use Rattle.hm_calls.specs.declared.edit.Edit.{Edit}
 use Rattle.hm_calls.specs.declared.edit.Edit.TheVariants.{Fill, Truncate, Write}
 use Rattle.hm_calls.specs.declared.stop.Stop.{Stop}
 use Rattle.hm_calls.proofs.CatLemmas.{made_bytes, refused_kind}
-use Rattle.hm_calls.proofs.EffectLemmas.{master_view, tree_changes, view_later}
+use Rattle.hm_calls.proofs.EffectLemmas.{master_view, system_there, tree_changes, view_later}
 use Rattle.hm_calls.proofs.KindLemmas.{number_found}
 use Rattle.hm_calls.proofs.LinkLemmas.{in_slave}
 use Rattle.hm_calls.proofs.NowLemmas.{EndsNow, walk_now}
@@ -206,7 +206,8 @@ module _ (hash : List ℕ → ℕ) (room : ℕ → ℕ) (free : ℕ) (edit : Edi
           master_view scene.elements scene.volume scene.view pfs file.at.object made.o set.shows there_now passes in
           let now : IsViewOf scene.elements pfs scene.volume.last (tree_now the_edit) =
           subst (λ (p : ℕ). IsViewOf scene.elements pfs scene.volume.last (scene.view p Now)) (sym edit_pfs) view in
-          tree_changes the_edit hash scene.volume.last id pfs scene.elements asked own edit_pfs below own_is now
+          tree_changes the_edit hash scene.volume.last id pfs scene.elements asked own edit_pfs
+          (system_there scene.elements scene.volume scene.view pfs Now file.at.object made.o set.shows there_now) below own_is now
           (λ tree. with_bytes tree (edited edit) made.o) (Unit {0}) es'
           (record { writes = wrote.writes; keys = λ fits keys. wrote.fits hash keys }) tt
           (λ _. wrote.shows made.o numbered is_file is_long

@@ -17,7 +17,7 @@ use Rattle.hm_model.specs.Answer.{is_master}
 use Rattle.hm_model.specs.Call.{Call, own_id}
 use Rattle.hm_model.specs.Change.{changed, changed_pfs}
 use Rattle.hm_model.specs.Due.{refuse_if}
-use Rattle.hm_model.specs.View.{Now, View}
+use Rattle.hm_model.specs.View.{Now, View, When}
 use Rattle.hm_model.specs.Volume.{Master, PseudoFileSystem, Role, Slave, Volume, system_of}
 use Rattle.hm_model.specs.declared.reply.Reply.TheVariants.{ReadOnly}
 use Rattle.hm_records.specs.Changes.{CountsNothing, HasInode, LacksName}
@@ -36,7 +36,7 @@ use Rattle.hm_objects.specs.Objects.{IsMissing}
 use Rattle.hm_dirs.specs.Names.{CanTakeAt, IsHidden, IsSpot, first_key, numbers}
 use Rattle.hm_dirs.specs.declared.spot.Spot.{Spot}
 use Rattle.hm_calls.specs.Call.{IsCall}
-use Rattle.hm_calls.specs.Changes.{ChangesTree, tree_now}
+use Rattle.hm_calls.specs.Changes.{ChangesTree, HasSystem, tree_now}
 use Rattle.hm_calls.specs.Known.{AreBelow, IsOlderThan}
 use Rattle.hm_calls.specs.Writes.{IsNewIn, IsOpen, Place, Steps}
 
@@ -206,6 +206,15 @@ master_view es volume view pfs number o shows there passes = by_system (system_o
       absurd (none_some o (sym (ap (λ (tree : FileTree). object_in tree number) (shows.trees.none pfs Now none)) ∙ there))
   by_system (Some s) some passes = by_role s s.role refl some passes
 
+-- a pseudo file system of which an object is seen is there
+pub system_there : (es : List FullElement) (volume : Volume) (view : View) (pfs : ℕ) (when : When) (number : Obj) (o : Object) → ShowsAs es volume view
+    → object_in (view pfs when) number ≡ Some o → HasSystem volume pfs
+system_there es volume view pfs when number o shows there = by_system (system_of volume pfs) refl where
+  by_system : (found : Option PseudoFileSystem) → system_of volume pfs ≡ found → HasSystem volume pfs
+  by_system None none =
+      absurd (none_some o (sym (ap (λ (tree : FileTree). object_in tree number) (shows.trees.none pfs when none)) ∙ there))
+  by_system (Some s) some = (s, some)
+
 -- a key among those of the collision numbers of a name fits it
 pub spot_fits : (hash : List ℕ → ℕ) (key : ℕ) (name : List ℕ) → first_key (hash name) ≤ key → key < first_key (hash name) + numbers
     → KeyFits hash key name
@@ -214,7 +223,8 @@ spot_fits hash key name from to = omega (arith, from, to)
 -- ---- an accepted call
 
 module _ (call : Call) (hash : List ℕ → ℕ) (last id pfs : ℕ) (es : List FullElement) (asked : IsCall hash id es call) (own : HaveOwnKeys es)
-    (within : changed_pfs call ≡ pfs) (below : AreBelow pfs id es) (next : last + 1 ≡ id) (view : IsViewOf es pfs last (tree_now call)) where
+    (within : changed_pfs call ≡ pfs) (system : HasSystem call.volume pfs) (below : AreBelow pfs id es) (next : last + 1 ≡ id)
+    (view : IsViewOf es pfs last (tree_now call)) where
   came_as : (x : FullElement) → CameAs (IsNewIn pfs id) es x → CameAs (IsNewIn (changed_pfs call) (own_id call)) es x
   came_as x came =
       subst (λ (p : ℕ). CameAs (IsNewIn p (own_id call)) es x) (sym within) (subst (λ (i : ℕ). CameAs (IsNewIn pfs i) es x) (sym asked.own) came)
@@ -224,6 +234,7 @@ module _ (call : Call) (hash : List ℕ → ℕ) (last id pfs : ℕ) (es : List 
       → (object_in (tree_now call) (record { 0 = id }) ≡ None → Shows pfs id f es es') → f (tree_now call) ≡ changed call (tree_now call)
       → ChangesTree call es es'
   tree_changes f Fits es' steps fits shows same = record {
+    there = subst (HasSystem call.volume) (sym within) system;
     past = λ t before. steps.writes.past t (omega (arith, before, asked.own));
     others = λ t other tree late differ has. steps.writes.others t other tree (omega (arith, late, asked.own)) (λ is. differ (is ∙ sym within)) has;
     records = steps.writes.records;

@@ -17,6 +17,7 @@ pub mod RemoveLemmas
 pub mod SpaceLemmas
 pub mod StepLemmas
 pub mod CauseLemmas
+pub mod DropLemmas
 pub mod NameStepLemmas
 pub mod MakeLemmas
 pub mod MadeLemmas

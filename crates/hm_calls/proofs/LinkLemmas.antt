@@ -42,7 +42,7 @@ use Rattle.hm_calls.specs.Places.{refuse_kind}
 use Rattle.hm_calls.specs.Writes.{IsOpen, PutsLink, place_in}
 use Rattle.hm_calls.proofs.EffectLemmas.{opens, spot_fits, tree_changes, tree_stays}
 use Rattle.hm_calls.proofs.KindLemmas.{number_found}
-use Rattle.hm_calls.proofs.MakeLemmas.{IsNewPlace, new_check, new_view, tree_at}
+use Rattle.hm_calls.proofs.MakeLemmas.{IsNewPlace, new_check, new_system, new_view, tree_at}
 use Rattle.hm_calls.proofs.RefusalLemmas.{IsFirst, all_checks, pass, read_two}
 use Rattle.hm_calls.proofs.RemoveLemmas.{IsMade, made_links, made_of, master_check}
 use Rattle.hm_calls.proofs.SceneLemmas.{IsEnd, IsSet, call_in}
@@ -168,7 +168,7 @@ module _ (hash : List ℕ → ℕ) (room : ℕ → ℕ) (free : ℕ) (old new : 
         let open_is : IsOpen (place_in directory name) spot id scene.elements =
         opens pfs course.last.0 id scene.elements (tree_at scene directory) own below before view (place_in directory name) (first_key (hash name)) spot refl
         fresh spot_is in
-        tree_changes ln hash course.last.0 id pfs scene.elements asked own ln_pfs below before
+        tree_changes ln hash course.last.0 id pfs scene.elements asked own ln_pfs (new_system scene more name directory place set.shows) below before
         (subst (λ (tree : FileTree). IsViewOf scene.elements pfs course.last.0 tree) tree_is view)
         (λ tree. with_name (with_change tree object.at.object (with_links links)) directory.at.object name object.at.object) (KeyFits hash spot.key name) es'
         puts.steps (spot_fits hash spot.key name spot_is.from spot_is.to) (λ none. puts.shows open_is)
@@ -187,7 +187,7 @@ module _ (hash : List ℕ → ℕ) (room : ℕ → ℕ) (free : ℕ) (old new : 
       let tree_is : tree_at scene directory ≡ tree_now ln = ap (λ (w : When). scene.view pfs w) place.now ∙ ap (λ (p : ℕ). scene.view p Now) (sym ln_pfs) in
       let gone : object_at scene.view (place_of object.at) ≡ None =
       unfound (Counts scene.elements object.as_of.0) object.at.pfs.0 (object_at scene.view (place_of object.at)) object.inode none (end.ends.read tt).inode in
-      tree_stays ln hash scene.volume.last id pfs scene.elements asked own ln_pfs below own_is
+      tree_stays ln hash scene.volume.last id pfs scene.elements asked own ln_pfs (new_system scene more name directory place set.shows) below own_is
       (subst (λ (tree : FileTree). IsViewOf scene.elements pfs scene.volume.last tree) tree_is (new_view scene more name directory place set.shows passes))
       (sym (ap (λ (l : Located). option_map_or (linked (tree_now ln) (site_in (locate scene.volume scene.view MakesName more))) (object_at scene.view
       (site_in l).at)

@@ -34,14 +34,14 @@ use Rattle.hm_dirs.specs.Walk.{IsTold, Scene, place_of, when_of}
 use Rattle.hm_dirs.specs.declared.position.Course.{Course}
 use Rattle.hm_dirs.specs.declared.position.Stand.{Stand}
 use Rattle.hm_dirs.specs.declared.spot.Spot.{Spot}
-use Rattle.hm_calls.specs.Changes.{ChangesTree, tree_now}
+use Rattle.hm_calls.specs.Changes.{ChangesTree, HasSystem, tree_now}
 use Rattle.hm_calls.specs.Due.{space_for}
 use Rattle.hm_calls.specs.Known.{AreBelow}
 use Rattle.hm_calls.specs.New.{command_by, object_by}
 use Rattle.hm_calls.specs.Writes.{IsOpen, PutsObject, place_in}
 use Rattle.hm_calls.specs.declared.new.New.{New}
 use Rattle.hm_calls.specs.declared.new.New.TheVariants.{Directory, File, Snapshot, Softlink}
-use Rattle.hm_calls.proofs.EffectLemmas.{IsFoundThen, master_view, misses, opens, spot_fits, tree_changes}
+use Rattle.hm_calls.proofs.EffectLemmas.{IsFoundThen, master_view, misses, opens, spot_fits, system_there, tree_changes}
 use Rattle.hm_calls.proofs.PlaceLemmas.{front_walks_now}
 use Rattle.hm_calls.proofs.RefusalLemmas.{AsRead, IsFirst, all_checks, pass, read_one, refuse_one}
 use Rattle.hm_calls.proofs.SceneLemmas.{IsPlace, IsSet, call_in}
@@ -191,6 +191,12 @@ new_view scene parts name directory is shows master =
     (master_view scene.elements scene.volume scene.view directory.at.pfs.0 directory.at.object is.object shows
     (subst (λ (w : When). object_in (scene.view directory.at.pfs.0 w) directory.at.object ≡ Some is.object) is.now is.there) master)
 
+-- which is there
+pub new_system : (scene : Scene) (parts : List Part) (name : List ℕ) (directory : Stand) → IsNewPlace scene parts name directory
+    → ShowsAs scene.elements scene.volume scene.view → HasSystem scene.volume directory.at.pfs.0
+new_system scene parts name directory is shows =
+    system_there scene.elements scene.volume scene.view directory.at.pfs.0 (when_of directory.at.when) directory.at.object is.object shows is.there
+
 -- the checks of a new name at a directory
 abbrev pub tree_at : Scene → Stand → FileTree
 tree_at scene directory = scene.view directory.at.pfs.0 (when_of directory.at.when)
@@ -307,7 +313,7 @@ module _ (hash : List ℕ → ℕ) (id : ℕ) (course : Course) (before : course
     make_changes reads list puts =
         tree_changes the_call hash course.last.0 id the_pfs scene.elements
         (record { own = own_is; hash_is = refl; shows = set.shows; keys = set.keys; words = reads })
-        is.own within is.below before view_now
+        is.own within (new_system scene parts name directory is.place set.shows) is.below before view_now
         (λ tree. with_object tree directory.at.object name (object_by new id)) (KeyFits hash spot.key name) list puts.steps
         (spot_fits hash spot.key name is.spot_is.from is.spot_is.to)
         (λ gone. puts.shows open_is

@@ -33,14 +33,14 @@ use Rattle.hm_dirs.specs.declared.position.Course.{Course}
 use Rattle.hm_dirs.specs.declared.position.Stand.{Stand}
 use Rattle.hm_dirs.specs.declared.spot.Spot.{Spot}
 use Rattle.hm_calls.specs.Call.{IsCall}
-use Rattle.hm_calls.specs.Changes.{ChangesTree, tree_now}
+use Rattle.hm_calls.specs.Changes.{ChangesTree, HasSystem, tree_now}
 use Rattle.hm_calls.specs.Due.{space_for}
 use Rattle.hm_calls.specs.Known.{AreBelow}
 use Rattle.hm_calls.specs.Writes.{AreOnePlace, IsOpen, Renames, Replaces, less_link, place_in}
 use Rattle.hm_calls.proofs.EffectLemmas.{has_entry_then, opens, spot_fits, tree_changes, tree_stays}
 use Rattle.hm_calls.proofs.KindLemmas.{number_found}
 use Rattle.hm_calls.proofs.LinkLemmas.{in_slave}
-use Rattle.hm_calls.proofs.MakeLemmas.{IsNewPlace, new_view, tree_at}
+use Rattle.hm_calls.proofs.MakeLemmas.{IsNewPlace, new_system, new_view, tree_at}
 use Rattle.hm_calls.proofs.RefusalLemmas.{IsFirst, all_checks, pass, read_two}
 use Rattle.hm_calls.proofs.RemoveLemmas.{master_check, taken_pfs}
 use Rattle.hm_calls.proofs.SceneLemmas.{IsSet, call_in}
@@ -231,6 +231,9 @@ module _ (hash : List ℕ → ℕ) (room : ℕ → ℕ) (free : ℕ) (old new : 
     view_now : IsViewOf scene.elements to.at.pfs.0 course.last.0 (tree_now mv)
     view_now = subst (λ (tree : FileTree). IsViewOf scene.elements to.at.pfs.0 course.last.0 tree) tree_is view_last
 
+    system : HasSystem scene.volume to.at.pfs.0
+    system = new_system scene more name to place set.shows
+
     -- where both places are one, the new name leads to the moved object
     one_leads : from.at.pfs.0 ≡ to.at.pfs.0 → AreOnePlace (place_in from old_name) (place_in to name) → leads ≡ Some taken.standing.number
     one_leads same (directory, called) =
@@ -264,7 +267,7 @@ module _ (hash : List ℕ → ℕ) (room : ℕ → ℕ) (free : ℕ) (old new : 
         fresh spot_is in
         let change : Option Object → Option Obj → FileTree → FileTree =
         λ moved found tree. moves_by tree site_one site_two moved (stands_under (tree_at scene to) found) in
-        tree_changes mv hash course.last.0 id to.at.pfs.0 scene.elements asked own mv_pfs below before view_now
+        tree_changes mv hash course.last.0 id to.at.pfs.0 scene.elements asked own mv_pfs system below before view_now
         (λ tree. with_name (without_name tree from.at.object old_name) to.at.object name object.at.object) (KeyFits hash spot.key name) es' renames.steps fits
         (λ none. renames.shows set.keys fits open_is (not_one same fresh))
         (sym (mv_changed (tree_now mv) ∙ (ap (λ o. change o leads (tree_now mv)) object_is ∙ (ap (λ f. change (Some taken.standing.object) f (tree_now mv))
@@ -293,7 +296,7 @@ module _ (hash : List ℕ → ℕ) (room : ℕ → ℕ) (free : ℕ) (old new : 
         let standing = under number there free_way in
         let one : (standing.o.number.0 == taken.standing.object.number.0) ≡ true =
         eq-eqb standing.o.number.0 taken.standing.object.number.0 (standing.number_is ∙ (itself ∙ ap (λ (n : Obj). n.0) (sym number_of))) in
-        tree_stays mv hash course.last.0 id to.at.pfs.0 scene.elements asked own mv_pfs below before view_now
+        tree_stays mv hash course.last.0 id to.at.pfs.0 scene.elements asked own mv_pfs system below before view_now
         (sym (changed_over standing.o standing.there
         ∙ ap (λ (b : Bool). if b then tree_now mv else renamed (without_entry (tree_now mv) to.at.object name standing.o) site_one site_two
         taken.standing.object.number)
@@ -316,7 +319,7 @@ module _ (hash : List ℕ → ℕ) (room : ℕ → ℕ) (free : ℕ) (old new : 
         has_entry_then to.at.pfs.0 id scene.elements below course.last.0 id (omega (arith, before)) (omega arith) to.at.object key name number entry in
         let renamed_by : ℕ → Obj → Obj → FileTree → FileTree = λ n t m tree. with_name (without_name (less_link n t
         (without_name tree to.at.object name)) from.at.object old_name) to.at.object name m in
-        tree_changes mv hash course.last.0 id to.at.pfs.0 scene.elements asked own mv_pfs below before view_now
+        tree_changes mv hash course.last.0 id to.at.pfs.0 scene.elements asked own mv_pfs system below before view_now
         (λ tree. renamed_by links number object.at.object tree) (KeyFits hash key name) es' replaces.steps fits
         (λ none. replaces.shows set.keys fits later (not_one_other same number there other))
         (sym (changed_over standing.o standing.there

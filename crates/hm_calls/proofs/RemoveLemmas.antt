@@ -42,14 +42,14 @@ use Rattle.hm_dirs.specs.Walk.{IsRead, Scene, place_of, when_of}
 use Rattle.hm_dirs.specs.declared.position.Course.{Course}
 use Rattle.hm_dirs.specs.declared.position.Stand.{Stand}
 use Rattle.hm_calls.specs.Call.{IsCall}
-use Rattle.hm_calls.specs.Changes.{Changes, ChangesTree, tree_now}
+use Rattle.hm_calls.specs.Changes.{Changes, ChangesTree, HasSystem, tree_now}
 use Rattle.hm_calls.specs.Due.{space_for, space_left, zones_beside}
 use Rattle.hm_calls.specs.Known.{AreBelow, AreBelowIn}
 use Rattle.hm_calls.specs.Places.{ask_kind, refuse_kind}
 use Rattle.hm_calls.specs.Replies.{IsAcceptedBy}
 use Rattle.hm_calls.specs.declared.stop.Stop.{Stop}
 use Rattle.hm_calls.specs.Writes.{TakesDirectory, TakesLink, less_link, place_in}
-use Rattle.hm_calls.proofs.EffectLemmas.{master_view, tree_changes}
+use Rattle.hm_calls.proofs.EffectLemmas.{master_view, system_there, tree_changes}
 use Rattle.hm_calls.proofs.KindLemmas.{number_found}
 use Rattle.hm_calls.proofs.RefusalLemmas.{IsFirst, IsRefused, PassEarly, after_early, all_checks, all_pass, of_rm, of_rmdir, one_accepts, one_refuses}
 use Rattle.hm_calls.proofs.RefusalLemmas.{pass, read_one, refuse_one, stop}
@@ -125,6 +125,12 @@ module _ (hash : List ℕ → ℕ) (scene : Scene) (parts : List Part) (name : L
       subst (λ (w : When). object_in (scene.view directory.at.pfs.0 w) is.site.at.object ≡ Some is.standing.object) now
       (subst (λ (p : ℕ). object_in (scene.view p is.site.at.when) is.site.at.object ≡ Some is.standing.object) taken_pfs is.standing.there) in
       master_view scene.elements scene.volume scene.view directory.at.pfs.0 is.site.at.object is.standing.object shows there passes
+
+  -- which is there
+  pub taken_system : ShowsAs scene.elements scene.volume scene.view → HasSystem scene.volume directory.at.pfs.0
+  taken_system shows =
+      subst (HasSystem scene.volume) taken_pfs
+      (system_there scene.elements scene.volume scene.view is.site.at.pfs is.site.at.when is.site.at.object is.standing.object shows is.standing.there)
 
   -- that object has an inode
   pub unfound : end.inode ≡ None → ⊥
@@ -209,7 +215,8 @@ module _ (hash : List ℕ → ℕ) (word : List ℕ) (scene : Scene) (parts : Li
         let view : IsViewOf scene.elements directory.at.pfs.0 scene.volume.last (tree_now rm) =
         subst (λ (p : ℕ). IsViewOf scene.elements directory.at.pfs.0 scene.volume.last (scene.view p Now)) (sym within)
         (taken_view hash scene parts name directory end is set.shows passes) in
-        tree_changes rm hash scene.volume.last id directory.at.pfs.0 scene.elements asked own within below (ap (λ (n : ℕ). n + 1) set.last ∙ before) view
+        tree_changes rm hash scene.volume.last id directory.at.pfs.0 scene.elements asked own within
+        (taken_system hash scene parts name directory end is set.shows) below (ap (λ (n : ℕ). n + 1) set.last ∙ before) view
         (λ tree. less_link inode.links end.at.object (without_name tree directory.at.object name)) (Unit {0}) es' takes.steps tt
         (λ none. takes.shows set.keys) (sym (rm_changed (tree_now rm)))
 
@@ -253,7 +260,8 @@ module _ (hash : List ℕ → ℕ) (word : List ℕ) (scene : Scene) (parts : Li
       let view : IsViewOf scene.elements directory.at.pfs.0 scene.volume.last (tree_now rmdir) =
       subst (λ (p : ℕ). IsViewOf scene.elements directory.at.pfs.0 scene.volume.last (scene.view p Now)) (sym within)
       (taken_view hash scene parts name directory end is set.shows passes) in
-      tree_changes rmdir hash scene.volume.last id directory.at.pfs.0 scene.elements asked own within below (ap (λ (n : ℕ). n + 1) set.last ∙ before) view
+      tree_changes rmdir hash scene.volume.last id directory.at.pfs.0 scene.elements asked own within
+      (taken_system hash scene parts name directory end is set.shows) below (ap (λ (n : ℕ). n + 1) set.last ∙ before) view
       (λ tree. without_object (without_name tree directory.at.object name) end.at.object) (Unit {0}) es' takes.steps tt
       (λ none. takes.shows set.keys) (sym (rmdir_changed (tree_now rmdir)))
 

@@ -1,5 +1,5 @@
 -- What an accepted call does to the trees of the volume that it finds.
-use Rattle.std.specs.Prelude.{◌≡◌, ◌≢◌, ◌↔◌, ℕ, ◌+◌, ◌<◌, ◌≤◌, List, None}
+use Rattle.std.specs.Prelude.{◌≡◌, ◌≢◌, ◌↔◌, ℕ, ◌+◌, ◌<◌, ◌≤◌, List, None, Some}
 use Rattle.std.specs.List.{Contains}
 use Rattle.hm_types.specs.Elements.{FullElement}
 use Rattle.hm_types.specs.Tree.{FileTree, object_in}
@@ -9,6 +9,7 @@ use Rattle.hm_cursor.specs.Write.{AreUpTo}
 use Rattle.hm_model.specs.Call.{Call, own_id}
 use Rattle.hm_model.specs.Change.{changed, changed_pfs}
 use Rattle.hm_model.specs.View.{Now}
+use Rattle.hm_model.specs.Volume.{PseudoFileSystem, Volume, system_of}
 use Rattle.hm_records.specs.Changes.{CountSame}
 use Rattle.hm_records.specs.KeysFit.{KeysFit}
 use Rattle.hm_records.specs.Laws.{HasView}
@@ -20,10 +21,16 @@ use Rattle.hm_calls.specs.Writes.{IsNewIn}
 abbrev pub tree_now : Call → FileTree
 tree_now call = call.view (changed_pfs call) Now
 
+-- a volume has a pseudo file system of this number
+abbrev pub HasSystem : Volume → ℕ → Type 0
+HasSystem volume pfs = (s : PseudoFileSystem) × (system_of volume pfs ≡ Some s)
+
 -- An accepted call leaves what counts before its id, and with it every older view; the trees of all other pseudo file
--- systems; and each record, and so each retention. Where no object now has its id for a number, the tree of its pseudo
--- file system is from its id on the changed one. Its new elements are of that pseudo file system, and keys fit still.
+-- systems; and each record, and so each retention. The volume has its pseudo file system, and where no object now has its
+-- id for a number, the tree of that is from its id on the changed one. Its new elements are of that pseudo file system, and
+-- keys fit still.
 pub record ChangesTree (call : Call) (es es' : List FullElement) : Type 0 where
+  pub there : HasSystem call.volume (changed_pfs call)
   pub past : (t : ℕ) → t < own_id call → CountSame (Counts es t) (Counts es' t)
   pub others : (t other : ℕ) (tree : FileTree) → own_id call ≤ t → other ≢ changed_pfs call → HasView (Counts es t) other tree
       → HasView (Counts es' t) other tree

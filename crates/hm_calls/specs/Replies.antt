@@ -12,10 +12,6 @@ use Rattle.hm_model.specs.Call.{Call}
 use Rattle.hm_model.specs.Due.{accepted, is_tree_call}
 use Rattle.hm_model.specs.Reply.{is_refusal}
 use Rattle.hm_model.specs.declared.command.Command.{Command}
-use Rattle.hm_model.specs.declared.command.Command.TheVariants.{Mkdir, Touch, Symlink, Snapshot, Ln, Mv, Write, Fill, Truncate, Rm, Rmdir}
-use Rattle.hm_model.specs.declared.command.Command.TheVariants.{Ls, Cat, Stat, Readlink, Prune, PruneAll, PfsMaster, PfsSlave, PfsStatus}
-use Rattle.hm_model.specs.declared.command.Command.TheVariants.{PfsUpgrade, MirrorRead, MirrorWrite, MirrorCopy, Sync, Synctid, Reblock, Df}
-use Rattle.hm_model.specs.declared.command.Command.TheVariants.{Progress, End}
 use Rattle.hm_model.specs.declared.reply.Reply.{Reply}
 use Rattle.hm_calls.specs.Call.{OnCalls}
 use Rattle.hm_calls.specs.Changes.{Changes}
@@ -23,39 +19,6 @@ use Rattle.hm_calls.specs.Due.{due_over, refusal_over}
 use Rattle.hm_calls.specs.Writes.{reserves}
 use Rattle.hm_calls.specs.declared.stop.Stop.{Stop}
 use Rattle.hm_calls.specs.declared.stop.Stop.TheVariants.{Refused, Failed}
-
--- the commands that are answered: those on names
-abbrev pub IsOnNames : Command → Type 0
-IsOnNames (Mkdir path) = Unit {0}
-IsOnNames (Touch path) = Unit {0}
-IsOnNames (Symlink target path) = Unit {0}
-IsOnNames (Snapshot path) = Unit {0}
-IsOnNames (Ln old new) = Unit {0}
-IsOnNames (Mv old new) = Unit {0}
-IsOnNames (Rm path) = Unit {0}
-IsOnNames (Rmdir path) = Unit {0}
-IsOnNames (Ls path) = Unit {0}
-IsOnNames (Stat path) = Unit {0}
-IsOnNames (Readlink path) = Unit {0}
-IsOnNames (Write path offset bytes) = ⊥
-IsOnNames (Fill path offset count byte) = ⊥
-IsOnNames (Truncate path size) = ⊥
-IsOnNames (Cat path offset count) = ⊥
-IsOnNames (Prune path) = ⊥
-IsOnNames (PruneAll path) = ⊥
-IsOnNames (PfsMaster path shared) = ⊥
-IsOnNames (PfsSlave path shared) = ⊥
-IsOnNames (PfsStatus path) = ⊥
-IsOnNames (PfsUpgrade path) = ⊥
-IsOnNames (MirrorRead path begin) = ⊥
-IsOnNames (MirrorWrite path) = ⊥
-IsOnNames (MirrorCopy master slave limit) = ⊥
-IsOnNames Sync = ⊥
-IsOnNames Synctid = ⊥
-IsOnNames (Reblock fill) = ⊥
-IsOnNames Df = ⊥
-IsOnNames Progress = ⊥
-IsOnNames (End opening) = ⊥
 
 -- whether a call with this reply changes a tree
 abbrev pub is_change : Command → Reply → Bool

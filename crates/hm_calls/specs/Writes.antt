@@ -1,5 +1,5 @@
 -- What the writing steps of calls do to elements and trees.
-use Rattle.std.specs.Prelude.{◌≡◌, ℕ, ◌+◌, ◌-◌, ◌≤◌, List, Option, if◌then◌else◌}
+use Rattle.std.specs.Prelude.{◌≡◌, ℕ, ◌+◌, ◌-◌, ◌^◌, ◌<◌, ◌≤◌, List, Option, if◌then◌else◌}
 use Rattle.std.specs.Bool.{nat_lt}
 use Rattle.hm_types.specs.Elements.{FullElement}
 use Rattle.hm_types.specs.Space.{in_zone}
@@ -8,16 +8,16 @@ use Rattle.hm_types.specs.declared.id.Obj.{Obj}
 use Rattle.hm_types.specs.declared.object.Object.{Object}
 use Rattle.hm_types.specs.declared.space.TheConstants.{PAYLOAD_RESERVE, TREE_RESERVE}
 use Rattle.hm_types.specs.declared.zone.TheConstants.{META_ZONE, TREE_ZONE}
-use Rattle.hm_key.specs.Counts.{Counts}
+use Rattle.hm_key.specs.Counts.{Counts, bytes_subject}
 use Rattle.hm_key.specs.Element.{pfs_of}
 use Rattle.hm_key.specs.Extents.{Extent}
 use Rattle.hm_key.specs.declared.element.Element.{Element}
 use Rattle.hm_cursor.specs.Views.{Shows, WritesIn}
-use Rattle.hm_records.specs.Changes.{LacksName}
+use Rattle.hm_records.specs.Changes.{CountsNothing, LacksName}
 use Rattle.hm_records.specs.KeysFit.{KeysFit}
 use Rattle.hm_records.specs.Payload.{IsPayload, KeyFits}
 use Rattle.hm_records.specs.View.{HasEntry}
-use Rattle.hm_objects.specs.Objects.{ChangesBy, IsMissing}
+use Rattle.hm_objects.specs.Objects.{ChangesBy, IsGone, IsMissing}
 use Rattle.hm_dirs.specs.Names.{AddsName, AreOlderIn, CanTake}
 use Rattle.hm_dirs.specs.declared.position.Stand.{Stand}
 use Rattle.hm_dirs.specs.declared.spot.Spot.{Spot}
@@ -123,6 +123,16 @@ AreOlderAround es xs old new i =
 -- a name is added at a place, which leads to an object
 abbrev pub PutsName : Place → Spot → ℕ → Obj → List FullElement → List FullElement → Type 0
 PutsName place spot i obj = AddsName place.pfs place.directory spot i (record { obj = obj; name = place.name })
+
+-- nothing counts of an object from `i` on: no inode, no target, and no bytes
+pub record LeavesNothing (pfs obj i : ℕ) (es : List FullElement) : Type 0 where
+  pub gone : IsGone pfs obj i es
+  pub bytes : (t n : ℕ) → i ≤ t → n < 2 ^ 64 → CountsNothing (Counts es t) (bytes_subject pfs obj n)
+
+-- an object goes, with all that is about it
+pub record DropsObject (pfs i : ℕ) (obj : Obj) (es es' : List FullElement) : Type 0 where
+  pub changes : ChangesBy pfs obj.0 i (λ tree. without_object tree obj) es es'
+  pub leaves : LeavesNothing pfs obj.0 i es'
 
 -- a link goes of an object that had so many
 abbrev pub DropsLink : ℕ → ℕ → Obj → ℕ → List FullElement → List FullElement → Type 0

@@ -1,4 +1,4 @@
-// What a call on names answers.
+// What a call on names, or on the bytes of files, answers.
 ghost use Rattle.std.specs.Prelude.{◌≡◌, ◌≤◌, IfOk, IsTrue, ◌+◌, OnOk};
 ghost use Rattle.hm_types.specs.declared.limits.TheConstants.{GREATEST_ID};
 ghost use Rattle.hm_key.specs.Balance.{Balanced};
@@ -8,11 +8,13 @@ ghost use Rattle.hm_model.specs.Due.{is_tree_call};
 ghost use Rattle.hm_model.specs.Forms.{IsInRange};
 ghost use Rattle.hm_model.specs.declared.reply.Reply.TheVariants.{Done as done};
 ghost use Rattle.hm_cursor.specs.Told.{HasReadingCause};
-ghost use Rattle.hm_calls.specs.Commands.{IsOnTrees};
+ghost use Rattle.hm_calls.specs.Commands.{IsOnTrees, LowersRoomFor};
 ghost use Rattle.hm_calls.specs.Known.{AreKnown};
-ghost use Rattle.hm_calls.specs.Replies.{Asks, IsAnswered, LowersRoom, Replies};
+ghost use Rattle.hm_calls.specs.Replies.{Asks, IsAnswered, Replies};
 ghost use Rattle.hm_calls.specs.Stop.{HasStopCause};
 
+use crate::edit::Edit;
+use crate::edits::edit_file;
 use crate::links::link;
 use crate::looks::{list_names, tell_bytes, tell_status, tell_target};
 use crate::make::make;
@@ -27,20 +29,23 @@ use hm_types::{Counted, Fault, Id};
 use std::alloc::Global;
 
 /// Answers a call by its id, the one after the last that was drawn: `mkdir`, `touch`, `symlink`,
-/// `snapshot`, `ln`, `mv`, `rm`, `rmdir`, `ls`, `cat`, `stat` or `readlink`. The reply is the one
-/// that the call is due, by the volume that the elements show: the refusal of the first of its
-/// checks that fails, and `no space` as the last of them, or else what it looked for or `ok`. What
-/// is accepted changes the tree of the pseudo file system in which its walk ends, from its id on,
-/// and leaves every older view. A refusal and a call that looks leave the store as it was.
+/// `snapshot`, `ln`, `mv`, `write`, `fill`, `truncate`, `rm`, `rmdir`, `ls`, `cat`, `stat` or
+/// `readlink`. The reply is the one that the call is due, by the volume that the elements show: the
+/// refusal of the first of its checks that fails, and `no space` as the last of them, or else what it
+/// looked for or `ok`. What is accepted changes the tree of the pseudo file system in which its walk
+/// ends, from its id on, and leaves every older view. A refusal and a call that looks leave the store
+/// as it was.
 ///
 /// Each pseudo file system is a slave by its record, or all ids of its elements are below the
 /// call's own; so it is again for the id after it. `busy` is the id by which a mirror or upgrade
 /// call was opened that is open; none of these calls minds it. The zones 8 and 9 lose at most their
-/// reserves, 1,048,576 and 131,072 bytes, and no other zone loses room.
+/// reserves, 1,048,576 and 131,072 bytes, and by `write`, `fill` and `truncate` the zones 10 and 11
+/// too, of 131,072 each. No other zone loses room.
 ///
 /// `Damaged` at a payload that breaks its grammar, of kind 6, and `NoMemory` where an allocation
-/// was refused, or where `cat` is asked for bytes past 15,728,640 of a file that has so many. The
-/// other faults are those of the store. After a fault nothing is known of the content.
+/// was refused, where `cat` is asked for bytes past 15,728,640 of a file that has so many, or where
+/// `write`, `fill` or `truncate` is asked of a root that is not there. The other faults are those of
+/// the store. After a fault nothing is known of the content.
 pub fn answer<T: ElementStore + Extents, H: NameHash>(
     alloc: Global,
     store: &mut T,
@@ -58,7 +63,7 @@ pub fn answer<T: ElementStore + Extents, H: NameHash>(
     ensures known { OnOk result (AreKnown (T.elements store.new) (T.extents store.new)
         (id.0 + 1)) }
     ensures keeps { Keeps T.elements T.extents store.old store.new result }
-    ensures room { LowersRoom T.room store.old store.new }
+    ensures room { LowersRoomFor command.now T.room store.old store.new }
     ensures borrowed { (T.name store.new ≡ T.name store.old)
         × (T.frame store.new ≡ T.frame store.old) }
     ensures cause { HasReadingCause (T.elements store.old) (T.extents store.old)
@@ -89,7 +94,7 @@ fn serve<T: ElementStore + Extents, H: NameHash>(
     ensures known { OnOk result (AreKnown (T.elements store.new) (T.extents store.new)
         (id.0 + 1)) }
     ensures keeps { Keeps T.elements T.extents store.old store.new result }
-    ensures room { LowersRoom T.room store.old store.new
+    ensures room { LowersRoomFor command.now T.room store.old store.new
         × (T.name store.new ≡ T.name store.old) × (T.frame store.new ≡ T.frame store.old) }
     ensures cause { HasStopCause (T.elements store.old) (T.extents store.old)
         (T.faults store.old) (T.faults store.new) result }
@@ -103,6 +108,27 @@ fn serve<T: ElementStore + Extents, H: NameHash>(
         Command::Snapshot { path } => make(alloc, store, hash, New::Snapshot, path, id),
         Command::Ln { old, new } => link(alloc, store, hash, old, new, id),
         Command::Mv { old, new } => move_to(alloc, store, hash, old, new, id),
+        Command::Write {
+            path,
+            offset,
+            bytes,
+        } => edit_file(alloc, store, hash, Edit::Write(*offset, bytes), path, id),
+        Command::Fill {
+            path,
+            offset,
+            count,
+            byte,
+        } => edit_file(
+            alloc,
+            store,
+            hash,
+            Edit::Fill(*offset, *count, *byte),
+            path,
+            id,
+        ),
+        Command::Truncate { path, size } => {
+            edit_file(alloc, store, hash, Edit::Truncate(*size), path, id)
+        }
         Command::Rm { path } => remove(alloc, store, hash, path, id),
         Command::Rmdir { path } => remove_directory(alloc, store, hash, path, id),
         Command::Ls { path } => list_names(alloc, store, hash, path, id),

@@ -1,15 +1,17 @@
 // Names that go, and with them a link of their object.
 ghost use Rattle.std.specs.Prelude.{◌≡◌, ◌<◌, ◌≤◌, OnOk};
-ghost use Rattle.hm_types.specs.Space.{Spends};
+ghost use Rattle.hm_types.specs.Space.{Spends, nothing};
 ghost use Rattle.hm_key.specs.Balance.{Balanced};
 ghost use Rattle.hm_key.specs.Stores.{Keeps};
 ghost use Rattle.hm_cursor.specs.Told.{HasReadingCause};
 ghost use Rattle.hm_cursor.specs.Write.{Writes};
 ghost use Rattle.hm_objects.specs.Objects.{HasRooms, IsOlderIn, spent};
+ghost use Rattle.hm_files.specs.Close.{AreOlderIn};
 ghost use Rattle.hm_calls.specs.Known.{AreBelowIn};
-ghost use Rattle.hm_calls.specs.Writes.{DropsLink, HasReserves, TakesDirectory, TakesLink, place_in, reserves};
+ghost use Rattle.hm_calls.specs.Writes.{DropsLink, DropsObject, HasReserves, TakesDirectory, TakesLink, place_in, reserves};
 
 use hm_dirs::{NameHash, Stand, close_name};
+use hm_files::remove_bytes;
 use hm_key::{ElementStore, Extents, HasElements, HasRoom};
 use hm_objects::{remove_object, set_links};
 use hm_types::{Counted, Fault, Id, Name, Obj, Pfs};
@@ -75,8 +77,8 @@ pub(crate) fn take_directory<T: ElementStore + Extents, H: NameHash>(
     remove_object(store, pfs, obj, id)
 }
 
-// Takes a link from an object that has so many; with its last one it goes. Where another one is left
-// it takes at most 40,960 bytes of zone 8 and 32 of zone 9.
+// Takes a link from an object that has so many; with its last one it goes, with all that is about it.
+// Where another one is left it takes at most 40,960 bytes of zone 8 and 32 of zone 9.
 pub(crate) fn drop_link<T: ElementStore + Extents>(
     alloc: Global,
     store: &mut T,
@@ -88,6 +90,7 @@ pub(crate) fn drop_link<T: ElementStore + Extents>(
     requires id { 1 ≤ id.0 }
     requires balanced { Balanced (T.elements store.old) (T.extents store.old) }
     requires older { IsOlderIn (T.elements store.old) (T.extents store.old) pfs.0 obj.0 id.0 }
+    requires bytes { AreOlderIn (T.elements store.old) (T.extents store.old) pfs.0 obj.0 id.0 0 }
     requires room { 1 < links → HasRooms (T.room store.old) 1 32 }
     ensures ok { OnOk result (Writes T.elements T.extents (DropsLink pfs.0 id.0 obj links)
         store.old store.new) }
@@ -101,6 +104,29 @@ pub(crate) fn drop_link<T: ElementStore + Extents>(
     if links > 1 {
         set_links(alloc, store, pfs, obj, links - 1, id)
     } else {
-        remove_object(store, pfs, obj, id)
+        drop_object(store, pfs, obj, id)
     }
+}
+
+// Lets an object be gone from an id on: its inode, its target and its bytes.
+fn drop_object<T: ElementStore + Extents>(
+    store: &mut T,
+    pfs: Pfs,
+    obj: Obj,
+    id: Id,
+) -> Result<(), Fault>
+    requires balanced { Balanced (T.elements store.old) (T.extents store.old) }
+    requires older { IsOlderIn (T.elements store.old) (T.extents store.old) pfs.0 obj.0 id.0 }
+    requires bytes { AreOlderIn (T.elements store.old) (T.extents store.old) pfs.0 obj.0 id.0 0 }
+    ensures ok { OnOk result (Writes T.elements T.extents
+        (DropsObject pfs.0 id.0 obj) store.old store.new) }
+    ensures keeps { Keeps T.elements T.extents store.old store.new result }
+    ensures space { Spends T.room T.free nothing store.old store.new }
+    ensures borrowed { (T.name store.new ≡ T.name store.old)
+        × (T.frame store.new ≡ T.frame store.old) }
+    ensures cause { HasReadingCause (T.elements store.old) (T.extents store.old)
+        (T.faults store.old) (T.faults store.new) result }
+{
+    remove_object(store, pfs, obj, id)?;
+    remove_bytes(store, pfs, obj, id)
 }

@@ -1,111 +1,39 @@
--- The reply of a call on names that is due has its cause.
-use Rattle.std.proofs.Common.{◌≡◌, ℕ, ◌-◌, ◌^◌, ◌<◌, min, Bool, true, false, List, [], ◌∷◌, ◌++◌, map, refl, sym, subst, ◌∙◌, inl, inr, arith}
-use Rattle.std.specs.Prelude.{◌⊎◌, ◌==◌, ◌&&◌, ◌||◌, Option, None, Some, if◌then◌else◌}
+-- The reply of a call that is due has its cause.
+use Rattle.std.proofs.Common.{◌≡◌, ℕ, ◌+◌, ◌-◌, ◌^◌, ◌<◌, min, length, Bool, true, false, List, [], ◌∷◌, ◌++◌, map, refl, sym, subst, ◌∙◌, inl, inr, arith}
+use Rattle.std.specs.Prelude.{◌⊎◌, ◌==◌, ◌&&◌, ◌||◌, None, Some, if◌then◌else◌}
 use Rattle.std.specs.Bool.{nat_le, nat_lt}
 use Rattle.std.specs.List.{Contains, list_any}
 use Rattle.std.specs.Option.{option_map_or}
 use Rattle.hm_types.specs.Tree.{FileTree}
-use Rattle.hm_types.specs.declared.limits.TheConstants.{GREATEST_ID, MOST_INTERVALS}
+use Rattle.hm_types.specs.declared.limits.TheConstants.{GREATEST_ID, MOST_FILE_BYTES, MOST_INTERVALS}
 use Rattle.hm_types.specs.declared.object.Object.{Object}
 use Rattle.hm_model.specs.Answer.{file_bytes, kind_number, listing, record_of, size_of, target_of}
 use Rattle.hm_model.specs.Bytes.{read_at}
 use Rattle.hm_model.specs.Call.{Call, all_located, each_located, first_site, second_site, site_object, site_system}
-use Rattle.hm_model.specs.Caused.{IsFree, IsPossible, number_of, on_a_read, on_a_walk, possible}
-use Rattle.hm_model.specs.Due.{Check, good_path, has_its_name, is_pass, checks, is_dir, is_dir_or_link, is_kind, is_link, is_passed, is_softlink, name_is_new, early_checks, first_refusal, has_id, hash_is_full, hash_left, good_paths, ids_left, intervals_left, no_future, no_future_begin, none_open, is_in_slave, is_pfs_call, is_tree_call, is_way_free, new_name, new_pfs, pruned_count, own_checks, own_checks_of, past_stays, refusal, refuse_if, slaves_stay, walks}
+use Rattle.hm_model.specs.Caused.{IsPossible, on_a_file, on_a_read, possible}
+use Rattle.hm_model.specs.Due.{Check, a_file, no_dir, good_path, has_its_name, is_pass, checks, is_dir, is_dir_or_link, is_kind, is_link, is_passed, is_softlink, name_is_new, early_checks, first_refusal, has_id, fits_file, hash_is_full, hash_left, good_paths, ids_left, intervals_left, no_future, no_future_begin, none_open, is_in_slave, is_pfs_call, is_tree_call, is_way_free, new_name, new_pfs, pruned_count, own_checks, own_checks_of, past_stays, refusal, refuse_if, slaves_stay, walks}
 use Rattle.hm_model.specs.Needs.{bytes_zones, held_of, has_other_link, has_other_size, names_zones, stays_put, zones_of}
 use Rattle.hm_model.specs.Sites.{BadAt, Parsed, Parts, Site, TakesName, Use, Walks, uses_of}
 use Rattle.hm_model.specs.Walk.{Follow, Follows, Stays}
 use Rattle.hm_model.specs.declared.command.Command.{Command}
 use Rattle.hm_model.specs.declared.command.Command.TheVariants.{Cat, Fill, Prune, PruneAll, PfsMaster, PfsSlave, PfsStatus, Truncate, Write, Ln, Ls, Mkdir, Mv, Readlink, Rm, Rmdir, Snapshot, Stat, Symlink, Touch}
 use Rattle.hm_model.specs.declared.reply.Reply.{Reply}
-use Rattle.hm_model.specs.declared.reply.Reply.TheVariants.{BadPath, Busy, Cut, Damaged, Future, Media, Passed, StreamFault, Synced, Content as Bytes, Done, Listing, MadePfs, Status, Target as Text, TooManyIntervals, CrossPfs, Exists, HashFull, IntoItself, IsDir, NotEmpty, NotFile, NotLink, TooBig, NoSpace, NotDir, NotFound, NotRetained, ReadOnly}
+use Rattle.hm_model.specs.declared.reply.Reply.TheVariants.{BadPath, Busy, Future, Content as Bytes, Done, Listing, MadePfs, Status, Target as Text, TooManyIntervals, CrossPfs, Exists, HashFull, IntoItself, IsDir, NotEmpty, NotFile, NotLink, TooBig, NoSpace, NotDir, NotFound, NotRetained, ReadOnly}
 use Rattle.std.proofs.lemmas.Bool.Decides.{nat_tests}
 use Rattle.hm_model.proofs.CheckLemmas.{no_first, no_rest}
-use Rattle.hm_model.proofs.DueLemmas.{of_option, of_test}
+use Rattle.hm_model.proofs.DueLemmas.{of_option}
 use Rattle.hm_records.proofs.MemberLemmas.{has_tail}
 use Rattle.hm_calls.specs.Due.{due_over, lacking}
-use Rattle.hm_calls.specs.Replies.{IsOnNames}
-use Rattle.hm_step.specs.Step.{IsFailure}
+use Rattle.hm_calls.specs.Commands.{IsOnTrees}
 use Rattle.hm_step.proofs.PossibleLemmas.{OfAll, OfCheck, all_both, all_fine, first_of_all, none_fine, walks_fine}
 use Rattle.hm_step.proofs.ReplyLemmas.{Way, first_front, lacks, refused, serves, way}
+use Rattle.hm_step.proofs.GivenLemmas.{IsPlain, MayGive, behind_cat, behind_file, by_option, by_test, dir_in_walk, file_accepted, file_lacks, in_read, kept_in_read, lost_in_walk, too_large, unless_test}
 
 -- one check after others
-first_split : (xs ys : List Check) (r : Reply) → first_refusal (xs ++ ys) ≡ Some r → (first_refusal xs ≡ Some r) ⊎ (first_refusal ys ≡ Some r)
+pub first_split : (xs ys : List Check) (r : Reply) → first_refusal (xs ++ ys) ≡ Some r → (first_refusal xs ≡ Some r) ⊎ (first_refusal ys ≡ Some r)
 first_split [] ys r is = inr is
 first_split (None ∷ xs) ys r is = first_split xs ys r is
 first_split (Some reply ∷ xs) ys r is = inl is
-
--- a reply tells no boundary, no ids, no count, no faults and no damage
-abbrev pub IsPlain : Reply → Type 0
-IsPlain (Synced boundary) = ⊥
-IsPlain (Media before after) = ⊥
-IsPlain (StreamFault before after) = ⊥
-IsPlain (Passed begin end) = ⊥
-IsPlain (Cut items) = ⊥
-IsPlain (Damaged at kind) = ⊥
-IsPlain other = Unit {0}
-
--- a reply's number is one of those that a call can give, and it is plain
-abbrev MayGive : Command → List Parsed → Reply → Type 0
-MayGive command paths reply = Contains (possible command paths) (number_of reply) × IsPlain reply
-
--- the refusals of any walk are among those of a read
-in_read : (paths : List Parsed) (n : ℕ) → Contains on_a_walk n → Contains (on_a_read paths) n
-in_read paths n has = of_test (λ (l : List ℕ). Contains l n) (list_any has_id paths) (8 ∷ on_a_walk) on_a_walk (has_tail 8 n on_a_walk has) has
-
-kept_in_read : (paths : List Parsed) → list_any has_id paths ≡ true → Contains (on_a_read paths) 8
-kept_in_read paths has = rw has (0, omega arith, refl)
-
-lost_in_walk : Contains on_a_walk 2
-lost_in_walk = (0, omega arith, refl)
-
-dir_in_walk : Contains on_a_walk 3
-dir_in_walk = (1, omega arith, refl)
-
--- a check of the first sort, by a test
-by_test : (P : Reply → Type 0) (test : Bool) (reply : Reply) → P reply → OfCheck P (refuse_if test reply)
-by_test P true reply is = is
-by_test P false reply is = tt
-
-unless_test : (P : Reply → Type 0) (test : Bool) (reply : Reply) → P reply → OfCheck P (if test then None else Some reply)
-unless_test P true reply is = tt
-unless_test P false reply is = is
-
-by_option : {X : Type 0} (P : Reply → Type 0) (f : X → Check) (o : Option X) → ((x : X) → OfCheck P (f x)) → OfCheck P (option_map_or f o None)
-by_option P f o each = of_option (OfCheck P) f o None each tt
-
--- ---- a device that failed, and memory that was refused
-
--- each call on names can give such a reply
-failure_given : (command : Command) (paths : List Parsed) → IsOnNames command
-    → Contains (possible command paths) 21 × Contains (possible command paths) 23
-failure_given (Mkdir path) paths named = ((7, omega arith, refl), (9, omega arith, refl))
-failure_given (Touch path) paths named = ((7, omega arith, refl), (9, omega arith, refl))
-failure_given (Symlink target path) paths named = ((7, omega arith, refl), (9, omega arith, refl))
-failure_given (Snapshot path) paths named = ((7, omega arith, refl), (9, omega arith, refl))
-failure_given (Ln old new) paths named = ((11, omega arith, refl), (13, omega arith, refl))
-failure_given (Mv old new) paths named = ((9, omega arith, refl), (11, omega arith, refl))
-failure_given (Rm path) paths named = ((6, omega arith, refl), (8, omega arith, refl))
-failure_given (Rmdir path) paths named = ((5, omega arith, refl), (7, omega arith, refl))
-failure_given (Ls path) paths named =
-    (has_tail 102 21 (on_a_read paths) (in_read paths 21 (2, omega arith, refl)), has_tail 102 23 (on_a_read paths) (in_read paths 23 (4, omega arith, refl)))
-failure_given (Stat path) paths named =
-    (has_tail 104 21 (on_a_read paths) (in_read paths 21 (2, omega arith, refl)), has_tail 104 23 (on_a_read paths) (in_read paths 23 (4, omega arith, refl)))
-failure_given (Readlink path) paths named =
-    (behind 21 (in_read paths 21 (2, omega arith, refl)), behind 23 (in_read paths 23 (4, omega arith, refl)))
-  where
-    behind : (n : ℕ) → Contains (on_a_read paths) n → Contains (105 ∷ 31 ∷ on_a_read paths) n
-    behind n has = has_tail 105 n (31 ∷ on_a_read paths) (has_tail 31 n (on_a_read paths) has)
-failure_given other paths named = absurd named
-
-pub failure_possible : (command : Command) (paths : List Parsed) (early : Check) (reply : Reply) → IsOnNames command → IsFailure reply
-    → IsPossible early (possible command paths) reply
-failure_possible command paths (Some refusal) reply named (inl (before, after, is)) = inr (subst IsFree (sym is) (0, omega arith, refl))
-failure_possible command paths (Some refusal) reply named (inr is) = inr (subst IsFree (sym is) (2, omega arith, refl))
-failure_possible command paths None reply named (inl (before, after, is)) =
-    subst (λ (r : Reply). Contains (possible command paths) (number_of r)) (sym is) (failure_given command paths named).0
-failure_possible command paths None reply named (inr is) =
-    subst (λ (r : Reply). Contains (possible command paths) (number_of r)) (sym is) (failure_given command paths named).1
 
 module _ (call : Call) where
   -- walks that change what they come to
@@ -143,12 +71,29 @@ module _ (call : Call) where
       → OfCheck (MayGive command paths) (name_is_new call site)
   name_check command paths site is = by_option (MayGive command paths) (λ o. Some Exists) _ (λ o. is)
 
-  rest : (command : Command) (paths : List Parsed) (a b : Site) → IsOnNames command → Rest command paths a b
-  rest (Mkdir path) paths a b named = (name_check (Mkdir path) paths a ((1, omega arith, refl), tt), tt)
-  rest (Touch path) paths a b named = (name_check (Touch path) paths a ((1, omega arith, refl), tt), tt)
-  rest (Symlink target path) paths a b named = (name_check (Symlink target path) paths a ((1, omega arith, refl), tt), tt)
-  rest (Snapshot path) paths a b named = (name_check (Snapshot path) paths a ((1, omega arith, refl), tt), tt)
-  rest (Ln old new) paths a b named =
+  -- a call that changes a file up to an end
+  file_checks : (command : Command) (paths : List Parsed) (a : Site) (end : ℕ) → possible command paths ≡ on_a_file end
+      → OfAll (MayGive command paths) (no_dir call a ∷ a_file call a ∷ fits_file end ∷ [])
+  file_checks command paths a end numbers = (
+    by_test P (is_kind is_dir_or_link call a) IsDir (given 4 (0, omega arith, refl), tt),
+    (by_test P (is_kind is_softlink call a) NotFile (given 32 (1, omega arith, refl), tt), (by (nat_lt MOST_FILE_BYTES end) refl, tt)),
+  ) where
+    P : Reply → Type 0
+    P = MayGive command paths
+
+    given : (n : ℕ) → Contains (on_a_file end) n → Contains (possible command paths) n
+    given n has = subst (λ (l : List ℕ). Contains l n) (sym numbers) has
+
+    by : (test : Bool) → nat_lt MOST_FILE_BYTES end ≡ test → OfCheck P (refuse_if test TooBig)
+    by true is = (given 10 (too_large end is), tt)
+    by false is = tt
+
+  rest : (command : Command) (paths : List Parsed) (a b : Site) → IsOnTrees command → Rest command paths a b
+  rest (Mkdir path) paths a b of_trees = (name_check (Mkdir path) paths a ((1, omega arith, refl), tt), tt)
+  rest (Touch path) paths a b of_trees = (name_check (Touch path) paths a ((1, omega arith, refl), tt), tt)
+  rest (Symlink target path) paths a b of_trees = (name_check (Symlink target path) paths a ((1, omega arith, refl), tt), tt)
+  rest (Snapshot path) paths a b of_trees = (name_check (Snapshot path) paths a ((1, omega arith, refl), tt), tt)
+  rest (Ln old new) paths a b of_trees =
       let P : Reply → Type 0 = MayGive (Ln old new) paths in (
         by_test P (is_kind is_dir_or_link call a) IsDir ((1, omega arith, refl), tt),
         (
@@ -162,7 +107,7 @@ module _ (call : Call) where
           ),
         ),
       )
-  rest (Mv old new) paths a b named =
+  rest (Mv old new) paths a b of_trees =
       let P : Reply → Type 0 = MayGive (Mv old new) paths in (
         unless_test P ((first_site call).at.pfs == (second_site call).at.pfs) CrossPfs ((1, omega arith, refl), tt),
         (
@@ -174,57 +119,83 @@ module _ (call : Call) where
           ),
         ),
       )
-  rest (Rm path) paths a b named = (by_test (MayGive (Rm path) paths) (is_kind is_dir_or_link call a) IsDir ((1, omega arith, refl), tt), tt)
-  rest (Rmdir path) paths a b named =
+  rest (Write path offset bytes) paths a b of_trees = file_checks (Write path offset bytes) paths a (offset + length bytes) refl
+  rest (Fill path offset count byte) paths a b of_trees = file_checks (Fill path offset count byte) paths a (offset + count) refl
+  rest (Truncate path size) paths a b of_trees = file_checks (Truncate path size) paths a size refl
+  rest (Rm path) paths a b of_trees = (by_test (MayGive (Rm path) paths) (is_kind is_dir_or_link call a) IsDir ((1, omega arith, refl), tt), tt)
+  rest (Rmdir path) paths a b of_trees =
       let P : Reply → Type 0 = MayGive (Rmdir path) paths in
       (unless_test P (is_kind is_dir call a) NotDir ((4, omega arith, refl), tt), (by_test P _ NotEmpty ((1, omega arith, refl), tt), tt))
-  rest (Ls path) paths a b named =
+  rest (Ls path) paths a b of_trees =
       (unless_test (MayGive (Ls path) paths) (is_kind is_dir call a) NotDir (has_tail 102 3 (on_a_read paths) (in_read paths 3 dir_in_walk), tt), tt)
-  rest (Stat path) paths a b named = tt
-  rest (Readlink path) paths a b named = (unless_test (MayGive (Readlink path) paths) (is_kind is_link call a) NotLink ((1, omega arith, refl), tt), tt)
-  rest other paths a b named = absurd named
+  rest (Cat path offset count) paths a b of_trees =
+      let P : Reply → Type 0 = MayGive (Cat path offset count) paths in (
+        by_test P (is_kind is_dir_or_link call a) IsDir ((1, omega arith, refl), tt),
+        (by_test P (is_kind is_softlink call a) NotFile ((2, omega arith, refl), tt), tt),
+      )
+  rest (Stat path) paths a b of_trees = tt
+  rest (Readlink path) paths a b of_trees = (unless_test (MayGive (Readlink path) paths) (is_kind is_link call a) NotLink ((1, omega arith, refl), tt), tt)
+  rest other paths a b of_trees = absurd of_trees
 
   -- ---- all checks behind the early ones
 
-  walks_give : (command : Command) (paths : List Parsed) → IsOnNames command → (is_tree_call command ≡ true → list_any has_id paths ≡ false)
+  walks_give : (command : Command) (paths : List Parsed) → IsOnTrees command → (is_tree_call command ≡ true → list_any has_id paths ≡ false)
       → OfAll (MayGive command paths) (map walks (each_located call (uses_of command) paths))
-  walks_give (Mkdir path) paths named no_id = tree_walks (Mkdir path) paths (no_id refl) ((5, omega arith, refl), tt) ((6, omega arith, refl), tt)
-  walks_give (Touch path) paths named no_id = tree_walks (Touch path) paths (no_id refl) ((5, omega arith, refl), tt) ((6, omega arith, refl), tt)
-  walks_give (Symlink target path) paths named no_id =
+  walks_give (Mkdir path) paths of_trees no_id = tree_walks (Mkdir path) paths (no_id refl) ((5, omega arith, refl), tt) ((6, omega arith, refl), tt)
+  walks_give (Touch path) paths of_trees no_id = tree_walks (Touch path) paths (no_id refl) ((5, omega arith, refl), tt) ((6, omega arith, refl), tt)
+  walks_give (Symlink target path) paths of_trees no_id =
       tree_walks (Symlink target path) paths (no_id refl) ((5, omega arith, refl), tt) ((6, omega arith, refl), tt)
-  walks_give (Snapshot path) paths named no_id = tree_walks (Snapshot path) paths (no_id refl) ((5, omega arith, refl), tt) ((6, omega arith, refl), tt)
-  walks_give (Ln old new) paths named no_id = tree_walks (Ln old new) paths (no_id refl) ((9, omega arith, refl), tt) ((10, omega arith, refl), tt)
-  walks_give (Mv old new) paths named no_id = tree_walks (Mv old new) paths (no_id refl) ((7, omega arith, refl), tt) ((8, omega arith, refl), tt)
-  walks_give (Rm path) paths named no_id = tree_walks (Rm path) paths (no_id refl) ((4, omega arith, refl), tt) ((5, omega arith, refl), tt)
-  walks_give (Rmdir path) paths named no_id = tree_walks (Rmdir path) paths (no_id refl) ((3, omega arith, refl), tt) ((4, omega arith, refl), tt)
-  walks_give (Ls path) paths named no_id =
+  walks_give (Snapshot path) paths of_trees no_id = tree_walks (Snapshot path) paths (no_id refl) ((5, omega arith, refl), tt) ((6, omega arith, refl), tt)
+  walks_give (Ln old new) paths of_trees no_id = tree_walks (Ln old new) paths (no_id refl) ((9, omega arith, refl), tt) ((10, omega arith, refl), tt)
+  walks_give (Mv old new) paths of_trees no_id = tree_walks (Mv old new) paths (no_id refl) ((7, omega arith, refl), tt) ((8, omega arith, refl), tt)
+  walks_give (Write path offset bytes) paths of_trees no_id =
+      tree_walks (Write path offset bytes) paths (no_id refl) (behind_file (offset + length bytes) 2 (1, omega arith, refl), tt)
+      (behind_file (offset + length bytes) 3 (2, omega arith, refl), tt)
+  walks_give (Fill path offset count byte) paths of_trees no_id =
+      tree_walks (Fill path offset count byte) paths (no_id refl) (behind_file (offset + count) 2 (1, omega arith, refl), tt)
+      (behind_file (offset + count) 3 (2, omega arith, refl), tt)
+  walks_give (Truncate path size) paths of_trees no_id =
+      tree_walks (Truncate path size) paths (no_id refl) (behind_file size 2 (1, omega arith, refl), tt) (behind_file size 3 (2, omega arith, refl), tt)
+  walks_give (Rm path) paths of_trees no_id = tree_walks (Rm path) paths (no_id refl) ((4, omega arith, refl), tt) ((5, omega arith, refl), tt)
+  walks_give (Rmdir path) paths of_trees no_id = tree_walks (Rmdir path) paths (no_id refl) ((3, omega arith, refl), tt) ((4, omega arith, refl), tt)
+  walks_give (Ls path) paths of_trees no_id =
       read_walks (Ls path) paths (has_tail 102 2 (on_a_read paths) (in_read paths 2 lost_in_walk), tt)
       (has_tail 102 3 (on_a_read paths) (in_read paths 3 dir_in_walk), tt) (λ has. (has_tail 102 8 (on_a_read paths) (kept_in_read paths has), tt))
-  walks_give (Stat path) paths named no_id =
+  walks_give (Cat path offset count) paths of_trees no_id =
+      read_walks (Cat path offset count) paths (behind_cat paths 2 (in_read paths 2 lost_in_walk), tt)
+      (behind_cat paths 3 (in_read paths 3 dir_in_walk), tt) (λ has. (behind_cat paths 8 (kept_in_read paths has), tt))
+  walks_give (Stat path) paths of_trees no_id =
       read_walks (Stat path) paths (has_tail 104 2 (on_a_read paths) (in_read paths 2 lost_in_walk), tt)
       (has_tail 104 3 (on_a_read paths) (in_read paths 3 dir_in_walk), tt) (λ has. (has_tail 104 8 (on_a_read paths) (kept_in_read paths has), tt))
-  walks_give (Readlink path) paths named no_id =
+  walks_give (Readlink path) paths of_trees no_id =
       read_walks (Readlink path) paths (behind 2 (in_read paths 2 lost_in_walk), tt) (behind 3 (in_read paths 3 dir_in_walk), tt)
       (λ has. (behind 8 (kept_in_read paths has), tt))
     where
       behind : (n : ℕ) → Contains (on_a_read paths) n → Contains (105 ∷ 31 ∷ on_a_read paths) n
       behind n has = has_tail 105 n (31 ∷ on_a_read paths) (has_tail 31 n (on_a_read paths) has)
-  walks_give other paths named no_id = absurd named
+  walks_give other paths of_trees no_id = absurd of_trees
 
-  slaves_give : (command : Command) (paths : List Parsed) (test : Bool) → IsOnNames command
+  slaves_give : (command : Command) (paths : List Parsed) (test : Bool) → IsOnTrees command
       → OfCheck (MayGive command paths) (refuse_if (is_tree_call command && test) ReadOnly)
-  slaves_give (Mkdir path) paths test named = by_test (MayGive (Mkdir path) paths) test ReadOnly ((4, omega arith, refl), tt)
-  slaves_give (Touch path) paths test named = by_test (MayGive (Touch path) paths) test ReadOnly ((4, omega arith, refl), tt)
-  slaves_give (Symlink target path) paths test named = by_test (MayGive (Symlink target path) paths) test ReadOnly ((4, omega arith, refl), tt)
-  slaves_give (Snapshot path) paths test named = by_test (MayGive (Snapshot path) paths) test ReadOnly ((4, omega arith, refl), tt)
-  slaves_give (Ln old new) paths test named = by_test (MayGive (Ln old new) paths) test ReadOnly ((8, omega arith, refl), tt)
-  slaves_give (Mv old new) paths test named = by_test (MayGive (Mv old new) paths) test ReadOnly ((6, omega arith, refl), tt)
-  slaves_give (Rm path) paths test named = by_test (MayGive (Rm path) paths) test ReadOnly ((3, omega arith, refl), tt)
-  slaves_give (Rmdir path) paths test named = by_test (MayGive (Rmdir path) paths) test ReadOnly ((2, omega arith, refl), tt)
-  slaves_give (Ls path) paths test named = tt
-  slaves_give (Stat path) paths test named = tt
-  slaves_give (Readlink path) paths test named = tt
-  slaves_give other paths test named = absurd named
+  slaves_give (Mkdir path) paths test of_trees = by_test (MayGive (Mkdir path) paths) test ReadOnly ((4, omega arith, refl), tt)
+  slaves_give (Touch path) paths test of_trees = by_test (MayGive (Touch path) paths) test ReadOnly ((4, omega arith, refl), tt)
+  slaves_give (Symlink target path) paths test of_trees = by_test (MayGive (Symlink target path) paths) test ReadOnly ((4, omega arith, refl), tt)
+  slaves_give (Snapshot path) paths test of_trees = by_test (MayGive (Snapshot path) paths) test ReadOnly ((4, omega arith, refl), tt)
+  slaves_give (Ln old new) paths test of_trees = by_test (MayGive (Ln old new) paths) test ReadOnly ((8, omega arith, refl), tt)
+  slaves_give (Mv old new) paths test of_trees = by_test (MayGive (Mv old new) paths) test ReadOnly ((6, omega arith, refl), tt)
+  slaves_give (Write path offset bytes) paths test of_trees =
+      by_test (MayGive (Write path offset bytes) paths) test ReadOnly (behind_file (offset + length bytes) 7 (0, omega arith, refl), tt)
+  slaves_give (Fill path offset count byte) paths test of_trees =
+      by_test (MayGive (Fill path offset count byte) paths) test ReadOnly (behind_file (offset + count) 7 (0, omega arith, refl), tt)
+  slaves_give (Truncate path size) paths test of_trees =
+      by_test (MayGive (Truncate path size) paths) test ReadOnly (behind_file size 7 (0, omega arith, refl), tt)
+  slaves_give (Rm path) paths test of_trees = by_test (MayGive (Rm path) paths) test ReadOnly ((3, omega arith, refl), tt)
+  slaves_give (Rmdir path) paths test of_trees = by_test (MayGive (Rmdir path) paths) test ReadOnly ((2, omega arith, refl), tt)
+  slaves_give (Ls path) paths test of_trees = tt
+  slaves_give (Cat path offset count) paths test of_trees = tt
+  slaves_give (Stat path) paths test of_trees = tt
+  slaves_give (Readlink path) paths test of_trees = tt
+  slaves_give other paths test of_trees = absurd of_trees
 
   -- where no name is made, no hash is looked at
   abbrev full_by : Command → List Parsed → Check
@@ -245,19 +216,23 @@ module _ (call : Call) where
       → OfCheck (MayGive command paths) (full_by command paths)
   unmade command paths none = rw none tt
 
-  hash_gives : (command : Command) (paths : List Parsed) → IsOnNames command → OfCheck (MayGive command paths) (full_by command paths)
-  hash_gives (Mkdir path) paths named = full_check (Mkdir path) paths ((2, omega arith, refl), tt)
-  hash_gives (Touch path) paths named = full_check (Touch path) paths ((2, omega arith, refl), tt)
-  hash_gives (Symlink target path) paths named = full_check (Symlink target path) paths ((2, omega arith, refl), tt)
-  hash_gives (Snapshot path) paths named = full_check (Snapshot path) paths ((2, omega arith, refl), tt)
-  hash_gives (Ln old new) paths named = full_check (Ln old new) paths ((6, omega arith, refl), tt)
-  hash_gives (Mv old new) paths named = full_check (Mv old new) paths ((4, omega arith, refl), tt)
-  hash_gives (Rm path) paths named = unmade (Rm path) paths (takes_none path paths)
-  hash_gives (Rmdir path) paths named = unmade (Rmdir path) paths (takes_none path paths)
-  hash_gives (Ls path) paths named = unmade (Ls path) paths (walks_none Follows path paths)
-  hash_gives (Stat path) paths named = unmade (Stat path) paths (walks_none Stays path paths)
-  hash_gives (Readlink path) paths named = unmade (Readlink path) paths (walks_none Stays path paths)
-  hash_gives other paths named = absurd named
+  hash_gives : (command : Command) (paths : List Parsed) → IsOnTrees command → OfCheck (MayGive command paths) (full_by command paths)
+  hash_gives (Mkdir path) paths of_trees = full_check (Mkdir path) paths ((2, omega arith, refl), tt)
+  hash_gives (Touch path) paths of_trees = full_check (Touch path) paths ((2, omega arith, refl), tt)
+  hash_gives (Symlink target path) paths of_trees = full_check (Symlink target path) paths ((2, omega arith, refl), tt)
+  hash_gives (Snapshot path) paths of_trees = full_check (Snapshot path) paths ((2, omega arith, refl), tt)
+  hash_gives (Ln old new) paths of_trees = full_check (Ln old new) paths ((6, omega arith, refl), tt)
+  hash_gives (Mv old new) paths of_trees = full_check (Mv old new) paths ((4, omega arith, refl), tt)
+  hash_gives (Write path offset bytes) paths of_trees = unmade (Write path offset bytes) paths (walks_none Follows path paths)
+  hash_gives (Fill path offset count byte) paths of_trees = unmade (Fill path offset count byte) paths (walks_none Follows path paths)
+  hash_gives (Truncate path size) paths of_trees = unmade (Truncate path size) paths (walks_none Follows path paths)
+  hash_gives (Rm path) paths of_trees = unmade (Rm path) paths (takes_none path paths)
+  hash_gives (Rmdir path) paths of_trees = unmade (Rmdir path) paths (takes_none path paths)
+  hash_gives (Ls path) paths of_trees = unmade (Ls path) paths (walks_none Follows path paths)
+  hash_gives (Cat path offset count) paths of_trees = unmade (Cat path offset count) paths (walks_none Follows path paths)
+  hash_gives (Stat path) paths of_trees = unmade (Stat path) paths (walks_none Stays path paths)
+  hash_gives (Readlink path) paths of_trees = unmade (Readlink path) paths (walks_none Stays path paths)
+  hash_gives other paths of_trees = absurd of_trees
 
   -- ---- want of space, and what is accepted
 
@@ -266,25 +241,55 @@ module _ (call : Call) where
   asks_room command = elim command [
     | Rmdir path ↦ false
     | Ls path ↦ false
+    | Cat path offset count ↦ false
     | Stat path ↦ false
     | Readlink path ↦ false
     | other ↦ true
   ]
 
-  space_gives : (command : Command) (paths : List Parsed) (free needed : ℕ) → IsOnNames command → asks_room command ≡ true
+  -- what it makes of a file is not too large, if that is what it does
+  abbrev Fits : Command → Type 0
+  Fits command = elim command as (λ c. Type 0) [
+    | Write path offset bytes ↦ nat_lt MOST_FILE_BYTES (offset + length bytes) ≡ false
+    | Fill path offset count byte ↦ nat_lt MOST_FILE_BYTES (offset + count) ≡ false
+    | Truncate path size ↦ nat_lt MOST_FILE_BYTES size ≡ false
+    | other ↦ Unit {0}
+  ]
+
+  -- so it is where none of its own checks fails
+  file_fits : (a : Site) (end : ℕ) → first_refusal (no_dir call a ∷ a_file call a ∷ fits_file end ∷ []) ≡ None → nat_lt MOST_FILE_BYTES end ≡ false
+  file_fits a end none =
+      let after_kind = (no_rest (no_dir call a) (a_file call a ∷ fits_file end ∷ []) none).1 in
+      by (nat_lt MOST_FILE_BYTES end) (no_rest (fits_file end) [] (no_rest (a_file call a) (fits_file end ∷ []) after_kind).1).0
+    where
+      by : (test : Bool) → refuse_if test TooBig ≡ None → test ≡ false
+      by true is = absurd (cc)
+      by false is = refl
+
+  own_fits : (command : Command) (a b : Site) → first_refusal (own_checks_of call a b command) ≡ None → Fits command
+  own_fits (Write path offset bytes) a b none = file_fits a (offset + length bytes) none
+  own_fits (Fill path offset count byte) a b none = file_fits a (offset + count) none
+  own_fits (Truncate path size) a b none = file_fits a size none
+  own_fits other a b none = tt
+
+  space_gives : (command : Command) (paths : List Parsed) (free needed : ℕ) → IsOnTrees command → Fits command → asks_room command ≡ true
       → MayGive command paths (NoSpace free needed)
-  space_gives (Mkdir path) paths free needed named asks = ((3, omega arith, refl), tt)
-  space_gives (Touch path) paths free needed named asks = ((3, omega arith, refl), tt)
-  space_gives (Symlink target path) paths free needed named asks = ((3, omega arith, refl), tt)
-  space_gives (Snapshot path) paths free needed named asks = ((3, omega arith, refl), tt)
-  space_gives (Ln old new) paths free needed named asks = ((7, omega arith, refl), tt)
-  space_gives (Mv old new) paths free needed named asks = ((5, omega arith, refl), tt)
-  space_gives (Rm path) paths free needed named asks = ((2, omega arith, refl), tt)
-  space_gives (Rmdir path) paths free needed named asks = absurd (cc)
-  space_gives (Ls path) paths free needed named asks = absurd (cc)
-  space_gives (Stat path) paths free needed named asks = absurd (cc)
-  space_gives (Readlink path) paths free needed named asks = absurd (cc)
-  space_gives other paths free needed named asks = absurd named
+  space_gives (Mkdir path) paths free needed of_trees fits asks = ((3, omega arith, refl), tt)
+  space_gives (Touch path) paths free needed of_trees fits asks = ((3, omega arith, refl), tt)
+  space_gives (Symlink target path) paths free needed of_trees fits asks = ((3, omega arith, refl), tt)
+  space_gives (Snapshot path) paths free needed of_trees fits asks = ((3, omega arith, refl), tt)
+  space_gives (Ln old new) paths free needed of_trees fits asks = ((7, omega arith, refl), tt)
+  space_gives (Mv old new) paths free needed of_trees fits asks = ((5, omega arith, refl), tt)
+  space_gives (Write path offset bytes) paths free needed of_trees fits asks = (file_lacks (offset + length bytes) fits, tt)
+  space_gives (Fill path offset count byte) paths free needed of_trees fits asks = (file_lacks (offset + count) fits, tt)
+  space_gives (Truncate path size) paths free needed of_trees fits asks = (file_lacks size fits, tt)
+  space_gives (Rm path) paths free needed of_trees fits asks = ((2, omega arith, refl), tt)
+  space_gives (Rmdir path) paths free needed of_trees fits asks = absurd (cc)
+  space_gives (Ls path) paths free needed of_trees fits asks = absurd (cc)
+  space_gives (Cat path offset count) paths free needed of_trees fits asks = absurd (cc)
+  space_gives (Stat path) paths free needed of_trees fits asks = absurd (cc)
+  space_gives (Readlink path) paths free needed of_trees fits asks = absurd (cc)
+  space_gives other paths free needed of_trees fits asks = absurd of_trees
 
   abbrev zones_by : Command → List ℕ
   zones_by command = elim command as (λ c. List ℕ) [
@@ -306,20 +311,24 @@ module _ (call : Call) where
   ]
 
   -- one that asks for none lacks none
-  room_asked : (command : Command) (room : ℕ → ℕ) (left : ℕ) → IsOnNames command → left < lacking (zones_by command) room
+  room_asked : (command : Command) (room : ℕ → ℕ) (left : ℕ) → IsOnTrees command → left < lacking (zones_by command) room
       → asks_room command ≡ true
-  room_asked (Mkdir path) room left named less = refl
-  room_asked (Touch path) room left named less = refl
-  room_asked (Symlink target path) room left named less = refl
-  room_asked (Snapshot path) room left named less = refl
-  room_asked (Ln old new) room left named less = refl
-  room_asked (Mv old new) room left named less = refl
-  room_asked (Rm path) room left named less = refl
-  room_asked (Rmdir path) room left named less = absurd (omega (arith, less))
-  room_asked (Ls path) room left named less = absurd (omega (arith, less))
-  room_asked (Stat path) room left named less = absurd (omega (arith, less))
-  room_asked (Readlink path) room left named less = absurd (omega (arith, less))
-  room_asked other room left named less = absurd named
+  room_asked (Mkdir path) room left of_trees less = refl
+  room_asked (Touch path) room left of_trees less = refl
+  room_asked (Symlink target path) room left of_trees less = refl
+  room_asked (Snapshot path) room left of_trees less = refl
+  room_asked (Ln old new) room left of_trees less = refl
+  room_asked (Mv old new) room left of_trees less = refl
+  room_asked (Write path offset bytes) room left of_trees less = refl
+  room_asked (Fill path offset count byte) room left of_trees less = refl
+  room_asked (Truncate path size) room left of_trees less = refl
+  room_asked (Rm path) room left of_trees less = refl
+  room_asked (Rmdir path) room left of_trees less = absurd (omega (arith, less))
+  room_asked (Ls path) room left of_trees less = absurd (omega (arith, less))
+  room_asked (Cat path offset count) room left of_trees less = absurd (omega (arith, less))
+  room_asked (Stat path) room left of_trees less = absurd (omega (arith, less))
+  room_asked (Readlink path) room left of_trees less = absurd (omega (arith, less))
+  room_asked other room left of_trees less = absurd of_trees
 
   abbrev shown : FileTree
   shown = call.view (first_site call).at.pfs (first_site call).at.when
@@ -354,25 +363,31 @@ module _ (call : Call) where
     | other ↦ Done
   ]
 
-  accepted_gives : (command : Command) (paths : List Parsed) → IsOnNames command → MayGive command paths (accepted_by command)
-  accepted_gives (Ls path) paths named =
+  accepted_gives : (command : Command) (paths : List Parsed) → IsOnTrees command → Fits command → MayGive command paths (accepted_by command)
+  accepted_gives (Ls path) paths of_trees fits =
       of_option (MayGive (Ls path) paths) (at_by (Ls path)) (site_object call (first_site call)) NotFound (λ o. ((0, omega arith, refl), tt))
       (has_tail 102 2 (on_a_read paths) (in_read paths 2 lost_in_walk), tt)
-  accepted_gives (Stat path) paths named =
+  accepted_gives (Cat path offset count) paths of_trees fits =
+      of_option (MayGive (Cat path offset count) paths) (at_by (Cat path offset count)) (site_object call (first_site call)) NotFound
+      (λ o. ((0, omega arith, refl), tt)) (behind_cat paths 2 (in_read paths 2 lost_in_walk), tt)
+  accepted_gives (Stat path) paths of_trees fits =
       of_option (MayGive (Stat path) paths) (at_by (Stat path)) (site_object call (first_site call)) NotFound (λ o. ((0, omega arith, refl), tt))
       (has_tail 104 2 (on_a_read paths) (in_read paths 2 lost_in_walk), tt)
-  accepted_gives (Readlink path) paths named =
+  accepted_gives (Readlink path) paths of_trees fits =
       of_option (MayGive (Readlink path) paths) (at_by (Readlink path)) (site_object call (first_site call)) NotFound (λ o. ((0, omega arith, refl), tt))
       (has_tail 105 2 (31 ∷ on_a_read paths) (has_tail 31 2 (on_a_read paths) (in_read paths 2 lost_in_walk)), tt)
-  accepted_gives (Mkdir path) paths named = ((0, omega arith, refl), tt)
-  accepted_gives (Touch path) paths named = ((0, omega arith, refl), tt)
-  accepted_gives (Symlink target path) paths named = ((0, omega arith, refl), tt)
-  accepted_gives (Snapshot path) paths named = ((0, omega arith, refl), tt)
-  accepted_gives (Ln old new) paths named = ((0, omega arith, refl), tt)
-  accepted_gives (Mv old new) paths named = ((0, omega arith, refl), tt)
-  accepted_gives (Rm path) paths named = ((0, omega arith, refl), tt)
-  accepted_gives (Rmdir path) paths named = ((0, omega arith, refl), tt)
-  accepted_gives other paths named = absurd named
+  accepted_gives (Mkdir path) paths of_trees fits = ((0, omega arith, refl), tt)
+  accepted_gives (Touch path) paths of_trees fits = ((0, omega arith, refl), tt)
+  accepted_gives (Symlink target path) paths of_trees fits = ((0, omega arith, refl), tt)
+  accepted_gives (Snapshot path) paths of_trees fits = ((0, omega arith, refl), tt)
+  accepted_gives (Ln old new) paths of_trees fits = ((0, omega arith, refl), tt)
+  accepted_gives (Mv old new) paths of_trees fits = ((0, omega arith, refl), tt)
+  accepted_gives (Write path offset bytes) paths of_trees fits = (file_accepted (offset + length bytes) fits, tt)
+  accepted_gives (Fill path offset count byte) paths of_trees fits = (file_accepted (offset + count) fits, tt)
+  accepted_gives (Truncate path size) paths of_trees fits = (file_accepted size fits, tt)
+  accepted_gives (Rm path) paths of_trees fits = ((0, omega arith, refl), tt)
+  accepted_gives (Rmdir path) paths of_trees fits = ((0, omega arith, refl), tt)
+  accepted_gives other paths of_trees fits = absurd of_trees
 
   -- no check of intervals is made
   abbrev intervals_by : Command → Check
@@ -381,9 +396,9 @@ module _ (call : Call) where
     | other ↦ None
   ]
 
-  intervals_give : (command : Command) (paths : List Parsed) → IsOnNames command → OfCheck (MayGive command paths) (intervals_by command)
-  intervals_give (Prune path) paths named = absurd named
-  intervals_give other paths named = tt
+  intervals_give : (command : Command) (paths : List Parsed) → IsOnTrees command → OfCheck (MayGive command paths) (intervals_by command)
+  intervals_give (Prune path) paths of_trees = absurd of_trees
+  intervals_give other paths of_trees = tt
 
   -- ---- the cause
 
@@ -399,7 +414,7 @@ module _ (call : Call) where
   abbrev last : List Check
   last = hash_left call ∷ intervals_left call ∷ []
 
-  module _ (named : IsOnNames call.command) (left : call.volume.last < GREATEST_ID) where
+  module _ (of_trees : IsOnTrees call.command) (left : call.volume.last < GREATEST_ID) where
     abbrev Gives : Reply → Type 0
     Gives = MayGive call.command call.paths
 
@@ -410,6 +425,14 @@ module _ (call : Call) where
 
     refusal_is : refusal call ≡ first_refusal (((early ++ on_walks) ++ own) ++ last)
     refusal_is = rw ids_pass refl
+
+    -- where none fails, what is made of a file is not too large
+    fits : refusal call ≡ None → Fits call.command
+    fits none =
+        let all : first_refusal (((early ++ on_walks) ++ own) ++ last) ≡ None = sym refusal_is ∙ none in
+        let before_last = (no_first ((early ++ on_walks) ++ own) last all).0 in
+        own_fits call.command (first_site call) (second_site call)
+        (no_rest (slaves_stay call) (own_checks call) (no_first (early ++ on_walks) own before_last).1).1
 
     -- an early check that fails is the refusal
     early_refuses : (r : Reply) → first_refusal early ≡ Some r → refusal call ≡ Some r
@@ -441,17 +464,17 @@ module _ (call : Call) where
       by_own : (first_refusal (early ++ on_walks) ≡ Some r) ⊎ (first_refusal own ≡ Some r) → Gives r
       by_own (inr found) =
           of_first own (
-            slaves_give call.command call.paths (list_any (is_in_slave call) (all_located call)) named,
-            rest call.command call.paths (first_site call) (second_site call) named,
+            slaves_give call.command call.paths (list_any (is_in_slave call) (all_located call)) of_trees,
+            rest call.command call.paths (first_site call) (second_site call) of_trees,
           ) found
       by_own (inl found) = elim (first_split early on_walks r found) [
         | inl early_found ↦ absurd (let lost : None ≡ Some r = sym none ∙ early_found in cc)
-        | inr walk_found ↦ of_first on_walks (walks_give call.command call.paths named (no_id none)) walk_found
+        | inr walk_found ↦ of_first on_walks (walks_give call.command call.paths of_trees (no_id none)) walk_found
       ]
 
       by_last : (first_refusal ((early ++ on_walks) ++ own) ≡ Some r) ⊎ (first_refusal last ≡ Some r) → Gives r
       by_last (inr found) =
-          of_first last (hash_gives call.command call.paths named, (intervals_give call.command call.paths named, tt)) found
+          of_first last (hash_gives call.command call.paths of_trees, (intervals_give call.command call.paths of_trees, tt)) found
       by_last (inl found) = by_own (first_split (early ++ on_walks) own r found)
 
     -- the early refusals are plain
@@ -467,19 +490,23 @@ module _ (call : Call) where
     futures_plain [] = tt
     futures_plain (path ∷ paths) = (by_test IsPlain _ (Future (record { 0 = call.volume.last })) tt, futures_plain paths)
 
-    begin_plain : (command : Command) → IsOnNames command → OfCheck IsPlain (no_future_begin call.volume.last command)
-    begin_plain (Mkdir path) of_names = tt
-    begin_plain (Touch path) of_names = tt
-    begin_plain (Symlink target path) of_names = tt
-    begin_plain (Snapshot path) of_names = tt
-    begin_plain (Ln old new) of_names = tt
-    begin_plain (Mv old new) of_names = tt
-    begin_plain (Rm path) of_names = tt
-    begin_plain (Rmdir path) of_names = tt
-    begin_plain (Ls path) of_names = tt
-    begin_plain (Stat path) of_names = tt
-    begin_plain (Readlink path) of_names = tt
-    begin_plain other of_names = absurd of_names
+    begin_plain : (command : Command) → IsOnTrees command → OfCheck IsPlain (no_future_begin call.volume.last command)
+    begin_plain (Mkdir path) of_trees = tt
+    begin_plain (Touch path) of_trees = tt
+    begin_plain (Symlink target path) of_trees = tt
+    begin_plain (Snapshot path) of_trees = tt
+    begin_plain (Ln old new) of_trees = tt
+    begin_plain (Mv old new) of_trees = tt
+    begin_plain (Write path offset bytes) of_trees = tt
+    begin_plain (Fill path offset count byte) of_trees = tt
+    begin_plain (Truncate path size) of_trees = tt
+    begin_plain (Rm path) of_trees = tt
+    begin_plain (Rmdir path) of_trees = tt
+    begin_plain (Ls path) of_trees = tt
+    begin_plain (Cat path offset count) of_trees = tt
+    begin_plain (Stat path) of_trees = tt
+    begin_plain (Readlink path) of_trees = tt
+    begin_plain other of_trees = absurd of_trees
 
     early_plain : OfAll IsPlain early
     early_plain =
@@ -488,7 +515,7 @@ module _ (call : Call) where
           open_plain (is_pass call.command),
           all_both IsPlain (good ++ futures) (no_future_begin call.volume.last call.command ∷ past_stays call.command call.paths ∷ [])
               (all_both IsPlain good futures (goods_plain (uses_of call.command) call.paths) (futures_plain call.paths))
-              (begin_plain call.command named, (by_test IsPlain _ ReadOnly tt, tt)),
+              (begin_plain call.command of_trees, (by_test IsPlain _ ReadOnly tt, tt)),
         )
       where
         open_plain : (test : Bool) → OfCheck IsPlain (if test then option_map_or (λ opening. Some (Busy (record { 0 = opening }))) call.busy None else None)
@@ -502,9 +529,9 @@ module _ (call : Call) where
         in_way none (refused r is same) = subst Gives (sym (due ∙ same)) (later_give none r is)
         in_way none (lacks unrefused less same) =
             subst Gives (sym (due ∙ same))
-            (space_gives call.command call.paths free (lacking (zones_of call) room) named
-            (room_asked call.command room (free - held_of call.command) named less))
-        in_way none (serves unrefused same) = subst Gives (sym (due ∙ same)) (accepted_gives call.command call.paths named)
+            (space_gives call.command call.paths free (lacking (zones_of call) room) of_trees (fits unrefused)
+            (room_asked call.command room (free - held_of call.command) of_trees less))
+        in_way none (serves unrefused same) = subst Gives (sym (due ∙ same)) (accepted_gives call.command call.paths of_trees (fits unrefused))
 
         by_way : (r : Reply) → first_refusal early ≡ Some r → Way call room free → reply ≡ r
         by_way r is (refused other found same) = due ∙ (same ∙ (let one : Some other ≡ Some r = sym found ∙ early_refuses r is in cc))

@@ -1,4 +1,4 @@
--- The state of a history after a call on names that was answered.
+-- The state of a history after a call that was answered.
 use Rattle.std.proofs.Common.{◌≡◌, ℕ, Bool, true, false, max, refl, ap, ◌∙◌, arith}
 use Rattle.std.specs.Prelude.{◌&&◌, Option, None, if◌then◌else◌}
 use Rattle.std.specs.Option.{option_map_or}
@@ -11,10 +11,11 @@ use Rattle.hm_model.specs.Command.{named_opening}
 use Rattle.hm_model.specs.Due.{is_tree_call}
 use Rattle.hm_model.specs.Reply.{is_refusal, passed_ids}
 use Rattle.hm_model.specs.declared.command.Command.{Command}
-use Rattle.hm_model.specs.declared.command.Command.TheVariants.{Ls, Mkdir, Mv, Ln, Readlink, Rm, Rmdir, Snapshot, Stat, Symlink, Touch}
+use Rattle.hm_model.specs.declared.command.Command.TheVariants.{Cat, Fill, Ln, Ls, Mkdir, Mv, Readlink, Rm, Rmdir, Snapshot, Stat, Symlink, Touch, Truncate, Write}
 use Rattle.hm_model.specs.declared.reply.Reply.{Reply}
 use Rattle.hm_step.specs.Step.{after_call}
-use Rattle.hm_calls.specs.Replies.{IsOnNames, is_change}
+use Rattle.hm_calls.specs.Commands.{IsOnTrees}
+use Rattle.hm_calls.specs.Replies.{is_change}
 
 -- a reply tells no end id
 abbrev TellsNone : Reply → Type 0
@@ -23,36 +24,44 @@ TellsNone reply = passed_ids reply ≡ None
 -- ---- the state afterwards
 
 -- what an accepted call does, by its command
-effect_is : (state : State) (call : Call) (command : Command) → IsOnNames command
+effect_is : (state : State) (call : Call) (command : Command) → IsOnTrees command
     → accepted_effect_of state call command ≡ (if is_tree_call command then on_volume state (change call) else state)
-effect_is state call (Mkdir path) named = refl
-effect_is state call (Touch path) named = refl
-effect_is state call (Symlink target path) named = refl
-effect_is state call (Snapshot path) named = refl
-effect_is state call (Ln old new) named = refl
-effect_is state call (Mv old new) named = refl
-effect_is state call (Rm path) named = refl
-effect_is state call (Rmdir path) named = refl
-effect_is state call (Ls path) named = refl
-effect_is state call (Stat path) named = refl
-effect_is state call (Readlink path) named = refl
-effect_is state call other named = absurd named
+effect_is state call (Mkdir path) of_trees = refl
+effect_is state call (Touch path) of_trees = refl
+effect_is state call (Symlink target path) of_trees = refl
+effect_is state call (Snapshot path) of_trees = refl
+effect_is state call (Ln old new) of_trees = refl
+effect_is state call (Mv old new) of_trees = refl
+effect_is state call (Write path offset bytes) of_trees = refl
+effect_is state call (Fill path offset count byte) of_trees = refl
+effect_is state call (Truncate path size) of_trees = refl
+effect_is state call (Rm path) of_trees = refl
+effect_is state call (Rmdir path) of_trees = refl
+effect_is state call (Ls path) of_trees = refl
+effect_is state call (Cat path offset count) of_trees = refl
+effect_is state call (Stat path) of_trees = refl
+effect_is state call (Readlink path) of_trees = refl
+effect_is state call other of_trees = absurd of_trees
 
-pub names_no_opening : (command : Command) → IsOnNames command → named_opening command ≡ None
-names_no_opening (Mkdir path) named = refl
-names_no_opening (Touch path) named = refl
-names_no_opening (Symlink target path) named = refl
-names_no_opening (Snapshot path) named = refl
-names_no_opening (Ln old new) named = refl
-names_no_opening (Mv old new) named = refl
-names_no_opening (Rm path) named = refl
-names_no_opening (Rmdir path) named = refl
-names_no_opening (Ls path) named = refl
-names_no_opening (Stat path) named = refl
-names_no_opening (Readlink path) named = refl
-names_no_opening other named = absurd named
+pub served_no_opening : (command : Command) → IsOnTrees command → named_opening command ≡ None
+served_no_opening (Mkdir path) of_trees = refl
+served_no_opening (Touch path) of_trees = refl
+served_no_opening (Symlink target path) of_trees = refl
+served_no_opening (Snapshot path) of_trees = refl
+served_no_opening (Ln old new) of_trees = refl
+served_no_opening (Mv old new) of_trees = refl
+served_no_opening (Write path offset bytes) of_trees = refl
+served_no_opening (Fill path offset count byte) of_trees = refl
+served_no_opening (Truncate path size) of_trees = refl
+served_no_opening (Rm path) of_trees = refl
+served_no_opening (Rmdir path) of_trees = refl
+served_no_opening (Ls path) of_trees = refl
+served_no_opening (Cat path offset count) of_trees = refl
+served_no_opening (Stat path) of_trees = refl
+served_no_opening (Readlink path) of_trees = refl
+served_no_opening other of_trees = absurd of_trees
 
-module _ (state : State) (event : Event) (named : IsOnNames event.entry.call) (tells : TellsNone event.entry.reply)
+module _ (state : State) (event : Event) (of_trees : IsOnTrees event.entry.call) (tells : TellsNone event.entry.reply)
     (own : event.entry.id.0 ≡ own_id (call_of name_hash state event)) where
   abbrev the_call : Call
   the_call = call_of name_hash state event
@@ -72,8 +81,8 @@ module _ (state : State) (event : Event) (named : IsOnNames event.entry.call) (t
   next_is : effect state event ≡ (if changes then on_volume state (change the_call) else state)
   next_is =
       ap (λ (o : Option Id). option_map_or (λ (opening : Id). ended state opening.0 event.entry.reply) o
-      (if is_refusal event.entry.reply then state else accepted_effect state plain_call)) (names_no_opening event.entry.call named)
-      ∙ by (is_refusal event.entry.reply) (is_tree_call event.entry.call) (effect_is state plain_call event.entry.call named)
+      (if is_refusal event.entry.reply then state else accepted_effect state plain_call)) (served_no_opening event.entry.call of_trees)
+      ∙ by (is_refusal event.entry.reply) (is_tree_call event.entry.call) (effect_is state plain_call event.entry.call of_trees)
     where
       by : (refuses tree : Bool) → accepted_effect state plain_call ≡ (if tree then on_volume state (change plain_call) else state)
           → (if refuses then state else accepted_effect state plain_call)

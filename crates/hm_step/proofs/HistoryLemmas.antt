@@ -1,4 +1,4 @@
--- A call on names that was served, as the next one of a history.
+-- A call that was served, as the next one of a history.
 use Rattle.std.proofs.Common.{◌≡◌, ℕ, Bool, true, false, inl, inr, List, [], ◌∷◌, ◌++◌, refl, sym, ap, subst, ◌∙◌}
 use Rattle.std.specs.Prelude.{◌&&◌, Option, None, Some, if◌then◌else◌}
 use Rattle.hm_types.specs.Elements.{FullElement}
@@ -19,8 +19,9 @@ use Rattle.hm_step.specs.Served.{IsServed}
 use Rattle.hm_image.specs.StandFor.{StandFor}
 use Rattle.hm_calls.specs.Replies.{is_change}
 use Rattle.hm_step.specs.Step.{AreHeld, IsFailure, IsNext, after_call}
-use Rattle.hm_step.proofs.CausedLemmas.{IsPlain, possible_is}
-use Rattle.hm_step.proofs.EventLemmas.{names_no_opening, state_after as after_is}
+use Rattle.hm_step.proofs.GivenLemmas.{IsPlain}
+use Rattle.hm_step.proofs.CausedLemmas.{possible_is}
+use Rattle.hm_step.proofs.EventLemmas.{served_no_opening, state_after as after_is}
 use Rattle.hm_step.proofs.NextLemmas.{stand_next}
 use Rattle.hm_step.proofs.ReplyLemmas.{reply_is_allowed}
 use Rattle.hm_step.proofs.SeenLemmas.{shows_as}
@@ -44,18 +45,18 @@ module _ (run : Setting) (before : List Event) (event : Event) (room : ℕ → �
 
   pub stands : AreHeld es' → StandFor es' (state_after run (before ++ event ∷ [])).volume
   stands held =
-      let tells = plain_tells event.entry.reply (possible_is call next.named next.left room free event.entry.reply served.due).1 in
+      let tells = plain_tells event.entry.reply (possible_is call next.served next.left room free event.entry.reply served.due).1 in
       let same : (state_after run (before ++ event ∷ [])).volume ≡ after_call (is_change call.command event.entry.reply) call =
       ap (λ (s : State). s.volume)
-      (after_events-push (opening_state run.opening run.foreigners) before event ∙ after_is state event next.named tells next.own) in
+      (after_events-push (opening_state run.opening run.foreigners) before event ∙ after_is state event next.served tells next.own) in
       subst (λ (volume : Volume). StandFor es' volume) (sym same)
-      (stand_after call room free es es' event.entry.reply next.stand shows next.named next.reads refl next.left served held.keys held.fit)
+      (stand_after call room free es es' event.entry.reply next.stand shows next.served next.reads refl next.left served held.keys held.fit)
 
   reply_is : IsReply (floor_after run before) call event.entry.reply
-  reply_is = reply_is_allowed call room free (floor_after run before) event.entry.reply next.named next.least served.due
+  reply_is = reply_is_allowed call room free (floor_after run before) event.entry.reply next.served next.least served.due
 
   pub allowed : IsAllowed run before event
-  allowed = by (named_opening event.entry.call) (names_no_opening event.entry.call next.named) where
+  allowed = by (named_opening event.entry.call) (served_no_opening event.entry.call next.served) where
     by : (o : Option Id) → o ≡ None → elim o as (λ x. Type 0) [
       | Some opening ↦ (c : OpenCall) × (opened_with opening.0 state.opened ≡ Some c)
           × IsEnding (floor_after run before) state.volume c event.entry.id.0 event.entry.reply
@@ -83,7 +84,7 @@ module _ (run : Setting) (before : List Event) (event : Event) (free : ℕ) (es 
       let unchanged : is_change event.entry.call event.entry.reply ≡ false = no_change (is_tree_call event.entry.call) refuses.0 in
       let same : (state_after run (before ++ event ∷ [])).volume ≡ after_call false failing_call =
       ap (λ (s : State). s.volume)
-      (after_events-push (opening_state run.opening run.foreigners) before event ∙ after_is (state_after run before) event next.named refuses.1 next.own)
+      (after_events-push (opening_state run.opening run.foreigners) before event ∙ after_is (state_after run before) event next.served refuses.1 next.own)
       ∙ ap (λ (test : Bool). after_call test failing_call) unchanged in
       subst (λ (volume : Volume). StandFor es volume) (sym same) (stand_next es (state_after run before).volume next.stand next.left)
     where
@@ -92,7 +93,7 @@ module _ (run : Setting) (before : List Event) (event : Event) (free : ℕ) (es 
       no_change false is = refl
 
   pub allowed_failed : IsAllowed run before event
-  allowed_failed = by (named_opening event.entry.call) (names_no_opening event.entry.call next.named) where
+  allowed_failed = by (named_opening event.entry.call) (served_no_opening event.entry.call next.served) where
     excepted : IsException (floor_after run before) (call_after run before event) event.entry.reply
     excepted = elim fails [
       | inl (b, a, is) ↦ subst (IsException (floor_after run before) (call_after run before event)) (sym is) tt

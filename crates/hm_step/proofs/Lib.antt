@@ -11,5 +11,6 @@ pub mod StepLemmas
 pub mod HistoryLemmas
 pub mod NextCallLemmas
 pub mod PossibleLemmas
+pub mod GivenLemmas
 pub mod CausedLemmas
 pub mod LegalLemmas

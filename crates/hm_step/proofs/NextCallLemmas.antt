@@ -1,4 +1,4 @@
--- A call on names that a store answered is the next step of each history for whose volume its elements stand.
+-- A call that a store answered is the next step of each history for whose volume its elements stand.
 use Rattle.std.proofs.Common.{◌≡◌, ℕ, ◌+◌, Bool, true, false, List, Option, Some, None, Result, Ok, Err, refl, sym, ap, subst, ◌∙◌}
 use Rattle.std.specs.Prelude.{IfOk, IfSome, IsSomeAnd, IsTrue, IsFalse}
 use Rattle.hm_types.specs.Elements.{Key}

@@ -1,4 +1,4 @@
--- Which refusals the checks of a call on names can give.
+-- Which refusals the checks of a call can give.
 use Rattle.std.proofs.Common.{◌≡◌, ℕ, Bool, true, false, List, [], ◌∷◌, ◌++◌, map, refl, ap, inl, inr}
 use Rattle.std.specs.Prelude.{◌⊎◌, Option, None, Some, if◌then◌else◌}
 use Rattle.std.specs.List.{list_any}

@@ -38,7 +38,7 @@ module _ (call : Call) (adds : adds_pfs call.command ≡ false) where
   abbrev become : PseudoFileSystem → PseudoFileSystem
   become s = if eqb s.number changed_one then renewed s else s
 
-  -- a call on names adds none
+  -- one that is no call for a PFS adds none
   none_added : (command : Command) → adds_pfs command ≡ false → (elim command as (λ c. Volume) [
     | PfsMaster path shared ↦ with_system (versioned call) (new_master (new_pfs call.volume) shared ((own_id call, root_tree) ∷ []))
     | PfsSlave path shared ↦ with_system (versioned call) (new_slave (new_pfs call.volume) shared)

@@ -1,4 +1,4 @@
--- A call on names over any store, as the next one of a history.
+-- A call over any store, as the next one of a history.
 use Rattle.std.specs.Prelude.{◌≡◌, ℕ, ◌^◌, List, [], ◌∷◌, ◌++◌, Option, IsSomeAnd, option_map}
 use Rattle.hm_types.specs.declared.id.Id.{Id}
 use Rattle.hm_key.specs.Balance.{IsBalanced, content_of}

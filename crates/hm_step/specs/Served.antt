@@ -1,4 +1,4 @@
--- What a call on names that was answered did.
+-- What a call that was answered did.
 use Rattle.std.specs.Prelude.{◌≡◌, ℕ, List, IsTrue, IsFalse}
 use Rattle.hm_types.specs.Elements.{FullElement}
 use Rattle.hm_model.specs.Call.{Call}

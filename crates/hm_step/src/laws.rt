@@ -43,9 +43,9 @@ pub fn drawing_an_id_leaves_what_stands()
         volume.last < GREATEST_ID → StandFor es (drawn (volume.last + 1) volume) }
 {}
 
-/// One step. Where elements stand for the volume of a history, and a call on names is answered as it
-/// is due, the elements that it leaves stand for the volume of the history with this call, and the
-/// call may follow: a legal history goes on legally.
+/// One step. Where elements stand for the volume of a history, and a call on names or on the bytes of
+/// files is answered as it is due, the elements that it leaves stand for the volume of the history
+/// with this call, and the call may follow: a legal history goes on legally.
 pub fn a_served_call_is_a_step()
     ensures stands { (run : Setting) (before : List Event) (event : Event) (room : ℕ → ℕ) (free : ℕ)
         (es es' : List FullElement) → IsNext run before event free es →
@@ -61,9 +61,9 @@ pub fn a_served_call_is_a_step()
         IsAllowed run before event }
 {}
 
-/// Where a device failed in a call on names, or memory was refused, and the elements are as they
-/// were, they stand for the volume of the history with this call, and the call may follow, if its
-/// reply tells counts of faults that were counted.
+/// Where a device failed in such a call, or memory was refused, and the elements are as they were,
+/// they stand for the volume of the history with this call, and the call may follow, if its reply
+/// tells counts of faults that were counted.
 pub fn a_failed_call_is_a_step()
     ensures stands { (run : Setting) (before : List Event) (event : Event) (free : ℕ)
         (es : List FullElement) → IsNext run before event free es →

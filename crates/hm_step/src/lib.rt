@@ -1,5 +1,5 @@
-//! One step of a history: what a call on names that was answered makes of the volume for which
-//! elements stand.
+//! One step of a history: what a call that was answered makes of the volume for which elements
+//! stand.
 //!
 //! It has the definitions, laws of what they say, and the call itself over any store.
 #![tactic(auto)]

@@ -1,12 +1,12 @@
-// A call on names, as the next one of a history.
+// A call, as the next one of a history.
 ghost use Rattle.std.specs.Prelude.{◌≡◌, ◌+◌, ◌<◌, IfOk, OnOk};
 ghost use Rattle.hm_types.specs.declared.limits.TheConstants.{GREATEST_ID};
 ghost use Rattle.hm_key.specs.Balance.{Balanced};
 ghost use Rattle.hm_key.specs.Stores.{Keeps};
 ghost use Rattle.hm_cursor.specs.Told.{HasReadingCause};
 ghost use Rattle.hm_model.specs.Forms.{IsInRange};
+ghost use Rattle.hm_calls.specs.Commands.{IsOnTrees, LowersRoomFor};
 ghost use Rattle.hm_calls.specs.Known.{AreKnown};
-ghost use Rattle.hm_calls.specs.Replies.{IsOnNames, LowersRoom};
 ghost use Rattle.hm_step.specs.Next.{IsStep};
 
 use hm_calls::answer;
@@ -16,10 +16,10 @@ use hm_model::{Command, Reply};
 use hm_types::{Counted, Fault, Id};
 use std::alloc::Global;
 
-/// Answers a call on names by the id after `last`, the last one that was drawn: the reply is a step of
-/// each history for whose volume the elements of the store stand, so that those that it leaves stand
-/// for the volume after it. What else it promises, and which faults it has, are those of `answer` of
-/// hm_calls. After a fault nothing is known of the content.
+/// Answers a call on names or on the bytes of files by the id after `last`, the last one that was
+/// drawn: the reply is a step of each history for whose volume the elements of the store stand, so
+/// that those that it leaves stand for the volume after it. What else it promises, and which faults it
+/// has, are those of `answer` of hm_calls. After a fault nothing is known of the content.
 pub fn answer_next<T: ElementStore + Extents>(
     alloc: Global,
     store: &mut T,
@@ -27,7 +27,7 @@ pub fn answer_next<T: ElementStore + Extents>(
     last: Id,
     busy: Option<Id>,
 ) -> Result<Reply, Fault>
-    requires command { IsOnNames command.now × IsInRange command.now }
+    requires command { IsOnTrees command.now × IsInRange command.now }
     requires left { last.0 < GREATEST_ID }
     requires balanced { Balanced (T.elements store.old) (T.extents store.old) }
     requires known { AreKnown (T.elements store.old) (T.extents store.old) (last.0 + 1) }
@@ -36,7 +36,7 @@ pub fn answer_next<T: ElementStore + Extents>(
     ensures known { OnOk result (AreKnown (T.elements store.new) (T.extents store.new)
         (last.0 + 2)) }
     ensures keeps { Keeps T.elements T.extents store.old store.new result }
-    ensures room { LowersRoom T.room store.old store.new }
+    ensures room { LowersRoomFor command.now T.room store.old store.new }
     ensures borrowed { (T.name store.new ≡ T.name store.old)
         × (T.frame store.new ≡ T.frame store.old) }
     ensures cause { HasReadingCause (T.elements store.old) (T.extents store.old)

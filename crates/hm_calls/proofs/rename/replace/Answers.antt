@@ -3,11 +3,14 @@ use Rattle.std.proofs.lemmas.Result.{err_from_is_err_and, on_ok_weaker}
 use Rattle.hm_key.specs.Balance.{content_of}
 use Rattle.hm_cursor.specs.Told.{fulls}
 use Rattle.hm_cursor.proofs.CallLemmas.{Change, Then, known_after, writes_both, writes_so}
+use Rattle.hm_files.specs.Close.{AreOlder as AreBytesOlder}
 use Rattle.hm_objects.specs.Objects.{IsOlder}
 use Rattle.hm_dirs.specs.Names.{AreOlder, TakesName}
 use Rattle.hm_calls.specs.Known.{AreBelow}
 use Rattle.hm_calls.specs.Writes.{DropsLink, PutsName, Replaces, place_of_name}
 use Rattle.hm_calls.proofs.CauseLemmas.{reading_cause_after}
+use Rattle.hm_calls.proofs.DropLemmas.{bytes_older_still}
+use Rattle.hm_calls.proofs.FileLemmas.{bytes_older}
 use Rattle.hm_calls.proofs.NameStepLemmas.{name_replaced}
 use Rattle.hm_calls.proofs.StepLemmas.{entries_older, entries_older_beside, entries_older_still, object_older, object_older_still, told_so}
 use Rattle.hm_calls.proofs.rename.replace.Goals as goal
@@ -61,6 +64,26 @@ drop_link-requires-clause-older g c =
     let (mid, first, then) = steps in
     object_older_still new.pfs i obj mid es' then.writes
     (object_older_still new.pfs i obj (fulls was) mid first.writes (object_older new.pfs i obj (fulls was) below)))
+    (writes_both g.T.HasElements.elements g.T.HasRoom.extents One Two c.args.store.now c.close_name.new.store c.close_name-2.new.store
+    c.in_ok-close_name.ensures.ok c.in_ok-close_name-2.ensures.ok)
+
+pub drop_link-requires-clause-bytes : goal.drop_link-requires-clause-bytes
+drop_link-requires-clause-bytes g c =
+    let hash = g.H.NameHash.hash_of c.args.hash.now in
+    let i = c.args.id.0 in
+    let old = place_of_name c.args.old in
+    let new = place_of_name c.args.new in
+    let obj = c.args.there.obj.0 in
+    let One : Change = TakesName hash new.pfs new.directory c.bytes.result.now i in
+    let Two : Change = TakesName hash new.pfs old.directory c.bytes-2.result.now i in
+    known_after g.T.HasElements.elements g.T.HasRoom.extents (Then One Two) (λ lists. AreBelow new.pfs i (fulls lists)) (AreBytesOlder new.pfs obj i 0)
+    c.args.store.now c.close_name-2.new.store
+    (c.in_ok-close_name-2.ensures.keeps.elements ∙ c.in_ok-close_name.ensures.keeps.elements)
+    (c.in_ok-close_name-2.ensures.keeps.extents ∙ c.in_ok-close_name.ensures.keeps.extents) c.requires.balanced c.requires.below
+    (λ was es' below steps.
+    let (mid, first, then) = steps in
+    bytes_older_still new.pfs i obj mid es' then.writes
+    (bytes_older_still new.pfs i obj (fulls was) mid first.writes (bytes_older new.pfs i obj (fulls was) below)))
     (writes_both g.T.HasElements.elements g.T.HasRoom.extents One Two c.args.store.now c.close_name.new.store c.close_name-2.new.store
     c.in_ok-close_name.ensures.ok c.in_ok-close_name-2.ensures.ok)
 

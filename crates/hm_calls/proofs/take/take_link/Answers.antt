@@ -3,11 +3,14 @@ use Rattle.std.proofs.lemmas.Result.{on_ok_weaker}
 use Rattle.hm_key.specs.Balance.{content_of}
 use Rattle.hm_cursor.specs.Told.{fulls}
 use Rattle.hm_cursor.proofs.CallLemmas.{Change, Then, known_after, writes_both, writes_so}
+use Rattle.hm_files.specs.Close.{AreOlder}
 use Rattle.hm_objects.specs.Objects.{IsOlder}
 use Rattle.hm_dirs.specs.Names.{TakesName}
 use Rattle.hm_calls.specs.Known.{AreBelow}
 use Rattle.hm_calls.specs.Writes.{DropsLink, TakesLink, place_in}
 use Rattle.hm_calls.proofs.CauseLemmas.{reading_cause_after}
+use Rattle.hm_calls.proofs.DropLemmas.{bytes_older_still}
+use Rattle.hm_calls.proofs.FileLemmas.{bytes_older}
 use Rattle.hm_calls.proofs.NameStepLemmas.{link_taken}
 use Rattle.hm_calls.proofs.StepLemmas.{entries_older, object_older, object_older_still, told_so}
 use Rattle.hm_calls.proofs.take.take_link.Goals as goal
@@ -27,6 +30,17 @@ drop_link-requires-clause-older g c =
     c.in_ok-close_name.ensures.keeps.elements c.in_ok-close_name.ensures.keeps.extents c.requires.balanced c.requires.below
     (λ was mid below takes. object_older_still at.pfs.0 c.args.id.0 c.args.obj.0 (fulls was) mid takes.writes
     (object_older at.pfs.0 c.args.id.0 c.args.obj.0 (fulls was) below))
+    c.in_ok-close_name.ensures.ok
+
+pub drop_link-requires-clause-bytes : goal.drop_link-requires-clause-bytes
+drop_link-requires-clause-bytes g c =
+    let at = c.args.directory.now.at in
+    known_after g.T.HasElements.elements g.T.HasRoom.extents
+    (TakesName (g.H.NameHash.hash_of c.args.hash.now) at.pfs.0 at.object c.bytes.result.now c.args.id.0)
+    (λ lists. AreBelow at.pfs.0 c.args.id.0 (fulls lists)) (AreOlder at.pfs.0 c.args.obj.0 c.args.id.0 0) c.args.store.now c.close_name.new.store
+    c.in_ok-close_name.ensures.keeps.elements c.in_ok-close_name.ensures.keeps.extents c.requires.balanced c.requires.below
+    (λ was mid below takes. bytes_older_still at.pfs.0 c.args.id.0 c.args.obj.0 (fulls was) mid takes.writes
+    (bytes_older at.pfs.0 c.args.id.0 c.args.obj.0 (fulls was) below))
     c.in_ok-close_name.ensures.ok
 
 pub returns-clause-ok : goal.returns-clause-ok

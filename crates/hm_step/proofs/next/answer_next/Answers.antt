@@ -1,9 +1,5 @@
-use Rattle.hm_calls.proofs.CommandLemmas.{names_on_trees}
 use Rattle.hm_step.proofs.NextCallLemmas.{each_step}
 use Rattle.hm_step.proofs.next.answer_next.Goals as goal
-
-pub answer-requires-clause-command : goal.answer-requires-clause-command
-answer-requires-clause-command g c = (names_on_trees c.args.command.now c.requires.command.0, c.requires.command.1)
 
 pub returns-clause-step : goal.returns-clause-step
 returns-clause-step g c =
