@@ -1,7 +1,8 @@
 // What follows from the definitions alone: each function states one law, and does nothing.
-ghost use Rattle.std.specs.Prelude.{◌≡◌, ℕ, List, Some};
+ghost use Rattle.std.specs.Prelude.{◌≡◌, ℕ, List, Option, Some};
 ghost use Rattle.hm_types.specs.Elements.{FullElement};
 ghost use Rattle.hm_disk.specs.Crash.{Told};
+ghost use Rattle.hm_fields.specs.Fields.{AreBytes};
 ghost use Rattle.hm_header.specs.declared.header.Header.{Header};
 ghost use Rattle.hm_header.specs.OnDisk.{HasHeader};
 ghost use Rattle.hm_pages.specs.Store.{Store};
@@ -17,12 +18,21 @@ ghost use Rattle.hm_state.specs.Volume.{HoldsVolume};
 ghost use Rattle.hm_state.specs.Written.{HasSamePayloads, IsHeaderOf, IsWritten};
 
 /// Where the bytes of a disk stand for a volume, the space over the pages that were loaded from them
-/// and over that disk, with the books of their header, holds this volume.
+/// and over that disk, with the books of their header, holds this volume. The header is that of the
+/// space, and the disk has all that it holds.
 pub fn a_mounted_volume_is_held()
-    ensures { (t : Told) (header : Header) (slot : ℕ) (s : Store) (books : Books) (volume : Volume) →
-        StandsFor t.bytes volume → HasHeader t.bytes header slot → IsLoaded header s →
-        HoldsImage t.bytes header s → IsBooksOf header books →
+    ensures held { (t : Told) (header : Header) (slot : ℕ) (s : Store) (books : Books)
+        (volume : Volume) → StandsFor t.bytes volume → HasHeader t.bytes header slot →
+        IsLoaded header s → HoldsImage t.bytes header s → IsBooksOf header books →
         HoldsVolume (heap_of s (Some t) books) header.root header.last.0 volume }
+    ensures header { (told : Option Told) (header : Header) (s : Store) (books : Books) →
+        IsBooksOf header books →
+        IsHeaderOf (heap_of s told books) header.root header.last.0 header }
+    ensures written { (t : Told) (header : Header) (slot : ℕ) (s : Store) (books : Books)
+        (volume : Volume) → StandsFor t.bytes volume → HasHeader t.bytes header slot →
+        IsLoaded header s → HoldsImage t.bytes header s → IsBooksOf header books →
+        ((at : ℕ) (page : List ℕ) → s.current at ≡ Some page → AreBytes page) →
+        IsWritten (heap_of s (Some t) books) header.root t.bytes }
 {}
 
 /// Where a space holds a volume, bytes to which all of it was written, and whose header is that of
