@@ -1,12 +1,14 @@
 -- The space over the pages that were loaded from a sound image holds the volume of the image.
-use Rattle.std.proofs.Common.{◌≡◌, Bool, true, false, true≢false, ℕ, ◌+◌, ◌*◌, ◌<◌, ◌≤◌, List, Option, Some, None, IsSome, refl, sym, ap, subst, ◌∙◌, arith}
-use Rattle.std.proofs.Common.{length, map, pos, slice_index, is_some, ◌&&◌, ◌+ℤ◌}
+use Rattle.std.proofs.Common.{◌≡◌, ◌⊎◌, true≢false, ℕ, ◌+◌, ◌*◌, ◌<◌, ◌≤◌, List, Option, Some, None, IsSome, refl, sym, ap, subst, ◌∙◌, arith}
+use Rattle.std.proofs.Common.{length, map, pos, slice_index, is_some, ◌+ℤ◌}
 use Rattle.std.specs.Prelude.{IfSome}
 use Rattle.std.specs.List.{All, Contains}
 use Rattle.std.proofs.lemmas.List.Elements.{All-contains, All-contains_itself, All-weaker}
 use Rattle.hm_types.specs.Layout.{IsPool, blocks_per_layer2, layer2_blocks, start_of}
+use Rattle.hm_types.specs.Offset.{zone_of}
 use Rattle.hm_types.specs.References.{AreFew, IsPlaced, NoneOverlap, Reference, end_of, live_bytes}
 use Rattle.hm_types.specs.declared.limits.TheConstants.{BIGBLOCK_BYTES}
+use Rattle.hm_types.specs.declared.zone.TheConstants.{TREE_ZONE}
 use Rattle.hm_disk.specs.Crash.{Told}
 use Rattle.hm_fields.specs.Fields.{AreBytes}
 use Rattle.hm_fields.specs.Pages.{PageMap, page_in}
@@ -21,6 +23,7 @@ use Rattle.hm_freemap.specs.Places.{page_of, place_of}
 use Rattle.hm_freemap.specs.Stand.{AreAppended, IsBelow, StandBy, Tells, entry_of, entry_page, home_of}
 use Rattle.hm_freemap.specs.declared.entry.Entry.{Entry}
 use Rattle.hm_freemap.proofs.BoundLemmas.{live_few}
+use Rattle.hm_freemap.proofs.ListLemmas.{and_right}
 use Rattle.hm_freemap.proofs.SpellLemmas.{entry_back}
 use Rattle.hm_model.specs.Volume.{Volume}
 use Rattle.hm_pages.specs.Sets.{in_freemap}
@@ -30,7 +33,7 @@ use Rattle.hm_image.specs.Same.{HasSameBytes}
 use Rattle.hm_image.specs.Sound.{HasEntry, HasLayer1, IsAmongPayloads, IsFilled, IsSoundBy}
 use Rattle.hm_image.specs.StandFor.{StandFor}
 use Rattle.hm_image.specs.Stands.{StandsFor}
-use Rattle.hm_load.specs.Freemap.{HoldsEntryOf}
+use Rattle.hm_load.specs.Freemap.{HoldsEntryOf, IsPageOf}
 use Rattle.hm_load.specs.Held.{HoldsImage}
 use Rattle.hm_load.specs.Loaded.{IsLoaded}
 use Rattle.hm_load.proofs.TreeLemmas.{Keeps, same_there}
@@ -40,7 +43,7 @@ use Rattle.hm_stored.specs.Mounted.{IsBooksOf}
 use Rattle.hm_stored.specs.Standing.{basis_now}
 use Rattle.hm_stored.specs.declared.books.Books.{Books}
 use Rattle.hm_state.specs.Volume.{HoldsVolume}
-use Rattle.hm_state.specs.Written.{IsHeaderOf, IsWritten}
+use Rattle.hm_state.specs.Written.{AreOfVolume, IsHeaderOf, IsWritten}
 use Rattle.hm_state.proofs.FreeLemmas.{free_fits, free_sum}
 use Rattle.hm_state.proofs.KeptLemmas.{all_kept, nodes_keep, references_kept}
 use Rattle.hm_state.proofs.ListLemmas.{all_thrice, apart_thrice}
@@ -183,16 +186,11 @@ module _ (header : Header) (s : Store) (books : Books) (loaded : IsLoaded header
             } ≡ plain header s.current
         by_parts n a c f x y first second third fourth fifth sixth = rw (first, second, third, fourth, fifth, sixth) refl
 
--- both of two tests that hold
-second : (a b : Bool) → (a && b) ≡ true → b ≡ true
-second true b is = is
-second false b is = absurd (true≢false (sym is))
-
 -- the pages of layer 2 are there
 layer2_there : (header : Header) (s : Store) → IsLoaded header s → (block : ℕ) → block < header.bigblocks → IsSome (s.current (page_of block))
 layer2_there header s loaded block below =
     subst (λ (pages : PageMap). IsSome (pages (page_of block))) (sym loaded.plain.current)
-    (second (in_freemap (page_of block)) (is_some (s.committed (page_of block))) (loaded.layer2 block below))
+    (and_right (in_freemap (page_of block)) (is_some (s.committed (page_of block))) (loaded.layer2 block below))
 
 -- two headers of an image are one
 header_sound : (image : List ℕ) (header : Header) (slot : ℕ) (volume : Volume) → (stands : StandsFor image volume) → HasHeader image header slot
@@ -205,6 +203,13 @@ pub mounted_header : (told : Option Told) (header : Header) (s : Store) (books :
     → IsHeaderOf (heap_of s told books) header.root header.last.0 header
 unfolding heap_of
 mounted_header told header s books is = record { bigblocks = sym is.bigblocks; append = sym is.append.1; root_is = refl; last_is = refl }
+
+-- and its pages are nodes, or of layer 2
+pub mounted_pages : (told : Option Told) (header : Header) (s : Store) (books : Books) → IsLoaded header s → IsBooksOf header books
+    → AreOfVolume (heap_of s told books)
+unfolding heap_of
+mounted_pages told header s books loaded is at there =
+    subst (λ (n : ℕ). (zone_of at ≡ TREE_ZONE) ⊎ IsPageOf n at) (sym is.bigblocks) (loaded.only at there)
 
 module _ (t : Told) (header : Header) (slot : ℕ) (s : Store) (books : Books) (volume : Volume) (stands : StandsFor t.bytes volume)
     (counts : HasHeader t.bytes header slot) (loaded : IsLoaded header s) (holds : HoldsImage t.bytes header s) (is : IsBooksOf header books) where
