@@ -15,7 +15,7 @@ use Rattle.hm_image.specs.Same.{HasSameBytes, HasSameTree}
 use Rattle.hm_image.proofs.ReferenceLemmas.{All-left, All-right, reached_is_referred, same_nodes}
 
 -- the page of a node whose bytes are the same
-page_same : (old new : List ℕ) (at : ℕ) → length new ≡ length old → HasSameBytes old new (to_node at) → pages_of new at ≡ pages_of old at
+pub page_same : (old new : List ℕ) (at : ℕ) → length new ≡ length old → HasSameBytes old new (to_node at) → pages_of new at ≡ pages_of old at
 page_same old new at size bytes = rw (size, bytes) refl
 
 -- elements whose payloads are the same

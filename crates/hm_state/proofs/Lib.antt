@@ -5,3 +5,4 @@ pub mod FreeLemmas
 pub mod SameLemmas
 pub mod MountedLemmas
 pub mod WrittenLemmas
+pub mod StaysLemmas

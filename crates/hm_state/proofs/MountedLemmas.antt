@@ -1,13 +1,16 @@
 -- The space over the pages that were loaded from a sound image holds the volume of the image.
-use Rattle.std.proofs.Common.{◌≡◌, Bool, true, false, true≢false, ℕ, ◌+◌, ◌*◌, ◌<◌, ◌≤◌, List, Option, Some, None, IsSome, refl, sym, ap, subst, ◌∙◌, arith}
-use Rattle.std.proofs.Common.{length, map, pos, slice_index, is_some, ◌&&◌, ◌+ℤ◌}
+use Rattle.std.proofs.Common.{◌≡◌, ◌⊎◌, true≢false, ℕ, ◌+◌, ◌*◌, ◌<◌, ◌≤◌, List, Option, Some, None, IsSome, refl, sym, ap, subst, ◌∙◌, arith}
+use Rattle.std.proofs.Common.{length, map, pos, slice_index, is_some, ◌+ℤ◌}
 use Rattle.std.specs.Prelude.{IfSome}
 use Rattle.std.specs.List.{All, Contains}
 use Rattle.std.proofs.lemmas.List.Elements.{All-contains, All-contains_itself, All-weaker}
 use Rattle.hm_types.specs.Layout.{IsPool, blocks_per_layer2, layer2_blocks, start_of}
+use Rattle.hm_types.specs.Offset.{zone_of}
 use Rattle.hm_types.specs.References.{AreFew, IsPlaced, NoneOverlap, Reference, end_of, live_bytes}
 use Rattle.hm_types.specs.declared.limits.TheConstants.{BIGBLOCK_BYTES}
+use Rattle.hm_types.specs.declared.zone.TheConstants.{TREE_ZONE}
 use Rattle.hm_disk.specs.Crash.{Told}
+use Rattle.hm_fields.specs.Fields.{AreBytes}
 use Rattle.hm_fields.specs.Pages.{PageMap, page_in}
 use Rattle.hm_header.specs.OnDisk.{HasHeader, first_slot, second_slot}
 use Rattle.hm_header.specs.declared.header.Header.{Header}
@@ -20,15 +23,17 @@ use Rattle.hm_freemap.specs.Places.{page_of, place_of}
 use Rattle.hm_freemap.specs.Stand.{AreAppended, IsBelow, StandBy, Tells, entry_of, entry_page, home_of}
 use Rattle.hm_freemap.specs.declared.entry.Entry.{Entry}
 use Rattle.hm_freemap.proofs.BoundLemmas.{live_few}
+use Rattle.hm_freemap.proofs.ListLemmas.{and_right}
 use Rattle.hm_freemap.proofs.SpellLemmas.{entry_back}
 use Rattle.hm_model.specs.Volume.{Volume}
 use Rattle.hm_pages.specs.Sets.{in_freemap}
 use Rattle.hm_pages.specs.Store.{Store}
-use Rattle.hm_image.specs.Image.{elements_from, full_of, pages_of, references_from}
-use Rattle.hm_image.specs.Sound.{IsAmongPayloads, IsFilled, IsSoundBy}
+use Rattle.hm_image.specs.Image.{elements_from, full_of, pages_of, references_from, to_payload}
+use Rattle.hm_image.specs.Same.{HasSameBytes}
+use Rattle.hm_image.specs.Sound.{HasEntry, HasLayer1, IsAmongPayloads, IsFilled, IsSoundBy}
 use Rattle.hm_image.specs.StandFor.{StandFor}
 use Rattle.hm_image.specs.Stands.{StandsFor}
-use Rattle.hm_load.specs.Freemap.{HoldsEntryOf}
+use Rattle.hm_load.specs.Freemap.{HoldsEntryOf, IsPageOf}
 use Rattle.hm_load.specs.Held.{HoldsImage}
 use Rattle.hm_load.specs.Loaded.{IsLoaded}
 use Rattle.hm_load.proofs.TreeLemmas.{Keeps, same_there}
@@ -38,6 +43,7 @@ use Rattle.hm_stored.specs.Mounted.{IsBooksOf}
 use Rattle.hm_stored.specs.Standing.{basis_now}
 use Rattle.hm_stored.specs.declared.books.Books.{Books}
 use Rattle.hm_state.specs.Volume.{HoldsVolume}
+use Rattle.hm_state.specs.Written.{AreOfVolume, IsHeaderOf, IsWritten}
 use Rattle.hm_state.proofs.FreeLemmas.{free_fits, free_sum}
 use Rattle.hm_state.proofs.KeptLemmas.{all_kept, nodes_keep, references_kept}
 use Rattle.hm_state.proofs.ListLemmas.{all_thrice, apart_thrice}
@@ -129,17 +135,34 @@ module _ (image : List ℕ) (header : Header) (sound : IsSoundBy image header) (
         few = (few, few, few);
       }
 
+  -- a big-block outside the pool has the entry that it must
+  outside_has : (block : ℕ) → block < layer2_blocks header.bigblocks * blocks_per_layer2 → ¬ IsPool header.bigblocks block
+      → HasEntry image block (entry_outside header.bigblocks block)
+  outside_has block low outside =
+      let each = sound.layer2.each block low in
+      record {
+        page = each.0.page;
+        there = each.0.there;
+        spelled = subst (λ (e : Entry). SpellsEntry each.0.page (place_of block) e)
+            (outside_is header.bigblocks block outside (sound.entries block) each.1) each.0.spelled;
+      }
+
   fixed : AreFixed header.bigblocks current
   fixed block low outside = by_page (current (page_of block)) refl where
-    by_page : (o : Option (List ℕ)) → current (page_of block) ≡ o → IfSome o (λ page. SpellsEntry page (place_of block) (entry_outside header.bigblocks block))
+    by_page : (o : Option (List ℕ)) → current (page_of block) ≡ o
+        → IfSome o (λ page. SpellsEntry page (place_of block) (entry_outside header.bigblocks block))
     by_page None is = tt
     by_page (Some page) is =
-        let each = sound.layer2.each block low in
-        let both : Some each.0.page ≡ Some page = sym each.0.there ∙ keeps (page_of block) page is in
-        let same : each.0.page ≡ page = cc in
-        subst (λ (p : List ℕ). SpellsEntry p (place_of block) (entry_outside header.bigblocks block)) same
-        (subst (λ (e : Entry). SpellsEntry each.0.page (place_of block) e)
-        (outside_is header.bigblocks block outside (sound.entries block) each.1) each.0.spelled)
+        let has = outside_has block low outside in
+        let both : Some has.page ≡ Some page = sym has.there ∙ keeps (page_of block) page is in
+        let same : has.page ≡ page = cc in
+        subst (λ (p : List ℕ). SpellsEntry p (place_of block) (entry_outside header.bigblocks block)) same has.spelled
+
+  -- no page with an entry of the pool is missing
+  pub plain_past : (block : ℕ) → block < layer2_blocks header.bigblocks * blocks_per_layer2 → current (page_of block) ≡ None
+      → HasEntry image block (entry_outside header.bigblocks block)
+  plain_past block low none =
+      outside_has block low (λ pool. true≢false (sym (there block pool.1) ∙ ap (λ (o : Option (List ℕ)). is_some o) none))
 
   pub plain_firm : IsFirm (plain header current)
   plain_firm = record { tree = tree; stand = stand; zones = subst (All IsAmongPayloads) es_same sound.extents.zones; fixed = fixed }
@@ -163,37 +186,70 @@ module _ (header : Header) (s : Store) (books : Books) (loaded : IsLoaded header
             } ≡ plain header s.current
         by_parts n a c f x y first second third fourth fifth sixth = rw (first, second, third, fourth, fifth, sixth) refl
 
--- both of two tests that hold
-second : (a b : Bool) → (a && b) ≡ true → b ≡ true
-second true b is = is
-second false b is = absurd (true≢false (sym is))
-
 -- the pages of layer 2 are there
 layer2_there : (header : Header) (s : Store) → IsLoaded header s → (block : ℕ) → block < header.bigblocks → IsSome (s.current (page_of block))
 layer2_there header s loaded block below =
     subst (λ (pages : PageMap). IsSome (pages (page_of block))) (sym loaded.plain.current)
-    (second (in_freemap (page_of block)) (is_some (s.committed (page_of block))) (loaded.layer2 block below))
+    (and_right (in_freemap (page_of block)) (is_some (s.committed (page_of block))) (loaded.layer2 block below))
 
-pub mounted : (t : Told) (header : Header) (slot : ℕ) (s : Store) (books : Books) (volume : Volume) → StandsFor t.bytes volume
-    → HasHeader t.bytes header slot → IsLoaded header s → HoldsImage t.bytes header s → IsBooksOf header books
-    → HoldsVolume (heap_of s (Some t) books) header.root header.last.0 volume
+-- two headers of an image are one
+header_sound : (image : List ℕ) (header : Header) (slot : ℕ) (volume : Volume) → (stands : StandsFor image volume) → HasHeader image header slot
+    → stands.header ≡ header
+header_sound image header slot volume stands counts =
+    (chosen_is_one (first_slot image) (second_slot image) (length image) stands.header header stands.sound.slot slot stands.sound.counts counts).0
+
+-- the header of a volume is that of its space
+pub mounted_header : (told : Option Told) (header : Header) (s : Store) (books : Books) → IsBooksOf header books
+    → IsHeaderOf (heap_of s told books) header.root header.last.0 header
 unfolding heap_of
-mounted t header slot s books volume stands counts loaded holds is =
-    let image = t.bytes in
-    let one : stands.header ≡ header =
-    (chosen_is_one (first_slot image) (second_slot image) (length image) stands.header header stands.sound.slot slot stands.sound.counts counts).0 in
-    let sound = subst (IsSoundBy image) one stands.sound in
-    let there = layer2_there header s loaded in
-    let same = sym (basis_is header s books loaded is (Some t)) in
-    let firm = subst IsFirm same (plain_firm image header sound s.current holds.pages there loaded.entries loaded.tree) in
-    let fulls = subst (λ (b : Basis). fulls_in b image ≡ elements_from image header.root) same
-    (plain_fulls image header sound s.current holds.pages there loaded.entries loaded.tree) in
-    record {
-      bigblocks = is.bigblocks ∙ (ap (λ (h : Header). h.bigblocks) (sym one) ∙ stands.bigblocks);
-      last_is = ap (λ (h : Header). h.last.0) (sym one) ∙ stands.last;
-      elements = (
-        elements_from image header.root,
-        record { firm = firm; elements = fulls },
-        subst (λ (h : Header). StandFor (elements_from image h.root) volume) one stands.elements,
-      );
-    }
+mounted_header told header s books is = record { bigblocks = sym is.bigblocks; append = sym is.append.1; root_is = refl; last_is = refl }
+
+-- and its pages are nodes, or of layer 2
+pub mounted_pages : (told : Option Told) (header : Header) (s : Store) (books : Books) → IsLoaded header s → IsBooksOf header books
+    → AreOfVolume (heap_of s told books)
+unfolding heap_of
+mounted_pages told header s books loaded is at there =
+    subst (λ (n : ℕ). (zone_of at ≡ TREE_ZONE) ⊎ IsPageOf n at) (sym is.bigblocks) (loaded.only at there)
+
+module _ (t : Told) (header : Header) (slot : ℕ) (s : Store) (books : Books) (volume : Volume) (stands : StandsFor t.bytes volume)
+    (counts : HasHeader t.bytes header slot) (loaded : IsLoaded header s) (holds : HoldsImage t.bytes header s) (is : IsBooksOf header books) where
+  one : stands.header ≡ header
+  one = header_sound t.bytes header slot volume stands counts
+
+  sound : IsSoundBy t.bytes header
+  sound = subst (IsSoundBy t.bytes) one stands.sound
+
+  pub mounted : HoldsVolume (heap_of s (Some t) books) header.root header.last.0 volume
+  unfolding heap_of
+  mounted =
+      let image = t.bytes in
+      let there = layer2_there header s loaded in
+      let same = sym (basis_is header s books loaded is (Some t)) in
+      let firm = subst IsFirm same (plain_firm image header sound s.current holds.pages there loaded.entries loaded.tree) in
+      let fulls = subst (λ (b : Basis). fulls_in b image ≡ elements_from image header.root) same
+      (plain_fulls image header sound s.current holds.pages there loaded.entries loaded.tree) in
+      record {
+        bigblocks = is.bigblocks ∙ (ap (λ (h : Header). h.bigblocks) (sym one) ∙ stands.bigblocks);
+        last_is = ap (λ (h : Header). h.last.0) (sym one) ∙ stands.last;
+        elements = (
+          elements_from image header.root,
+          record { firm = firm; elements = fulls },
+          subst (λ (h : Header). StandFor (elements_from image h.root) volume) one stands.elements,
+        );
+      }
+
+  -- the disk has all of the space
+  pub mounted_written : ((at : ℕ) (page : List ℕ) → s.current at ≡ Some page → AreBytes page) → IsWritten (heap_of s (Some t) books) header.root t.bytes
+  unfolding heap_of
+  mounted_written bytes =
+      let there = layer2_there header s loaded in
+      let past = plain_past t.bytes header sound s.current holds.pages there loaded.entries loaded.tree in
+      let rs = map to_payload (elements_of (nodes s.current) header.root) in
+      record {
+        layer1 = subst (HasLayer1 t.bytes) (sym is.bigblocks) sound.layer1;
+        pages = holds.pages;
+        bytes = bytes;
+        past = λ block low none. subst (λ (n : ℕ). HasEntry t.bytes block (entry_outside n block)) (sym is.bigblocks)
+            (past block (subst (λ (n : ℕ). block < layer2_blocks n * blocks_per_layer2) is.bigblocks low) none);
+        payloads = All-weaker (Contains rs) (HasSameBytes t.bytes t.bytes) (λ r at. refl) rs (All-contains_itself rs);
+      }

@@ -44,10 +44,6 @@ use Rattle.hm_state.proofs.KeptLemmas.{all_kept, nodes_keep, references_kept, so
 use Rattle.hm_state.proofs.OutsideLemmas.{in_pool, no_zero_entry, outside_entry}
 use Rattle.hm_state.proofs.SameLemmas.{fulls_same}
 
-place_fits : (block : ℕ) → place_of block + 16 ≤ PAGE_BYTES
-unfolding place_of
-place_fits block = omega arith
-
 -- a page of an image is whole
 page_length : (image : List ℕ) (at : ℕ) (page : List ℕ) → pages_of image at ≡ Some page → length page ≡ PAGE_BYTES
 page_length image at page is =
@@ -92,6 +88,7 @@ module _ (h : Heap) (root : ℕ) (firm : IsFirm (basis_now h root)) (image : Lis
   HasOwn block e = HasEntry image block e × IsEntryOf h.bigblocks block e
 
   own_in_pool : (block : ℕ) → IsPool h.bigblocks block → HasOwn block (entries block)
+  unfolding place_of
   own_in_pool block pool = by_page (current (page_of block)) refl (pool_there block pool) where
     by_page : (o : Option (List ℕ)) → current (page_of block) ≡ o → IsSome o → HasOwn block (entries block)
     by_page None is there = absurd (true≢false (sym there))
@@ -102,7 +99,7 @@ module _ (h : Heap) (root : ℕ) (firm : IsFirm (basis_now h root)) (image : Lis
         subst (λ (o : Option (List ℕ)). IsPoolEntry (entry_in (page_in o) (place_of block))) is held.entry in
         let zero : get page (place_of block + 12) 4 ≡ 0 =
         subst (λ (o : Option (List ℕ)). get (page_in o) (place_of block + 12) 4 ≡ 0) is held.zero in
-        let room : place_of block + 16 ≤ length page = omega (arith, place_fits block, page_length image (page_of block) page here) in
+        let room : place_of block + 16 ≤ length page = omega (arith, page_length image (page_of block) page here) in
         let spelled = entry_spelled page (place_of block) (written.bytes (page_of block) page is) room (record { entry = inl entry; zero = zero }) in
         let same : entries block ≡ entry_in page (place_of block) = ap (λ (o : Option (List ℕ)). entry_in (page_in o) (place_of block)) here in
         subst (HasOwn block) (sym same) (

@@ -1,28 +1,43 @@
 // What follows from the definitions alone: each function states one law, and does nothing.
-ghost use Rattle.std.specs.Prelude.{◌≡◌, ℕ, List, Some};
+ghost use Rattle.std.specs.Prelude.{◌≡◌, ℕ, List, Option, Some};
 ghost use Rattle.hm_types.specs.Elements.{FullElement};
 ghost use Rattle.hm_disk.specs.Crash.{Told};
+ghost use Rattle.hm_fields.specs.Fields.{AreBytes};
 ghost use Rattle.hm_header.specs.declared.header.Header.{Header};
 ghost use Rattle.hm_header.specs.OnDisk.{HasHeader};
+ghost use Rattle.hm_btree.specs.Tree.{IsTreeSpace};
 ghost use Rattle.hm_pages.specs.Store.{Store};
 ghost use Rattle.hm_model.specs.Volume.{Volume};
+ghost use Rattle.hm_image.specs.Same.{HasSameFreemap, HasSameTree};
 ghost use Rattle.hm_image.specs.Stands.{StandsFor};
 ghost use Rattle.hm_load.specs.Held.{HoldsImage};
 ghost use Rattle.hm_load.specs.Loaded.{IsLoaded};
 ghost use Rattle.hm_stored.specs.declared.books.Books.{Books};
+ghost use Rattle.hm_stored.specs.Basis.{nodes};
 ghost use Rattle.hm_stored.specs.Heap.{Heap, heap_of};
 ghost use Rattle.hm_stored.specs.Mounted.{IsBooksOf};
 ghost use Rattle.hm_stored.specs.Standing.{Holds};
 ghost use Rattle.hm_state.specs.Volume.{HoldsVolume};
-ghost use Rattle.hm_state.specs.Written.{HasSamePayloads, IsHeaderOf, IsWritten};
+ghost use Rattle.hm_state.specs.Written.{AreOfVolume, HasSamePayloads, IsHeaderOf, IsWritten};
 
 /// Where the bytes of a disk stand for a volume, the space over the pages that were loaded from them
-/// and over that disk, with the books of their header, holds this volume.
+/// and over that disk, with the books of their header, holds this volume. The header is that of the
+/// space, its pages are of its volume, and the disk has all that it holds.
 pub fn a_mounted_volume_is_held()
-    ensures { (t : Told) (header : Header) (slot : ℕ) (s : Store) (books : Books) (volume : Volume) →
-        StandsFor t.bytes volume → HasHeader t.bytes header slot → IsLoaded header s →
-        HoldsImage t.bytes header s → IsBooksOf header books →
+    ensures held { (t : Told) (header : Header) (slot : ℕ) (s : Store) (books : Books)
+        (volume : Volume) → StandsFor t.bytes volume → HasHeader t.bytes header slot →
+        IsLoaded header s → HoldsImage t.bytes header s → IsBooksOf header books →
         HoldsVolume (heap_of s (Some t) books) header.root header.last.0 volume }
+    ensures header { (told : Option Told) (header : Header) (s : Store) (books : Books) →
+        IsBooksOf header books →
+        IsHeaderOf (heap_of s told books) header.root header.last.0 header }
+    ensures pages { (told : Option Told) (header : Header) (s : Store) (books : Books) →
+        IsLoaded header s → IsBooksOf header books → AreOfVolume (heap_of s told books) }
+    ensures written { (t : Told) (header : Header) (slot : ℕ) (s : Store) (books : Books)
+        (volume : Volume) → StandsFor t.bytes volume → HasHeader t.bytes header slot →
+        IsLoaded header s → HoldsImage t.bytes header s → IsBooksOf header books →
+        ((at : ℕ) (page : List ℕ) → s.current at ≡ Some page → AreBytes page) →
+        IsWritten (heap_of s (Some t) books) header.root t.bytes }
 {}
 
 /// Where a space holds a volume, bytes to which all of it was written, and whose header is that of
@@ -39,4 +54,12 @@ pub fn payloads_are_all_that_matters_of_a_disk()
     ensures { (h : Heap) (root : ℕ) (es : List FullElement) (old new : Told) → h.disk ≡ Some old →
         HasSamePayloads h root old.bytes new.bytes → Holds h root es →
         Holds (record h { disk = Some new }) root es }
+{}
+
+/// Bytes that have all of a space have it still, where both layers of the freemap stay, and the bytes
+/// of all that its tree refers to: nothing else that is written to a disk touches it.
+pub fn what_was_written_stays()
+    ensures { (h : Heap) (root : ℕ) (old new : List ℕ) → IsTreeSpace (nodes h.pages.current) root →
+        AreOfVolume h → IsWritten h root old → HasSameFreemap old new h.bigblocks →
+        HasSameTree old new root → IsWritten h root new }
 {}
