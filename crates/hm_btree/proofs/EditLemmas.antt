@@ -23,7 +23,7 @@ use Rattle.hm_node.specs.declared.inner.Inner.{Inner}
 use Rattle.hm_node.specs.declared.node.Node.{Node}
 use Rattle.hm_node.specs.declared.node.Node.TheVariants.{Inner as inner_node}
 use Rattle.hm_search.specs.Descent.{IsFaultBelow, StandsHere}
-use Rattle.hm_search.specs.Place.{IsInside, BeginsAt, Fits, FitsCount, TellsDamage, mirror_of}
+use Rattle.hm_search.specs.Place.{IsInside, BeginsAt, FitsCount, FitsLevel, TellsDamage, mirror_of}
 use Rattle.hm_search.specs.Search.{holder_place}
 use Rattle.hm_search.specs.Tree.{node_at, elements_in, next_left, child_place, children_of, IsTree, IsStoredTree}
 use Rattle.hm_search.specs.declared.subtree.Parent.{Parent}
@@ -35,7 +35,7 @@ use Rattle.hm_search.proofs.ListLemmas.{each_so, each_append, each_get}
 use Rattle.hm_btree.specs.Marking.{Marking}
 use Rattle.hm_btree.specs.Edits.{inner_of, with_mirror}
 use Rattle.hm_btree.specs.Space.{HasWritten}
-use Rattle.hm_btree.specs.Below.{elements_under, IsLocal, Changed, HasEditCause}
+use Rattle.hm_btree.specs.Below.{elements_under, IsLocal, Changed, HasEditCause, SpellsAt}
 use Rattle.hm_btree.proofs.ChangeLemmas.{inside_under}
 use Rattle.hm_btree.proofs.LocalLemmas.{before_not_at, after_not_at}
 use Rattle.hm_btree.proofs.NodeLemmas.{holder_inside, changed_written, changed_within, changed_above}
@@ -44,16 +44,16 @@ use Rattle.hm_btree.proofs.ToldLemmas.{IfSome_both, IfSome_kept}
 use Rattle.hm_btree.proofs.UnderLemmas.{stored_front, stored_back}
 
 -- a child that was read is one level lower
-pub child_level : (inner : Inner) (i : ℕ) (s : Subtree) (child : Node) → slice_get (children_of inner) i ≡ Some s → Fits s child
-    → level_of child + 1 ≡ inner.level
+pub child_level : (inner : Inner) (i : ℕ) (s : Subtree) (child : Node) → slice_get (children_of inner) i ≡ Some s
+    → FitsLevel s.parent child → level_of child + 1 ≡ inner.level
 child_level inner i s child at fits =
     let there = place_is inner.level inner.right inner.places.items i s at in
     by_place s there.place fits where
-      by_place : (s : Subtree) {b : Base} {c : Child} → s ≡ child_place inner.level b c → Fits s child → level_of child + 1 ≡ inner.level
-      by_place s {b = b} {c = c} same fits = (subst (λ (t : Subtree). Fits t child) same fits).level
+      by_place : (s : Subtree) {b : Base} {c : Child} → s ≡ child_place inner.level b c → FitsLevel s.parent child → level_of child + 1 ≡ inner.level
+      by_place s {b = b} {c = c} same fits = subst (λ (t : Subtree). FitsLevel t.parent child) same fits
 
 pub child_level_lower : (node child : Node) (inner : Inner) (i : ℕ) (s : Subtree) → node ≡ inner_node inner
-    → slice_get (children_of inner) i ≡ Some s → Fits s child → level_of child < level_of node
+    → slice_get (children_of inner) i ≡ Some s → FitsLevel s.parent child → level_of child < level_of node
 child_level_lower node child inner i s is at fits =
     let level : level_of child + 1 ≡ inner.level = child_level inner i s child at fits in
     let same : level_of node ≡ inner.level = ap level_of is in
@@ -68,12 +68,12 @@ stored_below map height place node inner i s tree is at = by_height height (subs
   by_height (suc h) tree = record { lower = h; is = refl; tree = tree; stored = each_get (IsStoredTree map h) (children_of inner) i s at tree.below }
 
 -- the node that was read there
-pub tree_read : (map : PageMap) (lower : ℕ) (s : Subtree) (child : Node) → IsStoredTree map lower s → StandsHere map s child → IsTree map lower s child
-tree_read map lower s child stored here = subst (λ (n : Node). IsTree map lower s n) (here.spelled stored.there).value stored.tree
+pub tree_read : (map : PageMap) (lower : ℕ) (s : Subtree) (child : Node) → IsStoredTree map lower s → SpellsAt map s child → IsTree map lower s child
+tree_read map lower s child stored here = subst (λ (n : Node). IsTree map lower s n) (here stored.there).value stored.tree
 
 -- it is the one in the page of the child that stands there
-pub read_there : (map : PageMap) (s : Subtree) (at : ℕ) (child : Node) → s.at ≡ at → IsSome (map at) → StandsHere map s child → node_at map at ≡ child
-read_there map s at child same there here = ap (node_at map) (sym same) ∙ (here.spelled (subst (λ (x : ℕ). IsSome (map x)) (sym same) there)).value
+pub read_there : (map : PageMap) (s : Subtree) (at : ℕ) (child : Node) → s.at ≡ at → IsSome (map at) → SpellsAt map s child → node_at map at ≡ child
+read_there map s at child same there here = ap (node_at map) (sym same) ∙ (here (subst (λ (x : ℕ). IsSome (map x)) (sym same) there)).value
 
 -- the cause of a fault of the read, and of one further down
 pub edit_cause_read : {T : Type 0} (told : Option PageMap) (node : Node) (inner : Inner) (i : ℕ) (s : Subtree) (old new : ℕ) (fault : Fault)
@@ -101,7 +101,7 @@ edit_cause_below told now node child inner i s old mid new fault is at same low 
   undamaged = IfSome_both told here (subst (λ (o : Option PageMap). IfSome o (λ map. (place : Subtree) (height : ℕ)
       → IsTree map height place child → IsUndamaged fault)) same cause.undamaged) (λ map here more place height tree.
       let below = stored_below map height place node inner i s tree is at in
-      more s below.lower (tree_read map below.lower s child below.stored here));
+      more s below.lower (tree_read map below.lower s child below.stored here.spelled));
 }
 
 -- a fault that tells of no damage

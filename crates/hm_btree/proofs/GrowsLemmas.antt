@@ -10,12 +10,13 @@ use Rattle.hm_key.specs.Element.{IsElement}
 use Rattle.hm_key.specs.Elements.{element_key, element_at, inserted, last_id}
 use Rattle.hm_key.specs.declared.base.Base.{Base}
 use Rattle.hm_key.specs.declared.element.Element.{Element}
+use Rattle.hm_node.specs.Inner.{HasInnerOrder}
+use Rattle.hm_node.specs.Leaf.{HasLeafOrder}
 use Rattle.hm_node.specs.declared.inner.Child.{Child}
 use Rattle.hm_node.specs.declared.inner.Inner.{Inner}
 use Rattle.hm_node.specs.declared.leaf.Leaf.{Leaf}
 use Rattle.hm_node.specs.declared.node.Node.{Node}
 use Rattle.hm_node.specs.declared.node.Node.TheVariants.{Leaf as leaf_node, Inner as inner_node}
-use Rattle.hm_search.specs.Descent.{StandsHere}
 use Rattle.hm_search.specs.Place.{IsInside, mirror_of}
 use Rattle.hm_search.specs.Search.{holder_place}
 use Rattle.hm_search.specs.Tree.{node_at, elements_in, next_left, child_place, children_of, IsTree, IsStoredTree}
@@ -24,7 +25,7 @@ use Rattle.hm_search.proofs.ChildLemmas.{IsChildAt, place_is}
 use Rattle.hm_btree.specs.Marking.{Marking, Writes}
 use Rattle.hm_btree.specs.Edits.{inner_of, with_mirror, ChildChange}
 use Rattle.hm_btree.specs.Space.{HasWritten, HasAdded, IsSpot}
-use Rattle.hm_btree.specs.Below.{IsLocal}
+use Rattle.hm_btree.specs.Below.{IsLocal, SpellsAt}
 use Rattle.hm_btree.specs.Grow.{Split, GrownTo, Grows, LeafBecomes, InnerBecomes}
 use Rattle.hm_btree.specs.declared.upper.Upper.{Upper}
 use Rattle.hm_btree.proofs.EditLemmas.{read_there, split_at, set_at_place, child_inside, child_tree, child_element}
@@ -33,14 +34,16 @@ use Rattle.hm_btree.proofs.ToldLemmas.{IfSome_both, both_after, told_after}
 
 -- a leaf got an element
 pub leaf_grows : (e : Element) (node after : Node) (leaf leaf' : Leaf) (p : Option PageMap) (o : Option Upper) → IsElement e
-    × IsOffset e.payload → node ≡ leaf_node leaf → after ≡ leaf_node leaf' → LeafBecomes (max leaf.mirror (last_id e)) (inserted e leaf.places.items) leaf' o
+    × IsOffset e.payload → node ≡ leaf_node leaf → after ≡ leaf_node leaf'
+    → (HasLeafOrder leaf → LeafBecomes (max leaf.mirror (last_id e)) (inserted e leaf.places.items) leaf' o)
     → Grows (inserted e) (element_key e) (Writes (last_id e)) (λ x. IsNone x) p p node after o
 leaf_grows e node after leaf leaf' None o placed is now becomes = tt
 leaf_grows e node after leaf leaf' (Some old) o placed is now becomes = λ place height tree inside lacks.
     subst (λ (n : Node). GrownTo (inserted e) (element_key e) (Writes (last_id e)) place height old old n after o) (sym is)
     (subst (λ (n : Node). GrownTo (inserted e) (element_key e) (Writes (last_id e)) place height old old (leaf_node leaf) n o) (sym now)
     (grown_leaf e place height old leaf leaf' (subst (λ (n : Node). IsTree old height place n) is tree) inside
-    (subst (λ (n : Node). IsNone (element_at (element_key e) (elements_in old height n))) is lacks) placed o becomes))
+    (subst (λ (n : Node). IsNone (element_at (element_key e) (elements_in old height n))) is lacks) placed o
+    (becomes (subst (λ (n : Node). IsTree old height place n) is tree).sound.order)))
 
 -- a child after the one that holds the key
 pub insert_next : (pre post : List Child) (c d : Child) (i : ℕ) → length pre ≡ i → insert (pre ++ c ∷ post) (i + 1) d ≡ pre ++ c ∷ d ∷ post
@@ -58,8 +61,8 @@ module _ (f : List Element → List Element) (key : Key) (marking : Marking) (Ne
     (local : IsLocal f key) (inner inner1 inner2 : Inner) (i : ℕ) (s : Subtree) (child after : Node) (m : ℕ) (upper : Upper)
     (at : ℕ) (mu : ℕ) (o : Option Upper) where
   parent_grown : (old : PageMap) (p2 p3 p4 : Option PageMap) (height : ℕ) (place : Subtree) → IsTree old height place (inner_node inner)
-      → IsInside place.left place.right key → i ≡ holder_place key inner.places.items
-      → IsChildAt inner.level inner.right inner.places.items i s → StandsHere old s child → BothTell p2 p3 (HasWritten s.at after)
+      → IsInside place.left place.right key → (HasInnerOrder inner → i ≡ holder_place key inner.places.items)
+      → IsChildAt inner.level inner.right inner.places.items i s → SpellsAt old s child → BothTell p2 p3 (HasWritten s.at after)
       → BothTell p3 p4 (HasAdded at upper.node) → IsSpot at → Grows f key marking Needs (Some old) p2 child after (Some upper)
       → Needs (element_at key (elements_in old height (inner_node inner)))
       → inner1.level ≡ inner.level → inner1.mirror ≡ max inner.mirror m → m ≡ mirror_of after → mu ≡ mirror_of upper.node
@@ -80,7 +83,7 @@ module _ (f : List Element → List Element) (key : Key) (marking : Marking) (Ne
       let needs' : Needs (element_at key (elements_in old (suc lower) (inner_node (inner_of inner.level inner.mirror (pre ++ c ∷ post) inner.right)))) =
       subst (λ (l : List Child). Needs
       (element_at key (elements_in old (suc lower) (inner_node (inner_of inner.level inner.mirror l inner.right))))) split.0 needs in
-      let held : length pre ≡ holder_place key (pre ++ c ∷ post) = split.1 ∙ at_holder ∙ ap (holder_place key) split.0 in
+      let held : length pre ≡ holder_place key (pre ++ c ∷ post) = split.1 ∙ at_holder tree.sound.order ∙ ap (holder_place key) split.0 in
       let where_is : s.at ≡ c.child = ap (λ (t : Subtree). t.at) there.place in
       let spot_of : Subtree = child_place inner.level (next_left inner.right post) c in
       let stored : IsStoredTree old lower spot_of = child_tree key place lower inner.level inner.mirror inner.right old pre c post tree' held inside in
@@ -113,7 +116,7 @@ module _ (f : List Element → List Element) (key : Key) (marking : Marking) (Ne
       (subst (λ (a : ℕ). HasWritten a after mid pages.0) where_is pages.1) pages.2 spot end))
 
   pub inner_grows : (node : Node) (p0 p1 p2 p3 p4 : Option PageMap) → node ≡ inner_node inner
-      → i ≡ holder_place key inner.places.items → slice_get (children_of inner) i ≡ Some s → p1 ≡ p0 → IfSome p0 (λ map. StandsHere map s child)
+      → (HasInnerOrder inner → i ≡ holder_place key inner.places.items) → slice_get (children_of inner) i ≡ Some s → p1 ≡ p0 → IfSome p0 (λ map. SpellsAt map s child)
       → Grows f key marking Needs p1 p2 child after (Some upper) → BothTell p2 p3 (HasWritten s.at after) → BothTell p3 p4 (HasAdded at upper.node) → IsSpot at
       → inner1.level ≡ inner.level → inner1.mirror ≡ max inner.mirror m → m ≡ mirror_of after → mu ≡ mirror_of upper.node
       → ChildChange (with_mirror m) inner.places.items i inner1.places.items → inner1.right ≡ inner.right

@@ -54,7 +54,7 @@ module _ (key : Key) (inner : Inner) (i : ℕ) (s : Subtree) (child : Node) (hol
       let where_is : s.at ≡ c.child = ap (λ (t : Subtree). t.at) there.place in
       let stored : IsStoredTree map lower (child_place inner.level (next_left inner.right post) c) = child_tree key place lower
       inner.level inner.mirror inner.right map pre c post tree' held inside in
-      let read : node_at map c.child ≡ child = read_there map s c.child child where_is stored.there here in
+      let read : node_at map c.child ≡ child = read_there map s c.child child where_is stored.there here.spelled in
       record {
         lower = lower;
         high = refl;

@@ -1,10 +1,9 @@
 -- What an insertion finds and spends.
-use Rattle.std.proofs.Common.{◌≡◌, Bool, true, false, ℕ, ◌+◌, ◌-◌, ◌*◌, ◌<◌, ◌≤◌, List, [], ◌∷◌, length, drop, insert, get_or, ap, subst}
-use Rattle.std.proofs.Common.{◌∙◌, arith, max, nat_eq, Some, None, length-drop, length-set}
+use Rattle.std.proofs.Common.{◌≡◌, Bool, true, false, ℕ, ◌+◌, ◌-◌, ◌*◌, ◌<◌, ◌≤◌, List, [], ◌∷◌, length, drop, get_or, ap, subst}
+use Rattle.std.proofs.Common.{◌∙◌, arith, nat_eq, Some, length-drop, length-set}
 use Rattle.std.specs.Prelude.{if◌then◌else◌, slice_index_or}
 use Rattle.hm_key.specs.Key.{key_of, IsBoundary}
-use Rattle.hm_key.specs.Elements.{element_key, inserted, last_id}
-use Rattle.hm_key.specs.Places.{leading}
+use Rattle.hm_key.specs.Elements.{element_key}
 use Rattle.hm_types.specs.Space.{in_zone}
 use Rattle.hm_key.specs.declared.base.Base.{Base}
 use Rattle.hm_key.specs.declared.element.Element.{Element}
@@ -12,8 +11,7 @@ use Rattle.hm_types.specs.declared.counted.Counted.{Ghosts as Counts}
 use Rattle.hm_key.specs.declared.room.HasRoom.{Ghosts as Rooms}
 use Rattle.hm_types.specs.declared.zone.TheConstants.{TREE_ZONE}
 use Rattle.hm_types.specs.declared.space.TheConstants.{INSERT_ROOM}
-use Rattle.hm_key.proofs.PlaceLemmas.{inserted_here}
-use Rattle.hm_node.specs.Node.{level_of, IsNode}
+use Rattle.hm_node.specs.Node.{level_of, HasLevel}
 use Rattle.hm_node.specs.declared.inner.Child.{Child}
 use Rattle.hm_node.specs.declared.inner.Inner.{Inner}
 use Rattle.hm_node.specs.declared.leaf.Leaf.{Leaf}
@@ -29,43 +27,31 @@ pub first_at : (l : List Element) (x : Element) (b : Base) → 0 < length l → 
 first_at [] x b some is bound = absurd (omega arith)
 first_at (e ∷ es) x b some is bound = subst (λ (y : Element). IsBoundary b (element_key y)) is bound
 
-module _ (e : Element) (leaf after : Leaf) (i : ℕ) (at : i ≡ leading (element_key e) leaf.places.items) where
-  list_is : insert leaf.places.items i e ≡ inserted e leaf.places.items
-  list_is = inserted_here e leaf.places.items i at
+-- a leaf that was halved, and its upper part
+module _ (mirror : ℕ) (es : List Element) (after upper : Leaf) (grown : LeafGrown mirror es after (Some upper)) (xs : List Element)
+    (same : xs ≡ upper.places.items) where
+  whole : xs ≡ drop 32 es
+  whole = same ∙ ap (λ (l : Leaf). l.places.items) grown.1
 
-  pub becomes_one : LeafGrown (max leaf.mirror (last_id e)) (insert leaf.places.items i e) after None → LeafBecomes
-      (max leaf.mirror (last_id e)) (inserted e leaf.places.items) after None
-  becomes_one grown = subst (λ (l : List Element). LeafGrown (max leaf.mirror (last_id e)) l after None) list_is grown
+  pub some_upper : 0 < length xs
+  some_upper = omega (arith, ap length whole, length-drop 32 es, grown.2)
 
-  pub becomes_two : (upper : Leaf) (x : Element) (b : Base) (xs : List Element) → LeafGrown (max leaf.mirror (last_id e))
-      (insert leaf.places.items i e) after (Some upper) → xs ≡ upper.places.items → x ≡ get_or xs 0 x → IsBoundary b (key_of x.base)
-      → LeafBecomes (max leaf.mirror (last_id e)) (inserted e leaf.places.items) after (Some (record { left = b; node = leaf_node upper }))
-  becomes_two upper x b xs grown same is bound =
-      let told = subst (λ (l : List Element). LeafGrown (max leaf.mirror (last_id e)) l after (Some upper)) list_is grown in
-      let places : upper.places.items ≡ drop 32 (inserted e leaf.places.items) = ap (λ (l : Leaf). l.places.items) told.1 in
-      let long : length (drop 32 (inserted e leaf.places.items)) ≡ 32 = length-drop 32 (inserted e leaf.places.items) ∙ omega (arith, told.2) in
-      let whole : xs ≡ drop 32 (inserted e leaf.places.items) = same ∙ places in (
-        told.0,
-        ap leaf_node told.1,
-        first_at (drop 32 (inserted e leaf.places.items)) x b (omega (arith, long))
-            (subst (λ (l : List Element). x ≡ get_or l 0 x) whole is) bound,
-        told.2,
-      )
-
-  pub some_upper : (upper : Leaf) (xs : List Element) → LeafGrown (max leaf.mirror (last_id e)) (insert leaf.places.items i e)
-      after (Some upper) → xs ≡ upper.places.items → 0 < length xs
-  some_upper upper xs grown same =
-      let places : upper.places.items ≡ drop 32 (insert leaf.places.items i e) = ap (λ (l : Leaf). l.places.items) grown.1 in
-      let long : length xs ≡ 32 = ap length (same ∙ places) ∙ length-drop 32 (insert leaf.places.items i e) ∙ omega (arith, grown.2) in
-      omega (arith, long)
+  pub becomes_two : (x : Element) (b : Base) (node : Node) → x ≡ get_or xs 0 x → IsBoundary b (key_of x.base) → node ≡ leaf_node upper
+      → LeafBecomes mirror es after (Some (record { left = b; node = node }))
+  becomes_two x b node is bound here = (
+    grown.0,
+    here ∙ ap leaf_node grown.1,
+    first_at (drop 32 es) x b (omega (arith, length-drop 32 es, grown.2)) (subst (λ (l : List Element). x ≡ get_or l 0 x) whole is) bound,
+    grown.2,
+  )
 
 -- a place after a child whose `mirror` was set
 pub next_within : (change : Child → Child) (d : Child) (old new : List Child) (i : ℕ) → ChildChange change old i new → i < length old → i + 1 ≤ length new
 next_within change d old new i items low = omega (arith, ap length (items d), length-set old i (change (slice_index_or old i d)))
 
 -- an inner node has two levels at least
-pub two_levels : (node : Node) (inner : Inner) → IsNode node → node ≡ inner_node inner → 2 ≤ level_of node
-two_levels node inner sound is = let low = (subst (λ (n : Node). IsNode n) is sound).level.0 in omega (arith, low, ap level_of is)
+pub two_levels : (node : Node) (inner : Inner) → HasLevel node → node ≡ inner_node inner → 2 ≤ level_of node
+two_levels node inner level is = let low = (subst HasLevel is level).0 in omega (arith, low, ap level_of is)
 
 -- what one level more takes
 pub one_more : (child level : ℕ) → child < level → 2 ≤ level → NODE_BYTES * (child - 1) + NODE_BYTES ≤ NODE_BYTES * (level - 1)
@@ -107,6 +93,6 @@ module _ {S : Type 0} (c : Counts S) (g : Rooms S) where
   room_left x y n k m spent le room = let zone : g.room x TREE_ZONE ≤ g.room y TREE_ZONE + n = spent.space.room TREE_ZONE in omega arith
 
 -- what all levels below a root take
-pub level_room : (node : Node) → IsNode node → NODE_BYTES * (level_of node - 1) + NODE_BYTES * 2 ≤ INSERT_ROOM
-level_room (leaf_node leaf) sound = omega arith
-level_room (inner_node inner) sound = let most = sound.level.1 in omega arith
+pub level_room : (node : Node) → HasLevel node → NODE_BYTES * (level_of node - 1) + NODE_BYTES * 2 ≤ INSERT_ROOM
+level_room (leaf_node leaf) level = omega arith
+level_room (inner_node inner) level = let most = level.1 in omega arith

@@ -24,8 +24,10 @@ pub mod MarkLemmas
 pub mod NeighbourLemmas
 pub mod NodeLemmas
 pub mod OrderLemmas
+pub mod PageLemmas
 pub mod PairJoinedLemmas
 pub mod PairLemmas
+pub mod PassLemmas
 pub mod PutLemmas
 pub mod ReadingLemmas
 pub mod RejoinLemmas

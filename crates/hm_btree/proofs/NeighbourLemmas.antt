@@ -113,7 +113,7 @@ before_last i count n last is many = omega arith
 -- a node that was read below an inner node
 pub level_below : (inner : Inner) (i : ℕ) (s : Subtree) (child : Node) → slice_get (children_of inner) i ≡ Some s → IsNode child
     → Fits s child → IsLevelBelow inner.level child
-level_below inner i s child at sound fits = (node_shaped child sound, child_level inner i s child at fits)
+level_below inner i s child at sound fits = (node_shaped child sound, child_level inner i s child at fits.level)
 
 -- no damage is told of it
 pub stored_cause : {T : Type 0} (told : Option PageMap) (s : Subtree) (old new : ℕ) (fault : Fault) → IfSome told

@@ -22,7 +22,7 @@ use Rattle.hm_search.proofs.DescentLemmas.{fault_here, sound_undamaged}
 use Rattle.hm_search.proofs.FrameLemmas.{IsSameBelow, frame_elements, frame_mark, frame_reaches, frame_tree}
 use Rattle.hm_search.proofs.ReachLemmas.{not_below_itself}
 use Rattle.hm_btree.specs.Marking.{Marking, MarksBy}
-use Rattle.hm_btree.specs.Below.{Replaces, Changed, HasEditCause, Works}
+use Rattle.hm_btree.specs.Below.{Replaces, Changed, HasEditCause, SpellsAt, Works}
 use Rattle.hm_btree.specs.Space.{HasWritten, IsSpot, IsUpdated}
 use Rattle.hm_btree.specs.Tree.{IsTreeSpace, TreeChanged, ChangesTree, HasTreeCause}
 use Rattle.hm_btree.proofs.EditLemmas.{undamaged_below}
@@ -108,12 +108,12 @@ root_updated f key marking root old mid new after changed kept tree change updat
 pub root_works : (f : List Element → List Element) (key : Key) (marking : Marking) (root : ℕ) (Needs : Option Element → Type 0)
     (p0 p1 p2 p3 : Option PageMap) (node after : Node) (changed : Bool) → (changed ≡ false → after ≡ node)
     → ((old : PageMap) → IsTreeSpace old root → Needs (element_at key (elements_of old root)) → IsInside (root_place root).left (root_place root).right key)
-    → p1 ≡ p0 → IfSome p0 (λ map. StandsHere map (root_place root) node) → Works f key marking Needs p1 p2 node after
+    → p1 ≡ p0 → IfSome p0 (λ map. SpellsAt map (root_place root) node) → Works f key marking Needs p1 p2 node after
     → BothTell p2 p3 (IsUpdated changed root after)
     → ChangesTree f key marking (λ es. Needs (element_at key es)) p0 p3 root root
 root_works f key marking root Needs p0 p1 p2 p3 node after changed kept inside same here works written =
     IfSome_both p0 here (subst (λ (p : Option PageMap). Works f key marking Needs p p2 node after) same works) (λ old here works tree needs.
-    let read : node_at old root ≡ node = (here.spelled tree.sound.there).value in
+    let read : node_at old root ≡ node = (here tree.sound.there).value in
     let h : ℕ = height_of (node_at old root) in
     let change : IfSome p2 (λ mid. Changed f key marking (root_place root) h old mid node after) =
     works (root_place root) h (subst (λ (n : Node). IsTree old h (root_place root) n) read tree.sound.tree) (inside old tree needs)

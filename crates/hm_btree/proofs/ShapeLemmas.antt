@@ -53,7 +53,7 @@ module _ {A : Type 0} (P : A → Type 0) where
   each_drop (suc n) [] each = tt
   each_drop (suc n) (x ∷ xs) each = each_drop n xs each.1
 
-  each_insert : (i : ℕ) (x : A) (xs : List A) → P x → AllByRecursion P xs → AllByRecursion P (insert xs i x)
+  pub each_insert : (i : ℕ) (x : A) (xs : List A) → P x → AllByRecursion P xs → AllByRecursion P (insert xs i x)
   each_insert i x xs is each = each_append P (take i xs) (x ∷ drop i xs) (each_take i xs each) (is, each_drop i xs each)
 
   each_remove : (i : ℕ) (xs : List A) → AllByRecursion P xs → AllByRecursion P (remove xs i)
@@ -78,10 +78,10 @@ inner_shaped level mirror cs right within some few each bound = record {
 }
 
 -- the places of a shaped node
-elements_each : (leaf : Leaf) → IsShaped (leaf_node leaf) → AllByRecursion IsPlaced leaf.places.items
+pub elements_each : (leaf : Leaf) → IsShaped (leaf_node leaf) → AllByRecursion IsPlaced leaf.places.items
 elements_each leaf shape = recursion_from_All IsPlaced leaf.places.items shape.fields
 
-children_each : (inner : Inner) → IsShaped (inner_node inner) → AllByRecursion IsChild inner.places.items
+pub children_each : (inner : Inner) → IsShaped (inner_node inner) → AllByRecursion IsChild inner.places.items
 children_each inner shape = recursion_from_All IsChild inner.places.items shape.fields.children
 
 -- where the child of a node stands, a node may stand

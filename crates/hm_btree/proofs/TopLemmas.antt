@@ -13,21 +13,21 @@ use Rattle.hm_btree.proofs.KeptLemmas.{kept_change}
 use Rattle.hm_fields.specs.Pages.{PageMap, page_in}
 use Rattle.hm_types.specs.Told.{BothTell}
 use Rattle.hm_key.specs.Elements.{element_at, inserted, last_id}
+use Rattle.hm_key.specs.Extents.{Extent}
 use Rattle.hm_key.specs.Key.{key_of}
 use Rattle.hm_key.specs.declared.element.Element.{Element}
 use Rattle.hm_node.specs.Node.{node_in, level_of}
 use Rattle.hm_node.specs.Inner.{IsChild, IsBound}
 use Rattle.hm_node.specs.declared.inner.Child.{Child}
 use Rattle.hm_node.specs.declared.node.Node.{Node}
-use Rattle.hm_search.specs.Descent.{StandsHere}
 use Rattle.hm_search.specs.Place.{IsInside, mirror_of}
 use Rattle.hm_search.specs.Tree.{node_at, elements_in, mark_in, reaches, height_of, root_place, IsTree, IsStoredTree, elements_of, mark_of}
 use Rattle.hm_search.specs.declared.subtree.Subtree.{Subtree}
 use Rattle.hm_search.proofs.FrameLemmas.{IsSameUnder}
 use Rattle.hm_search.proofs.ReachLemmas.{not_below_itself}
 use Rattle.hm_btree.specs.Marking.{Marking, MarksBy, Writes}
-use Rattle.hm_btree.specs.Space.{HasWritten, IsSpot}
-use Rattle.hm_btree.specs.Below.{mark_under, has_under, ChangedUnder}
+use Rattle.hm_btree.specs.Space.{AddsNode, HasAdded, HasWritten, IsSpot}
+use Rattle.hm_btree.specs.Below.{mark_under, has_under, ChangedUnder, SpellsAt}
 use Rattle.hm_btree.specs.Grow.{AddsTop, Split, Grows, HasTop, top_of}
 use Rattle.hm_btree.specs.Tree.{IsTreeSpace, TreeChanged, ChangesTree}
 use Rattle.hm_btree.specs.declared.upper.Upper.{Upper}
@@ -117,13 +117,13 @@ module _ (f : List Element → List Element) (key : Key) (marking : Marking) (ro
 pub root_grows : (f : List Element → List Element) (key : Key) (marking : Marking) (root : ℕ) (Needs : Option Element → Type 0)
     (p0 p1 p2 p3 p4 : Option PageMap) (node lower : Node) (upper : Upper) (top : ℕ)
     → ((old : PageMap) → IsTreeSpace old root → Needs (element_at key (elements_of old root)) → IsInside (root_place root).left (root_place root).right key)
-    → p1 ≡ p0 → IfSome p0 (λ map. StandsHere map (root_place root) node) → Grows f key marking Needs p1 p2 node lower (Some upper)
+    → p1 ≡ p0 → IfSome p0 (λ map. SpellsAt map (root_place root) node) → Grows f key marking Needs p1 p2 node lower (Some upper)
     → BothTell p2 p3 (HasWritten root lower)
     → BothTell p3 p4 (HasTop (root_place root) lower upper top) → IsSpot top → level_of lower ≤ 8
     → ChangesTree f key marking (λ es. Needs (element_at key es)) p0 p4 root top
 root_grows f key marking root Needs p0 p1 p2 p3 p4 node lower upper top inside same here grows written added spot shallow =
     IfSome_both p0 here (subst (λ (p : Option PageMap). Grows f key marking Needs p p2 node lower (Some upper)) same grows) (λ old here grows tree needs.
-    let read : node_at old root ≡ node = (here.spelled tree.sound.there).value in
+    let read : node_at old root ≡ node = (here tree.sound.there).value in
     let h : ℕ = height_of (node_at old root) in
     let split : IfSome p2 (λ mid. Split f key marking (root_place root) h old mid node lower upper.node upper.left) =
     grows (root_place root) h (subst (λ (n : Node). IsTree old h (root_place root) n) read tree.sound.tree) (inside old tree needs)
@@ -134,11 +134,25 @@ root_grows f key marking root Needs p0 p1 p2 p3 p4 node lower upper top inside s
     (subst (λ (n : Node). Split f key marking (root_place root) h old mid n lower upper.node upper.left) (sym read) split)
     pages.1 pages.2 spot shallow))
 
+-- the upper part and then the root were added
+pub adds_top : {S : Type 0} (pages_of : S → Option PageMap) (extents_of : S → Option (List Extent)) (place : Subtree) (lower : Node) (upper : Upper)
+    (old mid new : S) (at : ℕ) (top : Node) (r : Result ℕ Fault) → top ≡ top_of place lower upper at → level_of lower ≤ 8
+    → AddsNode pages_of extents_of upper.node old mid at → IfOk r (AddsNode pages_of extents_of top mid new)
+    → IfOk r (AddsTop pages_of extents_of place lower upper old new)
+adds_top pages_of extents_of place lower upper old mid new at top (Ok here) is shallow first second = record {
+  told = both_after (pages_of old) (pages_of mid) (pages_of new) first.told second.told
+      (λ was part now a b. (part, at, first.spot, a, subst (λ (n : Node). HasAdded here n part now) is b));
+  spot = second.spot;
+  shallow = shallow;
+  extents = second.extents ∙ first.extents;
+}
+adds_top pages_of extents_of place lower upper old mid new at top (Err fault) is shallow first second = tt
+
 -- and where a root was added, or none
 pub top_result : {S : Type 0} (p : Tells S) (g : Rooms S) (f : List Element → List Element) (key : Key) (marking : Marking) (root : ℕ)
     (Needs : Option Element → Type 0) (p0 p1 p2 : Option PageMap) (mid new : S) (node lower : Node) (upper : Upper)
     → ((old : PageMap) → IsTreeSpace old root → Needs (element_at key (elements_of old root)) → IsInside (root_place root).left (root_place root).right key)
-    → p1 ≡ p0 → IfSome p0 (λ map. StandsHere map (root_place root) node) → Grows f key marking Needs p1 p2 node lower (Some upper)
+    → p1 ≡ p0 → IfSome p0 (λ map. SpellsAt map (root_place root) node) → Grows f key marking Needs p1 p2 node lower (Some upper)
     → BothTell p2 (p.pages mid) (HasWritten root lower)
     → (place : Subtree) (r : Result ℕ Fault) → place ≡ root_place root → IfOk r (AddsTop p.pages g.extents place lower upper mid new)
     → IfOk r (λ at. ChangesTree f key marking (λ es. Needs (element_at key es)) p0 (p.pages new) root at)

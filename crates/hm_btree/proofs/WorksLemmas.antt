@@ -8,12 +8,12 @@ use Rattle.hm_key.specs.Elements.{element_at, element_key}
 use Rattle.hm_key.specs.Places.{leading}
 use Rattle.hm_key.specs.declared.base.Base.{Base}
 use Rattle.hm_key.specs.declared.element.Element.{Element}
+use Rattle.hm_node.specs.Inner.{HasInnerOrder}
 use Rattle.hm_node.specs.declared.inner.Child.{Child}
 use Rattle.hm_node.specs.declared.inner.Inner.{Inner}
 use Rattle.hm_node.specs.declared.leaf.Leaf.{Leaf}
 use Rattle.hm_node.specs.declared.node.Node.{Node}
 use Rattle.hm_node.specs.declared.node.Node.TheVariants.{Leaf as leaf_node, Inner as inner_node}
-use Rattle.hm_search.specs.Descent.{StandsHere}
 use Rattle.hm_search.specs.Place.{IsInside, mirror_of}
 use Rattle.hm_search.specs.Search.{holder_place}
 use Rattle.hm_search.specs.Tree.{node_at, elements_in, reaches, next_left, child_place, children_of, IsTree, IsStoredTree}
@@ -22,7 +22,7 @@ use Rattle.hm_search.proofs.ChildLemmas.{IsChildAt, place_is}
 use Rattle.hm_btree.specs.Marking.{Marking}
 use Rattle.hm_btree.specs.Edits.{inner_of, with_mirror, ChildChange, ElementChange}
 use Rattle.hm_btree.specs.Space.{IsUpdated}
-use Rattle.hm_btree.specs.Below.{IsLocal, Changed, Works}
+use Rattle.hm_btree.specs.Below.{IsLocal, Changed, Works, SpellsAt}
 use Rattle.hm_btree.specs.Change.{change_of, id_of, marking_of, MayChange, with_change}
 use Rattle.hm_btree.specs.declared.change.Change.{Change}
 use Rattle.hm_btree.proofs.EditLemmas.{read_there, split_at, set_at_place, child_inside, child_tree, child_element, changed_parent}
@@ -42,8 +42,8 @@ module _ (f : List Element → List Element) (key : Key) (marking : Marking) (Ne
     (changed : Bool) (kept : changed ≡ false → after ≡ child) where
   -- the child that holds the key changed, and was written where its node did
   parent_changed : (old : PageMap) (p2 p3 : Option PageMap) (height : ℕ) (place : Subtree) → IsTree old height place (inner_node inner)
-      → IsInside place.left place.right key → i ≡ holder_place key inner.places.items
-      → IsChildAt inner.level inner.right inner.places.items i s → StandsHere old s child → BothTell p2 p3 (IsUpdated changed s.at after)
+      → IsInside place.left place.right key → (HasInnerOrder inner → i ≡ holder_place key inner.places.items)
+      → IsChildAt inner.level inner.right inner.places.items i s → SpellsAt old s child → BothTell p2 p3 (IsUpdated changed s.at after)
       → Works f key marking Needs (Some old) p2 child after → Needs (element_at key (elements_in old height (inner_node inner)))
       → inner'.level ≡ inner.level → inner'.mirror ≡ max inner.mirror m → m ≡ mirror_of after → ChildChange (with_mirror m)
       inner.places.items i inner'.places.items → inner'.right ≡ inner.right
@@ -61,7 +61,7 @@ module _ (f : List Element → List Element) (key : Key) (marking : Marking) (Ne
       let needs' : Needs (element_at key (elements_in old (suc lower) (inner_node (inner_of inner.level inner.mirror (pre ++ c ∷ post) inner.right)))) =
       subst (λ (l : List Child). Needs
       (element_at key (elements_in old (suc lower) (inner_node (inner_of inner.level inner.mirror l inner.right))))) split.0 needs in
-      let held : length pre ≡ holder_place key (pre ++ c ∷ post) = split.1 ∙ at ∙ ap (holder_place key) split.0 in
+      let held : length pre ≡ holder_place key (pre ++ c ∷ post) = split.1 ∙ at tree.sound.order ∙ ap (holder_place key) split.0 in
       let where_is : s.at ≡ c.child = ap (λ (t : Subtree). t.at) there.place in
       let spot : Subtree = child_place inner.level (next_left inner.right post) c in
       let stored : IsStoredTree old lower spot = child_tree key place lower inner.level inner.mirror inner.right old pre c post tree' held inside in
@@ -90,7 +90,7 @@ module _ (f : List Element → List Element) (key : Key) (marking : Marking) (Ne
       (sym split.0) whole))
 
   pub inner_works : (node : Node) (p0 p1 p2 p3 : Option PageMap) → node ≡ inner_node inner
-      → i ≡ holder_place key inner.places.items → slice_get (children_of inner) i ≡ Some s → p1 ≡ p0 → IfSome p0 (λ map. StandsHere map s child)
+      → (HasInnerOrder inner → i ≡ holder_place key inner.places.items) → slice_get (children_of inner) i ≡ Some s → p1 ≡ p0 → IfSome p0 (λ map. SpellsAt map s child)
       → Works f key marking Needs p1 p2 child after → BothTell p2 p3 (IsUpdated changed s.at after)
       → inner'.level ≡ inner.level → inner'.mirror ≡ max inner.mirror m → m ≡ mirror_of after → ChildChange (with_mirror m)
       inner.places.items i inner'.places.items → inner'.right ≡ inner.right

@@ -5,16 +5,17 @@ use Rattle.std.specs.List.Sorted.{IsStrictlySortedBy}
 use Rattle.hm_types.specs.Elements.{Key}
 use Rattle.hm_types.specs.Faults.{HasFaultCause, IsUndamaged}
 use Rattle.hm_types.specs.declared.fault.Fault.{Fault}
-use Rattle.hm_fields.specs.Pages.{PageMap}
+use Rattle.hm_fields.specs.Pages.{PageMap, page_in}
 use Rattle.hm_key.specs.Key.{IsBefore}
 use Rattle.hm_key.specs.Elements.{element_at, element_key}
 use Rattle.hm_key.specs.declared.base.Base.{Base}
 use Rattle.hm_key.specs.declared.element.Element.{Element}
 use Rattle.hm_node.specs.Base.{base_cmp}
 use Rattle.hm_node.specs.Inner.{IsChild}
+use Rattle.hm_node.specs.Node.{Spells}
 use Rattle.hm_node.specs.declared.inner.Child.{Child}
 use Rattle.hm_node.specs.declared.node.Node.{Node}
-use Rattle.hm_search.specs.Descent.{IsFaultBelow, StandsHere}
+use Rattle.hm_search.specs.Descent.{IsFaultBelow, IsUnmetBelow, PassesHere, StandsHere}
 use Rattle.hm_search.specs.Place.{IsInside, mirror_of}
 use Rattle.hm_search.specs.Tree.{node_at, elements_in, mark_in, reaches, at_holder, next_left, places_of, IsTree, IsStoredTree}
 use Rattle.hm_search.specs.declared.subtree.Parent.{Parent}
@@ -53,6 +54,10 @@ bounds_of right cs = map (λ (c : Child). c.left) cs ++ right ∷ []
 -- each boundary is after the one before it
 abbrev pub AreRising : Base → List Child → Type 0
 AreRising right cs = IsStrictlySortedBy base_cmp (bounds_of right cs)
+
+-- the page at a place, where one is there, spells this node
+abbrev pub SpellsAt : PageMap → Subtree → Node → Type 0
+SpellsAt map place node = IsSome (map place.at) → Spells (page_in (map place.at)) node
 
 -- the place of a node as a parent names it that has the node's `mirror`
 abbrev pub placed : Node → Subtree → Subtree
@@ -98,4 +103,10 @@ pub record ChangedUnder (f : List Element → List Element) (key : Key) (marking
 pub record HasEditCause {T : Type 0} (told : Option PageMap) (node : Node) (old new : ℕ) (result : Result T Fault) : Type 0 where
   pub counted : HasFaultCause old new result
   pub damage : IfSome told (λ pages. (place : Subtree) → StandsHere pages place node → IfErr result (IsFaultBelow pages place))
+  pub undamaged : IfSome told (λ pages. (place : Subtree) (height : ℕ) → IsTree pages height place node → IfErr result IsUndamaged)
+
+-- The same of a call on pages that are known to hold nodes, of which it checks what their places ask alone.
+pub record HasPassCause {T : Type 0} (told : Option PageMap) (node : Node) (old new : ℕ) (result : Result T Fault) : Type 0 where
+  pub counted : HasFaultCause old new result
+  pub damage : IfSome told (λ pages. (place : Subtree) → PassesHere pages place node → IfErr result (IsUnmetBelow pages place))
   pub undamaged : IfSome told (λ pages. (place : Subtree) (height : ℕ) → IsTree pages height place node → IfErr result IsUndamaged)

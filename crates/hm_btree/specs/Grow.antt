@@ -10,7 +10,7 @@ use Rattle.hm_key.specs.Extents.{Extent}
 use Rattle.hm_key.specs.declared.base.Base.{Base}
 use Rattle.hm_key.specs.declared.element.Element.{Element}
 use Rattle.hm_node.specs.Inner.{IsBound}
-use Rattle.hm_node.specs.Node.{count_of, level_of}
+use Rattle.hm_node.specs.Node.{count_of, level_of, node_in}
 use Rattle.hm_node.specs.declared.inner.Child.{Child}
 use Rattle.hm_node.specs.declared.inner.Inner.{Inner}
 use Rattle.hm_node.specs.declared.leaf.Leaf.{Leaf}
@@ -54,6 +54,15 @@ Grows f key marking Needs old new before after upper =
     IfSome old (λ was. (place : Subtree) (height : ℕ) → IsTree was height place before → IsInside place.left place.right key
     → Needs (element_at key (elements_in was height before))
     → IfSome new (λ is. GrownTo f key marking place height was is before after upper))
+
+-- the upper part of a node that became two, from its boundary and its page
+abbrev pub upper_at : Base → List ℕ → Upper
+upper_at left page = record { left = left; node = node_in page }
+
+-- the same where the node became two
+abbrev pub upper_of : Option Base → List ℕ → Option Upper
+upper_of None page = None
+upper_of (Some left) page = Some (upper_at left page)
 
 -- a boundary at the first of some elements
 abbrev pub FirstAt : List Element → Base → Type 0

@@ -1,103 +1,134 @@
 // Insertion of an element below a node.
 ghost use Rattle.std.specs.Prelude.{◌*◌, ◌-◌, ◌≤◌, max, insert, IfOk};
-ghost use Rattle.arrayvec.specs.ArrayVec.{array_vec_len};
-ghost use Rattle.hm_key.specs.Elements.{inserted, last_id};
+ghost use Rattle.hm_key.specs.Elements.{last_id};
 ghost use Rattle.hm_types.specs.Space.{in_zone};
-ghost use Rattle.hm_node.specs.Leaf.{HasLeafOrder, IsPlaced};
-ghost use Rattle.hm_node.specs.Node.{IsNode, level_of};
-ghost use Rattle.hm_btree.specs.Calls.Insert.{InsertsBelow};
+ghost use Rattle.hm_node.specs.Edits.{IsLeafPage, IsInnerPage};
+ghost use Rattle.hm_node.specs.Head.{head_in};
+ghost use Rattle.hm_node.specs.Inner.{inner_in, IsChild};
+ghost use Rattle.hm_node.specs.Leaf.{leaf_in, IsPlaced};
+ghost use Rattle.hm_node.specs.Node.{level_of, node_in};
+ghost use Rattle.hm_node.specs.Shape.{HoldsNode};
+ghost use Rattle.hm_btree.specs.Calls.Insert.{InsertsBelow, InsertsInLeaf, SplitsLeaf, SplitsInner};
 ghost use Rattle.hm_btree.specs.Calls.Space.{StaysWithin};
-ghost use Rattle.hm_btree.specs.Below.{HasEditCause};
-ghost use Rattle.hm_btree.specs.Grow.{LeafBecomes, InnerBecomes};
+ghost use Rattle.hm_btree.specs.Below.{HasPassCause};
 
-use crate::inner_edit::{insert_child, set_mirror};
-use crate::leaf_edit::insert_element;
-use crate::node_edit::{add_node, mirror, update_node};
+use crate::inner_edit::insert_child;
+use crate::leaf_edit::insert_and_halve;
+use crate::node_edit::{add_page, mirror_in, update_page};
 use crate::space::{NODE_BYTES, NodeSpace};
-use crate::upper::{Grown, Upper};
-use hm_key::Element;
-use hm_node::{Child, Inner, Leaf, Node};
-use hm_search::{Subtree, holder_place, leaf_place, read_node};
-use hm_types::{Counted, Fault, TREE_ZONE};
+use crate::upper::Grown;
+use hm_fields::Page;
+use hm_key::{Base, Element};
+use hm_node::{Child, Head, Inner, LEAF, Leaf, insert_element, set_mirror};
+use hm_search::{child_below, holder_place_in, leaf_place_in, visit};
+use hm_types::{Counted, Fault, MOST_LEAF_ELEMENTS, TREE_ZONE};
 
-/// Inserts an element below a node, which is not written. Where the node becomes two, the upper one
-/// is given, which is not written either. Takes one node less of room than the node has levels.
+/// Inserts an element below the node in a page, which is not written. Where the node becomes two, the
+/// upper one is in the other page, which is not written either. Takes one node less of room than the
+/// node has levels.
 pub fn insert_into<S: NodeSpace>(
     space: &mut S,
-    node: &mut Node,
+    page: &mut Page,
+    upper: &mut Page,
     element: &Element,
 ) -> Result<Grown, Fault>
-    requires node { IsNode node.old }
+    requires node { HoldsNode page.old }
     requires element { IsPlaced element.now }
-    requires room { NODE_BYTES * (level_of node.old - 1) ≤ S.room space.old TREE_ZONE }
+    requires room { NODE_BYTES * (level_of (node_in page.old) - 1) ≤ S.room space.old TREE_ZONE }
     ensures done { IfOk result (InsertsBelow S.pages S.extents element.now
-        space.old space.new node.old node.new) }
-    ensures spent { StaysWithin S.HasRoom (in_zone TREE_ZONE (NODE_BYTES * (level_of node.old - 1)))
-        space.old space.new }
-    ensures cause { HasEditCause (S.pages space.old) node.old
+        space.old space.new page.old page.new upper.new) }
+    ensures spent { StaysWithin S.HasRoom
+        (in_zone TREE_ZONE (NODE_BYTES * (level_of (node_in page.old) - 1))) space.old space.new }
+    ensures cause { HasPassCause (S.pages space.old) (node_in page.old)
         (S.faults space.old) (S.faults space.new) result }
 {
-    match node {
-        Node::Leaf(leaf) => Ok(Grown {
+    if Head::read(page).kind == LEAF {
+        let left = insert_in_leaf(page, upper, element);
+        return Ok(Grown {
             changed: true,
-            upper: insert_in_leaf(leaf, element),
+            left,
+        });
+    }
+    let i = holder_place_in(page, &element.base);
+    let place = child_below(page, i);
+    let mut child = Page::zero();
+    visit(space, &place, &mut child)?;
+    let Grown { changed, left } = insert_into(space, &mut child, upper, element)?;
+    update_page(space, place.at, &child, changed)?;
+    let changed = set_mirror(page, i, mirror_in(&child));
+    match left {
+        None => Ok(Grown {
+            changed,
+            left: None,
         }),
-        Node::Inner(inner) => {
-            let i = holder_place(inner, &element.base);
-            let place = Subtree::child(inner, i);
-            let mut child = read_node(space, &place)?;
-            let Grown { changed, upper } = insert_into(space, &mut child, element)?;
-            update_node(space, place.at, &child, changed)?;
-            let changed = set_mirror(inner, i, mirror(&child));
-            match upper {
-                None => Ok(Grown {
-                    changed,
-                    upper: None,
-                }),
-                Some(upper) => {
-                    let at = add_node(space, &upper.node)?;
-                    let next = Child {
-                        left: upper.left,
-                        child: at,
-                        mirror: mirror(&upper.node),
-                    };
-                    Ok(Grown {
-                        changed: true,
-                        upper: insert_beside(inner, i + 1, next),
-                    })
-                }
-            }
+        Some(left) => {
+            let at = add_page(space, upper)?;
+            let next = Child {
+                left,
+                child: at,
+                mirror: mirror_in(upper),
+            };
+            Ok(Grown {
+                changed: true,
+                left: insert_beside(page, upper, i + 1, next),
+            })
         }
     }
 }
 
 // Inserts an element into a leaf.
-fn insert_in_leaf(leaf: &mut Leaf, element: &Element) -> Option<Upper>
-    requires { HasLeafOrder leaf.old }
-    ensures { LeafBecomes (max leaf.old.mirror (last_id element.now))
-        (inserted element.now leaf.old.places.items) leaf.new result }
+fn insert_in_leaf(page: &mut Page, upper: &mut Page, element: &Element) -> Option<Base>
+    requires leaf { IsLeafPage page.old }
+    requires element { IsPlaced element.now }
+    ensures { InsertsInLeaf element.now page.old page.new upper.new result }
 {
-    let at = leaf_place(leaf, &element.base);
-    match insert_element(leaf, at, element) {
-        None => None,
-        Some(upper) => Some(Upper {
-            left: upper.places[0].base.boundary(),
-            node: Node::Leaf(upper),
-        }),
+    let at = leaf_place_in(page, &element.base);
+    if usize::from(Head::read(page).count) < MOST_LEAF_ELEMENTS {
+        insert_element(page, at, element);
+        None
+    } else {
+        split_leaf(page, upper, at, element)
     }
 }
 
-// Puts a child in before a place of an inner node.
-fn insert_beside(inner: &mut Inner, at: usize, child: Child) -> Option<Upper>
-    requires { at ≤ array_vec_len inner.old.places }
-    ensures { InnerBecomes inner.old.level (max inner.old.mirror child.mirror)
-        (insert inner.old.places.items at child) inner.old.right inner.new result }
+// Puts an element in before a place of a leaf, which is built for that and becomes two where it is full.
+fn split_leaf(page: &mut Page, upper: &mut Page, at: usize, element: &Element) -> Option<Base>
+    requires leaf { IsLeafPage page.old }
+    requires at { at ≤ (head_in page.old).count }
+    requires element { IsPlaced element.now }
+    ensures { SplitsLeaf (max (leaf_in page.old).mirror (last_id element.now))
+        (insert (leaf_in page.old).places.items at element.now) page.new upper.new result }
 {
-    match insert_child(inner, at, child) {
+    let mut leaf = Leaf::of(page);
+    let more = insert_and_halve(&mut leaf, at, element);
+    leaf.write(page);
+    match more {
         None => None,
-        Some(upper) => Some(Upper {
-            left: inner.right,
-            node: Node::Inner(upper),
-        }),
+        Some(more) => {
+            more.write(upper);
+            Some(more.places[0].base.boundary())
+        }
+    }
+}
+
+// Puts a child in before a place of an inner node, which is built for that and becomes two where it is
+// full.
+fn insert_beside(page: &mut Page, upper: &mut Page, at: usize, child: Child) -> Option<Base>
+    requires inner { IsInnerPage page.old }
+    requires at { at ≤ (head_in page.old).count }
+    requires child { IsChild child }
+    ensures { SplitsInner (inner_in page.old).level (max (inner_in page.old).mirror child.mirror)
+        (insert (inner_in page.old).places.items at child) (inner_in page.old).right
+        page.new upper.new result }
+{
+    let mut inner = Inner::of(page);
+    let more = insert_child(&mut inner, at, child);
+    inner.write(page);
+    match more {
+        None => None,
+        Some(more) => {
+            more.write(upper);
+            Some(inner.right)
+        }
     }
 }

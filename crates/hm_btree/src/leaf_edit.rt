@@ -11,7 +11,7 @@ use hm_types::HOff;
 
 /// Puts an element in before the place `at`, and raises the leaf's `mirror` to its ids. A leaf that
 /// is full keeps half of them, and gives a new one with the others.
-pub fn insert_element(leaf: &mut Leaf, at: usize, element: &Element) -> Option<Leaf>
+pub fn insert_and_halve(leaf: &mut Leaf, at: usize, element: &Element) -> Option<Leaf>
     requires { at ≤ array_vec_len leaf.old.places }
     ensures { LeafGrown (max leaf.old.mirror (last_id element.now))
         (insert leaf.old.places.items at element.now) leaf.new result }

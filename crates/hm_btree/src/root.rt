@@ -4,20 +4,23 @@ ghost use Rattle.hm_types.specs.Faults.{HasStoreCause};
 ghost use Rattle.hm_types.specs.Space.{in_zone};
 ghost use Rattle.hm_node.specs.Inner.{IsNodeOffset};
 ghost use Rattle.hm_node.specs.Leaf.{IsPlaced};
-ghost use Rattle.hm_node.specs.Node.{level_of};
+ghost use Rattle.hm_node.specs.Node.{level_of, node_in};
+ghost use Rattle.hm_node.specs.Shape.{HoldsNode};
+ghost use Rattle.hm_search.specs.Descent.{HasSearchCause};
+ghost use Rattle.hm_search.specs.Tree.{root_place};
 ghost use Rattle.hm_btree.specs.Calls.Insert.{CanTop, InsertsFrom};
 ghost use Rattle.hm_btree.specs.Calls.Space.{StaysWithin};
-ghost use Rattle.hm_btree.specs.Grow.{AddsTop, top_of};
-ghost use Rattle.hm_btree.specs.Tree.{HasTreeCause};
+ghost use Rattle.hm_btree.specs.Grow.{AddsTop, top_of, upper_at};
 
 use crate::insert::insert_into;
-use crate::node_edit::{add_node, level, mirror, update_node};
+use crate::node_edit::{add_node, add_page, level_in, mirror_in, update_page};
 use crate::space::{NODE_BYTES, NodeSpace};
-use crate::upper::{Grown, Upper};
+use crate::upper::Grown;
 use arrayvec::ArrayVec;
-use hm_key::Element;
+use hm_fields::Page;
+use hm_key::{Base, Element};
 use hm_node::{Child, Inner, Node};
-use hm_search::{Subtree, read_node};
+use hm_search::{Subtree, visit};
 use hm_types::{Counted, Fault, HOff, INSERT_ROOM, MOST_LEVELS, TREE_ZONE};
 
 /// Inserts an element into the tree from a root on, and answers the root that it then has. Takes ten
@@ -33,66 +36,70 @@ pub fn insert_from<S: NodeSpace>(
     ensures done { IfOk result (InsertsFrom S.pages S.extents element.now
         space.old space.new root) }
     ensures spent { StaysWithin S.HasRoom (in_zone TREE_ZONE INSERT_ROOM) space.old space.new }
-    ensures cause { HasTreeCause (S.pages space.old) root
+    ensures cause { HasSearchCause (S.pages space.old) (root_place root)
         (S.faults space.old) (S.faults space.new) result }
 {
     known_range(element);
     let place = Subtree::root(root);
-    let mut node = read_node(space, &place)?;
-    let Grown { changed, upper } = insert_into(space, &mut node, element)?;
-    update_node(space, root, &node, changed)?;
-    match upper {
+    let mut page = Page::zero();
+    let mut upper = Page::zero();
+    visit(space, &place, &mut page)?;
+    let Grown { changed, left } = insert_into(space, &mut page, &mut upper, element)?;
+    update_page(space, root, &page, changed)?;
+    match left {
         None => Ok(root),
-        Some(upper) => add_root(space, &place, &node, &upper),
+        Some(left) => add_root(space, &place, &page, left, &upper),
     }
 }
 
-// Adds a root above a node that stands where the root stood, and one that is not written yet. It
-// answers `NoMemory` where the space refuses a node, or the tree has nine levels already, for which
-// no volume has enough nodes.
+// Adds a root above the node in a page, which stands where the root stood, and one that is not written
+// yet and begins at a boundary. It answers `NoMemory` where the space refuses a node, or the tree has
+// nine levels already, for which no volume has enough nodes.
 fn add_root<S: NodeSpace>(
     space: &mut S,
     place: &Subtree,
-    lower: &Node,
-    upper: &Upper,
+    lower: &Page,
+    left: Base,
+    upper: &Page,
 ) -> Result<HOff, Fault>
-    requires top { CanTop place.now lower.now upper.now }
+    requires top { CanTop place.now lower.now left upper.now }
     requires room { NODE_BYTES * 2 ≤ S.room space.old TREE_ZONE }
-    ensures ok { IfOk result (AddsTop S.pages S.extents place.now lower.now upper.now
-        space.old space.new) }
-    ensures refused { OnErr result (S.Refusal ⊎ (MOST_LEVELS ≤ level_of lower.now)) }
+    ensures ok { IfOk result (AddsTop S.pages S.extents place.now (node_in lower.now)
+        (upper_at left upper.now) space.old space.new) }
+    ensures refused { OnErr result (S.Refusal ⊎ (MOST_LEVELS ≤ level_of (node_in lower.now))) }
     ensures spent { StaysWithin S.HasRoom (in_zone TREE_ZONE (NODE_BYTES * 2))
         space.old space.new }
     ensures cause { HasStoreCause (S.pages space.old)
         (S.faults space.old) (S.faults space.new) result }
 {
-    if level(lower) >= MOST_LEVELS {
+    if level_in(lower) >= MOST_LEVELS {
         return Err(Fault::NoMemory);
     }
-    let at = add_node(space, &upper.node)?;
-    let top = top_over(place, lower, upper, at);
+    let at = add_page(space, upper)?;
+    let top = top_over(place, lower, left, upper, at);
     add_node(space, &top)
 }
 
 // The root above two nodes.
-fn top_over(place: &Subtree, lower: &Node, upper: &Upper, at: HOff) -> Node
-    requires { level_of lower.now ≤ 8 }
-    ensures { result ≡ top_of place.now lower.now upper.now at }
+fn top_over(place: &Subtree, lower: &Page, left: Base, upper: &Page, at: HOff) -> Node
+    requires lower { HoldsNode lower.now }
+    requires low { level_of (node_in lower.now) ≤ 8 }
+    ensures { result ≡ top_of place.now (node_in lower.now) (upper_at left upper.now) at }
 {
     let mut places = ArrayVec::new();
     places.push(Child {
         left: place.left,
         child: place.at,
-        mirror: mirror(lower),
+        mirror: mirror_in(lower),
     });
     places.push(Child {
-        left: upper.left,
+        left,
         child: at,
-        mirror: mirror(&upper.node),
+        mirror: mirror_in(upper),
     });
     Node::Inner(Inner {
-        level: level(lower) + 1,
-        mirror: mirror(lower).max(mirror(&upper.node)),
+        level: level_in(lower) + 1,
+        mirror: mirror_in(lower).max(mirror_in(upper)),
         places,
         right: place.right,
     })

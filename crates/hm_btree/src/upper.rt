@@ -11,11 +11,11 @@ pub struct Upper {
     pub node: Node,
 }
 
-/// What an insertion made of a node.
-#[derive(Drop)]
+/// What an insertion made of the node in a page.
+#[derive(Clone, Copy)]
 pub struct Grown {
     /// Whether the node is another than it was.
     pub changed: bool,
-    /// Its upper part, where it became two.
-    pub upper: Option<Upper>,
+    /// The boundary between it and its upper part, where it became two.
+    pub left: Option<Base>,
 }

@@ -1,4 +1,5 @@
 pub mod BrokenLemmas
+pub mod EditLemmas
 pub mod FieldLemmas
 pub mod InnerLemmas
 pub mod LawLemmas

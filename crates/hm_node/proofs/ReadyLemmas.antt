@@ -1,20 +1,19 @@
 -- Pages that break no rule: what stands in their places is ready to be read.
-use Rattle.std.proofs.Common.{◌≡◌, ◌≢◌, ℕ, false, ◌≤◌, List, length, refl, sym, ap, subst, ◌∙◌, ne_eqb}
+use Rattle.std.proofs.Common.{◌≡◌, ◌≢◌, ℕ, false, List, length, refl, sym, ap, subst, ◌∙◌, ne_eqb}
 use Rattle.std.specs.Prelude.{Option, Some, None, IfNone, nat_eq}
 use Rattle.hm_types.specs.declared.limits.TheConstants.{PAGE_BYTES}
 use Rattle.hm_node.specs.Damage.{Keeps}
+use Rattle.hm_node.specs.Edits.{IsLeafPage, IsInnerPage}
 use Rattle.hm_node.specs.Head.{head_in}
-use Rattle.hm_node.specs.Inner.{inner_in, AreChildPlaces}
-use Rattle.hm_node.specs.Leaf.{leaf_in, ArePlaces}
+use Rattle.hm_node.specs.Inner.{inner_in}
+use Rattle.hm_node.specs.Leaf.{leaf_in}
 use Rattle.hm_node.specs.Node.{node_in, SaysLevel, IsNode, Spells}
+use Rattle.hm_node.specs.Shape.{HoldsNode}
 use Rattle.hm_node.specs.declared.head.Head.{Head}
 use Rattle.hm_node.specs.declared.head.TheConstants.{LEAF}
 use Rattle.hm_node.specs.declared.node.Node.TheVariants.{Leaf as leaf_node, Inner as inner_node}
 use Rattle.hm_node.specs.declared.rule.Rule.{Rule}
-use Rattle.hm_node.specs.declared.rule.Rule.TheVariants.{Count, Fields}
-use Rattle.hm_node.proofs.InnerLemmas.{inner_head, inner_count, inner_fields}
-use Rattle.hm_node.proofs.LeafLemmas.{leaf_head, leaf_count, leaf_fields}
-use Rattle.hm_node.proofs.NodeLemmas.{kept_node, kept_spells, spells_kept}
+use Rattle.hm_node.proofs.NodeLemmas.{kept_node, kept_spells}
 
 -- where no rule is found broken, the page spells the node in it
 pub none_broken : (page : List ℕ) (broken : Option Rule) → length page ≡ PAGE_BYTES → IfNone broken ((rule : Rule) → Keeps page rule) → IfNone broken (IsNode (node_in page) × Spells page (node_in page))
@@ -31,18 +30,14 @@ inner_there page head is kind =
     let test : nat_eq (head_in page).kind LEAF ≡ false = ne_eqb (head_in page).kind LEAF other in
     rw test refl
 
--- the elements of a leaf
-pub leaf_ready : (page : List ℕ) (head : Head) → head ≡ head_in page → head.kind ≡ LEAF → IsNode (node_in page) → Spells page (node_in page) → (head.count ≤ 63) × ArePlaces page head.count
-leaf_ready page head is kind sound spelled =
-    let says = subst (SaysLevel page) (leaf_there page head is kind) spelled.says in
-    let h = leaf_head page head head.count is kind (ap (λ (h : Head). h.level) is ∙ says.level) refl in
-    let kept = spells_kept page (node_in page) sound spelled in
-    ((leaf_count h).1 (kept Count), ((leaf_fields h).1 (kept Fields)).0)
+-- a page that holds a node holds a leaf or an inner node, as its head says
+pub leaf_page : (page : List ℕ) (head : Head) → head ≡ head_in page → head.kind ≡ LEAF → HoldsNode page → IsLeafPage page
+leaf_page page head is kind holds = record { holds = holds; kind = ap (λ (h : Head). h.kind) (sym is) ∙ kind }
 
--- the children of an inner node
-pub inner_ready : (page : List ℕ) (head : Head) → head ≡ head_in page → head.kind ≢ LEAF → IsNode (node_in page) → Spells page (node_in page) → (head.count ≤ 62) × AreChildPlaces page head.count
-inner_ready page head is kind sound spelled =
-    let says = subst (SaysLevel page) (inner_there page head is kind) spelled.says in
-    let h = inner_head page head head.count is (ap (λ (h : Head). h.kind) is ∙ says.kind) refl in
-    let kept = spells_kept page (node_in page) sound spelled in
-    (((inner_count h).1 (kept Count)).1, ((inner_fields h).1 (kept Fields)).1)
+pub inner_page : (page : List ℕ) (head : Head) → head ≡ head_in page → head.kind ≢ LEAF → HoldsNode page → IsInnerPage page
+inner_page page head is kind holds =
+    record { holds = holds; kind = (subst (SaysLevel page) (inner_there page head is kind) holds.spelled.says).kind }
+
+-- the node in a page that holds an inner node
+pub inner_here : (page : List ℕ) → IsInnerPage page → node_in page ≡ inner_node (inner_in page)
+inner_here page inner = rw inner.kind refl

@@ -89,13 +89,13 @@ module _ (p q : List ℕ) (bytes : AreBytes p) (bytes' : AreBytes q) where
   all_bytes sized sized' same = same_page p q (sized ∙ sym sized') (λ k low. same.each k (omega arith) (omega arith))
 
 -- the leaf in a page that spells one
-leaf_there : (page : List ℕ) (leaf : Leaf) → Spells page (leaf_node leaf) → leaf_in page ≡ leaf
+pub leaf_there : (page : List ℕ) (leaf : Leaf) → Spells page (leaf_node leaf) → leaf_in page ≡ leaf
 leaf_there page leaf spells =
     let here : node_in page ≡ leaf_node (leaf_in page) = rw spells.says.kind refl in
     let same : leaf_node (leaf_in page) ≡ leaf_node leaf = sym here ∙ spells.value in
     cc
 
-inner_there : (page : List ℕ) (inner : Inner) → Spells page (inner_node inner) → inner_in page ≡ inner
+pub inner_there : (page : List ℕ) (inner : Inner) → Spells page (inner_node inner) → inner_in page ≡ inner
 inner_there page inner spells =
     let here : node_in page ≡ inner_node (inner_in page) = rw spells.says.kind refl in
     let same : inner_node (inner_in page) ≡ inner_node inner = sym here ∙ spells.value in

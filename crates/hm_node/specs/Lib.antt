@@ -1,5 +1,6 @@
 pub mod Base
 pub mod Damage
+pub mod Edits
 pub mod Head
 pub mod Inner
 pub mod Leaf

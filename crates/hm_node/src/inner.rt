@@ -5,6 +5,7 @@ ghost use Rattle.hm_types.specs.Offset.{IsOffset};
 ghost use Rattle.hm_types.specs.declared.limits.TheConstants.{PAGE_BYTES, MOST_INNER_CHILDREN, MOST_LEVELS};
 ghost use Rattle.hm_fields.specs.Fields.{Apart, get};
 ghost use Rattle.hm_key.specs.declared.base.Base.{Base};
+ghost use Rattle.hm_node.specs.Edits.{IsInnerPage};
 ghost use Rattle.hm_node.specs.Head.{head_in};
 ghost use Rattle.hm_node.specs.Places.{place, IsZero, IsWritten};
 ghost use Rattle.hm_node.specs.Inner.{child_in, first_children, inner_in};
@@ -80,13 +81,12 @@ impl Inner {
         None
     }
 
-    // The inner node in a page that holds one.
-    pub(crate) fn read(page: &Page, head: &Head) -> Inner
-        requires head { head.now ≡ head_in page.now }
-        requires few { head.now.count ≤ 62 }
-        requires places { AreChildPlaces page.now head.now.count }
+    /// The inner node in a page that holds one. Nothing is checked.
+    pub fn of(page: &Page) -> Inner
+        requires { IsInnerPage page.now }
         ensures { result ≡ inner_in page.now }
     {
+        let head = Head::read(page);
         let count = usize::from(head.count);
         let mut places = ArrayVec::new();
         read_children(page, count, &mut places);
@@ -98,8 +98,8 @@ impl Inner {
         }
     }
 
-    // Writes the inner node as the whole page.
-    pub(crate) fn write(&self, page: &mut Page)
+    /// Writes the inner node as the whole page.
+    pub fn write(&self, page: &mut Page)
         ensures { Spells page.new (inner_node self.now) }
     {
         page.clear();

@@ -4,6 +4,7 @@ ghost use Rattle.hm_types.specs.Offset.{IsOffset};
 ghost use Rattle.hm_types.specs.declared.limits.TheConstants.{PAGE_BYTES};
 ghost use Rattle.hm_fields.specs.Fields.{Apart, get};
 ghost use Rattle.hm_key.specs.Element.{IsElement};
+ghost use Rattle.hm_node.specs.Edits.{IsLeafPage};
 ghost use Rattle.hm_node.specs.Head.{head_in};
 ghost use Rattle.hm_node.specs.Places.{IsZero, IsWritten};
 ghost use Rattle.hm_node.specs.Leaf.{element_in, first_elements, leaf_in, IsElementPlace, ArePlaces, IsUpTo};
@@ -58,13 +59,12 @@ impl Leaf {
         None
     }
 
-    // The leaf in a page that holds one.
-    pub(crate) fn read(page: &Page, head: &Head) -> Leaf
-        requires head { head.now ≡ head_in page.now }
-        requires few { head.now.count ≤ 63 }
-        requires places { ArePlaces page.now head.now.count }
+    /// The leaf in a page that holds one. Nothing is checked.
+    pub fn of(page: &Page) -> Leaf
+        requires { IsLeafPage page.now }
         ensures { result ≡ leaf_in page.now }
     {
+        let head = Head::read(page);
         let mut places = ArrayVec::new();
         read_elements(page, usize::from(head.count), &mut places);
         Leaf {
@@ -73,8 +73,8 @@ impl Leaf {
         }
     }
 
-    // Writes the leaf as the whole page.
-    pub(crate) fn write(&self, page: &mut Page)
+    /// Writes the leaf as the whole page.
+    pub fn write(&self, page: &mut Page)
         ensures { Spells page.new (leaf_node self.now) }
     {
         page.clear();
@@ -182,7 +182,7 @@ fn write_elements(elements: &[Element], page: &mut Page)
 }
 
 // Writes an element into the first 52 bytes of a place.
-fn write_element(element: &Element, page: &mut Page, at: usize)
+pub(crate) fn write_element(element: &Element, page: &mut Page, at: usize)
     requires { at + 52 ≤ PAGE_BYTES }
     ensures value { element_in page.new at ≡ element.now }
     ensures others { (other width : ℕ) → Apart at 52 other width →

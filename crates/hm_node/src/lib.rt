@@ -5,6 +5,9 @@
 #![tactic(auto)]
 
 mod base;
+mod edit;
+#[cfg(test)]
+mod edit_tests;
 mod head;
 mod inner;
 mod laws;
@@ -17,6 +20,7 @@ mod rule;
 mod tests;
 
 pub use base::read_base;
+pub use edit::{insert_element, set_mirror};
 pub use head::{Head, INNER, LEAF, LEAF_LEVEL};
 pub use inner::{Child, Inner, is_node_offset, read_child};
 pub use laws::{

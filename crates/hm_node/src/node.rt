@@ -1,6 +1,7 @@
 // Nodes as pages.
 ghost use Rattle.std.specs.Prelude.{◌≡◌, Ok, IfOk, IfErr, IfSome, IfNone};
 ghost use Rattle.hm_node.specs.Node.{node_in, IsNode, Spells};
+ghost use Rattle.hm_node.specs.Shape.{HoldsNode};
 ghost use Rattle.hm_node.specs.Damage.{IsDamage, IsFirstBroken};
 ghost use Rattle.hm_node.specs.declared.node.Node.{Node};
 
@@ -51,17 +52,15 @@ pub fn broken_rule(page: &Page) -> Option<Rule>
     }
 }
 
-/// The node in a page that breaks no rule. Nothing is checked.
+/// The node in a page that holds one. Nothing is checked.
 pub fn node_of(page: &Page) -> Node
-    requires sound { IsNode (node_in page.now) }
-    requires spelled { Spells page.now (node_in page.now) }
+    requires { HoldsNode page.now }
     ensures { result ≡ node_in page.now }
 {
-    let head = Head::read(page);
-    if head.kind == LEAF {
-        Node::Leaf(Leaf::read(page, &head))
+    if Head::read(page).kind == LEAF {
+        Node::Leaf(Leaf::of(page))
     } else {
-        Node::Inner(Inner::read(page, &head))
+        Node::Inner(Inner::of(page))
     }
 }
 

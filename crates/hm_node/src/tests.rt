@@ -21,7 +21,7 @@ const FRESH_HEAD: [u8; 64] = [
 ];
 
 // Its first element: the inode of object 1.
-const FRESH_INODE: [u8; 64] = [
+pub(crate) const FRESH_INODE: [u8; 64] = [
     0x01, 0, 0, 0, 0, 0, 0, 0, 0, 0, 0, 0, 0, 0, 0, 0, //
     0x01, 0, 0, 0, 0, 0, 0, 0, 0, 0, 0, 0, 0, 0, 0, 0, //
     0x01, 0x00, 0x01, 0x01, 0x01, 0, 0, 0, 0x00, 0x00, 0x00, 0x06, 0, 0, 0, 0x90, //
@@ -29,7 +29,7 @@ const FRESH_INODE: [u8; 64] = [
 ];
 
 // Its second element: the record of PFS 0.
-const FRESH_RECORD: [u8; 64] = [
+pub(crate) const FRESH_RECORD: [u8; 64] = [
     0x01, 0, 0, 0, 0, 0, 0, 0, 0, 0, 0, 0, 0, 0, 0, 0, //
     0x01, 0, 0, 0, 0, 0, 0, 0, 0, 0, 0, 0, 0, 0, 0, 0, //
     0x15, 0x00, 0x01, 0x01, 0x02, 0, 0, 0, 0x20, 0x00, 0x00, 0x06, 0, 0, 0, 0x90, //
@@ -80,7 +80,7 @@ fn put_all(bytes: &mut [u8; PAGE_BYTES], pieces: &[(usize, &[u8])]) -> Result<()
 }
 
 // The page with a leaf of two elements, and then some bytes changed.
-fn fresh_root(changes: &[(usize, &[u8])]) -> Result<Page, Fail> {
+pub(crate) fn fresh_root(changes: &[(usize, &[u8])]) -> Result<Page, Fail> {
     let mut bytes = [0; PAGE_BYTES];
     put_all(
         &mut bytes,
@@ -93,7 +93,7 @@ fn fresh_root(changes: &[(usize, &[u8])]) -> Result<Page, Fail> {
 }
 
 // The page with an inner node of two children, and then some bytes changed.
-fn tall_root(changes: &[(usize, &[u8])]) -> Result<Page, Fail> {
+pub(crate) fn tall_root(changes: &[(usize, &[u8])]) -> Result<Page, Fail> {
     let mut bytes = [0; PAGE_BYTES];
     put_all(
         &mut bytes,
@@ -117,7 +117,7 @@ fn filled() -> Page {
     page
 }
 
-fn offset(raw: u64) -> Result<HOff, Fail> {
+pub(crate) fn offset(raw: u64) -> Result<HOff, Fail> {
     Ok(HOff::from_raw(raw).ok_or("no offset")?)
 }
 

@@ -1,5 +1,5 @@
 -- What a search for a key sees in a node, and how many bases of a page stand before a key.
-use Rattle.std.specs.Prelude.{◌≡◌, ℕ, ◌+◌, ◌-◌, ◌<◌, ◌≤◌, Bool, true, false, not, Option, Some, IfSome, slice_get}
+use Rattle.std.specs.Prelude.{◌≡◌, List, ℕ, ◌+◌, ◌-◌, ◌<◌, ◌≤◌, Bool, true, false, not, Option, Some, IfSome, slice_get}
 use Rattle.std.specs.Ordering.{is_lt}
 use Rattle.hm_types.specs.Elements.{Key, key_cmp}
 use Rattle.hm_fields.specs.Pages.{PageMap}
@@ -10,7 +10,8 @@ use Rattle.hm_key.specs.Stores.{IsFound}
 use Rattle.hm_key.specs.declared.base.Base.{Base}
 use Rattle.hm_node.specs.Inner.{HasInnerOrder}
 use Rattle.hm_node.specs.Leaf.{HasLeafOrder}
-use Rattle.hm_node.specs.Node.{HasFields, HasLevel}
+use Rattle.hm_node.specs.Node.{node_in, HasFields, HasLevel}
+use Rattle.hm_node.specs.Shape.{HoldsNode}
 use Rattle.hm_node.specs.declared.inner.Inner.{Inner}
 use Rattle.hm_node.specs.declared.leaf.Leaf.{Leaf}
 use Rattle.hm_node.specs.declared.node.Node.{Node}
@@ -92,3 +93,10 @@ pub record Glances (s : Subtree) (told : Option PageMap) (key : Key) (seen : See
   pub meets : (rule : PlaceRule) → MeetsBy s node rule
   pub there : IfSome told (λ map. PassesHere map s node)
   pub view : Shows key node seen
+
+-- A node that was visited at a place: its page holds it, no rule of the place is found broken, and where the pages are told,
+-- it stands so there.
+pub record Visits (s : Subtree) (told : Option PageMap) (page : List ℕ) : Type 0 where
+  pub holds : HoldsNode page
+  pub meets : (rule : PlaceRule) → MeetsBy s (node_in page) rule
+  pub there : IfSome told (λ map. PassesHere map s (node_in page))

@@ -11,6 +11,7 @@ mod search;
 mod subtree;
 #[cfg(test)]
 mod tests;
+mod visits;
 
 pub use laws::{
     elements_are_in_order, marks_are_between_ids_and_mirror, nodes_below_are_lower,
@@ -21,3 +22,4 @@ pub use places::{holder_place, leaf_place};
 pub use read::read_node;
 pub use search::{Found, find, first_at_or_after, unchanged_until};
 pub use subtree::{Parent, Subtree};
+pub use visits::{child_below, holder_place_in, leaf_place_in, visit};

@@ -14,8 +14,8 @@ ghost use Rattle.hm_search.specs.Look.{is_by, Glances, IsTurn, Shows, ShowsInner
 ghost use Rattle.hm_search.specs.Place.{TellsUnmet};
 ghost use Rattle.hm_search.specs.Tree.{children_of};
 
-use crate::read::damage;
 use crate::subtree::{Parent, Subtree};
+use crate::visits::visit;
 use hm_fields::Page;
 use hm_key::{Base, Element};
 use hm_node::{Head, LEAF, NodePages, place, read_base, read_child, read_element};
@@ -66,11 +66,8 @@ pub(crate) fn glance_at<P: NodePages>(
     ensures same { Reads P.name P.frame P.rest P.pages pages.old pages.new }
     ensures cause { HasFaultCause (P.faults pages.old) (P.faults pages.new) result }
 {
-    pages.page(subtree.at, page)?;
-    match subtree.first_unmet(page) {
-        None => Ok(see(page, at)),
-        Some(rule) => Err(damage(subtree, rule.kind())),
-    }
+    visit(pages, subtree, page)?;
+    Ok(see(page, at))
 }
 
 // What is seen in the page of a node.
@@ -147,7 +144,7 @@ fn next_at(page: &Page, head: &Head, i: usize) -> Option<Subtree>
 }
 
 // What is below the child in a place of an inner node.
-fn child_at(page: &Page, head: &Head, i: usize) -> Subtree
+pub(crate) fn child_at(page: &Page, head: &Head, i: usize) -> Subtree
     requires head { head.now ≡ head_in page.now }
     requires low { i < head.now.count }
     requires few { head.now.count ≤ 62 }
@@ -168,7 +165,7 @@ fn child_at(page: &Page, head: &Head, i: usize) -> Subtree
 
 // How many of so many bases stand before the key of `at`, or also at it, by halving. Where they are not in
 // order, it is a place where the one before does, and the one there does not.
-fn rank(page: &Page, count: usize, at: &Base, also_at: bool) -> usize
+pub(crate) fn rank(page: &Page, count: usize, at: &Base, also_at: bool) -> usize
     requires few { count ≤ 63 }
     ensures { IsTurn (λ i. is_by also_at (key_of at.now) (base_in page.now (place_at i))) count result }
 {

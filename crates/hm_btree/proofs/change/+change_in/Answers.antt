@@ -18,6 +18,7 @@ use Rattle.hm_btree.proofs.LocalLemmas.{changed_local}
 use Rattle.hm_btree.proofs.ShapeLemmas.{node_shaped, child_offset, mirror_shaped, element_shaped}
 use Rattle.hm_btree.proofs.ToldLemmas.{both_alike}
 use Rattle.hm_btree.proofs.WorksLemmas.{inner_works, leaf_works, leaf_without}
+use Rattle.std.proofs.lemmas.Option.{IfSome_then}
 use Rattle.hm_btree.proofs.change.+change_in.Goals as goal
 use Rattle.hm_btree.proofs.change.+change_in.Goals.{then-there, else-there}
 
@@ -42,7 +43,7 @@ pub change_in-requires : goal.change_in-requires
 change_in-requires g t c κs within =
     let smaller : level_of c.in_ok-child-in-Inner.child < level_of c.args.node.now =
     child_level_lower c.args.node.now c.in_ok-child-in-Inner.child c.in-Inner.inner c.holder_place-i.result c.child-place.result
-    c.in-Inner.is c.child-place.ensures c.in_ok-child-in-Inner.ensures.fits in
+    c.in-Inner.is c.child-place.ensures c.in_ok-child-in-Inner.ensures.fits.level in
     search rules
 
 pub returns-in_err-changed-in-Inner-clause-cause :
@@ -101,7 +102,8 @@ returns-in_ok-update_node-in-Inner-clause-done g t c =
           c.in_ok-changed-in-Inner.ensures.done.same c.args.node.now
           (g.S.Pages.pages c.args.space.now) (g.S.Pages.pages c.read_node.new.pages) (g.S.Pages.pages c.change_in.new.space)
           (g.S.Pages.pages c.update_node.new.space)
-          c.in-Inner.is c.holder_place-i.ensures c.child-place.ensures c.read_node.ensures.same.pages c.in_ok-child-in-Inner.ensures.ok
+          c.in-Inner.is (λ order. c.holder_place-i.ensures) c.child-place.ensures c.read_node.ensures.same.pages
+          (IfSome_then (g.S.Pages.pages c.args.space.now) c.in_ok-child-in-Inner.ensures.ok (λ map here. here.spelled))
           c.in_ok-changed-in-Inner.ensures.done.works c.in_ok-update_node-in-Inner.ensures.ok
           c.set_mirror.ensures.level c.set_mirror.ensures.mirror c.mirror.ensures c.set_mirror.ensures.items c.set_mirror.ensures.right;
       shape = mirror_shaped c.in-Inner.inner c.set_mirror.new.inner c.holder_place-i.result c.mirror.result

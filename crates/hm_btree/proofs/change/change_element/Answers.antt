@@ -13,6 +13,7 @@ use Rattle.hm_btree.specs.Change.{with_change, marking_of}
 use Rattle.hm_btree.specs.Space.{IsUpdated}
 use Rattle.hm_btree.proofs.RootLemmas.{root_cause_below, root_cause_read, root_cause_write, root_works, there_inside}
 use Rattle.hm_btree.proofs.ToldLemmas.{both_alike}
+use Rattle.std.proofs.lemmas.Option.{IfSome_then}
 use Rattle.hm_btree.proofs.change.change_element.Goals as goal
 
 pub returns-clause-done : goal.returns-clause-done
@@ -24,8 +25,9 @@ returns-clause-done g c =
           (g.S.Pages.pages c.args.space.now) (g.S.Pages.pages c.read_node.new.pages) (g.S.Pages.pages c.change_in.new.space)
           (g.S.Pages.pages c.update_node.new.space) c.in_ok-node.node c.change_in.new.node c.in_ok-changed.changed c.in_ok-changed.ensures.done.same
           (λ old tree needs. there_inside c.args.root key old tree needs) c.read_node.ensures.same.pages
+          (IfSome_then (g.S.Pages.pages c.args.space.now)
           (subst (λ (s : Subtree). IfSome (g.S.Pages.pages c.args.space.now) (λ map. StandsHere map s c.in_ok-node.node))
-          c.root-place.ensures c.in_ok-node.ensures.ok) c.in_ok-changed.ensures.done.works written;
+          c.root-place.ensures c.in_ok-node.ensures.ok) (λ map here. here.spelled)) c.in_ok-changed.ensures.done.works written;
       told = both_alike (g.S.Pages.pages c.change_in.new.space) (g.S.Pages.pages c.update_node.new.space)
           (IsUpdated c.in_ok-changed.changed c.args.root c.change_in.new.node) written
           ∙ c.in_ok-changed.ensures.done.told ∙ ap (λ (o : Option PageMap). is_some o) c.read_node.ensures.same.pages;

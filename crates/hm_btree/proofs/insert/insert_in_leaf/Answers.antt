@@ -1,23 +1,43 @@
-use Rattle.std.proofs.Common.{sym, subst, arith}
-use Rattle.hm_key.specs.Key.{key_of, IsBoundary}
+use Rattle.std.proofs.Common.{◌≡◌, List, None, ap, subst, arith, max, length}
+use Rattle.hm_key.specs.Elements.{last_id}
 use Rattle.hm_key.specs.declared.element.Element.{Element}
-use Rattle.hm_key.proofs.PlaceLemmas.{leading_most}
-use Rattle.hm_btree.proofs.InsertLemmas.{becomes_one, becomes_two, some_upper}
+use Rattle.hm_node.specs.Head.{head_in}
+use Rattle.hm_node.specs.Leaf.{element_in, first_elements, leaf_in}
+use Rattle.hm_node.specs.Places.{place}
+use Rattle.hm_node.specs.declared.leaf.Leaf.{Leaf}
+use Rattle.hm_node.proofs.EditLemmas.{leaf_bytes}
+use Rattle.hm_node.proofs.PlaceLemmas.{first_length}
+use Rattle.hm_btree.specs.Grow.{LeafBecomes, upper_of}
+use Rattle.hm_key.proofs.PlaceLemmas.{inserted_here}
 use Rattle.hm_btree.proofs.insert.insert_in_leaf.Goals as goal
 
-pub insert_element-requires : goal.insert_element-requires
-insert_element-requires c = omega (arith, c.leaf_place-at.ensures, leading_most (key_of c.args.element.now.base) c.args.leaf.now.places.items)
+pub returns-then-from-lt-MOST_LEAF_ELEMENTS : goal.returns-then-from-lt-MOST_LEAF_ELEMENTS
+returns-then-from-lt-MOST_LEAF_ELEMENTS c =
+    let e = c.args.element.now in
+    let leaf = leaf_in c.args.page.now in
+    let new = c.insert_element.new.page in
+    let held = c.insert_element.ensures.held in
+    let few = (leaf_bytes new held).few in
+    let long : length (first_elements new (head_in new).count) ≡ (head_in new).count = first_length (λ i. element_in new (place i)) (head_in new).count in
+    let list = ap (λ (l : Leaf). length l.places.items) c.insert_element.ensures.leaf in
+    record {
+      held = held;
+      becomes = λ order.
+          subst (λ (l : List Element). LeafBecomes (max leaf.mirror (last_id e)) l (leaf_in new) None)
+          (inserted_here e leaf.places.items c.leaf_place_in-at.result (c.leaf_place_in-at.ensures.ordered order))
+          (c.insert_element.ensures.leaf, omega (arith, few, long, list));
+      above = tt;
+    }
 
-pub bounds-deref-0 : goal.bounds-deref-0
-bounds-deref-0 c = some_upper c.args.element.now c.args.leaf.now c.insert_element.new.leaf c.leaf_place-at.result
-    c.leaf_place-at.ensures c.in-Some.upper c.deref.result.now c.in-Some.ensures c.deref.ensures.0
-
-pub returns-in-None : goal.returns-in-None
-returns-in-None c = becomes_one c.args.element.now c.args.leaf.now c.insert_element.new.leaf c.leaf_place-at.result c.leaf_place-at.ensures c.in-None.ensures
-
-pub returns-in-Some : goal.returns-in-Some
-returns-in-Some c =
-    becomes_two c.args.element.now c.args.leaf.now c.insert_element.new.leaf c.leaf_place-at.result c.leaf_place-at.ensures
-    c.in-Some.upper c.index-deref-0.result c.boundary.result c.deref.result.now
-    c.in-Some.ensures c.deref.ensures.0 c.index-deref-0.is (subst (λ (x : Element). IsBoundary c.boundary.result (key_of x.base))
-    (sym c.index-deref-0.is) c.boundary.ensures)
+pub returns-else-from-lt-MOST_LEAF_ELEMENTS : goal.returns-else-from-lt-MOST_LEAF_ELEMENTS
+returns-else-from-lt-MOST_LEAF_ELEMENTS c =
+    let e = c.args.element.now in
+    let leaf = leaf_in c.args.page.now in
+    let split = c.split_leaf.ensures in
+    record {
+      held = split.held;
+      becomes = λ order.
+          subst (λ (l : List Element). LeafBecomes (max leaf.mirror (last_id e)) l (leaf_in c.split_leaf.new.page) (upper_of c.split_leaf.result c.split_leaf.new.upper))
+          (inserted_here e leaf.places.items c.leaf_place_in-at.result (c.leaf_place_in-at.ensures.ordered order)) split.becomes;
+      above = split.above;
+    }

@@ -48,7 +48,7 @@ pub remove_below-requires : goal.remove_below-requires
 remove_below-requires g t c κs within =
     let smaller : level_of c.in_ok-child-in-Inner.child < level_of c.args.node.now =
     child_level_lower c.args.node.now c.in_ok-child-in-Inner.child c.in-Inner.inner c.holder_place-i.result c.child-place.result
-    c.in-Inner.is c.child-place.ensures c.in_ok-child-in-Inner.ensures.fits in
+    c.in-Inner.is c.child-place.ensures c.in_ok-child-in-Inner.ensures.fits.level in
     let many : HasNeighbours c.in_ok-child-in-Inner.child = neighbours_below c.in-Inner.inner c.holder_place-i.result
     c.child-place.result c.in_ok-child-in-Inner.child c.child-place.ensures c.in_ok-child-in-Inner.ensures.fits in
     let holds = holds_below (key_of c.args.at.now) c.in-Inner.inner c.holder_place-i.result c.child-place.result

@@ -44,7 +44,7 @@ pub lowest-requires : goal.lowest-requires
 lowest-requires g t c κs within =
     let smaller : level_of c.in_ok-child-in-Inner.child < level_of c.args.node =
     child_level_lower c.args.node c.in_ok-child-in-Inner.child c.in-Inner.inner 0 c.child-below.result c.in-Inner.is
-    c.child-below.ensures c.in_ok-child-in-Inner.ensures.fits in
+    c.child-below.ensures c.in_ok-child-in-Inner.ensures.fits.level in
     let lowered = lowered_told (g.S.Pages.pages c.args.space.now) (g.S.Pages.pages c.read_node.new.pages)
     (g.S.Pages.pages c.drop_node.new.self) c.args.root c.args.node c.in_ok-child-in-Inner.child c.in-Inner.inner c.child-below.result
     c.in-Inner.is c.read_node.ensures.same.pages c.in_ok-drop_node-in-Inner.ensures.ok (sym c.len.ensures.value

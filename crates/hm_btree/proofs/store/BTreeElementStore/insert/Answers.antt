@@ -6,8 +6,10 @@ use Rattle.hm_key.specs.Elements.{element_at, inserted, last_id}
 use Rattle.hm_key.specs.Extents.{Extent}
 use Rattle.hm_key.specs.Key.{key_of}
 use Rattle.hm_btree.specs.Marking.{Writes}
-use Rattle.hm_btree.specs.Tree.{HasTreeCause}
-use Rattle.hm_btree.proofs.StoreLemmas.{store_changed, store_cause, told_kept}
+use Rattle.hm_search.specs.Descent.{HasSearchCause}
+use Rattle.hm_search.specs.Tree.{root_place}
+use Rattle.hm_btree.proofs.ReadingLemmas.{cause_in_store}
+use Rattle.hm_btree.proofs.StoreLemmas.{store_changed, told_kept}
 use Rattle.hm_btree.proofs.store.BTreeElementStore.insert.Goals as goal
 
 pub returns-in_err-root-clause-cause : goal.returns-in_err-root-clause-cause
@@ -17,14 +19,15 @@ returns-in_err-root-clause-cause g c =
     let old = g.S.Counted.faults c.args.self.now.space in
     let new = g.S.Counted.faults c.insert_from.new.space in
     let fault = c.in_err-root.field-0.0 in
-    let cause = subst (λ (r : Result ℕ Fault). HasTreeCause told c.args.self.now.root old new r) c.in_err-root.was c.insert_from.ensures.cause in
-    let other : HasTreeCause {T = Unit {0}} told c.args.self.now.root old new (Err fault) =
+    let cause = subst (λ (r : Result ℕ Fault). HasSearchCause told (root_place c.args.self.now.root) old new r) c.in_err-root.was
+    c.insert_from.ensures.cause in
+    let other : HasSearchCause {T = Unit {0}} told (root_place c.args.self.now.root) old new (Err fault) =
     record {
       counted = record { never_falls = cause.counted.never_falls; caused = cause.counted.caused };
       damage = cause.damage;
       undamaged = cause.undamaged;
     } in
-    let whole = store_cause c.args.self.now.intact told c.args.self.now.root old new (Err fault) c.args.self.now.sound other in
+    let whole = cause_in_store c.args.self.now.intact told c.args.self.now.root old new (Err fault) c.args.self.now.sound other in
     rw (p.1, p.2) whole
 
 pub invariant_of-self-2 : goal.invariant_of-self-2

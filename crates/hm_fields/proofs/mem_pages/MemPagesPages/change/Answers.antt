@@ -1,10 +1,7 @@
-use Rattle.std.proofs.Common.{◌≡◌, ⊎_elim, arith, sym, ◌∙◌, ap, Some, option_map}
+use Rattle.std.proofs.Common.{⊎_elim, arith}
 use Rattle.std.proofs.lemmas.Bool.{cases_eq}
 use Rattle.std.proofs.lemmas.Bool.Decides.{nat_tests}
 use Rattle.std.proofs.lemmas.Grind.{common_steps}
-use Rattle.std.specs.Ordering.{nat_cmp}
-use Rattle.std.specs.BTreeMap as tree
-use Rattle.hm_fields.specs.MemPages.{kept}
 use Rattle.hm_fields.proofs.mem_pages.MemPagesPages.change.Goals as goal
 
 pub returns-clause-ok : goal.returns-clause-ok
