@@ -1,0 +1,4 @@
+//! The core over the tree.
+#![tactic(auto)]
+
+mod probe;
