@@ -2,3 +2,6 @@
 #![tactic(auto)]
 
 mod probe;
+mod write;
+
+pub use write::write_pages;
