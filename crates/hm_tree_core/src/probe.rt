@@ -1,2 +1,2 @@
-#[tactic(auto, using(crate::proofs::LedgerLemmas::paid_floor, crate::proofs::LedgerLemmas::paid_call, crate::proofs::LedgerLemmas::paid_first))]
+#[tactic(auto, using(crate::proofs::LedgerLemmas::paid_floor))]
 pub fn probe() {}
