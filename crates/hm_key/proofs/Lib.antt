@@ -11,3 +11,4 @@ pub mod PlaceLemmas
 pub mod RaiseLemmas
 pub mod SearchLemmas
 pub mod SweepLemmas
+pub mod ChargeLemmas

@@ -10,6 +10,7 @@ pub mod Places
 pub mod Props
 pub mod Marks
 pub mod Calls
+pub mod Charges
 pub mod Stores
 pub mod Sweep
 pub mod Versions

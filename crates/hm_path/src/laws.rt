@@ -1,5 +1,5 @@
 // What follows from the definitions alone: each function states one law, and does nothing.
-ghost use Rattle.std.specs.Prelude.{◌≡◌, ℕ, List};
+ghost use Rattle.std.specs.Prelude.{◌≡◌, ◌⊎◌, ℕ, List};
 ghost use Rattle.hm_path.specs.declared.part.Part.{Part};
 ghost use Rattle.hm_path.specs.Path.{IsPath, IsBadPlace};
 
@@ -17,4 +17,10 @@ pub fn bad_places_are_one()
 pub fn no_path_has_a_bad_place()
     ensures { (text : List ℕ) (parts : List Part) (place : ℕ) → IsPath text parts →
         IsBadPlace text place → ⊥ }
+{}
+
+/// Every text is a path, or has a bad place.
+pub fn every_text_is_read()
+    ensures { (text : List ℕ) →
+        ((parts : List Part) × IsPath text parts) ⊎ ((place : ℕ) × IsBadPlace text place) }
 {}

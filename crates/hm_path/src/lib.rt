@@ -12,6 +12,6 @@ mod tests;
 
 pub use fault::PathFault;
 pub use id::read_id;
-pub use laws::{bad_places_are_one, no_path_has_a_bad_place, parts_are_one};
+pub use laws::{bad_places_are_one, every_text_is_read, no_path_has_a_bad_place, parts_are_one};
 pub use part::{Part, Path};
 pub use path::parse;

@@ -10,3 +10,5 @@ pub mod PrintLemmas
 pub mod ReadLemmas
 pub mod RunLemmas
 pub mod ServeLemmas
+pub mod AloneLemmas
+pub mod AloneMoreLemmas

@@ -11,3 +11,4 @@ pub mod Running
 pub mod Devices
 pub mod Run
 pub mod Exact
+pub mod Alone

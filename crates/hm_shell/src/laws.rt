@@ -1,5 +1,11 @@
 // What follows from the definitions alone: a function that states a law, and does nothing.
-ghost use Rattle.std.specs.Prelude.{◌≡◌, ℕ, List, Option};
+ghost use Rattle.std.specs.Prelude.{◌≡◌, ◌<◌, ◌∷◌, ◌++◌, [], ℕ, All, Contains, List, None, Option};
+ghost use Rattle.hm_types.specs.declared.limits.TheConstants.{GREATEST_ID};
+ghost use Rattle.hm_model.specs.Out.{IsOf, IsOut};
+ghost use Rattle.hm_model.specs.Reply.{told_boundary};
+ghost use Rattle.hm_model.specs.declared.entry.Entry.{Entry};
+ghost use Rattle.hm_model.specs.declared.line.Line.{Line};
+ghost use Rattle.hm_shell.specs.Alone.{Answers, IsAlone, alone, out_text};
 ghost use Rattle.hm_shell.specs.Words.{IsPlan};
 
 /// Words have one plan only.
@@ -7,4 +13,28 @@ pub fn plans_are_one()
     ensures { (words : List (List ℕ)) (volume other : List ℕ) (newfs another : Option ℕ) →
         IsPlan words volume newfs → IsPlan words other another →
         (volume ≡ other) × (newfs ≡ another) }
+{}
+
+/// Lines without lanes, each of one call, that a history answers one after another print what a run
+/// with this history prints.
+pub fn lines_by_themselves_print_a_run()
+    ensures { (end : ℕ) (history : List Entry) (lines : List Line) → All IsAlone lines →
+        Answers end lines history → IsOut (alone lines) history end (out_text lines history) }
+{}
+
+/// Where a history answers lines, and an id is left, it answers one line more with one entry more: that
+/// of the line, with an id above all others.
+pub fn one_line_more_is_answered()
+    ensures { (lines : List Line) (history : List Entry) (line : Line) (end next : ℕ) (e : Entry) →
+        ((l : Line) → Contains lines l → l.number < line.number) → Answers end lines history →
+        end < GREATEST_ID → IsOf line e → told_boundary e.reply ≡ None →
+        ((a : Entry) → Contains history a → a.id.0 < e.id.0) →
+        Answers next (lines ++ line ∷ []) (history ++ e ∷ []) }
+{}
+
+/// Where no id is left, a history that answers lines answers one line more as it is.
+pub fn one_line_more_finds_no_id()
+    ensures { (lines : List Line) (history : List Entry) (line : Line) (end : ℕ) →
+        ((l : Line) → Contains lines l → l.number < line.number) → end ≡ GREATEST_ID →
+        Answers end lines history → Answers end (lines ++ line ∷ []) history }
 {}

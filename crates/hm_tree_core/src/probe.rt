@@ -1,0 +1,2 @@
+#[tactic(auto, using(crate::proofs::LedgerLemmas::paid_floor))]
+pub fn probe() {}
