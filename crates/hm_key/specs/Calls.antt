@@ -1,9 +1,8 @@
 -- What the calls do that have more to say than a line: the whole of it under one word each.
-use Rattle.std.specs.Prelude.{◌≡◌, ℕ, ◌+◌, ◌<◌, ◌≤◌, Bool, List, Option, Result, IfErr, IfSome, IsSomeAnd, IsFalse, IsTrue, OnErr, OnOk, OnSome, length}
+use Rattle.std.specs.Prelude.{◌≡◌, ℕ, ◌+◌, ◌≤◌, Bool, List, Option, Result, IfErr, IfSome, IsSomeAnd, IsFalse, OnErr, OnOk, OnSome, length}
 use Rattle.hm_types.specs.Elements.{Key}
 use Rattle.hm_types.specs.Offset.{zone_of}
-use Rattle.hm_types.specs.Space.{Admits, IfNoSpace, LacksSpace, names_zone, reserve_of, rounded}
-use Rattle.hm_types.specs.declared.limits.TheConstants.{BIGBLOCK_BYTES}
+use Rattle.hm_types.specs.Space.{Admits, IfNoSpace, LacksSpace, rounded}
 use Rattle.hm_types.specs.declared.fault.Fault.{Fault}
 use Rattle.hm_types.specs.declared.fault.SpaceFault.{SpaceFault}
 use Rattle.hm_types.specs.declared.zones.Zones.{Zones}
@@ -13,16 +12,10 @@ use Rattle.hm_key.specs.Marks.{NoneFall}
 use Rattle.hm_key.specs.Stores.{ExtentsChange, Keeps, Same, SameContent}
 use Rattle.hm_key.specs.declared.element.Element.{Element}
 
--- a zone that is named and had less room than its reserve has that of a whole big-block
-abbrev pub GetWhole : Zones → (ℕ → ℕ) → (ℕ → ℕ) → Type 0
-GetWhole zones old new =
-    (zone : ℕ) → IsTrue (names_zone zones zone) → old zone < reserve_of zone → new zone ≡ BIGBLOCK_BYTES
-
--- Zones ask for room, while so many free big-blocks are held back. They get it, each that lacked it a whole big-block,
--- and the content stays; or space is refused exactly where too few are free, and all stays. The room of no zone falls.
+-- Zones ask for room, while so many free big-blocks are held back. They get it, and the content stays; or space is
+-- refused exactly where too few are free, and all stays. The room of no zone falls.
 pub record Admission {S : Type 0} (elements_of : S → Option (List Element)) (mark_of : S → Key → ℕ) (extents_of : S → Option (List Extent)) (room_of : S → ℕ → ℕ) (free_of : S → ℕ) (zones : Zones) (held : ℕ) (old new : S) (result : Result (Unit {0}) SpaceFault) : Type 0 where
   pub ok : OnOk result (Admits room_of free_of zones held old new)
-  pub whole : OnOk result (GetWhole zones (room_of old) (room_of new))
   pub content : OnOk result (SameContent elements_of mark_of extents_of old new)
   pub no_space : IfErr result (IfNoSpace (LacksSpace zones held (room_of old) (free_of old)))
   pub unchanged : IfErr result (IfNoSpace (λ _ _. Same elements_of mark_of extents_of room_of free_of old new))

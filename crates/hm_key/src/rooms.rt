@@ -1,5 +1,5 @@
 // The room of a store in memory.
-ghost use Rattle.std.specs.Prelude.{◌≡◌, ◌<◌, ◌≤◌, ◌&&◌, nat_lt, IsTrue};
+ghost use Rattle.std.specs.Prelude.{◌≡◌, ◌≤◌, ◌&&◌, nat_lt, IsTrue};
 ghost use Rattle.hm_types.specs.Zones.{bits_of};
 ghost use Rattle.hm_types.specs.Space.{has_flag};
 
@@ -21,7 +21,6 @@ pub struct Rooms {
 impl Rooms {
     ghost use Rattle.std.specs.Prelude.{◌≡◌, ◌+◌, ◌≤◌, ℕ, IsTrue};
     ghost use Rattle.hm_types.specs.Space.{IsPayloadZone, needed, names_zone, reserve_of, in_zone};
-    ghost use Rattle.hm_key.specs.Calls.{GetWhole};
     ghost use Rattle.hm_key.specs.Memory.{room_of, fresh_room};
 
     /// Four big-blocks of which nothing was taken yet.
@@ -64,7 +63,6 @@ impl Rooms {
         ensures never_fall { (zone : ℕ) → room_of self.old zone ≤ room_of self.new zone }
         ensures reserve { (zone : ℕ) → IsTrue (names_zone zones zone) →
             reserve_of zone ≤ room_of self.new zone }
-        ensures whole { GetWhole zones (room_of self.old) (room_of self.new) }
     {
         self.tree = renewed(zones, Zones::TREE, self.tree, TREE_RESERVE);
         self.meta = renewed(zones, Zones::META, self.meta, PAYLOAD_RESERVE);
@@ -100,7 +98,6 @@ fn renewed(zones: Zones, flag: Zones, room: u64, reserve: u32) -> u64
     requires { reserve ≤ BIGBLOCK_BYTES }
     ensures never_fall { room ≤ result }
     ensures reserve { IsTrue (has_flag zones (bits_of flag)) → reserve ≤ result }
-    ensures whole { IsTrue (has_flag zones (bits_of flag)) → room < reserve → result ≡ BIGBLOCK_BYTES }
 {
     if lacks(zones, flag, room, reserve) {
         BIGBLOCK_BYTES
