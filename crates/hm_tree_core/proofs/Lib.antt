@@ -1,2 +1,4 @@
 pub mod LedgerLemmas
 pub mod PlacedLemmas
+pub mod CountLemmas
+pub mod WordLemmas
