@@ -1,8 +1,8 @@
 -- A history that is legal with some counts of faults is legal with later ones.
-use Rattle.std.proofs.Common.{◌≡◌, ℕ, ◌<◌, ◌≤◌, Bool, true, false, List, arith}
+use Rattle.std.proofs.Common.{ℕ, ◌<◌, ◌≤◌, max, Bool, true, false, List, arith}
 use Rattle.hm_types.specs.Faults.{IsMedia}
 use Rattle.hm_model.specs.After.{Event}
-use Rattle.hm_model.specs.Caused.{Counts, HasCause, HasNumbers, IsCutAt, Known, ended_command, is_output, known_after, known_at, stream_count}
+use Rattle.hm_model.specs.Caused.{Counts, HasCause, HasNumbers, IsCutAt, Known, ended_command, is_output, counts_after, known_after, known_at, stream_count, stream_told}
 use Rattle.hm_model.specs.Legal.{IsLegal, MayFollow, Setting}
 use Rattle.hm_model.specs.declared.entry.Entry.{Entry}
 use Rattle.hm_model.specs.declared.reply.Reply.{Reply}
@@ -22,7 +22,7 @@ stream_later true now later le = le.output
 stream_later false now later le = le.input
 
 -- the numbers of a reply have their cause
-abbrev NumbersOf : Counts → Known → Entry → Reply → Type 0
+abbrev pub NumbersOf : Counts → Known → Entry → Reply → Type 0
 NumbersOf now known e reply = elim reply [
   | Synced boundary ↦ (known.boundary ≤ boundary.0) × (boundary.0 < e.id.0)
   | Media before after ↦ IsMedia known.counts.disk now.disk before after
@@ -68,3 +68,23 @@ follows_later run later before event le follows = record {
 pub legal_later : (run : Setting) (later : Counts) (events : List Event) → AreLater run.now later → IsLegal run events
     → IsLegal (counted_to run later) events
 legal_later run later events le legal before event rest is = follows_later run later before event le (legal before event rest is)
+
+-- A reply told no more faults of the disk than were counted: so none of a history did.
+abbrev DiskTold : Known → Entry → Reply → ℕ
+DiskTold known e reply = (elim reply as (λ r. Counts) [
+  | Media before after ↦ record known.counts { disk = max known.counts.disk after }
+  | StreamFault before after ↦ stream_told (is_output known.opened e.call) after known.counts
+  | other ↦ known.counts
+]).disk
+
+stream_leaves : (output : Bool) (after : ℕ) (counts : Counts) (most : ℕ) → counts.disk ≤ most → (stream_told output after counts).disk ≤ most
+stream_leaves true after counts most le = le
+stream_leaves false after counts most le = le
+
+pub told_most : (now : Counts) (known : Known) (e : Entry) → known.counts.disk ≤ now.disk → HasNumbers now known e
+    → (counts_after known e).disk ≤ now.disk
+told_most now known e le numbers = by e.reply numbers where
+  by : (reply : Reply) → NumbersOf now known e reply → DiskTold known e reply ≤ now.disk
+  by (Media before after) is = (let end = is.end in omega (arith, le, end))
+  by (StreamFault before after) is = stream_leaves (is_output known.opened e.call) after known.counts now.disk le
+  by other is = le
