@@ -19,7 +19,7 @@ page_same : (old new : List ℕ) (at : ℕ) → length new ≡ length old → Ha
 page_same old new at size bytes = rw (size, bytes) refl
 
 -- elements whose payloads are the same
-full_same : (old new : List ℕ) (es : List Element) → All (HasSameBytes old new) (map to_payload es) → map (full_of new) es ≡ map (full_of old) es
+pub full_same : (old new : List ℕ) (es : List Element) → All (HasSameBytes old new) (map to_payload es) → map (full_of new) es ≡ map (full_of old) es
 full_same old new [] same = refl
 full_same old new (e ∷ es) same =
     let P = HasSameBytes old new in

@@ -60,10 +60,10 @@ same_there old new x keeps there = go (old x) refl there where
 
 -- so does a tree, and what is under its place
 module _ (old new : PageMap) (s : Subtree) (keeps : Keeps old new) (tree : HasTreeAt old s) where
-  same_node : node_at new s.at ≡ node_at old s.at
+  pub same_node : node_at new s.at ≡ node_at old s.at
   same_node = ap (λ (o : Option (List ℕ)). node_in (page_in o)) (same_there old new s.at keeps tree.there)
 
-  same_below : IsSameBelow old new (height_of (node_at old s.at)) (node_at old s.at)
+  pub same_below : IsSameBelow old new (height_of (node_at old s.at)) (node_at old s.at)
   same_below = record { same = λ x is. same_there old new x keeps (reached_there old (height_of (node_at old s.at)) s (node_at old s.at) x tree.tree is) }
 
   pub tree_kept : HasTreeAt new s

@@ -1,3 +1,4 @@
+mod ByteLemmas
 mod CountLemmas
 mod FoldLemmas
 mod ListedLemmas

@@ -2,6 +2,7 @@
 ghost use Rattle.std.specs.Prelude.{◌≡◌, option_map, unwrap_or};
 ghost use Rattle.hm_pages.specs.Counts.{page_count, pages_in};
 
+use crate::held::HeldPage;
 use hm_fields::Page;
 use hm_types::{HOff, NoMemory};
 use std::alloc::Global;
@@ -11,7 +12,7 @@ use std::collections::HashMap;
 #[derive(Drop)]
 pub(crate) struct Changes {
     alloc: Global,
-    places: HashMap<HOff, Option<Box<Page>>>,
+    places: HashMap<HOff, Option<Box<HeldPage>>>,
     // How many of them were put.
     pages: usize,
     ghost counted: { pages ≡ pages_in places.entries },
@@ -60,7 +61,7 @@ impl Changes {
         ensures { option_map (option_map (λ p. p.now)) result ≡ change_at self.now at }
     {
         match self.places.get(&at) {
-            Some(Some(page)) => Some(Some(&**page)),
+            Some(Some(page)) => Some(Some(&page.page)),
             Some(None) => Some(None),
             None => None,
         }
@@ -87,7 +88,7 @@ impl Changes {
 
     /// Puts a page at an offset, or takes out the one that stands there. With room to spare it
     /// takes no memory.
-    pub(crate) fn put(&mut self, at: HOff, page: Option<Box<Page>>) -> Result<(), NoMemory>
+    pub(crate) fn put(&mut self, at: HOff, page: Option<Box<HeldPage>>) -> Result<(), NoMemory>
         ensures ok { OnOk result (change_at self.new ≡
             set_at at (Some (option_map bytes_of page)) (change_at self.old)) }
         ensures pages { OnOk result (self.new.pages + pages_at (change_at self.old at) ≡
@@ -138,7 +139,7 @@ impl Changes {
     }
 
     /// The changes by their offsets: a page, or None where one was taken out.
-    pub(crate) fn into_places(self) -> HashMap<HOff, Option<Box<Page>>>
+    pub(crate) fn into_places(self) -> HashMap<HOff, Option<Box<HeldPage>>>
         ensures { result ≡ self.places }
     {
         let Changes {
@@ -168,7 +169,7 @@ impl Changes {
 }
 
 // 1 for a page, and 0 for none.
-fn count(page: &Option<Box<Page>>) -> usize
+fn count(page: &Option<Box<HeldPage>>) -> usize
     ensures { result ≡ page_count page.now }
 {
     match page {
@@ -178,7 +179,7 @@ fn count(page: &Option<Box<Page>>) -> usize
 }
 
 // 1 where a page was put there before, and else 0.
-fn count_before(before: &Option<Option<Box<Page>>>) -> usize
+fn count_before(before: &Option<Option<Box<HeldPage>>>) -> usize
     ensures { result ≡ unwrap_or (option_map page_count before.now) 0 }
 {
     match before {

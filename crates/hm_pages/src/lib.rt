@@ -3,10 +3,11 @@
 #![tactic(auto)]
 
 mod changes;
+mod held;
 mod laws;
 mod states;
 mod store;
 mod table;
 
-pub use laws::store_is_sound;
+pub use laws::{pages_are_bytes, store_is_sound};
 pub use store::PageStore;

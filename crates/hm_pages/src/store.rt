@@ -10,6 +10,7 @@ ghost use Rattle.hm_pages.specs.Sets.{IsListed, KeepsFreemap};
 ghost use Rattle.hm_pages.specs.Changes.{change_at};
 
 use crate::changes::Changes;
+use crate::held::HeldPage;
 use crate::table::Table;
 use hm_fields::{Page, State};
 use hm_types::{HOff, Id, MOST_GROUP_PAGES, NoMemory};
@@ -162,7 +163,7 @@ impl PageStore {
         ensures ok { OnOk result (IsLoaded at page.now (contents self.old) (contents self.new)) }
         ensures err { OnErr result (contents self.new ≡ contents self.old) }
     {
-        let page = Box::new(self.alloc, *page)?;
+        let page = Box::new(self.alloc, HeldPage::of(page))?;
         self.committed.reserve(self.frozen.len() + 1)?;
         self.committed.put(at, page);
         self.frozen.forget(at);
@@ -188,12 +189,12 @@ impl PageStore {
             (contents self.old) (contents self.new)) }
         ensures err { OnErr result (contents self.new ≡ contents self.old) }
     {
-        let page = Box::new(self.alloc, *with)?;
+        let page = Box::new(self.alloc, HeldPage::of(with))?;
         self.put(at, Some(page))
     }
 
     // Puts a page at an offset, or takes out the one that stands there.
-    fn put(&mut self, at: HOff, page: Option<Box<Page>>) -> Result<(), NoMemory>
+    fn put(&mut self, at: HOff, page: Option<Box<HeldPage>>) -> Result<(), NoMemory>
         requires kept { in_freemap at ≡ true → is_some page ≡ true }
         ensures ok { OnOk result (IsChanged at (option_map bytes_of page)
             (contents self.old) (contents self.new)) }
@@ -207,7 +208,7 @@ impl PageStore {
     }
 
     #[tactic(auto, unfolding(crate::specs::Store::contents))]
-    fn put_in_call(&mut self, at: HOff, page: Option<Box<Page>>) -> Result<(), NoMemory>
+    fn put_in_call(&mut self, at: HOff, page: Option<Box<HeldPage>>) -> Result<(), NoMemory>
         requires opened { self.old.is_open ≡ true }
         requires kept { in_freemap at ≡ true → is_some page ≡ true }
         ensures ok { OnOk result (IsChanged at (option_map bytes_of page)
@@ -222,7 +223,7 @@ impl PageStore {
     }
 
     #[tactic(auto, unfolding(crate::specs::Store::contents))]
-    fn put_in_group(&mut self, at: HOff, page: Option<Box<Page>>) -> Result<(), NoMemory>
+    fn put_in_group(&mut self, at: HOff, page: Option<Box<HeldPage>>) -> Result<(), NoMemory>
         requires closed { self.old.is_open ≡ false }
         requires kept { in_freemap at ≡ true → is_some page ≡ true }
         ensures ok { OnOk result (IsChanged at (option_map bytes_of page)
@@ -236,7 +237,7 @@ impl PageStore {
     }
 
     // Whether one page more would be too many. Where a page stands already, it is none more.
-    fn is_full_for(&self, page: &Option<Box<Page>>, stands: bool) -> bool
+    fn is_full_for(&self, page: &Option<Box<HeldPage>>, stands: bool) -> bool
         ensures { result ≡ false → self.now.group.pages + self.now.call.pages +
             pages_at (Some (option_map bytes_of page.now)) ≤
             self.now.most + (if stands then 1 else 0) }

@@ -1,5 +1,6 @@
 // The committed pages.
 use crate::changes::Changes;
+use crate::held::HeldPage;
 use hm_fields::Page;
 use hm_types::{HOff, NoMemory};
 use std::alloc::Global;
@@ -8,7 +9,7 @@ use std::collections::HashMap;
 /// The committed pages by their offsets.
 #[derive(Drop)]
 pub(crate) struct Table {
-    pages: HashMap<HOff, Box<Page>>,
+    pages: HashMap<HOff, Box<HeldPage>>,
 }
 
 impl Table {
@@ -33,7 +34,7 @@ impl Table {
         ensures { option_map (λ p. p.now) result ≡ page_at self.now at }
     {
         match self.pages.get(&at) {
-            Some(page) => Some(&**page),
+            Some(page) => Some(&page.page),
             None => None,
         }
     }
@@ -49,7 +50,7 @@ impl Table {
     }
 
     /// Puts a page at an offset. There must be room to spare: it takes no memory.
-    pub(crate) fn put(&mut self, at: HOff, page: Box<Page>)
+    pub(crate) fn put(&mut self, at: HOff, page: Box<HeldPage>)
         requires room { 0 < spare self.old.pages }
         ensures value { page_at self.new ≡ set_at at (Some (bytes_of page)) (page_at self.old) }
         ensures spare { spare self.old.pages ≤ spare self.new.pages + 1 }

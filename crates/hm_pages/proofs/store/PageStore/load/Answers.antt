@@ -4,6 +4,7 @@ use Rattle.hm_pages.specs.Changes.{change_at}
 use Rattle.hm_pages.specs.Table.{page_at}
 use Rattle.hm_pages.specs.Maps.{ChangeMap, over, set_at, is_page}
 use Rattle.hm_pages.specs.Store.{contents}
+use Rattle.hm_pages.specs.declared.held.HeldPage.{HeldPage}
 use Rattle.hm_pages.specs.declared.store.PageStore.{PageStore}
 use Rattle.hm_pages.proofs.LoadLemmas.{over_load, changed_forget, no_page, no_pages_at, listed_forget, keeps_forget}
 use Rattle.hm_pages.proofs.ShutLemmas.{shut, call_len}
@@ -53,8 +54,9 @@ returns-clause-ok c =
     let page = c.args.page.now in
     let none = none_from_len s.call (call_len s c.requires.closed) in
     let is_shut = shut s c.requires.closed in
+    let same = ap (λ (held : HeldPage). held.page) c.in_ok-page.ensures.ok ∙ c.of.ensures in
     let committed : page_at c.put.new.self ≡ set_at at (Some page) (page_at s.committed) =
-    c.put.ensures.value ∙ (λ i. set_at at (Some (c.in_ok-page.ensures.ok i)) (c.reserve.ensures.same i)) in
+    c.put.ensures.value ∙ (λ i. set_at at (Some (same i)) (c.reserve.ensures.same i)) in
     let frozen = (λ i. over (c.forget.ensures.value i) (committed i)) ∙ over_load at (Some page) (change_at s.frozen) (page_at s.committed) in
     let group = (λ i. over (c.forget-2.ensures.value i) (frozen i)) ∙
     over_load at (Some page) (change_at s.group) (over (change_at s.frozen) (page_at s.committed)) in

@@ -1,0 +1,10 @@
+//! Which volume a space holds between two calls, and what ties that to the bytes of its disk.
+//!
+//! It is definitions and laws alone: code that mounts a volume and writes one cites them.
+#![tactic(auto)]
+
+mod laws;
+
+pub use laws::{
+    a_mounted_volume_is_held, a_written_volume_stands, payloads_are_all_that_matters_of_a_disk,
+};
