@@ -5,7 +5,7 @@ use Rattle.hm_model.specs.Foreign.{Foreigners}
 use Rattle.hm_model.specs.Volume.{Volume}
 use Rattle.hm_stored.specs.Heap.{Heap}
 use Rattle.hm_tree_core.specs.History.{IsClear, IsLegalOver}
-use Rattle.hm_tree_core.specs.Volume.{HoldsVolume}
+use Rattle.hm_state.specs.Volume.{HoldsVolume}
 
 -- no event is one of none
 none_before : (before : List Event) (event : Event) (rest : List Event) → [] ≡ before ++ event ∷ rest → ⊥

@@ -8,7 +8,7 @@ use Rattle.hm_model.specs.Volume.{Volume}
 use Rattle.hm_model.specs.declared.entry.Entry.{Entry}
 use Rattle.hm_image.specs.StandFor.{OnEach}
 use Rattle.hm_stored.specs.Heap.{Heap}
-use Rattle.hm_tree_core.specs.Volume.{HoldsVolume}
+use Rattle.hm_state.specs.Volume.{HoldsVolume}
 
 -- counts of a core that has no streams: those of its disk
 abbrev pub disk_counts : ℕ → Counts
