@@ -6,3 +6,8 @@ pub mod BeginLemmas
 pub mod FitLemmas
 pub mod ReplyLemmas
 pub mod FloorLemmas
+pub mod StateLemmas
+pub mod CallLemmas
+pub mod SpaceLemmas
+pub mod FaultLemmas
+pub mod KnownLemmas

@@ -1,5 +1,5 @@
 -- The reply of a call that ends no pass tells no ids of one.
-use Rattle.std.proofs.Common.{◌≡◌, ℕ, true, false, inl, inr, List, refl, sym, ap, ◌∙◌}
+use Rattle.std.proofs.Common.{◌≡◌, ℕ, true, inl, inr, List, refl, ap, ◌∙◌}
 use Rattle.std.specs.Prelude.{Option, None, Some}
 use Rattle.std.specs.Option.{option_map_or}
 use Rattle.hm_types.specs.Tree.{FileTree}
@@ -13,7 +13,6 @@ use Rattle.hm_model.specs.Command.{named_opening}
 use Rattle.hm_model.specs.Due.{Check, accepted, new_pfs, refusal}
 use Rattle.hm_model.specs.Legal.{IsAllowed, IsDue, IsEnding, IsReply, IsSpace, IsSynced, Setting, call_after, floor_after, state_after}
 use Rattle.hm_model.specs.Reply.{is_refusal, passed_ids}
-use Rattle.hm_model.specs.Volume.{PseudoFileSystem}
 use Rattle.hm_model.specs.declared.command.Command.{Command}
 use Rattle.hm_model.specs.declared.command.Command.TheVariants.{Cat, Df, Ls, PfsMaster, PfsSlave, PfsStatus, Progress, Readlink, Stat, Sync, Synctid}
 use Rattle.hm_model.specs.declared.reply.Reply.{Reply}

@@ -1,5 +1,5 @@
 -- The path words of every command are read.
-use Rattle.std.proofs.Common.{◌⊎◌, inl, inr, ⊎_elim, ℕ, List, [], ◌∷◌}
+use Rattle.std.proofs.Common.{⊎_elim, ℕ, List, [], ◌∷◌}
 use Rattle.std.specs.List.{AllZip}
 use Rattle.hm_path.proofs.ReadLemmas.{every_text}
 use Rattle.hm_model.specs.Sites.{BadAt, IsParsed, Parsed, Parts, ReadsWords, Use, uses_of}

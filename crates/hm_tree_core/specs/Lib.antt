@@ -1,5 +1,5 @@
 pub mod Ledger
 pub mod Placed
-pub mod Volume
 pub mod History
 pub mod Told
+pub mod Calls
