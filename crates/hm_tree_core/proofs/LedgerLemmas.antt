@@ -4,7 +4,7 @@ use Rattle.std.proofs.Common.{refl, arith}
 use Rattle.hm_key.specs.Charges.{Charges, one_for}
 use Rattle.hm_types.specs.Space.{reserve_of}
 use Rattle.hm_types.specs.declared.limits.TheConstants.{BIGBLOCK_BYTES}
-use Rattle.hm_tree_core.specs.Ledger.{HasFilled, IsPaid, calls_in}
+use Rattle.hm_tree_core.specs.Ledger.{IsPaid, calls_in}
 
 -- a run begins with nothing taken
 pub paid_first : (free : ℕ) (room : ℕ → ℕ) → IsPaid free free 0 room

@@ -1,2 +1,13 @@
 pub mod LedgerLemmas
 pub mod PlacedLemmas
+pub mod CountLemmas
+pub mod WordLemmas
+pub mod BeginLemmas
+pub mod FitLemmas
+pub mod ReplyLemmas
+pub mod FloorLemmas
+pub mod StateLemmas
+pub mod CallLemmas
+pub mod SpaceLemmas
+pub mod FaultLemmas
+pub mod KnownLemmas

@@ -1,5 +1,5 @@
 -- Pages that are written one after another.
-use Rattle.std.proofs.Common.{◌≡◌, ◌⊎◌, inl, inr, ⊎_elim, ℕ, ◌+◌, ◌<◌, ◌≤◌, List, [], ◌∷◌, Option, None, Some, Result, Ok, Err, refl, sym, ◌∙◌, ap, subst, arith, length, slice_range}
+use Rattle.std.proofs.Common.{◌≡◌, inl, inr, ⊎_elim, ℕ, ◌+◌, ◌<◌, ◌≤◌, List, [], ◌∷◌, Option, None, Some, Result, Ok, Err, refl, sym, ◌∙◌, ap, subst, arith, length, slice_range}
 use Rattle.std.specs.Prelude.{IfSome, OnErr, slice_index}
 use Rattle.std.proofs.lemmas.Bool.{cases_eq}
 use Rattle.hm_types.specs.Offset.{byte_of}
@@ -7,12 +7,12 @@ use Rattle.hm_types.specs.Told.{BothTell}
 use Rattle.hm_types.specs.declared.limits.TheConstants.{PAGE_BYTES}
 use Rattle.hm_fields.specs.Pages.{PageMap}
 use Rattle.hm_disk.specs.Crash.{MayLeave, Told}
-use Rattle.hm_disk.specs.Disk.{MayBeTorn, Torn, Unchanged, Written, overwritten}
+use Rattle.hm_disk.specs.Disk.{MayBeTorn, Written}
 use Rattle.hm_disk.proofs.DiskLemmas.{BothTell-then, IfSome-then}
 use Rattle.hm_disk.proofs.CrashLemmas.{MayLeave-same}
 use Rattle.hm_disk.proofs.OverwriteLemmas.{MayLeave-overwritten}
 use Rattle.hm_header.proofs.SliceLemmas.{slice-kept, slice-overwritten}
-use Rattle.hm_tree_core.specs.Placed.{AreApart, ArePlaces, IsBeside, KeepsOthers, PutsPages, Stands}
+use Rattle.hm_tree_core.specs.Placed.{ArePlaces, KeepsOthers, PutsPages, Stands}
 
 module _ (pages : PageMap) (places : List ℕ) where
   -- before the first one

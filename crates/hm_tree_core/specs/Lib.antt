@@ -1,2 +1,5 @@
 pub mod Ledger
 pub mod Placed
+pub mod History
+pub mod Told
+pub mod Calls

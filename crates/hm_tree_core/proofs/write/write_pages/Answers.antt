@@ -1,5 +1,4 @@
-use Rattle.std.proofs.Common.{◌≡◌, ℕ, ◌+◌, ◌<◌, ◌≤◌, ◌∙◌, List, Option, Some, length, arith, sym, subst, ap}
-use Rattle.std.specs.Prelude.{slice_index}
+use Rattle.std.proofs.Common.{ℕ, ◌∙◌, List, Some, length, arith, sym, subst, ap}
 use Rattle.hm_types.specs.Offset.{byte_of}
 use Rattle.hm_types.specs.Told.{BothTell}
 use Rattle.hm_pages.specs.Store.{contents}

@@ -1,0 +1,90 @@
+-- A history that is legal with some counts of faults is legal with later ones.
+use Rattle.std.proofs.Common.{ℕ, ◌<◌, ◌≤◌, max, Bool, true, false, List, arith}
+use Rattle.hm_types.specs.Faults.{IsMedia}
+use Rattle.hm_model.specs.After.{Event}
+use Rattle.hm_model.specs.Caused.{Counts, HasNumbers, IsCutAt, Known, ended_command, is_output, counts_after, known_after, known_at, stream_count, stream_told}
+use Rattle.hm_model.specs.Legal.{IsLegal, MayFollow, Setting}
+use Rattle.hm_model.specs.declared.entry.Entry.{Entry}
+use Rattle.hm_model.specs.declared.reply.Reply.{Reply}
+use Rattle.hm_model.specs.declared.reply.Reply.TheVariants.{Cut, Media, StreamFault, Synced}
+
+-- no count fell
+pub record AreLater (old new : Counts) : Type 0 where
+  pub disk : old.disk ≤ new.disk
+  pub input : old.input ≤ new.input
+  pub output : old.output ≤ new.output
+
+media_later : (from now later before after : ℕ) → now ≤ later → IsMedia from now before after → IsMedia from later before after
+media_later from now later before after le is = (let end = is.end in record { begin = is.begin; rose = is.rose; end = omega (arith, le, end) })
+
+stream_later : (output : Bool) (now later : Counts) → AreLater now later → stream_count output now ≤ stream_count output later
+stream_later true now later le = le.output
+stream_later false now later le = le.input
+
+-- the numbers of a reply have their cause
+abbrev pub NumbersOf : Counts → Known → Entry → Reply → Type 0
+NumbersOf now known e reply = elim reply [
+  | Synced boundary ↦ (known.boundary ≤ boundary.0) × (boundary.0 < e.id.0)
+  | Media before after ↦ IsMedia known.counts.disk now.disk before after
+  | StreamFault before after ↦
+      let output : Bool = is_output known.opened e.call in
+      IsMedia (stream_count output known.counts) (stream_count output now) before after
+  | Cut items ↦ IsCutAt (ended_command known.opened e.call) items
+  | other ↦ Unit {0}
+]
+
+numbers_later : (now later : Counts) (known : Known) (e : Entry) → AreLater now later → HasNumbers now known e → HasNumbers later known e
+numbers_later now later known e le numbers = by e.reply numbers where
+  by : (reply : Reply) → NumbersOf now known e reply → NumbersOf later known e reply
+  by (Synced boundary) is = is
+  by (Media before after) is = media_later known.counts.disk now.disk later.disk before after le.disk is
+  by (StreamFault before after) is =
+      let output : Bool = is_output known.opened e.call in
+      media_later (stream_count output known.counts) (stream_count output now) (stream_count output later) before after
+      (stream_later output now later le) is
+  by (Cut items) is = is
+  by other is = tt
+
+-- the same run, with other counts now
+abbrev pub counted_to : Setting → Counts → Setting
+counted_to run later = record run { now = later }
+
+pub follows_later : (run : Setting) (later : Counts) (before : List Event) (event : Event) → AreLater run.now later
+    → MayFollow run before event → MayFollow (counted_to run later) before event
+follows_later run later before event le follows = record {
+  caused = record {
+    id = follows.caused.id;
+    drawn = follows.caused.drawn;
+    read = follows.caused.read;
+    possible = follows.caused.possible;
+    numbers = numbers_later run.now later (known_after (known_at run.opening.last run.start) before) event.entry le follows.caused.numbers;
+  };
+  allowed = follows.allowed;
+  lands = follows.lands;
+  fed = follows.fed;
+  undamaged = follows.undamaged;
+}
+
+pub legal_later : (run : Setting) (later : Counts) (events : List Event) → AreLater run.now later → IsLegal run events
+    → IsLegal (counted_to run later) events
+legal_later run later events le legal before event rest is = follows_later run later before event le (legal before event rest is)
+
+-- A reply told no more faults of the disk than were counted: so none of a history did.
+abbrev DiskTold : Known → Entry → Reply → ℕ
+DiskTold known e reply = (elim reply as (λ r. Counts) [
+  | Media before after ↦ record known.counts { disk = max known.counts.disk after }
+  | StreamFault before after ↦ stream_told (is_output known.opened e.call) after known.counts
+  | other ↦ known.counts
+]).disk
+
+stream_leaves : (output : Bool) (after : ℕ) (counts : Counts) (most : ℕ) → counts.disk ≤ most → (stream_told output after counts).disk ≤ most
+stream_leaves true after counts most le = le
+stream_leaves false after counts most le = le
+
+pub told_most : (now : Counts) (known : Known) (e : Entry) → known.counts.disk ≤ now.disk → HasNumbers now known e
+    → (counts_after known e).disk ≤ now.disk
+told_most now known e le numbers = by e.reply numbers where
+  by : (reply : Reply) → NumbersOf now known e reply → DiskTold known e reply ≤ now.disk
+  by (Media before after) is = (let end = is.end in omega (arith, le, end))
+  by (StreamFault before after) is = stream_leaves (is_output known.opened e.call) after known.counts now.disk le
+  by other is = le

@@ -1,0 +1,46 @@
+-- A history over the volume on which it began, and the space that has come of it.
+use Rattle.std.specs.Prelude.{◌≡◌, ℕ, ◌≤◌, true, List, []}
+use Rattle.hm_model.specs.After.{Event, State}
+use Rattle.hm_model.specs.Caused.{Counts, known_after, known_at}
+use Rattle.hm_model.specs.Foreign.{Foreigners}
+use Rattle.hm_model.specs.Legal.{IsLegal, Setting, entries_of, state_after}
+use Rattle.hm_model.specs.Volume.{Volume}
+use Rattle.hm_model.specs.declared.entry.Entry.{Entry}
+use Rattle.hm_image.specs.StandFor.{OnEach}
+use Rattle.hm_stored.specs.Heap.{Heap}
+use Rattle.hm_state.specs.Volume.{HoldsVolume}
+
+-- counts of a core that has no streams: those of its disk
+abbrev pub disk_counts : ℕ → Counts
+disk_counts faults = record { disk = faults; input = 0; output = 0 }
+
+-- What a run of a core began with, over an opening volume: so many free big-blocks, and so many faults of its disk; and
+-- how many these are now.
+abbrev pub setting_of : ℕ → ℕ → ℕ → Volume → Foreigners → Setting
+setting_of free start now opening foreigners = record {
+  opening = opening;
+  foreigners = foreigners;
+  free = free;
+  start = disk_counts start;
+  now = disk_counts now;
+}
+
+-- the trees of each PFS of a volume are certain
+abbrev pub IsClear : Volume → Type 0
+IsClear volume = OnEach volume (λ pfs s. s.clear ≡ true)
+
+-- A space holds the volume of a state, in which the trees of each PFS are certain and no housekeeping call is open.
+pub record HoldsState (h : Heap) (root last : ℕ) (state : State) : Type 0 where
+  pub holds : HoldsVolume h root last state.volume
+  pub clear : IsClear state.volume
+  pub opened : state.opened ≡ []
+
+-- The entries of a history are those of events that are legal over an opening volume, with no more faults told than were
+-- counted, and a space holds the state after them.
+pub record IsLegalOver (free start faults : ℕ) (history : List Entry) (h : Heap) (root last : ℕ) (opening : Volume)
+    (foreigners : Foreigners) : Type 0 where
+  pub events : List Event
+  pub entries : entries_of events ≡ history
+  pub legal : IsLegal (setting_of free start faults opening foreigners) events
+  pub counted : (known_after (known_at opening.last (disk_counts start)) events).counts.disk ≤ faults
+  pub held : HoldsState h root last (state_after (setting_of free start faults opening foreigners) events)

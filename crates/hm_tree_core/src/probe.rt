@@ -1,2 +1,0 @@
-#[tactic(auto, using(crate::proofs::LedgerLemmas::paid_floor))]
-pub fn probe() {}
