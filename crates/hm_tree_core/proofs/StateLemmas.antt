@@ -14,7 +14,8 @@ use Rattle.hm_model.specs.declared.command.Command.{Command}
 use Rattle.hm_model.specs.declared.command.Command.TheVariants.{PfsMaster, PfsSlave}
 use Rattle.hm_model.proofs.ChangeLemmas.{versioned}
 use Rattle.hm_model.proofs.EventLemmas.{after_events-push}
-use Rattle.hm_calls.specs.Replies.{IsOnNames, is_change}
+use Rattle.hm_calls.specs.Commands.{IsOnTrees}
+use Rattle.hm_calls.specs.Replies.{is_change}
 use Rattle.hm_image.specs.StandFor.{StandFor}
 use Rattle.hm_stored.specs.Heap.{Heap}
 use Rattle.hm_stored.specs.Standing.{Holds}
@@ -25,7 +26,7 @@ use Rattle.hm_tree_core.specs.History.{HoldsState, IsClear}
 use Rattle.hm_tree_core.proofs.ReplyLemmas.{reply_allowed, tells_no_pass}
 
 -- a call that is served adds no PFS
-pub served_adds_none : (command : Command) → IsOnNames command → adds_pfs command ≡ false
+pub served_adds_none : (command : Command) → IsOnTrees command → adds_pfs command ≡ false
 served_adds_none (PfsMaster path shared) named = absurd named
 served_adds_none (PfsSlave path shared) named = absurd named
 served_adds_none other named = refl
@@ -53,7 +54,7 @@ clear_after true call adds clear =
 clear_after false call adds clear = clear
 
 -- the state after a call that is served, whatever it was answered
-pub served_state : (run : Setting) (before : List Event) (event : Event) → IsOnNames event.entry.call
+pub served_state : (run : Setting) (before : List Event) (event : Event) → IsOnTrees event.entry.call
     → event.entry.id.0 ≡ own_id (call_after run before event) → IsAllowed run before event
     → state_after run (before ++ event ∷ [])
     ≡ on_volume (state_after run before) (after_call (is_change event.entry.call event.entry.reply) (call_after run before event))

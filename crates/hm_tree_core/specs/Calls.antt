@@ -4,14 +4,14 @@ use Rattle.hm_types.specs.declared.limits.TheConstants.{GREATEST_ID}
 use Rattle.hm_key.specs.Extents.{Extent}
 use Rattle.hm_key.specs.declared.element.Element.{Element}
 use Rattle.hm_model.specs.declared.entry.Entry.{Entry}
-use Rattle.hm_calls.specs.Replies.{IsOnNames}
+use Rattle.hm_calls.specs.Commands.{IsOnTrees}
 use Rattle.hm_stored.specs.Heap.{Heap}
 use Rattle.hm_step.specs.Next.{IsStep}
 use Rattle.hm_tree_core.specs.Told.{HoldsSame, HoldsTold, TellsFailure, TellsHeld}
 
 -- an entry is that of a call which a store serves, by the id after the last one
 pub record IsNextCall (last : ℕ) (entry : Entry) : Type 0 where
-  pub named : IsOnNames entry.call
+  pub named : IsOnTrees entry.call
   pub left : last < GREATEST_ID
   pub own : entry.id.0 ≡ last + 1
 
