@@ -4,10 +4,10 @@ use Rattle.std.proofs.lemmas.List.Elements.{All-contains, Contains-get_or}
 use Rattle.hm_types.specs.Elements.{FullElement}
 use Rattle.hm_key.specs.Element.{pfs_of}
 use Rattle.hm_stored.specs.Decide.{dec_all, from_holds, to_holds}
-use Rattle.hm_stored.specs.Known.{AreDrawn, IsKnown, IsOfSlave, dec_known, dec_of_slave, is_known}
+use Rattle.hm_stored.specs.Known.{AreDrawn, AreKnown, IsKnown, IsOfSlave, dec_known, dec_of_slave, is_known}
 
 -- each pseudo file system is a slave, or its elements were drawn
-pub known_each : (last : ℕ) (es : List FullElement) → IsTrue (is_known last es) → (pfs : ℕ) → IsOfSlave es pfs ⊎ AreDrawn last es pfs
+pub known_each : (last : ℕ) (es : List FullElement) → IsTrue (is_known last es) → AreKnown last es
 unfolding is_known
 known_each last es known pfs = by (dec_of_slave es pfs)
   where
@@ -19,8 +19,7 @@ known_each last es known pfs = by (dec_of_slave es pfs)
     by (no not) = inr (λ x there is. ⊎_elim (λ slave. absurd (not (subst (IsOfSlave es) is slave))) (λ drawn. drawn) (all x there))
 
 -- and the other way
-pub known_from_each : (last : ℕ) (es : List FullElement) → ((pfs : ℕ) → IsOfSlave es pfs ⊎ AreDrawn last es pfs)
-    → IsTrue (is_known last es)
+pub known_from_each : (last : ℕ) (es : List FullElement) → AreKnown last es → IsTrue (is_known last es)
 unfolding is_known
 known_from_each last es each = to_holds (dec_all (dec_known last es) es) (λ k d lt. at (slice_index_or es k d) (Contains-get_or es k d lt))
   where

@@ -25,6 +25,8 @@ mod PutLemmas
 mod ReferLemmas
 mod RoomLemmas
 mod SafeLemmas
+mod StandingLemmas
+mod StoredLemmas
 mod UseLemmas
 mod TurnLemmas
 mod TreeLemmas

@@ -137,6 +137,10 @@ IsOfSlave es pfs =
 abbrev pub IsNotPassedBy : Subject → FullElement → FullElement → Type 0
 IsNotPassedBy subject x other = subject_of other.key ≡ subject → IsSeen open_end other → other.key.create ≤ x.key.create
 
+-- The ids of elements are known: each pseudo file system is a slave, or its elements were made and closed by then.
+abbrev pub AreKnown : ℕ → List FullElement → Type 0
+AreKnown last es = (pfs : ℕ) → IsOfSlave es pfs ⊎ AreDrawn last es pfs
+
 -- an element is the record of now of a pseudo file system, and says that it is a slave
 pub record TellsSlave (es : List FullElement) (pfs : ℕ) (x : FullElement) : Type 0 where
   pub about : subject_of x.key ≡ record_subject pfs

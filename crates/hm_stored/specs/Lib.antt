@@ -8,6 +8,7 @@ pub mod Heap
 pub mod Held
 pub mod Calls
 pub mod Nodes
+pub mod Told
 pub mod Laws
 pub mod Turn
 pub mod Mounted

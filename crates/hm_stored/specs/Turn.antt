@@ -1,5 +1,5 @@
 -- How a call on a space is opened and closed.
-use Rattle.std.specs.Prelude.{◌≡◌, ℕ, true, false, [], None}
+use Rattle.std.specs.Prelude.{◌≡◌, ◌&&◌, ℕ, Bool, true, false, [], None}
 use Rattle.hm_pages.specs.Calls.{IsBegun, IsKept as IsPagesKept, IsUndone}
 use Rattle.hm_stored.specs.Heap.{Heap}
 
@@ -30,3 +30,7 @@ pub record IsKeptOf (old new : Heap) : Type 0 where
 pub record IsDropped (old new : Heap) : Type 0 where
   pub pages : IsUndone old.pages new.pages
   pub rest : new ≡ record old { pages = new.pages; append = old.begun; whole = true }
+
+-- A change of the open call ended: where it was done, all is as it was, and where it failed, each further one is refused.
+abbrev pub IsEnded : Bool → Heap → Heap → Type 0
+IsEnded done old new = new ≡ record old { whole = old.whole && done }

@@ -11,8 +11,13 @@ mod payloads;
 mod roots;
 mod space;
 mod space_calls;
+mod stored;
+mod stored_elements;
+mod stored_extents;
+mod stored_turns;
 #[cfg(test)]
 mod tests;
+mod tree_calls;
 mod tree_pages;
 mod tree_space;
 mod turns;
@@ -21,3 +26,4 @@ pub use books::Books;
 pub use change::Change;
 pub use roots::Roots;
 pub use space::Space;
+pub use stored::Stored;

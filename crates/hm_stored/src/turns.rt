@@ -7,7 +7,7 @@ ghost use Rattle.hm_pages.specs.Store.{contents, layer2};
 ghost use Rattle.hm_stored.specs.Heap.{heap_of};
 ghost use Rattle.hm_stored.specs.Basis.{nodes};
 ghost use Rattle.hm_stored.specs.Content.{DropsContent, KeepsContent, OpensContent};
-ghost use Rattle.hm_stored.specs.Turn.{IsClosed, IsDropped, IsKeptOf, IsOpened};
+ghost use Rattle.hm_stored.specs.Turn.{IsClosed, IsDropped, IsEnded, IsKeptOf, IsOpened};
 
 use crate::books::Books;
 use crate::pages::VolumePages;
@@ -86,5 +86,38 @@ impl<D: Disk> Space<D> {
         self.pages.store.undo();
         self.books.append = self.books.begun;
         self.books.whole = true;
+    }
+
+    /// Ends a change of the open call. One that failed may be half done, so that each further one is
+    /// refused until the changes are dropped.
+    pub(crate) fn end_change(&mut self, done: bool)
+        ensures ends { IsEnded done
+            (heap_of (contents self.old.pages.store) (D.told self.old.disk) self.old.books)
+            (heap_of (contents self.new.pages.store) (D.told self.new.disk) self.new.books) }
+        ensures disk { self.new.disk ≡ self.old.disk }
+    {
+        let whole = self.books.whole && done;
+        self.books.whole = whole;
+    }
+
+    /// Whether no change of the open call failed half-way.
+    pub fn is_whole(&self) -> bool
+        ensures { result ≡ self.now.books.whole }
+    {
+        self.books.whole
+    }
+
+    /// The disk.
+    pub fn disk(&self) -> &D
+        ensures { result.now ≡ self.now.disk }
+    {
+        &self.disk
+    }
+
+    /// What it keeps beside pages and disk.
+    pub fn books(&self) -> &Books
+        ensures { result.now ≡ self.now.books }
+    {
+        &self.books
     }
 }

@@ -1,0 +1,17 @@
+-- A reference is added to an extent.
+use Rattle.hm_types.specs.Space.{nothing}
+use Rattle.hm_pages.specs.Store.{contents}
+use Rattle.hm_stored.specs.Heap.{heap_of}
+use Rattle.hm_stored.proofs.StoredLemmas.{ended_stays}
+use Rattle.hm_stored.proofs.stored_extents.StoredExtents.share.Goals as goal
+
+pub returns-clause-space : goal.returns-clause-space
+unfolding heap_of
+returns-clause-space g c =
+    let s = c.args.self.now.space in
+    let mid = c.share-shared.new.self in
+    let new = c.end_change.new.self in
+    let stays = ended_stays (nothing) (heap_of (contents s.pages.store) (g.D.Disk.told s.disk) s.books)
+    (heap_of (contents mid.pages.store) (g.D.Disk.told mid.disk) mid.books) (heap_of (contents new.pages.store) (g.D.Disk.told new.disk) new.books)
+    c.is_ok.result s.books.most c.share-shared.ensures.stays c.end_change.ensures.ends in
+    record { room = stays.spent.room; free = stays.spent.free }

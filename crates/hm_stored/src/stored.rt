@@ -1,0 +1,89 @@
+// The store of a volume in use.
+ghost use Rattle.std.specs.Prelude.{◌≡◌};
+ghost use Rattle.hm_btree.specs.Tree.{HoldsTree};
+ghost use Rattle.hm_pages.specs.Store.{contents};
+ghost use Rattle.hm_stored.specs.Heap.{heap_of, pages_of};
+ghost use Rattle.hm_stored.specs.Turn.{IsClosed};
+
+use crate::space::Space;
+use hm_disk::Disk;
+use hm_key::{HasElements, HasRoom};
+use hm_types::{Counted, Fault, HOff};
+
+/// A volume in use, as the calls on names read and change it: its elements, which the tree over its
+/// space has, and the extents of their payloads.
+///
+/// It tells both while a call is open and none of its changes failed. Once one failed, each further
+/// call is refused until the changes are dropped.
+#[derive(Drop)]
+pub struct Stored<D: Disk> {
+    pub(crate) space: Space<D>,
+    pub(crate) root: HOff,
+    ghost tree: { HoldsTree (pages_of (heap_of (contents space.pages.store) (D.told space.disk) space.books)) root },
+}
+
+impl<D: Disk> Counted for Stored<D> {
+    ghost use Rattle.hm_stored.specs.Heap.{Frame, frame_of};
+
+    ghost faults = { λ s. D.faults s.space.disk };
+
+    ghost name = { λ _. 0 };
+
+    ghost Frame = { Frame };
+
+    ghost frame = { λ s. frame_of (heap_of (contents s.space.pages.store) (D.told s.space.disk) s.space.books) };
+}
+
+impl<D: Disk> HasRoom for Stored<D> {
+    ghost use Rattle.hm_stored.specs.Heap.{extents_in, free_of, room_of};
+
+    ghost room = { λ s. room_of (heap_of (contents s.space.pages.store) (D.told s.space.disk) s.space.books) };
+
+    ghost free = { λ s. free_of (heap_of (contents s.space.pages.store) (D.told s.space.disk) s.space.books) };
+
+    ghost extents = { λ s. extents_in (heap_of (contents s.space.pages.store) (D.told s.space.disk) s.space.books) };
+}
+
+impl<D: Disk> HasElements for Stored<D> {
+    ghost use Rattle.hm_stored.specs.Told.{elements_told, mark_told};
+
+    ghost elements = { λ s. elements_told
+        (heap_of (contents s.space.pages.store) (D.told s.space.disk) s.space.books) s.root };
+
+    ghost mark = { λ s. mark_told
+        (heap_of (contents s.space.pages.store) (D.told s.space.disk) s.space.books) s.root };
+}
+
+impl<D: Disk> Stored<D> {
+    /// The store over a space in which no call is open. Its tree is the one from `root` on.
+    pub fn over(space: Space<D>, root: HOff) -> Stored<D>
+        requires closed { IsClosed (heap_of (contents space.pages.store) (D.told space.disk) space.books) }
+        ensures space { result.space ≡ space }
+        ensures root { result.root ≡ root }
+    {
+        Stored { space, root }
+    }
+
+    /// The space.
+    pub fn space(&self) -> &Space<D>
+        ensures { result.now ≡ self.now.space }
+    {
+        &self.space
+    }
+
+    /// Where the root of the tree stands.
+    pub fn root(&self) -> HOff
+        ensures { result ≡ self.now.root }
+    {
+        self.root
+    }
+
+    /// The space and the root.
+    pub fn into_parts(self) -> (Space<D>, HOff)
+        ensures space { result.0 ≡ self.space }
+        ensures root { result.1 ≡ self.root }
+    {
+        let Stored { space, root } = self;
+        (space, root)
+    }
+}

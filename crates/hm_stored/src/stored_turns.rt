@@ -1,0 +1,73 @@
+// How a call on a volume in use is opened and closed.
+ghost use Rattle.std.specs.Prelude.{◌≡◌, IfSome, IsSome, List, true};
+ghost use Rattle.hm_types.specs.Elements.{FullElement};
+ghost use Rattle.hm_pages.specs.Store.{contents};
+ghost use Rattle.hm_stored.specs.Heap.{content_of, heap_of};
+ghost use Rattle.hm_stored.specs.Known.{AreKnown};
+ghost use Rattle.hm_stored.specs.Standing.{Holds};
+ghost use Rattle.hm_stored.specs.Told.{Tells};
+ghost use Rattle.hm_stored.specs.Turn.{IsClosed, IsDropped, IsKeptOf, IsOpened};
+
+use crate::stored::Stored;
+use hm_disk::Disk;
+use hm_types::Id;
+
+impl<D: Disk> Stored<D> {
+    /// Opens a call, with the last id that was drawn. No call may be open. Where the volume is in order
+    /// and its ids are known, the store tells just the elements that it holds. It takes no memory.
+    pub fn begin(&mut self, last: Id)
+        requires closed { IsClosed
+            (heap_of (contents self.old.space.pages.store) (D.told self.old.space.disk) self.old.space.books) }
+        ensures turn { IsOpened self.old.root last.0
+            (heap_of (contents self.old.space.pages.store) (D.told self.old.space.disk) self.old.space.books)
+            (heap_of (contents self.new.space.pages.store) (D.told self.new.space.disk) self.new.space.books) }
+        ensures root { self.new.root ≡ self.old.root }
+        ensures disk { self.new.space.disk ≡ self.old.space.disk }
+        ensures told { (es : List FullElement)
+            → Holds (heap_of (contents self.old.space.pages.store) (D.told self.old.space.disk) self.old.space.books)
+            self.old.root es
+            → AreKnown last.0 es
+            → Tells (heap_of (contents self.new.space.pages.store) (D.told self.new.space.disk) self.new.space.books)
+            self.new.root es }
+    {
+        self.space.begin(self.root, last);
+    }
+
+    /// Closes the open call, none of whose changes failed, and keeps what it changed. It takes no memory.
+    pub fn keep(&mut self)
+        requires opened { IsSome (contents self.old.space.pages.store).begin }
+        requires whole { self.old.space.books.whole ≡ true }
+        ensures turn { IsKeptOf
+            (heap_of (contents self.old.space.pages.store) (D.told self.old.space.disk) self.old.space.books)
+            (heap_of (contents self.new.space.pages.store) (D.told self.new.space.disk) self.new.space.books) }
+        ensures root { self.new.root ≡ self.old.root }
+        ensures disk { self.new.space.disk ≡ self.old.space.disk }
+    {
+        self.space.keep();
+    }
+
+    /// Closes the open call, and drops what it changed: the volume holds what it held when the call was
+    /// opened. It takes no memory.
+    pub fn undo(&mut self)
+        requires opened { IsSome (contents self.old.space.pages.store).begin }
+        ensures turn { IsDropped
+            (heap_of (contents self.old.space.pages.store) (D.told self.old.space.disk) self.old.space.books)
+            (heap_of (contents self.new.space.pages.store) (D.told self.new.space.disk) self.new.space.books) }
+        ensures root { self.new.root ≡ self.old.space.books.roots.current }
+        ensures disk { self.new.space.disk ≡ self.old.space.disk }
+        ensures held { IfSome (content_of
+            (heap_of (contents self.old.space.pages.store) (D.told self.old.space.disk) self.old.space.books))
+            (Holds (heap_of (contents self.new.space.pages.store) (D.told self.new.space.disk) self.new.space.books)
+            self.new.root) }
+    {
+        self.space.undo();
+        self.root = self.space.books.roots.current;
+    }
+
+    /// Whether no change of the open call failed.
+    pub fn is_whole(&self) -> bool
+        ensures { result ≡ self.now.space.books.whole }
+    {
+        self.space.is_whole()
+    }
+}

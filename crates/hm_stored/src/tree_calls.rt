@@ -1,0 +1,171 @@
+// One call of a tree over a lent space.
+ghost use Rattle.std.specs.Prelude.{◌≡◌, ◌⊎◌, ◌<◌, ◌≤◌, IfOk, IfSome, IsNone, IsSome};
+ghost use Rattle.hm_types.specs.Faults.{HasStoreCause};
+ghost use Rattle.hm_types.specs.Space.{in_zone, nothing};
+ghost use Rattle.hm_btree.specs.Tree.{HoldsTree};
+ghost use Rattle.hm_key.specs.Element.{IsElement};
+ghost use Rattle.hm_key.specs.Elements.{element_at, first_from, inserted, last_id, removed, with_delete, with_payload};
+ghost use Rattle.hm_key.specs.Key.{IsBefore, greatest_key, key_of};
+ghost use Rattle.hm_key.specs.Marks.{IsQuiet, Marks, MarksJoin, MarksStay};
+ghost use Rattle.hm_key.specs.Stores.{IsEnd, IsFound};
+ghost use Rattle.hm_pages.specs.Store.{contents};
+ghost use Rattle.hm_stored.specs.Heap.{heap_of, pages_of, room_of};
+ghost use Rattle.hm_stored.specs.Told.{ReadsTree, WritesTree, elements_told, mark_told};
+
+use crate::space::Space;
+use hm_btree::BTree;
+use hm_disk::Disk;
+use hm_key::{Base, Element, ElementStore};
+use hm_types::{Fault, HOff, INSERT_ROOM, Id, TREE_ZONE};
+
+/// Adds an element, at whose key there is none. Answers where the root stands then.
+pub(crate) fn insert<D: Disk>(
+    space: &mut Space<D>,
+    root: HOff,
+    e: &Element,
+) -> (HOff, Result<(), Fault>)
+    requires tree { HoldsTree (pages_of (heap_of (contents space.old.pages.store) (D.told space.old.disk) space.old.books)) root }
+    requires new { IfSome (elements_told (heap_of (contents space.old.pages.store) (D.told space.old.disk) space.old.books) root)
+        (λ es. IsNone (element_at (key_of e.now.base) es)) }
+    requires element { IsElement e.now }
+    requires room { INSERT_ROOM ≤ room_of
+        (heap_of (contents space.old.pages.store) (D.told space.old.disk) space.old.books) TREE_ZONE }
+    ensures writes { WritesTree (in_zone TREE_ZONE INSERT_ROOM) (inserted e.now) (Marks (key_of e.now.base) (last_id e.now))
+        (heap_of (contents space.old.pages.store) (D.told space.old.disk) space.old.books)
+        (heap_of (contents space.new.pages.store) (D.told space.new.disk) space.new.books) root result.0 result.1 }
+    ensures cause { HasStoreCause (elements_told
+        (heap_of (contents space.old.pages.store) (D.told space.old.disk) space.old.books) root)
+        (D.faults space.old.disk) (D.faults space.new.disk) result.1 }
+{
+    let mut tree = BTree::over(space, root);
+    let answer = tree.insert(e);
+    let (space, root) = tree.into_parts();
+    space.end_change(answer.is_ok());
+    (root, answer)
+}
+
+/// Closes the element at the key of `at` at the id `delete`, or opens it where that is 0.
+pub(crate) fn set_delete<D: Disk>(
+    space: &mut Space<D>,
+    root: HOff,
+    at: &Base,
+    delete: u64,
+) -> (HOff, Result<(), Fault>)
+    requires tree { HoldsTree (pages_of (heap_of (contents space.old.pages.store) (D.told space.old.disk) space.old.books)) root }
+    requires there { IfSome (elements_told
+        (heap_of (contents space.old.pages.store) (D.told space.old.disk) space.old.books) root)
+        (λ es. IsSome (element_at (key_of at.now) es)) }
+    requires later { (delete ≡ 0) ⊎ (at.now.create < delete) }
+    ensures writes { WritesTree nothing (with_delete (key_of at.now) delete) (Marks (key_of at.now) delete)
+        (heap_of (contents space.old.pages.store) (D.told space.old.disk) space.old.books)
+        (heap_of (contents space.new.pages.store) (D.told space.new.disk) space.new.books) root result.0 result.1 }
+    ensures cause { HasStoreCause (elements_told
+        (heap_of (contents space.old.pages.store) (D.told space.old.disk) space.old.books) root)
+        (D.faults space.old.disk) (D.faults space.new.disk) result.1 }
+{
+    let mut tree = BTree::over(space, root);
+    let answer = tree.set_delete(at, delete);
+    let (space, root) = tree.into_parts();
+    space.end_change(answer.is_ok());
+    (root, answer)
+}
+
+/// Takes the element at the key of `at` out.
+pub(crate) fn remove<D: Disk>(
+    space: &mut Space<D>,
+    root: HOff,
+    at: &Base,
+) -> (HOff, Result<(), Fault>)
+    requires tree { HoldsTree (pages_of (heap_of (contents space.old.pages.store) (D.told space.old.disk) space.old.books)) root }
+    requires there { IfSome (elements_told
+        (heap_of (contents space.old.pages.store) (D.told space.old.disk) space.old.books) root)
+        (λ es. IsSome (element_at (key_of at.now) es)) }
+    ensures writes { WritesTree nothing (removed (key_of at.now)) (MarksJoin (key_of at.now))
+        (heap_of (contents space.old.pages.store) (D.told space.old.disk) space.old.books)
+        (heap_of (contents space.new.pages.store) (D.told space.new.disk) space.new.books) root result.0 result.1 }
+    ensures cause { HasStoreCause (elements_told
+        (heap_of (contents space.old.pages.store) (D.told space.old.disk) space.old.books) root)
+        (D.faults space.old.disk) (D.faults space.new.disk) result.1 }
+{
+    let mut tree = BTree::over(space, root);
+    let answer = tree.remove(at);
+    let (space, root) = tree.into_parts();
+    space.end_change(answer.is_ok());
+    (root, answer)
+}
+
+/// Lets the payload of the element at the key of `at` stand at `to`.
+pub(crate) fn readdress<D: Disk>(
+    space: &mut Space<D>,
+    root: HOff,
+    at: &Base,
+    to: HOff,
+) -> (HOff, Result<(), Fault>)
+    requires tree { HoldsTree (pages_of (heap_of (contents space.old.pages.store) (D.told space.old.disk) space.old.books)) root }
+    requires there { IfSome (elements_told
+        (heap_of (contents space.old.pages.store) (D.told space.old.disk) space.old.books) root)
+        (λ es. IsSome (element_at (key_of at.now) es)) }
+    ensures writes { WritesTree nothing (with_payload (key_of at.now) to) MarksStay
+        (heap_of (contents space.old.pages.store) (D.told space.old.disk) space.old.books)
+        (heap_of (contents space.new.pages.store) (D.told space.new.disk) space.new.books) root result.0 result.1 }
+    ensures cause { HasStoreCause (elements_told
+        (heap_of (contents space.old.pages.store) (D.told space.old.disk) space.old.books) root)
+        (D.faults space.old.disk) (D.faults space.new.disk) result.1 }
+{
+    let mut tree = BTree::over(space, root);
+    let answer = tree.readdress(at, to);
+    let (space, root) = tree.into_parts();
+    space.end_change(answer.is_ok());
+    (root, answer)
+}
+
+/// The first element at the key of `at` or after it.
+pub(crate) fn first_at_or_after<D: Disk>(
+    space: &mut Space<D>,
+    root: HOff,
+    at: &Base,
+) -> (HOff, Result<Option<Element>, Fault>)
+    requires tree { HoldsTree (pages_of (heap_of (contents space.old.pages.store) (D.told space.old.disk) space.old.books)) root }
+    ensures ok { IfSome (elements_told (heap_of (contents space.old.pages.store) (D.told space.old.disk) space.old.books) root)
+        (λ es. IfOk result.1 (λ found. found ≡ first_from (key_of at.now) es)) }
+    ensures found { IfOk result.1 (λ found. IfSome found (IsFound (key_of at.now))) }
+    ensures reads { ReadsTree
+        (heap_of (contents space.old.pages.store) (D.told space.old.disk) space.old.books)
+        (heap_of (contents space.new.pages.store) (D.told space.new.disk) space.new.books) root result.0 }
+    ensures cause { HasStoreCause (elements_told
+        (heap_of (contents space.old.pages.store) (D.told space.old.disk) space.old.books) root)
+        (D.faults space.old.disk) (D.faults space.new.disk) result.1 }
+{
+    let mut tree = BTree::over(space, root);
+    let answer = tree.first_at_or_after(at);
+    let (space, root) = tree.into_parts();
+    let _there = space;
+    (root, answer)
+}
+
+/// How far from the key of `at` on nothing was written after `since`.
+pub(crate) fn unchanged_until<D: Disk>(
+    space: &mut Space<D>,
+    root: HOff,
+    at: &Base,
+    since: Id,
+) -> (HOff, Result<Option<Base>, Fault>)
+    requires tree { HoldsTree (pages_of (heap_of (contents space.old.pages.store) (D.told space.old.disk) space.old.books)) root }
+    requires before { IsBefore (key_of at.now) greatest_key }
+    ensures ok { IfSome (elements_told (heap_of (contents space.old.pages.store) (D.told space.old.disk) space.old.books) root)
+        (λ _. IfOk result.1 (IsQuiet (mark_told
+        (heap_of (contents space.old.pages.store) (D.told space.old.disk) space.old.books) root) (key_of at.now) since.0)) }
+    ensures found { IfOk result.1 (λ end. IfSome end (IsEnd (key_of at.now))) }
+    ensures reads { ReadsTree
+        (heap_of (contents space.old.pages.store) (D.told space.old.disk) space.old.books)
+        (heap_of (contents space.new.pages.store) (D.told space.new.disk) space.new.books) root result.0 }
+    ensures cause { HasStoreCause (elements_told
+        (heap_of (contents space.old.pages.store) (D.told space.old.disk) space.old.books) root)
+        (D.faults space.old.disk) (D.faults space.new.disk) result.1 }
+{
+    let mut tree = BTree::over(space, root);
+    let answer = tree.unchanged_until(at, since);
+    let (space, root) = tree.into_parts();
+    let _there = space;
+    (root, answer)
+}
