@@ -89,7 +89,7 @@ module _ (free start faults faults' : ℕ) (history : List Entry) (h : Heap) (ro
 
     next : (space : ℕ) → floor_after run so_far.events ≤ space → IsNext run so_far.events event space es
     next space enough = record {
-      named = is.named;
+      served = is.served;
       own = own;
       left = left_next is.left;
       reads = (words_are_read entry.call).1;
@@ -104,7 +104,7 @@ module _ (free start faults faults' : ℕ) (history : List Entry) (h : Heap) (ro
         → HoldsState h' root' (last + 1) (state_after run (so_far.events ++ event ∷ []))
     next_held h' root' now same holds stand allowed =
         holds_after h h' root root' last state (state_after run (so_far.events ++ event ∷ [])) (is_change entry.call entry.reply) call now
-        so_far.held refl (served_adds_none entry.call is.named) (served_state run so_far.events event is.named own allowed) same holds stand
+        so_far.held refl (served_adds_none entry.call is.served) (served_state run so_far.events event is.served own allowed) same holds stand
 
     -- a store served it
     module _ {S : Type 0} (elements_of : S → Option (List Element)) (extents_of : S → Option (List Extent)) (free_of : S → ℕ)

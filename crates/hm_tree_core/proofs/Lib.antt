@@ -11,3 +11,4 @@ pub mod CallLemmas
 pub mod SpaceLemmas
 pub mod FaultLemmas
 pub mod KnownLemmas
+pub mod OpenLemmas

@@ -20,16 +20,16 @@ use Rattle.hm_image.specs.StandFor.{StandFor}
 use Rattle.hm_stored.specs.Heap.{Heap}
 use Rattle.hm_stored.specs.Standing.{Holds}
 use Rattle.hm_step.specs.Step.{after_call}
-use Rattle.hm_step.proofs.EventLemmas.{names_no_opening, state_after as after_is}
+use Rattle.hm_step.proofs.EventLemmas.{served_no_opening, state_after as after_is}
 use Rattle.hm_step.proofs.SystemLemmas.{on_each}
 use Rattle.hm_tree_core.specs.History.{HoldsState, IsClear}
 use Rattle.hm_tree_core.proofs.ReplyLemmas.{reply_allowed, tells_no_pass}
 
 -- a call that is served adds no PFS
 pub served_adds_none : (command : Command) → IsOnTrees command → adds_pfs command ≡ false
-served_adds_none (PfsMaster path shared) named = absurd named
-served_adds_none (PfsSlave path shared) named = absurd named
-served_adds_none other named = refl
+served_adds_none (PfsMaster path shared) served = absurd served
+served_adds_none (PfsSlave path shared) served = absurd served
+served_adds_none other served = refl
 
 -- a call that changes a volume leaves its size
 changed_size : (call : Call) → (change call).bigblocks ≡ call.volume.bigblocks
@@ -58,11 +58,11 @@ pub served_state : (run : Setting) (before : List Event) (event : Event) → IsO
     → event.entry.id.0 ≡ own_id (call_after run before event) → IsAllowed run before event
     → state_after run (before ++ event ∷ [])
     ≡ on_volume (state_after run before) (after_call (is_change event.entry.call event.entry.reply) (call_after run before event))
-served_state run before event named own allowed =
+served_state run before event served own allowed =
     after_events-push (opening_state run.opening run.foreigners) before event
-    ∙ after_is (state_after run before) event named
+    ∙ after_is (state_after run before) event served
     (tells_no_pass (floor_after run before) (call_after run before event) event.entry.reply
-    (reply_allowed run before event (names_no_opening event.entry.call named) allowed)) own
+    (reply_allowed run before event (served_no_opening event.entry.call served) allowed)) own
 
 -- a space holds the state after a call
 pub holds_after : (h h' : Heap) (root root' last : ℕ) (state after : State) (test : Bool) (call : Call) (es : List FullElement)

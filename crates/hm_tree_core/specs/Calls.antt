@@ -11,7 +11,7 @@ use Rattle.hm_tree_core.specs.Told.{HoldsSame, HoldsTold, TellsFailure, TellsHel
 
 -- an entry is that of a call which a store serves, by the id after the last one
 pub record IsNextCall (last : ℕ) (entry : Entry) : Type 0 where
-  pub named : IsOnTrees entry.call
+  pub served : IsOnTrees entry.call
   pub left : last < GREATEST_ID
   pub own : entry.id.0 ≡ last + 1
 

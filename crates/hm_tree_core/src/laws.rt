@@ -1,10 +1,11 @@
 // What a core that answers by a store over a space rests on: each function states one law, and does nothing.
 ghost use Rattle.std.specs.Prelude.{◌≡◌, ℕ, ◌+◌, ◌^◌, ◌<◌, ◌≤◌, [], ◌∷◌, ◌++◌};
-ghost use Rattle.std.specs.Prelude.{IfErr, IsTrue, List, Option, Result, length};
+ghost use Rattle.std.specs.Prelude.{IfErr, IsTrue, true, List, Option, Result, length};
 ghost use Rattle.hm_types.specs.Elements.{FullElement};
 ghost use Rattle.hm_types.specs.Space.{reserve_of};
 ghost use Rattle.hm_types.specs.declared.fault.Fault.{Fault};
 ghost use Rattle.hm_types.specs.declared.limits.TheConstants.{BIGBLOCK_BYTES, GREATEST_ID};
+ghost use Rattle.hm_btree.specs.Tree.{HoldsTree, told_elements};
 ghost use Rattle.hm_key.specs.Charges.{Charges};
 ghost use Rattle.hm_key.specs.Extents.{Extent};
 ghost use Rattle.hm_key.specs.Versions.{IsBelow};
@@ -20,13 +21,14 @@ ghost use Rattle.hm_model.specs.declared.command.Command.{Command};
 ghost use Rattle.hm_model.specs.declared.command.Command.TheVariants.{Df};
 ghost use Rattle.hm_model.specs.declared.entry.Entry.{Entry};
 ghost use Rattle.hm_image.specs.StandFor.{StandFor};
-ghost use Rattle.hm_stored.specs.Heap.{Heap};
+ghost use Rattle.hm_stored.specs.Content.{DropsContent, KeepsContent, OpensContent};
+ghost use Rattle.hm_stored.specs.Heap.{Heap, content_of, extents_in, pages_of};
 ghost use Rattle.hm_stored.specs.Known.{is_known};
 ghost use Rattle.hm_stored.specs.Standing.{Holds};
 ghost use Rattle.hm_tree_core.specs.Calls.{Fails, IsNextCall, Serves};
 ghost use Rattle.hm_tree_core.specs.History.{IsClear, IsLegalOver, setting_of};
 ghost use Rattle.hm_tree_core.specs.Ledger.{IsPaid};
-ghost use Rattle.hm_tree_core.specs.Told.{ArePages, TellsFailure, TellsHeld, TellsSpace, reply_to};
+ghost use Rattle.hm_tree_core.specs.Told.{ArePages, HoldsSame, HoldsTold, TellsFailure, TellsHeld, TellsSpace, reply_to};
 ghost use Rattle.hm_state.specs.Volume.{HoldsVolume};
 
 use hm_key::{ElementStore, Extents};
@@ -82,6 +84,30 @@ pub fn a_fault_tells_no_damage<V>()
         HoldsVolume h root last volume → TellsHeld es xs h root →
         HasReadingCause es xs old new result →
         IfErr result (λ fault. TellsFailure old new (reply_to fault)) }
+{}
+
+/// Where a space holds a volume, the space of a call that was opened over it tells what it holds, as a
+/// store over it does: its tree from that root on, and its extents.
+pub fn an_opened_space_tells_what_was_held()
+    ensures { (h h' : Heap) (root last : ℕ) (volume : Volume) →
+        HoldsVolume h root last volume → OpensContent root last h h' →
+        TellsHeld (told_elements true (pages_of h') root) (extents_in h') h root }
+{}
+
+/// Once the call was kept, the space holds what its tree and its extents told, and the ids fit, since
+/// its pages are bytes.
+pub fn a_kept_space_holds_what_was_told()
+    ensures { (old new : Heap) (root : ℕ) → ArePages new → KeepsContent old new →
+        HoldsTree (pages_of old) root →
+        HoldsTold (told_elements true (pages_of old) root) (extents_in old) new root }
+{}
+
+/// Once the call was dropped, the space holds what it held before, whatever the call did.
+pub fn a_dropped_space_holds_what_was_held()
+    ensures { (h h' old new : Heap) (root last : ℕ) (volume : Volume) →
+        HoldsVolume h root last volume → OpensContent root last h h' →
+        content_of old ≡ content_of h' → old.roots.current ≡ root → DropsContent old new →
+        HoldsSame h root new root }
 {}
 
 /// A history that is legal while so many faults were counted is legal once more were.
