@@ -28,5 +28,6 @@ mod StandingLemmas
 mod StoredLemmas
 mod UseLemmas
 mod TurnLemmas
+mod UntoldLemmas
 mod TreeLemmas
 mod MountLemmas
