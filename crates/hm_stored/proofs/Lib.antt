@@ -29,6 +29,7 @@ mod StandingLemmas
 mod StoredLemmas
 mod UseLemmas
 mod TurnLemmas
+mod UntoldLemmas
 mod TreeLemmas
 mod MountLemmas
 mod ToldLemmas

@@ -8,5 +8,5 @@ pub drop_call-requires : goal.drop_call-requires
 unfolding heap_of
 drop_call-requires g c = record {
   opened = subst (λ (o : Option PageMap). IsSome o)
-      (sym (ap (λ (f : Frame). f.pages.begin) (c.place_of-second.ensures.frame ∙ c.place_of-first.ensures.frame))) c.in_ok-space.ensures;
+      (sym (ap (λ (f : Frame). f.pages.begin) (c.place_of-second.ensures.frame ∙ c.place_of-first.ensures.frame))) c.in_ok-store.ensures;
 }

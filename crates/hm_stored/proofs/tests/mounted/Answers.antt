@@ -1,11 +1,10 @@
-use Rattle.std.proofs.Common.{IfOk, ◌≡◌, ℕ, ◌*◌, ◌≤◌, ◌∙◌, Option, Some, None, length, sym, subst}
+use Rattle.std.proofs.Common.{IfOk, ℕ, ◌*◌, ◌≤◌, ◌∙◌, Option, Some, None, length, sym, subst}
 use Rattle.std.specs.Prelude.{IfSome}
 use Rattle.hm_types.specs.declared.limits.TheConstants.{BIGBLOCK_BYTES}
 use Rattle.hm_disk.specs.Crash.{Told}
 use Rattle.hm_header.specs.OnDisk.{HasHeader}
 use Rattle.hm_header.specs.declared.header.Header.{Header}
-use Rattle.hm_pages.specs.Store.{contents}
-use Rattle.hm_stored.specs.Heap.{Heap, heap_of}
+use Rattle.hm_stored.specs.Heap.{heap_of}
 use Rattle.hm_stored.specs.Turn.{IsClosed}
 use Rattle.hm_stored.proofs.tests.mounted.Goals as goal
 
