@@ -1,15 +1,11 @@
 -- A step of a call down to a child, and back.
 use Rattle.std.proofs.Common.{◌≡◌, ℕ, zero, suc, ◌+◌, ◌<◌, ◌≤◌, List, [], ◌∷◌, ◌++◌, length, take, drop, refl, sym, ap, subst}
-use Rattle.std.proofs.Common.{◌∙◌, arith, max, Some, None, Err, length-append}
-use Rattle.std.specs.Prelude.{IsSome, is_some, Option, IfSome, All, slice_get, slice_set, slice_index_or}
+use Rattle.std.proofs.Common.{◌∙◌, arith, max, Some, None, length-append}
+use Rattle.std.specs.Prelude.{IsSome, Option, All, slice_get, slice_set, slice_index_or}
 use Rattle.std.specs.List.{AllByRecursion}
 use Rattle.std.proofs.lemmas.Grind.{flat_map-append}
 use Rattle.std.proofs.lemmas.List.Elements.{All-from_recursion, recursion_from_All}
-use Rattle.std.proofs.lemmas.Option.{IfSome_then}
 use Rattle.hm_types.specs.Elements.{Key}
-use Rattle.hm_types.specs.Faults.{HasFaultCause, HasStoreCause, IsUndamaged}
-use Rattle.hm_types.specs.declared.fault.Fault.{Fault}
-use Rattle.hm_types.specs.declared.fault.Fault.TheVariants.{Media, Damaged, NoMemory}
 use Rattle.hm_fields.specs.Pages.{PageMap}
 use Rattle.hm_key.specs.Key.{key_of, IsBefore, IsFrom}
 use Rattle.hm_key.specs.Elements.{element_key, element_at}
@@ -22,25 +18,22 @@ use Rattle.hm_node.specs.declared.inner.Child.{Child}
 use Rattle.hm_node.specs.declared.inner.Inner.{Inner}
 use Rattle.hm_node.specs.declared.node.Node.{Node}
 use Rattle.hm_node.specs.declared.node.Node.TheVariants.{Inner as inner_node}
-use Rattle.hm_search.specs.Descent.{IsFaultBelow, StandsHere}
-use Rattle.hm_search.specs.Place.{IsInside, BeginsAt, FitsCount, FitsLevel, TellsDamage, mirror_of}
+use Rattle.hm_search.specs.Place.{IsInside, BeginsAt, FitsCount, FitsLevel, mirror_of}
 use Rattle.hm_search.specs.Search.{holder_place}
 use Rattle.hm_search.specs.Tree.{node_at, elements_in, next_left, child_place, children_of, IsTree, IsStoredTree}
 use Rattle.hm_search.specs.declared.subtree.Parent.{Parent}
 use Rattle.hm_search.specs.declared.subtree.Subtree.{Subtree}
 use Rattle.hm_search.proofs.ChildLemmas.{place_is, begins_before}
-use Rattle.hm_search.proofs.DamageLemmas.{tells_undamaged, stored_here, caused_since}
-use Rattle.hm_search.proofs.DescentLemmas.{IsStoredBelow, fault_below, fault_here, leads}
+use Rattle.hm_search.proofs.DescentLemmas.{IsStoredBelow}
 use Rattle.hm_search.proofs.ListLemmas.{each_so, each_append, each_get}
 use Rattle.hm_btree.specs.Marking.{Marking}
 use Rattle.hm_btree.specs.Edits.{inner_of, with_mirror}
 use Rattle.hm_btree.specs.Space.{HasWritten}
-use Rattle.hm_btree.specs.Below.{elements_under, IsLocal, Changed, HasEditCause, SpellsAt}
+use Rattle.hm_btree.specs.Below.{elements_under, IsLocal, Changed, SpellsAt}
 use Rattle.hm_btree.proofs.ChangeLemmas.{inside_under}
 use Rattle.hm_btree.proofs.LocalLemmas.{before_not_at, after_not_at}
 use Rattle.hm_btree.proofs.NodeLemmas.{holder_inside, changed_written, changed_within, changed_above}
 use Rattle.hm_btree.proofs.OrderLemmas.{each_front, each_back, rising_back, rising_front}
-use Rattle.hm_btree.proofs.ToldLemmas.{IfSome_both, IfSome_kept}
 use Rattle.hm_btree.proofs.UnderLemmas.{stored_front, stored_back}
 
 -- a child that was read is one level lower
@@ -74,51 +67,6 @@ tree_read map lower s child stored here = subst (λ (n : Node). IsTree map lower
 -- it is the one in the page of the child that stands there
 pub read_there : (map : PageMap) (s : Subtree) (at : ℕ) (child : Node) → s.at ≡ at → IsSome (map at) → SpellsAt map s child → node_at map at ≡ child
 read_there map s at child same there here = ap (node_at map) (sym same) ∙ (here (subst (λ (x : ℕ). IsSome (map x)) (sym same) there)).value
-
--- the cause of a fault of the read, and of one further down
-pub edit_cause_read : {T : Type 0} (told : Option PageMap) (node : Node) (inner : Inner) (i : ℕ) (s : Subtree) (old new : ℕ) (fault : Fault)
-    → node ≡ inner_node inner → slice_get (children_of inner) i ≡ Some s
-    → HasFaultCause {T = Node} old new (Err fault) → IfSome told (λ map. TellsDamage s (map s.at) fault)
-    → HasEditCause {T = T} told node old new (Err fault)
-edit_cause_read told node inner i s old new fault is at counted damage = record {
-  counted = record { never_falls = counted.never_falls; caused = counted.caused };
-  damage = IfSome_then told damage (λ map damage place here. fault_below map place s fault
-      (leads map place inner i s (subst (λ (n : Node). StandsHere map place n) is here) at) (fault_here map s fault damage));
-  undamaged = IfSome_then told damage (λ map damage place height tree.
-      let below = stored_below map height place node inner i s tree is at in
-      tells_undamaged s (map s.at) (node_at map s.at) fault below.stored.there (stored_here map below.lower s below.stored) damage);
-}
-
-pub edit_cause_below : {T : Type 0} (told now : Option PageMap) (node child : Node) (inner : Inner) (i : ℕ) (s : Subtree)
-    (old mid new : ℕ) (fault : Fault) → node ≡ inner_node inner → slice_get (children_of inner) i ≡ Some s
-    → now ≡ told → old ≤ mid → IfSome told (λ map. StandsHere map s child) → HasEditCause {T = T} now child mid new (Err fault)
-    → HasEditCause {T = T} told node old new (Err fault)
-edit_cause_below told now node child inner i s old mid new fault is at same low here cause = record {
-  counted = record { never_falls = omega (arith, cause.counted.never_falls); caused = caused_since old mid new fault low cause.counted.caused };
-  damage = IfSome_both told here (subst (λ (o : Option PageMap). IfSome o (λ map. (place : Subtree) → StandsHere map place child
-      → IsFaultBelow map place fault)) same cause.damage) (λ map here more place stands. fault_below map place s fault
-      (leads map place inner i s (subst (λ (n : Node). StandsHere map place n) is stands) at) (more s here));
-  undamaged = IfSome_both told here (subst (λ (o : Option PageMap). IfSome o (λ map. (place : Subtree) (height : ℕ)
-      → IsTree map height place child → IsUndamaged fault)) same cause.undamaged) (λ map here more place height tree.
-      let below = stored_below map height place node inner i s tree is at in
-      more s below.lower (tree_read map below.lower s child below.stored here.spelled));
-}
-
--- a fault that tells of no damage
-pub undamaged_below : (map : PageMap) (s : Subtree) (fault : Fault) → IsUndamaged fault → IsFaultBelow map s fault
-undamaged_below map s (Media before after) is = tt
-undamaged_below map s (Damaged at kind) is = absurd is
-undamaged_below map s NoMemory is = tt
-
-pub edit_cause_write : {T U : Type 0} (told mid : Option PageMap) (node : Node) (old middle new : ℕ) (fault : Fault)
-    → is_some mid ≡ is_some told → old ≤ middle → HasStoreCause {T = U} mid middle new (Err fault) → HasEditCause {T = T} told node old new (Err fault)
-edit_cause_write told mid node old middle new fault same low cause =
-    let undamaged : IfSome told (λ _. IsUndamaged fault) = IfSome_kept mid told _ (sym same) cause.undamaged in
-    record {
-      counted = record { never_falls = omega (arith, low, cause.counted.never_falls); caused = caused_since old middle new fault low cause.counted.caused };
-      damage = IfSome_then told undamaged (λ map is place here. undamaged_below map place fault is);
-      undamaged = IfSome_then told undamaged (λ map is place height tree. is);
-    }
 
 -- a list at a place
 pub split_at : {A : Type 0} (xs : List A) (i : ℕ) (x : A) → slice_get xs i ≡ Some x → (xs ≡ take i xs ++ x ∷ drop (suc i) xs) × (length (take i xs) ≡ i)

@@ -10,11 +10,16 @@ use Rattle.hm_types.specs.Told.{BothTell}
 use Rattle.hm_key.specs.Key.{key_of, IsBefore, IsFrom}
 use Rattle.hm_key.specs.Elements.{element_key}
 use Rattle.hm_key.specs.declared.base.Base.{Base}
+use Rattle.hm_node.specs.Head.{head_in}
+use Rattle.hm_node.specs.Inner.{child_in, inner_in}
+use Rattle.hm_node.specs.Node.{node_in}
+use Rattle.hm_node.specs.Places.{place}
 use Rattle.hm_node.specs.declared.inner.Child.{Child}
 use Rattle.hm_node.specs.declared.inner.Inner.{Inner}
 use Rattle.hm_node.specs.declared.node.Node.{Node}
 use Rattle.hm_node.specs.declared.node.Node.TheVariants.{Leaf as leaf_node, Inner as inner_node}
-use Rattle.hm_search.specs.Descent.{StandsHere}
+use Rattle.hm_node.proofs.PlaceLemmas.{first_length}
+use Rattle.hm_node.proofs.ReadyLemmas.{inner_here}
 use Rattle.hm_search.specs.Place.{IsInside, BeginsAt, FitsBounds}
 use Rattle.hm_search.specs.Tree.{node_at, elements_in, mark_in, reaches, height_of, root_place, children_of, IsTree, IsStoredTree}
 use Rattle.hm_search.specs.Tree.{IsSoundTree, elements_of, mark_of}
@@ -23,9 +28,10 @@ use Rattle.hm_search.proofs.ChildLemmas.{place_is}
 use Rattle.hm_search.proofs.FrameLemmas.{IsSameBelow, frame_elements, frame_mark, frame_reaches, frame_stored}
 use Rattle.hm_search.proofs.ListLemmas.{each_so}
 use Rattle.hm_search.proofs.ReachLemmas.{not_below_itself}
-use Rattle.hm_btree.specs.Below.{Replaces}
+use Rattle.hm_btree.specs.Below.{Replaces, SpellsAt}
+use Rattle.hm_btree.specs.Calls.Remove.{IsOnlyBelow}
 use Rattle.hm_btree.specs.Edits.{inner_of}
-use Rattle.hm_btree.specs.Shrink.{IsLowered}
+use Rattle.hm_btree.specs.Shrink.{IsLowered, IsOnlyChild}
 use Rattle.hm_btree.specs.Space.{HasLost}
 use Rattle.hm_btree.specs.Tree.{IsTreeSpace}
 use Rattle.hm_btree.proofs.EditLemmas.{stored_below}
@@ -183,6 +189,15 @@ one_child inner s long at =
       by_list (d ∷ []) c is long = let same : d ≡ c = cc in ap (λ (x : Child). x ∷ []) same
       by_list (d ∷ e ∷ ds) c is long = absurd (omega (arith, long))
 
+-- the same of the inner node in a page
+pub only_long : (page : List ℕ) (s : Subtree) → IsOnlyBelow page s → length (inner_in page).places.items ≡ 1
+only_long page s only = first_length (λ i. child_in page (place i)) (head_in page).count ∙ only.one
+
+pub only_child_is : (page : List ℕ) (s : Subtree) → IsOnlyBelow page s → IsOnlyChild (node_in page) s.at
+only_child_is page s only =
+    let one = one_child (inner_in page) s (only_long page s only) only.at in
+    subst (λ (n : Node). IsOnlyChild n s.at) (sym (inner_here page only.inner)) (one.0, one.1, sym one.2)
+
 -- the child that is read is sound
 pub lowered_read : (p0 : Option PageMap) (root : ℕ) (node : Node) (inner : Inner) (s : Subtree) → node ≡ inner_node inner
     → slice_get (children_of inner) 0 ≡ Some s → IfSome p0 (λ was. IsTreeSpace was root) → IfSome p0 (λ was. node_at was root ≡ node)
@@ -201,13 +216,13 @@ module _ (p0 p1 p2 : Option PageMap) (root : ℕ) (node child : Node) (inner : I
 
   -- where the pages are told
   pub lowered_told : length inner.places.items ≡ 1 → slice_get (children_of inner) 0 ≡ Some s
-      → IfSome p0 (λ was. IsTreeSpace was root) → IfSome p0 (λ was. node_at was root ≡ node) → IfSome p0 (λ map. StandsHere map s child)
+      → IfSome p0 (λ was. IsTreeSpace was root) → IfSome p0 (λ was. node_at was root ≡ node) → IfSome p0 (λ map. SpellsAt map s child)
       → IfSome p0 (λ was. IfSome p2 (λ map. IsLowered was map root s.at child))
   lowered_told long at tree here read =
       let one = one_child inner s long at in
       let place : s.at ≡ one.0.child = one.2 in
       let below : IfSome p0 (λ old. node_at old s.at ≡ child) = IfSome_both p0 (lowered_read p0 root node inner s is at tree here) read
-      (λ old stored read. (read.spelled stored.1.there).value) in
+      (λ old stored read. (read stored.1.there).value) in
       let drops : IfSome p0 (λ old. IfSome p2 (λ new. IsLowered old new root one.0.child (node_at old one.0.child))) =
       IfSome_both p0 (IfSome_both p0 tree here (λ old tree here new lost. lowered old new root inner one.0 tree (here ∙ is) one.1 lost))
       (both_then p0 p2 lost_first (λ old new lost. lost)) (λ old drops lost. IfSome_then p2 lost drops) in

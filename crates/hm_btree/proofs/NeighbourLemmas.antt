@@ -11,11 +11,11 @@ use Rattle.hm_node.specs.declared.inner.Inner.{Inner}
 use Rattle.hm_node.specs.declared.node.Node.{Node}
 use Rattle.hm_node.specs.declared.node.Node.TheVariants.{Inner as inner_node}
 use Rattle.hm_search.specs.Descent.{StandsHere}
-use Rattle.hm_search.specs.Place.{Fits, TellsDamage}
+use Rattle.hm_search.specs.Place.{Fits, TellsDamage, TellsUnmet}
 use Rattle.hm_search.specs.Tree.{node_at, next_left, child_place, children_of, IsTree, IsStoredTree}
 use Rattle.hm_search.specs.declared.subtree.Subtree.{Subtree}
 use Rattle.hm_search.proofs.ChildLemmas.{place_is}
-use Rattle.hm_search.proofs.DamageLemmas.{tells_undamaged, stored_here}
+use Rattle.hm_search.proofs.DamageLemmas.{tells_met, tells_undamaged, stored_here}
 use Rattle.hm_btree.specs.Marking.{TakesOut}
 use Rattle.hm_btree.specs.Below.{Changed}
 use Rattle.hm_btree.specs.Edits.{inner_of}
@@ -123,6 +123,15 @@ stored_cause told s old new fault stored counted damage = record {
   counted = record { never_falls = counted.never_falls; caused = counted.caused };
   undamaged = IfSome_both told stored damage (λ map stored damage.
       tells_undamaged s (map s.at) (node_at map s.at) fault stored.1.there (stored_here map stored.0 s stored.1) damage);
+}
+
+-- the same of one whose place alone was checked
+pub visited_cause : {T : Type 0} (told : Option PageMap) (s : Subtree) (old new : ℕ) (fault : Fault) → IfSome told
+    (λ map. (height : ℕ) × IsStoredTree map height s) → HasFaultCause {T = Unit {0}} old new (Err fault) → IfSome told (λ map. TellsUnmet s (map s.at) fault)
+    → HasStoreCause {T = T} told old new (Err fault)
+visited_cause told s old new fault stored counted damage = record {
+  counted = record { never_falls = counted.never_falls; caused = counted.caused };
+  undamaged = IfSome_both told stored damage (λ map stored damage. tells_met s (map s.at) fault stored.1.there stored.1.tree.fits damage);
 }
 
 -- the node that was read is the child's

@@ -1,20 +1,24 @@
 -- Nodes that were built, and written to their pages.
-use Rattle.std.proofs.Common.{ℕ, ◌≤◌, List, length, Some, None, sym, subst}
-use Rattle.std.specs.Prelude.{Option, IfSome, insert}
+use Rattle.std.proofs.Common.{◌≡◌, Bool, true, false, nat_eq, ℕ, ◌≤◌, List, length, Some, None, sym, subst}
+use Rattle.std.specs.Prelude.{Option, IfSome, insert, if◌then◌else◌}
 use Rattle.std.specs.List.{AllByRecursion}
 use Rattle.hm_key.specs.declared.base.Base.{Base}
 use Rattle.hm_key.specs.declared.element.Element.{Element}
 use Rattle.hm_node.specs.Edits.{IsLeafPage, IsInnerPage}
-use Rattle.hm_node.specs.Inner.{IsChild}
-use Rattle.hm_node.specs.Leaf.{IsPlaced}
-use Rattle.hm_node.specs.Node.{node_in, Spells}
+use Rattle.hm_node.specs.Head.{head_in}
+use Rattle.hm_node.specs.Inner.{child_in, inner_in, IsChild}
+use Rattle.hm_node.specs.Leaf.{element_in, leaf_in, IsPlaced}
+use Rattle.hm_node.specs.Node.{count_of, node_in, Spells}
+use Rattle.hm_node.specs.Places.{place}
 use Rattle.hm_node.specs.Shape.{HoldsNode}
+use Rattle.hm_node.specs.declared.head.TheConstants.{LEAF}
 use Rattle.hm_node.specs.declared.inner.Child.{Child}
 use Rattle.hm_node.specs.declared.inner.Inner.{Inner}
 use Rattle.hm_node.specs.declared.leaf.Leaf.{Leaf}
 use Rattle.hm_node.specs.declared.node.Node.{Node}
 use Rattle.hm_node.specs.declared.node.Node.TheVariants.{Leaf as leaf_node, Inner as inner_node}
 use Rattle.hm_node.proofs.LawLemmas.{holds_shape}
+use Rattle.hm_node.proofs.PlaceLemmas.{first_length}
 use Rattle.hm_node.proofs.SameLemmas.{leaf_there, inner_there}
 use Rattle.hm_btree.specs.Calls.Insert.{IsUpperPage, SplitsInner, SplitsLeaf}
 use Rattle.hm_btree.specs.Grow.{LeafBecomes, InnerBecomes, upper_of}
@@ -71,3 +75,10 @@ inner_split mirror at child inner new after upper left spells was is low becomes
 -- a page that spells a node spells the one in it
 pub spells_itself : (page : List ℕ) (node : Node) → Spells page node → Spells page (node_in page)
 spells_itself page node spells = subst (λ (n : Node). Spells page n) (sym spells.value) spells
+
+-- how many places the node in a page has
+pub count_in : (page : List ℕ) → count_of (node_in page) ≡ (head_in page).count
+count_in page = by_test (nat_eq (head_in page).kind LEAF) where
+  by_test : (b : Bool) → count_of (if b then leaf_node (leaf_in page) else inner_node (inner_in page)) ≡ (head_in page).count
+  by_test true = first_length (λ i. element_in page (place i)) (head_in page).count
+  by_test false = first_length (λ i. child_in page (place i)) (head_in page).count

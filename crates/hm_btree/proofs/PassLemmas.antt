@@ -1,5 +1,5 @@
 -- The cause of each fault of a call on pages that are known to hold nodes.
-use Rattle.std.proofs.Common.{◌≡◌, ℕ, ◌≤◌, Err, Some, arith, subst, sym}
+use Rattle.std.proofs.Common.{◌≡◌, ℕ, ◌≤◌, Result, Ok, Err, Some, arith, subst, sym}
 use Rattle.std.specs.Prelude.{Option, IfSome, is_some, slice_get}
 use Rattle.std.proofs.lemmas.Option.{IfSome_then}
 use Rattle.hm_types.specs.Faults.{HasFaultCause, HasStoreCause, IsUndamaged}
@@ -14,7 +14,7 @@ use Rattle.hm_search.specs.Place.{TellsUnmet}
 use Rattle.hm_search.specs.Tree.{children_of, IsTree}
 use Rattle.hm_search.specs.declared.subtree.Subtree.{Subtree}
 use Rattle.hm_search.proofs.DamageLemmas.{caused_since, tells_met}
-use Rattle.hm_search.proofs.DescentLemmas.{search_cause, unmet_below, unmet_here}
+use Rattle.hm_search.proofs.DescentLemmas.{cause_ok, search_cause, unmet_below, unmet_here}
 use Rattle.hm_btree.specs.Below.{HasPassCause}
 use Rattle.hm_btree.proofs.EditLemmas.{stored_below, tree_read}
 use Rattle.hm_btree.proofs.ToldLemmas.{IfSome_both, IfSome_kept}
@@ -86,3 +86,10 @@ place_cause_write {T = T} told mid s old middle new fault same low cause =
       never_falls = omega (arith, low, cause.counted.never_falls);
       caused = caused_since old middle new fault low cause.counted.caused;
     }) (IfSome_then told (IfSome_kept mid told _ (sym same) cause.undamaged) (λ map is. unmet_none map s fault is))
+
+pub place_cause_result : {T : Type 0} (told mid : Option PageMap) (s : Subtree) (old middle new : ℕ) (result : Result T Fault)
+    → is_some mid ≡ is_some told → old ≤ middle → HasStoreCause mid middle new result → HasSearchCause told s old new result
+place_cause_result told mid s old middle new (Ok x) same low cause =
+    cause_ok told s old new x (omega (arith, low, cause.counted.never_falls))
+place_cause_result {T = T} told mid s old middle new (Err fault) same low cause =
+    place_cause_write {T = T} {U = T} told mid s old middle new fault same low cause

@@ -1,36 +1,28 @@
 -- The root of a tree that changed.
-use Rattle.std.proofs.Common.{◌≡◌, Bool, true, false, true≢false, ◌||◌, ℕ, ◌≤◌, inl, inr, List, refl, sym, ap, subst, ◌∙◌, arith, nat_eq}
-use Rattle.std.proofs.Common.{eqb-true, eq-eqb, Some, Result, Ok, Err}
-use Rattle.std.specs.Prelude.{Option, IsSome, is_some, IfSome}
-use Rattle.std.proofs.lemmas.Option.{IfSome_then}
+use Rattle.std.proofs.Common.{◌≡◌, Bool, true, false, true≢false, ◌||◌, ℕ, inl, inr, List, refl, sym, ap, subst, ◌∙◌, arith, nat_eq}
+use Rattle.std.proofs.Common.{eqb-true, eq-eqb, Some}
+use Rattle.std.specs.Prelude.{Option, IsSome, IfSome}
 use Rattle.hm_types.specs.Elements.{Key}
-use Rattle.hm_types.specs.Faults.{HasFaultCause, HasStoreCause}
-use Rattle.hm_types.specs.declared.fault.Fault.{Fault}
 use Rattle.hm_fields.specs.Pages.{PageMap, page_in}
 use Rattle.hm_types.specs.Told.{BothTell}
 use Rattle.hm_key.specs.Elements.{element_key, element_at}
 use Rattle.hm_key.specs.declared.element.Element.{Element}
 use Rattle.hm_node.specs.Node.{node_in, Spells}
 use Rattle.hm_node.specs.declared.node.Node.{Node}
-use Rattle.hm_search.specs.Descent.{IsFaultBelow, StandsHere}
-use Rattle.hm_search.specs.Place.{IsInside, TellsDamage}
+use Rattle.hm_search.specs.Place.{IsInside}
 use Rattle.hm_search.specs.Tree.{node_at, elements_in, mark_in, reaches, height_of, root_place, IsTree, IsStoredTree, elements_of, mark_of}
-use Rattle.hm_search.specs.declared.subtree.Subtree.{Subtree}
 use Rattle.hm_search.proofs.ContentLemmas.{elements_inside}
-use Rattle.hm_search.proofs.DamageLemmas.{caused_since}
-use Rattle.hm_search.proofs.DescentLemmas.{fault_here, sound_undamaged}
 use Rattle.hm_search.proofs.FrameLemmas.{IsSameBelow, frame_elements, frame_mark, frame_reaches, frame_tree}
 use Rattle.hm_search.proofs.ReachLemmas.{not_below_itself}
 use Rattle.hm_btree.specs.Marking.{Marking, MarksBy}
-use Rattle.hm_btree.specs.Below.{Replaces, Changed, HasEditCause, SpellsAt, Works}
+use Rattle.hm_btree.specs.Below.{Replaces, Changed, SpellsAt, Works}
 use Rattle.hm_btree.specs.Space.{HasWritten, IsSpot, IsUpdated}
-use Rattle.hm_btree.specs.Tree.{IsTreeSpace, TreeChanged, ChangesTree, HasTreeCause}
-use Rattle.hm_btree.proofs.EditLemmas.{undamaged_below}
+use Rattle.hm_btree.specs.Tree.{IsTreeSpace, TreeChanged, ChangesTree}
 use Rattle.hm_btree.proofs.LocalLemmas.{element_each}
 use Rattle.hm_btree.proofs.MarkLemmas.{same_marks, marks_whole}
 use Rattle.hm_btree.proofs.NodeLemmas.{not_reached}
 use Rattle.hm_btree.proofs.PutLemmas.{put_at, put_other, replaces_put, other_test}
-use Rattle.hm_btree.proofs.ToldLemmas.{IfSome_all, IfSome_both, IfSome_kept, told_after}
+use Rattle.hm_btree.proofs.ToldLemmas.{IfSome_both, told_after}
 use Rattle.hm_btree.proofs.UpdateLemmas.{written_below}
 
 -- pages that are all that a call leaves
@@ -128,45 +120,3 @@ there_inside root key old tree there =
     let some = element_each (λ e. IsInside (root_place root).left (root_place root).right (element_key e)) key (elements_of old root)
     (elements_inside old (height_of (node_at old root)) (root_place root) (node_at old root) tree.sound.tree) there in
     subst (λ (k : Key). IsInside (root_place root).left (root_place root).right k) some.1 some.2
-
--- the cause of each fault, where damage is told of what stands below the root alone
-root_cause : {T : Type 0} (told : Option PageMap) (root old new : ℕ) (fault : Fault) → HasFaultCause {T = T} old new (Err fault)
-    → IfSome told (λ map. IsFaultBelow map (root_place root) fault) → HasTreeCause {T = T} told root old new (Err fault)
-root_cause told root old new fault counted damage = record {
-  counted = counted;
-  damage = damage;
-  undamaged = IfSome_then told damage (λ map damage sound. sound_undamaged map (height_of (node_at map root)) (root_place root) fault sound damage);
-}
-
--- of the first read, of one further down, and of a write
-pub root_cause_read : {T : Type 0} (told : Option PageMap) (root old new : ℕ) (s : Subtree) (fault : Fault) → s ≡ root_place root
-    → HasFaultCause {T = Node} old new (Err fault) → IfSome told (λ map. TellsDamage s (map s.at) fault) → HasTreeCause {T = T} told root old new (Err fault)
-root_cause_read told root old new s fault is counted damage =
-    root_cause told root old new fault (record { never_falls = counted.never_falls; caused = counted.caused })
-    (IfSome_then told (subst (λ (t : Subtree). IfSome told (λ map. TellsDamage t (map t.at) fault)) is damage)
-    (λ map damage. fault_here map (root_place root) fault damage))
-
-pub root_cause_below : {T U : Type 0} (told now : Option PageMap) (root old mid new : ℕ) (s : Subtree) (node : Node)
-    (fault : Fault) → s ≡ root_place root → now ≡ told → old ≤ mid → IfSome told (λ map. StandsHere map s node)
-    → HasEditCause {T = T} now node mid new (Err fault) → HasTreeCause {T = U} told root old new (Err fault)
-root_cause_below told now root old mid new s node fault is same low here cause =
-    root_cause told root old new fault (record {
-      never_falls = omega (arith, cause.counted.never_falls);
-      caused = caused_since old mid new fault low cause.counted.caused;
-    })
-    (IfSome_both told (subst (λ (t : Subtree). IfSome told (λ map. StandsHere map t node)) is here)
-    (subst (λ (o : Option PageMap). IfSome o (λ map. (place : Subtree) → StandsHere map place node
-    → IsFaultBelow map place fault)) same cause.damage) (λ map here more. more (root_place root) here))
-
-pub root_cause_write : {T : Type 0} (told mid : Option PageMap) (root old middle new : ℕ) (result : Result T Fault)
-    → is_some mid ≡ is_some told → old ≤ middle → HasStoreCause mid middle new result → HasTreeCause told root old new result
-root_cause_write told mid root old middle new (Ok x) same low cause = record {
-  counted = record { never_falls = omega (arith, low, cause.counted.never_falls); caused = tt };
-  damage = IfSome_all told (λ map. tt);
-  undamaged = IfSome_all told (λ map sound. tt);
-}
-root_cause_write {T = T} told mid root old middle new (Err fault) same low cause =
-    root_cause {T = T} told root old new fault (record {
-      never_falls = omega (arith, low, cause.counted.never_falls);
-      caused = caused_since old middle new fault low cause.counted.caused;
-    }) (IfSome_then told (IfSome_kept mid told _ (sym same) cause.undamaged) (λ map is. undamaged_below map (root_place root) fault is))

@@ -1,20 +1,14 @@
 -- Each edit of a node keeps its shape, also over pages that are not told.
-use Rattle.std.proofs.Common.{◌≡◌, true≢false, ℕ, zero, suc, ◌+◌, ◌<◌, ◌≤◌, List, [], ◌∷◌, ◌++◌, length, take, drop, insert, remove, refl}
+use Rattle.std.proofs.Common.{◌≡◌, ◌⊎◌, ℕ, zero, suc, ◌+◌, ◌<◌, ◌≤◌, List, [], ◌∷◌, ◌++◌, length, take, drop, insert, remove, refl}
 use Rattle.std.proofs.Common.{sym, ap, subst, ◌∙◌, arith, max, Some, None, length-take, length-drop, length-set, length-append}
-use Rattle.std.specs.Prelude.{Option, IsSome, slice_get, slice_set, slice_index_or}
+use Rattle.std.specs.Prelude.{Option, slice_get, slice_set, slice_index_or}
 use Rattle.std.specs.List.{AllByRecursion}
-use Rattle.std.specs.List.Sorted.{IsStrictlySortedBy}
 use Rattle.std.proofs.lemmas.List.Edits.{length-insert, length-remove}
 use Rattle.std.proofs.lemmas.List.Elements.{All-from_recursion, recursion_from_All}
 use Rattle.hm_types.specs.Elements.{Key}
-use Rattle.hm_types.specs.Offset.{IsOffset}
-use Rattle.hm_key.specs.Element.{IsElement}
-use Rattle.hm_key.specs.Elements.{IsContent, element_at, element_cmp, inserted}
-use Rattle.hm_key.specs.Places.{leading, IsPlace}
+use Rattle.hm_key.specs.Elements.{element_key}
 use Rattle.hm_key.specs.declared.base.Base.{Base}
 use Rattle.hm_key.specs.declared.element.Element.{Element}
-use Rattle.hm_key.proofs.ElementLemmas.{each_changed, each_inserted, content_closed, content_moved}
-use Rattle.hm_key.proofs.PlaceLemmas.{changed-place}
 use Rattle.hm_node.specs.Inner.{IsBound, IsChild, IsNodeOffset}
 use Rattle.hm_node.specs.Leaf.{IsPlaced}
 use Rattle.hm_node.specs.Node.{HasLevel, IsNode, level_of}
@@ -26,16 +20,16 @@ use Rattle.hm_node.specs.declared.node.Node.TheVariants.{Leaf as leaf_node, Inne
 use Rattle.hm_search.specs.Tree.{children_of, root_place}
 use Rattle.hm_search.specs.declared.subtree.Subtree.{Subtree}
 use Rattle.hm_search.proofs.ChildLemmas.{place_is}
-use Rattle.hm_search.proofs.ListLemmas.{each_append, each_both, each_get, each_so}
-use Rattle.hm_btree.specs.Change.{change_of, with_change, MayChange}
-use Rattle.hm_btree.specs.Edits.{leaf_of, inner_of, left_of, with_left, with_mirror, ElementChange, ChildChange}
+use Rattle.hm_search.proofs.ListLemmas.{each_append, each_get}
+use Rattle.hm_btree.specs.Change.{change_of, MayChange}
+use Rattle.hm_btree.specs.Edits.{leaf_of, inner_of, left_of, with_left, with_mirror, ChildChange}
 use Rattle.hm_btree.specs.Grow.{FirstAt, LeafBecomes, InnerBecomes, top_of}
 use Rattle.hm_btree.specs.Shape.{IsShaped, IsShapedUpper, AreShaped}
 use Rattle.hm_btree.specs.Shrink.{Joins, JoinsLeaves, JoinsInners, share_of}
 use Rattle.hm_btree.specs.declared.change.Change.{Change}
 use Rattle.hm_btree.specs.declared.change.Change.TheVariants.{Close, Move}
 use Rattle.hm_btree.specs.declared.upper.Upper.{Upper}
-use Rattle.hm_btree.proofs.LocalLemmas.{leading_place}
+use Rattle.hm_node.proofs.EditLemmas.{placed_changed}
 
 -- a sound node has its shape
 pub node_shaped : (node : Node) → IsNode node → IsShaped node
@@ -180,12 +174,6 @@ pub left_shaped : (before after : Inner) (i : ℕ) (left : Base) → IsBound lef
 left_shaped before after i left bound = child_shaped (with_left left) before after i (λ c is. record { left = bound; child = is.child })
 
 -- a place was taken out
-pub removed_leaf_shaped : (before after : Leaf) (i : ℕ) → i < length before.places.items → IsShaped (leaf_node before)
-    → after ≡ leaf_of before.mirror (remove before.places.items i) → IsShaped (leaf_node after)
-removed_leaf_shaped before after i low shape is =
-    let long = length-remove before.places.items i low in
-    subst (λ (l : Leaf). IsShaped (leaf_node l)) (sym is) (leaf_shaped before.mirror (remove before.places.items i)
-    (omega (arith, long, shape.count)) (each_remove IsPlaced i before.places.items (elements_each before shape)))
 
 pub removed_child_shaped : (before after : Inner) (i : ℕ) → i < length before.places.items → 2 ≤ length before.places.items
     → IsShaped (inner_node before) → after ≡ inner_of before.level before.mirror (remove before.places.items i) before.right → IsShaped (inner_node after)
@@ -195,54 +183,11 @@ removed_child_shaped before after i low many shape is =
     (inner_shaped before.level before.mirror (remove before.places.items i) before.right shape.level (omega (arith, long, many))
     (omega (arith, long, shape.count.1)) (each_remove IsChild i before.places.items (children_each before shape)) shape.fields.right)
 
--- the element at a key changed as it may
-placed_after : (key : Key) (change : Change) (es : List Element) → MayChange key change → IsStrictlySortedBy element_cmp es
-    → AllByRecursion IsPlaced es → AllByRecursion IsPlaced (with_change key change es)
-placed_after key change es may rising each =
-    let content : IsContent es = record {
-      rising = rising;
-      each = All-from_recursion IsElement es
-          (each_so IsPlaced IsElement es (λ e is. is.element) each);
-    } in
-    let elements = recursion_from_All IsElement (with_change key change es) (kept change may content).each in
-    let offsets = each_changed (λ e. IsOffset e.payload) key (change_of change) es (λ e stands is. offset change e may is)
-    (each_so IsPlaced (λ e. IsOffset e.payload) es (λ e is. is.payload) each) in
-    each_so (λ e. IsElement e × IsOffset e.payload) IsPlaced (with_change key change es) (λ e both. record { element = both.0; payload = both.1 })
-    (each_both IsElement (λ e. IsOffset e.payload) (with_change key change es) elements offsets) where
-      kept : (c : Change) → MayChange key c → IsContent es → IsContent (with_change key c es)
-      kept (Close delete) may content = content_closed key delete es may content
-      kept (Move to) may content = content_moved key to es content
-
-      offset : (c : Change) (e : Element) → MayChange key c → IsOffset e.payload → IsOffset (change_of c e).payload
-      offset (Close delete) e may is = is
-      offset (Move to) e may is = may
-
-pub element_shaped : (key : Key) (change : Change) (before after : Leaf) (i : ℕ) → MayChange key change
-    → IsNode (leaf_node before) → IsSome (element_at key before.places.items) → i ≡ leading key before.places.items
-    → ElementChange (change_of change) before.places.items i after.places.items → IsShaped (leaf_node after)
-element_shaped key change before after i may sound there at changes = by_list before.places.items refl there where
-  by_list : (es : List Element) → before.places.items ≡ es → IsSome (element_at key es) → IsShaped (leaf_node after)
-  by_list [] same some = absurd (true≢false (sym some))
-  by_list (d ∷ es) same some =
-      let is : IsPlace key before.places.items i = subst (λ (n : ℕ). IsPlace key before.places.items n) (sym at)
-      (leading_place key before.places.items sound.order there) in
-      let items : after.places.items ≡ with_change key change before.places.items = changes d
-      ∙ sym (changed-place key (change_of change) d before.places.items i is) in
-      let long : length after.places.items ≡ length before.places.items = ap length (changes d) ∙ length-set before.places.items i
-      (change_of change (slice_index_or before.places.items i d)) in
-      let each = placed_after key change before.places.items may sound.order (recursion_from_All IsPlaced before.places.items sound.fields) in
-      record {
-        level = tt;
-        count = omega (arith, long, sound.count);
-        fields = All-from_recursion IsPlaced after.places.items (subst (λ (l : List Element). AllByRecursion IsPlaced l) (sym items) each);
-      }
-
--- what an insertion leaves
-pub inserted_shaped : (node : Node) (leaf after : Leaf) (e : Element) (mirror : ℕ) (upper : Option Upper) → IsNode node
-    → node ≡ leaf_node leaf → IsPlaced e → LeafBecomes mirror (inserted e leaf.places.items) after upper → AreShaped (leaf_node after) upper
-inserted_shaped node leaf after e mirror upper sound is placed becomes =
-    leaf_becomes mirror (inserted e leaf.places.items) after upper (each_inserted IsPlaced e leaf.places.items placed
-    (elements_each leaf (subst (λ (n : Node). IsShaped n) is (node_shaped node sound)))) becomes
+-- an element at a key that changed as it may can still stand in a leaf
+pub may_stand : (change : Change) (key : Key) (e : Element) → MayChange key change → element_key e ≡ key → IsPlaced e → IsPlaced (change_of change e)
+may_stand (Close delete) key e may here was =
+    placed_changed e delete e.payload was (subst (λ (k : Key). (delete ≡ 0) ⊎ (k.create < delete)) (sym here) may) was.payload
+may_stand (Move to) key e may here was = placed_changed e e.base.delete to was was.element.closed may
 
 pub beside_shaped : (mirror at : ℕ) (child : Child) (inner after : Inner) (upper : Option Upper) → IsShaped (inner_node inner)
     → IsChild child → at ≤ length inner.places.items

@@ -10,7 +10,7 @@ use Rattle.hm_types.specs.Faults.{IsUndamaged, HasFaultCause, HasStoreCause}
 use Rattle.hm_key.specs.declared.element.Element.{Element}
 use Rattle.hm_search.specs.Tree.{IsSoundTree}
 use Rattle.hm_btree.specs.Marking.{Marking, MarksBy}
-use Rattle.hm_btree.specs.Tree.{ChangesTree, HasTreeCause, IsIntact, told_elements, told_mark}
+use Rattle.hm_btree.specs.Tree.{ChangesTree, IsIntact, told_elements, told_mark}
 use Rattle.hm_btree.proofs.IntactLemmas.{intact_tree, told_intact}
 
 -- what a call that changes the tree leaves
@@ -48,10 +48,6 @@ caused_in_store intact told root old new result sound counted undamaged = record
   by_result : {T : Type 0} (r : Result T Fault) → IsProp (IfErr r IsUndamaged)
   by_result (Ok x) = hlevel props
   by_result (Err fault) = undamaged_prop fault
-
-pub store_cause : {T : Type 0} (intact : Bool) (told : Option PageMap) (root old new : ℕ) (result : Result T Fault)
-    → ∥ IsIntact intact told root ∥₁ → HasTreeCause told root old new result → HasStoreCause (told_elements intact told root) old new result
-store_cause intact told root old new result sound cause = caused_in_store intact told root old new result sound cause.counted cause.undamaged
 
 -- the number of told lists stays
 pub told_kept : (f : List Element → List Element) (intact : Bool) (old new : Option PageMap) (root root' : ℕ)

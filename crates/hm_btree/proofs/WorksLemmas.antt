@@ -1,5 +1,5 @@
 -- Calls below a node, where the pages are told.
-use Rattle.std.proofs.Common.{◌≡◌, Bool, false, true≢false, ℕ, zero, suc, List, ◌∷◌, ◌++◌, length, take, drop, sym, ap, subst, ◌∙◌, arith, max, Some, None}
+use Rattle.std.proofs.Common.{◌≡◌, Bool, true, false, refl, true≢false, ℕ, zero, suc, List, ◌∷◌, ◌++◌, length, take, drop, sym, ap, subst, ◌∙◌, arith, max, Some, None}
 use Rattle.std.specs.Prelude.{Option, IsSome, is_some, IfSome, slice_get}
 use Rattle.hm_types.specs.Elements.{Key}
 use Rattle.hm_fields.specs.Pages.{PageMap}
@@ -9,6 +9,8 @@ use Rattle.hm_key.specs.Places.{leading}
 use Rattle.hm_key.specs.declared.base.Base.{Base}
 use Rattle.hm_key.specs.declared.element.Element.{Element}
 use Rattle.hm_node.specs.Inner.{HasInnerOrder}
+use Rattle.hm_node.specs.Leaf.{leaf_in, HasLeafOrder}
+use Rattle.hm_node.specs.Node.{node_in}
 use Rattle.hm_node.specs.declared.inner.Child.{Child}
 use Rattle.hm_node.specs.declared.inner.Inner.{Inner}
 use Rattle.hm_node.specs.declared.leaf.Leaf.{Leaf}
@@ -23,6 +25,7 @@ use Rattle.hm_btree.specs.Marking.{Marking}
 use Rattle.hm_btree.specs.Edits.{inner_of, with_mirror, ChildChange, ElementChange}
 use Rattle.hm_btree.specs.Space.{IsUpdated}
 use Rattle.hm_btree.specs.Below.{IsLocal, Changed, Works, SpellsAt}
+use Rattle.hm_btree.specs.Calls.Change.{ChangesInLeaf}
 use Rattle.hm_btree.specs.Change.{change_of, id_of, marking_of, MayChange, with_change}
 use Rattle.hm_btree.specs.declared.change.Change.{Change}
 use Rattle.hm_btree.proofs.EditLemmas.{read_there, split_at, set_at_place, child_inside, child_tree, child_element, changed_parent}
@@ -105,7 +108,7 @@ module _ (f : List Element → List Element) (key : Key) (marking : Marking) (Ne
 
 -- an element of a leaf changed
 pub leaf_works : (key : Key) (change : Change) (node after : Node) (leaf leaf' : Leaf) (i : ℕ) (p : Option PageMap)
-    → MayChange key change → node ≡ leaf_node leaf → after ≡ leaf_node leaf' → i ≡ leading key leaf.places.items
+    → MayChange key change → node ≡ leaf_node leaf → after ≡ leaf_node leaf' → (HasLeafOrder leaf → i ≡ leading key leaf.places.items)
     → leaf'.mirror ≡ max leaf.mirror (id_of change) → ElementChange (change_of change) leaf.places.items i leaf'.places.items
     → Works (with_change key change) key (marking_of change) (λ o. IsSome o) p p node after
 leaf_works key change node after leaf leaf' i None may is now at mirror items = tt
@@ -116,11 +119,23 @@ leaf_works key change node after leaf leaf' i (Some old) may is now at mirror it
     (elements_inside old height place (leaf_node leaf) tree') there' in
     subst (λ (n : Node). Changed (with_change key change) key (marking_of change) place height old old n after) (sym is)
     (subst (λ (n : Node). Changed (with_change key change) key (marking_of change) place height old old (leaf_node leaf) n) (sym now)
-    (element_changed place height old key change leaf leaf' some.0 i tree' may there' at items mirror))
+    (element_changed place height old key change leaf leaf' some.0 i tree' may there' (at tree'.sound.order) items mirror))
 
 -- no element stands at the key
 pub leaf_without : (key : Key) (change : Change) (node after : Node) (leaf : Leaf) (p : Option PageMap) → node ≡ leaf_node leaf
-    → is_some (element_at key leaf.places.items) ≡ false
+    → (HasLeafOrder leaf → is_some (element_at key leaf.places.items) ≡ false)
     → Works (with_change key change) key (marking_of change) (λ o. IsSome o) p p node after
 leaf_without key change node after leaf p is none = IfSome_all p (λ old place height tree inside there.
-    absurd (true≢false (sym (subst (λ (n : Node). IsSome (element_at key (elements_in old height n))) is there) ∙ none)))
+    absurd (true≢false (sym (subst (λ (n : Node). IsSome (element_at key (elements_in old height n))) is there)
+    ∙ none (subst (λ (n : Node). IsTree old height place n) is tree).sound.order)))
+
+-- the element at a key of a leaf in a page changed, if one stands there
+pub leaf_changes : (key : Key) (change : Change) (changed : Bool) (before after : List ℕ) (p : Option PageMap) → MayChange key change
+    → node_in before ≡ leaf_node (leaf_in before) → node_in after ≡ leaf_node (leaf_in after) → ChangesInLeaf key change before after changed
+    → Works (with_change key change) key (marking_of change) (λ o. IsSome o) p p (node_in before) (node_in after)
+leaf_changes key change true before after p may is now did =
+    let one = did.some refl in
+    leaf_works key change (node_in before) (node_in after) (leaf_in before) (leaf_in after) one.at p may is now one.place
+    one.changes.mirror one.changes.items
+leaf_changes key change false before after p may is now did =
+    leaf_without key change (node_in before) (node_in after) (leaf_in before) p is (did.none refl)

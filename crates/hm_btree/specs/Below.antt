@@ -15,7 +15,7 @@ use Rattle.hm_node.specs.Inner.{IsChild}
 use Rattle.hm_node.specs.Node.{Spells}
 use Rattle.hm_node.specs.declared.inner.Child.{Child}
 use Rattle.hm_node.specs.declared.node.Node.{Node}
-use Rattle.hm_search.specs.Descent.{IsFaultBelow, IsUnmetBelow, PassesHere, StandsHere}
+use Rattle.hm_search.specs.Descent.{IsUnmetBelow, PassesHere}
 use Rattle.hm_search.specs.Place.{IsInside, mirror_of}
 use Rattle.hm_search.specs.Tree.{node_at, elements_in, mark_in, reaches, at_holder, next_left, places_of, IsTree, IsStoredTree}
 use Rattle.hm_search.specs.declared.subtree.Parent.{Parent}
@@ -97,15 +97,9 @@ pub record ChangedUnder (f : List Element → List Element) (key : Key) (marking
   pub rising : AreRising right after
   pub fields : AllByRecursion IsChild after
 
--- Each fault of a call that works below a node has its cause in the call. It tells of damage only of a place to which
--- a descent comes from where the node was read, and of its lowest broken rule; of none where the node and all below it
--- are sound.
-pub record HasEditCause {T : Type 0} (told : Option PageMap) (node : Node) (old new : ℕ) (result : Result T Fault) : Type 0 where
-  pub counted : HasFaultCause old new result
-  pub damage : IfSome told (λ pages. (place : Subtree) → StandsHere pages place node → IfErr result (IsFaultBelow pages place))
-  pub undamaged : IfSome told (λ pages. (place : Subtree) (height : ℕ) → IsTree pages height place node → IfErr result IsUndamaged)
-
--- The same of a call on pages that are known to hold nodes, of which it checks what their places ask alone.
+-- Each fault of a call that works below a node has its cause in the call. It tells of damage only of a place to which it
+-- comes, as a search does, from where the node was read, and of the lowest rule of the place that is broken there; of none
+-- where the node and all below it are sound.
 pub record HasPassCause {T : Type 0} (told : Option PageMap) (node : Node) (old new : ℕ) (result : Result T Fault) : Type 0 where
   pub counted : HasFaultCause old new result
   pub damage : IfSome told (λ pages. (place : Subtree) → PassesHere pages place node → IfErr result (IsUnmetBelow pages place))

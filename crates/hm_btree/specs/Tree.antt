@@ -1,12 +1,9 @@
 -- The tree that a space of nodes holds.
-use Rattle.std.specs.Prelude.{◌≡◌, ℕ, Bool, true, false, List, [], Option, None, Some, Result, IsSome, IfSome, IfErr, ⊤}
+use Rattle.std.specs.Prelude.{◌≡◌, ℕ, Bool, true, false, List, [], Option, None, Some, IsSome, IfSome, ⊤}
 use Rattle.hm_types.specs.Elements.{Key}
-use Rattle.hm_types.specs.Faults.{HasFaultCause, IsUndamaged}
-use Rattle.hm_types.specs.declared.fault.Fault.{Fault}
 use Rattle.hm_fields.specs.Pages.{PageMap}
 use Rattle.hm_key.specs.declared.element.Element.{Element}
-use Rattle.hm_search.specs.Descent.{IsFaultBelow}
-use Rattle.hm_search.specs.Tree.{root_place, IsSoundTree, IsWhole, elements_of, mark_of}
+use Rattle.hm_search.specs.Tree.{IsSoundTree, IsWhole, elements_of, mark_of}
 use Rattle.hm_btree.specs.Marking.{Marking, MarksBy}
 use Rattle.hm_btree.specs.Space.{IsSpot}
 
@@ -30,13 +27,6 @@ pub record TreeChanged (f : List Element → List Element) (key : Key) (marking 
 abbrev pub ChangesTree : (List Element → List Element) → Key → Marking → (List Element → Type 0) → Option PageMap → Option PageMap → ℕ → ℕ → Type 0
 ChangesTree f key marking Needs old new root root' =
     IfSome old (λ was. IsTreeSpace was root → Needs (elements_of was root) → IfSome new (λ is. TreeChanged f key marking was is root root'))
-
--- Each fault of a call has its cause in the call. It tells of damage only of a place to which a descent comes from the
--- root, and of its lowest broken rule; of none where the pages are a sound tree.
-pub record HasTreeCause {T : Type 0} (told : Option PageMap) (root old new : ℕ) (result : Result T Fault) : Type 0 where
-  pub counted : HasFaultCause old new result
-  pub damage : IfSome told (λ pages. IfErr result (IsFaultBelow pages (root_place root)))
-  pub undamaged : IfSome told (λ pages. IsSoundTree pages root → IfErr result IsUndamaged)
 
 -- the pages, where they are told, are the tree from this root on
 abbrev pub HoldsTree : Option PageMap → ℕ → Type 0

@@ -1,28 +1,29 @@
 // Changes of an element that stays where it is.
 ghost use Rattle.std.specs.Prelude.{◌≡◌, ◌<◌, max, IfOk, OnOk, IsTrue, is_some};
-ghost use Rattle.arrayvec.specs.ArrayVec.{array_vec_len};
-ghost use Rattle.hm_key.specs.Elements.{element_at};
+ghost use Rattle.hm_key.specs.Elements.{element_at, element_key};
 ghost use Rattle.hm_key.specs.Key.{key_of};
 ghost use Rattle.hm_key.specs.Places.{leading};
+ghost use Rattle.hm_node.specs.Edits.{ChangesPlace, IsLeafPage};
+ghost use Rattle.hm_node.specs.Head.{head_in};
 ghost use Rattle.hm_node.specs.Inner.{IsNodeOffset};
-ghost use Rattle.hm_node.specs.Leaf.{HasLeafOrder};
-ghost use Rattle.hm_node.specs.Node.{IsNode};
-ghost use Rattle.hm_btree.specs.Calls.Change.{ChangesBelow, ChangesElement};
+ghost use Rattle.hm_node.specs.Leaf.{element_in, leaf_in, HasLeafOrder, IsPlaced};
+ghost use Rattle.hm_node.specs.Node.{node_in};
+ghost use Rattle.hm_node.specs.Places.{place as place_at};
+ghost use Rattle.hm_node.specs.Shape.{HoldsNode};
+ghost use Rattle.hm_search.specs.Descent.{HasSearchCause};
+ghost use Rattle.hm_search.specs.Tree.{root_place};
+ghost use Rattle.hm_btree.specs.Calls.Change.{ChangesBelow, ChangesElement, ChangesInLeaf};
 ghost use Rattle.hm_btree.specs.Calls.Space.{Stays};
-ghost use Rattle.hm_btree.specs.Below.{HasEditCause};
+ghost use Rattle.hm_btree.specs.Below.{HasPassCause};
 ghost use Rattle.hm_btree.specs.Change.{change_of, id_of, MayChange};
-ghost use Rattle.hm_btree.specs.Edits.{ElementChange};
-ghost use Rattle.hm_btree.specs.Tree.{HasTreeCause};
 
-use crate::inner_edit::set_mirror;
-use crate::leaf_edit::{close_element, move_payload};
-use crate::node_edit::{mirror, update_node};
+use crate::node_edit::{mirror_in, update_page};
 use crate::space::NodeSpace;
+use hm_fields::Page;
 use hm_key::Base;
-use hm_node::{Leaf, Node};
-use hm_search::{Subtree, holder_place, leaf_place, read_node};
+use hm_node::{Head, LEAF, place, put_delete, put_payload, read_base, set_mirror};
+use hm_search::{Subtree, child_below, holder_place_in, leaf_place_in, visit};
 use hm_types::{Fault, HOff};
-use std::cmp::Ordering;
 
 /// What becomes of an element.
 #[derive(Clone, Copy, Debug)]
@@ -46,74 +47,86 @@ pub fn change_element<S: NodeSpace>(
         (S.pages space.old) (S.pages space.new)) }
     ensures rest { S.rest space.new ≡ S.rest space.old }
     ensures stays { Stays S.Counted space.old space.new }
-    ensures cause { HasTreeCause (S.pages space.old) root
+    ensures cause { HasSearchCause (S.pages space.old) (root_place root)
         (S.faults space.old) (S.faults space.new) result }
 {
     let place = Subtree::root(root);
-    let mut node = read_node(space, &place)?;
-    let changed = change_in(space, &mut node, at, change)?;
-    update_node(space, root, &node, changed)
+    let mut page = Page::zero();
+    visit(space, &place, &mut page)?;
+    let changed = change_in(space, &mut page, at, change)?;
+    update_page(space, root, &page, changed)
 }
 
-// Changes the element at the key of `at` below a node, which is not written, and answers whether the
-// node changed.
+// Changes the element at the key of `at` below the node in a page, which is not written, and answers
+// whether the page changed.
 fn change_in<S: NodeSpace>(
     space: &mut S,
-    node: &mut Node,
+    page: &mut Page,
     at: &Base,
     change: Change,
 ) -> Result<bool, Fault>
-    requires node { IsNode node.old }
+    requires node { HoldsNode page.old }
     requires may { MayChange (key_of at.now) change }
     ensures done { IfOk result (ChangesBelow (key_of at.now) change
-        (S.pages space.old) (S.pages space.new) node.old node.new) }
+        (S.pages space.old) (S.pages space.new) page.old page.new) }
     ensures rest { S.rest space.new ≡ S.rest space.old }
     ensures stays { Stays S.Counted space.old space.new }
-    ensures cause { HasEditCause (S.pages space.old) node.old
+    ensures cause { HasPassCause (S.pages space.old) (node_in page.old)
         (S.faults space.old) (S.faults space.new) result }
 {
-    match node {
-        Node::Leaf(leaf) => {
-            let place = leaf_place(leaf, at);
-            let there = has_element(leaf, place, at);
-            if there {
-                change_at(leaf, place, change);
-            }
-            Ok(there)
-        }
-        Node::Inner(inner) => {
-            let i = holder_place(inner, at);
-            let place = Subtree::child(inner, i);
-            let mut child = read_node(space, &place)?;
-            let changed = change_in(space, &mut child, at, change)?;
-            update_node(space, place.at, &child, changed)?;
-            Ok(set_mirror(inner, i, mirror(&child)))
-        }
+    if Head::read(page).kind == LEAF {
+        return Ok(change_in_leaf(page, at, change));
     }
+    let i = holder_place_in(page, at);
+    let place = child_below(page, i);
+    let mut child = Page::zero();
+    visit(space, &place, &mut child)?;
+    let changed = change_in(space, &mut child, at, change)?;
+    update_page(space, place.at, &child, changed)?;
+    Ok(set_mirror(page, i, mirror_in(&child)))
+}
+
+// Changes the element at the key of `at` in a leaf, and answers whether one stands there.
+fn change_in_leaf(page: &mut Page, at: &Base, change: Change) -> bool
+    requires leaf { IsLeafPage page.old }
+    requires may { MayChange (key_of at.now) change }
+    ensures { ChangesInLeaf (key_of at.now) change page.old page.new result }
+{
+    let place = leaf_place_in(page, at);
+    if !has_element_in(page, place, at) {
+        return false;
+    }
+    change_at(page, place, change);
+    true
 }
 
 // Changes the element at a place of a leaf.
-fn change_at(leaf: &mut Leaf, place: usize, change: Change)
-    requires { place < array_vec_len leaf.old.places }
-    ensures mirror { leaf.new.mirror ≡ max leaf.old.mirror (id_of change) }
-    ensures items { ElementChange (change_of change)
-        leaf.old.places.items place leaf.new.places.items }
+fn change_at(page: &mut Page, at: usize, change: Change)
+    requires leaf { IsLeafPage page.old }
+    requires at { at < (head_in page.old).count }
+    requires element { IsPlaced (change_of change (element_in page.old (place_at at))) }
+    ensures { ChangesPlace (change_of change) at (max (leaf_in page.old).mirror (id_of change))
+        page.old page.new }
 {
     match change {
-        Change::Close(delete) => close_element(leaf, place, delete),
-        Change::Move(to) => move_payload(leaf, place, to),
+        Change::Close(delete) => put_delete(page, at, delete),
+        Change::Move(to) => put_payload(page, at, to),
     }
 }
 
-/// Whether an element stands at the key of `at` in a leaf. Before that key stand so many.
-pub fn has_element(leaf: &Leaf, place: usize, at: &Base) -> bool
-    requires order { HasLeafOrder leaf.now }
-    requires place { place ≡ leading (key_of at.now) leaf.now.places.items }
-    ensures value { result ≡ is_some (element_at (key_of at.now) leaf.now.places.items) }
-    ensures within { IsTrue result → place < array_vec_len leaf.now.places }
+/// Whether the element at a place of a leaf stands at the key of `at`. In a leaf in order, in which so
+/// many stand before that key, it is the one that may.
+pub fn has_element_in(page: &Page, i: usize, at: &Base) -> bool
+    requires leaf { IsLeafPage page.now }
+    ensures within { IsTrue result → i < (head_in page.now).count }
+    ensures here { IsTrue result →
+        element_key (element_in page.now (place_at i)) ≡ key_of at.now }
+    ensures value { HasLeafOrder (leaf_in page.now) →
+        i ≡ leading (key_of at.now) (leaf_in page.now).places.items →
+        result ≡ is_some (element_at (key_of at.now) (leaf_in page.now).places.items) }
 {
-    match leaf.places.get(place) {
-        Some(element) => element.base.order(at) == Ordering::Equal,
-        None => false,
+    if usize::from(Head::read(page).count) <= i {
+        return false;
     }
+    read_base(page, place(i)).order(at).is_eq()
 }

@@ -9,7 +9,7 @@ use hm_node::{Child, Inner};
 
 /// Gives the child at a place this `mirror`, to which the node's own is raised. Answers whether that
 /// changed the node.
-pub fn set_mirror(inner: &mut Inner, at: usize, mirror: u64) -> bool
+pub fn give_mirror(inner: &mut Inner, at: usize, mirror: u64) -> bool
     requires { at < array_vec_len inner.old.places }
     ensures level { inner.new.level ≡ inner.old.level }
     ensures mirror { inner.new.mirror ≡ max inner.old.mirror mirror }

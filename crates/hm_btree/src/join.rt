@@ -1,23 +1,21 @@
 // Neighbours that become one node, or share their places out.
 ghost use Rattle.std.specs.Prelude.{◌≡◌, ◌<◌, ◌↔◌, IsTrue};
 ghost use Rattle.hm_types.specs.declared.limits.TheConstants.{LEAST_PLACES};
-ghost use Rattle.hm_node.specs.Node.{HasLevel, count_of, level_of};
+ghost use Rattle.hm_node.specs.Node.{HasLevel, count_of, level_of, node_in};
 ghost use Rattle.hm_btree.specs.Shrink.{Joins, JoinsLeaves, JoinsInners};
 
 use crate::inner_edit::{merge_inners, share_inners};
 use crate::leaf_edit::{merge_leaves, share_leaves};
 use crate::upper::Upper;
-use hm_node::{Inner, Leaf, Node};
+use hm_fields::Page;
+use hm_node::{Head, Inner, Leaf, Node};
 use hm_types::{LEAST_PLACES, MOST_INNER_CHILDREN, MOST_LEAF_ELEMENTS};
 
-/// Whether a node has fewer places than it should have below the root.
-pub fn is_small(node: &Node) -> bool
-    ensures { IsTrue result ↔ (count_of node.now < LEAST_PLACES) }
+/// Whether the node in a page has fewer places than it should have below the root.
+pub fn is_small_in(page: &Page) -> bool
+    ensures { IsTrue result ↔ (count_of (node_in page.now) < LEAST_PLACES) }
 {
-    match node {
-        Node::Leaf(leaf) => leaf.places.len() < LEAST_PLACES,
-        Node::Inner(inner) => inner.places.len() < LEAST_PLACES,
-    }
+    usize::from(Head::read(page).count) < LEAST_PLACES
 }
 
 /// Puts two neighbours of one level into one node where they fit, and shares their places out evenly

@@ -1,13 +1,12 @@
 // Edits of leaves.
-ghost use Rattle.std.specs.Prelude.{◌≡◌, ◌+◌, ◌/◌, ◌≤◌, ◌<◌, ◌++◌, if◌then◌else◌, max, take, drop, insert, remove, nat_lt};
+ghost use Rattle.std.specs.Prelude.{◌≡◌, ◌+◌, ◌/◌, ◌≤◌, ◌++◌, if◌then◌else◌, max, take, drop, insert, nat_lt};
 ghost use Rattle.arrayvec.specs.ArrayVec.{array_vec_len};
-ghost use Rattle.hm_key.specs.Elements.{last_id, closed_at, moved_to};
-ghost use Rattle.hm_btree.specs.Edits.{leaf_of, LeafGrown, ElementChange};
+ghost use Rattle.hm_key.specs.Elements.{last_id};
+ghost use Rattle.hm_btree.specs.Edits.{leaf_of, LeafGrown};
 
 use crate::places::{append, insert_and_split, share_out};
 use hm_key::Element;
 use hm_node::Leaf;
-use hm_types::HOff;
 
 /// Puts an element in before the place `at`, and raises the leaf's `mirror` to its ids. A leaf that
 /// is full keeps half of them, and gives a new one with the others.
@@ -28,37 +27,6 @@ pub fn insert_and_halve(leaf: &mut Leaf, at: usize, element: &Element) -> Option
         leaf.places.insert(at, *element);
         None
     }
-}
-
-/// Gives the element at a place another delete id, and raises the leaf's `mirror` to it.
-pub fn close_element(leaf: &mut Leaf, at: usize, delete: u64)
-    requires { at < array_vec_len leaf.old.places }
-    ensures mirror { leaf.new.mirror ≡ max leaf.old.mirror delete }
-    ensures items { ElementChange (closed_at delete) leaf.old.places.items at leaf.new.places.items }
-{
-    leaf.mirror = leaf.mirror.max(delete);
-    if let Some(element) = leaf.places.get_mut(at) {
-        element.base.delete = delete;
-    }
-}
-
-/// Lets the payload of the element at a place stand elsewhere.
-pub fn move_payload(leaf: &mut Leaf, at: usize, to: HOff)
-    requires { at < array_vec_len leaf.old.places }
-    ensures mirror { leaf.new.mirror ≡ leaf.old.mirror }
-    ensures items { ElementChange (moved_to to) leaf.old.places.items at leaf.new.places.items }
-{
-    if let Some(element) = leaf.places.get_mut(at) {
-        element.payload = to;
-    }
-}
-
-/// Takes the element at a place out.
-pub fn remove_element(leaf: &mut Leaf, at: usize)
-    requires { at < array_vec_len leaf.old.places }
-    ensures { leaf.new ≡ leaf_of leaf.old.mirror (remove leaf.old.places.items at) }
-{
-    leaf.places.remove(at);
 }
 
 /// Puts the elements of the right one of two neighbours into the left one, which takes its range

@@ -13,7 +13,7 @@ ghost use Rattle.hm_btree.specs.Space.{AddsNode, HasWritten, IsUpdated};
 
 use crate::space::{NODE_BYTES, NodeSpace};
 use hm_fields::Page;
-use hm_node::{Head, LEAF_LEVEL, Node, encode};
+use hm_node::{Head, Node, encode};
 use hm_types::{Fault, HOff, TREE_ZONE};
 
 /// The `mirror` of a node.
@@ -93,29 +93,6 @@ pub fn add_page<S: NodeSpace>(space: &mut S, page: &Page) -> Result<HOff, Fault>
     space.new_node(page)
 }
 
-/// Writes a node to its page where it changed. One that is as it was read stays there.
-pub fn update_node<S: NodeSpace>(
-    space: &mut S,
-    at: HOff,
-    node: &Node,
-    changed: bool,
-) -> Result<(), Fault>
-    requires at { IsNodeOffset at }
-    requires node { IsShaped node.now }
-    ensures ok { OnOk result
-        (BothTell (S.pages space.old) (S.pages space.new) (IsUpdated changed at node.now)) }
-    ensures rest { S.rest space.new ≡ S.rest space.old }
-    ensures stays { Stays S.Counted space.old space.new }
-    ensures cause { HasStoreCause (S.pages space.old)
-        (S.faults space.old) (S.faults space.new) result }
-{
-    if changed {
-        write_node(space, at, node)
-    } else {
-        Ok(())
-    }
-}
-
 /// Writes a node to a page of its own.
 pub fn add_node<S: NodeSpace>(space: &mut S, node: &Node) -> Result<HOff, Fault>
     requires node { IsShaped node.now }
@@ -129,14 +106,4 @@ pub fn add_node<S: NodeSpace>(space: &mut S, node: &Node) -> Result<HOff, Fault>
     let mut page = Page::zero();
     encode(node, &mut page);
     space.new_node(&page)
-}
-
-/// The level of a node.
-pub fn level(node: &Node) -> u8
-    ensures { result ≡ level_of node.now }
-{
-    match node {
-        Node::Leaf(_) => LEAF_LEVEL,
-        Node::Inner(inner) => inner.level,
-    }
 }

@@ -3,58 +3,89 @@ ghost use Rattle.std.specs.Prelude.{◌≡◌, ◌+◌, ◌<◌, IfSome, IsSome,
 ghost use Rattle.hm_types.specs.Faults.{HasStoreCause};
 ghost use Rattle.hm_key.specs.Key.{key_of};
 ghost use Rattle.hm_types.specs.Space.{nothing};
-ghost use Rattle.hm_node.specs.Node.{IsNode};
+ghost use Rattle.hm_node.specs.Edits.{IsLeafPage};
+ghost use Rattle.hm_node.specs.Inner.{inner_in};
+ghost use Rattle.hm_node.specs.Node.{node_in};
+ghost use Rattle.hm_node.specs.Shape.{HoldsNode};
 ghost use Rattle.hm_node.specs.declared.inner.Child.{Child as ChildOf};
-ghost use Rattle.hm_btree.specs.Calls.Remove.{HasPair, IsPair, JoinsChild, JoinsPair, RemovesBelow};
+ghost use Rattle.hm_btree.specs.Calls.Remove.{HasPair, IsPair, JoinsChild, JoinsPair, MayRejoin};
+ghost use Rattle.hm_btree.specs.Calls.Remove.{RejoinsIn, RemovesBelow, RemovesInLeaf};
 ghost use Rattle.hm_btree.specs.Calls.Space.{StaysWithin};
 ghost use Rattle.hm_btree.specs.Shrink.{HoldsElement, HasNeighbours, IsLevelBelow, IsShrunk};
 
-use crate::change::has_element;
-use crate::inner_edit::{remove_child, set_left, set_mirror};
-use crate::join::{is_small, join};
-use crate::leaf_edit::remove_element;
-use crate::node_edit::{mirror, update_node, write_node};
+use crate::change::has_element_in;
+use crate::inner_edit::{give_mirror, remove_child, set_left};
+use crate::join::{is_small_in, join};
+use crate::node_edit::{mirror, mirror_in, update_page, write_node};
 use crate::space::NodeSpace;
+use hm_fields::Page;
 use hm_key::Base;
-use hm_node::{Inner, Node};
-use hm_search::{Subtree, holder_place, leaf_place, read_node};
+use hm_node::{Head, Inner, LEAF, Node, node_of, remove_element, set_mirror};
+use hm_search::{Subtree, child_below, holder_place_in, leaf_place_in, read_node, visit};
 use hm_types::{Counted, Fault};
 
-/// Removes the element at the key of `at` below a node, which is not written and may be left with
-/// too few places, and answers whether the node changed. Where the pages are told, they must be
+/// Removes the element at the key of `at` below the node in a page, which is not written and may be left
+/// with too few places, and answers whether the page changed. Where the pages are told, they must be
 /// sound and have the element. An inner node must have two children.
-pub fn remove_below<S: NodeSpace>(space: &mut S, node: &mut Node, at: &Base) -> Result<bool, Fault>
-    requires node { IsNode node.old }
-    requires many { HasNeighbours node.old }
-    requires told { IfSome (S.pages space.old) (HoldsElement (key_of at.now) node.old) }
+pub fn remove_below<S: NodeSpace>(space: &mut S, page: &mut Page, at: &Base) -> Result<bool, Fault>
+    requires node { HoldsNode page.old }
+    requires many { HasNeighbours (node_in page.old) }
+    requires told { IfSome (S.pages space.old) (HoldsElement (key_of at.now) (node_in page.old)) }
     ensures done { IfOk result (RemovesBelow S.pages S.extents (key_of at.now)
-        space.old space.new node.old node.new) }
+        space.old space.new page.old page.new) }
     ensures spent { StaysWithin S.HasRoom nothing space.old space.new }
     ensures cause { HasStoreCause (S.pages space.old)
         (S.faults space.old) (S.faults space.new) result }
 {
-    match node {
-        Node::Leaf(leaf) => {
-            let place = leaf_place(leaf, at);
-            let there = has_element(leaf, place, at);
-            if there {
-                remove_element(leaf, place);
-            }
-            Ok(there)
-        }
-        Node::Inner(inner) => {
-            let i = holder_place(inner, at);
-            let place = Subtree::child(inner, i);
-            let mut child = read_node(space, &place)?;
-            let changed = remove_below(space, &mut child, at)?;
-            if is_small(&child) {
-                rejoin(space, inner, i, child)?;
-                return Ok(true);
-            }
-            update_node(space, place.at, &child, changed)?;
-            Ok(set_mirror(inner, i, mirror(&child)))
-        }
+    if Head::read(page).kind == LEAF {
+        return Ok(remove_in_leaf(page, at));
     }
+    let i = holder_place_in(page, at);
+    let place = child_below(page, i);
+    let mut child = Page::zero();
+    visit(space, &place, &mut child)?;
+    let changed = remove_below(space, &mut child, at)?;
+    if is_small_in(&child) {
+        rejoin_in(space, page, i, &child)?;
+        return Ok(true);
+    }
+    update_page(space, place.at, &child, changed)?;
+    Ok(set_mirror(page, i, mirror_in(&child)))
+}
+
+// Removes the element at the key of `at` from a leaf, and answers whether one stands there.
+fn remove_in_leaf(page: &mut Page, at: &Base) -> bool
+    requires { IsLeafPage page.old }
+    ensures { RemovesInLeaf (key_of at.now) page.old page.new result }
+{
+    let place = leaf_place_in(page, at);
+    if !has_element_in(page, place, at) {
+        return false;
+    }
+    remove_element(page, place);
+    true
+}
+
+// Joins the child at a place, whose page has too few places and is not put, with a neighbour. For that
+// the nodes are built.
+fn rejoin_in<S: NodeSpace>(
+    space: &mut S,
+    page: &mut Page,
+    i: usize,
+    child: &Page,
+) -> Result<(), Fault>
+    requires may { MayRejoin page.old i child.now }
+    requires told { IfSome (S.pages space.old) (IsShrunk (inner_in page.old) i (node_in child.now)) }
+    ensures done { OnOk result (RejoinsIn S.pages S.extents i child.now
+        space.old space.new page.old page.new) }
+    ensures spent { StaysWithin S.HasRoom nothing space.old space.new }
+    ensures cause { HasStoreCause (S.pages space.old)
+        (S.faults space.old) (S.faults space.new) result }
+{
+    let mut inner = Inner::of(page);
+    rejoin(space, &mut inner, i, node_of(child))?;
+    inner.write(page);
+    Ok(())
 }
 
 // Joins the child at a place, which has too few places and is not written, with a neighbour.
@@ -102,7 +133,7 @@ fn join_at<S: NodeSpace>(
 {
     let upper = join(&mut left, right);
     write_node(space, inner.places[i].child, &left)?;
-    set_mirror(inner, i, mirror(&left));
+    give_mirror(inner, i, mirror(&left));
     let next = inner.places[i + 1].child;
     match upper {
         None => {
@@ -111,7 +142,7 @@ fn join_at<S: NodeSpace>(
         }
         Some(upper) => {
             write_node(space, next, &upper.node)?;
-            set_mirror(inner, i + 1, mirror(&upper.node));
+            give_mirror(inner, i + 1, mirror(&upper.node));
             set_left(inner, i + 1, upper.left);
         }
     }

@@ -1,23 +1,25 @@
 // Removal of an element from a tree.
-ghost use Rattle.std.specs.Prelude.{IfSome, IsSome, IfOk, Some, None, IfNone};
+ghost use Rattle.std.specs.Prelude.{IfSome, IsSome, IfOk, IfNone};
 ghost use Rattle.hm_types.specs.Faults.{HasStoreCause};
 ghost use Rattle.hm_key.specs.Elements.{element_at};
 ghost use Rattle.hm_key.specs.Key.{key_of};
 ghost use Rattle.hm_types.specs.Space.{nothing};
 ghost use Rattle.hm_node.specs.Inner.{IsNodeOffset};
-ghost use Rattle.hm_node.specs.Node.{IsNode};
+ghost use Rattle.hm_node.specs.Node.{node_in};
+ghost use Rattle.hm_node.specs.Shape.{HoldsNode};
 ghost use Rattle.hm_search.specs.Tree.{elements_of};
-ghost use Rattle.hm_btree.specs.Calls.Remove.{FindsLowest, IsRoot, RemovesFrom};
+ghost use Rattle.hm_btree.specs.Calls.Remove.{FindsLowest, IsOnlyBelow, IsRoot, RemovesFrom};
 ghost use Rattle.hm_btree.specs.Calls.Space.{StaysWithin};
-ghost use Rattle.hm_btree.specs.Shrink.{HasNeighbours, IsOnlyChild};
+ghost use Rattle.hm_btree.specs.Shrink.{HasNeighbours};
 ghost use Rattle.hm_btree.specs.Tree.{IsTreeSpace};
 
-use crate::node_edit::update_node;
+use crate::node_edit::update_page;
 use crate::remove::remove_below;
 use crate::space::NodeSpace;
+use hm_fields::Page;
 use hm_key::Base;
-use hm_node::Node;
-use hm_search::{Subtree, read_node};
+use hm_node::{Head, LEAF};
+use hm_search::{Subtree, child_below, visit};
 use hm_types::{Counted, Fault, HOff};
 
 /// Removes the element at the key of `at` from the tree from a root on, and answers the root that it
@@ -33,48 +35,54 @@ pub fn remove_from<S: NodeSpace>(space: &mut S, root: HOff, at: &Base) -> Result
     ensures cause { HasStoreCause (S.pages space.old)
         (S.faults space.old) (S.faults space.new) result }
 {
-    let node = read_node(space, &Subtree::root(root))?;
-    let (root, mut node) = lowest(space, root, node)?;
-    let changed = remove_below(space, &mut node, at)?;
-    match only_child(&node) {
+    let mut page = Page::zero();
+    visit(space, &Subtree::root(root), &mut page)?;
+    let root = lowest(space, root, &mut page)?;
+    let changed = remove_below(space, &mut page, at)?;
+    match only_child(&page) {
         Some(below) => {
             space.drop_node(root)?;
-            Ok(below)
+            Ok(below.at)
         }
         None => {
-            update_node(space, root, &node, changed)?;
+            update_page(space, root, &page, changed)?;
             Ok(root)
         }
     }
 }
 
-// The lowest root of the same tree, and its node: a root with one child alone is not needed, and
+// The lowest root of the same tree, whose page is read: a root with one child alone is not needed, and
 // its page goes.
-fn lowest<S: NodeSpace>(space: &mut S, root: HOff, node: Node) -> Result<(HOff, Node), Fault>
-    requires { IsRoot (S.pages space.old) root node }
-    ensures done { IfOk result (FindsLowest S.pages S.extents root space.old space.new) }
+fn lowest<S: NodeSpace>(space: &mut S, root: HOff, page: &mut Page) -> Result<HOff, Fault>
+    requires { IsRoot (S.pages space.old) root page.old }
+    ensures done { IfOk result (FindsLowest S.pages S.extents root page.new space.old space.new) }
     ensures spent { StaysWithin S.HasRoom nothing space.old space.new }
     ensures cause { HasStoreCause (S.pages space.old)
         (S.faults space.old) (S.faults space.new) result }
 {
-    match &node {
-        Node::Inner(inner) if inner.places.len() == 1 => {
-            let below = Subtree::child(inner, 0);
-            let child = read_node(space, &below)?;
+    match only_child(page) {
+        Some(below) => {
+            visit(space, &below, page)?;
             space.drop_node(root)?;
-            lowest(space, below.at, child)
+            lowest(space, below.at, page)
         }
-        _ => Ok((root, node)),
+        None => Ok(root),
     }
 }
 
-// Where the child of an inner node stands that has no other.
-fn only_child(node: &Node) -> Option<HOff>
-    ensures one { IfSome result (IsOnlyChild node.now) }
-    ensures none { IfNone result (IsNode node.now → HasNeighbours node.now) }
+// What is below the child of an inner node that has no other.
+fn only_child(page: &Page) -> Option<Subtree>
+    requires { HoldsNode page.now }
+    ensures one { IfSome result (IsOnlyBelow page.now) }
+    ensures none { IfNone result (HasNeighbours (node_in page.now)) }
 {
-    match node {
-        Node::Inner(inner) if inner.places.len() == 1 => Some(inner.places[0].child),
-        _ => None,
+    let head = Head::read(page);
+    if head.kind == LEAF {
+        return None;
+    }
+    if head.count == 1 {
+        Some(child_below(page, 0))
+    } else {
+        None
     }
 }

@@ -93,7 +93,7 @@ get_put page at size value fits =
     ∙ ap (little_number size) rest
     ∙ little_number-reads_back size value (drop (at + size) page) fits
 
-index_zeros : (n k : ℕ) → slice_index (replicate n 0) k ≡ 0
+pub index_zeros : (n k : ℕ) → slice_index (replicate n 0) k ≡ 0
 index_zeros zero k = refl
 index_zeros (suc n) zero = refl
 index_zeros (suc n) (suc k) = index_zeros n k
@@ -150,7 +150,7 @@ get_put_apart_four page a m x b n y c o z d p w at size first second third fourt
     get_put_apart_two (put (put page a m x) b n y) c o z d p w at size third fourth
     ∙ get_put_apart_two page a m x b n y at size first second
 
-little_from-zeros : (at size n : ℕ) → little_from at size (replicate n 0) ≡ 0
+pub little_from-zeros : (at size n : ℕ) → little_from at size (replicate n 0) ≡ 0
 little_from-zeros at zero n = refl
 little_from-zeros at (suc size) n = rw (index_zeros n at, little_from-zeros (suc at) size n) refl
 

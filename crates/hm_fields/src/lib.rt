@@ -18,7 +18,7 @@ pub use laws::{
     put_changes_its_bytes_alone, put_keeps_the_length,
 };
 pub use mem_pages::MemPages;
-pub use moves::move_bytes;
+pub use moves::{clear_bytes, move_bytes};
 pub use page::Page;
 pub use pages::Pages;
 pub use states::{State, States};

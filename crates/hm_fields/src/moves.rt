@@ -1,7 +1,7 @@
 // Moves of bytes within a page.
 ghost use Rattle.std.specs.Prelude.{◌≤◌, ◌+◌, ◌-◌};
 ghost use Rattle.hm_types.specs.declared.limits.TheConstants.{PAGE_BYTES};
-ghost use Rattle.hm_fields.specs.Moves.{HasMoved};
+ghost use Rattle.hm_fields.specs.Moves.{HasCleared, HasMoved};
 
 use crate::page::Page;
 
@@ -15,4 +15,13 @@ pub fn move_bytes(page: &mut Page, from: usize, to: usize, dest: usize)
     ensures { HasMoved from to dest page.old page.new }
 {
     page.bytes.copy_within(from..to, dest);
+}
+
+/// Makes each byte from `from` on, up to `to`, 0, both counted from the start of the page.
+pub fn clear_bytes(page: &mut Page, from: usize, to: usize)
+    requires order { from ≤ to }
+    requires within { to ≤ PAGE_BYTES }
+    ensures { HasCleared from to page.old page.new }
+{
+    page.bytes[from..to].fill(0);
 }

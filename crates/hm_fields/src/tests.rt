@@ -3,7 +3,10 @@ ghost use Rattle.std.specs.Prelude.{◌≡◌, ◌≤◌, ◌+◌, ℕ, length};
 ghost use Rattle.hm_types.specs.declared.limits.TheConstants.{PAGE_BYTES};
 ghost use Rattle.hm_fields.specs.Fields.{Apart, get};
 
-use crate::{Page, get_u8, get_u16, get_u32, get_u64, put_u8, put_u16, put_u32, put_u64};
+use crate::{
+    Page, clear_bytes, get_u8, get_u16, get_u32, get_u64, move_bytes, put_u8, put_u16, put_u32,
+    put_u64,
+};
 use hm_types::PAGE_BYTES;
 
 // A head of 24 bytes, which is proved from the contracts alone: what each field of it holds, and that
@@ -168,4 +171,49 @@ fn fields_side_by_side_keep_apart(rt: HostRuntime) {
     let copy = page;
     put_u16(&mut page, 4_072, 0);
     assert_eq!(rt; get_u16(&copy, 4_072), 0x1234);
+}
+
+// Moves bytes of a page, where they lie in it and go to a part of it.
+fn try_move(page: &mut Page, from: usize, to: usize, dest: usize) -> bool {
+    if from > to || to > PAGE_BYTES || dest > PAGE_BYTES || to - from > PAGE_BYTES - dest {
+        return false;
+    }
+    move_bytes(page, from, to, dest);
+    true
+}
+
+// The number of the byte at each place of a page, where those before 250 are numbered.
+fn numbered() -> Page {
+    let mut bytes = [0; PAGE_BYTES];
+    for number in 0u8..250 {
+        bytes[usize::from(number)] = number;
+    }
+    let mut page = Page::zero();
+    page.copy_from(&bytes);
+    page
+}
+
+#[test]
+fn bytes_are_moved_over_each_other_and_cleared(rt: HostRuntime) {
+    // From where to where, and some bytes afterwards: at the first place of the table and on.
+    for (from, to, dest, at, want) in [
+        (100, 104, 102, 100, [100u8, 101, 100, 101, 102, 103, 106]),
+        (102, 106, 100, 100, [102, 103, 104, 105, 104, 105, 106]),
+        (10, 12, 200, 198, [198, 199, 10, 11, 202, 203, 204]),
+        (7, 7, 20, 18, [18, 19, 20, 21, 22, 23, 24]),
+    ] {
+        let mut page = numbered();
+        assert!(rt; try_move(&mut page, from, to, dest));
+        assert_eq!(rt;
+            page.bytes().get(at..at + 7),
+            Some(want.as_slice()),
+            "{from} {to} {dest}"
+        );
+    }
+    let mut page = numbered();
+    assert!(rt; !try_move(&mut page, 1, 3, PAGE_BYTES - 1));
+    assert!(rt; try_move(&mut page, 1, 3, PAGE_BYTES - 2));
+    clear_bytes(&mut page, 2, 5);
+    assert_eq!(rt; &page.bytes()[..7], [0, 1, 0, 0, 0, 5, 6].as_slice());
+    assert_eq!(rt; &page.bytes()[PAGE_BYTES - 3..], [0, 1, 2].as_slice());
 }

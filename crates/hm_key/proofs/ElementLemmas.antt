@@ -104,7 +104,7 @@ content_changed at change es same still content = record {
 }
 
 -- what a type asks for does not speak of delete ids and places
-fits_changed : (e : Element) (delete payload : ℕ) → FitsType e → FitsType (closed_at delete (moved_to payload e))
+pub fits_changed : (e : Element) (delete payload : ℕ) → FitsType e → FitsType (closed_at delete (moved_to payload e))
 fits_changed e delete payload fits = record {
   known = fits.known;
   inode_part = fits.inode_part;

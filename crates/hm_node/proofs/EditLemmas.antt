@@ -1,25 +1,26 @@
--- Edits of a node in its page.
-use Rattle.std.proofs.Common.{◌≡◌, Bool, false, ℕ, zero, suc, ◌+◌, ◌-◌, ◌<◌, ◌≤◌, ◌⊎◌, inl, inr, List, [], ◌∷◌, ◌++◌, length, refl, sym, ap, subst, ◌∙◌, arith}
-use Rattle.std.specs.Prelude.{insert, max, slice_set, slice_index_or}
+-- Edits of a leaf in its page.
+use Rattle.std.proofs.Common.{◌≡◌, ℕ, zero, suc, ◌+◌, ◌-◌, ◌^◌, ◌<◌, ◌≤◌, ◌⊎◌, inl, inr, List, [], ◌∷◌, ◌++◌, length, refl, sym, ap, subst, ◌∙◌, arith, append-nil}
+use Rattle.std.specs.Prelude.{insert, remove, slice_set, slice_index_or}
 use Rattle.std.proofs.lemmas.Bool.{cases_lt}
 use Rattle.std.proofs.lemmas.List.{set-append_left, set-append_right}
-use Rattle.std.proofs.lemmas.List.Edits.{insert-append_left, insert_end}
-use Rattle.hm_types.specs.declared.limits.TheConstants.{PAGE_BYTES, MOST_LEVELS}
-use Rattle.hm_fields.specs.Fields.{Apart, get}
-use Rattle.hm_fields.specs.Moves.{HasMoved}
+use Rattle.std.proofs.lemmas.List.Edits.{insert-append_left, insert_end, remove-append_left, remove-append_right}
+use Rattle.hm_types.specs.declared.limits.TheConstants.{PAGE_BYTES}
+use Rattle.hm_fields.specs.Fields.{Apart, get, put}
+use Rattle.hm_fields.specs.Moves.{HasCleared, HasMoved}
+use Rattle.hm_fields.proofs.FieldLemmas.{get_put, get_put_apart, get_put_apart_two}
+use Rattle.hm_types.specs.Offset.{IsOffset}
+use Rattle.hm_key.specs.Elements.{closed_at, moved_to}
+use Rattle.hm_key.proofs.ElementLemmas.{fits_changed}
 use Rattle.hm_key.specs.declared.element.Element.{Element}
 use Rattle.hm_node.specs.Base.{base_in}
-use Rattle.hm_node.specs.Edits.{IsLeafPage, IsInnerPage, HoldsLeaf, SetsMirror}
+use Rattle.hm_node.specs.Edits.{ChangesPlace, IsLeafPage, HoldsLeaf}
 use Rattle.hm_node.specs.Head.{head_in}
-use Rattle.hm_node.specs.Inner.{child_in, first_children, inner_in, AreChildPlaces, IsChildPlace, IsChild, IsBound}
 use Rattle.hm_node.specs.Leaf.{element_in, first_elements, leaf_in, ArePlaces, IsElementPlace, IsPlaced}
-use Rattle.hm_node.specs.Node.{node_in, HasLevel, SaysLevel}
-use Rattle.hm_node.specs.Places.{place, first, IsZeroOutside}
-use Rattle.hm_node.specs.declared.head.TheConstants.{LEAF, LEAF_LEVEL, INNER}
-use Rattle.hm_node.specs.declared.inner.Child.{Child}
-use Rattle.hm_node.specs.declared.node.Node.TheVariants.{Leaf as leaf_node, Inner as inner_node}
-use Rattle.hm_node.proofs.FieldLemmas.{same_base, same_child}
-use Rattle.hm_node.proofs.InnerLemmas.{InnerHead, inner_level, inner_count, inner_fields}
+use Rattle.hm_node.specs.Node.{node_in, SaysLevel}
+use Rattle.hm_node.specs.Places.{place, first, IsZero, IsZeroOutside}
+use Rattle.hm_node.specs.declared.head.TheConstants.{LEAF, LEAF_LEVEL}
+use Rattle.hm_node.specs.declared.node.Node.TheVariants.{Leaf as leaf_node}
+use Rattle.hm_node.proofs.FieldLemmas.{same_base, same_element}
 use Rattle.hm_node.proofs.LeafLemmas.{LeafHead, leaf_level, leaf_count, leaf_fields}
 use Rattle.hm_node.proofs.PlaceLemmas.{first_length, first_at, first_same}
 
@@ -95,6 +96,10 @@ leaf_bytes page leaf =
       places = both.0;
       zeros = both.1;
     }
+
+-- a leaf has no more places than a page
+pub leaf_few : (page : List ℕ) → IsLeafPage page → (head_in page).count ≤ 63
+leaf_few page leaf = (leaf_bytes page leaf).few
 
 pub bytes_leaf : (page : List ℕ) (n : ℕ) → LeafBytes page n → IsLeafPage page
 bytes_leaf page n b =
@@ -247,130 +252,207 @@ cases_at j i = elim (cases_lt j i) [
   | inr not ↦ elim (cases_lt i j) [ inl high ↦ inr (λ is. omega arith) | inr end ↦ inl (omega arith) ]
 ]
 
--- what is known of the page of an inner node
-pub record InnerBytes (page : List ℕ) (n : ℕ) : Type 0 where
-  pub sized : length page ≡ PAGE_BYTES
-  pub kind : get page 0 1 ≡ INNER
-  pub level : (2 ≤ get page 1 1) × (get page 1 1 ≤ MOST_LEVELS)
-  pub count : get page 2 2 ≡ n
-  pub some : (1 ≤ n) × (n ≤ 62)
-  pub bound : IsBound (base_in page (place n))
-  pub places : AreChildPlaces page n
-  pub zeros : IsZeroOutside page (place n + 40)
+-- what a list has at its places, without one
+pub first_removed : {A : Type 0} (f g : ℕ → A) (n at : ℕ) → at ≤ n → ((i : ℕ) → i < at → g i ≡ f i)
+    → ((i : ℕ) → at ≤ i → i < n → g i ≡ f (suc i)) → first g n ≡ remove (first f (suc n)) at
+unfolding first
+first_removed f g zero at low before after =
+    let none : at ≡ zero = omega arith in
+    rw none refl
+first_removed f g (suc n) at low before after =
+    elim (cases_lt n at) [
+      | inl last ↦
+          let is : at ≡ suc n = omega arith in
+          let size : length (first f (suc n)) ≡ at = first_length f (suc n) ∙ sym is in
+          let none : at - at ≡ 0 = omega arith in
+          first_same g f (suc n) (λ i a. before i (omega arith))
+          ∙ sym (remove-append_right (first f (suc n)) (f (suc n) ∷ []) at at size (omega arith)
+          ∙ ap (λ (k : ℕ). first f (suc n) ++ remove (f (suc n) ∷ []) k) none ∙ append-nil (first f (suc n)))
+      | inr more ↦
+          ap (λ l. l ++ g n ∷ []) (first_removed f g n at more before (λ i a b. after i a (omega arith)))
+          ∙ ap (λ y. remove (first f (suc n)) at ++ y ∷ []) (after n more (omega arith))
+          ∙ sym (remove-append_left (first f (suc n)) (f (suc n) ∷ []) at (omega (arith, first_length f (suc n))))
+    ]
 
-pub inner_bytes : (page : List ℕ) → IsInnerPage page → InnerBytes page (head_in page).count
-inner_bytes page inner =
-    let here : node_in page ≡ inner_node (inner_in page) = rw inner.kind refl in
-    let h : InnerHead page (head_in page).level (head_in page).count (head_in page).mirror =
-    record { kind = inner.kind; high = refl; count = refl; latest = refl } in
-    let three = (inner_fields h).1 (inner.holds.fields, inner.holds.spelled.zeros) in
-    record {
-      sized = inner.holds.spelled.sized;
-      kind = inner.kind;
-      level = subst HasLevel here inner.holds.level;
-      count = refl;
-      some = (inner_count h).1 inner.holds.count;
-      bound = three.0;
-      places = three.1;
-      zeros = three.2;
-    }
+-- an element was taken out of a leaf
+module _ (old p1 p2 new : List ℕ) (at n : ℕ) (leaf : LeafBytes old (suc n)) (low : at < suc n)
+    (moved : HasMoved (place (at + 1)) (place (suc n)) (place at) old p1) (cleared : HasCleared (place n) (place (suc n)) p1 p2)
+    (beside : (x size : ℕ) → Apart 2 2 x size → get new x size ≡ get p2 x size)
+    (sized : length new ≡ PAGE_BYTES) (counted : get new 2 2 ≡ n) where
+  kept : (x size : ℕ) → Apart 2 2 x size → x + size ≤ place at → get new x size ≡ get old x size
+  kept x size a high = beside x size a ∙ cleared.below x size (omega arith) ∙ moved.below x size high
 
-pub bytes_inner : (page : List ℕ) (n : ℕ) → InnerBytes page n → IsInnerPage page
-bytes_inner page n b =
-    let h : InnerHead page (head_in page).level n (head_in page).mirror =
-    record { kind = b.kind; high = refl; count = sym b.count; latest = refl } in
-    let fields = (inner_fields h).0 (b.bound, b.places, b.zeros) in
-    let level = (inner_level h).0 b.level in
-    record {
-      holds = record {
-        spelled = record { sized = b.sized; says = level.0; value = refl; zeros = fields.1 };
-        level = level.1;
-        count = (inner_count h).0 b.some;
-        fields = fields.0;
+  later : (x size : ℕ) → place at ≤ x → x + size ≤ place n → get new x size ≡ get old (x + 64) size
+  later x size a b =
+      beside x size (inl (omega arith)) ∙ cleared.below x size b
+      ∙ ap (λ (k : ℕ). get p1 k size) (omega arith) ∙ moved.moved (x + 64) size (omega arith) (omega arith)
+
+  gone : (k : ℕ) → place n ≤ k → k < place (suc n) → get new k 1 ≡ 0
+  gone k a b = beside k 1 (inl (omega arith)) ∙ cleared.zero k 1 a (omega arith)
+
+  end : (x size : ℕ) → place (suc n) ≤ x → get new x size ≡ get old x size
+  end x size a = beside x size (inl (omega arith)) ∙ cleared.above x size a ∙ moved.above x size (omega arith)
+
+  front_kept : (i : ℕ) → i < at → element_in new (place i) ≡ element_in old (place i)
+  front_kept i a = same_element new old (place i) (record { each = λ x size l h. kept x size (inl (omega arith)) (omega arith) })
+
+  back_moved : (i : ℕ) → at ≤ i → i < n → element_in new (place i) ≡ element_in old (place (suc i))
+  back_moved i a b = moved_element new old (place i) (place (suc i)) (record {
+    each = λ x y size l h is.
+        let same : x ≡ y + 64 = omega arith in
+        later y size (omega arith) (omega arith) ∙ ap (λ (k : ℕ). get old k size) (sym same);
+  })
+
+  pub elements_removed : first_elements new n ≡ remove (first_elements old (suc n)) at
+  elements_removed = first_removed (λ i. element_in old (place i)) (λ i. element_in new (place i)) n at (omega arith) front_kept back_moved
+
+  place_kept : (i : ℕ) → i < n → IsElementPlace new (place i)
+  place_kept i less = elim (cases_lt i at) [
+    | inl a ↦
+        let was = leaf.places i (omega arith) in record {
+          placed = subst IsPlaced (sym (front_kept i a)) was.placed;
+          zero = record { each = λ k l h. kept k 1 (inl (omega arith)) (omega arith) ∙ was.zero.each k l h };
+        }
+    | inr a ↦
+        let was = leaf.places (suc i) (omega arith) in record {
+          placed = subst IsPlaced (sym (back_moved i a less)) was.placed;
+          zero = record { each = λ k l h. later k 1 (omega arith) (omega arith) ∙ was.zero.each (k + 64) (omega arith) (omega arith) };
+        }
+  ]
+
+  bytes_removed : LeafBytes new n
+  bytes_removed = record {
+    sized = sized;
+    kind = kept 0 1 (inr (omega arith)) (omega arith) ∙ leaf.kind;
+    level = kept 1 1 (inr (omega arith)) (omega arith) ∙ leaf.level;
+    count = counted;
+    few = omega (arith, leaf.few);
+    places = place_kept;
+    zeros = record {
+      head = record { each = λ k l h. kept k 1 (inl (omega arith)) (omega arith) ∙ leaf.zeros.head.each k l h };
+      rest_of_head = record { each = λ k l h. kept k 1 (inl (omega arith)) (omega arith) ∙ leaf.zeros.rest_of_head.each k l h };
+      rest = record {
+        each = λ k l h. elim (cases_lt k (place (suc n))) [
+          | inl before ↦ gone k l before
+          | inr after ↦ end k 1 after ∙ leaf.zeros.rest.each k after h
+        ];
       };
-      kind = b.kind;
-    }
+    };
+  }
 
--- the `mirror` of a child was put
-module _ (old new : List ℕ) (i n m : ℕ) (inner : InnerBytes old n) (low : i < n)
-    (beside : (x size : ℕ) → Apart (place i + 48) 8 x size → Apart 8 8 x size → get new x size ≡ get old x size)
-    (sized : length new ≡ PAGE_BYTES) (held : get new (place i + 48) 8 ≡ m) where
-  child_here : child_in new (place i) ≡ record (child_in old (place i)) { mirror = m }
-  unfolding child_in
-  child_here =
-      let left = same_base new old (place i) (record { each = λ x size a b. beside x size (inr (omega arith)) (inl (omega arith)) }) in
-      let child = beside (place i + 40) 8 (inr (omega arith)) (inl (omega arith)) in
-      rw (left, child, held) refl
+  pub leaf_removed : suc n ≡ (head_in old).count → HoldsLeaf new (leaf_in old).mirror (remove (leaf_in old).places.items at)
+  leaf_removed count =
+      let items : first_elements new (head_in new).count ≡ remove (first_elements old (head_in old).count) at =
+      ap (first_elements new) counted ∙ elements_removed ∙ ap (λ (k : ℕ). remove (first_elements old k) at) count in
+      let mirror : get new 8 8 ≡ get old 8 8 = kept 8 8 (inl (omega arith)) (omega arith) in
+      record {
+        held = bytes_leaf new n bytes_removed;
+        leaf = rw (items, mirror) refl;
+      }
 
-  child_other : (j : ℕ) → j < n → (j ≡ i → ⊥) → child_in new (place j) ≡ child_in old (place j)
-  child_other j less not = same_child new old (place j) (record {
-    each = λ x size a b. elim (cases_lt j i) [
+-- an element was changed where it stands
+module _ (change : Element → Element) (old new : List ℕ) (at n up : ℕ) (leaf : LeafBytes old n) (low : at < n)
+    (beside : (x size : ℕ) → Apart (place at) 52 x size → Apart 8 8 x size → get new x size ≡ get old x size)
+    (sized : length new ≡ PAGE_BYTES) (here : element_in new (place at) ≡ change (element_in old (place at)))
+    (placed : IsPlaced (change (element_in old (place at)))) where
+  element_other : (j : ℕ) → j < n → (j ≡ at → ⊥) → element_in new (place j) ≡ element_in old (place j)
+  element_other j less not = same_element new old (place j) (record {
+    each = λ x size a b. elim (cases_lt j at) [
       | inl before ↦ beside x size (inr (omega arith)) (inl (omega arith))
-      | inr after ↦ elim (cases_lt i j) [
+      | inr after ↦ elim (cases_lt at j) [
         | inl more ↦ beside x size (inl (omega arith)) (inl (omega arith))
         | inr end ↦ absurd (not (omega arith))
       ]
     ];
   })
 
-  right_kept : base_in new (place n) ≡ base_in old (place n)
-  right_kept = same_base new old (place n) (record { each = λ x size a b. beside x size (inl (omega arith)) (inl (omega arith)) })
-
-  -- a byte that is no part of a `mirror`
-  byte : (k : ℕ) → Apart (place i + 48) 8 k 1 → Apart 8 8 k 1 → get old k 1 ≡ 0 → get new k 1 ≡ 0
-  byte k a b was = beside k 1 a b ∙ was
-
-  each_child : (j : ℕ) → j < n → IsChildPlace new (place j)
-  each_child j less = elim (cases_at j i) [
-    | inl is ↦ subst (λ (k : ℕ). IsChildPlace new (place k)) (sym is) (
-        let was = inner.places i low in record {
-          child = subst IsChild (sym child_here) (record { left = was.child.left; child = was.child.child });
-          zero = record { each = λ k a b. byte k (inl (omega arith)) (inl (omega arith)) (was.zero.each k a b) };
-        })
-    | inr not ↦
-        let was = inner.places j less in record {
-          child = subst IsChild (sym (child_other j less not)) was.child;
-          zero = record {
-            each = λ k a b. elim (cases_lt j i) [
-              | inl before ↦ byte k (inr (omega arith)) (inl (omega arith)) (was.zero.each k a b)
-              | inr after ↦ byte k (inl (omega arith)) (inl (omega arith)) (was.zero.each k a b)
-            ];
-          };
-        }
+  gap_kept : (j k : ℕ) → place j + 52 ≤ k → k < place j + 64 → get new k 1 ≡ get old k 1
+  gap_kept j k a b = elim (cases_lt j at) [
+    | inl before ↦ beside k 1 (inr (omega arith)) (inl (omega arith))
+    | inr after ↦ beside k 1 (inl (omega arith)) (inl (omega arith))
   ]
 
-  bytes_mirror : InnerBytes new n
-  bytes_mirror = record {
+  place_changed : (j : ℕ) → j < n → IsElementPlace new (place j)
+  place_changed j less =
+      let was = leaf.places j less in
+      let zero : IsZero new (place j + 52) (place j + 64) = record { each = λ k a b. gap_kept j k a b ∙ was.zero.each k a b } in
+      elim (cases_at j at) [
+        | inl is ↦ record {
+          placed = subst (λ (k : ℕ). IsPlaced (element_in new (place k))) (sym is) (subst IsPlaced (sym here) placed);
+          zero = zero;
+        }
+        | inr not ↦ record { placed = subst IsPlaced (sym (element_other j less not)) was.placed; zero = zero }
+      ]
+
+  bytes_changed : LeafBytes new n
+  bytes_changed = record {
     sized = sized;
-    kind = beside 0 1 (inr (omega arith)) (inr (omega arith)) ∙ inner.kind;
-    level = rw (beside 1 1 (inr (omega arith)) (inr (omega arith))) inner.level;
-    count = beside 2 2 (inr (omega arith)) (inr (omega arith)) ∙ inner.count;
-    some = inner.some;
-    bound = subst IsBound (sym right_kept) inner.bound;
-    places = each_child;
+    kind = beside 0 1 (inr (omega arith)) (inr (omega arith)) ∙ leaf.kind;
+    level = beside 1 1 (inr (omega arith)) (inr (omega arith)) ∙ leaf.level;
+    count = beside 2 2 (inr (omega arith)) (inr (omega arith)) ∙ leaf.count;
+    few = leaf.few;
+    places = place_changed;
     zeros = record {
-      head = record { each = λ k a b. byte k (inr (omega arith)) (inr (omega arith)) (inner.zeros.head.each k a b) };
-      rest_of_head = record { each = λ k a b. byte k (inr (omega arith)) (inl (omega arith)) (inner.zeros.rest_of_head.each k a b) };
-      rest = record { each = λ k a b. byte k (inl (omega arith)) (inl (omega arith)) (inner.zeros.rest.each k a b) };
+      head = record { each = λ k a b. beside k 1 (inr (omega arith)) (inr (omega arith)) ∙ leaf.zeros.head.each k a b };
+      rest_of_head = record { each = λ k a b. beside k 1 (inr (omega arith)) (inl (omega arith)) ∙ leaf.zeros.rest_of_head.each k a b };
+      rest = record { each = λ k a b. beside k 1 (inl (omega arith)) (inl (omega arith)) ∙ leaf.zeros.rest.each k a b };
     };
   }
 
-  pub mirror_set : (changed : Bool) → n ≡ (head_in old).count → get new 8 8 ≡ max (head_in old).mirror m → (changed ≡ false → new ≡ old)
-      → SetsMirror i m old new changed
-  mirror_set changed count up same =
-      let f = λ (j : ℕ). child_in old (place j) in
-      let bytes = bytes_mirror in
+  pub leaf_changed : n ≡ (head_in old).count → get new 8 8 ≡ up → ChangesPlace change at up old new
+  leaf_changed count mirror =
+      let f = λ (j : ℕ). element_in old (place j) in
+      let bytes = bytes_changed in
       record {
-        held = bytes_inner new n bytes;
-        level = beside 1 1 (inr (omega arith)) (inr (omega arith));
-        mirror = up;
+        held = bytes_leaf new n bytes;
+        mirror = mirror;
         items = λ d.
-            let was : slice_index_or (first_children old n) i d ≡ f i = first_at f n i d low in
-            let list : first_children new n ≡ slice_set (first_children old n) i (record (slice_index_or (first_children old n) i d) { mirror = m }) =
-            first_set f (λ j. child_in new (place j)) n i (record (slice_index_or (first_children old n) i d) { mirror = m }) low
-            (child_here ∙ ap (λ (c : Child). record c { mirror = m }) (sym was)) child_other in
-            ap (first_children new) bytes.count ∙ list
-            ∙ ap (λ (k : ℕ). slice_set (first_children old k) i (record (slice_index_or (first_children old k) i d) { mirror = m })) count;
-        right = ap (λ (k : ℕ). base_in new (place k)) bytes.count ∙ right_kept ∙ ap (λ (k : ℕ). base_in old (place k)) count;
-        same = same;
+            let was : slice_index_or (first_elements old n) at d ≡ f at = first_at f n at d low in
+            let list : first_elements new n ≡ slice_set (first_elements old n) at (change (slice_index_or (first_elements old n) at d)) =
+            first_set f (λ j. element_in new (place j)) n at (change (slice_index_or (first_elements old n) at d)) low
+            (here ∙ ap change (sym was)) element_other in
+            ap (first_elements new) bytes.count ∙ list
+            ∙ ap (λ (k : ℕ). slice_set (first_elements old k) at (change (slice_index_or (first_elements old k) at d))) count;
       }
+
+-- an element with another delete id and another place of its payload may stand in a leaf yet
+pub placed_changed : (e : Element) (delete to : ℕ) → IsPlaced e → (delete ≡ 0) ⊎ (e.base.create < delete) → IsOffset to
+    → IsPlaced (closed_at delete (moved_to to e))
+placed_changed e delete to was closed offset = record {
+  element = record {
+    made = was.element.made;
+    closed = closed;
+    obj_type = was.element.obj_type;
+    btype = was.element.btype;
+    fits = fits_changed e delete to was.element.fits;
+  };
+  payload = offset;
+}
+
+-- the delete id of an element, and its payload
+pub delete_put : (page : List ℕ) (a delete up : ℕ) → 64 ≤ a → delete < 256 ^ 8
+    → element_in (put (put page (a + 24) 8 delete) 8 8 up) a ≡ closed_at delete (element_in page a)
+unfolding element_in base_in
+delete_put page a delete up high fits =
+    let p = put page (a + 24) 8 delete in
+    let field : (x size : ℕ) → a ≤ x → Apart (a + 24) 8 x size → get (put p 8 8 up) x size ≡ get page x size =
+    λ x size l apart. get_put_apart_two page (a + 24) 8 delete 8 8 up x size apart (inl (omega arith)) in
+    let held : get (put p 8 8 up) (a + 24) 8 ≡ delete = get_put_apart p 8 8 up (a + 24) 8 (inl (omega arith)) ∙ get_put page (a + 24) 8 delete fits in
+    rw (
+      field a 8 (omega arith) (inr (omega arith)),
+      field (a + 8) 8 (omega arith) (inr (omega arith)),
+      field (a + 16) 8 (omega arith) (inr (omega arith)),
+      held,
+      field (a + 32) 2 (omega arith) (inl (omega arith)),
+      field (a + 34) 1 (omega arith) (inl (omega arith)),
+      field (a + 35) 1 (omega arith) (inl (omega arith)),
+      field (a + 36) 4 (omega arith) (inl (omega arith)),
+      field (a + 40) 8 (omega arith) (inl (omega arith)),
+      field (a + 48) 4 (omega arith) (inl (omega arith)),
+    ) refl
+
+pub payload_put : (page : List ℕ) (a to : ℕ) → to < 256 ^ 8 → element_in (put page (a + 40) 8 to) a ≡ moved_to to (element_in page a)
+unfolding element_in
+payload_put page a to fits =
+    let base = same_base (put page (a + 40) 8 to) page a (record { each = λ x size l h. get_put_apart page (a + 40) 8 to x size (inr (omega arith)) }) in
+    rw (base, get_put page (a + 40) 8 to fits, get_put_apart page (a + 40) 8 to (a + 48) 4 (inl (omega arith))) refl

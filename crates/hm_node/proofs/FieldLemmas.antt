@@ -77,7 +77,7 @@ child_put page at c p q raw base is first held second held' =
     rw (kept, child, held') refl
 
 -- what lies apart from a place lies apart from each field in it
-apart_field : (at n a size other width : ℕ) → at ≤ a → a + size ≤ at + n → Apart at n other width → Apart a size other width
+pub apart_field : (at n a size other width : ℕ) → at ≤ a → a + size ≤ at + n → Apart at n other width → Apart a size other width
 apart_field at n a size other width low high (inl above) = inl (omega arith)
 apart_field at n a size other width low high (inr below) = inr (omega arith)
 

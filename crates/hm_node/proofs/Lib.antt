@@ -1,6 +1,7 @@
 pub mod BrokenLemmas
 pub mod EditLemmas
 pub mod FieldLemmas
+pub mod InnerEditLemmas
 pub mod InnerLemmas
 pub mod LawLemmas
 pub mod LeafLemmas

@@ -23,6 +23,13 @@ pub record HoldsLeaf (page : List ℕ) (mirror : ℕ) (es : List Element) : Type
   pub held : IsLeafPage page
   pub leaf : leaf_in page ≡ record { mirror = mirror; places = record { items = es } }
 
+-- a page holds the leaf that it held, whose element at a place changed and no other, with this `mirror`
+pub record ChangesPlace (change : Element → Element) (at up : ℕ) (old new : List ℕ) : Type 0 where
+  pub held : IsLeafPage new
+  pub mirror : (leaf_in new).mirror ≡ up
+  pub items : (d : Element) → (leaf_in new).places.items ≡ slice_set (leaf_in old).places.items at
+      (change (slice_index_or (leaf_in old).places.items at d))
+
 -- A page holds the inner node that it held, whose child at a place has this `mirror` now, and whose own is raised to it.
 -- It is said whether that changed the page.
 pub record SetsMirror (i id : ℕ) (old new : List ℕ) (changed : Bool) : Type 0 where

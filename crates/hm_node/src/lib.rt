@@ -20,7 +20,7 @@ mod rule;
 mod tests;
 
 pub use base::read_base;
-pub use edit::{insert_element, set_mirror};
+pub use edit::{insert_element, put_delete, put_payload, remove_element, set_mirror};
 pub use head::{Head, INNER, LEAF, LEAF_LEVEL};
 pub use inner::{Child, Inner, is_node_offset, read_child};
 pub use laws::{

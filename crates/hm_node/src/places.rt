@@ -11,7 +11,7 @@ use hm_types::PAGE_BYTES;
 use std::cmp::Ordering;
 
 // The size of a place, and that of the head before the first one, in bytes.
-const PLACE_BYTES: usize = 64;
+pub(crate) const PLACE_BYTES: usize = 64;
 
 /// Where a place begins, in bytes from the start of the page.
 pub fn place(number: usize) -> usize

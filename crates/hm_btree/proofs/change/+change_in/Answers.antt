@@ -1,134 +1,126 @@
-use Rattle.std.proofs.Common.{◌∙◌, ◌<◌, Bool, true≢false, ap, refl, sym, subst, rules, arith, Result}
+use Rattle.std.proofs.Common.{◌∙◌, ◌<◌, Bool, ap, refl, sym, subst, rules, arith, Result}
 use Rattle.std.specs.Prelude.{Option, IsSome, is_some}
+use Rattle.std.proofs.lemmas.Option.{IfSome_then}
 use Rattle.std.proofs.lemmas.Result.{err_from_is_err_and}
 use Rattle.hm_types.specs.declared.fault.Fault.{Fault}
 use Rattle.hm_types.specs.Faults.{HasFaultCause, HasStoreCause}
 use Rattle.hm_fields.specs.Pages.{PageMap}
 use Rattle.hm_key.specs.Key.{key_of}
-use Rattle.hm_node.specs.Node.{level_of, IsNode}
+use Rattle.hm_node.specs.Head.{head_in}
+use Rattle.hm_node.specs.Inner.{inner_in}
+use Rattle.hm_node.specs.Node.{level_of, node_in}
 use Rattle.hm_node.specs.declared.node.Node.{Node}
-use Rattle.hm_node.specs.declared.node.Node.TheVariants.{Leaf as leaf_node, Inner as inner_node}
-use Rattle.hm_btree.specs.Below.{HasEditCause}
+use Rattle.hm_node.proofs.ReadyLemmas.{leaf_there, inner_there, inner_here}
+use Rattle.hm_search.specs.declared.place_rule.PlaceRule.TheVariants.{Level}
+use Rattle.hm_btree.specs.Below.{HasPassCause, Works}
 use Rattle.hm_btree.specs.Change.{change_of, with_change, marking_of}
-use Rattle.hm_btree.specs.Shape.{IsShaped}
 use Rattle.hm_btree.specs.Space.{IsUpdated}
-use Rattle.hm_search.proofs.SearchLemmas.{place_within}
-use Rattle.hm_btree.proofs.EditLemmas.{child_level_lower, edit_cause_read, edit_cause_below, edit_cause_write}
+use Rattle.hm_btree.proofs.EditLemmas.{child_level_lower}
 use Rattle.hm_btree.proofs.LocalLemmas.{changed_local}
-use Rattle.hm_btree.proofs.ShapeLemmas.{node_shaped, child_offset, mirror_shaped, element_shaped}
+use Rattle.hm_btree.proofs.PageLemmas.{page_shaped}
+use Rattle.hm_btree.proofs.PassLemmas.{pass_cause_read, pass_cause_below, pass_cause_write}
+use Rattle.hm_btree.proofs.ShapeLemmas.{child_offset}
 use Rattle.hm_btree.proofs.ToldLemmas.{both_alike}
-use Rattle.hm_btree.proofs.WorksLemmas.{inner_works, leaf_works, leaf_without}
-use Rattle.std.proofs.lemmas.Option.{IfSome_then}
+use Rattle.hm_btree.proofs.WorksLemmas.{inner_works, leaf_changes}
 use Rattle.hm_btree.proofs.change.+change_in.Goals as goal
-use Rattle.hm_btree.proofs.change.+change_in.Goals.{then-there, else-there}
 
-pub child-place-requires : goal.child-place-requires
-child-place-requires g t c = place_within c.args.node.now c.in-Inner.inner (key_of c.args.at.now) c.holder_place-i.result
-    c.requires.node c.in-Inner.is c.holder_place-i.ensures
-
-pub returns-in_err-child-in-Inner-clause-cause : goal.returns-in_err-child-in-Inner-clause-cause
-returns-in_err-child-in-Inner-clause-cause g t c =
-    let fault = c.in_err-child-in-Inner.field-0.0 in
+pub returns-in_err-visit-clause-cause : goal.returns-in_err-visit-clause-cause
+returns-in_err-visit-clause-cause g t c =
+    let fault = c.in_err-visit.field-0.0 in
     let told = g.S.Pages.pages c.args.space.now in
     let old = g.S.Counted.faults c.args.space.now in
-    let new = g.S.Counted.faults c.read_node.new.pages in
+    let new = g.S.Counted.faults c.visit.new.pages in
     let p = err_from_is_err_and c.from_residual.result c.from_residual.ensures.1 in
-    let whole = edit_cause_read {T = Bool} told c.args.node.now c.in-Inner.inner c.holder_place-i.result c.child-place.result old new fault
-    c.in-Inner.is c.child-place.ensures
-    (subst (λ (r : Result Node Fault). HasFaultCause old new r) c.in_err-child-in-Inner.was c.read_node.ensures.cause)
-    c.in_err-child-in-Inner.ensures.damage in
+    let whole = pass_cause_read {T = Bool} told (node_in c.args.page.now) (inner_in c.args.page.now) c.holder_place_in-i.result c.child_below-place.result old new fault
+    (inner_there c.args.page.now c.read.result c.read.ensures.value c.if-read-eq-LEAF.false) c.child_below-place.ensures
+    (subst (λ (r : Result (Unit {0}) Fault). HasFaultCause old new r) c.in_err-visit.was c.visit.ensures.cause)
+    c.in_err-visit.ensures.damage in
     rw (p.1, p.2) whole
 
 pub change_in-requires : goal.change_in-requires
 change_in-requires g t c κs within =
-    let smaller : level_of c.in_ok-child-in-Inner.child < level_of c.args.node.now =
-    child_level_lower c.args.node.now c.in_ok-child-in-Inner.child c.in-Inner.inner c.holder_place-i.result c.child-place.result
-    c.in-Inner.is c.child-place.ensures c.in_ok-child-in-Inner.ensures.fits.level in
+    let smaller : level_of (node_in c.visit.new.page) < level_of (node_in c.args.page.now) =
+    child_level_lower (node_in c.args.page.now) (node_in c.visit.new.page) (inner_in c.args.page.now) c.holder_place_in-i.result c.child_below-place.result
+    (inner_there c.args.page.now c.read.result c.read.ensures.value c.if-read-eq-LEAF.false) c.child_below-place.ensures (c.in_ok-visit.ensures.visits.meets Level) in
     search rules
 
-pub returns-in_err-changed-in-Inner-clause-cause :
-    goal.returns-in_err-changed-in-Inner-clause-cause
-returns-in_err-changed-in-Inner-clause-cause g t c =
-    let fault = c.in_err-changed-in-Inner.field-0.0 in
+pub returns-in_err-changed-clause-cause : goal.returns-in_err-changed-clause-cause
+returns-in_err-changed-clause-cause g t c =
+    let fault = c.in_err-changed.field-0.0 in
     let told = g.S.Pages.pages c.args.space.now in
-    let now = g.S.Pages.pages c.read_node.new.pages in
+    let now = g.S.Pages.pages c.visit.new.pages in
     let old = g.S.Counted.faults c.args.space.now in
-    let mid = g.S.Counted.faults c.read_node.new.pages in
+    let mid = g.S.Counted.faults c.visit.new.pages in
     let new = g.S.Counted.faults c.change_in.new.space in
-    let p = err_from_is_err_and c.from_residual-in_err-changed-in-Inner.result c.from_residual-in_err-changed-in-Inner.ensures.1 in
-    let whole = edit_cause_below told now c.args.node.now c.in_ok-child-in-Inner.child c.in-Inner.inner c.holder_place-i.result
-    c.child-place.result old mid new fault c.in-Inner.is c.child-place.ensures
-    c.read_node.ensures.same.pages c.read_node.ensures.cause.never_falls c.in_ok-child-in-Inner.ensures.ok
-    (subst (λ (r : Result Bool Fault). HasEditCause now c.in_ok-child-in-Inner.child mid new r)
-    c.in_err-changed-in-Inner.was c.change_in.ensures.cause) in
+    let p = err_from_is_err_and c.from_residual-in_err-changed.result c.from_residual-in_err-changed.ensures.1 in
+    let whole = pass_cause_below told now (node_in c.args.page.now) (node_in c.visit.new.page) (inner_in c.args.page.now) c.holder_place_in-i.result
+    c.child_below-place.result old mid new fault (inner_there c.args.page.now c.read.result c.read.ensures.value c.if-read-eq-LEAF.false) c.child_below-place.ensures
+    c.visit.ensures.same.pages c.visit.ensures.cause.never_falls c.in_ok-visit.ensures.visits.there
+    (subst (λ (r : Result Bool Fault). HasPassCause now (node_in c.visit.new.page) mid new r)
+    c.in_err-changed.was c.change_in.ensures.cause) in
     rw (p.1, p.2) whole
 
-pub set_mirror-requires : goal.set_mirror-requires
-set_mirror-requires g t c = place_within c.args.node.now c.in-Inner.inner (key_of c.args.at.now) c.holder_place-i.result
-    c.requires.node c.in-Inner.is c.holder_place-i.ensures
+pub update_page-requires-clause-at : goal.update_page-requires-clause-at
+update_page-requires-clause-at g t c = child_offset (node_in c.args.page.now) (inner_in c.args.page.now) c.holder_place_in-i.result c.child_below-place.result
+    (page_shaped c.args.page.now c.requires.node) (inner_there c.args.page.now c.read.result c.read.ensures.value c.if-read-eq-LEAF.false) c.child_below-place.ensures
 
-pub returns-after-there-clause-done : goal.returns-after-there-clause-done
-returns-after-there-clause-done g t c =
-    record {
-      works = let told = g.S.Pages.pages c.args.space.now in
-          elim c.if-there.branch [
-            | then-there w ↦ leaf_works (key_of c.args.at.now) c.args.change c.args.node.now c.if-there.node c.in-Leaf.leaf
-                w.change_at.new.leaf c.leaf_place-place.result told c.requires.may c.in-Leaf.is w.node-is c.leaf_place-place.ensures
-                w.change_at.ensures.mirror w.change_at.ensures.items
-            | else-there w ↦ leaf_without (key_of c.args.at.now) c.args.change c.args.node.now c.if-there.node
-                c.in-Leaf.leaf told c.in-Leaf.is (sym c.has_element-there.ensures.value ∙ w.if-there.false)
-          ];
-      shape = let sound = subst (λ (n : Node). IsNode n) c.in-Leaf.is c.requires.node in
-          elim c.if-there.branch [
-            | then-there w ↦ rw w.node-is
-                (element_shaped (key_of c.args.at.now) c.args.change c.in-Leaf.leaf w.change_at.new.leaf c.leaf_place-place.result
-                c.requires.may sound (sym c.has_element-there.ensures.value ∙ w.if-there.true) c.leaf_place-place.ensures w.change_at.ensures.items)
-            | else-there w ↦ rw w.node-is (node_shaped (leaf_node c.in-Leaf.leaf) sound)
-          ];
-      told = refl;
-      same = λ no. elim c.if-there.branch [
-        | then-there w ↦ absurd (true≢false (sym w.if-there.true ∙ no))
-        | else-there w ↦ w.node-is ∙ sym c.in-Leaf.is
-      ];
-    }
-
-pub returns-in_ok-update_node-in-Inner-clause-done : goal.returns-in_ok-update_node-in-Inner-clause-done
-returns-in_ok-update_node-in-Inner-clause-done g t c =
-    record {
-      works = let key = key_of c.args.at.now in
-          inner_works (with_change key c.args.change) key (marking_of c.args.change) (λ o. IsSome o)
-          (changed_local key (change_of c.args.change)) c.in-Inner.inner c.set_mirror.new.inner
-          c.holder_place-i.result c.child-place.result c.in_ok-child-in-Inner.child c.change_in.new.node c.mirror.result c.in_ok-changed-in-Inner.changed
-          c.in_ok-changed-in-Inner.ensures.done.same c.args.node.now
-          (g.S.Pages.pages c.args.space.now) (g.S.Pages.pages c.read_node.new.pages) (g.S.Pages.pages c.change_in.new.space)
-          (g.S.Pages.pages c.update_node.new.space)
-          c.in-Inner.is (λ order. c.holder_place-i.ensures) c.child-place.ensures c.read_node.ensures.same.pages
-          (IfSome_then (g.S.Pages.pages c.args.space.now) c.in_ok-child-in-Inner.ensures.ok (λ map here. here.spelled))
-          c.in_ok-changed-in-Inner.ensures.done.works c.in_ok-update_node-in-Inner.ensures.ok
-          c.set_mirror.ensures.level c.set_mirror.ensures.mirror c.mirror.ensures c.set_mirror.ensures.items c.set_mirror.ensures.right;
-      shape = mirror_shaped c.in-Inner.inner c.set_mirror.new.inner c.holder_place-i.result c.mirror.result
-          (subst (λ (n : Node). IsShaped n) c.in-Inner.is (node_shaped c.args.node.now c.requires.node))
-          c.set_mirror.ensures.level c.set_mirror.ensures.items c.set_mirror.ensures.right;
-      told = both_alike (g.S.Pages.pages c.change_in.new.space) (g.S.Pages.pages c.update_node.new.space)
-          (IsUpdated c.in_ok-changed-in-Inner.changed c.child-place.result.at c.change_in.new.node) c.in_ok-update_node-in-Inner.ensures.ok
-          ∙ c.in_ok-changed-in-Inner.ensures.done.told ∙ ap (λ (o : Option PageMap). is_some o) c.read_node.ensures.same.pages;
-      same = λ no. ap inner_node (c.set_mirror.ensures.same no) ∙ sym c.in-Inner.is;
-    }
-
-pub update_node-requires-clause-at : goal.update_node-requires-clause-at
-update_node-requires-clause-at g t c = child_offset c.args.node.now c.in-Inner.inner c.holder_place-i.result c.child-place.result
-    (node_shaped c.args.node.now c.requires.node) c.in-Inner.is c.child-place.ensures
-
-pub returns-in_err-update_node-in-Inner-clause-cause : goal.returns-in_err-update_node-in-Inner-clause-cause
-returns-in_err-update_node-in-Inner-clause-cause g t c =
+pub returns-in_err-update_page-clause-cause : goal.returns-in_err-update_page-clause-cause
+returns-in_err-update_page-clause-cause g t c =
     let told = g.S.Pages.pages c.args.space.now in
     let mid = g.S.Pages.pages c.change_in.new.space in
     let old = g.S.Counted.faults c.args.space.now in
     let middle = g.S.Counted.faults c.change_in.new.space in
-    let new = g.S.Counted.faults c.update_node.new.space in
-    let p = err_from_is_err_and c.from_residual-in_err-update_node-in-Inner.result c.from_residual-in_err-update_node-in-Inner.ensures.1 in
-    let whole = edit_cause_write {T = Bool} told mid c.args.node.now old middle new c.in_err-update_node-in-Inner.field-0.0
-    (c.in_ok-changed-in-Inner.ensures.done.told ∙ ap (λ (o : Option PageMap). is_some o) c.read_node.ensures.same.pages)
-    (omega (arith, c.read_node.ensures.cause.never_falls, c.change_in.ensures.cause.counted.never_falls))
-    (subst (λ (r : Result (Unit {0}) Fault). HasStoreCause mid middle new r) c.in_err-update_node-in-Inner.was c.update_node.ensures.cause) in
+    let new = g.S.Counted.faults c.update_page.new.space in
+    let p = err_from_is_err_and c.from_residual-in_err-update_page.result c.from_residual-in_err-update_page.ensures.1 in
+    let whole = pass_cause_write {T = Bool} told mid (node_in c.args.page.now) old middle new c.in_err-update_page.field-0.0
+    (c.in_ok-changed.ensures.done.told ∙ ap (λ (o : Option PageMap). is_some o) c.visit.ensures.same.pages)
+    (omega (arith, c.visit.ensures.cause.never_falls, c.change_in.ensures.cause.counted.never_falls))
+    (subst (λ (r : Result (Unit {0}) Fault). HasStoreCause mid middle new r) c.in_err-update_page.was c.update_page.ensures.cause) in
     rw (p.1, p.2) whole
+
+pub visit-requires : goal.visit-requires
+visit-requires g t c = child_offset (node_in c.args.page.now) (inner_in c.args.page.now) c.holder_place_in-i.result c.child_below-place.result
+    (page_shaped c.args.page.now c.requires.node) (inner_there c.args.page.now c.read.result c.read.ensures.value c.if-read-eq-LEAF.false) c.child_below-place.ensures
+
+pub returns-then-read-eq-LEAF-clause-done : goal.returns-then-read-eq-LEAF-clause-done
+returns-then-read-eq-LEAF-clause-done g t c =
+    let key = key_of c.args.at.now in
+    let old = c.args.page.now in
+    let new = c.change_in_leaf.new.page in
+    let told = g.S.Pages.pages c.args.space.now in
+    let did = c.change_in_leaf.ensures in
+    let is = leaf_there old c.read.result c.read.ensures.value c.if-read-eq-LEAF.true in
+    let now = leaf_there new (head_in new) refl did.held.kind in
+    record {
+      works = leaf_changes key c.args.change c.change_in_leaf.result old new told c.requires.may is now did;
+      holds = did.held.holds;
+      told = refl;
+      same = did.same;
+    }
+
+pub returns-clause-done : goal.returns-clause-done
+returns-clause-done g t c =
+    let key = key_of c.args.at.now in
+    let old = c.args.page.now in
+    let new = c.set_mirror.new.page in
+    let before : Node = node_in c.visit.new.page in
+    let after : Node = node_in c.change_in.new.page in
+    let told = g.S.Pages.pages c.args.space.now in
+    let set = c.set_mirror.ensures in
+    let works = inner_works (with_change key c.args.change) key (marking_of c.args.change) (λ o. IsSome o)
+    (changed_local key (change_of c.args.change)) (inner_in old) (inner_in new)
+    c.holder_place_in-i.result c.child_below-place.result before after c.mirror_in.result c.in_ok-changed.changed
+    (λ no. ap node_in (c.in_ok-changed.ensures.done.same no)) (node_in old)
+    told (g.S.Pages.pages c.visit.new.pages) (g.S.Pages.pages c.change_in.new.space) (g.S.Pages.pages c.update_page.new.space)
+    (inner_there old c.read.result c.read.ensures.value c.if-read-eq-LEAF.false) c.holder_place_in-i.ensures.ordered c.child_below-place.ensures
+    c.visit.ensures.same.pages (IfSome_then told c.in_ok-visit.ensures.visits.there (λ map here. here.spelled))
+    c.in_ok-changed.ensures.done.works c.in_ok-update_page.ensures.ok set.level set.mirror c.mirror_in.ensures set.items set.right in
+    record {
+      works = subst (λ (n : Node). Works (with_change key c.args.change) key (marking_of c.args.change) (λ o. IsSome o) told
+          (g.S.Pages.pages c.update_page.new.space) (node_in old) n) (sym (inner_here new set.held)) works;
+      holds = set.held.holds;
+      told = both_alike (g.S.Pages.pages c.change_in.new.space) (g.S.Pages.pages c.update_page.new.space)
+          (IsUpdated c.in_ok-changed.changed c.child_below-place.result.at after) c.in_ok-update_page.ensures.ok
+          ∙ c.in_ok-changed.ensures.done.told ∙ ap (λ (o : Option PageMap). is_some o) c.visit.ensures.same.pages;
+      same = set.same;
+    }

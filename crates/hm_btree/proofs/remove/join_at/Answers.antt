@@ -20,9 +20,9 @@ drop_node-requires g c =
     there_written (g.S.Pages.pages c.args.space.now) (g.S.Pages.pages c.write_node.new.space)
     (slice_index_or c.deref.result.now c.args.i c.index-deref-i.result).child (slice_index_or c.deref-2.result.now
     (c.args.i + 1) c.index-deref-i-2.result).child c.join-upper.new.left
-    (second_page c.args.inner.now c.set_mirror.new.inner c.args.i c.mirror.result c.args.left c.args.right c.join-upper.new.left
+    (second_page c.args.inner.now c.give_mirror.new.inner c.args.i c.mirror.result c.args.left c.args.right c.join-upper.new.left
     c.index-deref-i.result c.index-deref-i-2.result c.deref.result.now c.deref-2.result.now c.deref.ensures.0
-    c.set_mirror.ensures.level c.set_mirror.ensures.mirror c.set_mirror.ensures.items c.set_mirror.ensures.right c.mirror.ensures
+    c.give_mirror.ensures.level c.give_mirror.ensures.mirror c.give_mirror.ensures.items c.give_mirror.ensures.right c.mirror.ensures
     c.deref-2.ensures.0 (g.S.Pages.pages c.args.space.now) c.requires.pair.within c.requires.told)
     c.in_ok-write_node.ensures.ok
 
@@ -49,42 +49,42 @@ returns-clause-done g c =
       joined = elim c.match-upper.branch [
         | in-None+in_ok-drop_node-in-None w ↦
             rw w.space-is (rw w.inner-is
-            (joined_one c.args.inner.now c.set_mirror.new.inner c.args.i c.mirror.result c.args.left c.args.right
+            (joined_one c.args.inner.now c.give_mirror.new.inner c.args.i c.mirror.result c.args.left c.args.right
             c.join-upper.new.left c.index-deref-i.result c.index-deref-i-2.result c.deref.result.now c.deref-2.result.now c.deref.ensures.0
-            c.set_mirror.ensures.level c.set_mirror.ensures.mirror c.set_mirror.ensures.items c.set_mirror.ensures.right c.mirror.ensures c.deref-2.ensures.0
+            c.give_mirror.ensures.level c.give_mirror.ensures.mirror c.give_mirror.ensures.items c.give_mirror.ensures.right c.mirror.ensures c.deref-2.ensures.0
             w.remove_child.new.inner (g.S.Pages.pages c.args.space.now) (g.S.Pages.pages c.write_node.new.space)
             (g.S.Pages.pages w.drop_node.new.self) w.in-None.ensures c.in_ok-write_node.ensures.ok
             w.in_ok-drop_node-in-None.ensures.ok w.remove_child.ensures))
         | in-Some+in_ok-write_node-in-Some w ↦
             rw w.space-is (rw w.inner-is
-            (joined_two c.args.inner.now c.set_mirror.new.inner c.args.i c.mirror.result c.args.left c.args.right
+            (joined_two c.args.inner.now c.give_mirror.new.inner c.args.i c.mirror.result c.args.left c.args.right
             c.join-upper.new.left c.index-deref-i.result c.index-deref-i-2.result c.deref.result.now c.deref-2.result.now c.deref.ensures.0
-            c.set_mirror.ensures.level c.set_mirror.ensures.mirror c.set_mirror.ensures.items c.set_mirror.ensures.right c.mirror.ensures c.deref-2.ensures.0
-            w.set_mirror-in-Some.new.inner w.set_left.new.inner w.mirror-in-Some.result w.in-Some.upper
+            c.give_mirror.ensures.level c.give_mirror.ensures.mirror c.give_mirror.ensures.items c.give_mirror.ensures.right c.mirror.ensures c.deref-2.ensures.0
+            w.give_mirror-in-Some.new.inner w.set_left.new.inner w.mirror-in-Some.result w.in-Some.upper
             (g.S.Pages.pages c.args.space.now) (g.S.Pages.pages c.write_node.new.space) (g.S.Pages.pages w.write_node-in-Some.new.space)
             w.in-Some.ensures c.in_ok-write_node.ensures.ok w.in_ok-write_node-in-Some.ensures.ok w.mirror-in-Some.ensures
-            w.set_mirror-in-Some.ensures.level w.set_mirror-in-Some.ensures.mirror w.set_mirror-in-Some.ensures.items w.set_mirror-in-Some.ensures.right
+            w.give_mirror-in-Some.ensures.level w.give_mirror-in-Some.ensures.mirror w.give_mirror-in-Some.ensures.items w.give_mirror-in-Some.ensures.right
             w.set_left.ensures.level w.set_left.ensures.mirror w.set_left.ensures.items w.set_left.ensures.right))
       ];
-      shape = let shape = mirror_shaped c.args.inner.now c.set_mirror.new.inner c.args.i c.mirror.result c.requires.pair.shape
-          c.set_mirror.ensures.level c.set_mirror.ensures.items c.set_mirror.ensures.right in
-          let long = count_kept (with_mirror c.mirror.result) c.args.inner.now c.set_mirror.new.inner c.args.i c.set_mirror.ensures.items in
+      shape = let shape = mirror_shaped c.args.inner.now c.give_mirror.new.inner c.args.i c.mirror.result c.requires.pair.shape
+          c.give_mirror.ensures.level c.give_mirror.ensures.items c.give_mirror.ensures.right in
+          let long = count_kept (with_mirror c.mirror.result) c.args.inner.now c.give_mirror.new.inner c.args.i c.give_mirror.ensures.items in
           elim c.match-upper.branch [
             | in-None+in_ok-drop_node-in-None w ↦
                 rw w.inner-is (record {
-                  shape = removed_child_shaped c.set_mirror.new.inner w.remove_child.new.inner (c.args.i + 1)
+                  shape = removed_child_shaped c.give_mirror.new.inner w.remove_child.new.inner (c.args.i + 1)
                       (omega (arith, long, c.requires.pair.within)) (omega (arith, long, c.requires.pair.within)) shape w.remove_child.ensures;
-                  level = ap (λ (n : Inner). n.level) w.remove_child.ensures ∙ c.set_mirror.ensures.level;
+                  level = ap (λ (n : Inner). n.level) w.remove_child.ensures ∙ c.give_mirror.ensures.level;
                 })
             | in-Some+in_ok-write_node-in-Some w ↦
                 let upper = (joins_shaped c.args.left c.args.right c.join-upper.new.left (Some w.in-Some.upper) c.requires.pair.left_fits.0
                 c.requires.pair.right_fits.0 w.in-Some.ensures).above in
-                let next = mirror_shaped c.set_mirror.new.inner w.set_mirror-in-Some.new.inner (c.args.i + 1) w.mirror-in-Some.result
-                shape w.set_mirror-in-Some.ensures.level w.set_mirror-in-Some.ensures.items w.set_mirror-in-Some.ensures.right in
+                let next = mirror_shaped c.give_mirror.new.inner w.give_mirror-in-Some.new.inner (c.args.i + 1) w.mirror-in-Some.result
+                shape w.give_mirror-in-Some.ensures.level w.give_mirror-in-Some.ensures.items w.give_mirror-in-Some.ensures.right in
                 rw w.inner-is (record {
-                  shape = left_shaped w.set_mirror-in-Some.new.inner w.set_left.new.inner (c.args.i + 1) w.in-Some.upper.left upper.left
+                  shape = left_shaped w.give_mirror-in-Some.new.inner w.set_left.new.inner (c.args.i + 1) w.in-Some.upper.left upper.left
                       next w.set_left.ensures.level w.set_left.ensures.items w.set_left.ensures.right;
-                  level = w.set_left.ensures.level ∙ w.set_mirror-in-Some.ensures.level ∙ c.set_mirror.ensures.level;
+                  level = w.set_left.ensures.level ∙ w.give_mirror-in-Some.ensures.level ∙ c.give_mirror.ensures.level;
                 })
           ];
       kept = let kept = g.met.S.NodeSpace.rests c.args.space.now c.write_node.new.space c.write_node.ensures.rest in

@@ -4,7 +4,7 @@ use Rattle.hm_fields.proofs.FieldLemmas.{get_put_apart, get_put_apart_two}
 use Rattle.hm_node.specs.Head.{head_in}
 use Rattle.hm_node.specs.Places.{place}
 use Rattle.hm_node.specs.declared.head.Head.{Head}
-use Rattle.hm_node.proofs.EditLemmas.{inner_bytes, mirror_set}
+use Rattle.hm_node.proofs.InnerEditLemmas.{inner_bytes, mirror_set}
 use Rattle.hm_node.proofs.edit.set_mirror.Goals as goal
 
 pub place-requires : goal.place-requires

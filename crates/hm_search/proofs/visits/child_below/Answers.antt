@@ -1,7 +1,7 @@
 use Rattle.std.proofs.Common.{ℕ, ◌≤◌, ap, subst, sym}
 use Rattle.hm_node.specs.Inner.{AreChildPlaces}
 use Rattle.hm_node.specs.declared.head.Head.{Head}
-use Rattle.hm_node.proofs.EditLemmas.{inner_bytes}
+use Rattle.hm_node.proofs.InnerEditLemmas.{inner_bytes}
 use Rattle.hm_search.proofs.visits.child_below.Goals as goal
 
 pub child_at-requires-clause-few : goal.child_at-requires-clause-few

@@ -5,7 +5,7 @@ use Rattle.hm_node.specs.Base.{base_cmp, base_in}
 use Rattle.hm_node.specs.Inner.{first_children, inner_in}
 use Rattle.hm_node.specs.Places.{place}
 use Rattle.hm_node.specs.declared.head.Head.{Head}
-use Rattle.hm_node.proofs.EditLemmas.{inner_bytes}
+use Rattle.hm_node.proofs.InnerEditLemmas.{inner_bytes}
 use Rattle.hm_search.specs.Look.{is_by}
 use Rattle.hm_search.specs.Search.{holder_place}
 use Rattle.hm_search.proofs.ChildLemmas.{bounds}

@@ -7,9 +7,11 @@ use Rattle.hm_key.specs.Elements.{element_at}
 use Rattle.hm_key.specs.Key.{key_of}
 use Rattle.hm_btree.specs.Marking.{Writes}
 use Rattle.hm_btree.specs.Change.{with_change}
-use Rattle.hm_btree.specs.Tree.{HasTreeCause}
+use Rattle.hm_search.specs.Descent.{HasSearchCause}
+use Rattle.hm_search.specs.Tree.{root_place}
 use Rattle.hm_btree.specs.declared.change.Change.TheVariants.{Close}
-use Rattle.hm_btree.proofs.StoreLemmas.{store_changed, store_cause, told_kept, room_kept}
+use Rattle.hm_btree.proofs.ReadingLemmas.{cause_in_store}
+use Rattle.hm_btree.proofs.StoreLemmas.{store_changed, told_kept, room_kept}
 use Rattle.hm_btree.proofs.store.BTreeElementStore.set_delete.Goals as goal
 
 pub returns-in_err-change_element-clause-space : goal.returns-in_err-change_element-clause-space
@@ -28,9 +30,9 @@ returns-in_err-change_element-clause-cause g c =
     let old = g.S.Counted.faults c.args.self.now.space in
     let new = g.S.Counted.faults c.change_element.new.space in
     let fault = c.in_err-change_element.field-0.0 in
-    let cause = subst (λ (r : Result (Unit {0}) Fault). HasTreeCause told c.args.self.now.root old new r)
+    let cause = subst (λ (r : Result (Unit {0}) Fault). HasSearchCause told (root_place c.args.self.now.root) old new r)
     c.in_err-change_element.was c.change_element.ensures.cause in
-    let whole = store_cause c.args.self.now.intact told c.args.self.now.root old new (Err fault) c.args.self.now.sound cause in
+    let whole = cause_in_store c.args.self.now.intact told c.args.self.now.root old new (Err fault) c.args.self.now.sound cause in
     rw (p.1, p.2) whole
 
 pub invariant_of-self-2 : goal.invariant_of-self-2

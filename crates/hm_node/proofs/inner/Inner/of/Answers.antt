@@ -1,7 +1,7 @@
 use Rattle.std.proofs.Common.{ap, subst, sym, ◌∙◌, ℕ, ◌≤◌, arith}
 use Rattle.hm_node.specs.Inner.{AreChildPlaces}
 use Rattle.hm_node.specs.declared.head.Head.{Head}
-use Rattle.hm_node.proofs.EditLemmas.{inner_bytes}
+use Rattle.hm_node.proofs.InnerEditLemmas.{inner_bytes}
 use Rattle.hm_node.proofs.inner.Inner.of.Goals as goal
 
 pub read_children-requires-clause-count : goal.read_children-requires-clause-count
