@@ -11,12 +11,13 @@ use Rattle.hm_state.specs.Volume.{HoldsVolume}
 use Rattle.hm_stored.specs.Basis.{nodes}
 use Rattle.hm_stored.specs.Content.{DropsContent, HaveContent, KeepsContent, OpensContent, TellsContent}
 use Rattle.hm_stored.specs.Heap.{Heap, bytes_of, content_of, does_tell, extents_in, pages_of, places_in}
-use Rattle.hm_stored.specs.Known.{is_known}
+use Rattle.hm_stored.specs.Known.{AreKnown, is_known}
 use Rattle.hm_stored.specs.Log.{filled}
 use Rattle.hm_stored.specs.Standing.{Holds, HoldsBy}
-use Rattle.hm_tree_core.specs.Told.{ArePages, HoldsSame, HoldsTold, Tells, TellsHeld}
+use Rattle.hm_stored.specs.Told.{Tells as TellsAll, elements_told}
+use Rattle.hm_tree_core.specs.Told.{ArePages, HoldsSame, HoldsTold, OpensStore, Tells, TellsHeld}
 use Rattle.hm_tree_core.proofs.FitLemmas.{held_fit}
-use Rattle.hm_tree_core.proofs.KnownLemmas.{volume_known}
+use Rattle.hm_tree_core.proofs.KnownLemmas.{volume_each, volume_known}
 
 -- a space holds one list of elements
 held_once : (h : Heap) (root : ℕ) (es es' : List FullElement) → Holds h root es → Holds h root es' → es ≡ es'
@@ -54,6 +55,21 @@ module _ (h : Heap) (root last : ℕ) (volume : Volume) (holds : HoldsVolume h r
         let told : content_of old ≡ Some es = same ∙ (opened es there).content in
         subst (λ (n : ℕ). Holds new n es) current
         (subst (λ (o : Option (List FullElement)). IfSome o (λ l. Holds new old.roots.current l)) told drops)
+
+  -- a store was opened over the space
+  module _ (h' : Heap) (root' : ℕ) (opens : OpensStore last h root h' root') where
+    store_opened : (es : List FullElement) → Holds h root es → TellsAll h' root' es
+    store_opened es there = opens es there (subst (AreKnown last) (held_once h root holds.elements.0 es holds.elements.1 there)
+        (subst (λ (n : ℕ). AreKnown n holds.elements.0) (sym holds.last_is) (volume_each holds.elements.0 volume holds.elements.2)))
+
+    pub store_tells : TellsHeld (elements_told h' root') (extents_in h') h root
+    store_tells es there = (store_opened es there).lists
+
+    -- its call was dropped
+    pub store_dropped : (old new : Heap) (back : ℕ) → content_of old ≡ content_of h' → IfSome (content_of old) (Holds new back)
+        → HoldsSame h root new back
+    store_dropped old new back same held es there =
+        subst (λ (o : Option (List FullElement)). IfSome o (Holds new back)) (same ∙ (store_opened es there).begun) held
 
 -- a call was kept
 module _ (old new : Heap) (root : ℕ) (pages : ArePages new) (keeps : KeepsContent old new) (tree : HoldsTree (pages_of old) root) where

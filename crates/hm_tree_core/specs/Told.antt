@@ -16,7 +16,9 @@ use Rattle.hm_model.specs.declared.entry.Entry.{Entry}
 use Rattle.hm_model.specs.declared.reply.Reply.{Reply}
 use Rattle.hm_model.specs.declared.reply.Reply.TheVariants.{Damaged, Media, NoMemory, Space}
 use Rattle.hm_stored.specs.Heap.{Heap}
+use Rattle.hm_stored.specs.Known.{AreKnown}
 use Rattle.hm_stored.specs.Standing.{Holds}
+use Rattle.hm_stored.specs.Told.{Tells as TellsAll}
 
 -- a store tells a balanced content with these elements
 abbrev pub Tells : Option (List Element) → Option (List Extent) → List FullElement → Type 0
@@ -25,6 +27,10 @@ Tells es xs held = IsSomeAnd (content_of es xs) (λ was. IsBalanced was.0 was.1 
 -- it tells the elements that a space holds
 abbrev pub TellsHeld : Option (List Element) → Option (List Extent) → Heap → ℕ → Type 0
 TellsHeld es xs h root = (held : List FullElement) → Holds h root held → Tells es xs held
+
+-- a store that was opened over a space tells, by another space and root, what that one holds, where the ids are known
+abbrev pub OpensStore : ℕ → Heap → ℕ → Heap → ℕ → Type 0
+OpensStore last h root h' root' = (es : List FullElement) → Holds h root es → AreKnown last es → TellsAll h' root' es
 
 -- a space holds the elements that a store tells, with ids that fit 8 bytes
 pub record HoldsFitting (h : Heap) (root : ℕ) (es : List FullElement) : Type 0 where

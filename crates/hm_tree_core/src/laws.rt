@@ -1,6 +1,6 @@
 // What a core that answers by a store over a space rests on: each function states one law, and does nothing.
 ghost use Rattle.std.specs.Prelude.{◌≡◌, ℕ, ◌+◌, ◌^◌, ◌<◌, ◌≤◌, [], ◌∷◌, ◌++◌};
-ghost use Rattle.std.specs.Prelude.{IfErr, IsTrue, true, List, Option, Result, length};
+ghost use Rattle.std.specs.Prelude.{IfErr, IfSome, IsTrue, true, List, Option, Result, length};
 ghost use Rattle.hm_types.specs.Elements.{FullElement};
 ghost use Rattle.hm_types.specs.Space.{reserve_of};
 ghost use Rattle.hm_types.specs.declared.fault.Fault.{Fault};
@@ -23,12 +23,13 @@ ghost use Rattle.hm_model.specs.declared.entry.Entry.{Entry};
 ghost use Rattle.hm_image.specs.StandFor.{StandFor};
 ghost use Rattle.hm_stored.specs.Content.{DropsContent, KeepsContent, OpensContent};
 ghost use Rattle.hm_stored.specs.Heap.{Heap, content_of, extents_in, pages_of};
-ghost use Rattle.hm_stored.specs.Known.{is_known};
+ghost use Rattle.hm_stored.specs.Known.{AreKnown, is_known};
 ghost use Rattle.hm_stored.specs.Standing.{Holds};
+ghost use Rattle.hm_stored.specs.Told.{elements_told};
 ghost use Rattle.hm_tree_core.specs.Calls.{Fails, IsNextCall, Serves};
 ghost use Rattle.hm_tree_core.specs.History.{IsClear, IsLegalOver, setting_of};
 ghost use Rattle.hm_tree_core.specs.Ledger.{IsPaid};
-ghost use Rattle.hm_tree_core.specs.Told.{ArePages, HoldsSame, HoldsTold, TellsFailure, TellsHeld, TellsSpace, reply_to};
+ghost use Rattle.hm_tree_core.specs.Told.{ArePages, HoldsSame, HoldsTold, OpensStore, TellsFailure, TellsHeld, TellsSpace, reply_to};
 ghost use Rattle.hm_state.specs.Volume.{HoldsVolume};
 
 use hm_key::{ElementStore, Extents};
@@ -94,6 +95,21 @@ pub fn an_opened_space_tells_what_was_held()
         TellsHeld (told_elements true (pages_of h') root) (extents_in h') h root }
 {}
 
+/// The same of a store that was opened over the space: it tells what the space holds.
+pub fn an_opened_store_tells_what_was_held()
+    ensures { (h h' : Heap) (root root' last : ℕ) (volume : Volume) →
+        HoldsVolume h root last volume → OpensStore last h root h' root' →
+        TellsHeld (elements_told h' root') (extents_in h') h root }
+{}
+
+/// Once the call of that store was dropped, the space holds what it held before, whatever the call did.
+pub fn a_dropped_store_holds_what_was_held()
+    ensures { (h h' old new : Heap) (root root' back last : ℕ) (volume : Volume) →
+        HoldsVolume h root last volume → OpensStore last h root h' root' →
+        content_of old ≡ content_of h' → IfSome (content_of old) (Holds new back) →
+        HoldsSame h root new back }
+{}
+
 /// Once the call was kept, the space holds what its tree and its extents told, and the ids fit, since
 /// its pages are bytes.
 pub fn a_kept_space_holds_what_was_told()
@@ -132,7 +148,9 @@ pub fn ids_of_held_elements_fit()
 /// The ids of elements that stand for a volume are known, as a space asks it of what it tells: each
 /// pseudo file system is a slave, or all ids of its elements were drawn.
 pub fn ids_of_a_volume_are_known()
-    ensures { (es : List FullElement) (volume : Volume) → StandFor es volume →
+    ensures each { (es : List FullElement) (volume : Volume) → StandFor es volume →
+        AreKnown volume.last es }
+    ensures tested { (es : List FullElement) (volume : Volume) → StandFor es volume →
         IsTrue (is_known volume.last es) }
 {}
 
