@@ -101,13 +101,13 @@ module _ (lines : List Line) (history : List Entry) (line : Line) (later : (l : 
         ⊎_elim (λ a_old. ⊎_elim (λ b_old. h.in_order a b a_old b_old lower)
         (λ b_new. subst (λ (x : Entry). a.id.0 < x.id.0) (only_one e b b_new) (above a a_old)) (Contains-append_cases history (e ∷ []) b also))
         (λ a_new. absurd (last a lower a_new)) (Contains-append_cases history (e ∷ []) a has) where
-      last : (x : Entry) → x.line < b.line → Contains (e ∷ []) x → ⊥
-      last x low new =
-          let is = of.number in
-          let under : e.line < b.line = subst (λ (y : Entry). y.line < b.line) (sym (only_one e x new)) low in
-          ⊎_elim (λ b_old. (let before = earlier end h b b_old in omega (arith, is, under, before)))
-          (λ b_new. (let same : e.line < e.line = subst (λ (y : Entry). e.line < y.line) (sym (only_one e b b_new)) under in omega (arith, same)))
-          (Contains-append_cases history (e ∷ []) b also)
+          last : (x : Entry) → x.line < b.line → Contains (e ∷ []) x → ⊥
+          last x low new =
+              let is = of.number in
+              let under : e.line < b.line = subst (λ (y : Entry). y.line < b.line) (sym (only_one e x new)) low in
+              ⊎_elim (λ b_old. (let before = earlier end h b b_old in omega (arith, is, under, before)))
+              (λ b_new. (let same : e.line < e.line = subst (λ (y : Entry). e.line < y.line) (sym (only_one e b b_new)) under in omega (arith, same)))
+              (Contains-append_cases history (e ∷ []) b also)
 
     pub answers_more : (next : ℕ) → Answers next (lines ++ line ∷ []) after
     answers_more next = record {
