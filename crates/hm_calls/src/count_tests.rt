@@ -1,4 +1,4 @@
-// How many calls of a store the calls on names make.
+// How many calls of a store the calls on names and on file bytes make.
 ghost use Rattle.std.specs.Prelude.{IfOk};
 ghost use Rattle.hm_calls.specs.Tests.{IsReady};
 
@@ -108,5 +108,21 @@ fn a_listing_takes_a_few_searches_for_each_name(rt: HostRuntime) -> Result<(), F
     let hundred = counts_of_listing(rt.alloc(), 100)?;
     assert!(rt; none.searches <= 8);
     assert!(rt; hundred.searches <= 408);
+    Ok(())
+}
+
+#[test]
+fn file_bytes_take_a_few_searches_for_each_block(rt: HostRuntime) -> Result<(), Fail> {
+    let lines = ["touch /f", "fill /f 0 65536 61", "touch /g"];
+    for (line, searches, writes) in [
+        ("cat /f 0 16384", 12, 0),
+        ("write /f 0 61", 18, 3),
+        ("fill /f 0 65536 61", 30, 12),
+        ("rm /f", 40, 6),
+    ] {
+        let counts = counts_after(rt.alloc(), &lines, line)?;
+        assert!(rt; counts.searches <= searches, "{line}");
+        assert_eq!(rt; counts.writes, writes, "{line}");
+    }
     Ok(())
 }

@@ -1,24 +1,28 @@
-// Calls on names over a store that fails, and over damaged payloads.
+// Calls over a store that fails, and over damaged payloads.
 ghost use Rattle.std.specs.Prelude.{IfOk};
 ghost use Rattle.hm_calls.specs.Tests.{IsReady};
 
+use crate::lines::command_of;
 use crate::metered::Metered;
-use crate::testing::{FRESH, Item, Volume, ask, command_of, reply_to, volume_of};
+use crate::testing::{FRESH, Item, Volume, ask, reply_to, volume_of};
 use hm_dirs::Fnv;
-use hm_key::{HasElements, HasRoom, MemStore};
+use hm_key::{Base, Element, HasElements, HasRoom, MemStore};
 use hm_model::push_answer;
 use hm_records::{DIRECTORY, FILE};
 use hm_types::{BAD_PAYLOAD, Fault, GREATEST_ID, HOff};
 use std::alloc::Global;
 use std::test::Fail;
 
-// A directory `d` with a file `f` of two links, the other one `g`, and a softlink `l`.
-const LINES: [&str; 5] = [
+// A directory `d` with a file `f` of two links, the other one `g`, a softlink `l`, and a file `h` of four
+// blocks.
+const LINES: [&str; 7] = [
     "mkdir /d",
     "touch /d/f",
     "ln /d/f /g",
     "symlink t /l",
     "mkdir /e",
+    "touch /h",
+    "fill /h 0 60000 62",
 ];
 
 fn some_names(alloc: Global) -> Result<Volume<MemStore>, Fail>
@@ -99,7 +103,15 @@ fn each_call_of_a_store_that_fails_is_told(rt: HostRuntime) -> Result<(), Fail> 
         ("rm /l", "ok"),
         ("rmdir /e", "ok"),
         ("rmdir /d", "not empty"),
-        ("ls /", "ok 4 d:d d:e f:g l:l"),
+        ("write /h 20000 6161", "ok"),
+        ("fill /h 100 60000 61", "ok"),
+        ("truncate /h 20000", "ok"),
+        ("truncate /h 60000", "ok"),
+        ("write /g 15728640 61", "too big"),
+        ("rm /h", "ok"),
+        ("mv /g /h", "ok"),
+        ("cat /h 59999 9", "ok 1 62"),
+        ("ls /", "ok 5 d:d d:e f:g f:h l:l"),
         ("stat /d/f", "ok f 0x0000000000000004 0 2"),
         ("readlink /l", "ok t"),
     ] {
@@ -108,6 +120,63 @@ fn each_call_of_a_store_that_fails_is_told(rt: HostRuntime) -> Result<(), Fail> 
             assert_eq!(rt; other, None, "{line}");
             assert!(rt; calls > 0, "{line}");
         }
+    }
+    Ok(())
+}
+
+// Whether an element of before is there still, with its bytes: it may be closed by an id.
+fn is_kept(old: &Element, after: &[Element], id: u64) -> bool {
+    after.iter().any(|e| {
+        let is_closed = e.base.delete == id && old.base.delete == 0;
+        let base = Base {
+            delete: old.base.delete,
+            ..e.base
+        };
+        let same = Element { base, ..*e };
+        same == *old && (is_closed || e.base.delete == old.base.delete)
+    })
+}
+
+// Whether a store lost nothing by a call of this id that failed, and has nothing new but by that.
+fn has_lost_nothing(before: &[Element], after: &[Element], id: u64) -> bool {
+    before.iter().all(|old| is_kept(old, after, id))
+        && after.iter().filter(|e| e.base.create != id).count() == before.len()
+}
+
+// Whether a line that writes loses nothing where the medium fails after some calls of the store; or
+// nothing, where it does not fail.
+fn loses_nothing(alloc: Global, line: &str, left: u64) -> Result<Option<bool>, Fail> {
+    let volume = some_names(alloc)?;
+    let before = Vec::from_slice(alloc, volume.store.elements())?;
+    let id = volume.next;
+    let mut metered = Volume {
+        store: Metered::new(volume.store, left, true),
+        next: id,
+    };
+    if metered.next == 0 || metered.next > GREATEST_ID {
+        return Err("no id")?;
+    }
+    let command = command_of(alloc, line)?;
+    if reply_to(alloc, &mut metered, &Fnv, &command).is_ok() {
+        return Ok(None);
+    }
+    let after = metered.store.store.elements();
+    Ok(Some(has_lost_nothing(&before, after, id)))
+}
+
+#[test]
+fn a_write_of_four_blocks_that_fails_loses_nothing(rt: HostRuntime) -> Result<(), Fail> {
+    for line in ["fill /h 100 60000 61", "truncate /h 100", "rm /h"] {
+        let mut faults: u64 = 0;
+        for left in 0..1_000 {
+            let Some(is_whole) = loses_nothing(rt.alloc(), line, left)? else {
+                break;
+            };
+            assert!(rt; is_whole, "{line}, after {left} calls");
+            faults = faults.saturating_add(1);
+        }
+        assert!(rt; faults > 20, "{line}");
+        assert!(rt; faults < 1_000, "{line}");
     }
     Ok(())
 }

@@ -1,5 +1,5 @@
-//! The calls on names, and the one that reads a file: what each answers, and what it does to the
-//! elements of a store.
+//! The calls on names and on the bytes of files: what each answers, and what it does to the elements
+//! of a store.
 #![tactic(auto)]
 
 #[cfg(test)]
@@ -18,6 +18,8 @@ mod files;
 #[cfg(test)]
 mod hash_tests;
 mod kinds;
+#[cfg(test)]
+mod lines;
 mod links;
 mod looks;
 mod make;

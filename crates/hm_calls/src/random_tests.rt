@@ -1,6 +1,7 @@
 // Scripts of calls on names beside the plain program of the model, by numbers drawn at random.
+use crate::lines::command_of;
 use crate::past_trees::PastTrees;
-use crate::testing::{FRESH, command_of, reply_to, volume_of};
+use crate::testing::{FRESH, reply_to, volume_of};
 use hm_dirs::Fnv;
 use hm_model::next_number;
 use hm_types::GREATEST_ID;

@@ -1,4 +1,4 @@
-// Refusals of calls on names, each where it comes, and which one where two could.
+// Refusals of calls, each where it comes, and which one where two could.
 use crate::testing::{
     Item, fill_meta_zone, first_other, first_other_of, forge_all, nothing, opened,
 };
@@ -132,6 +132,9 @@ fn the_past_and_slaves_are_read_only(rt: HostRuntime) -> Result<(), Fail> {
         ("mv /s/g /f", "read only"),
         ("rm /s/g", "read only"),
         ("rmdir /s/g", "read only"),
+        ("write /s/g 15728640 61", "read only"),
+        ("fill /s 0 1 61", "read only"),
+        ("truncate /s/g 0", "read only"),
         ("ls /s", "ok 1 f:g"),
     ];
     let other = first_other(rt.alloc(), &Fnv, &ALL, &rows)?;
@@ -159,6 +162,9 @@ fn walks_end_before_own_checks_begin(rt: HostRuntime) -> Result<(), Fail> {
         ("rm /f/x", "not a directory"),
         ("rmdir /none", "not found"),
         ("rmdir /f/x", "not a directory"),
+        ("write /n 0 61", "not found"),
+        ("fill /f/x 15728640 1 61", "not a directory"),
+        ("truncate /s/none 0", "not found"),
         ("ls /none", "not found"),
         ("ls /n", "not found"),
         ("ls /l/x", "not a directory"),
@@ -198,6 +204,10 @@ fn own_checks_come_in_their_order(rt: HostRuntime) -> Result<(), Fail> {
         ("rmdir /f", "not a directory"),
         ("rmdir /s", "not a directory"),
         ("rmdir /d", "not empty"),
+        ("write /d 15728640 61", "is a directory"),
+        ("fill /m 0 1 61", "is a directory"),
+        ("truncate /l 15728641", "not a file"),
+        ("write /m/h 15728640 61", "too big"),
         ("ls /f", "not a directory"),
         ("ls /l", "not a directory"),
         ("readlink /f", "not a link"),
@@ -293,6 +303,11 @@ fn space_is_checked_last(rt: HostRuntime) -> Result<(), Fail> {
         ("ln /a /b", "exists"),
         ("mv /a /x", "no space 0 1"),
         ("mv /a /b", "ok"),
+        ("write /a 0 61", "no space 0 1"),
+        ("fill /a 0 1 61", "no space 0 1"),
+        ("truncate /a 1", "no space 0 1"),
+        ("truncate /a 0", "ok"),
+        ("write /a 15728640 61", "too big"),
         ("rm /a", "no space 0 1"),
         ("rmdir /d", "ok"),
         ("ls /", "ok 2 f:a f:b"),
@@ -300,11 +315,17 @@ fn space_is_checked_last(rt: HostRuntime) -> Result<(), Fail> {
     let held = [
         ("mkdir /x", "no space 4 1"),
         ("mv /a /x", "no space 4 1"),
+        ("write /a 0 61", "no space 4 1"),
         ("rm /a", "ok"),
         ("mkdir /x", "ok"),
         ("rm /b", "ok"),
     ];
-    let enough = [("mkdir /x", "ok"), ("touch /y", "ok"), ("mv /y /a", "ok")];
+    let enough = [
+        ("write /a 0 61", "ok"),
+        ("mkdir /x", "ok"),
+        ("touch /y", "ok"),
+        ("mv /y /a", "ok"),
+    ];
     for (free, rows) in [
         (0, without.as_slice()),
         (4, held.as_slice()),

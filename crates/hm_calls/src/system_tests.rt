@@ -6,7 +6,8 @@ ghost use Rattle.hm_calls.specs.Tests.{IsReady};
 
 mod systems;
 
-use crate::testing::{ByLength, Item, Volume, ask, command_of, first_other, volume_of};
+use crate::lines::command_of;
+use crate::testing::{ByLength, Item, Volume, ask, first_other, volume_of};
 use hm_key::{ElementStore, Extents, HasElements, HasRoom};
 use hm_model::{Reply, next_number, push_answer};
 use hm_records::DIRECTORY;

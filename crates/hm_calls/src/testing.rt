@@ -1,4 +1,4 @@
-// Stores that tests forge, and lines that are asked of them.
+// Stores that tests forge, and what is asked of them.
 ghost use Rattle.std.specs.Prelude.{◌≡◌, ◌≤◌, IfOk, OnOk};
 ghost use Rattle.hm_types.specs.declared.limits.TheConstants.{GREATEST_ID};
 ghost use Rattle.hm_model.specs.Forms.{IsInRange};
@@ -6,6 +6,7 @@ ghost use Rattle.hm_calls.specs.Commands.{IsOnTrees};
 ghost use Rattle.hm_calls.specs.Tests.{IsMade, IsReady};
 
 use crate::answer;
+use crate::lines::command_of;
 use hm_cursor::{add_version, entry_base, inode_base, record_base, target_base};
 use hm_dirs::NameHash;
 use hm_key::{
@@ -54,90 +55,6 @@ impl NameHash for ByLength {
         } else {
             1_099_511_627_776
         }
-    }
-}
-
-fn text(alloc: Global, word: &str) -> Result<Text, Fail>
-    ensures { IfOk result (λ text. text ≡ word.now) }
-{
-    Ok(Text::of(Vec::from_slice(alloc, word.as_bytes())?))
-}
-
-// The command of a line of one path word.
-fn command_of_path(alloc: Global, name: &str, word: &str) -> Result<Command, Fail>
-    ensures { IfOk result (λ command. IsOnTrees command × IsInRange command) }
-{
-    let path = text(alloc, word)?;
-    match name {
-        "mkdir" => Ok(Command::Mkdir { path }),
-        "touch" => Ok(Command::Touch { path }),
-        "snapshot" => Ok(Command::Snapshot { path }),
-        "rm" => Ok(Command::Rm { path }),
-        "rmdir" => Ok(Command::Rmdir { path }),
-        "ls" => Ok(Command::Ls { path }),
-        "stat" => Ok(Command::Stat { path }),
-        "readlink" => Ok(Command::Readlink { path }),
-        _ => Err("no command of one word")?,
-    }
-}
-
-// The number that a word spells.
-fn number(word: &str) -> Result<u64, Fail> {
-    match word.parse::<u64>() {
-        Ok(number) => Ok(number),
-        Err(_) => Err("no number")?,
-    }
-}
-
-// The command of a line that reads a file, by its words behind the path.
-fn command_of_cat(path: Text, words: &str) -> Result<Command, Fail>
-    ensures { IfOk result (λ command. IsOnTrees command × IsInRange command) }
-{
-    let Some((offset, count)) = words.split_once(' ') else {
-        return Err("no count")?;
-    };
-    let (offset, count) = (number(offset)?, number(count)?);
-    if count == 0 || count > 16_384 {
-        return Err("no count")?;
-    }
-    Ok(Command::Cat {
-        path,
-        offset,
-        count: count as u32,
-    })
-}
-
-/// The command of a line on names, or of one that reads a file.
-pub(crate) fn command_of(alloc: Global, line: &str) -> Result<Command, Fail>
-    ensures { IfOk result (λ command. IsOnTrees command × IsInRange command) }
-{
-    let Some((name, words)) = line.split_once(' ') else {
-        return Err("no word")?;
-    };
-    let Some((first, second)) = words.split_once(' ') else {
-        return command_of_path(alloc, name, words);
-    };
-    if name == "cat" {
-        return command_of_cat(text(alloc, first)?, second);
-    }
-    if first.is_empty() || first.len() > 1_023 {
-        return Err("no target")?;
-    }
-    let (first, second) = (text(alloc, first)?, text(alloc, second)?);
-    match name {
-        "symlink" => Ok(Command::Symlink {
-            target: first,
-            path: second,
-        }),
-        "ln" => Ok(Command::Ln {
-            old: first,
-            new: second,
-        }),
-        "mv" => Ok(Command::Mv {
-            old: first,
-            new: second,
-        }),
-        _ => Err("no command of two words")?,
     }
 }
 
@@ -368,7 +285,22 @@ pub(crate) fn opened(volume: Volume<MemStore>) -> Volume<MemStore>
     volume
 }
 
-/// A store with some elements, made by the ids from 1 on.
+/// A store with some elements, made by the ids from 1 on, of which as many big-blocks are free.
+pub(crate) fn volume_with<H: NameHash>(
+    alloc: Global,
+    hash: &H,
+    items: &[Item],
+    free: u32,
+) -> Result<Volume<MemStore>, Fail>
+    ensures { IfOk result (λ volume. IsReady (⟦<MemStore as HasElements>⟧.elements volume.store)
+        (⟦<MemStore as HasRoom>⟧.extents volume.store) volume.next) }
+{
+    let mut volume = nothing(alloc, free);
+    forge_all(alloc, &mut volume, hash, items)?;
+    Ok(opened(volume))
+}
+
+/// The same with no free big-block.
 pub(crate) fn volume_of<H: NameHash>(
     alloc: Global,
     hash: &H,
@@ -377,9 +309,7 @@ pub(crate) fn volume_of<H: NameHash>(
     ensures { IfOk result (λ volume. IsReady (⟦<MemStore as HasElements>⟧.elements volume.store)
         (⟦<MemStore as HasRoom>⟧.extents volume.store) volume.next) }
 {
-    let mut volume = nothing(alloc, 0);
-    forge_all(alloc, &mut volume, hash, items)?;
-    Ok(opened(volume))
+    volume_with(alloc, hash, items, 0)
 }
 
 /// A volume as it is made: PFS 0, and its root. The next id is 3.

@@ -1,6 +1,6 @@
 // The trees of two pseudo file systems, and the replies that calls are due on them.
+use crate::lines::command_of;
 use crate::past_trees::PastTrees;
-use crate::testing::command_of;
 use hm_model::Reply;
 use hm_records::{DIRECTORY, FILE, PFS_LINK, SOFTLINK};
 use hm_types::{Names, Obj, Text};
