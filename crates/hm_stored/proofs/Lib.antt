@@ -36,3 +36,4 @@ mod OpenedLemmas
 mod DroppedLemmas
 mod TreeCountLemmas
 mod KeptLemmas
+mod LookLemmas
