@@ -6,3 +6,4 @@ pub mod SameLemmas
 pub mod MountedLemmas
 pub mod WrittenLemmas
 pub mod StaysLemmas
+pub mod ApartLemmas

@@ -78,7 +78,7 @@ module _ (image : List ℕ) (header : Header) (sound : IsSoundBy image header) (
   free : (block : ℕ) → IsPool header.bigblocks block → (sound.entries block).bytes_free +ℤ pos (live_bytes named block) ≡ pos BIGBLOCK_BYTES
   free block pool = free_sum (sound.entries block).bytes_free (live_bytes named block) (sound.free_bytes block pool)
 
-  -- the entry in the current is the one in the image
+  -- the entry in the map is the one in the image
   entry_same : (block : ℕ) → IsPool header.bigblocks block → entry_of current block ≡ sound.entries block
   entry_same block pool =
       let below : block < layer2_blocks header.bigblocks * blocks_per_layer2 = omega (arith, pool.1) in

@@ -1,38 +1,24 @@
 -- What was written of a space stays where the freemap and all that its tree refers to does.
-use Rattle.std.proofs.Common.{◌≡◌, inl, inr, ℕ, ◌<◌, List, [], ◌∷◌, Option, Some, None, IsSome, sym, ap, subst, ◌∙◌, arith, is_some}
-use Rattle.std.proofs.Common.{eq-eqb, eqb-true, map, nat_eq}
+use Rattle.std.proofs.Common.{◌≡◌, inl, inr, ℕ, ◌<◌, List, ◌∷◌, Option, Some, None, IsSome, sym, ap, subst, ◌∙◌, arith, is_some}
+use Rattle.std.proofs.Common.{map}
 use Rattle.std.specs.Prelude.{IfSome}
 use Rattle.std.specs.List.{All, Contains}
-use Rattle.std.proofs.lemmas.Bool.{cond-true}
-use Rattle.std.proofs.lemmas.List.Elements.{All-contains, All-contains_itself, All-weaker, Contains-append_left, Contains-append_right}
+use Rattle.std.proofs.lemmas.List.Elements.{All-contains, All-contains_itself, All-weaker}
 use Rattle.hm_types.specs.Offset.{zone_of}
 use Rattle.hm_types.specs.declared.zone.TheConstants.{TREE_ZONE}
 use Rattle.hm_disk.specs.Crash.{Told}
 use Rattle.hm_fields.specs.Pages.{PageMap}
 use Rattle.hm_freemap.specs.Places.{page_of}
-use Rattle.hm_search.specs.Tree.{elements_of, height_of, node_at, reaches}
-use Rattle.hm_search.proofs.ReachLemmas.{either}
+use Rattle.hm_search.specs.Tree.{elements_of, height_of, node_at}
 use Rattle.hm_btree.specs.Tree.{IsTreeSpace}
-use Rattle.hm_image.specs.Image.{nodes_below, pages_of, references_from, to_node, to_payload}
+use Rattle.hm_image.specs.Image.{nodes_below, pages_of, to_node, to_payload}
 use Rattle.hm_image.specs.Same.{HasSameBytes, HasSameFreemap, HasSameTree}
-use Rattle.hm_image.proofs.ReferenceLemmas.{All-right, reached_is_referred}
+use Rattle.hm_image.proofs.ReferenceLemmas.{All-right}
 use Rattle.hm_image.proofs.SameLemmas.{page_same}
 use Rattle.hm_stored.specs.Basis.{nodes, refers}
 use Rattle.hm_stored.specs.Heap.{Heap}
 use Rattle.hm_state.specs.Written.{AreOfVolume, HasSamePayloads, IsWritten}
-use Rattle.hm_state.proofs.KeptLemmas.{nodes_keep, references_kept}
-
--- a page of the tree is referred to
-node_referred : (pages : PageMap) (root at : ℕ) → IsTreeSpace pages root → IsSome (pages at) → Contains (references_from pages root) (to_node at)
-node_referred pages root at tree there =
-    let node = node_at pages root in
-    let height = height_of node in
-    let payloads = map to_payload (elements_of pages root) in
-    Contains-append_left (to_node root ∷ nodes_below pages height node) payloads (to_node at)
-    (elim (either (nat_eq at root) (reaches pages height node at) (tree.whole at there)) [
-      | inl here ↦ (0, omega arith, ap to_node (sym (eqb-true at root here)))
-      | inr below ↦ Contains-append_right (to_node root ∷ []) (nodes_below pages height node) (to_node at) (reached_is_referred pages height node at below)
-    ])
+use Rattle.hm_state.proofs.KeptLemmas.{nodes_keep, page_referred, references_kept}
 
 module _ (h : Heap) (root : ℕ) (tree : IsTreeSpace (nodes h.pages.current) root) (only : AreOfVolume h) (old new : List ℕ)
     (freemap : HasSameFreemap old new h.bigblocks) (same : HasSameTree old new root) (written : IsWritten h root old) where
@@ -46,9 +32,8 @@ module _ (h : Heap) (root : ℕ) (tree : IsTreeSpace (nodes h.pages.current) roo
 
   node_same : (at : ℕ) → zone_of at ≡ TREE_ZONE → IsSome (current at) → pages_of new at ≡ pages_of old at
   node_same at zone there =
-      let node : nodes current at ≡ current at = cond-true (nat_eq (zone_of at) TREE_ZONE) (current at) None (eq-eqb (zone_of at) TREE_ZONE zone) in
-      let referred = node_referred (nodes current) root at tree (ap (λ (o : Option (List ℕ)). is_some o) node ∙ there) in
-      page_same old new at same.size (All-contains (HasSameBytes old new) (refers current root) (to_node at) refs_same referred)
+      page_same old new at same.size
+      (All-contains (HasSameBytes old new) (refers current root) (to_node at) refs_same (page_referred current root at tree zone there))
 
   entry_page_same : (block : ℕ) → block < h.bigblocks → pages_of new (page_of block) ≡ pages_of old (page_of block)
   entry_page_same block low = freemap.layer2 block (omega arith)

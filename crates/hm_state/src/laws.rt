@@ -1,22 +1,30 @@
 // What follows from the definitions alone: each function states one law, and does nothing.
-ghost use Rattle.std.specs.Prelude.{◌≡◌, ℕ, List, Option, Some};
+ghost use Rattle.std.specs.Prelude.{◌≡◌, ◌≢◌, ℕ, ◌+◌, ◌≤◌, IsSome, List, Option, Some};
+ghost use Rattle.std.specs.List.{Contains};
 ghost use Rattle.hm_types.specs.Elements.{FullElement};
+ghost use Rattle.hm_types.specs.Layout.{first_layer2, start_of};
+ghost use Rattle.hm_types.specs.Offset.{byte_of};
+ghost use Rattle.hm_types.specs.declared.limits.TheConstants.{PAGE_BYTES};
 ghost use Rattle.hm_disk.specs.Crash.{Told};
 ghost use Rattle.hm_fields.specs.Fields.{AreBytes};
 ghost use Rattle.hm_header.specs.declared.header.Header.{Header};
 ghost use Rattle.hm_header.specs.OnDisk.{HasHeader};
+ghost use Rattle.hm_header.specs.Range.{IsSize};
+ghost use Rattle.hm_freemap.specs.Extents.{IsApart};
+ghost use Rattle.hm_key.specs.declared.element.Element.{Element};
 ghost use Rattle.hm_btree.specs.Tree.{IsTreeSpace};
 ghost use Rattle.hm_pages.specs.Store.{Store};
 ghost use Rattle.hm_model.specs.Volume.{Volume};
+ghost use Rattle.hm_image.specs.Image.{to_node, to_payload};
 ghost use Rattle.hm_image.specs.Same.{HasSameFreemap, HasSameTree};
 ghost use Rattle.hm_image.specs.Stands.{StandsFor};
 ghost use Rattle.hm_load.specs.Held.{HoldsImage};
 ghost use Rattle.hm_load.specs.Loaded.{IsLoaded};
 ghost use Rattle.hm_stored.specs.declared.books.Books.{Books};
-ghost use Rattle.hm_stored.specs.Basis.{nodes};
+ghost use Rattle.hm_stored.specs.Basis.{IsFirm, elements_in, nodes};
 ghost use Rattle.hm_stored.specs.Heap.{Heap, heap_of};
 ghost use Rattle.hm_stored.specs.Mounted.{IsBooksOf};
-ghost use Rattle.hm_stored.specs.Standing.{Holds};
+ghost use Rattle.hm_stored.specs.Standing.{Holds, basis_now};
 ghost use Rattle.hm_state.specs.Volume.{HoldsVolume};
 ghost use Rattle.hm_state.specs.Written.{AreOfVolume, HasSamePayloads, IsHeaderOf, IsWritten};
 
@@ -62,4 +70,18 @@ pub fn what_was_written_stays()
     ensures { (h : Heap) (root : ℕ) (old new : List ℕ) → IsTreeSpace (nodes h.pages.current) root →
         AreOfVolume h → IsWritten h root old → HasSameFreemap old new h.bigblocks →
         HasSameTree old new root → IsWritten h root new }
+{}
+
+/// The pages of a space lie within its volume, behind layer 1 of the freemap, and share no byte with
+/// each other nor with the payload of an element: each may be written where it stands.
+pub fn pages_of_a_space_are_apart()
+    ensures pages { (h : Heap) (root : ℕ) → IsFirm (basis_now h root) → AreOfVolume h →
+        IsSize h.bigblocks → (a b : ℕ) → IsSome (h.pages.current a) → IsSome (h.pages.current b) →
+        a ≢ b → IsApart (to_node a) (to_node b) }
+    ensures payloads { (h : Heap) (root : ℕ) → IsFirm (basis_now h root) → AreOfVolume h →
+        IsSize h.bigblocks → (at : ℕ) (e : Element) → IsSome (h.pages.current at) →
+        Contains (elements_in (basis_now h root)) e → IsApart (to_node at) (to_payload e) }
+    ensures within { (h : Heap) (root : ℕ) → IsFirm (basis_now h root) → AreOfVolume h →
+        IsSize h.bigblocks → (at : ℕ) → IsSome (h.pages.current at) →
+        (start_of first_layer2 ≤ byte_of at) × (byte_of at + PAGE_BYTES ≤ start_of h.bigblocks) }
 {}

@@ -13,7 +13,7 @@ use Rattle.hm_stored.specs.Calls.{AnswersRoom, IsNotRenewed, Refuses, Renews, Sa
 use Rattle.hm_stored.specs.Heap.{Heap, Rest, frame_of, free_of, heap_of, maps_of, room_of}
 use Rattle.hm_stored.specs.Held.{IsKept}
 use Rattle.hm_stored.specs.declared.books.Books.{Books}
-use Rattle.hm_stored.proofs.AdmitLemmas.{admits, extents_admit, extents_still, kept_admit, kept_still, pages_admit, pages_still, rest_still, room_admit}
+use Rattle.hm_stored.proofs.AdmitLemmas.{admits, extents_admit, extents_still, kept_admit, kept_still, pages_admit, pages_still, rest_still, room_admit, whole_admit}
 use Rattle.hm_stored.proofs.BasisLemmas.{SameBasis, frame_same}
 use Rattle.hm_stored.proofs.NewNodeLemmas.{room_whole}
 use Rattle.hm_stored.proofs.NodeCallLemmas.{basis, kept_broken, spends_half}
@@ -40,6 +40,7 @@ module _ (old new : Store) (disk : Option Told) (books books' : Books) (zones : 
       let still = renews.whole ∙ whole in (
         record {
           ok = admits h h' zones most books.most based refl log renews.gave whole still none renews.admitted;
+          whole = whole_admit h h' zones most books.most based refl log renews.gave whole still none renews.admitted;
           content = (
             pages_admit h h' zones most books.most based refl log renews.gave whole still none renews.admitted,
             extents_admit h h' zones most books.most based refl log renews.gave whole still none renews.admitted,
@@ -63,6 +64,7 @@ module _ (old new : Store) (disk : Option Told) (books books' : Books) (zones : 
       let rest = rest_still h h' books.most books.below based refl append log gave still refuses.refused.same in (
         record {
           ok = tt;
+          whole = tt;
           content = tt;
           no_space = lacks_here refuses.refused.lacks;
           unchanged = (
@@ -91,6 +93,7 @@ module _ (old new : Store) (disk : Option Told) (books books' : Books) (zones : 
       let spends = spends_half old new disk disk books books' frame same (λ zone. 0) broken in (
         record {
           ok = tt;
+          whole = tt;
           content = tt;
           no_space = tt;
           unchanged = tt;

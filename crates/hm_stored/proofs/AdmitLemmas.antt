@@ -1,25 +1,27 @@
 -- What a space tells as zones get room.
-use Rattle.std.proofs.Common.{◌≡◌, Bool, true, false, true≢false, ℕ, ◌+◌, ◌*◌, ◌^◌, ◌≤◌, List, map, Option, Some, None, refl, sym, ap, subst, ◌∙◌}
+use Rattle.std.proofs.Common.{◌≡◌, Bool, true, false, true≢false, ⊎_elim, ℕ, ◌+◌, ◌*◌, ◌^◌, ◌<◌, ◌≤◌, List, map, Option, Some, None, refl, sym, ap, subst, ◌∙◌}
 use Rattle.std.proofs.Common.{arith, cond, length, ℤ, pos, negsuc, eqb-true}
 use Rattle.std.specs.Prelude.{All, IfSome, ◌<ℤ◌}
 use Rattle.std.specs.List.{Contains}
 use Rattle.std.proofs.Math.Logic.{∥∥₁_elim}
+use Rattle.std.proofs.lemmas.Bool.{cases_eq, lt-ltb, ne_eqb}
 use Rattle.std.proofs.lemmas.Int.{ints}
 use Rattle.std.proofs.lemmas.List.Elements.{All-contains, All-contains_itself, All-weaker}
 use Rattle.hm_types.specs.Layout.{start_of}
 use Rattle.hm_types.specs.References.{IsPlaced, Reference, end_of}
-use Rattle.hm_types.specs.Space.{Admits, needed}
+use Rattle.hm_types.specs.Space.{Admits, names_zone, needed, reserve_of}
 use Rattle.hm_types.specs.declared.limits.TheConstants.{BIGBLOCK_BYTES, MOST_BIGBLOCKS}
 use Rattle.hm_types.specs.declared.zones.Zones.{Zones}
 use Rattle.hm_disk.specs.Crash.{Told}
 use Rattle.hm_fields.specs.Pages.{PageMap}
-use Rattle.hm_freemap.specs.Admit.{IsAdmitted}
+use Rattle.hm_freemap.specs.Admit.{IsAdmitted, does_lack}
 use Rattle.hm_freemap.specs.Extents.{with_current}
 use Rattle.hm_freemap.specs.Stand.{AreBelow, IsBelow, entry_of, free_by, home_of, is_free_by, is_whole_block, room_in}
 use Rattle.hm_freemap.specs.declared.entry.Entry.{Entry}
 use Rattle.hm_freemap.proofs.MapsLemmas.{clear_block}
 use Rattle.hm_stored.specs.Basis.{Basis, nodes, states_of}
 use Rattle.hm_stored.specs.Heap.{Heap, bytes_of, does_tell, extents_in, free_of, maps_of, pages_of, places_in, rest_of, room_of}
+use Rattle.hm_key.specs.Calls.{GetWhole}
 use Rattle.hm_key.specs.Extents.{AreExtents, Extent}
 use Rattle.hm_stored.specs.Log.{filled}
 use Rattle.hm_stored.specs.Held.{AreNodes, IsInUse, IsKept, IsSafe, expected}
@@ -33,6 +35,17 @@ use Rattle.hm_stored.proofs.NewNodeLemmas.{room_whole}
 use Rattle.hm_stored.proofs.PageLemmas.{nodes_same}
 use Rattle.hm_stored.proofs.RoomLemmas.{rest_stays}
 use Rattle.hm_stored.proofs.SafeLemmas.{holds_same, safe_after, safe_map}
+
+-- a zone that a set names is one of four
+named_zone : (zones : Zones) (zone : ℕ) → names_zone zones zone ≡ true → (k : ℕ) × (k < 4) × (zone ≡ 8 + k)
+named_zone zones zone named =
+    ⊎_elim (λ e. (0, omega arith, e)) (λ not8.
+    ⊎_elim (λ e. (1, omega arith, e)) (λ not9.
+    ⊎_elim (λ e. (2, omega arith, e)) (λ not10.
+    ⊎_elim (λ e. (3, omega arith, e)) (λ not11. absurd (true≢false (sym named ∙ none not8 not9 not10 not11)))
+    (cases_eq zone 11)) (cases_eq zone 10)) (cases_eq zone 9)) (cases_eq zone 8) where
+      none : (zone ≡ 8 → ⊥) → (zone ≡ 9 → ⊥) → (zone ≡ 10 → ⊥) → (zone ≡ 11 → ⊥) → names_zone zones zone ≡ false
+      none a b c d = rw (ne_eqb zone 8 a, ne_eqb zone 9 b, ne_eqb zone 10 c, ne_eqb zone 11 d) refl
 
 -- a big-block with bytes in use is not a whole free one
 used_not_whole : (free : ℤ) → free <ℤ pos BIGBLOCK_BYTES → is_whole_block free ≡ true → ⊥
@@ -126,6 +139,16 @@ module _ (h h' : Heap) (zones : Zones) (most : ℕ) (few : h.bigblocks ≤ MOST_
 
   pub room_admit : (zone : ℕ) → room_of h zone ≤ room_of h' zone
   room_admit zone = let was = room_was zone in let is = room_is zone in let step = admitted.room zone in omega (arith, was, is, step)
+
+  -- a zone that lacked room has that of a whole big-block
+  pub whole_admit : GetWhole zones (room_of h) (room_of h')
+  whole_admit zone named low =
+      let four = named_zone zones zone named in
+      let was = room_was zone in
+      let lacks : does_lack zones (room_in h.append h.pages.current) zone ≡ true =
+          rw (named, lt-ltb (room_in h.append h.pages.current zone) (reserve_of zone) (omega (arith, was, low))) refl in
+      room_is zone ∙ subst (λ (z : ℕ). does_lack zones (room_in h.append h.pages.current) z ≡ true → room_in h'.append h'.pages.current z ≡ BIGBLOCK_BYTES)
+      (sym four.2) (λ is. admitted.lowest.whole four.0 four.1 is) lacks
 
   pub kept_admit : ∥ IsKept h ∥₁ → ∥ IsKept h' ∥₁
   kept_admit kept = ∥∥₁_elim kept squash₁ (λ k. ∣ record {

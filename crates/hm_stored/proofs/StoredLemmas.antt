@@ -260,6 +260,7 @@ module _ {S : Type 0} (heap : S → Heap) (root : S → ℕ) where
             paid = there.ok.paid;
             reserve = there.ok.reserve;
           };
+          whole = there.whole;
           content = record {
             elements = elements_stay there.content.0;
             mark = mark_stays there.content.0;
@@ -275,6 +276,7 @@ module _ {S : Type 0} (heap : S → Heap) (root : S → ℕ) where
         let rest = rests (heap old) (heap new) there.unchanged.2 in
         record {
           ok = tt;
+          whole = tt;
           content = tt;
           no_space = there.no_space;
           unchanged = record {
@@ -288,6 +290,7 @@ module _ {S : Type 0} (heap : S → Heap) (root : S → ℕ) where
         }
     room_given (Err (of_store fault)) is answers = record {
       ok = tt;
+      whole = tt;
       content = tt;
       no_space = tt;
       unchanged = tt;

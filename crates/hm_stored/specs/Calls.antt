@@ -7,6 +7,7 @@ use Rattle.hm_types.specs.declared.fault.SpaceFault.TheVariants.{NoSpace, Fault 
 use Rattle.hm_types.specs.Told.{BothTell}
 use Rattle.hm_disk.specs.Crash.{MayLeave, Told}
 use Rattle.hm_disk.specs.Disk.{Written}
+use Rattle.hm_key.specs.Calls.{GetWhole}
 use Rattle.hm_key.specs.Extents.{Extent, PlacesAt}
 use Rattle.hm_stored.specs.Heap.{Heap, extents_in, frame_of, free_of, pages_of, rest_of, room_of}
 use Rattle.hm_types.specs.declared.fault.Fault.{Fault}
@@ -112,6 +113,7 @@ IsNotRenewed zones held old new before after (of_store fault) = after.whole ≡ 
 -- what a call on the room of zones makes of a space
 pub record AnswersRoom (zones : Zones) (held : ℕ) (old new : Heap) (result : Result (Unit {0}) SpaceFault) : Type 0 where
   pub ok : OnOk result (Admits room_of free_of zones held old new)
+  pub whole : OnOk result (GetWhole zones (room_of old) (room_of new))
   pub content : OnOk result ((pages_of new ≡ pages_of old) × (extents_in new ≡ extents_in old))
   pub no_space : IfErr result (IfNoSpace (LacksSpace zones held (room_of old) (free_of old)))
   pub unchanged : IfErr result (IfNoSpace (λ _ _. (pages_of new ≡ pages_of old) × (extents_in new ≡ extents_in old) × (rest_of new ≡ rest_of old)))
