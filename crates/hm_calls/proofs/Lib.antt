@@ -8,7 +8,7 @@ pub mod EffectLemmas
 pub mod LookLemmas
 pub mod CatLemmas
 pub mod ReadLemmas
-pub mod CommandLemmas
+pub mod TakeLemmas
 pub mod FileLemmas
 pub mod EditLemmas
 pub mod NowLemmas

@@ -90,7 +90,3 @@ abbrev pub all_reserves : ℕ → ℕ
 all_reserves zone =
     in_zone TREE_ZONE TREE_RESERVE zone
     + (in_zone META_ZONE PAYLOAD_RESERVE zone + (in_zone LARGE_ZONE PAYLOAD_RESERVE zone + in_zone SMALL_ZONE PAYLOAD_RESERVE zone))
-
--- the room of each zone falls by at most its reserve
-abbrev pub LowersAnyRoom : {S : Type 0} → (S → ℕ → ℕ) → S → S → Type 0
-LowersAnyRoom room_of old new = (zone : ℕ) → room_of old zone ≤ room_of new zone + all_reserves zone

@@ -8,6 +8,7 @@ pub mod Writes
 pub mod Changes
 pub mod Replies
 pub mod Commands
+pub mod Space
 pub mod Bytes
 pub mod Edits
 pub mod Moves

@@ -1,7 +1,6 @@
 -- What a call answers, and what it does to the store.
-use Rattle.std.specs.Prelude.{◌≡◌, ℕ, ◌+◌, ◌≤◌, ◌&&◌, List, None, Some, Option, Result, Ok, Err, Bool, true, false, IsTrue, IsFalse, if◌then◌else◌, option_map}
+use Rattle.std.specs.Prelude.{◌≡◌, ℕ, ◌&&◌, List, None, Some, Option, Result, Ok, Err, Bool, true, false, IsTrue, IsFalse, if◌then◌else◌, option_map}
 use Rattle.hm_types.specs.Elements.{Key}
-use Rattle.hm_types.specs.Space.{reserve_of}
 use Rattle.hm_types.specs.declared.fault.Fault.{Fault}
 use Rattle.hm_types.specs.declared.id.Id.{Id}
 use Rattle.hm_key.specs.Extents.{Extent}
@@ -16,7 +15,6 @@ use Rattle.hm_model.specs.declared.reply.Reply.{Reply}
 use Rattle.hm_calls.specs.Call.{OnCalls}
 use Rattle.hm_calls.specs.Changes.{Changes}
 use Rattle.hm_calls.specs.Due.{due_over, refusal_over}
-use Rattle.hm_calls.specs.Writes.{reserves}
 use Rattle.hm_calls.specs.declared.stop.Stop.{Stop}
 use Rattle.hm_calls.specs.declared.stop.Stop.TheVariants.{Refused, Failed}
 
@@ -69,7 +67,3 @@ module _ {S : Type 0} (elements_of : S → Option (List Element)) (mark_of : S �
     pub due : OnCalls hash id (elements_of old) (extents_of old) (λ _ call. K call → reply ≡ due_over call (room_of old) (free_of old))
     pub stays : IsFalse (is_change command reply) → Same elements_of mark_of extents_of room_of free_of old new
     pub changes : IsTrue (is_change command reply) → Writes elements_of extents_of (Changes hash id K) old new
-
--- the room of no zone but 8 and 9 falls, and of these by at most the reserve
-abbrev pub LowersRoom : {S : Type 0} → (S → ℕ → ℕ) → S → S → Type 0
-LowersRoom room_of old new = (zone : ℕ) → room_of old zone ≤ room_of new zone + reserves zone

@@ -2,15 +2,17 @@
 ghost use Rattle.std.specs.Prelude.{◌≡◌, ◌≤◌, IfOk, IsTrue, ◌+◌, OnOk};
 ghost use Rattle.hm_types.specs.declared.limits.TheConstants.{GREATEST_ID};
 ghost use Rattle.hm_key.specs.Balance.{Balanced};
+ghost use Rattle.hm_key.specs.Charges.{Charges};
 ghost use Rattle.hm_key.specs.Stores.{Keeps};
 ghost use Rattle.hm_model.specs.Call.{Call};
 ghost use Rattle.hm_model.specs.Due.{is_tree_call};
 ghost use Rattle.hm_model.specs.Forms.{IsInRange};
 ghost use Rattle.hm_model.specs.declared.reply.Reply.TheVariants.{Done as done};
 ghost use Rattle.hm_cursor.specs.Told.{HasReadingCause};
-ghost use Rattle.hm_calls.specs.Commands.{IsOnTrees, LowersRoomFor};
+ghost use Rattle.hm_calls.specs.Commands.{IsOnTrees, LowersRoomFor, reserves_for};
 ghost use Rattle.hm_calls.specs.Known.{AreKnown};
 ghost use Rattle.hm_calls.specs.Replies.{Asks, IsAnswered, Replies};
+ghost use Rattle.hm_calls.specs.Space.{TakesAtMost};
 ghost use Rattle.hm_calls.specs.Stop.{HasStopCause};
 
 use crate::edit::Edit;
@@ -40,7 +42,9 @@ use std::alloc::Global;
 /// call's own; so it is again for the id after it. `busy` is the id by which a mirror or upgrade
 /// call was opened that is open; none of these calls minds it. The zones 8 and 9 lose at most their
 /// reserves, 1,048,576 and 131,072 bytes, and by `write`, `fill` and `truncate` the zones 10 and 11
-/// too, of 131,072 each. No other zone loses room.
+/// too, of 131,072 each. No other zone loses room. A call with a reply, also a refusal, began
+/// a free big-block only in zones that had less room than their reserve, and at most so many
+/// fewer are free.
 ///
 /// `Damaged` at a payload that breaks its grammar, of kind 6, and `NoMemory` where an allocation
 /// was refused, where `cat` is asked for bytes past 15,728,640 of a file that has so many, or where
@@ -64,6 +68,8 @@ pub fn answer<T: ElementStore + Extents, H: NameHash>(
         (id.0 + 1)) }
     ensures keeps { Keeps T.elements T.extents store.old store.new result }
     ensures room { LowersRoomFor command.now T.room store.old store.new }
+    ensures charges { OnOk result (Charges T.room T.free (reserves_for command.now)
+        store.old store.new) }
     ensures borrowed { (T.name store.new ≡ T.name store.old)
         × (T.frame store.new ≡ T.frame store.old) }
     ensures cause { HasReadingCause (T.elements store.old) (T.extents store.old)
@@ -94,7 +100,7 @@ fn serve<T: ElementStore + Extents, H: NameHash>(
     ensures known { OnOk result (AreKnown (T.elements store.new) (T.extents store.new)
         (id.0 + 1)) }
     ensures keeps { Keeps T.elements T.extents store.old store.new result }
-    ensures room { LowersRoomFor command.now T.room store.old store.new
+    ensures room { TakesAtMost T.room T.free (reserves_for command.now) store.old store.new result
         × (T.name store.new ≡ T.name store.old) × (T.frame store.new ≡ T.frame store.old) }
     ensures cause { HasStopCause (T.elements store.old) (T.extents store.old)
         (T.faults store.old) (T.faults store.new) result }

@@ -1,15 +1,17 @@
 // The calls on the bytes of files: `write`, `fill` and `truncate`.
-ghost use Rattle.std.specs.Prelude.{◌≡◌, ◌+◌, ◌≤◌, ℕ, IfOk, IsFalse, OnOk};
+ghost use Rattle.std.specs.Prelude.{◌≡◌, ◌+◌, ◌≤◌, IfOk, IsFalse, OnOk};
+ghost use Rattle.hm_types.specs.Space.{nothing};
 ghost use Rattle.hm_types.specs.declared.limits.TheConstants.{GREATEST_ID};
 ghost use Rattle.hm_key.specs.Balance.{Balanced};
 ghost use Rattle.hm_key.specs.Stores.{Keeps, Same, SameContent};
 ghost use Rattle.hm_model.specs.Call.{Call};
 ghost use Rattle.hm_model.specs.declared.reply.Reply.TheVariants.{Done as done};
 ghost use Rattle.hm_calls.specs.Due.{space_for};
-ghost use Rattle.hm_calls.specs.Edits.{HasAllReserves, IsEdit, LowersAnyRoom, command_for};
+ghost use Rattle.hm_calls.specs.Edits.{HasAllReserves, IsEdit, all_reserves, command_for};
 ghost use Rattle.hm_calls.specs.Edits.{is_there, zones_for};
 ghost use Rattle.hm_calls.specs.Known.{AreKnown};
 ghost use Rattle.hm_calls.specs.Replies.{Acts};
+ghost use Rattle.hm_calls.specs.Space.{TakesAtMost};
 ghost use Rattle.hm_calls.specs.Stop.{Answers, HasStopCause, IfRefused};
 
 use crate::checks::check_master;
@@ -45,7 +47,7 @@ pub(crate) fn edit_file<T: ElementStore + Extents, H: NameHash>(
     ensures known { OnOk result (AreKnown (T.elements store.new) (T.extents store.new)
         (id.0 + 1)) }
     ensures keeps { Keeps T.elements T.extents store.old store.new result }
-    ensures room { LowersAnyRoom T.room store.old store.new
+    ensures room { TakesAtMost T.room T.free all_reserves store.old store.new result
         × (T.name store.new ≡ T.name store.old) × (T.frame store.new ≡ T.frame store.old) }
     ensures cause { HasStopCause (T.elements store.old) (T.extents store.old)
         (T.faults store.old) (T.faults store.new) result }
@@ -78,7 +80,7 @@ fn admit_edit<T: ElementStore + Extents>(store: &mut T, edit: Edit, size: u64) -
     ensures content { OnOk result (SameContent T.elements T.mark T.extents store.old store.new) }
     ensures refused { IfRefused result (λ _.
         Same T.elements T.mark T.extents T.room T.free store.old store.new) }
-    ensures room { ((zone : ℕ) → T.room store.old zone ≤ T.room store.new zone)
+    ensures room { TakesAtMost T.room T.free nothing store.old store.new result
         × (T.name store.new ≡ T.name store.old) × (T.frame store.new ≡ T.frame store.old) }
     ensures cause { HasStopCause (T.elements store.old) (T.extents store.old)
         (T.faults store.old) (T.faults store.new) result }

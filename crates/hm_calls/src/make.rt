@@ -7,8 +7,10 @@ ghost use Rattle.hm_model.specs.Call.{Call};
 ghost use Rattle.hm_model.specs.declared.reply.Reply.TheVariants.{Done as done};
 ghost use Rattle.hm_calls.specs.Known.{AreKnown};
 ghost use Rattle.hm_calls.specs.New.{IsNewObject, command_by};
-ghost use Rattle.hm_calls.specs.Replies.{Acts, LowersRoom};
+ghost use Rattle.hm_calls.specs.Replies.{Acts};
+ghost use Rattle.hm_calls.specs.Space.{TakesAtMost};
 ghost use Rattle.hm_calls.specs.Stop.{HasStopCause};
+ghost use Rattle.hm_calls.specs.Writes.{reserves};
 
 use crate::checks::{check_master, check_new, spot_in};
 use crate::course::{NAMES_HELD, course_before, read_last};
@@ -43,7 +45,7 @@ pub(crate) fn make<T: ElementStore + Extents, H: NameHash>(
     ensures known { OnOk result (AreKnown (T.elements store.new) (T.extents store.new)
         (id.0 + 1)) }
     ensures keeps { Keeps T.elements T.extents store.old store.new result }
-    ensures room { LowersRoom T.room store.old store.new
+    ensures room { TakesAtMost T.room T.free reserves store.old store.new result
         × (T.name store.new ≡ T.name store.old) × (T.frame store.new ≡ T.frame store.old) }
     ensures cause { HasStopCause (T.elements store.old) (T.extents store.old)
         (T.faults store.old) (T.faults store.new) result }

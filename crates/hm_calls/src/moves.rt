@@ -18,9 +18,10 @@ ghost use Rattle.hm_dirs.specs.Walk.{IsRead, Scene};
 ghost use Rattle.hm_calls.specs.Due.{space_for};
 ghost use Rattle.hm_calls.specs.Known.{AreBelowIn, AreKnown};
 ghost use Rattle.hm_calls.specs.Moves.{IsMovedOver, MovesBeside, over_checks};
-ghost use Rattle.hm_calls.specs.Replies.{Acts, LowersRoom};
+ghost use Rattle.hm_calls.specs.Replies.{Acts};
+ghost use Rattle.hm_calls.specs.Space.{TakesAtMost};
 ghost use Rattle.hm_calls.specs.Stop.{Answers, HasStopCause, IfRefused};
-ghost use Rattle.hm_calls.specs.Writes.{AreOlderAround, IsMoving, place_of_name};
+ghost use Rattle.hm_calls.specs.Writes.{AreOlderAround, IsMoving, place_of_name, reserves};
 
 use crate::checks::{check_master, check_one_pfs, find_entry, spot_in};
 use crate::course::{NAMES_HELD, course_before, read_last};
@@ -54,7 +55,7 @@ pub(crate) fn move_to<T: ElementStore + Extents, H: NameHash>(
     ensures known { OnOk result (AreKnown (T.elements store.new) (T.extents store.new)
         (id.0 + 1)) }
     ensures keeps { Keeps T.elements T.extents store.old store.new result }
-    ensures room { LowersRoom T.room store.old store.new
+    ensures room { TakesAtMost T.room T.free reserves store.old store.new result
         × (T.name store.new ≡ T.name store.old) × (T.frame store.new ≡ T.frame store.old) }
     ensures cause { HasStopCause (T.elements store.old) (T.extents store.old)
         (T.faults store.old) (T.faults store.new) result }
@@ -125,7 +126,7 @@ fn move_beside<T: ElementStore + Extents, H: NameHash>(
         (MovesBeside (H.hash_of hash.now) (place_of_name old.entry) (place_of_name new.entry)
         new.entry.directory.now.as_of.0 id.0 moved.obj) store.old store.new) }
     ensures keeps { Keeps T.elements T.extents store.old store.new result }
-    ensures room { LowersRoom T.room store.old store.new
+    ensures room { TakesAtMost T.room T.free reserves store.old store.new result
         × (T.name store.new ≡ T.name store.old) × (T.frame store.new ≡ T.frame store.old) }
     ensures cause { HasStopCause (T.elements store.old) (T.extents store.old)
         (T.faults store.old) (T.faults store.new) result }
@@ -165,7 +166,7 @@ fn move_over<T: ElementStore + Extents, H: NameHash>(
         (IsMovedOver (H.hash_of hash.now) (place_of_name old.entry) (place_of_name new.entry) key id.0
         object.now moved.obj there) store.old store.new) }
     ensures keeps { Keeps T.elements T.extents store.old store.new result }
-    ensures room { LowersRoom T.room store.old store.new
+    ensures room { TakesAtMost T.room T.free reserves store.old store.new result
         × (T.name store.new ≡ T.name store.old) × (T.frame store.new ≡ T.frame store.old) }
     ensures cause { HasStopCause (T.elements store.old) (T.extents store.old)
         (T.faults store.old) (T.faults store.new) result }

@@ -1,5 +1,6 @@
 // `rm` and `rmdir`: names that go.
-ghost use Rattle.std.specs.Prelude.{◌≡◌, ◌<◌, ◌≤◌, ℕ, OnOk, IfOk, ◌+◌};
+ghost use Rattle.std.specs.Prelude.{◌≡◌, ◌<◌, ◌≤◌, OnOk, IfOk, ◌+◌};
+ghost use Rattle.hm_types.specs.Space.{nothing};
 ghost use Rattle.hm_types.specs.declared.limits.TheConstants.{GREATEST_ID};
 ghost use Rattle.hm_key.specs.Balance.{Balanced};
 ghost use Rattle.hm_key.specs.Stores.{Keeps, Same, SameContent};
@@ -8,9 +9,10 @@ ghost use Rattle.hm_model.specs.declared.command.Command.TheVariants.{Rm as rm, 
 ghost use Rattle.hm_calls.specs.Due.{space_for, zones_beside};
 ghost use Rattle.hm_model.specs.declared.reply.Reply.TheVariants.{Done as done};
 ghost use Rattle.hm_calls.specs.Known.{AreKnown};
-ghost use Rattle.hm_calls.specs.Replies.{Acts, LowersRoom};
+ghost use Rattle.hm_calls.specs.Replies.{Acts};
+ghost use Rattle.hm_calls.specs.Space.{TakesAtMost};
 ghost use Rattle.hm_calls.specs.Stop.{Answers, HasStopCause, IfRefused};
-ghost use Rattle.hm_calls.specs.Writes.{HasReserves};
+ghost use Rattle.hm_calls.specs.Writes.{HasReserves, reserves};
 
 use crate::checks::{check_empty, check_master};
 use crate::course::course_before;
@@ -43,7 +45,7 @@ pub(crate) fn remove<T: ElementStore + Extents, H: NameHash>(
     ensures known { OnOk result (AreKnown (T.elements store.new) (T.extents store.new)
         (id.0 + 1)) }
     ensures keeps { Keeps T.elements T.extents store.old store.new result }
-    ensures room { LowersRoom T.room store.old store.new
+    ensures room { TakesAtMost T.room T.free reserves store.old store.new result
         × (T.name store.new ≡ T.name store.old) × (T.frame store.new ≡ T.frame store.old) }
     ensures cause { HasStopCause (T.elements store.old) (T.extents store.old)
         (T.faults store.old) (T.faults store.new) result }
@@ -75,7 +77,7 @@ fn admit_rest<T: ElementStore + Extents>(store: &mut T, inode: &Inode) -> Result
     ensures content { OnOk result (SameContent T.elements T.mark T.extents store.old store.new) }
     ensures refused { IfRefused result (λ _.
         Same T.elements T.mark T.extents T.room T.free store.old store.new) }
-    ensures room { ((zone : ℕ) → T.room store.old zone ≤ T.room store.new zone)
+    ensures room { TakesAtMost T.room T.free nothing store.old store.new result
         × (T.name store.new ≡ T.name store.old) × (T.frame store.new ≡ T.frame store.old) }
     ensures cause { HasStopCause (T.elements store.old) (T.extents store.old)
         (T.faults store.old) (T.faults store.new) result }
@@ -111,7 +113,7 @@ pub(crate) fn remove_directory<T: ElementStore + Extents, H: NameHash>(
     ensures known { OnOk result (AreKnown (T.elements store.new) (T.extents store.new)
         (id.0 + 1)) }
     ensures keeps { Keeps T.elements T.extents store.old store.new result }
-    ensures room { LowersRoom T.room store.old store.new
+    ensures room { TakesAtMost T.room T.free reserves store.old store.new result
         × (T.name store.new ≡ T.name store.old) × (T.frame store.new ≡ T.frame store.old) }
     ensures cause { HasStopCause (T.elements store.old) (T.extents store.old)
         (T.faults store.old) (T.faults store.new) result }

@@ -1,12 +1,14 @@
 // The room of a call that writes names, objects and records.
-ghost use Rattle.std.specs.Prelude.{◌≡◌, ◌-◌, ◌≤◌, ℕ, IfErr, OnOk};
+ghost use Rattle.std.specs.Prelude.{◌≡◌, ◌-◌, IfErr, OnOk};
 ghost use Rattle.std.specs.Bool.{nat_lt};
+ghost use Rattle.hm_types.specs.Space.{nothing};
 ghost use Rattle.hm_key.specs.Stores.{Same, SameContent};
 ghost use Rattle.hm_model.specs.Due.{refuse_if};
 ghost use Rattle.hm_model.specs.Needs.{bytes_zones, names_zones};
 ghost use Rattle.hm_model.specs.declared.reply.Reply.TheVariants.{NoSpace as no_space};
 ghost use Rattle.hm_calls.specs.Due.{lacking};
 ghost use Rattle.hm_calls.specs.Edits.{HasAllReserves};
+ghost use Rattle.hm_calls.specs.Space.{TakesAtMost};
 ghost use Rattle.hm_calls.specs.Stop.{Answers, HasStopCause, IfRefused};
 ghost use Rattle.hm_calls.specs.Writes.{HasReserves};
 
@@ -26,7 +28,7 @@ pub(crate) fn admit_names<T: ElementStore + Extents>(store: &mut T, held: u32) -
     ensures content { OnOk result (SameContent T.elements T.mark T.extents store.old store.new) }
     ensures refused { IfRefused result (λ _.
         Same T.elements T.mark T.extents T.room T.free store.old store.new) }
-    ensures room { ((zone : ℕ) → T.room store.old zone ≤ T.room store.new zone)
+    ensures room { TakesAtMost T.room T.free nothing store.old store.new result
         × (T.name store.new ≡ T.name store.old) × (T.frame store.new ≡ T.frame store.old) }
     ensures cause { HasStopCause (T.elements store.old) (T.extents store.old)
         (T.faults store.old) (T.faults store.new) result }
@@ -50,7 +52,7 @@ pub(crate) fn admit_bytes<T: ElementStore + Extents>(store: &mut T, held: u32) -
     ensures content { OnOk result (SameContent T.elements T.mark T.extents store.old store.new) }
     ensures refused { IfRefused result (λ _.
         Same T.elements T.mark T.extents T.room T.free store.old store.new) }
-    ensures room { ((zone : ℕ) → T.room store.old zone ≤ T.room store.new zone)
+    ensures room { TakesAtMost T.room T.free nothing store.old store.new result
         × (T.name store.new ≡ T.name store.old) × (T.frame store.new ≡ T.frame store.old) }
     ensures cause { HasStopCause (T.elements store.old) (T.extents store.old)
         (T.faults store.old) (T.faults store.new) result }

@@ -2,10 +2,11 @@
 ghost use Rattle.std.specs.Prelude.{◌≡◌, ◌+◌, ◌<◌, IfOk, OnOk};
 ghost use Rattle.hm_types.specs.declared.limits.TheConstants.{GREATEST_ID};
 ghost use Rattle.hm_key.specs.Balance.{Balanced};
+ghost use Rattle.hm_key.specs.Charges.{Charges};
 ghost use Rattle.hm_key.specs.Stores.{Keeps};
 ghost use Rattle.hm_cursor.specs.Told.{HasReadingCause};
 ghost use Rattle.hm_model.specs.Forms.{IsInRange};
-ghost use Rattle.hm_calls.specs.Commands.{IsOnTrees, LowersRoomFor};
+ghost use Rattle.hm_calls.specs.Commands.{IsOnTrees, LowersRoomFor, reserves_for};
 ghost use Rattle.hm_calls.specs.Known.{AreKnown};
 ghost use Rattle.hm_step.specs.Next.{IsStep};
 
@@ -37,6 +38,8 @@ pub fn answer_next<T: ElementStore + Extents>(
         (last.0 + 2)) }
     ensures keeps { Keeps T.elements T.extents store.old store.new result }
     ensures room { LowersRoomFor command.now T.room store.old store.new }
+    ensures charges { OnOk result (Charges T.room T.free (reserves_for command.now)
+        store.old store.new) }
     ensures borrowed { (T.name store.new ≡ T.name store.old)
         × (T.frame store.new ≡ T.frame store.old) }
     ensures cause { HasReadingCause (T.elements store.old) (T.extents store.old)

@@ -1,5 +1,7 @@
 use Rattle.hm_calls.proofs.AnswerLemmas.{refused_same, replies_accepted, replies_refused}
+use Rattle.hm_calls.specs.Commands.{reserves_for}
 use Rattle.hm_calls.proofs.KnownLemmas.{known_same}
+use Rattle.hm_calls.proofs.TakeLemmas.{took_nothing}
 use Rattle.hm_calls.proofs.calls.answer.Goals as goal
 
 pub returns-in-Ok-clause-replies : goal.returns-in-Ok-clause-replies
@@ -21,3 +23,10 @@ returns-in-Err-Refused-clause-known g c =
     (rw c.in-Err-Refused.field-0-is at c.in-Err-Refused.ensures.answers) in
     known_same (g.T.HasElements.elements c.args.store.now) (g.T.HasElements.elements c.serve.new.store) (g.T.HasRoom.extents c.args.store.now)
     (g.T.HasRoom.extents c.serve.new.store) c.args.id.0 same.elements same.extents c.requires.known
+
+pub returns-in-Err-Refused-clause-charges : goal.returns-in-Err-Refused-clause-charges
+returns-in-Err-Refused-clause-charges g c =
+    let same = refused_same g.T.HasElements.elements g.T.HasElements.mark g.T.HasRoom.extents g.T.HasRoom.room g.T.HasRoom.free
+    (g.H.NameHash.hash_of c.args.hash.now) c.args.id.0 c.args.command.now c.args.busy c.args.store.now c.serve.new.store c.in-Err-Refused.reply
+    (rw c.in-Err-Refused.field-0-is at c.in-Err-Refused.ensures.answers) in
+    took_nothing g.T.HasRoom.room g.T.HasRoom.free (reserves_for c.args.command.now) c.args.store.now c.serve.new.store same.room same.free

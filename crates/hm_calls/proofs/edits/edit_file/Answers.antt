@@ -9,7 +9,7 @@ use Rattle.hm_model.specs.declared.reply.Reply.TheVariants.{IsDir, NotFile}
 use Rattle.hm_dirs.proofs.WalkLoopLemmas.{same_twice}
 use Rattle.hm_dirs.specs.Walk.{place_of}
 use Rattle.hm_calls.specs.Due.{space_for}
-use Rattle.hm_calls.specs.Edits.{ChangesFile, command_for, edited, end_of, zones_for}
+use Rattle.hm_calls.specs.Edits.{ChangesFile, all_reserves, command_for, edited, end_of, zones_for}
 use Rattle.hm_calls.specs.Known.{AreBelowIn, AreKnown}
 use Rattle.hm_calls.specs.Places.{refuse_kind}
 use Rattle.hm_calls.specs.Writes.{IsNewIn}
@@ -20,6 +20,7 @@ use Rattle.hm_calls.proofs.RefusalLemmas.{future_refuses, past_refuses, walk_ref
 use Rattle.hm_calls.proofs.SceneLemmas.{IsStoppedBy, answered, decided, scenes_reached, scenes_unreached}
 use Rattle.hm_calls.proofs.StageLemmas.{Wrote, acts_ended, drawn_now, master_passes, master_stopped, no_ids, of_refusal, past_stopped, refusal_so}
 use Rattle.hm_calls.proofs.StageLemmas.{space_before, told_before, told_then, untouched}
+use Rattle.hm_calls.proofs.TakeLemmas.{both_stay, takes_charged, took_admitted}
 use Rattle.hm_calls.proofs.edits.edit_file.Goals as goal
 
 pub returns-in_err-path-clause-answers : goal.returns-in_err-path-clause-answers
@@ -387,3 +388,15 @@ returns-clause-known g c =
     c.args.store.now c.admit_edit.new.store c.change_file.new.store (λ a b changes. changes.writes)
     (c.in_ok-admit_edit.ensures.content.elements ∙ same.elements) (c.in_ok-admit_edit.ensures.content.extents ∙ same.extents)
     c.in_ok-change_file.ensures.keeps.elements c.in_ok-change_file.ensures.keeps.extents c.requires.balanced c.requires.known c.in_ok-change_file.ensures.ok
+
+pub returns-clause-room : goal.returns-clause-room
+returns-clause-room g c =
+    let same = same_twice c.in_ok-file.ensures.keeps c.in_ok-check_master.ensures.keeps in
+    let stays = both_stay c.in_ok-change_file.ensures.borrowed (both_stay (c.in_ok-admit_edit.ensures.room.1, c.in_ok-admit_edit.ensures.room.2)
+    (both_stay c.in_ok-check_master.ensures.borrowed c.in_ok-file.ensures.borrowed)) in (
+      takes_charged g.T.HasRoom.room g.T.HasRoom.free all_reserves c.args.store.now c.change_file.new.store _
+          (took_admitted g.T.HasRoom.room g.T.HasRoom.free all_reserves c.args.store.now c.check_master.new.store c.admit_edit.new.store
+          c.change_file.new.store same.room same.free c.in_ok-admit_edit.ensures.room.0.charges c.in_ok-change_file.ensures.space),
+      stays.0,
+      stays.1,
+    )

@@ -24,7 +24,7 @@ use Rattle.hm_calls.specs.Due.{space_for}
 use Rattle.hm_calls.specs.Known.{AreBelowIn, AreKnown}
 use Rattle.hm_calls.specs.Places.{refuse_kind}
 use Rattle.hm_calls.specs.Stop.{Answers}
-use Rattle.hm_calls.specs.Writes.{PutsLink, place_in, IsNewIn}
+use Rattle.hm_calls.specs.Writes.{PutsLink, place_in, IsNewIn, reserves}
 use Rattle.hm_calls.proofs.LinkCallLemmas.{first_past, linking, ln_accepts, ln_first_master_refuses, ln_hash_refuses, ln_kind_refuses}
 use Rattle.hm_calls.proofs.LinkCallLemmas.{ln_links_refuses, ln_new_refuses, ln_pfs_refuses, ln_second_master_refuses, ln_softlink_refuses}
 use Rattle.hm_calls.proofs.LinkCallLemmas.{ln_space_refuses, ln_stays, ln_writes, master_there, new_placed, new_unplaced, object_reached}
@@ -37,6 +37,7 @@ use Rattle.hm_calls.proofs.SceneLemmas.{IsEnd, IsStoppedBy, answered, decided, s
 use Rattle.hm_calls.proofs.StageLemmas.{Wrote, acts_ended, good_new, master_passes, master_stopped, nameless_new, no_ids, of_refusal, refusal_so}
 use Rattle.hm_calls.proofs.StageLemmas.{scenes_below, scenes_own, space_before, told_before, told_then, untouched}
 use Rattle.hm_calls.proofs.KnownLemmas.{known_same, known_then}
+use Rattle.hm_calls.proofs.TakeLemmas.{both_stay, takes_charged, took_admitted, took_room}
 use Rattle.hm_calls.proofs.links.link.Goals as goal
 
 pub returns-in_err-old-clause-answers : goal.returns-in_err-old-clause-answers
@@ -1223,3 +1224,31 @@ returns-clause-known g c =
     (λ a b puts. puts.steps.writes) (content.elements ∙ same.elements) (content.extents ∙ same.extents)
     c.in_ok-put_link.ensures.keeps.elements c.in_ok-put_link.ensures.keeps.extents c.requires.balanced c.requires.known
     (c.in_ok-put_link.ensures.ok hash)
+
+pub returns-in_default-clause-room : goal.returns-in_default-clause-room
+returns-in_default-clause-room g c =
+    let same = (same_twice (same_twice (same_twice (same_twice (same_twice c.in_ok-object.ensures.keeps c.in_ok-directory.ensures.keeps)
+    c.in_ok-check_master.ensures.keeps) c.in_ok-check_master-2.ensures.keeps) c.in_ok-check_new.ensures.keeps) c.in_ok-spot.ensures.keeps) in
+    let stays = both_stay (c.in_ok-admit_names.ensures.room.1, c.in_ok-admit_names.ensures.room.2) (both_stay c.in_ok-spot.ensures.borrowed (both_stay
+    c.in_ok-check_new.ensures.borrowed (both_stay c.in_ok-check_master-2.ensures.borrowed (both_stay c.in_ok-check_master.ensures.borrowed (both_stay
+    c.in_ok-directory.ensures.borrowed c.in_ok-object.ensures.borrowed))))) in (
+      takes_charged g.T.HasRoom.room g.T.HasRoom.free reserves c.args.store.now c.admit_names.new.store _
+          (took_room g.T.HasRoom.room g.T.HasRoom.free reserves c.args.store.now c.spot_in.new.store c.admit_names.new.store same.room same.free
+          c.in_ok-admit_names.ensures.room.0.charges),
+      stays.0,
+      stays.1,
+    )
+
+pub returns-clause-room : goal.returns-clause-room
+returns-clause-room g c =
+    let same = (same_twice (same_twice (same_twice (same_twice (same_twice c.in_ok-object.ensures.keeps c.in_ok-directory.ensures.keeps)
+    c.in_ok-check_master.ensures.keeps) c.in_ok-check_master-2.ensures.keeps) c.in_ok-check_new.ensures.keeps) c.in_ok-spot.ensures.keeps) in
+    let stays = both_stay c.in_ok-put_link.ensures.borrowed (both_stay (c.in_ok-admit_names.ensures.room.1, c.in_ok-admit_names.ensures.room.2)
+    (both_stay c.in_ok-spot.ensures.borrowed (both_stay c.in_ok-check_new.ensures.borrowed (both_stay c.in_ok-check_master-2.ensures.borrowed
+    (both_stay c.in_ok-check_master.ensures.borrowed (both_stay c.in_ok-directory.ensures.borrowed c.in_ok-object.ensures.borrowed)))))) in (
+      takes_charged g.T.HasRoom.room g.T.HasRoom.free reserves c.args.store.now c.put_link.new.store _
+          (took_admitted g.T.HasRoom.room g.T.HasRoom.free reserves c.args.store.now c.spot_in.new.store c.admit_names.new.store c.put_link.new.store
+          same.room same.free c.in_ok-admit_names.ensures.room.0.charges c.in_ok-put_link.ensures.space),
+      stays.0,
+      stays.1,
+    )

@@ -11,7 +11,8 @@ use Rattle.hm_calls.specs.Stop.{Answers, Decides}
 use Rattle.hm_calls.proofs.MadeLemmas.{as_named, known_back, made_kept, made_place, make_accepted, make_crowded, make_exists, make_full, make_future}
 use Rattle.hm_calls.proofs.MadeLemmas.{make_lost, make_nameless, make_present, make_slave, make_word, make_writes, same_after}
 use Rattle.hm_calls.proofs.KnownLemmas.{known_then}
-use Rattle.hm_calls.specs.Writes.{IsNewIn, PutsObject, place_in}
+use Rattle.hm_calls.specs.Writes.{IsNewIn, PutsObject, place_in, reserves}
+use Rattle.hm_calls.proofs.TakeLemmas.{both_stay, takes_charged, took_admitted}
 use Rattle.hm_calls.specs.New.{object_by}
 use Rattle.hm_calls.proofs.make.make.Goals as goal
 
@@ -313,3 +314,17 @@ returns-clause-known g c =
     (c.in_ok-admit_names.ensures.content.elements ∙ last.elements) (c.in_ok-admit_names.ensures.content.extents ∙ last.extents)
     c.in_ok-put_object.ensures.keeps.elements c.in_ok-put_object.ensures.keeps.extents c.requires.balanced c.requires.known
     (c.in_ok-put_object.ensures.ok hash)
+
+pub returns-clause-room : goal.returns-clause-room
+returns-clause-room g c =
+    let last = (same_twice (same_twice (same_twice (same_twice c.in_ok-directory.ensures.keeps c.in_ok-check_master.ensures.keeps)
+    c.in_ok-check_new.ensures.keeps) c.in_ok-spot.ensures.keeps) c.in_ok-find_inode.ensures.keeps) in
+    let stays = both_stay c.in_ok-put_object.ensures.borrowed (both_stay (c.in_ok-admit_names.ensures.room.1, c.in_ok-admit_names.ensures.room.2)
+    (both_stay c.in_ok-find_inode.ensures.borrowed (both_stay c.in_ok-spot.ensures.borrowed (both_stay c.in_ok-check_new.ensures.borrowed (both_stay
+    c.in_ok-check_master.ensures.borrowed c.in_ok-directory.ensures.borrowed))))) in (
+      takes_charged g.T.HasRoom.room g.T.HasRoom.free reserves c.args.store.now c.put_object.new.store _
+          (took_admitted g.T.HasRoom.room g.T.HasRoom.free reserves c.args.store.now c.find_inode.new.store c.admit_names.new.store c.put_object.new.store
+          last.room last.free c.in_ok-admit_names.ensures.room.0.charges c.in_ok-put_object.ensures.space),
+      stays.0,
+      stays.1,
+    )

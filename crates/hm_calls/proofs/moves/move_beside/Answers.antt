@@ -11,10 +11,11 @@ use Rattle.hm_dirs.specs.Names.{OnNamed, names_of_hash}
 use Rattle.hm_dirs.specs.declared.spot.Spot.{Spot}
 use Rattle.hm_calls.specs.Due.{space_for}
 use Rattle.hm_calls.specs.Stop.{Answers}
-use Rattle.hm_calls.specs.Writes.{Renames, place_of_name}
+use Rattle.hm_calls.specs.Writes.{Renames, place_of_name, reserves}
 use Rattle.hm_calls.specs.declared.stop.Stop.{Stop}
 use Rattle.hm_calls.proofs.MoveStepLemmas.{beside_wrote, first_of_two, on_named_so, second_of_two}
 use Rattle.hm_calls.proofs.StageLemmas.{Wrote, space_before, told_before}
+use Rattle.hm_calls.proofs.TakeLemmas.{both_stay, takes_charged, took_admitted}
 use Rattle.hm_calls.proofs.moves.move_beside.Goals as goal
 
 pub returns-in_err-spot-clause-check : goal.returns-in_err-spot-clause-check
@@ -77,3 +78,15 @@ returns-clause-ok g c =
     (λ es xs. Wrote (Renames (g.H.NameHash.hash_of c.args.hash.now) (place_of_name c.args.old) (place_of_name c.args.new) c.in_ok-spot.spot
     c.args.id.0 c.args.moved.obj) es xs
     (g.T.HasElements.elements c.rename.new.store) (g.T.HasRoom.extents c.rename.new.store)) c.in_ok-rename.ensures.ok)
+
+pub returns-clause-room : goal.returns-clause-room
+returns-clause-room g c =
+    let same = c.in_ok-spot.ensures.keeps in
+    let stays = both_stay c.in_ok-rename.ensures.borrowed (both_stay (c.in_ok-admit_names.ensures.room.1, c.in_ok-admit_names.ensures.room.2)
+    c.in_ok-spot.ensures.borrowed) in (
+      takes_charged g.T.HasRoom.room g.T.HasRoom.free reserves c.args.store.now c.rename.new.store _
+          (took_admitted g.T.HasRoom.room g.T.HasRoom.free reserves c.args.store.now c.spot_in.new.store c.admit_names.new.store c.rename.new.store
+          same.room same.free c.in_ok-admit_names.ensures.room.0.charges c.in_ok-rename.ensures.space),
+      stays.0,
+      stays.1,
+    )

@@ -9,13 +9,14 @@ use Rattle.hm_records.specs.declared.inode.Inode.{Inode}
 use Rattle.hm_calls.specs.Due.{space_for}
 use Rattle.hm_calls.specs.Moves.{over_checks}
 use Rattle.hm_calls.specs.Stop.{Answers}
-use Rattle.hm_calls.specs.Writes.{Replaces, place_of_name}
+use Rattle.hm_calls.specs.Writes.{Replaces, place_of_name, reserves}
 use Rattle.hm_calls.specs.declared.stop.Stop.{Stop}
 use Rattle.hm_calls.specs.declared.stop.Stop.TheVariants.{Refused}
 use Rattle.hm_calls.proofs.MoveLemmas.{not_equal}
 use Rattle.hm_calls.proofs.MoveStepLemmas.{OnMoved, decided_answers, moved_found, nothing_lacks, over_lacks, over_passes, over_stopped, over_wrote}
 use Rattle.hm_calls.proofs.MoveStepLemmas.{way_closed, way_told}
 use Rattle.hm_calls.proofs.StageLemmas.{Wrote, space_before, told_before}
+use Rattle.hm_calls.proofs.TakeLemmas.{both_stay, takes_charged, took_admitted, took_nothing}
 use Rattle.hm_calls.proofs.moves.move_over.Goals as goal
 
 pub returns-in_err-check_way-clause-check : goal.returns-in_err-check_way-clause-check
@@ -104,3 +105,24 @@ returns-clause-ok g c =
     (λ es xs. Wrote (Replaces (g.H.NameHash.hash_of c.args.hash.now) (place_of_name c.args.old) (place_of_name c.args.new) c.args.key c.args.id.0
     c.args.moved.obj c.args.there c.in-Some.inode.links) es xs (g.T.HasElements.elements c.replace.new.store) (g.T.HasRoom.extents
     c.replace.new.store)) c.in_ok-replace.ensures.ok)
+
+pub returns-then-there-object-clause-room : goal.returns-then-there-object-clause-room
+returns-then-there-object-clause-room g c =
+    let same = c.in_ok-inode.ensures.keeps in (
+      takes_charged g.T.HasRoom.room g.T.HasRoom.free reserves c.args.store.now c.find_inode.new.store _
+          (took_nothing g.T.HasRoom.room g.T.HasRoom.free reserves c.args.store.now c.find_inode.new.store same.room same.free),
+      c.in_ok-inode.ensures.borrowed.0,
+      c.in_ok-inode.ensures.borrowed.1,
+    )
+
+pub returns-clause-room : goal.returns-clause-room
+returns-clause-room g c =
+    let same = c.in_ok-inode.ensures.keeps in
+    let stays = both_stay c.in_ok-replace.ensures.borrowed (both_stay (c.in_ok-admit_names.ensures.room.1, c.in_ok-admit_names.ensures.room.2)
+    c.in_ok-inode.ensures.borrowed) in (
+      takes_charged g.T.HasRoom.room g.T.HasRoom.free reserves c.args.store.now c.replace.new.store _
+          (took_admitted g.T.HasRoom.room g.T.HasRoom.free reserves c.args.store.now c.find_inode.new.store c.admit_names.new.store c.replace.new.store
+          same.room same.free c.in_ok-admit_names.ensures.room.0.charges c.in_ok-replace.ensures.space),
+      stays.0,
+      stays.1,
+    )

@@ -1,4 +1,4 @@
-use Rattle.std.proofs.Common.{◌≡◌, ℕ, ◌+◌, ◌≤◌, ◌∙◌, List, Some, None, Err, ap, refl, subst, sym}
+use Rattle.std.proofs.Common.{◌≡◌, ℕ, ◌∙◌, List, Some, None, Err, ap, refl, subst, sym}
 use Rattle.std.specs.Prelude.{◌==◌, if◌then◌else◌}
 use Rattle.std.proofs.lemmas.Result.{err_from_is_err_and}
 use Rattle.hm_types.specs.Name.{IsName}
@@ -28,6 +28,7 @@ use Rattle.hm_calls.proofs.StageLemmas.{IsTaken, acts_ended, good_named, good_ne
 use Rattle.hm_calls.proofs.StageLemmas.{of_refusal, taken, told_then, untaken, untouched, Wrote, refusal_so, scenes_below, scenes_own, told_before}
 use Rattle.hm_key.specs.Stores.{Same}
 use Rattle.hm_calls.proofs.MoveBesideLemmas.{beside_placed, beside_stopped, beside_told, name_is_new}
+use Rattle.hm_calls.proofs.TakeLemmas.{both_stay, charges_later, takes_charged, takes_failed}
 use Rattle.hm_calls.proofs.moves.move_to.Goals as goal
 
 pub returns-in_err-old-clause-answers : goal.returns-in_err-old-clause-answers
@@ -485,23 +486,43 @@ move_over-requires-clause-values g c = record {
 pub returns-in_default-2-clause-room : goal.returns-in_default-2-clause-room
 returns-in_default-2-clause-room g c =
     let same = (same_twice (same_twice (same_twice (same_twice c.in_ok-from.ensures.keeps c.in_ok-to.ensures.keeps)
-    c.in_ok-check_master.ensures.keeps) c.in_ok-check_master-2.ensures.keeps) c.in_ok-key.ensures.keeps) in (
-      subst (λ (r : ℕ → ℕ). (zone : ℕ) → r zone ≤ g.T.HasRoom.room c.move_beside.new.store zone + reserves zone) same.room c.in_ok-move_beside.ensures.room.0,
-      c.in_ok-move_beside.ensures.room.1 ∙ (c.in_ok-key.ensures.borrowed.0 ∙ (c.in_ok-check_master-2.ensures.borrowed.0
-          ∙ (c.in_ok-check_master.ensures.borrowed.0 ∙ (c.in_ok-to.ensures.borrowed.0 ∙ c.in_ok-from.ensures.borrowed.0)))),
-      c.in_ok-move_beside.ensures.room.2 ∙ (c.in_ok-key.ensures.borrowed.1 ∙ (c.in_ok-check_master-2.ensures.borrowed.1
-          ∙ (c.in_ok-check_master.ensures.borrowed.1 ∙ (c.in_ok-to.ensures.borrowed.1 ∙ c.in_ok-from.ensures.borrowed.1)))),
+    c.in_ok-check_master.ensures.keeps) c.in_ok-check_master-2.ensures.keeps) c.in_ok-key.ensures.keeps) in
+    let stays = both_stay (c.in_ok-move_beside.ensures.room.1, c.in_ok-move_beside.ensures.room.2) (both_stay c.in_ok-key.ensures.borrowed (both_stay
+    c.in_ok-check_master-2.ensures.borrowed (both_stay c.in_ok-check_master.ensures.borrowed (both_stay c.in_ok-to.ensures.borrowed
+    c.in_ok-from.ensures.borrowed)))) in (
+      takes_charged g.T.HasRoom.room g.T.HasRoom.free reserves c.args.store.now c.move_beside.new.store _
+          (charges_later g.T.HasRoom.room g.T.HasRoom.free reserves c.args.store.now c.find_entry.new.store c.move_beside.new.store same.room same.free
+          c.in_ok-move_beside.ensures.room.0.charges),
+      stays.0,
+      stays.1,
     )
 
 pub returns-clause-room : goal.returns-clause-room
 returns-clause-room g c =
     let same = (same_twice (same_twice (same_twice (same_twice c.in_ok-from.ensures.keeps c.in_ok-to.ensures.keeps)
-    c.in_ok-check_master.ensures.keeps) c.in_ok-check_master-2.ensures.keeps) c.in_ok-key.ensures.keeps) in (
-      subst (λ (r : ℕ → ℕ). (zone : ℕ) → r zone ≤ g.T.HasRoom.room c.move_over.new.store zone + reserves zone) same.room c.in_ok-move_over.ensures.room.0,
-      c.in_ok-move_over.ensures.room.1 ∙ (c.in_ok-key.ensures.borrowed.0 ∙ (c.in_ok-check_master-2.ensures.borrowed.0
-          ∙ (c.in_ok-check_master.ensures.borrowed.0 ∙ (c.in_ok-to.ensures.borrowed.0 ∙ c.in_ok-from.ensures.borrowed.0)))),
-      c.in_ok-move_over.ensures.room.2 ∙ (c.in_ok-key.ensures.borrowed.1 ∙ (c.in_ok-check_master-2.ensures.borrowed.1
-          ∙ (c.in_ok-check_master.ensures.borrowed.1 ∙ (c.in_ok-to.ensures.borrowed.1 ∙ c.in_ok-from.ensures.borrowed.1)))),
+    c.in_ok-check_master.ensures.keeps) c.in_ok-check_master-2.ensures.keeps) c.in_ok-key.ensures.keeps) in
+    let stays = both_stay (c.in_ok-move_over.ensures.room.1, c.in_ok-move_over.ensures.room.2) (both_stay c.in_ok-key.ensures.borrowed (both_stay
+    c.in_ok-check_master-2.ensures.borrowed (both_stay c.in_ok-check_master.ensures.borrowed (both_stay c.in_ok-to.ensures.borrowed
+    c.in_ok-from.ensures.borrowed)))) in (
+      takes_charged g.T.HasRoom.room g.T.HasRoom.free reserves c.args.store.now c.move_over.new.store _
+          (charges_later g.T.HasRoom.room g.T.HasRoom.free reserves c.args.store.now c.find_entry.new.store c.move_over.new.store same.room same.free
+          c.in_ok-move_over.ensures.room.0.charges),
+      stays.0,
+      stays.1,
+    )
+
+pub returns-in_err-move_over-clause-room : goal.returns-in_err-move_over-clause-room
+returns-in_err-move_over-clause-room g c =
+    let p = err_from_is_err_and c.from_residual-in_err-move_over.result c.from_residual-in_err-move_over.ensures.1 in
+    let same = (same_twice (same_twice (same_twice (same_twice c.in_ok-from.ensures.keeps c.in_ok-to.ensures.keeps)
+    c.in_ok-check_master.ensures.keeps) c.in_ok-check_master-2.ensures.keeps) c.in_ok-key.ensures.keeps) in
+    let stays = both_stay (c.in_err-move_over.ensures.room.1, c.in_err-move_over.ensures.room.2) (both_stay c.in_ok-key.ensures.borrowed (both_stay
+    c.in_ok-check_master-2.ensures.borrowed (both_stay c.in_ok-check_master.ensures.borrowed (both_stay c.in_ok-to.ensures.borrowed
+    c.in_ok-from.ensures.borrowed)))) in (
+      takes_failed g.T.HasRoom.room g.T.HasRoom.free reserves c.args.store.now c.find_entry.new.store c.move_over.new.store
+          c.from_residual-in_err-move_over.result c.in_err-move_over.field-0.0 (p.1 ∙ ap Err p.2) same.room c.in_err-move_over.ensures.room.0.room,
+      stays.0,
+      stays.1,
     )
 
 pub move_beside-requires-clause-older : goal.move_beside-requires-clause-older

@@ -13,13 +13,14 @@ use Rattle.hm_calls.specs.Due.{space_for, zones_beside}
 use Rattle.hm_calls.specs.Known.{AreBelowIn, AreKnown}
 use Rattle.hm_calls.specs.Places.{refuse_kind}
 use Rattle.hm_calls.specs.declared.stop.Stop.TheVariants.{Refused}
-use Rattle.hm_calls.specs.Writes.{TakesLink, place_in, IsNewIn}
+use Rattle.hm_calls.specs.Writes.{TakesLink, place_in, IsNewIn, reserves}
 use Rattle.hm_calls.proofs.RefusalLemmas.{future_refuses, name_refuses, of_rm, past_refuses, walk_refuses, word_refuses}
 use Rattle.hm_calls.proofs.RemoveLemmas.{removal, rm_accepts, rm_kind_refuses, rm_master_refuses, rm_missing_refuses, rm_space_refuses, rm_writes}
 use Rattle.hm_calls.proofs.SceneLemmas.{IsStoppedBy, answered, decided}
 use Rattle.hm_calls.proofs.StageLemmas.{Wrote, acts_ended, early_named, good_named, master_passes, master_stopped, nameless, no_ids, of_refusal}
 use Rattle.hm_calls.proofs.StageLemmas.{past_stopped, refusal_so, space_before, taken, told_before, told_then, untaken, untouched}
 use Rattle.hm_calls.proofs.KnownLemmas.{known_then}
+use Rattle.hm_calls.proofs.TakeLemmas.{both_stay, takes_charged, took_admitted}
 use Rattle.hm_calls.proofs.remove.remove.Goals as goal
 
 pub returns-in_err-path-clause-answers : goal.returns-in_err-path-clause-answers
@@ -251,3 +252,15 @@ returns-clause-known g c =
     c.take_link.new.store (λ a b takes. takes.steps.writes) (c.in_ok-admit_rest.ensures.content.elements ∙ same.elements)
     (c.in_ok-admit_rest.ensures.content.extents ∙ same.extents) c.in_ok-take_link.ensures.keeps.elements c.in_ok-take_link.ensures.keeps.extents
     c.requires.balanced c.requires.known c.in_ok-take_link.ensures.ok
+
+pub returns-clause-room : goal.returns-clause-room
+returns-clause-room g c =
+    let same = same_twice c.in_ok-directory.ensures.keeps c.in_ok-check_master.ensures.keeps in
+    let stays = both_stay c.in_ok-take_link.ensures.borrowed (both_stay (c.in_ok-admit_rest.ensures.room.1, c.in_ok-admit_rest.ensures.room.2)
+    (both_stay c.in_ok-check_master.ensures.borrowed c.in_ok-directory.ensures.borrowed)) in (
+      takes_charged g.T.HasRoom.room g.T.HasRoom.free reserves c.args.store.now c.take_link.new.store _
+          (took_admitted g.T.HasRoom.room g.T.HasRoom.free reserves c.args.store.now c.check_master.new.store c.admit_rest.new.store c.take_link.new.store
+          same.room same.free c.in_ok-admit_rest.ensures.room.0.charges c.in_ok-take_link.ensures.space),
+      stays.0,
+      stays.1,
+    )

@@ -17,7 +17,7 @@ use Rattle.hm_dirs.specs.Walk.{place_of}
 use Rattle.hm_calls.specs.Known.{AreBelowIn, AreKnown}
 use Rattle.hm_calls.specs.Places.{ask_kind}
 use Rattle.hm_calls.specs.Stop.{Answers}
-use Rattle.hm_calls.specs.Writes.{TakesDirectory, place_in, IsNewIn}
+use Rattle.hm_calls.specs.Writes.{TakesDirectory, place_in, IsNewIn, reserves}
 use Rattle.hm_calls.proofs.RefusalLemmas.{future_refuses, name_refuses, of_rmdir, past_refuses, walk_refuses, word_refuses}
 use Rattle.hm_calls.proofs.RemoveLemmas.{empty_check, empty_told, removal, rmdir_accepts, rmdir_empty_refuses, rmdir_kind_refuses}
 use Rattle.hm_calls.proofs.RemoveLemmas.{rmdir_master_refuses, rmdir_writes}
@@ -25,6 +25,7 @@ use Rattle.hm_calls.proofs.SceneLemmas.{IsStoppedBy, answered, decided, scenes_s
 use Rattle.hm_calls.proofs.StageLemmas.{Wrote, acts_ended, early_named, good_named, master_passes, master_stopped, nameless, no_ids, of_refusal}
 use Rattle.hm_calls.proofs.StageLemmas.{on_balanced, past_stopped, taken, told_before, told_then, untaken, untouched}
 use Rattle.hm_calls.proofs.KnownLemmas.{known_then}
+use Rattle.hm_calls.proofs.TakeLemmas.{both_stay, takes_charged, took_spent}
 use Rattle.hm_calls.proofs.remove.remove_directory.Goals as goal
 
 pub returns-in_err-path-clause-answers : goal.returns-in_err-path-clause-answers
@@ -266,3 +267,15 @@ returns-clause-known g c =
     c.in_ok-directory.object.at.object) pfs c.args.id.0 (IsNewIn pfs c.args.id.0) c.args.store.now c.check_empty.new.store c.take_directory.new.store
     (λ a b takes. takes.steps.writes) same.elements same.extents c.in_ok-take_directory.ensures.keeps.elements
     c.in_ok-take_directory.ensures.keeps.extents c.requires.balanced c.requires.known c.in_ok-take_directory.ensures.ok
+
+pub returns-clause-room : goal.returns-clause-room
+returns-clause-room g c =
+    let same = (same_twice (same_twice c.in_ok-directory.ensures.keeps c.in_ok-check_master.ensures.keeps) c.in_ok-check_empty.ensures.keeps) in
+    let stays = both_stay c.in_ok-take_directory.ensures.borrowed (both_stay c.in_ok-check_empty.ensures.borrowed (both_stay
+    c.in_ok-check_master.ensures.borrowed c.in_ok-directory.ensures.borrowed)) in (
+      takes_charged g.T.HasRoom.room g.T.HasRoom.free reserves c.args.store.now c.take_directory.new.store _
+          (took_spent g.T.HasRoom.room g.T.HasRoom.free reserves c.args.store.now c.check_empty.new.store c.take_directory.new.store same.room same.free
+          c.in_ok-take_directory.ensures.space),
+      stays.0,
+      stays.1,
+    )

@@ -1,0 +1,12 @@
+use Rattle.std.proofs.Common.{refl}
+use Rattle.hm_types.specs.Space.{nothing}
+use Rattle.hm_calls.proofs.TakeLemmas.{takes_charged, took_nothing}
+use Rattle.hm_calls.proofs.edits.admit_edit.Goals as goal
+
+pub returns-then-is_there-clause-room : goal.returns-then-is_there-clause-room
+returns-then-is_there-clause-room g c = (
+  takes_charged g.T.HasRoom.room g.T.HasRoom.free nothing c.args.store.now c.args.store.now _
+      (took_nothing g.T.HasRoom.room g.T.HasRoom.free nothing c.args.store.now c.args.store.now refl refl),
+  refl,
+  refl,
+)
