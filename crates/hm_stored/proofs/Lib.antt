@@ -32,7 +32,7 @@ mod TurnLemmas
 mod TreeLemmas
 mod MountLemmas
 mod ToldLemmas
-mod OpenedLemmas
+pub mod OpenedLemmas
 mod DroppedLemmas
 mod TreeCountLemmas
 mod KeptLemmas
