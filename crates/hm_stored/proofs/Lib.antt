@@ -33,7 +33,8 @@ mod UntoldLemmas
 mod TreeLemmas
 mod MountLemmas
 mod ToldLemmas
-mod OpenedLemmas
+pub mod OpenedLemmas
 mod DroppedLemmas
 mod TreeCountLemmas
 mod KeptLemmas
+mod LookLemmas

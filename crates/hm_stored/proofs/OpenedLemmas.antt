@@ -1,6 +1,6 @@
 -- What a space held is told as a call is opened.
-use Rattle.std.proofs.Common.{◌≡◌, true, ℕ, ◌*◌, ◌≤◌, List, [], length, map, Option, Some, None, refl, sym, ap, subst, ◌∙◌, is_some}
-use Rattle.std.specs.Prelude.{IfSome, IsSomeAnd, option_map, ◌&&◌}
+use Rattle.std.proofs.Common.{◌≡◌, true, true≢false, ℕ, ◌*◌, ◌≤◌, List, [], length, map, Option, Some, None, refl, sym, ap, subst, ◌∙◌, is_some}
+use Rattle.std.specs.Prelude.{IfSome, IsSomeAnd, IsTrue, option_map, ◌&&◌}
 use Rattle.hm_types.specs.Elements.{FullElement}
 use Rattle.hm_types.specs.declared.limits.TheConstants.{BIGBLOCK_BYTES}
 use Rattle.hm_disk.specs.Crash.{Told}
@@ -10,16 +10,17 @@ use Rattle.hm_image.proofs.ExtentsOfLemmas.{placed_balanced, placed_payloads}
 use Rattle.hm_key.specs.Balance.{IsBalanced, full_elements}
 use Rattle.hm_stored.specs.Basis.{Basis, IsFirm, elements_in, fulls_in}
 use Rattle.hm_stored.specs.Content.{HaveContent, OpensContent, TellsContent}
-use Rattle.hm_stored.specs.Heap.{Heap, basis_with, bytes_of, content_of, content_with, does_tell, places_in}
+use Rattle.hm_stored.specs.Heap.{Heap, basis_with, bytes_of, content_by, content_of, content_with, does_tell, places_in}
 use Rattle.hm_stored.specs.Held.{IsKept}
 use Rattle.hm_stored.specs.Known.{is_known}
 use Rattle.hm_stored.specs.Log.{filled}
-use Rattle.hm_stored.specs.Standing.{HoldsBy, basis_now}
+use Rattle.hm_stored.specs.Standing.{Holds, HoldsBy, basis_now}
 use Rattle.hm_stored.specs.Turn.{IsClosed, IsOpened}
 use Rattle.hm_stored.specs.declared.roots.Roots.{Roots}
 use Rattle.hm_stored.proofs.BeginLemmas.{firm_places, image_extents}
+use Rattle.hm_stored.proofs.CauseLemmas.{tells_parts}
 use Rattle.hm_stored.proofs.PutCallLemmas.{sized_kept}
-use Rattle.hm_stored.proofs.ToldLemmas.{content_found, elements_at, live_in, of_lists}
+use Rattle.hm_stored.proofs.ToldLemmas.{content_firm, content_found, content_known, elements_at, live_in, of_lists}
 use Rattle.hm_stored.proofs.TurnLemmas.{IsSized, places_are}
 
 -- a call was opened, over a state whose books are in order
@@ -92,3 +93,30 @@ module _ (h h' : Heap) (root last : ℕ) (closed : IsClosed h) (kept : ∥ IsKep
         (ap (λ (x : Heap). x.log) opens.rest) size_is (disk_is ∙ is) (subst IsFirm (sym basis_is) holds.firm)
         (ap (λ (n : ℕ). is_known n es) (ap (λ (x : Heap). x.last) opens.rest) ∙ known)
         (ap (λ (b : Basis). fulls_in b t.bytes) basis_is ∙ holds.elements))
+
+  -- and what is told was held
+  pub told_held : IsTrue (does_tell h') → (es : List FullElement) × Holds h root es × IsTrue (is_known last es)
+  told_held told = by_disk h.disk refl (sym (ap (λ (o : Option (List FullElement)). is_some o) content_is) ∙ (tells_parts h' told).1) where
+    basis_at : option_map (basis_with h') h'.pages.begin ≡ Some (basis_now h root)
+    basis_at = ap (option_map (basis_with h')) (opens.pages.begin ∙ ap Some (sym opens.pages.current)) ∙ ap Some basis_is
+
+    content_is : content_of h' ≡ content_with last (Some (basis_now h root)) h.disk
+    content_is =
+        ap (λ (o : Option Basis). content_with h'.last o h'.disk) basis_at
+        ∙ (ap (content_with h'.last (Some (basis_now h root))) disk_is
+        ∙ ap (λ (n : ℕ). content_with n (Some (basis_now h root)) h.disk) (ap (λ (x : Heap). x.last) opens.rest))
+
+    by_content : (t : Told) → h.disk ≡ Some t → (o : Option (List FullElement)) → content_by last (basis_now h root) t.bytes ≡ o → is_some o ≡ true
+        → (es : List FullElement) × Holds h root es × IsTrue (is_known last es)
+    by_content t is None found some = absurd (true≢false (sym some))
+    by_content t is (Some es) found some =
+        let firm = content_firm last (basis_now h root) t.bytes es found in (
+          es,
+          subst (λ (o : Option Told). IsSomeAnd o (λ t. HoldsBy h root t.bytes es)) (sym is) (record { firm = firm.0; elements = firm.1 }),
+          content_known last (basis_now h root) t.bytes es found,
+        )
+
+    by_disk : (o : Option Told) → h.disk ≡ o → is_some (content_with last (Some (basis_now h root)) o) ≡ true
+        → (es : List FullElement) × Holds h root es × IsTrue (is_known last es)
+    by_disk None is some = absurd (true≢false (sym some))
+    by_disk (Some t) is some = by_content t is (content_by last (basis_now h root) t.bytes) refl some

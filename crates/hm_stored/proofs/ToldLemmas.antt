@@ -54,3 +54,12 @@ content_firm last b bytes es told = by_tests (is_firm b) (is_known last (fulls_i
   by_tests true true firm told = (from_firm b firm, cc)
   by_tests true false firm told = absurd (cc)
   by_tests false k firm told = absurd (cc)
+
+-- and the ids are known
+pub content_known : (last : ℕ) (b : Basis) (bytes : List ℕ) (es : List FullElement) → content_by last b bytes ≡ Some es → is_known last es ≡ true
+unfolding content_by
+content_known last b bytes es told = by_tests (is_firm b) (is_known last (fulls_in b bytes)) refl told where
+  by_tests : (f k : Bool) → is_known last (fulls_in b bytes) ≡ k → cond (f && k) (Some (fulls_in b bytes)) None ≡ Some es → is_known last es ≡ true
+  by_tests true true known told = let same : fulls_in b bytes ≡ es = cc in sym (ap (is_known last) same) ∙ known
+  by_tests true false known told = absurd (cc)
+  by_tests false k known told = absurd (cc)

@@ -1,6 +1,7 @@
 -- How a call on a space is opened and closed.
 use Rattle.std.specs.Prelude.{◌≡◌, ◌&&◌, ℕ, Bool, true, false, [], None}
 use Rattle.hm_pages.specs.Calls.{IsBegun, IsKept as IsPagesKept, IsUndone}
+use Rattle.hm_pages.specs.Store.{frame_of as pages_frame}
 use Rattle.hm_stored.specs.Heap.{Heap}
 
 -- no call is open
@@ -34,3 +35,9 @@ pub record IsDropped (old new : Heap) : Type 0 where
 -- A change of the open call ended: where it was done, all is as it was, and where it failed, each further one is refused.
 abbrev pub IsEnded : Bool → Heap → Heap → Type 0
 IsEnded done old new = new ≡ record old { whole = old.whole && done }
+
+-- A look at a space left its pages in each state, and all else but what it keeps of which offsets changed.
+pub record LooksSame (old new : Heap) : Type 0 where
+  pub pages : pages_frame new.pages ≡ pages_frame old.pages
+  pub current : new.pages.current ≡ old.pages.current
+  pub rest : new ≡ record old { pages = new.pages }

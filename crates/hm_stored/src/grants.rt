@@ -1,10 +1,11 @@
 // A freemap over lent pages, for one call each.
 ghost use Rattle.std.specs.Prelude.{◌≡◌, ◌≤◌, IfOk, OnOk, IfErr};
-ghost use Rattle.hm_types.specs.Layout.{block_of};
+ghost use Rattle.hm_types.specs.Layout.{IsPool, block_of};
 ghost use Rattle.hm_types.specs.Offset.{byte_of};
 ghost use Rattle.hm_types.specs.Space.{IfNoSpace, rounded};
 ghost use Rattle.hm_types.specs.declared.limits.TheConstants.{LEAST_BIGBLOCKS, MOST_BIGBLOCKS};
 ghost use Rattle.hm_freemap.specs.Admit.{HasAdmissionCause, IsAdmitted, IsRefused};
+ghost use Rattle.hm_freemap.specs.Calls.{CountsFree};
 ghost use Rattle.hm_freemap.specs.Change.{given, shared};
 ghost use Rattle.hm_freemap.specs.Extents.{Changes, IsReferred, IsShareable, Moves, Takes};
 ghost use Rattle.hm_freemap.specs.Extents.{reference, referred, unreferred};
@@ -131,4 +132,28 @@ pub(crate) fn admit<P: FreemapPages>(
         Ok(()) => Ok(then),
         Err(fault) => Err(fault),
     }
+}
+
+/// How many big-blocks are free.
+pub(crate) fn count_free<P: FreemapPages>(
+    pages: &mut P,
+    bigblocks: u32,
+    append: [u32; 4],
+) -> Result<u32, Fault>
+    requires size { (LEAST_BIGBLOCKS ≤ bigblocks) × (bigblocks ≤ MOST_BIGBLOCKS) }
+    requires below { AreBelow bigblocks append }
+    requires there { HasLayer2 bigblocks (P.layer2 pages.old) }
+    ensures ok { IfOk result (λ free. WhereTold (P.committed pages.old) (P.frozen pages.old)
+        (P.pages pages.old) (λ maps. CountsFree bigblocks append maps free)) }
+    ensures same { (P.pages pages.new ≡ P.pages pages.old) × (P.rest pages.new ≡ P.rest pages.old) }
+    ensures frame { P.frame pages.new ≡ P.frame pages.old }
+    ensures cause { HasFreemapCause bigblocks append (IsPool bigblocks)
+        (P.committed pages.old) (P.frozen pages.old) (P.pages pages.old)
+        (P.faults pages.old) (P.faults pages.new) result }
+{
+    let mut map = Freemap::over(pages, bigblocks, append);
+    let answer = map.free_blocks();
+    let (last, _append) = map.into_parts();
+    let _there = last;
+    answer
 }

@@ -2,12 +2,17 @@
 ghost use Rattle.std.specs.Prelude.{◌≡◌, ◌≤◌, ◌<◌, IfErr, IfOk, IfSome, IsSomeAnd, OnOk, length, take as first};
 ghost use Rattle.hm_types.specs.Faults.{HasAdmitCause, HasStoreCause};
 ghost use Rattle.hm_types.specs.Space.{IsPayloadZone, in_zone, nothing, rounded};
+ghost use Rattle.hm_types.specs.Faults.{IsCaused};
+ghost use Rattle.hm_types.specs.Layout.{IsPool};
+ghost use Rattle.hm_freemap.specs.Faults.{IsFreemapDamage};
 ghost use Rattle.hm_key.specs.Extents.{extent_at, given_back_at, shared_at};
 ghost use Rattle.hm_pages.specs.Store.{contents};
 ghost use Rattle.hm_stored.specs.Calls.{AnswersRoom, ChangesExtents, Places, Stays};
-ghost use Rattle.hm_stored.specs.Heap.{extents_in, heap_of, room_of};
+ghost use Rattle.hm_stored.specs.Heap.{extents_in, free_of, heap_of, maps_of, room_of};
+ghost use Rattle.hm_stored.specs.Turn.{LooksSame};
 
 use crate::extents::{give, renew, share};
+use crate::grants::count_free;
 use crate::payloads::{put, read};
 use crate::space::Space;
 use hm_disk::{Disk, MOST_CALL_BYTES};
@@ -126,5 +131,25 @@ impl<D: Disk> Space<D> {
             });
         }
         read(&mut self.disk, at.byte(), buf)
+    }
+
+    /// How many big-blocks are free. It reads each page of layer 2 once a state. Damage is told only of
+    /// an entry that is none of its big-block.
+    pub fn free_blocks(&mut self) -> Result<u32, Fault>
+        ensures ok { IfOk result (λ free. free ≡ free_of
+            (heap_of (contents self.old.pages.store) (D.told self.old.disk) self.old.books)) }
+        ensures same { LooksSame
+            (heap_of (contents self.old.pages.store) (D.told self.old.disk) self.old.books)
+            (heap_of (contents self.new.pages.store) (D.told self.new.disk) self.new.books) }
+        ensures disk { self.new.disk ≡ self.old.disk }
+        ensures cause { IfErr result (IsFreemapDamage self.old.books.bigblocks self.old.books.append
+            (IsPool self.old.books.bigblocks)
+            (maps_of (heap_of (contents self.old.pages.store) (D.told self.old.disk) self.old.books))) }
+        ensures no_media { IfErr result (IsCaused 0 0) }
+    {
+        if !self.books.whole {
+            return Err(Fault::NoMemory);
+        }
+        count_free(&mut self.pages, self.books.bigblocks, self.books.append)
     }
 }

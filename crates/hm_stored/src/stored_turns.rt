@@ -2,6 +2,7 @@
 ghost use Rattle.std.specs.Prelude.{◌≡◌, IfSome, IsSome, List, true};
 ghost use Rattle.hm_types.specs.Elements.{FullElement};
 ghost use Rattle.hm_pages.specs.Store.{contents};
+ghost use Rattle.hm_stored.specs.Content.{KeepsContent};
 ghost use Rattle.hm_stored.specs.Heap.{content_of, heap_of};
 ghost use Rattle.hm_stored.specs.Known.{AreKnown};
 ghost use Rattle.hm_stored.specs.Standing.{Holds};
@@ -42,6 +43,9 @@ impl<D: Disk> Stored<D> {
             (heap_of (contents self.new.space.pages.store) (D.told self.new.space.disk) self.new.space.books) }
         ensures root { self.new.root ≡ self.old.root }
         ensures disk { self.new.space.disk ≡ self.old.space.disk }
+        ensures content { KeepsContent
+            (heap_of (contents self.old.space.pages.store) (D.told self.old.space.disk) self.old.space.books)
+            (heap_of (contents self.new.space.pages.store) (D.told self.new.space.disk) self.new.space.books) }
     {
         self.space.keep();
     }

@@ -114,6 +114,14 @@ impl<D: Disk> Space<D> {
         &self.disk
     }
 
+    /// The disk, of a space that is used no more.
+    pub fn into_disk(self) -> D
+        ensures { result ≡ self.disk }
+    {
+        let Space { disk, .. } = self;
+        disk
+    }
+
     /// What it keeps beside pages and disk.
     pub fn books(&self) -> &Books
         ensures { result.now ≡ self.now.books }

@@ -1,0 +1,30 @@
+-- Free big-blocks are counted.
+use Rattle.hm_pages.specs.Store.{contents}
+use Rattle.hm_stored.specs.Heap.{heap_of}
+use Rattle.hm_stored.proofs.LookLemmas.{free_counted, look_kept, look_layer2, looks_same}
+use Rattle.hm_stored.proofs.space.Space.free_blocks.Goals as goal
+
+pub invariant_of-self : goal.invariant_of-self
+invariant_of-self g c =
+    let s = c.args.self.now in
+    let old = contents s.pages.store in
+    let new = contents c.count_free.new.pages.store in
+    record {
+      there = look_layer2 old new (g.D.Disk.told s.disk) s.books c.count_free.ensures.frame c.count_free.ensures.same.0 s.there;
+      kept = look_kept old new (g.D.Disk.told s.disk) s.books c.count_free.ensures.frame c.count_free.ensures.same.0 s.kept;
+    }
+
+pub returns-clause-ok : goal.returns-clause-ok
+returns-clause-ok g c =
+    let s = c.args.self.now in
+    free_counted (contents s.pages.store) (g.D.Disk.told s.disk) s.books c.count_free.result c.if-not-self.false c.count_free.ensures.ok
+
+pub returns-clause-same : goal.returns-clause-same
+returns-clause-same g c =
+    let s = c.args.self.now in
+    looks_same (contents s.pages.store) (contents c.count_free.new.pages.store) (g.D.Disk.told s.disk) s.books c.count_free.ensures.frame
+    c.count_free.ensures.same.0
+
+pub returns-clause-cause : goal.returns-clause-cause
+unfolding heap_of
+returns-clause-cause g c = c.count_free.ensures.cause.damage
