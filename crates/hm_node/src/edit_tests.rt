@@ -5,8 +5,7 @@ ghost use Rattle.hm_node.specs.Edits.{IsLeafPage, IsInnerPage};
 
 use crate::tests::{FRESH_RECORD, fresh_root, offset, tall_root};
 use crate::{
-    Head, INNER, LEAF, Leaf, broken_rule, insert_element, place, put_delete, put_payload,
-    read_element, remove_element, set_mirror,
+    Head, INNER, LEAF, Leaf, broken_rule, insert_element, put_payload, remove_element, set_mirror,
 };
 use hm_fields::Page;
 use hm_key::{Element, is_element};
@@ -140,21 +139,6 @@ fn take_out(page: &mut Page, at: usize) -> Result<(), Fail> {
     Ok(())
 }
 
-// Gives the element at a place of a leaf another delete id.
-fn close(page: &mut Page, at: usize, delete: u64) -> Result<(), Fail> {
-    require_leaf(page)?;
-    if usize::from(Head::read(page).count) <= at {
-        return Err(Fail::from("no such element"));
-    }
-    let mut element = read_element(page, place(at));
-    element.base.delete = delete;
-    if !is_element(&element) {
-        return Err(Fail::from("an id before that which made it"));
-    }
-    put_delete(page, at, delete);
-    Ok(())
-}
-
 // Lets the payload of the element at a place of a leaf stand elsewhere.
 fn move_payload(page: &mut Page, at: usize, to: HOff) -> Result<(), Fail> {
     require_leaf(page)?;
@@ -179,7 +163,6 @@ fn an_element_goes_and_the_others_move_up(rt: HostRuntime) -> Result<(), Fail> {
     take_out(&mut page, 0)?;
     let none = fresh_root(&[(2, &[0]), (64, &[0; 64]), (128, &[0; 64])])?;
     assert!(rt; page.bytes() == none.bytes());
-    assert!(rt; take_out(&mut page, 0).is_err());
     Ok(())
 }
 
@@ -189,18 +172,5 @@ fn an_offset_is_put_in_its_place(rt: HostRuntime) -> Result<(), Fail> {
     move_payload(&mut page, 1, offset(0xA000_0000_0700_0040)?)?;
     let moved = fresh_root(&[(168, &[0x40, 0, 0, 0x07, 0, 0, 0, 0xA0])])?;
     assert!(rt; page.bytes() == moved.bytes());
-    Ok(())
-}
-
-#[test]
-fn a_delete_id_is_put_and_the_mirror_rises(rt: HostRuntime) -> Result<(), Fail> {
-    let mut page = fresh_root(&[])?;
-    assert!(rt; close(&mut page, 1, 1).is_err());
-    close(&mut page, 1, 7)?;
-    let closed = fresh_root(&[(8, &[7]), (152, &[7])])?;
-    assert!(rt; page.bytes() == closed.bytes());
-    close(&mut page, 1, 0)?;
-    let open = fresh_root(&[(8, &[7])])?;
-    assert!(rt; page.bytes() == open.bytes());
     Ok(())
 }
