@@ -146,7 +146,7 @@ module _ (h h' : Heap) (zones : Zones) (most : ℕ) (few : h.bigblocks ≤ MOST_
       let four = named_zone zones zone named in
       let was = room_was zone in
       let lacks : does_lack zones (room_in h.append h.pages.current) zone ≡ true =
-          rw (named, lt-ltb (room_in h.append h.pages.current zone) (reserve_of zone) (omega (arith, was, low))) refl in
+      rw (named, lt-ltb (room_in h.append h.pages.current zone) (reserve_of zone) (omega (arith, was, low))) refl in
       room_is zone ∙ subst (λ (z : ℕ). does_lack zones (room_in h.append h.pages.current) z ≡ true → room_in h'.append h'.pages.current z ≡ BIGBLOCK_BYTES)
       (sym four.2) (λ is. admitted.lowest.whole four.0 four.1 is) lacks
 
