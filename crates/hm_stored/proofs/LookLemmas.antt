@@ -8,7 +8,7 @@ use Rattle.hm_freemap.specs.Calls.{CountsFree}
 use Rattle.hm_freemap.specs.Places.{HasLayer2}
 use Rattle.hm_freemap.specs.Stand.{free_by}
 use Rattle.hm_pages.specs.Store.{Store, Frame as PagesFrame, frame_of as pages_frame, layer2}
-use Rattle.hm_stored.specs.Heap.{Heap, free_of, heap_of, maps_of}
+use Rattle.hm_stored.specs.Heap.{free_of, heap_of, maps_of}
 use Rattle.hm_stored.specs.Held.{IsKept}
 use Rattle.hm_stored.specs.Turn.{LooksSame}
 use Rattle.hm_stored.specs.declared.books.Books.{Books}

@@ -1,6 +1,7 @@
 // The store of a volume in use.
-ghost use Rattle.std.specs.Prelude.{◌≡◌};
+ghost use Rattle.std.specs.Prelude.{◌≡◌, ℕ, List, Some};
 ghost use Rattle.hm_btree.specs.Tree.{HoldsTree};
+ghost use Rattle.hm_fields.specs.Fields.{AreBytes};
 ghost use Rattle.hm_pages.specs.Store.{contents};
 ghost use Rattle.hm_stored.specs.Heap.{heap_of, pages_of};
 ghost use Rattle.hm_stored.specs.Turn.{IsClosed};
@@ -8,6 +9,7 @@ ghost use Rattle.hm_stored.specs.Turn.{IsClosed};
 use crate::space::Space;
 use hm_disk::Disk;
 use hm_key::{HasElements, HasRoom};
+use hm_pages::pages_are_bytes;
 use hm_types::{Counted, Fault, HOff};
 
 /// A volume in use, as the calls on names read and change it: its elements, which the tree over its
@@ -76,6 +78,15 @@ impl<D: Disk> Stored<D> {
         ensures { result ≡ self.now.root }
     {
         self.root
+    }
+
+    /// Does nothing, and says what the type of a page tells: each byte of each page is one.
+    pub fn pages_are_bytes(&self)
+        ensures { (at : ℕ) (page : List ℕ) →
+            (heap_of (contents self.now.space.pages.store) (D.told self.now.space.disk) self.now.space.books).pages.current at ≡ Some page →
+            AreBytes page }
+    {
+        pages_are_bytes(&self.space.pages.store);
     }
 
     /// The space and the root.

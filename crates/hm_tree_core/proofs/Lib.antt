@@ -12,3 +12,4 @@ pub mod SpaceLemmas
 pub mod FaultLemmas
 pub mod KnownLemmas
 pub mod OpenLemmas
+pub mod AnswerLemmas

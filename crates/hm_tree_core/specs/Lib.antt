@@ -3,3 +3,4 @@ pub mod Placed
 pub mod History
 pub mod Told
 pub mod Calls
+pub mod Answer

@@ -1,10 +1,12 @@
-//! The core over the tree: what it keeps between its calls, as laws that its proof rests on, and one
-//! piece of a flush. The core itself is not there yet.
+//! The core over the tree: one call over the store of a volume in use, what a core keeps between its
+//! calls, as laws that its proof rests on, and one piece of a flush. The core itself is not there yet.
 #![tactic(auto)]
 
+mod calls;
 mod laws;
 mod write;
 
+pub use calls::answer_over;
 pub use laws::{
     a_call_is_paid_for, a_call_that_tells_space_goes_on, a_core_begins_with_no_history,
     a_dropped_space_holds_what_was_held, a_dropped_store_holds_what_was_held,

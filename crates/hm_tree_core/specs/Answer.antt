@@ -1,0 +1,29 @@
+-- What a call over a store makes of its space, from one moment without an open call to another.
+use Rattle.std.specs.Prelude.{◌≡◌, ℕ, ◌+◌, ◌≤◌, List, [], ◌∷◌, ◌++◌}
+use Rattle.hm_model.specs.Foreign.{Foreigners}
+use Rattle.hm_model.specs.Needs.{floor}
+use Rattle.hm_model.specs.Volume.{Volume}
+use Rattle.hm_model.specs.declared.command.Command.{Command}
+use Rattle.hm_model.specs.declared.entry.Entry.{Entry}
+use Rattle.hm_model.specs.declared.reply.Reply.{Reply}
+use Rattle.hm_stored.specs.Heap.{Heap, free_of, room_of}
+use Rattle.hm_stored.specs.Turn.{IsClosed}
+use Rattle.hm_tree_core.specs.History.{IsLegalOver}
+use Rattle.hm_tree_core.specs.Ledger.{IsPaid}
+
+-- the entry of a call with this reply, by the id after the last one
+pub record IsEntryOf (last : ℕ) (command : Command) (reply : Reply) (entry : Entry) : Type 0 where
+  pub call_is : entry.call ≡ command
+  pub reply_is : entry.reply ≡ reply
+  pub own : entry.id.0 ≡ last + 1
+
+-- A call was answered so, over which the count of faults went from one to another. No call is open, the big-blocks that
+-- were begun are paid for, and each history that was legal goes on legally with the entry of the call.
+pub record Answers (faults faults' last : ℕ) (command : Command) (h h' : Heap) (root root' : ℕ) (reply : Reply) : Type 0 where
+  pub closed : IsClosed h'
+  pub counted : faults ≤ faults'
+  pub paid : (first calls : ℕ) → IsPaid first (free_of h) calls (room_of h) → IsPaid first (free_of h') (calls + 1) (room_of h')
+  pub legal : (free start : ℕ) (history : List Entry) (opening : Volume) (foreigners : Foreigners) (entry : Entry)
+      → floor free history ≤ free_of h → IsEntryOf last command reply entry
+      → IsLegalOver free start faults history h root last opening foreigners
+      → IsLegalOver free start faults' (history ++ entry ∷ []) h' root' (last + 1) opening foreigners
