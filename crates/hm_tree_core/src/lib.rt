@@ -4,6 +4,8 @@
 
 mod calls;
 mod laws;
+mod step;
+mod volume;
 mod write;
 
 pub use calls::answer_over;
@@ -14,4 +16,6 @@ pub use laws::{
     every_command_is_read, ids_of_a_volume_are_known, ids_of_held_elements_fit,
     later_counts_leave_a_history_legal, the_ledger_keeps_the_least,
 };
+pub use step::Step;
+pub use volume::Core;
 pub use write::write_pages;
