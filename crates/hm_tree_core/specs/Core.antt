@@ -29,14 +29,6 @@ module _ {D I O : Type 0} where
     pub input : new.input ≡ old.input
     pub output : new.output ≡ old.output
 
-  -- the history and the rest are as before, and the space
-  pub record KeepsAll (old new : CoreState D I O) : Type 0 where
-    pub history : new.history ≡ old.history
-    pub last : new.last ≡ old.last
-    pub space : (new.heap ≡ old.heap) × (new.root ≡ old.root)
-    pub disk : new.disk ≡ old.disk
-    pub rest : KeepsRest old new
-
   -- The history gained the entry of this call, by the next id, and at most one place of the room is taken. A history that
   -- was legal is so still.
   pub record Enters (faults_of : D → ℕ) (old new : CoreState D I O) (lane line : ℕ) (command : Command) : Type 0 where

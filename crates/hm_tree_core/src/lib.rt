@@ -1,5 +1,5 @@
-//! The core over the tree: one call over the store of a volume in use, what a core keeps between its
-//! calls, as laws that its proof rests on, and one piece of a flush. The core itself is not there yet.
+//! The core over the tree: its calls over the store of a volume in use, what it keeps between them, as
+//! laws that its proof rests on, and one piece of a flush. Nothing mounts one yet.
 #![tactic(auto)]
 
 mod calls;

@@ -37,7 +37,7 @@ pub struct Core<D: Disk, I, O> {
 
 impl<D: Disk, I, O> Core<D, I, O> {
     /// Answers a call on names or file bytes and enters it in the history, with the next id. Where no
-    /// id is left it does nothing.
+    /// id is left it does nothing. The history must have room for two entries.
     pub fn call(&mut self, lane: u8, line: u32, command: Command) -> Step
         requires room { 2 ≤ vec_capacity self.old.history - vec_len self.old.history }
         requires served { IsOnTrees command × IsInRange command }
