@@ -13,3 +13,4 @@ pub mod FaultLemmas
 pub mod KnownLemmas
 pub mod OpenLemmas
 pub mod AnswerLemmas
+pub mod StepLemmas

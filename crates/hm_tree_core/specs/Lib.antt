@@ -4,3 +4,6 @@ pub mod History
 pub mod Told
 pub mod Calls
 pub mod Answer
+pub mod Inside
+pub mod State
+pub mod Core

@@ -1,9 +1,11 @@
-//! The core over the tree: one call over the store of a volume in use, what a core keeps between its
-//! calls, as laws that its proof rests on, and one piece of a flush. The core itself is not there yet.
+//! The core over the tree: its calls over the store of a volume in use, what it keeps between them, as
+//! laws that its proof rests on, and one piece of a flush. Nothing mounts one yet.
 #![tactic(auto)]
 
 mod calls;
 mod laws;
+mod step;
+mod volume;
 mod write;
 
 pub use calls::answer_over;
@@ -15,4 +17,6 @@ pub use laws::{
     an_opened_store_tells_what_was_held, every_command_is_read, ids_of_a_volume_are_known,
     ids_of_held_elements_fit, later_counts_leave_a_history_legal, the_ledger_keeps_the_least,
 };
+pub use step::Step;
+pub use volume::Core;
 pub use write::write_pages;

@@ -1,0 +1,48 @@
+-- One step of a core.
+use Rattle.std.proofs.Common.{ℕ, ◌+◌, ◌-◌, ◌≤◌, ◌<◌, Bool, true, false, List, [], ◌∷◌, ◌++◌, length, length-append, sym, subst, arith, cond}
+use Rattle.std.proofs.Math.Logic.{∥∥₁_elim}
+use Rattle.std.proofs.Props.{props}
+use Rattle.hm_types.specs.declared.limits.TheConstants.{BIGBLOCK_BYTES, GREATEST_ID}
+use Rattle.hm_freemap.specs.Stand.{append_of, entry_of as entry_at, is_handed_out}
+use Rattle.hm_header.specs.declared.header.Header.{Header}
+use Rattle.hm_model.specs.Needs.{floor}
+use Rattle.hm_model.specs.declared.command.Command.{Command}
+use Rattle.hm_model.specs.declared.entry.Entry.{Entry}
+use Rattle.hm_model.specs.declared.reply.Reply.{Reply}
+use Rattle.hm_stored.specs.Heap.{Heap, free_of, room_of}
+use Rattle.hm_tree_core.specs.Answer.{Answers}
+use Rattle.hm_tree_core.specs.Inside.{IsInOrder}
+use Rattle.hm_tree_core.specs.Ledger.{IsPaid}
+use Rattle.hm_tree_core.proofs.FloorLemmas.{floor_paid}
+
+-- the entry of a call with these
+abbrev pub entry_of : ℕ → ℕ → ℕ → Command → Reply → Entry
+entry_of id lane line command reply = record { id = record { 0 = id }; lane = lane; line = line; call = command; reply = reply }
+
+-- the room of a zone is that of a big-block at most
+room_most : (h : Heap) (zone : ℕ) → room_of h zone ≤ BIGBLOCK_BYTES
+room_most h zone = by h.whole (is_handed_out zone) (entry_at h.pages.current (append_of h.append zone)).append_off where
+  by : (w b : Bool) (off : ℕ) → cond w (cond b (BIGBLOCK_BYTES - off) 0) (cond b BIGBLOCK_BYTES 0) ≤ BIGBLOCK_BYTES
+  by true true off = omega arith
+  by true false off = omega arith
+  by false true off = omega arith
+  by false false off = omega arith
+
+module _ (header : Header) (slot last free : ℕ) (h : Heap) (history : List Entry) where
+  -- no fewer big-blocks are free than the least of the history
+  pub least_left : ∥ IsInOrder header slot last free h history ∥₁ → floor free history ≤ free_of h
+  least_left ordered = ∥∥₁_elim ordered (hlevel props) (λ o. floor_paid free (free_of h) history (room_of h) (room_most h) o.paid)
+
+  -- after a call more all is in order
+  pub ordered_next : (h' : Heap) (root root' faults faults' : ℕ) (command : Command) (reply : Reply) (entry : Entry) → last < GREATEST_ID
+      → Answers faults faults' last command h h' root root' reply → IsInOrder header slot last free h history
+      → IsInOrder header slot (last + 1) free h' (history ++ entry ∷ [])
+  ordered_next h' root root' faults faults' command reply entry left answers o = record {
+    header_is = o.header_is;
+    slot_is = o.slot_is;
+    closed = answers.closed;
+    later = let later = o.later in omega (arith, later);
+    greatest = omega (arith, left);
+    paid = subst (λ (n : ℕ). IsPaid free (free_of h') n (room_of h')) (sym (length-append history (entry ∷ [])))
+        (answers.paid free (length history) o.paid);
+  }

@@ -1,0 +1,19 @@
+-- What always holds of a core's fields.
+use Rattle.std.specs.Prelude.{ℕ, ◌≤◌, List, length}
+use Rattle.hm_types.specs.declared.limits.TheConstants.{GREATEST_ID}
+use Rattle.hm_header.specs.Range.{IsHeader}
+use Rattle.hm_header.specs.declared.header.Header.{Header}
+use Rattle.hm_model.specs.declared.entry.Entry.{Entry}
+use Rattle.hm_stored.specs.Heap.{Heap, free_of, room_of}
+use Rattle.hm_stored.specs.Turn.{IsClosed}
+use Rattle.hm_tree_core.specs.Ledger.{IsPaid}
+
+-- No call is open. The header is in range, with the number of one of both slots, and no id after its last one is past the
+-- greatest. The big-blocks that zones have begun since the volume was mounted are paid for by calls.
+pub record IsInOrder (header : Header) (slot last free : ℕ) (h : Heap) (history : List Entry) : Type 0 where
+  pub header_is : IsHeader header
+  pub slot_is : slot ≤ 1
+  pub closed : IsClosed h
+  pub later : header.last.0 ≤ last
+  pub greatest : last ≤ GREATEST_ID
+  pub paid : IsPaid free (free_of h) (length history) (room_of h)
