@@ -37,9 +37,11 @@ pub struct Core<D: Disk, I, O> {
 
 impl<D: Disk, I, O> Core<D, I, O> {
     /// Answers a call on names or file bytes and enters it in the history, with the next id. Where no
-    /// id is left it does nothing. The history must have room for two entries.
-    pub fn call(&mut self, lane: u8, line: u32, command: Command) -> Step
+    /// id is left it does nothing. The history must have room for two entries. `since` is the last id
+    /// when the call began; no reply of these calls depends on it.
+    pub fn call(&mut self, lane: u8, line: u32, since: Id, command: Command) -> Step
         requires room { 2 ≤ vec_capacity self.old.history - vec_len self.old.history }
+        requires since { since.0 ≤ self.old.last.0 }
         requires served { IsOnTrees command × IsInRange command }
         ensures steps { Steps D.faults
             (record {
