@@ -26,7 +26,8 @@ pub fn answer_over<D: Disk>(
     command: &Command,
     last: Id,
 ) -> Reply
-    requires closed { IsClosed (heap_of (contents stored.old.space.pages.store) (D.told stored.old.space.disk) stored.old.space.books) }
+    requires closed { IsClosed (heap_of (contents stored.old.space.pages.store)
+        (D.told stored.old.space.disk) stored.old.space.books) }
     requires served { IsOnTrees command.now × IsInRange command.now }
     requires left { last.0 < GREATEST_ID }
     ensures answers { Answers (D.faults stored.old.space.disk) (D.faults stored.new.space.disk) last.0 command.now

@@ -51,7 +51,8 @@ impl<D: Disk, I, O> Core<D, I, O> {
               boundary = self.old.header.last.0;
               free = self.old.free;
               start = self.old.start;
-              heap = heap_of (contents self.old.stored.space.pages.store) (D.told self.old.stored.space.disk) self.old.stored.space.books;
+              heap = heap_of (contents self.old.stored.space.pages.store)
+                  (D.told self.old.stored.space.disk) self.old.stored.space.books;
               root = self.old.stored.root;
               disk = self.old.stored.space.disk;
               input = self.old.input;
@@ -64,7 +65,8 @@ impl<D: Disk, I, O> Core<D, I, O> {
               boundary = self.new.header.last.0;
               free = self.new.free;
               start = self.new.start;
-              heap = heap_of (contents self.new.stored.space.pages.store) (D.told self.new.stored.space.disk) self.new.stored.space.books;
+              heap = heap_of (contents self.new.stored.space.pages.store)
+                  (D.told self.new.stored.space.disk) self.new.stored.space.books;
               root = self.new.stored.root;
               disk = self.new.stored.space.disk;
               input = self.new.input;
