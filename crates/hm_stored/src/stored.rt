@@ -83,7 +83,8 @@ impl<D: Disk> Stored<D> {
     /// Does nothing, and says what the type of a page tells: each byte of each page is one.
     pub fn pages_are_bytes(&self)
         ensures { (at : ℕ) (page : List ℕ) →
-            (heap_of (contents self.now.space.pages.store) (D.told self.now.space.disk) self.now.space.books).pages.current at ≡ Some page →
+            (heap_of (contents self.now.space.pages.store) (D.told self.now.space.disk)
+            self.now.space.books).pages.current at ≡ Some page →
             AreBytes page }
     {
         pages_are_bytes(&self.space.pages.store);

@@ -5,6 +5,8 @@
 mod calls;
 mod laws;
 mod step;
+#[cfg(test)]
+mod tests;
 mod volume;
 mod write;
 
