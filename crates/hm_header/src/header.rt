@@ -25,7 +25,7 @@ pub const GATE_CLOSED: u8 = 0;
 pub(crate) const SIGNATURE: [u8; 8] = *b"HMRPROF1";
 
 /// The version of the layout of a volume that is read and written here.
-pub const VERSION: u32 = 1;
+pub const VERSION: u32 = 2;
 
 /// The state of a volume at a boundary, as a header slot holds it.
 #[derive(Clone, Copy, Debug, PartialEq, Eq)]

@@ -1,7 +1,6 @@
 // Volumes on disks in memory: their bytes, worked out by hand from the format, and disks that fail.
 use super::*;
 use hm_disk::{Disk, MemDisk};
-use hm_header::VERSION;
 use hm_types::Failed;
 use std::alloc::Global;
 use std::process::Abort;
@@ -50,7 +49,7 @@ fn words(numbers: [u32; 4]) -> [u8; 16] {
 fn the_header_is_in_the_first_slot(rt: HostRuntime) {
     let mut disk = small(&rt, rt.alloc());
     for (place, want) in [
-        (0, words([0x5052_4d48, 0x3146_4f52, VERSION, 24])),
+        (0, words([0x5052_4d48, 0x3146_4f52, 2, 24])),
         (16, words([1, 0, 1, 0])),
         (32, words([0x0580_0000, 0x8000_0000, 0, 0])),
         (48, words([0, 0, 11, 12])),
