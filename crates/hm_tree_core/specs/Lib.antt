@@ -6,4 +6,8 @@ pub mod Calls
 pub mod Answer
 pub mod Inside
 pub mod State
+pub mod Seen
+pub mod Served
 pub mod Core
+pub mod Opened
+pub mod Finished

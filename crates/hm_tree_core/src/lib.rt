@@ -3,14 +3,21 @@
 #![tactic(auto)]
 
 mod calls;
+mod ending;
+mod entries;
+mod fault;
 mod laws;
+mod opening;
+mod served;
 mod step;
+mod steps;
 #[cfg(test)]
 mod tests;
 mod volume;
 mod write;
 
 pub use calls::answer_over;
+pub use fault::OpenFault;
 pub use laws::{
     a_call_is_paid_for, a_call_that_tells_space_goes_on, a_core_begins_with_no_history,
     a_dropped_space_holds_what_was_held, a_dropped_store_holds_what_was_held,
@@ -19,6 +26,8 @@ pub use laws::{
     an_opened_store_tells_what_was_held, every_command_is_read, ids_of_a_volume_are_known,
     ids_of_held_elements_fit, later_counts_leave_a_history_legal, the_ledger_keeps_the_least,
 };
+pub use opening::newfs;
+pub use served::is_served;
 pub use step::Step;
 pub use volume::Core;
 pub use write::write_pages;

@@ -1,0 +1,15 @@
+-- The commands that a core serves.
+use Rattle.std.specs.Prelude.{◌≡◌, ◌⊎◌}
+use Rattle.hm_model.specs.Forms.{IsInRange}
+use Rattle.hm_model.specs.declared.command.Command.{Command}
+use Rattle.hm_model.specs.declared.command.Command.TheVariants.{Df}
+use Rattle.hm_calls.specs.Commands.{IsOnTrees}
+
+-- a call on names or on the bytes of files, or one that tells the space
+abbrev pub IsServed : Command → Type 0
+IsServed command = IsOnTrees command ⊎ (command ≡ Df)
+
+-- the same with values that a line may have
+pub record IsAsked (command : Command) : Type 0 where
+  pub served : IsServed command
+  pub in_range : IsInRange command

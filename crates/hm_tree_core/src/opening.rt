@@ -1,0 +1,46 @@
+// Making a volume, and opening one.
+ghost use Rattle.std.specs.Prelude.{◌≡◌, ◌≤◌, IfErr, IfOk, OnOk};
+ghost use Rattle.hm_types.specs.Told.{BothTell};
+ghost use Rattle.hm_header.specs.Range.{IsSize};
+ghost use Rattle.hm_tree_core.specs.Opened.{HasOpenCause, IsMade, IsMounted, IsNotMade, IsNotMounted, IsOpenCaused};
+ghost use Rattle.hm_tree_core.specs.Seen.{seen};
+
+use crate::fault::OpenFault;
+use crate::volume::Core;
+use hm_disk::Disk;
+use hm_types::Fault;
+use std::alloc::Global;
+
+/// Makes an empty volume of this many big-blocks. Takes no memory.
+///
+/// `BadField` is answered with place 12 where the disk has fewer bytes, and then it is as before. A
+/// crash within, or a call of the disk that fails, may leave a disk without a volume.
+pub fn newfs<D: Disk>(disk: &mut D, bigblocks: u32) -> Result<(), OpenFault>
+    requires size { IsSize bigblocks }
+    ensures ok { OnOk result (BothTell (D.told disk.old) (D.told disk.new) (IsMade bigblocks)) }
+    ensures err { IfErr result (IsNotMade bigblocks (D.told disk.old) (D.told disk.new)) }
+    ensures cause { HasOpenCause (D.faults disk.old) (D.faults disk.new) result }
+{
+    todo!()
+}
+
+impl<D: Disk, I, O> Core<D, I, O> {
+    /// Opens the volume on a disk, and keeps two streams for it. It reads both header slots, the
+    /// freemap, the tree and each payload, and writes nothing. An error hands back the disk and the
+    /// streams, and says why: that the disk has no volume, that a field of its header is out of range,
+    /// the first damage of its freemap or its tree, a fault of reading, or want of memory.
+    pub fn mount(
+        alloc: Global,
+        disk: D,
+        input: I,
+        output: O,
+    ) -> Result<Core<D, I, O>, (D, I, O, OpenFault)>
+        ensures ok { IfOk result (λ core. IsMounted (D.told disk) (D.faults disk) input output (seen core)) }
+        ensures err { IfErr result (λ e. IsNotMounted (D.told disk) (D.told e.0) e.3
+            × (e.1 ≡ input) × (e.2 ≡ output)) }
+        ensures cause { IfErr result (λ e. (D.faults disk ≤ D.faults e.0)
+            × IsOpenCaused (D.faults disk) (D.faults e.0) e.3) }
+    {
+        Err((disk, input, output, OpenFault::Fault(Fault::NoMemory)))
+    }
+}
