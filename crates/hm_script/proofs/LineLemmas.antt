@@ -31,3 +31,7 @@ rest_is i s = rw (← length-drop i s) (take-length (drop i s))
 pub none_from_test : (s : List ℕ) → (length s == 0) ≡ true → s ≡ []
 none_from_test [] test = refl
 none_from_test (b ∷ bs) test = absurd (grind (arith, nat_tests))
+
+-- some whole lines: what follows them begins a line
+abbrev pub IsEnded : List ℕ → Type 0
+IsEnded front = (rest : List ℕ) → texts_of (front ++ rest) ≡ texts_of front ++ texts_of rest

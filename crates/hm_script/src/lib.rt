@@ -24,5 +24,6 @@ pub use hm_model::Line;
 pub use laws::{
     a_line_gives_one_command, blocks_are_one, first_bad_lines_are_one, no_script_has_a_bad_line,
 };
+pub use lines::first_lines;
 pub use reading::read;
 pub use script::{Block, Script};

@@ -1,5 +1,5 @@
-// The lines of a script: where each ends, and how many there are.
-ghost use Rattle.std.specs.Prelude.{◌≡◌, ◌<◌, ◌∷◌, ◌↔◌, IsTrue, length};
+// The lines of a script: where each ends, how many there are, and the first of them.
+ghost use Rattle.std.specs.Prelude.{◌≡◌, ◌<◌, ◌∷◌, ◌↔◌, IsTrue, length, take};
 ghost use Rattle.hm_model.specs.Lines.{texts_of};
 ghost use Rattle.hm_model.specs.Script.{IsTooLong};
 
@@ -16,6 +16,22 @@ pub(crate) fn split_line(script: &[u8]) -> (&[u8], &[u8])
         Some(end) => (&script[..end], &script[end + 1..]),
         None => (script, &script[script.len()..]),
     }
+}
+
+/// The bytes of the first lines, so many: all bytes where there are no more. It takes no memory.
+pub fn first_lines(script: &[u8], count: u32) -> &[u8]
+    ensures { texts_of result.now ≡ take count (texts_of script.now) }
+{
+    let mut end = 0usize;
+    let mut left = count;
+    'lines: while left > 0 {
+        let Some(length) = memchr(b'\n', &script[end..]) else {
+            return script;
+        };
+        end += length + 1;
+        left -= 1;
+    }
+    &script[..end]
 }
 
 /// Whether the script has too many bytes or lines. It takes no memory.

@@ -1,7 +1,5 @@
-pub mod CheckLemmas
 pub mod EndLemmas
 pub mod ExactLemmas
-pub mod GrammarLemmas
 pub mod HexLemmas
 pub mod LinesLemmas
 pub mod OpenLemmas

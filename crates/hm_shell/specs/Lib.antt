@@ -1,14 +1,14 @@
 pub mod Seen
 pub mod Words
-pub mod Checking
+pub mod Alone
+pub mod Lines
 pub mod Stop
 pub mod Reading
 pub mod Printing
 pub mod Preparing
 pub mod Opening
-pub mod Serving
 pub mod Running
+pub mod Serving
 pub mod Devices
 pub mod Run
 pub mod Exact
-pub mod Alone

@@ -1,29 +1,40 @@
--- What reading the words and the script, and checking each line, came to.
-use Rattle.std.specs.Prelude.{◌≡◌, ℕ, List, Option, All, length}
-use Rattle.hm_model.specs.Lines.{texts_of}
-use Rattle.hm_model.specs.Served.Lines.{IsFirstBad, IsLine}
+-- What reading the words and the script, and looking through its lines, came to.
+use Rattle.std.specs.Prelude.{◌≡◌, ℕ, ◌≤◌, List, Option, All, IfSome, length}
+use Rattle.hm_types.specs.declared.limits.TheConstants.{MOST_SCRIPT_LINES}
+use Rattle.hm_header.specs.Range.{IsSize}
+use Rattle.hm_model.specs.declared.line.Line.{Line}
 use Rattle.hm_shell.specs.declared.job.Job.{Job}
 use Rattle.hm_shell.specs.declared.stop.Stop.{Stop}
 use Rattle.hm_shell.specs.declared.stop.Stop.TheVariants.{Usage, NotVolume, BadField, DiskFault, Damaged, ScriptFault, OutFault, NoMemory, BadLine, TooLong}
+use Rattle.hm_shell.specs.Lines.{AreRising, HasLines, IsFirstBad, IsGoodScript, IsServedLine}
 use Rattle.hm_shell.specs.Reading.{StoppedReading, WasRead}
 use Rattle.hm_shell.specs.Seen.{Seen}
 use Rattle.hm_shell.specs.Words.{HasPlan, IsPlan, IsUsageFault}
 
--- the words name a volume, and the source gave this script, all lines of which are of the grammar
-pub record IsPrepared (words : List (List ℕ)) (newfs : Option ℕ) (script : List ℕ) (old new : Seen (List ℕ))
+-- The words name a volume, and the source gave a script, all of whose lines are served; these are they.
+pub record IsPrepared (words : List (List ℕ)) (newfs : Option ℕ) (lines : List Line) (old new : Seen (List ℕ))
     : Type 0 where
   pub volume : List ℕ
   pub plan : IsPlan words volume newfs
+  pub script : List ℕ
   pub read : WasRead old new script
-  pub good : All IsLine (texts_of script)
+  pub good : IsGoodScript script
+  pub lines_are : HasLines script lines
 
--- the job is what the words and the script ask for
+-- A job that may be run: each of its lines runs by itself and is served, their numbers rise, and they are not too many.
+pub record IsDue (job : Job) : Type 0 where
+  pub size : IfSome job.newfs IsSize
+  pub each : All IsServedLine job.lines.items
+  pub rising : AreRising job.lines.items
+  pub few : length job.lines.items ≤ MOST_SCRIPT_LINES
+
+-- the job is what the words and the script ask for, and may be run
 pub record WasPrepared (words : List (List ℕ)) (old new : Seen (List ℕ)) (job : Job) : Type 0 where
-  pub prepared : IsPrepared words job.newfs job.script.items old new
-  pub lines : job.lines ≡ length (texts_of job.script.items)
+  pub prepared : IsPrepared words job.newfs job.lines.items old new
+  pub due : IsDue job
 
--- Why nothing was made ready: the words break the rule, and nothing was taken from the source; the
--- reading stopped; or a line is none of the grammar, and this is the first.
+-- Why nothing was made ready: the words break the rule, and nothing was taken from the source; the reading stopped; a line
+-- is not served, and this is the first; or memory ran out.
 abbrev pub StoppedPreparing : List (List ℕ) → Seen (List ℕ) → Seen (List ℕ) → Stop → Type 0
 StoppedPreparing words old new Usage = IsUsageFault words × (new ≡ old)
 StoppedPreparing words old new (BadLine number) =

@@ -1,5 +1,6 @@
 -- The whole run, from the words to the disk.
 use Rattle.std.specs.Prelude.{◌≡◌, ◌⊎◌, ℕ, List, [], Option}
+use Rattle.hm_model.specs.declared.line.Line.{Line}
 use Rattle.hm_shell.specs.declared.stop.Stop.{Stop}
 use Rattle.hm_shell.specs.Devices.{Sight}
 use Rattle.hm_shell.specs.Preparing.{IsPrepared, StoppedPreparing}
@@ -12,16 +13,16 @@ use Rattle.hm_shell.specs.Stop.{last_line, status_of}
 -- lines were run.
 pub record Completes (words : List (List ℕ)) (old new : Sight) : Type 0 where
   pub newfs : Option ℕ
-  pub script : List ℕ
-  pub prepared : IsPrepared words newfs script old.script new.script
-  pub runs : RunsAll newfs script old.disk.told new.disk.told old.out.told new.out.told
+  pub lines : List Line
+  pub prepared : IsPrepared words newfs lines old.script new.script
+  pub runs : RunsAll newfs lines old.disk new.disk old.out.told new.out.told
 
 -- a run that stopped after the words and the script were found good
 pub record StopsLater (words : List (List ℕ)) (old new : Sight) (stop : Stop) : Type 0 where
   pub newfs : Option ℕ
-  pub script : List ℕ
-  pub prepared : IsPrepared words newfs script old.script new.script
-  pub stopped : StoppedRunning newfs script old.disk new.disk old.out new.out stop
+  pub lines : List Line
+  pub prepared : IsPrepared words newfs lines old.script new.script
+  pub stopped : StoppedRunning newfs lines old.disk new.disk old.out new.out stop
 
 -- why a run stopped, and what the devices were when it did; before the words and the script were found
 -- good, nothing was done with the disk and the sink

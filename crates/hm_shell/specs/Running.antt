@@ -1,127 +1,147 @@
--- The run of a script on the volume of a disk.
-use Rattle.std.specs.Prelude.{◌≡◌, ◌≢◌, ◌⊎◌, ℕ, ◌≤◌, List, [], ◌++◌, Option, All, IfSome, length, take}
-use Rattle.hm_types.specs.declared.limits.TheConstants.{LEAST_BIGBLOCKS, MOST_BIGBLOCKS, MOST_SCRIPT_BYTES, MOST_SCRIPT_LINES}
-use Rattle.hm_types.specs.Faults.{IsMedia}
+-- The run of a script's lines on the volume of a disk.
+use Rattle.std.specs.Prelude.{◌≡◌, ◌≢◌, ◌⊎◌, ℕ, ◌≤◌, List, [], ◌++◌, Option, IfSome, IsSomeAnd, length, take}
+use Rattle.hm_types.specs.Faults.{IsMedia, Rose}
 use Rattle.hm_pipe.specs.Pipe.{Gains}
 use Rattle.hm_disk.specs.Crash.{Told}
-use Rattle.hm_types.specs.Told.{BothTell}
+use Rattle.hm_image.specs.Stands.{StandsFor}
 use Rattle.hm_model.specs.declared.entry.Entry.{Entry}
-use Rattle.hm_model.specs.Lines.{texts_of}
+use Rattle.hm_model.specs.declared.line.Line.{Line}
+use Rattle.hm_model.specs.After.{Event, after}
+use Rattle.hm_model.specs.Foreign.{Foreigners}
+use Rattle.hm_model.specs.Legal.{IsLegal, entries_of}
+use Rattle.hm_model.specs.Out.{IsOut}
 use Rattle.hm_model.specs.Volume.{Volume}
-use Rattle.hm_model.specs.Served.After.{after}
-use Rattle.hm_model.specs.Served.Legal.{IsLegal}
-use Rattle.hm_model.specs.Served.Lines.{IsLine, IsScript, Line}
-use Rattle.hm_model.specs.Served.Out.{Answers, out_text}
-use Rattle.hm_core.specs.Core.{StandsForEither}
-use Rattle.hm_core.specs.Stands.{StandsFor}
-use Rattle.hm_shell.specs.declared.job.Job.{Job}
+use Rattle.hm_tree_core.specs.History.{IsClear, setting_of}
 use Rattle.hm_shell.specs.declared.stop.Stop.{Stop}
 use Rattle.hm_shell.specs.declared.stop.Stop.TheVariants.{Usage, NotVolume, BadField, DiskFault, Damaged, ScriptFault, OutFault, NoMemory, BadLine, TooLong}
+use Rattle.hm_shell.specs.Alone.{alone, out_text}
 use Rattle.hm_shell.specs.Opening.{OpensOn, StoppedOpening}
 use Rattle.hm_shell.specs.Seen.{Seen}
-use Rattle.hm_shell.specs.Serving.{IsOutCause}
 
--- a number of big-blocks that a new volume may have
-abbrev pub IsNewSize : ℕ → Type 0
-IsNewSize size = (LEAST_BIGBLOCKS ≤ size) × (size ≤ MOST_BIGBLOCKS)
-
--- a job that may be run: each line of its script is one of the grammar, and so many
-pub record IsDue (job : Job) : Type 0 where
-  pub size : IfSome job.newfs IsNewSize
-  pub good : All IsLine (texts_of job.script.items)
-  pub lines : job.lines ≡ length (texts_of job.script.items)
-  pub few : job.lines ≤ MOST_SCRIPT_LINES
-  pub bytes : length job.script.items ≤ MOST_SCRIPT_BYTES
-
--- All lines of a script were answered on this volume: for a legal history that answers each of them, the
--- sink gained what the lines print.
-pub record AnswersAll (script : List ℕ) (opening : Volume) (old new : Option (List ℕ)) : Type 0 where
-  pub lines : List Line
-  pub lines_are : IsScript script lines
+-- What a core tells of a run: its history, the last id at its end, how many big-blocks were free as it began, and the
+-- counts of the disk's faults as it began and at its end.
+pub record Ran : Type 0 where
   pub history : List Entry
-  pub legal : IsLegal opening history
-  pub answers : Answers opening lines history
-  pub printed : Gains old (out_text lines history) new
+  pub last : ℕ
+  pub free : ℕ
+  pub start : ℕ
+  pub faults : ℕ
 
--- A run that stopped at a line. The lines before it were answered and printed whole; it itself, if it was
--- run, was answered and printed in part or not at all; and those after it were not run, since the legal
--- history answers the others alone. The text is what was printed.
-pub record AnswersInPart (script text : List ℕ) (opening : Volume) : Type 0 where
-  pub lines : List Line
-  pub lines_are : IsScript script lines
+-- its counts lie between two counts of the disk's faults
+pub record IsCounted (old new : ℕ) (ran : Ran) : Type 0 where
+  pub begin : old ≤ ran.start
+  pub rose : ran.start ≤ ran.faults
+  pub end : ran.faults ≤ new
+
+-- All lines of a script were answered, and the sink gained what a run with this history prints.
+pub record AnswersAll (lines : List Line) (ran : Ran) (old new : Option (List ℕ)) : Type 0 where
+  pub text : List ℕ
+  pub out : IsOut (alone lines) ran.history ran.last text
+  pub gained : Gains old text new
+
+-- A run that stopped at a line. The lines before it were answered and printed whole; it itself, if it was run, was
+-- answered and printed in part or not at all; and those after it were not run, since the history is that of the others
+-- alone. The text is what was printed.
+pub record AnswersInPart (lines : List Line) (text : List ℕ) (ran : Ran) : Type 0 where
   pub before : List Line
   pub last : List Line
   pub rest : List Line
   pub split : lines ≡ before ++ (last ++ rest)
   pub one : length last ≤ 1
-  pub history : List Entry
-  pub legal : IsLegal opening history
-  pub answers : Answers opening (before ++ last) history
+  pub out : IsOut (alone (before ++ last)) ran.history ran.last (out_text (before ++ last) ran.history)
   pub printed : ℕ
-  pub text_is : text ≡ out_text before history ++ take printed (out_text last history)
+  pub text_is : text ≡ out_text before ran.history ++ take printed (out_text last ran.history)
 
--- A disk that told this as a volume was opened on it, and tells that, stands for the volume after the
--- history. Where the history has an entry all is settled, and else nothing was written.
-pub record IsKept (opening : Volume) (history : List Entry) (opened new : Option Told) : Type 0 where
-  pub stands : BothTell opened new (λ _ t. StandsFor t.bytes (after opening history))
-  pub settled : history ≢ [] → IfSome new (λ t. t.unsettled ≡ [])
-  pub unwritten : history ≡ [] → new ≡ opened
+-- The history of a run is a legal one over an opening volume, with these foreign masters, and leaves its last id.
+pub record HasHistory (ran : Ran) (opening : Volume) (foreigners : Foreigners) : Type 0 where
+  pub events : List Event
+  pub entries : entries_of events ≡ ran.history
+  pub legal : IsLegal (setting_of ran.free ran.start ran.faults opening foreigners) events
+  pub last : (after opening foreigners events).volume.last ≡ ran.last
 
--- the run of a script from an open volume on
-pub record RunsFrom (script : List ℕ) (opening : Volume) (opened new_disk : Option Told)
+-- the same, and a disk that tells this stands for the volume after that history
+pub record LeavesVolume (ran : Ran) (new : Option Told) (opening : Volume) (foreigners : Foreigners) : Type 0 where
+  pub has : HasHistory ran opening foreigners
+  pub stands : IsSomeAnd new (λ t. StandsFor t.bytes (after opening foreigners has.events).volume)
+
+-- a fact of each volume that a disk stands for which tells this, if all trees in it are certain, and of all foreign masters
+abbrev pub OverEach : Option Told → (Volume → Foreigners → Type 0) → Type 0
+OverEach opened P = IfSome opened (λ t. (opening : Volume) (foreigners : Foreigners) → StandsFor t.bytes opening → IsClear opening → P opening foreigners)
+
+-- What came of a disk that told this as a volume was opened on it, and tells that: it stands for the volume after the
+-- history, over each that it stood for. Where the history has no entry nothing was written, and else all is settled.
+pub record IsKept (opened new : Option Told) (ran : Ran) : Type 0 where
+  pub unwritten : ran.history ≡ [] → new ≡ opened
+  pub settled : ran.history ≢ [] → IfSome new (λ t. t.unsettled ≡ [])
+  pub volume : OverEach opened (LeavesVolume ran new)
+
+-- the whole run of a script's lines: a volume is made or not, opened, used and written back
+pub record RunsAll (newfs : Option ℕ) (lines : List Line) (old_disk new_disk : Seen Told)
     (old_out new_out : Option (List ℕ)) : Type 0 where
-  pub answered : AnswersAll script opening old_out new_out
-  pub kept : IsKept opening answered.history opened new_disk
-
--- the whole run of a script: a volume is made or not, opened, used and written back
-pub record RunsAll (newfs : Option ℕ) (script : List ℕ) (old_disk new_disk : Option Told)
-    (old_out new_out : Option (List ℕ)) : Type 0 where
-  pub opening : Volume
   pub opened : Option Told
-  pub opens : OpensOn newfs opening old_disk opened
-  pub runs : RunsFrom script opening opened new_disk old_out new_out
+  pub opens : OpensOn newfs old_disk.told opened
+  pub ran : Ran
+  pub counted : IsCounted old_disk.faults new_disk.faults ran
+  pub answered : AnswersAll lines ran old_out new_out
+  pub kept : IsKept opened new_disk.told ran
 
--- all lines were answered, and the volume could not be written back: the disk stands for the volume as it
--- was opened, or as it is after the history
-pub record StoppedWriting (script : List ℕ) (opening : Volume) (opened : Option Told) (new_disk : Option Told)
-    (old_out new_out : Option (List ℕ)) : Type 0 where
-  pub answered : AnswersAll script opening old_out new_out
-  pub either : BothTell opened new_disk (λ _ t. StandsForEither opening (after opening answered.history) t)
+-- what made the run stop at a line: the sink failed, or memory ran out
+abbrev pub IsOutCause : ℕ → ℕ → Stop → Type 0
+IsOutCause before after OutFault = Rose before after
+IsOutCause before after NoMemory = Unit {0}
+IsOutCause before after Usage = ⊥
+IsOutCause before after NotVolume = ⊥
+IsOutCause before after (BadField place) = ⊥
+IsOutCause before after (DiskFault b a) = ⊥
+IsOutCause before after (Damaged at kind) = ⊥
+IsOutCause before after (ScriptFault b a) = ⊥
+IsOutCause before after (BadLine number) = ⊥
+IsOutCause before after TooLong = ⊥
 
--- what made the run stop as the volume was written back: the disk, or memory
-abbrev pub IsWriteCause : ℕ → ℕ → Stop → Type 0
-IsWriteCause before after (DiskFault b a) = IsMedia before after b a
-IsWriteCause before after NoMemory = Unit {0}
-IsWriteCause before after Usage = ⊥
-IsWriteCause before after NotVolume = ⊥
-IsWriteCause before after (BadField place) = ⊥
-IsWriteCause before after (Damaged at kind) = ⊥
-IsWriteCause before after (ScriptFault b a) = ⊥
-IsWriteCause before after OutFault = ⊥
-IsWriteCause before after (BadLine number) = ⊥
-IsWriteCause before after TooLong = ⊥
+-- a run stopped at a line, before anything was flushed, and the sink gained what was printed
+pub record StopsAtLine (lines : List Line) (ran : Ran) (old_out new_out : Seen (List ℕ)) (stop : Stop) : Type 0 where
+  pub text : List ℕ
+  pub answered : AnswersInPart lines text ran
+  pub gained : Gains old_out.told text new_out.told
+  pub cause : IsOutCause old_out.faults new_out.faults stop
 
--- A run stopped on an open volume: at a line, and nothing was written; or as the volume was written back.
-abbrev pub StoppedFrom : List ℕ → Volume → Seen Told → Seen Told → Seen (List ℕ) → Seen (List ℕ) → Stop
-    → Type 0
-StoppedFrom script opening opened new_disk old_out new_out stop =
-    ((text : List ℕ) × AnswersInPart script text opening × Gains old_out.told text new_out.told
-    × (new_disk.told ≡ opened.told) × IsOutCause old_out.faults new_out.faults stop)
-    ⊎ (StoppedWriting script opening opened.told new_disk.told old_out.told new_out.told
-    × IsWriteCause opened.faults new_disk.faults stop)
+-- a disk that tells this stands for no volume in which all trees are certain
+abbrev pub StandsForNone : Told → Type 0
+StandsForNone t = (volume : Volume) → StandsFor t.bytes volume → IsClear volume → ⊥
 
--- a run stopped with an open volume
-pub record StoppedUsing (newfs : Option ℕ) (script : List ℕ) (old_disk new_disk : Seen Told)
+-- what made the run stop as the volume was written back: the disk, memory, or damage of what was no volume as it was opened
+abbrev pub IsWriteCause : Option Told → ℕ → ℕ → Stop → Type 0
+IsWriteCause opened before after (DiskFault b a) = IsMedia before after b a
+IsWriteCause opened before after NoMemory = Unit {0}
+IsWriteCause opened before after (Damaged at kind) = IfSome opened StandsForNone
+IsWriteCause opened before after Usage = ⊥
+IsWriteCause opened before after NotVolume = ⊥
+IsWriteCause opened before after (BadField place) = ⊥
+IsWriteCause opened before after (ScriptFault b a) = ⊥
+IsWriteCause opened before after OutFault = ⊥
+IsWriteCause opened before after (BadLine number) = ⊥
+IsWriteCause opened before after TooLong = ⊥
+
+-- all lines were answered and printed, and the volume could not be written back
+pub record StopsWriting (lines : List Line) (opened : Option Told) (ran : Ran) (faults : ℕ)
+    (old_out new_out : Option (List ℕ)) (stop : Stop) : Type 0 where
+  pub answered : AnswersAll lines ran old_out new_out
+  pub cause : IsWriteCause opened ran.faults faults stop
+
+-- A run stopped with an open volume: at a line, or as the volume was written back. Its history is a legal one over each
+-- volume that the disk stood for as it was opened.
+pub record StoppedUsing (newfs : Option ℕ) (lines : List Line) (old_disk new_disk : Seen Told)
     (old_out new_out : Seen (List ℕ)) (stop : Stop) : Type 0 where
-  pub opening : Volume
-  pub opened : Seen Told
-  pub opens : OpensOn newfs opening old_disk.told opened.told
-  pub later : old_disk.faults ≤ opened.faults
-  pub stops : StoppedFrom script opening opened new_disk old_out new_out stop
+  pub opened : Option Told
+  pub opens : OpensOn newfs old_disk.told opened
+  pub ran : Ran
+  pub counted : IsCounted old_disk.faults new_disk.faults ran
+  pub legal : OverEach opened (HasHistory ran)
+  pub stops : StopsAtLine lines ran old_out new_out stop
+      ⊎ StopsWriting lines opened ran new_disk.faults old_out.told new_out.told stop
 
 -- a run stopped before a volume was open, and nothing was printed, or with an open volume
-abbrev pub StoppedRunning : Option ℕ → List ℕ → Seen Told → Seen Told → Seen (List ℕ) → Seen (List ℕ)
-    → Stop → Type 0
-StoppedRunning newfs script old_disk new_disk old_out new_out stop =
+abbrev pub StoppedRunning : Option ℕ → List Line → Seen Told → Seen Told → Seen (List ℕ) → Seen (List ℕ) → Stop → Type 0
+StoppedRunning newfs lines old_disk new_disk old_out new_out stop =
     (StoppedOpening newfs old_disk new_disk stop × (new_out ≡ old_out))
-    ⊎ StoppedUsing newfs script old_disk new_disk old_out new_out stop
+    ⊎ StoppedUsing newfs lines old_disk new_disk old_out new_out stop

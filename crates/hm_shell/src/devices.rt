@@ -1,8 +1,11 @@
 // What a run is given, and what it hands back.
 
+use hm_disk::Disk;
+use hm_pipe::{Sink, Source};
+
 /// The devices of a run.
 #[derive(Drop)]
-pub struct Devices<D, S, K, I, O> {
+pub struct Devices<D: Disk, S: Source, K: Sink, I, O> {
     /// The volume's disk.
     pub disk: D,
     /// Where the script comes from.
@@ -17,7 +20,7 @@ pub struct Devices<D, S, K, I, O> {
 
 /// How a run ended: the exit status, and the devices that it was given.
 #[derive(Drop)]
-pub struct Ended<D, S, K, I, O> {
+pub struct Ended<D: Disk, S: Source, K: Sink, I, O> {
     pub status: u8,
     pub devices: Devices<D, S, K, I, O>,
 }

@@ -4,10 +4,11 @@ ghost use Rattle.hm_shell.specs.Preparing.{StoppedPreparing, WasPrepared};
 ghost use Rattle.hm_shell.specs.Seen.{seen};
 ghost use Rattle.hm_shell.specs.Words.{texts};
 
-use crate::grammar::{BadLine, check_lines};
+use crate::lines::served_lines;
 use crate::read::read_script;
 use crate::stop::Stop;
 use crate::words::planned_size;
+use hm_model::Line;
 use hm_pipe::Source;
 use std::alloc::Global;
 
@@ -16,13 +17,12 @@ use std::alloc::Global;
 pub(crate) struct Job {
     /// The size of a new volume in big-blocks, where one is to be made.
     pub(crate) newfs: Option<u32>,
-    /// The script, each line of which is one of the grammar.
-    pub(crate) script: Vec<u8>,
-    /// The number of its lines.
-    pub(crate) lines: u32,
+    /// The lines of the script, each of a call that is served.
+    pub(crate) lines: Vec<Line>,
 }
 
-/// Reads the words, then the script, and checks each of its lines.
+/// Reads the words, then the script, and looks whether each of its lines is served. The script's bytes
+/// are dropped.
 pub(crate) fn prepare<S: Source>(
     alloc: Global,
     words: &[String],
@@ -38,13 +38,6 @@ pub(crate) fn prepare<S: Source>(
         return Err(Stop::Usage);
     };
     let script = read_script(alloc, source)?;
-    let lines = match check_lines(&script) {
-        Ok(lines) => lines,
-        Err(BadLine(number)) => return Err(Stop::BadLine { number }),
-    };
-    Ok(Job {
-        newfs,
-        script,
-        lines,
-    })
+    let lines = served_lines(alloc, &script)?;
+    Ok(Job { newfs, lines })
 }

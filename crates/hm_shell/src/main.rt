@@ -2,10 +2,10 @@
 #![tactic(auto)]
 
 mod devices;
-mod grammar;
-mod hex;
+mod digits;
 mod job;
 mod laws;
+mod lines;
 mod plan;
 mod print;
 mod read;

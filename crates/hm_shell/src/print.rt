@@ -8,7 +8,7 @@ ghost use Rattle.hm_shell.specs.Stop.{counts_line, damage_line, last_line};
 ghost use Rattle.hm_shell.specs.Printing.{Prints, IsCutShort, StoppedPrinting, joined};
 ghost use Rattle.hm_shell.specs.Seen.{seen};
 
-use crate::hex::hex_digits;
+use crate::digits::hex_digits;
 use crate::stop::Stop;
 use hm_model::{Entry, push_answer};
 use hm_pipe::Sink;

@@ -1,6 +1,6 @@
 // The top call.
 ghost use Rattle.std.specs.Prelude.{◌≡◌, ◌≢◌, ◌↔◌, ◌≤◌, [], IfErr, OnOk};
-ghost use Rattle.hm_shell.specs.Devices.{Between, NeverFall};
+ghost use Rattle.hm_shell.specs.Devices.{NeverFall, sight};
 ghost use Rattle.hm_shell.specs.Printing.{Prints};
 ghost use Rattle.hm_shell.specs.Seen.{seen};
 ghost use Rattle.hm_shell.specs.Stop.{last_line, status_of};
@@ -44,27 +44,23 @@ pub fn run<
 >(rt: &R, words: &[String], devices: Devices<D, S, K, I, O>, _gate: &G) -> Ended<D, S, K, I, O>
     // Each line of the script was answered, in one legal history, and the disk keeps what it made.
     ensures done { result.status ≡ 0 →
-        Between D.told D.faults S.left S.faults K.held K.faults devices result.devices
-        (Completes (texts words.now)) }
+        Completes (texts words.now) (sight devices) (sight result.devices) }
 
     // Any other status has its cause, tells it in the last line, and says how far the run came.
     ensures stopped { result.status ≢ 0 →
-        Between D.told D.faults S.left S.faults K.held K.faults devices result.devices
-        (StopsWith (texts words.now) result.status) }
+        StopsWith (texts words.now) result.status (sight devices) (sight result.devices) }
 
     // The words break the rule, exactly there.
     ensures usage { (result.status ≡ 2) ↔ IsUsageFault (texts words.now) }
 
     // Where the source and the disk tell, they decide which it is.
-    ensures exact { Between D.told D.faults S.left S.faults K.held K.faults devices result.devices
-        (λ old _. Brings (texts words.now) old result.status) }
+    ensures exact { Brings (texts words.now) (sight devices) result.status }
     ensures statuses { IsStatus result.status }
 
     // The streams are those that were given, and no count of faults falls.
-    ensures stream_in { result.devices.stream_in ≡ devices.stream_in }
-    ensures stream_out { result.devices.stream_out ≡ devices.stream_out }
-    ensures counts { Between D.told D.faults S.left S.faults K.held K.faults devices result.devices
-        NeverFall }
+    ensures streams { (result.devices.stream_in ≡ devices.stream_in)
+        × (result.devices.stream_out ≡ devices.stream_out) }
+    ensures counts { NeverFall (sight devices) (sight result.devices) }
 {
     let (mut devices, outcome) = perform(rt.alloc(), words, devices);
     let status = end(outcome, &mut devices.out);
@@ -77,16 +73,11 @@ fn perform<D: Disk, S: Source, K: Sink, I, O>(
     words: &[String],
     devices: Devices<D, S, K, I, O>,
 ) -> (Devices<D, S, K, I, O>, Result<(), Stop>)
-    ensures ok { OnOk result.1
-        (Between D.told D.faults S.left S.faults K.held K.faults devices result.0
-        (Completes (texts words.now))) }
-    ensures err { IfErr result.1 (λ stop.
-        Between D.told D.faults S.left S.faults K.held K.faults devices result.0
-        (λ old new. Stops (texts words.now) old new stop)) }
-    ensures stream_in { result.0.stream_in ≡ devices.stream_in }
-    ensures stream_out { result.0.stream_out ≡ devices.stream_out }
-    ensures counts { Between D.told D.faults S.left S.faults K.held K.faults devices result.0
-        NeverFall }
+    ensures ok { OnOk result.1 (Completes (texts words.now) (sight devices) (sight result.0)) }
+    ensures err { IfErr result.1 (Stops (texts words.now) (sight devices) (sight result.0)) }
+    ensures streams { (result.0.stream_in ≡ devices.stream_in)
+        × (result.0.stream_out ≡ devices.stream_out) }
+    ensures counts { NeverFall (sight devices) (sight result.0) }
 {
     let Devices {
         disk,
@@ -96,7 +87,7 @@ fn perform<D: Disk, S: Source, K: Sink, I, O>(
         stream_out,
     } = devices;
     let closed = match prepare(alloc, words, &mut script) {
-        Ok(job) => run_job(alloc, &job, disk, stream_in, stream_out, &mut out),
+        Ok(job) => run_job(alloc, job, disk, stream_in, stream_out, &mut out),
         Err(stop) => Closed {
             disk,
             stream_in,

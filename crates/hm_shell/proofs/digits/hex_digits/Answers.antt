@@ -1,7 +1,7 @@
 use Rattle.std.proofs.Common.{◌≡◌, ◌-◌, [], drop, ◌∙◌, subst, arith}
 use Rattle.std.proofs.lemmas.List.{length-set}
 use Rattle.hm_shell.proofs.HexLemmas.{fixed_is_hex16, fixed_onto, next_digit}
-use Rattle.hm_shell.proofs.hex.hex_digits.Goals as goal
+use Rattle.hm_shell.proofs.digits.hex_digits.Goals as goal
 
 pub loop-done-preserved : goal.loop-done-preserved
 loop-done-preserved c = (

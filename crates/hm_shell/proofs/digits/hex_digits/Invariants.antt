@@ -1,6 +1,6 @@
 use Rattle.std.proofs.Common.{◌≡◌, ◌-◌, [], drop, length}
 use Rattle.hm_shell.proofs.HexLemmas.{fixed_onto}
-use Rattle.hm_shell.proofs.hex.hex_digits.Given as goal
+use Rattle.hm_shell.proofs.digits.hex_digits.Given as goal
 
 -- the digits that are left, and those that stand there already
 abbrev pub invariant-loop-done : goal.invariant-loop-done
