@@ -7,7 +7,7 @@ use Rattle.std.proofs.lemmas.List.Elements.{All-contains, All-from_recursion, Co
 use Rattle.hm_types.specs.declared.limits.TheConstants.{GREATEST_ID}
 use Rattle.hm_model.specs.declared.entry.Entry.{Entry}
 use Rattle.hm_model.specs.declared.line.Line.{Line}
-use Rattle.hm_model.specs.Out.{IsOf, answers}
+use Rattle.hm_model.specs.Out.{IsOf, answers, begins, ends}
 use Rattle.hm_model.specs.Reply.{told_boundary}
 use Rattle.hm_shell.specs.Alone.{Answers, FoundNone, HasAnswer, HasEntry}
 
@@ -20,30 +20,45 @@ answers_none end = record {
 }
 
 -- the one element of a list
-only_one : {X : Type 0} (x y : X) → Contains (x ∷ []) y → x ≡ y
+pub only_one : {X : Type 0} (x y : X) → Contains (x ∷ []) y → x ≡ y
 only_one x y has = by_index has.0 has.1 has.2 where
   by_index : (k : ℕ) → k < 1 → slice_index_or (x ∷ []) k y ≡ y → x ≡ y
   by_index zero below at = at
   by_index (suc k) below at = absurd (omega (arith, below))
 
--- of entries with other lines none answers a line
-none_answers : (number : ℕ) (history : List Entry) → AllByRecursion (λ e. e.line ≢ number) history → filter (answers number) history ≡ []
+-- entries of other lines
+abbrev pub AreOfOthers : ℕ → List Entry → Type 0
+AreOfOthers number history = AllByRecursion (λ e. e.line ≢ number) history
+
+-- of such entries none answers the line, begins it or ends it
+pub none_answers : (number : ℕ) (history : List Entry) → AreOfOthers number history → filter (answers number) history ≡ []
 none_answers number [] apart = refl
 none_answers number (e ∷ es) apart = rw (ne_eqb e.line number apart.0) (none_answers number es apart.1)
 
+pub none_begins : (number : ℕ) (history : List Entry) → AreOfOthers number history → filter (begins number) history ≡ []
+none_begins number [] apart = refl
+none_begins number (e ∷ es) apart = rw (ne_eqb e.line number apart.0) (none_begins number es apart.1)
+
+pub none_ends : (number : ℕ) (history : List Entry) → AreOfOthers number history → filter (ends number) history ≡ []
+none_ends number [] apart = refl
+none_ends number (e ∷ es) apart = rw (ne_eqb e.line number apart.0) (none_ends number es apart.1)
+
 -- a fact of each element, from one of each that is contained
-each_from : {X : Type 0} (P : X → Type 0) (xs : List X) → ((x : X) → Contains xs x → P x) → All P xs
+pub each_from : {X : Type 0} (P : X → Type 0) (xs : List X) → ((x : X) → Contains xs x → P x) → All P xs
 each_from P xs each = λ k d below. each _ (Contains-get_or xs k d below)
 
 module _ (lines : List Line) (history : List Entry) (line : Line) (later : (l : Line) → Contains lines l → l.number < line.number) where
   -- no entry is of the new line, or of one after it
-  earlier : (end : ℕ) → Answers end lines history → (e : Entry) → Contains history e → e.line < line.number
+  pub earlier : (end : ℕ) → Answers end lines history → (e : Entry) → Contains history e → e.line < line.number
   earlier end h e has = (let of = h.owned e has in let number = of.2.number in let lower = later of.0 of.1 in omega (arith, number, lower))
 
   -- the new line has none so far
+  pub apart : (end : ℕ) → Answers end lines history → AreOfOthers line.number history
+  apart end h = recursion_from_All _ history
+      (each_from (λ e. e.line ≢ line.number) history (λ e has same. (let lower = earlier end h e has in absurd (omega (arith, same, lower)))))
+
   none_yet : (end : ℕ) → Answers end lines history → filter (answers line.number) history ≡ []
-  none_yet end h = none_answers line.number history (recursion_from_All _ history
-      (each_from (λ e. e.line ≢ line.number) history (λ e has same. (let lower = earlier end h e has in absurd (omega (arith, same, lower))))))
+  none_yet end h = none_answers line.number history (apart end h)
 
   -- a line found no id left
   pub answers_spent : (end : ℕ) → end ≡ GREATEST_ID → Answers end lines history → Answers end (lines ++ line ∷ []) history

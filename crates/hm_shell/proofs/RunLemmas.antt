@@ -1,122 +1,186 @@
--- From the lines that were served to the run of a script on an open volume.
-use Rattle.std.proofs.Common.{ℕ, ◌+◌, ◌≤◌, List, ◌++◌, length, take, refl, sym, ◌∙◌, ap, append_assoc, subst, inl, inr}
-use Rattle.std.specs.Prelude.{All, Option, Result, Ok, Err, OnOk, IfErr}
-use Rattle.std.specs.List.{AllByRecursion}
-use Rattle.std.proofs.lemmas.List.Elements.{recursion_from_All}
-use Rattle.hm_types.specs.Faults.{IsCaused}
+-- From the lines that were served on an open volume to the run of a script's lines on a disk.
+use Rattle.std.proofs.Common.{◌≡◌, ◌≢◌, ℕ, ◌≤◌, List, [], ◌++◌, length, take, refl, sym, ◌∙◌, ap, append_assoc, arith, subst, inl, inr}
+use Rattle.std.specs.Prelude.{All, Contains, Err, IfErr, IfSome, IsSomeAnd, None, Ok, OnOk, Option, Result, Some}
+use Rattle.std.proofs.lemmas.List.Elements.{All-contains, Contains-append_left}
+use Rattle.hm_types.specs.Told.{BothTell}
+use Rattle.hm_types.specs.Faults.{IsCaused, IsUndamaged}
 use Rattle.hm_types.specs.declared.fault.Fault.{Fault}
 use Rattle.hm_types.specs.declared.fault.Fault.TheVariants.{Media as media, Damaged as damage, NoMemory as no_memory}
 use Rattle.hm_disk.specs.Crash.{Told}
-use Rattle.hm_model.specs.Lines.{texts_of}
-use Rattle.hm_model.specs.Served.Lines.{IsLine, ReadsFrom}
-use Rattle.hm_model.specs.Served.Out.{out_text}
+use Rattle.hm_image.specs.Stands.{StandsFor}
+use Rattle.hm_model.specs.declared.line.Line.{Line}
+use Rattle.hm_model.specs.After.{after}
+use Rattle.hm_model.specs.Foreign.{Foreigners, no_foreigners}
 use Rattle.hm_model.specs.Volume.{Volume}
-use Rattle.hm_core.specs.Core.{HandsBack, IsFinished, KeepsRest}
-use Rattle.hm_core.specs.Finish.{IsNoDamage}
-use Rattle.hm_core.specs.State.{CoreState}
+use Rattle.hm_tree_core.specs.Core.{StandsOver}
+use Rattle.hm_tree_core.specs.Finished.{HasNextHeader, IsFinished, LeavesVolume as CoreLeaves}
+use Rattle.hm_tree_core.specs.History.{IsClear}
+use Rattle.hm_tree_core.specs.Opened.{IsMounted}
+use Rattle.hm_tree_core.specs.State.{CoreState}
 use Rattle.hm_shell.specs.declared.stop.Stop.{Stop}
-use Rattle.hm_shell.specs.Opening.{OpensOn}
-use Rattle.hm_shell.specs.Running.{AnswersAll, AnswersInPart, IsWriteCause, RunsAll, RunsFrom, StoppedFrom, StoppedRunning, StoppedWriting}
-use Rattle.hm_shell.specs.Seen.{Seen, seen}
-use Rattle.hm_shell.specs.Serving.{IsOutCause, Served, ServedInPart}
+use Rattle.hm_shell.specs.Alone.{IsAlone, out_text}
+use Rattle.hm_shell.specs.Lines.{IsServedLine}
+use Rattle.hm_shell.specs.Making.{MakesVolume}
+use Rattle.hm_shell.specs.Running.{AnswersAll, AnswersInPart, HasHistory, IsCounted, IsKept, IsWriteCause, LeavesVolume, OverEach, Ran, RunsAll, StandsForNone, StoppedUsing}
+use Rattle.hm_shell.specs.Seen.{Seen}
+use Rattle.hm_shell.specs.Serving.{FailsWriting, GoesFrom, LeavesAtLine, Served, ServedInPart, StopsUsing, UsesAll}
 use Rattle.hm_shell.specs.Stop.{of_fault}
-use Rattle.hm_shell.proofs.LinesLemmas.{ReadsFrom-append, read_on, second_good}
+use Rattle.hm_shell.proofs.AloneLemmas.{answers_out}
+use Rattle.hm_shell.proofs.AloneMoreLemmas.{each_from}
+use Rattle.hm_shell.proofs.OpenLemmas.{OpensOn-mounted}
 
--- what failed as a volume was written back
-IsWriteCause-fault : (before after : ℕ) (fault : Fault) → IsCaused before after fault → IsNoDamage fault → IsWriteCause before after (of_fault fault)
-IsWriteCause-fault before after (media b a) caused whole = caused
-IsWriteCause-fault before after (damage at kind) caused whole = absurd whole
-IsWriteCause-fault before after no_memory caused whole = tt
+-- lines that are served run by themselves
+are_alone : (lines : List Line) → All IsServedLine lines → All IsAlone lines
+are_alone lines each = λ k d below. (each k d below).by_itself
+
+-- what a disk tells after a call of one that tells
+told_after : (a b : Option Told) (P Q : Told → Type 0) → IsSomeAnd a P → BothTell a b (λ s t. Q t) → IsSomeAnd b Q
+told_after None b P Q some both = absurd some
+told_after (Some s) None P Q some both = absurd both
+told_after (Some s) (Some t) P Q some both = both
+
+on_told : (a b : Option Told) (Q : Told → Type 0) → BothTell a b (λ s t. Q t) → IfSome b Q
+on_told a None Q both = tt
+on_told None (Some t) Q both = absurd both
+on_told (Some s) (Some t) Q both = both
+
+where_told : (o : Option Told) (P : Told → Type 0) (Q : Type 0) → IsSomeAnd o P → IfSome o (λ t. Q) → Q
+where_told None P Q some if_some = absurd some
+where_told (Some t) P Q some if_some = if_some
+
+each_told : (o : Option Told) (P Q : Told → Type 0) → ((t : Told) → P t → Q t) → IfSome o P → IfSome o Q
+each_told None P Q from p = tt
+each_told (Some t) P Q from p = from t p
 
 module _ {D I O : Type 0} where
-  AnswersAll-served : (script : List ℕ) (core : CoreState D I O) (old new : Option (List ℕ)) → Served (texts_of script) core old new → AnswersAll script core.opening old new
-  AnswersAll-served script core old new served = record {
-    lines = served.lines;
-    lines_are = served.reads;
-    history = core.history;
-    legal = served.legal;
-    answers = served.answers;
-    printed = served.gained;
-  }
+  -- what a core tells of the run
+  abbrev pub ran_of : CoreState D I O → Ran
+  ran_of core = record { history = core.history; last = core.last; free = core.free; start = core.start; faults = core.faults }
 
-  -- all lines were served, and the volume was written back
-  pub RunsFrom-finished : (told : D → Option Told) (faults : D → ℕ) (script : List ℕ) (core later : CoreState D I O) (disk : D) (outcome : Result (Unit {0}) Fault) (old new : Option (List ℕ)) → KeepsRest core later → Served (texts_of script) later old new → IsFinished told faults later disk outcome → OnOk outcome (RunsFrom script core.opening (told core.disk) (told disk) old new)
-  unfolding AnswersAll-served
-  RunsFrom-finished told faults script core later disk (Err fault) old new rest served finished = tt
-  RunsFrom-finished told faults script core later disk (Ok done) old new rest served finished =
-      let runs : RunsFrom script later.opening (told later.disk) (told disk) old new = record {
-        answered = AnswersAll-served script later old new served;
-        kept = record {
-          stands = finished.ok;
-          settled = finished.settled;
-          unwritten = λ none. (finished.nothing none).1;
-        };
-      } in
-      subst (λ o. RunsFrom script o (told core.disk) (told disk) old new) rest.opening (subst (λ d. RunsFrom script later.opening (told d) (told disk) old new) rest.disk runs)
+  module _ (told : Option Told) (faults : ℕ) (input : I) (output : O) (begun core : CoreState D I O)
+      (mounted : IsMounted told faults input output begun) (from : GoesFrom begun core) where
+    counted : (old new : ℕ) → old ≤ faults → core.faults ≤ new → IsCounted old new (ran_of core)
+    counted old new earlier later =
+        let counts = mounted.counts in let start = from.rest.start in let falls = from.never_falls in
+        let first = counts.0 in let second = counts.1 in
+        record {
+          begin = omega (arith, earlier, first, second, start);
+          rose = omega (arith, second, start, falls);
+          end = later;
+        }
 
-  -- all lines were served, and the volume could not be written back
-  pub StoppedFrom-finished : (told : D → Option Told) (faults : D → ℕ) (script : List ℕ) (core later : CoreState D I O) (disk : D) (outcome : Result (Unit {0}) Fault) (old new : Seen (List ℕ)) → KeepsRest core later → Served (texts_of script) later old.told new.told → IsFinished told faults later disk outcome → IfErr outcome (λ fault. StoppedFrom script core.opening (seen told faults core.disk) (seen told faults disk) old new (of_fault fault))
-  unfolding AnswersAll-served
-  StoppedFrom-finished told faults script core later disk (Ok done) old new rest served finished = tt
-  StoppedFrom-finished told faults script core later disk (Err fault) old new rest served finished =
-      let stopped : StoppedWriting script later.opening (told later.disk) (told disk) old.told new.told = record {
-        answered = AnswersAll-served script later old.told new.told served;
-        either = finished.err;
-      } in
-      inr (
-        subst (λ o. StoppedWriting script o (told core.disk) (told disk) old.told new.told) rest.opening (subst (λ d. StoppedWriting script later.opening (told d) (told disk) old.told new.told) rest.disk stopped),
-        subst (λ d. IsWriteCause (faults d) (faults disk) (of_fault fault)) rest.disk (IsWriteCause-fault (faults later.disk) (faults disk) fault finished.cause.caused finished.damage),
-      )
+    -- it stands for each volume that the disk stood for
+    stands_now : OverEach begun.heap.disk (StandsOver core)
+    stands_now = subst (λ (o : Option Told). OverEach o (StandsOver core)) (sym mounted.told)
+        (each_told told _ _ (λ t stands opening foreigners is clear. from.goes_on opening foreigners (stands opening foreigners is clear)) mounted.stands)
 
-  AnswersInPart-served : (script : List ℕ) (core : CoreState D I O) (old new : Option (List ℕ)) → All IsLine (texts_of script) → (part : ServedInPart (texts_of script) core old new) → AnswersInPart script (out_text part.before core.history ++ take part.printed (out_text part.last core.history)) core.opening
-  AnswersInPart-served script core old new good part =
-      let all : AllByRecursion IsLine (part.front ++ part.rest) =
-      subst (AllByRecursion IsLine) part.split (recursion_from_All IsLine (texts_of script) good) in
-      let later = read_on (1 + length part.front) part.rest (second_good part.front part.rest all) in
-      record {
-        lines = (part.before ++ part.last) ++ later.0;
-        lines_are = subst (λ ts. ReadsFrom 1 ts ((part.before ++ part.last) ++ later.0)) (sym part.split) (ReadsFrom-append 1 part.front part.rest (part.before ++ part.last) later.0 part.reads later.1);
-        before = part.before;
-        last = part.last;
-        rest = later.0;
-        split = append_assoc part.before part.last later.0;
-        one = part.one;
-        history = core.history;
-        legal = part.legal;
-        answers = part.answers;
-        printed = part.printed;
-        text_is = refl;
+    has_history : (opening : Volume) (foreigners : Foreigners) → StandsOver core opening foreigners → HasHistory (ran_of core) opening foreigners
+    has_history opening foreigners stands = record {
+      events = stands.legal.events;
+      entries = stands.legal.entries;
+      legal = stands.legal.legal;
+      last = sym stands.legal.held.holds.last_is;
+    }
+
+    histories : OverEach begun.heap.disk (HasHistory (ran_of core))
+    histories = each_told begun.heap.disk _ _ (λ t stands opening foreigners is clear. has_history opening foreigners (stands opening foreigners is clear)) stands_now
+
+    module _ (disk : Seen Told) (done : Unit {0}) (finished : IsFinished core disk.told disk.faults (Ok done)) where
+      leaves : (opening : Volume) (foreigners : Foreigners) → StandsOver core opening foreigners → LeavesVolume (ran_of core) disk.told opening foreigners
+      unfolding has_history
+      leaves opening foreigners stands = record {
+        has = has_history opening foreigners stands;
+        stands = told_after core.heap.disk disk.told _ _ stands.legal.held.holds.elements.1 (both_leave core.heap.disk disk.told finished.volume);
+      } where
+        both_leave : (a b : Option Told) → BothTell a b (λ s t. CoreLeaves core t.bytes) → BothTell a b (λ s t. StandsFor t.bytes (after opening foreigners stands.legal.events).volume)
+        both_leave None None both = tt
+        both_leave None (Some t) both = absurd both
+        both_leave (Some s) None both = absurd both
+        both_leave (Some s) (Some t) both = both opening foreigners stands
+
+      is_kept : IsKept begun.heap.disk disk.told (ran_of core)
+      is_kept = record {
+        unwritten = λ none. (finished.nothing none).1 ∙ ap (λ h. h.disk) (from.idle none);
+        settled = λ some. each_told disk.told _ _ (λ t next. next.settled) (on_told core.heap.disk disk.told _ (finished.header some));
+        volume = each_told begun.heap.disk _ _ (λ t stands opening foreigners is clear. leaves opening foreigners (stands opening foreigners is clear)) stands_now;
       }
 
-  -- the run stopped at a line, and nothing was written
-  pub StoppedFrom-served : (told : D → Option Told) (faults : D → ℕ) (script : List ℕ) (core later : CoreState D I O) (disk : D) (input : I) (output : O) (old new : Seen (List ℕ)) (stop : Stop) → All IsLine (texts_of script) → KeepsRest core later → ServedInPart (texts_of script) later old.told new.told → IsOutCause old.faults new.faults stop → HandsBack later disk input output → StoppedFrom script core.opening (seen told faults core.disk) (seen told faults disk) old new stop
-  StoppedFrom-served told faults script core later disk input output old new stop good rest part cause back =
-      let text : List ℕ = out_text part.before later.history ++ take part.printed (out_text part.last later.history) in
-      inl (
-        text,
-        subst (AnswersInPart script text) rest.opening (AnswersInPart-served script later old.told new.told good part),
-        part.gained,
-        ap told (back.disk_is ∙ rest.disk),
-        cause,
-      )
+    -- damage is told of what was no volume alone
+    no_damage : (disk : Seen Told) (at kind : ℕ) → IsFinished core disk.told disk.faults (Err (damage at kind)) → IfSome begun.heap.disk StandsForNone
+    no_damage disk at kind finished = each_told begun.heap.disk _ _ (λ t stands volume is clear. none volume (stands volume no_foreigners is clear)) stands_now where
+      none : (volume : Volume) → StandsOver core volume no_foreigners → ⊥
+      none volume stands = where_told core.heap.disk _ ⊥ stands.legal.held.holds.elements.1 (finished.whole volume no_foreigners stands)
 
--- a volume was opened, and all lines were run on it
-pub RunsAll-opened : (newfs : Option ℕ) (script : List ℕ) (old opened new : Option Told) (opening : Volume) (old_out new_out : Option (List ℕ)) → OpensOn newfs opening old opened → (outcome : Result (Unit {0}) Stop) → OnOk outcome (RunsFrom script opening opened new old_out new_out) → OnOk outcome (RunsAll newfs script old new old_out new_out)
-RunsAll-opened newfs script old opened new opening old_out new_out opens (Ok done) runs = record {
-  opening = opening;
-  opened = opened;
-  opens = opens;
-  runs = runs;
-}
-RunsAll-opened newfs script old opened new opening old_out new_out opens (Err stop) runs = tt
+    write_cause : (disk : Seen Told) (fault : Fault) → IsFinished core disk.told disk.faults (Err fault) → IsWriteCause begun.heap.disk core.faults disk.faults (of_fault fault)
+    write_cause disk (media before after) finished = finished.cause.caused
+    write_cause disk (damage at kind) finished = no_damage disk at kind finished
+    write_cause disk no_memory finished = tt
 
--- a volume was opened, and the run stopped on it
-pub StoppedRunning-opened : (newfs : Option ℕ) (script : List ℕ) (old opened new : Seen Told) (opening : Volume) (old_out new_out : Seen (List ℕ)) → OpensOn newfs opening old.told opened.told → old.faults ≤ opened.faults → (outcome : Result (Unit {0}) Stop) → IfErr outcome (StoppedFrom script opening opened new old_out new_out) → IfErr outcome (StoppedRunning newfs script old new old_out new_out)
-StoppedRunning-opened newfs script old opened new opening old_out new_out opens later (Ok done) stops = tt
-StoppedRunning-opened newfs script old opened new opening old_out new_out opens later (Err stop) stops = inr (record {
-  opening = opening;
-  opened = opened;
-  opens = opens;
-  later = later;
-  stops = stops;
-})
+  answers_all : (lines : List Line) (begun core : CoreState D I O) (old new : Option (List ℕ)) → All IsServedLine lines → Served lines begun core old new → AnswersAll lines (ran_of core) old new
+  answers_all lines begun core old new each served = record {
+    text = out_text lines core.history;
+    out = answers_out core.last core.history lines (are_alone lines each) served.answers;
+    gained = served.gained;
+  }
+
+  answers_in_part : (lines : List Line) (begun core : CoreState D I O) (old new : Option (List ℕ)) → All IsServedLine lines → (part : ServedInPart lines begun core old new)
+      → AnswersInPart lines (out_text part.before core.history ++ take part.printed (out_text part.last core.history)) (ran_of core)
+  answers_in_part lines begun core old new each part = record {
+    before = part.before;
+    last = part.last;
+    rest = part.rest;
+    split = part.split;
+    one = part.one;
+    out = answers_out core.last core.history (part.before ++ part.last) front part.answers;
+    printed = part.printed;
+    text_is = refl;
+  } where
+    front : All IsAlone (part.before ++ part.last)
+    front = each_from IsAlone (part.before ++ part.last) (λ l has. All-contains IsAlone lines l (are_alone lines each)
+        (subst (λ (ls : List Line). Contains ls l) (sym (part.split ∙ sym (append_assoc part.before part.last part.rest))) (Contains-append_left (part.before ++ part.last) part.rest l has)))
+
+  module _ (newfs : Option ℕ) (lines : List Line) (each : All IsServedLine lines) (old made new : Seen Told) (input : I) (output : O) (begun : CoreState D I O)
+      (makes : MakesVolume newfs old.told made.told) (earlier : old.faults ≤ made.faults) (mounted : IsMounted made.told made.faults input output begun) where
+    -- all lines were run, and the volume was written back
+    pub RunsAll-used : (old_out new_out : Option (List ℕ)) → UsesAll lines begun new old_out new_out → RunsAll newfs lines old new old_out new_out
+    RunsAll-used old_out new_out used = record {
+      opened = begun.heap.disk;
+      opens = OpensOn-mounted newfs old.told made.told made.faults input output begun makes mounted;
+      ran = ran_of used.core;
+      counted = counted made.told made.faults input output begun used.core mounted used.served.from old.faults new.faults earlier used.finished.cause.never_falls;
+      answered = answers_all lines begun used.core old_out new_out each used.served;
+      kept = is_kept made.told made.faults input output begun used.core mounted used.served.from new tt used.finished;
+    }
+
+    -- the run stopped
+    pub StoppedUsing-stopped : (old_out new_out : Seen (List ℕ)) (stop : Stop) → StopsUsing lines begun new old_out new_out stop → StoppedUsing newfs lines old new old_out new_out stop
+    StoppedUsing-stopped old_out new_out stop (inl at_line) =
+        let core = at_line.core in
+        let part = at_line.served in
+        record {
+          opened = begun.heap.disk;
+          opens = OpensOn-mounted newfs old.told made.told made.faults input output begun makes mounted;
+          ran = ran_of core;
+          counted = counted made.told made.faults input output begun core mounted part.from old.faults new.faults earlier (let count = at_line.count in omega (arith, count));
+          legal = histories made.told made.faults input output begun core mounted part.from;
+          stops = inl (record {
+            text = out_text part.before core.history ++ take part.printed (out_text part.last core.history);
+            answered = answers_in_part lines begun core old_out.told new_out.told each part;
+            gained = part.gained;
+            cause = at_line.cause;
+          });
+        }
+    StoppedUsing-stopped old_out new_out stop (inr writing) =
+        let core = writing.core in
+        record {
+          opened = begun.heap.disk;
+          opens = OpensOn-mounted newfs old.told made.told made.faults input output begun makes mounted;
+          ran = ran_of core;
+          counted = counted made.told made.faults input output begun core mounted writing.served.from old.faults new.faults earlier writing.finished.cause.never_falls;
+          legal = histories made.told made.faults input output begun core mounted writing.served.from;
+          stops = inr (record {
+            answered = answers_all lines begun core old_out.told new_out.told each writing.served;
+            cause = subst (IsWriteCause begun.heap.disk core.faults new.faults) (sym writing.stop_is)
+                (write_cause made.told made.faults input output begun core mounted writing.served.from new writing.fault writing.finished);
+          });
+        }

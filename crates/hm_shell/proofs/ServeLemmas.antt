@@ -1,39 +1,25 @@
 -- Lines that are served from the front.
-use Rattle.std.proofs.Common.{◌≡◌, ℕ, suc, ◌+◌, ◌*◌, ◌<◌, ◌≤◌, List, [], ◌∷◌, ◌++◌, length, take, refl, subst, sym, ◌∙◌, ap, inl, inr, arith, append_assoc, length-append}
-use Rattle.std.specs.Prelude.{All, IfErr, IsTrue, OnOk, Option, Some, Result, Ok, Err}
+use Rattle.std.proofs.Common.{◌≡◌, ℕ, suc, ◌+◌, ◌*◌, ◌<◌, ◌≤◌, List, [], ◌∷◌, ◌++◌, length, take, refl, subst, sym, ◌∙◌, ap, inl, inr, arith, append_assoc, append-nil, length-append}
+use Rattle.std.specs.Prelude.{All, Contains, IfErr, OnOk, Option, Result, Ok, Err, ◌⊎◌}
+use Rattle.std.proofs.lemmas.List.Elements.{All-contains, Contains-append_cases, Contains-append_right}
 use Rattle.hm_types.specs.declared.limits.TheConstants.{GREATEST_ID}
 use Rattle.hm_pipe.specs.Pipe.{Gains}
 use Rattle.hm_pipe.proofs.PipeLemmas.{Gains-none, Gains-append}
-use Rattle.hm_model.specs.declared.command.Command.{Command}
 use Rattle.hm_model.specs.declared.entry.Entry.{Entry}
-use Rattle.hm_model.specs.Lines.{texts_of}
-use Rattle.hm_model.specs.Script.{is_remark}
-use Rattle.hm_model.specs.Volume.{Volume}
-use Rattle.hm_model.specs.Served.After.{after}
-use Rattle.hm_model.specs.Served.Legal.{IsLegal}
-use Rattle.hm_model.specs.Served.Lines.{IsLine, Line, Reads, ReadsFrom}
-use Rattle.hm_model.specs.Served.Out.{Answers, entry_text, line_of, out_text}
-use Rattle.hm_model.proofs.HistoryLemmas.{IsLegal-none}
-use Rattle.hm_model.proofs.OutLemmas.{AreBelow, AreBelow-read, Answers-none, Answers-entered, Answers-spent, ReadsFrom-line, ReadsFrom-remark, out_text-append, out_text-before, out_text-entered, out_text-spent}
-use Rattle.hm_core.specs.Core.{KeepsRest, now_of}
-use Rattle.hm_core.specs.State.{CoreState}
+use Rattle.hm_model.specs.declared.line.Line.{Line}
+use Rattle.hm_model.specs.Out.{IsOf, entry_words, printed_line, spent_words}
+use Rattle.hm_tree_core.specs.Core.{Enters, KeepsRest, StandsOver}
+use Rattle.hm_tree_core.specs.State.{CoreState}
 use Rattle.hm_shell.specs.declared.stop.Stop.{Stop}
 use Rattle.hm_shell.specs.declared.stop.Stop.TheVariants.{Usage, NotVolume, BadField, DiskFault, Damaged, ScriptFault, OutFault, NoMemory, BadLine, TooLong}
-use Rattle.hm_shell.specs.Checking.{GivesCommand}
+use Rattle.hm_shell.specs.Alone.{Answers, IsAlone, line_text, out_text}
+use Rattle.hm_shell.specs.Lines.{AreRising, IsServedLine}
 use Rattle.hm_shell.specs.Printing.{StoppedPrinting}
+use Rattle.hm_shell.specs.Running.{IsOutCause}
 use Rattle.hm_shell.specs.Seen.{Seen}
-use Rattle.hm_shell.specs.Serving.{Calls, Served, ServedInPart, ServesLine, Serving, StoppedServing, IsOutCause, spent_line}
-
-append-none : {X : Type 0} (xs : List X) → xs ++ [] ≡ xs
-append-none [] = refl
-append-none (x ∷ xs) = ap (λ ys. x ∷ ys) (append-none xs)
-
--- the first of texts that are all lines, and the others
-pub All-head : (text : List ℕ) (texts : List (List ℕ)) → All IsLine (text ∷ texts) → IsLine text
-All-head text texts all = all 0 [] (omega arith)
-
-pub All-tail : (text : List ℕ) (texts : List (List ℕ)) → All IsLine (text ∷ texts) → All IsLine texts
-All-tail text texts all k d within = all (suc k) d (omega arith)
+use Rattle.hm_shell.specs.Serving.{GoesFrom, RunsLine, Served, ServedInPart, ServesLine, Serving, StoppedServing}
+use Rattle.hm_shell.proofs.AloneMoreLemmas.{answers_more, answers_none, answers_spent, only_one}
+use Rattle.hm_shell.proofs.TextLemmas.{out_before, out_spent, out_answered, text_answered, text_spent}
 
 -- a line that was not printed was printed in part
 stopped_front : (line : List ℕ) (old new : Seen (List ℕ)) (stop : Stop) → StoppedPrinting line old new stop → (k : ℕ) × Gains old.told (take k line) new.told
@@ -61,239 +47,233 @@ IsOutCause-printing line old new (ScriptFault before after) stopped = absurd sto
 IsOutCause-printing line old new (BadLine number) stopped = absurd stopped
 IsOutCause-printing line old new TooLong stopped = absurd stopped
 
--- what all lines print, with one more that was answered
-answered_gains : (opening : Volume) (lines : List Line) (history : List Entry) (e : Entry) (text : List ℕ) (first second third : Option (List ℕ)) → Answers opening lines history → AreBelow e.line lines → Gains first (out_text lines history) second → Gains second text third → Gains first (out_text lines (history ++ e ∷ []) ++ text) third
-answered_gains opening lines history e text first second third so_far below gained then_gained =
-    subst (λ t. Gains first (t ++ text) third) (sym (out_text-before lines history e below)) (Gains-append first second third (out_text lines history) text gained then_gained)
+-- the lines before one that stands in rising lines have lower numbers
+below_next : (lines before rest : List Line) (line : Line) → AreRising lines → lines ≡ before ++ line ∷ rest → (l : Line) → Contains before l → l.number < line.number
+below_next lines before rest line rising split l has = rising before rest line l split has
 
-entered_text : (opening : Volume) (lines : List Line) (history : List Entry) (e : Entry) → Answers opening lines history → AreBelow e.line lines → out_text lines (history ++ e ∷ []) ++ entry_text e ≡ out_text (lines ++ line_of e ∷ []) (history ++ e ∷ [])
-entered_text opening lines history e so_far below =
-    sym (out_text-append lines (line_of e ∷ []) (history ++ e ∷ []) ∙ ap (λ ys. out_text lines (history ++ e ∷ []) ++ ys) (out_text-entered opening lines history e so_far below))
+-- a line in the middle of served lines is one
+pub served_next : (lines before rest : List Line) (line : Line) → All IsServedLine lines → lines ≡ before ++ line ∷ rest → IsServedLine line
+served_next lines before rest line each split =
+    All-contains IsServedLine lines line each (subst (λ (ls : List Line). Contains ls line) (sym split) (Contains-append_right before (line ∷ rest) line (0, omega arith, refl)))
 
-spent_text : (opening : Volume) (lines : List Line) (history : List Entry) (line : Line) → Answers opening lines history → AreBelow line.number lines → out_text lines history ++ spent_line ≡ out_text (lines ++ line ∷ []) history
-spent_text opening lines history line so_far below =
-    sym (out_text-append lines (line ∷ []) history ∙ ap (λ ys. out_text lines history ++ ys) (out_text-spent opening lines history line so_far below))
-
--- the next line has a number above those of the lines so far
-next_is_above : (before : List (List ℕ)) (lines : List Line) (number : ℕ) → ReadsFrom 1 before lines → number ≡ length before + 1 → AreBelow number lines
-next_is_above before lines number reads is line has = omega (arith, AreBelow-read 1 before lines reads line has, is)
-
--- the line of a call that was answered
-reads_answered : (texts : List (List ℕ)) (lines : List Line) (number : ℕ) (text : List ℕ) (line : Line) → ReadsFrom 1 texts lines → number ≡ length texts + 1 → Reads number text (Some line) → ReadsFrom 1 (texts ++ text ∷ []) (lines ++ line ∷ [])
-reads_answered texts lines number text line reads is here =
-    let same : number ≡ 1 + length texts = omega (arith, is) in
-    ReadsFrom-line 1 texts lines text line reads (subst (λ n. Reads n text (Some line)) same here)
-
--- the lines so far lie below the one that is answered
-below_entry : (texts : List (List ℕ)) (lines : List Line) (number : ℕ) (text : List ℕ) (e : Entry) → ReadsFrom 1 texts lines → number ≡ length texts + 1 → Reads number text (Some (line_of e)) → AreBelow e.line lines
-below_entry texts lines number text e reads is here =
-    next_is_above texts lines e.line reads (here.2 ∙ is)
+-- a history with one entry more has one
+not_empty : (history : List Entry) (e : Entry) → history ++ e ∷ [] ≡ [] → ⊥
+not_empty history e none = (let length_is = ap length none in let more = length-append history (e ∷ []) in absurd (omega (arith, length_is, more)))
 
 module _ {D I O : Type 0} where
-  pub KeepsRest-none : (core : CoreState D I O) → KeepsRest core core
-  KeepsRest-none core = record { opening = refl; boundary = refl; disk = refl; input = refl; output = refl }
+  KeepsRest-none : (core : CoreState D I O) → KeepsRest core core
+  KeepsRest-none core = record { header = refl; slot = refl; free = refl; start = refl; input = refl; output = refl }
 
-  pub KeepsRest-more : (a b c : CoreState D I O) → KeepsRest a b → KeepsRest b c → KeepsRest a c
+  KeepsRest-more : (a b c : CoreState D I O) → KeepsRest a b → KeepsRest b c → KeepsRest a c
   KeepsRest-more a b c first second = record {
-    opening = second.opening ∙ first.opening;
-    boundary = second.boundary ∙ first.boundary;
-    disk = second.disk ∙ first.disk;
+    header = second.header ∙ first.header;
+    slot = second.slot ∙ first.slot;
+    free = second.free ∙ first.free;
+    start = second.start ∙ first.start;
     input = second.input ∙ first.input;
     output = second.output ∙ first.output;
   }
 
-  -- no text was served yet
-  Served-none : (core : CoreState D I O) (held : Option (List ℕ)) → core.history ≡ [] → Served [] core held held
-  Served-none core held none = record {
-    lines = [];
-    reads = tt;
-    legal = rw none (IsLegal-none core.opening);
-    answers = rw none (Answers-none core.opening);
+  GoesFrom-none : (core : CoreState D I O) → GoesFrom core core
+  GoesFrom-none core = record {
+    rest = KeepsRest-none core;
+    never_falls = omega arith;
+    goes_on = λ opening foreigners stands. stands;
+    idle = λ none. refl;
+  }
+
+  -- room was made in a core
+  GoesFrom-reserved : (core : CoreState D I O) (spare : ℕ) → GoesFrom core (record core { spare = spare })
+  GoesFrom-reserved core spare = record {
+    rest = record { header = refl; slot = refl; free = refl; start = refl; input = refl; output = refl };
+    never_falls = omega arith;
+    goes_on = λ opening foreigners stands. record { legal = stands.legal };
+    idle = λ none. refl;
+  }
+
+  -- and a call was entered
+  GoesFrom-entered : (a b c : CoreState D I O) (lane number : ℕ) (command : _) → GoesFrom a b → Enters b c lane number command → GoesFrom a c
+  GoesFrom-entered a b c lane number command so_far enters = record {
+    rest = KeepsRest-more a b c so_far.rest enters.rest;
+    never_falls = (let first = so_far.never_falls in let second = enters.never_falls in omega (arith, first, second));
+    goes_on = λ opening foreigners stands. enters.goes_on opening foreigners (so_far.goes_on opening foreigners stands);
+    idle = λ none. absurd (not_empty b.history enters.entry (sym enters.history ∙ none));
+  }
+
+  -- What comes of one line more: the history answers it, it prints its text, and those before it print what they did.
+  record HasRun (lines : List Line) (line : Line) (begun old new : CoreState D I O) (text : List ℕ) : Type 0 where
+    pub from : GoesFrom begun new
+    pub answers : Answers new.last (lines ++ line ∷ []) new.history
+    pub up_to : (e : Entry) → Contains new.history e → e.id.0 ≤ new.last
+    pub earlier : out_text lines new.history ≡ out_text lines old.history
+    pub own : out_text (line ∷ []) new.history ≡ text
+    pub both : out_text (lines ++ line ∷ []) new.history ≡ out_text lines old.history ++ text
+    pub spare : old.spare ≤ new.spare + 1
+
+  module _ (lines : List Line) (line : Line) (later : (l : Line) → Contains lines l → l.number < line.number) (alone : IsAlone line)
+      (begun old : CoreState D I O) (held holds : Option (List ℕ)) (served : Served lines begun old held holds) where
+    module _ (new : CoreState D I O) (enters : Enters old new line.lane line.number line.command) where
+      own_entry : IsOf line enters.entry
+      own_entry = record { lane = enters.of_line.0; number = enters.of_line.1; command = enters.of_line.2 }
+
+      above : (a : Entry) → Contains old.history a → a.id.0 < enters.entry.id.0
+      above a has = (let up_to = served.up_to a has in let id = enters.id.0 in omega (arith, up_to, id))
+
+      up_to_entered : (e : Entry) → Contains new.history e → e.id.0 ≤ new.last
+      up_to_entered e has = elim (Contains-append_cases old.history (enters.entry ∷ []) e (subst (λ (h : List Entry). Contains h e) enters.history has)) [
+        | inl before ↦ (let up_to = served.up_to e before in let id = enters.id.1 in omega (arith, up_to, id))
+        | inr here ↦ (let id = enters.id.0 in let last = enters.id.1 in
+            subst (λ (x : Entry). x.id.0 ≤ new.last) (only_one enters.entry e here) (omega (arith, id, last)))
+      ]
+
+      has_entered : HasRun lines line begun old new (printed_line (entry_words enters.entry))
+      has_entered = record {
+        from = GoesFrom-entered begun old new line.lane line.number line.command served.from enters;
+        answers = rw enters.history (answers_more lines old.history line later old.last enters.entry served.answers enters.left own_entry enters.silent above new.last);
+        up_to = up_to_entered;
+        earlier = rw enters.history (out_before lines old.history line later old.last served.answers enters.entry own_entry alone.single);
+        own = rw enters.history (append-nil (line_text (old.history ++ enters.entry ∷ []) line)
+            ∙ text_answered lines old.history line later old.last served.answers enters.entry own_entry alone.single);
+        both = rw enters.history (out_answered lines old.history line later old.last served.answers enters.entry own_entry alone.single);
+        spare = enters.spare;
+      }
+
+    has_spent : old.last ≡ GREATEST_ID → HasRun lines line begun old old (printed_line spent_words)
+    has_spent greatest = record {
+      from = served.from;
+      answers = answers_spent lines old.history line later old.last greatest served.answers;
+      up_to = served.up_to;
+      earlier = refl;
+      own = append-nil (line_text old.history line) ∙ text_spent lines old.history line later old.last served.answers;
+      both = out_spent lines old.history line later old.last served.answers;
+      spare = omega arith;
+    }
+
+    has_run : (new : CoreState D I O) (text : List ℕ) → RunsLine old new line text → HasRun lines line begun old new text
+    has_run new text (inl entered) = rw entered.1 (has_entered new entered.0)
+    has_run new text (inr spent) = rw (spent.1, spent.2) (has_spent spent.0)
+
+    -- one more line was run and printed
+    Served-line : (new : CoreState D I O) (gained : Option (List ℕ)) → ServesLine old new line holds gained → Served (lines ++ line ∷ []) begun new held gained
+    Served-line new gained serves =
+        let run = has_run new serves.text serves.runs in
+        record {
+          from = run.from;
+          answers = run.answers;
+          up_to = run.up_to;
+          gained = rw run.both (Gains-append held holds gained (out_text lines old.history) serves.text served.gained serves.gained);
+        }
+
+    spare_left : (new : CoreState D I O) (gained : Option (List ℕ)) → ServesLine old new line holds gained → old.spare ≤ new.spare + 1
+    spare_left new gained serves = (has_run new serves.text serves.runs).spare
+
+    -- one more line was run, and printed in part or not at all
+    part_line : (all rest : List Line) (new : CoreState D I O) (second third : Seen (List ℕ)) (stop : Stop) → holds ≡ second.told
+        → all ≡ lines ++ line ∷ rest → StoppedServing old new line second third stop → ServedInPart all begun new held third.told
+    part_line all rest new second third stop same split stopped =
+        let run = has_run new stopped.text stopped.runs in
+        let part = stopped_front stopped.text second third stop stopped.printing in
+        record {
+          before = lines;
+          last = line ∷ [];
+          rest = rest;
+          split = split;
+          one = omega arith;
+          from = run.from;
+          answers = run.answers;
+          printed = part.0;
+          gained = rw (run.earlier, run.own) (Gains-append held holds third.told (out_text lines old.history) (take part.0 stopped.text) served.gained (rw same part.1));
+        }
+
+  -- no line was served yet
+  Served-none : (begun core : CoreState D I O) (held : Option (List ℕ)) → GoesFrom begun core → core.history ≡ [] → Served [] begun core held held
+  Served-none begun core held from none = record {
+    from = from;
+    answers = rw none (answers_none core.last);
+    up_to = λ e has. (let lt = (subst (λ (h : List Entry). Contains h e) none has).1 in absurd (omega (arith, lt)));
     gained = Gains-none held;
   }
 
-  pub Serving-none : (script : List ℕ) (core : CoreState D I O) (held : Option (List ℕ)) → core.history ≡ [] → All IsLine (texts_of script) → 2 * length (texts_of script) ≤ core.spare → Serving script script 0 core held held
-  Serving-none script core held none good room = record {
-    before = [];
-    split = refl;
-    served = Served-none core held none;
-    number_is = refl;
-    good = good;
-    room = room;
-    fits = omega arith;
+  pub Serving-none : (lines : List Line) (core : CoreState D I O) (held : Option (List ℕ)) → core.history ≡ [] → 2 * length lines ≤ core.spare → Serving lines [] lines core core held held
+  Serving-none lines core held none room = record { split = refl; served = Served-none core core held (GoesFrom-none core) none; room = room }
+
+  -- nothing was served
+  pub ServedInPart-none : (lines : List Line) (begun core : CoreState D I O) (held : Option (List ℕ)) → core ≡ record begun { spare = core.spare } → begun.history ≡ []
+      → ServedInPart lines begun core held held
+  ServedInPart-none lines begun core held keeps none =
+      let from : GoesFrom begun core = subst (λ (c : CoreState D I O). GoesFrom begun c) (sym keeps) (GoesFrom-reserved begun core.spare) in
+      let empty : core.history ≡ [] = ap (λ (c : CoreState D I O). c.history) keeps ∙ none in
+      record {
+        before = [];
+        last = [];
+        rest = lines;
+        split = refl;
+        one = omega arith;
+        from = from;
+        answers = rw empty (answers_none core.last);
+        printed = 0;
+        gained = Gains-none held;
+      }
+
+  -- the next line is a served one, and there is room for it
+  pub room_next : (lines before rest : List Line) (line : Line) (begun core : CoreState D I O) (held holds : Option (List ℕ)) → Serving lines before (line ∷ rest) begun core held holds → 2 ≤ core.spare
+  room_next lines before rest line begun core held holds so_far = (let room = so_far.room in omega (arith, room))
+
+  module _ (lines before rest : List Line) (line : Line) (each : All IsServedLine lines) (rising : AreRising lines)
+      (begun old new : CoreState D I O) where
+    pub Serving-more : (held holds gained : Option (List ℕ)) → Serving lines before (line ∷ rest) begun old held holds → ServesLine old new line holds gained
+        → Serving lines (before ++ line ∷ []) rest begun new held gained
+    Serving-more held holds gained so_far serves =
+        let later = below_next lines before rest line rising so_far.split in
+        let is_alone = (served_next lines before rest line each so_far.split).by_itself in
+        record {
+          split = so_far.split ∙ sym (append_assoc before (line ∷ []) rest);
+          served = Served-line before line later is_alone begun old held holds so_far.served new gained serves;
+          room = (let room = so_far.room in let left = spare_left before line later is_alone begun old held holds so_far.served new gained serves in omega (arith, room, left));
+        }
+
+    -- the lines before were served when this one stopped
+    pub ServedInPart-stopped : (held : Option (List ℕ)) (second third : Seen (List ℕ)) (stop : Stop) → Serving lines before (line ∷ rest) begun old held second.told
+        → StoppedServing old new line second third stop → ServedInPart lines begun new held third.told
+    ServedInPart-stopped held second third stop so_far stopped =
+        part_line before line (below_next lines before rest line rising so_far.split) (served_next lines before rest line each so_far.split).by_itself
+        begun old held second.told so_far.served lines rest new second third stop refl so_far.split stopped
+
+    -- and this is why
+    pub IsOutCause-stopped : (second third : Seen (List ℕ)) (stop : Stop) → StoppedServing old new line second third stop → IsOutCause second.faults third.faults stop
+    IsOutCause-stopped second third stop stopped = IsOutCause-printing stopped.text second third stop stopped.printing
+
+  -- all were served
+  pub Served-all : (lines before : List Line) (begun core : CoreState D I O) (held holds : Option (List ℕ)) → Serving lines before [] begun core held holds → Served lines begun core held holds
+  Served-all lines before begun core held holds so_far =
+      subst (λ (ls : List Line). Served ls begun core held holds) (sym (append-nil before) ∙ sym so_far.split) so_far.served
+
+  -- what was served from a core in which room was made was served from it
+  GoesFrom-after : (a c : CoreState D I O) (spare : ℕ) → GoesFrom (record a { spare = spare }) c → GoesFrom a c
+  GoesFrom-after a c spare from = record {
+    rest = record { header = from.rest.header; slot = from.rest.slot; free = from.rest.free; start = from.rest.start; input = from.rest.input; output = from.rest.output };
+    never_falls = from.never_falls;
+    goes_on = λ opening foreigners stands. from.goes_on opening foreigners ((GoesFrom-reserved a spare).goes_on opening foreigners stands);
+    idle = from.idle;
   }
 
-  -- one more text was served: a remark
-  Served-remark : (texts : List (List ℕ)) (core : CoreState D I O) (text : List ℕ) (first second : Option (List ℕ)) → Served texts core first second → IsTrue (is_remark text) → Served (texts ++ text ∷ []) core first second
-  Served-remark texts core text first second served remark = record {
-    lines = served.lines;
-    reads = ReadsFrom-remark 1 texts served.lines text served.reads remark;
-    legal = served.legal;
+  pub Served-after : (lines : List Line) (a b c : CoreState D I O) (held holds : Option (List ℕ)) → b ≡ record a { spare = b.spare } → Served lines b c held holds → Served lines a c held holds
+  Served-after lines a b c held holds keeps served = record {
+    from = GoesFrom-after a c b.spare (subst (λ (x : CoreState D I O). GoesFrom x c) keeps served.from);
     answers = served.answers;
+    up_to = served.up_to;
     gained = served.gained;
   }
 
-  answers_called : (texts : List (List ℕ)) (old new : CoreState D I O) (number : ℕ) (text : List ℕ) (e : Entry) (lines : List Line) → ReadsFrom 1 texts lines → Answers old.opening lines old.history → IsLegal old.opening old.history → number ≡ length texts + 1 → Calls old new number text e → Answers new.opening (lines ++ line_of e ∷ []) new.history
-  answers_called texts old new number text e lines reads so_far legal is calls =
-      rw (calls.rest.opening, calls.history) (Answers-entered old.opening lines old.history e so_far legal calls.follows (below_entry texts lines number text e reads is calls.reads))
-
-  -- one that was answered
-  Served-answered : (texts : List (List ℕ)) (old new : CoreState D I O) (number : ℕ) (text : List ℕ) (e : Entry) (first second third : Option (List ℕ)) → Served texts old first second → number ≡ length texts + 1 → Calls old new number text e → Gains second (entry_text e) third → Served (texts ++ text ∷ []) new first third
-  Served-answered texts old new number text e first second third served is calls gained =
-      let below : AreBelow e.line served.lines = below_entry texts served.lines number text e served.reads is calls.reads in
-      record {
-        lines = served.lines ++ line_of e ∷ [];
-        reads = reads_answered texts served.lines number text (line_of e) served.reads is calls.reads;
-        legal = calls.legal;
-        answers = answers_called texts old new number text e served.lines served.reads served.answers served.legal is calls;
-        gained = rw (calls.history, ← entered_text old.opening served.lines old.history e served.answers below)
-            (answered_gains old.opening served.lines old.history e (entry_text e) first second third served.answers below served.gained gained);
-      }
-
-  -- one that found no id left
-  Served-spent : (texts : List (List ℕ)) (core : CoreState D I O) (number : ℕ) (text : List ℕ) (line : Line) (first second third : Option (List ℕ)) → Served texts core first second → number ≡ length texts + 1 → Reads number text (Some line) → (now_of core).last ≡ GREATEST_ID → Gains second spent_line third → Served (texts ++ text ∷ []) core first third
-  Served-spent texts core number text line first second third served is reads greatest gained =
-      let below : AreBelow line.number served.lines = next_is_above texts served.lines line.number served.reads (reads.2 ∙ is) in
-      record {
-        lines = served.lines ++ line ∷ [];
-        reads = reads_answered texts served.lines number text line served.reads is reads;
-        legal = served.legal;
-        answers = Answers-spent core.opening served.lines core.history line served.answers greatest below;
-        gained = rw (← spent_text core.opening served.lines core.history line served.answers below)
-            (Gains-append first second third (out_text served.lines core.history) spent_line served.gained gained);
-      }
-
-  -- one more line was run and printed
-  Served-line : (texts : List (List ℕ)) (old new : CoreState D I O) (number : ℕ) (text : List ℕ) (first second third : Option (List ℕ)) → Served texts old first second → number ≡ length texts + 1 → ServesLine old new number text second third → Served (texts ++ text ∷ []) new first third
-  Served-line texts old new number text first second third served is (inl remark) =
-      rw (remark.1, remark.2) (Served-remark texts old text first second served remark.0)
-  Served-line texts old new number text first second third served is (inr (inl called)) =
-      Served-answered texts old new number text called.0 first second third served is called.1 called.2
-  Served-line texts old new number text first second third served is (inr (inr spent)) =
-      rw spent.1.same (Served-spent texts old number text spent.0 first second third served is spent.1.reads spent.1.greatest spent.2)
-
-  spare_left : (old new : CoreState D I O) (number : ℕ) (text : List ℕ) (held holds : Option (List ℕ)) → ServesLine old new number text held holds → old.spare ≤ new.spare + 1
-  spare_left old new number text held holds (inl remark) = omega (arith, ap (λ c. c.spare) remark.1)
-  spare_left old new number text held holds (inr (inl called)) = called.1.spare
-  spare_left old new number text held holds (inr (inr spent)) = omega (arith, ap (λ c. c.spare) spent.1.same)
-
-  pub Serving-more : (script rest : List ℕ) (number : ℕ) (old new : CoreState D I O) (text after : List ℕ) (first second third : Option (List ℕ)) → Serving script rest number old first second → texts_of rest ≡ text ∷ texts_of after → length after < length rest → ServesLine old new (number + 1) text second third → Serving script after (number + 1) new first third
-  Serving-more script rest number old new text after first second third so_far begins shorter serves =
-      let both : length (texts_of rest) ≡ suc (length (texts_of after)) = ap length begins in
-      record {
-        before = so_far.before ++ text ∷ [];
-        split = so_far.split ∙ (ap (λ ts. so_far.before ++ ts) begins ∙ sym (append_assoc so_far.before (text ∷ []) (texts_of after)));
-        served = Served-line so_far.before old new (number + 1) text first second third so_far.served (omega (arith, so_far.number_is)) serves;
-        number_is = rw length-append (omega (arith, so_far.number_is));
-        good = All-tail text (texts_of after) (rw begins at so_far.good);
-        room = omega (arith, both, so_far.room, spare_left old new (number + 1) text second third serves);
-        fits = omega (arith, so_far.fits);
-      }
-
-  -- the line that comes next
-  pub IsLine-next : (script rest : List ℕ) (number : ℕ) (core : CoreState D I O) (text after : List ℕ) (first second : Option (List ℕ)) → Serving script rest number core first second → texts_of rest ≡ text ∷ texts_of after → IsLine text
-  IsLine-next script rest number core text after first second so_far begins =
-      All-head text (texts_of after) (rw begins at so_far.good)
-
-  -- and there is room for it
-  pub room_next : (script rest : List ℕ) (number : ℕ) (core : CoreState D I O) (text after : List ℕ) (first second : Option (List ℕ)) → Serving script rest number core first second → texts_of rest ≡ text ∷ texts_of after → 2 ≤ core.spare
-  room_next script rest number core text after first second so_far begins =
-      let both : length (texts_of rest) ≡ suc (length (texts_of after)) = ap length begins in
-      omega (arith, both, so_far.room)
-
-  -- so far all that was served was printed whole
-  part_from_served : (texts : List (List ℕ)) (front rest : List (List ℕ)) (core : CoreState D I O) (first second third : Option (List ℕ)) → texts ≡ front ++ rest → Served front core first second → third ≡ second → ServedInPart texts core first third
-  part_from_served texts front rest core first second third split served same = record {
-    front = front;
-    rest = rest;
-    split = split;
-    before = served.lines;
-    last = [];
-    one = omega arith;
-    reads = rw (append-none served.lines) served.reads;
-    legal = served.legal;
-    answers = rw (append-none served.lines) served.answers;
-    printed = 0;
-    gained = rw (same, append-none (out_text served.lines core.history)) served.gained;
+  pub ServedInPart-after : (lines : List Line) (a b c : CoreState D I O) (held holds : Option (List ℕ)) → b ≡ record a { spare = b.spare } → ServedInPart lines b c held holds → ServedInPart lines a c held holds
+  ServedInPart-after lines a b c held holds keeps part = record {
+    before = part.before;
+    last = part.last;
+    rest = part.rest;
+    split = part.split;
+    one = part.one;
+    from = GoesFrom-after a c b.spare (subst (λ (x : CoreState D I O). GoesFrom x c) keeps part.from);
+    answers = part.answers;
+    printed = part.printed;
+    gained = part.gained;
   }
-
-  -- nothing was served
-  pub ServedInPart-none : (texts : List (List ℕ)) (core : CoreState D I O) (held holds : Option (List ℕ)) → core.history ≡ [] → holds ≡ held → ServedInPart texts core held holds
-  ServedInPart-none texts core held holds none same =
-      part_from_served texts [] texts core held held holds refl (Served-none core held none) same
-
-  -- a line was answered, and printed in part or not at all
-  part_answered : (texts front rest : List (List ℕ)) (old new : CoreState D I O) (number : ℕ) (text : List ℕ) (e : Entry) (first second third : Option (List ℕ)) (k : ℕ) → texts ≡ (front ++ text ∷ []) ++ rest → Served front old first second → number ≡ length front + 1 → Calls old new number text e → Gains second (take k (entry_text e)) third → ServedInPart texts new first third
-  part_answered texts front rest old new number text e first second third k split served is calls gained =
-      let below : AreBelow e.line served.lines = below_entry front served.lines number text e served.reads is calls.reads in
-      record {
-        front = front ++ text ∷ [];
-        rest = rest;
-        split = split;
-        before = served.lines;
-        last = line_of e ∷ [];
-        one = omega arith;
-        reads = reads_answered front served.lines number text (line_of e) served.reads is calls.reads;
-        legal = calls.legal;
-        answers = answers_called front old new number text e served.lines served.reads served.answers served.legal is calls;
-        printed = k;
-        gained = rw calls.history (subst (λ t. Gains first (out_text served.lines (old.history ++ e ∷ []) ++ take k t) third) (sym (out_text-entered old.opening served.lines old.history e served.answers below)) (answered_gains old.opening served.lines old.history e (take k (entry_text e)) first second third served.answers below served.gained gained));
-      }
-
-  -- a line found no id left, and was printed in part or not at all
-  part_spent : (texts front rest : List (List ℕ)) (core : CoreState D I O) (number : ℕ) (text : List ℕ) (line : Line) (first second third : Option (List ℕ)) (k : ℕ) → texts ≡ (front ++ text ∷ []) ++ rest → Served front core first second → number ≡ length front + 1 → Reads number text (Some line) → (now_of core).last ≡ GREATEST_ID → Gains second (take k spent_line) third → ServedInPart texts core first third
-  part_spent texts front rest core number text line first second third k split served is reads greatest gained =
-      let below : AreBelow line.number served.lines = next_is_above front served.lines line.number served.reads (reads.2 ∙ is) in
-      record {
-        front = front ++ text ∷ [];
-        rest = rest;
-        split = split;
-        before = served.lines;
-        last = line ∷ [];
-        one = omega arith;
-        reads = reads_answered front served.lines number text line served.reads is reads;
-        legal = served.legal;
-        answers = Answers-spent core.opening served.lines core.history line served.answers greatest below;
-        printed = k;
-        gained = subst (λ t. Gains first (out_text served.lines core.history ++ take k t) third) (sym (out_text-spent core.opening served.lines core.history line served.answers below)) (Gains-append first second third (out_text served.lines core.history) (take k spent_line) served.gained gained);
-      }
-
-  -- a front of the lines was served when a line stopped
-  pub ServedInPart-stopped : (script rest : List ℕ) (number : ℕ) (old new : CoreState D I O) (text after : List ℕ) (first : Option (List ℕ)) (second third : Seen (List ℕ)) (stop : Stop) → Serving script rest number old first second.told → texts_of rest ≡ text ∷ texts_of after → StoppedServing old new (number + 1) text second third stop → ServedInPart (texts_of script) new first third.told
-  ServedInPart-stopped script rest number old new text after first second third stop so_far begins (inl before) =
-      rw before.0 (part_from_served (texts_of script) so_far.before (texts_of rest) old first second.told third.told so_far.split so_far.served before.1)
-  ServedInPart-stopped script rest number old new text after first second third stop so_far begins (inr (inl called)) =
-      let part = stopped_front (entry_text called.0) second third stop called.2 in
-      part_answered (texts_of script) so_far.before (texts_of after) old new (number + 1) text called.0 first second.told third.told part.0 (so_far.split ∙ (ap (λ ts. so_far.before ++ ts) begins ∙ sym (append_assoc so_far.before (text ∷ []) (texts_of after)))) so_far.served (omega (arith, so_far.number_is)) called.1 part.1
-  ServedInPart-stopped script rest number old new text after first second third stop so_far begins (inr (inr spent)) =
-      let part = stopped_front spent_line second third stop spent.2 in
-      rw spent.1.same (part_spent (texts_of script) so_far.before (texts_of after) old (number + 1) text spent.0 first second.told third.told part.0 (so_far.split ∙ (ap (λ ts. so_far.before ++ ts) begins ∙ sym (append_assoc so_far.before (text ∷ []) (texts_of after)))) so_far.served (omega (arith, so_far.number_is)) spent.1.reads spent.1.greatest part.1)
-
-  -- and this is why
-  pub IsOutCause-stopped : (old new : CoreState D I O) (number : ℕ) (text : List ℕ) (second third : Seen (List ℕ)) (stop : Stop) → StoppedServing old new number text second third stop → IsOutCause second.faults third.faults stop
-  IsOutCause-stopped old new number text second third stop (inl before) =
-      subst (IsOutCause second.faults third.faults) (sym before.2) tt
-  IsOutCause-stopped old new number text second third stop (inr (inl called)) =
-      IsOutCause-printing (entry_text called.0) second third stop called.2
-  IsOutCause-stopped old new number text second third stop (inr (inr spent)) =
-      IsOutCause-printing spent_line second third stop spent.2
-
--- the line of a command that was read
-abbrev pub line_with : ℕ → Command → Line
-line_with number command = record { lane = 0; number = number; command = command }
-
-pub Reads-given : (number : ℕ) (text : List ℕ) (o : Option Command) (command : Command) → GivesCommand text o → o ≡ Some command → Reads number text (Some (line_with number command))
-Reads-given number text o command given is =
-    let gives : GivesCommand text (Some command) = subst (GivesCommand text) is given in (gives.0, refl, refl, gives.1)
-
-module _ {D I O : Type 0} where
-  -- a line that found no id left was printed, or not
-  pub spent_printed : (old new : CoreState D I O) (number : ℕ) (text : List ℕ) (line : Line) (held holds : Option (List ℕ)) (r : Result (Unit {0}) Stop) → Reads number text (Some line) → ((now_of old).last ≡ GREATEST_ID) × (new ≡ old) → OnOk r (Gains held spent_line holds) → OnOk r (ServesLine old new number text held holds)
-  spent_printed old new number text line held holds (Ok done) reads finds gained =
-      inr (inr (line, record { reads = reads; greatest = finds.0; same = finds.1 }, gained))
-  spent_printed old new number text line held holds (Err stop) reads finds gained = tt
-
-  pub spent_stopped : (old new : CoreState D I O) (number : ℕ) (text : List ℕ) (line : Line) (held holds : Seen (List ℕ)) (r : Result (Unit {0}) Stop) → Reads number text (Some line) → ((now_of old).last ≡ GREATEST_ID) × (new ≡ old) → IfErr r (StoppedPrinting spent_line held holds) → IfErr r (StoppedServing old new number text held holds)
-  spent_stopped old new number text line held holds (Ok done) reads finds stopped = tt
-  spent_stopped old new number text line held holds (Err stop) reads finds stopped =
-      inr (inr (line, record { reads = reads; greatest = finds.0; same = finds.1 }, stopped))

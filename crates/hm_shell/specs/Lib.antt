@@ -6,6 +6,7 @@ pub mod Stop
 pub mod Reading
 pub mod Printing
 pub mod Preparing
+pub mod Making
 pub mod Opening
 pub mod Running
 pub mod Serving

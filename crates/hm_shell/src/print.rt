@@ -2,8 +2,7 @@
 ghost use Rattle.std.specs.Prelude.{◌≡◌, ◌≤◌, [], ◌∷◌, ◌++◌, IfErr, IfOk, OnErr, OnOk, decimal};
 ghost use Rattle.hm_pipe.specs.Pipe.{Gains};
 ghost use Rattle.hm_model.specs.Lines.{line_feed};
-ghost use Rattle.hm_model.specs.Out.{spent_words};
-ghost use Rattle.hm_model.specs.Served.Out.{entry_text};
+ghost use Rattle.hm_model.specs.Out.{entry_words, printed_line, spent_words};
 ghost use Rattle.hm_shell.specs.Stop.{counts_line, damage_line, last_line};
 ghost use Rattle.hm_shell.specs.Printing.{Prints, IsCutShort, StoppedPrinting, joined};
 ghost use Rattle.hm_shell.specs.Seen.{seen};
@@ -20,8 +19,8 @@ const USAGE: &[u8] =
 
 /// Prints the line of one entry, in one piece.
 pub(crate) fn print_entry<K: Sink>(alloc: Global, entry: &Entry, out: &mut K) -> Result<(), Stop>
-    ensures ok { OnOk result (Gains (K.held out.old) (entry_text entry.now) (K.held out.new)) }
-    ensures err { IfErr result (StoppedPrinting (entry_text entry.now)
+    ensures ok { OnOk result (Gains (K.held out.old) (printed_line (entry_words entry.now)) (K.held out.new)) }
+    ensures err { IfErr result (StoppedPrinting (printed_line (entry_words entry.now))
         (seen K.held K.faults out.old) (seen K.held K.faults out.new)) }
     ensures never_falls { K.faults out.old ≤ K.faults out.new }
 {
@@ -32,8 +31,8 @@ pub(crate) fn print_entry<K: Sink>(alloc: Global, entry: &Entry, out: &mut K) ->
 /// Prints the line of a call that found no id left.
 pub(crate) fn print_spent<K: Sink>(out: &mut K) -> Result<(), Stop>
     ensures ok { OnOk result
-        (Gains (K.held out.old) (spent_words ++ line_feed ∷ []) (K.held out.new)) }
-    ensures err { IfErr result (StoppedPrinting (spent_words ++ line_feed ∷ [])
+        (Gains (K.held out.old) (printed_line spent_words) (K.held out.new)) }
+    ensures err { IfErr result (StoppedPrinting (printed_line spent_words)
         (seen K.held K.faults out.old) (seen K.held K.faults out.new)) }
     ensures never_falls { K.faults out.old ≤ K.faults out.new }
 {
@@ -53,7 +52,7 @@ fn put_line<K: Sink>(line: &[u8], out: &mut K) -> Result<(), Stop>
 }
 
 fn entry_line(alloc: Global, entry: &Entry) -> Result<Vec<u8>, NoMemory>
-    ensures { IfOk result (λ line. line.items ≡ entry_text entry.now) }
+    ensures { IfOk result (λ line. line.items ≡ printed_line (entry_words entry.now)) }
 {
     let id = entry.id;
     let mut line = Vec::new(alloc);

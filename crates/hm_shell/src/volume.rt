@@ -1,13 +1,23 @@
 // A script's lines, run on the volume of a disk.
-ghost use Rattle.std.specs.Prelude.{◌≡◌, ◌≤◌, IfErr, OnOk};
+ghost use Rattle.std.specs.Prelude.{◌≡◌, ◌≤◌, [], IfErr, IfSome, OnOk, All, length};
+ghost use Rattle.hm_header.specs.Range.{IsSize};
+ghost use Rattle.hm_types.specs.declared.limits.TheConstants.{MOST_SCRIPT_LINES};
+ghost use Rattle.hm_tree_core.specs.Seen.{seen as seen_core};
+ghost use Rattle.hm_shell.specs.Lines.{AreRising, IsServedLine};
+ghost use Rattle.hm_shell.specs.Making.{MakesVolume};
+ghost use Rattle.hm_shell.specs.Opening.{StoppedOpening};
 ghost use Rattle.hm_shell.specs.Preparing.{IsDue};
 ghost use Rattle.hm_shell.specs.Running.{RunsAll, StoppedRunning};
 ghost use Rattle.hm_shell.specs.Seen.{seen};
+ghost use Rattle.hm_shell.specs.Serving.{StopsUsing, UsesAll};
 
 use crate::job::Job;
+use crate::serve::serve_script;
 use crate::stop::Stop;
 use hm_disk::Disk;
+use hm_model::Line;
 use hm_pipe::Sink;
+use hm_tree_core::{Core, newfs};
 use std::alloc::Global;
 
 /// What a volume was used with, handed back, and what came of it.
@@ -38,10 +48,83 @@ pub(crate) fn run_job<D: Disk, I, O, K: Sink>(
     ensures streams { (result.stream_in ≡ stream_in) × (result.stream_out ≡ stream_out) }
     ensures counts { (D.faults disk ≤ D.faults result.disk) × (K.faults out.old ≤ K.faults out.new) }
 {
+    let Job { newfs, lines } = job;
+    let mut disk = disk;
+    if let Err(stop) = make_volume(&mut disk, newfs) {
+        return Closed {
+            disk,
+            stream_in,
+            stream_out,
+            outcome: Err(stop),
+        };
+    }
+    match Core::mount(alloc, disk, stream_in, stream_out) {
+        Ok(core) => run_lines(alloc, core, lines, out),
+        Err((disk, stream_in, stream_out, fault)) => Closed {
+            disk,
+            stream_in,
+            stream_out,
+            outcome: Err(Stop::of_open(fault)),
+        },
+    }
+}
+
+// Makes a volume of this size, where one is asked for.
+fn make_volume<D: Disk>(disk: &mut D, bigblocks: Option<u32>) -> Result<(), Stop>
+    requires size { IfSome bigblocks IsSize }
+    ensures ok { OnOk result (MakesVolume bigblocks (D.told disk.old) (D.told disk.new)) }
+    ensures err { IfErr result (StoppedOpening bigblocks
+        (seen D.told D.faults disk.old) (seen D.told D.faults disk.new)) }
+    ensures never_falls { D.faults disk.old ≤ D.faults disk.new }
+{
+    let Some(bigblocks) = bigblocks else {
+        return Ok(());
+    };
+    match newfs(disk, bigblocks) {
+        Ok(()) => Ok(()),
+        Err(fault) => Err(Stop::of_open(fault)),
+    }
+}
+
+// Runs the lines on an open volume. It is written back where all of them were run.
+fn run_lines<D: Disk, I, O, K: Sink>(
+    alloc: Global,
+    core: Core<D, I, O>,
+    lines: Vec<Line>,
+    out: &mut K,
+) -> Closed<D, I, O>
+    requires each { All IsServedLine lines.items }
+    requires rising { AreRising lines.items }
+    requires few { length lines.items ≤ MOST_SCRIPT_LINES }
+    requires start { (seen_core core).history ≡ [] }
+    ensures ok { OnOk result.outcome (UsesAll lines.items (seen_core core)
+        (seen D.told D.faults result.disk) (K.held out.old) (K.held out.new)) }
+    ensures err { IfErr result.outcome (StopsUsing lines.items (seen_core core)
+        (seen D.told D.faults result.disk) (seen K.held K.faults out.old) (seen K.held K.faults out.new)) }
+    ensures streams { (result.stream_in ≡ (seen_core core).input)
+        × (result.stream_out ≡ (seen_core core).output) }
+    ensures counts { ((seen_core core).faults ≤ D.faults result.disk)
+        × (K.faults out.old ≤ K.faults out.new) }
+{
+    let mut core = core;
+    if let Err(stop) = serve_script(alloc, &mut core, lines, out) {
+        let (disk, stream_in, stream_out) = core.into_devices();
+        return Closed {
+            disk,
+            stream_in,
+            stream_out,
+            outcome: Err(stop),
+        };
+    }
+    let (disk, stream_in, stream_out, outcome) = core.finish();
+    let outcome = match outcome {
+        Ok(()) => Ok(()),
+        Err(fault) => Err(Stop::of_fault(fault)),
+    };
     Closed {
         disk,
         stream_in,
         stream_out,
-        outcome: Err(Stop::NoMemory),
+        outcome,
     }
 }

@@ -4,13 +4,6 @@ use super::*;
 use hm_disk::Disk;
 use std::process::Abort;
 
-const FIRST_RUN: &str = "mkdir /a\nmkdir /b\nls /\nls /@@0x0000000000000002\n\
-ls /@@0x0000000000000000\nls /@@0x0000000000000009\n";
-
-const FIRST_PRINTED: &str = "0x0000000000000002 ok\n0x0000000000000003 ok\n\
-0x0000000000000004 ok 2 d:a d:b\n0x0000000000000005 ok 1 d:a\n\
-0x0000000000000006 not retained\n0x0000000000000007 future 0x0000000000000006\n";
-
 // The disk that a script on a new volume leaves.
 fn made<R: AllocGlobal + Threads + Wait + Sync>(
     rt: &R,
@@ -21,56 +14,28 @@ fn made<R: AllocGlobal + Threads + Wait + Sync>(
     Ok(disk)
 }
 
+// What a first run makes, whose last id is 8.
+const FIRST_RUN: &str = "mkdir /a\ntouch /a/f\nwrite /a/f 0 6161\nwrite /a/f 0 6262\n\
+ln /a/f /g\nrm /a/f\nls /a\n";
+
 #[test]
 fn finds_on_the_disk_what_an_earlier_run_made(rt: HostRuntime) -> Result<(), Fail> {
-    let (is_so, disk) = ends(&rt, &MAKES, blank(&rt), FIRST_RUN, 0, FIRST_PRINTED)?;
-    assert!(rt; is_so);
-    let printed = "0x0000000000000008 ok 2 d:a d:b\n";
-    let (is_so, _) = ends(&rt, &["v"], disk, "ls /\n", 0, printed)?;
-    assert!(rt; is_so);
-    Ok(())
-}
-
-// The first of these scripts that after the first run does not print its text.
-fn first_wrong_later<R: AllocGlobal + Threads + Wait + Sync>(
-    rt: &R,
-    cases: &[(&str, &str)],
-) -> Result<Option<usize>, AllocError> {
-    for (number, (script, printed)) in cases.iter().enumerate() {
-        let (is_so, _) = ends(rt, &["w"], made(rt, FIRST_RUN)?, script, 0, printed)?;
-        if !is_so {
-            return Ok(Some(number));
-        }
-    }
-    Ok(None)
-}
-
-#[test]
-fn reads_the_past_of_an_earlier_run(rt: HostRuntime) -> Result<(), Fail> {
-    let cases = [
-        (
-            "ls /@@0x0000000000000002\n",
-            "0x0000000000000008 ok 1 d:a\n",
-        ),
-        ("ls /@@0x0000000000000001\n", "0x0000000000000008 ok 0\n"),
-        (
-            "ls /@@0x0000000000000007\n",
-            "0x0000000000000008 ok 2 d:a d:b\n",
-        ),
-        (
-            "ls /@@0x0000000000000008\n",
-            "0x0000000000000008 future 0x0000000000000007\n",
-        ),
-        (
-            "ls /@@0x0000000000000000\n",
-            "0x0000000000000008 not retained\n",
-        ),
-        (
-            "mkdir /b\nmkdir /c\n",
-            "0x0000000000000008 exists\n0x0000000000000009 ok\n",
-        ),
+    let lines = [
+        ("ls /", "ok 2 d:a f:g"),
+        ("cat /g 0 9", "ok 2 6262"),
+        ("cat /@@0x0000000000000004/a/f 0 9", "ok 2 6161"),
+        ("ls /@@0x0000000000000006", "ok 2 d:a f:g"),
+        ("ls /a@@0x0000000000000006", "ok 1 f:f"),
+        ("ls /@@0x0000000000000001", "ok 0"),
+        ("ls /@@0x000000000000000f", "future 0x000000000000000e"),
+        ("mkdir /a", "exists"),
+        ("mkdir /b", "ok"),
     ];
-    assert_eq!(rt; first_wrong_later(&rt, &cases)?, None);
+    let (other, disk) = first_other(&rt, &["w"], made(&rt, FIRST_RUN)?, 9, &lines)?;
+    assert_eq!(rt; other, None);
+    let lines = [("ls /", "ok 3 d:a d:b f:g"), ("df", "ok 13 9")];
+    let (other, _) = first_other(&rt, &["w"], disk, 18, &lines)?;
+    assert_eq!(rt; other, None);
     Ok(())
 }
 
@@ -141,7 +106,8 @@ fn patched(rt: &impl Abort, disk: MemDisk, place: u64, bytes: &[u8]) -> MemDisk 
 }
 
 // Whether a run over a volume with the directory `a`, of which one byte is another, ends so. Its header
-// is in the second slot, and its list in the second big-block of the pool.
+// is in the second slot, its root in the first big-block of the pool, and the payloads of its inodes and
+// names in the second.
 fn ends_over<R: AllocGlobal + Threads + Wait + Sync + Abort>(
     rt: &R,
     place: u64,
@@ -157,7 +123,7 @@ fn ends_over<R: AllocGlobal + Threads + Wait + Sync + Abort>(
 #[test]
 fn tells_a_field_of_the_header_that_is_out_of_range(rt: HostRuntime) -> Result<(), Fail> {
     for (place, byte, printed) in [
-        (16_384 + 8, 2, "bad header field 8\n"),
+        (16_384 + 8, 1, "bad header field 8\n"),
         (16_384 + 12, 25, "bad header field 12\n"),
         (16_384 + 72, 1, "bad header field 72\n"),
     ] {
@@ -167,22 +133,41 @@ fn tells_a_field_of_the_header_that_is_out_of_range(rt: HostRuntime) -> Result<(
 }
 
 #[test]
-fn tells_a_list_of_directories_that_is_broken(rt: HostRuntime) -> Result<(), Fail> {
-    let printed = "damaged 0x8000000006000000 5\n";
-    // Two directories where one stands, too many, the id of no call, no name, and a name that is none.
-    for (offset, byte) in [(0, 2), (1, 0x10), (8, 3), (16, 0), (18, b'/')] {
-        let is_so = ends_over(&rt, 0x600_0000 + offset, byte, 10, printed)?;
+fn tells_a_root_that_is_damaged(rt: HostRuntime) -> Result<(), Fail> {
+    // Its kind, its level, the number of its elements, and a part that is to be zero.
+    for (offset, byte, printed) in [
+        (0, 3, "damaged 0x8000000005800000 1\n"),
+        (1, 2, "damaged 0x8000000005800000 1\n"),
+        (2, 64, "damaged 0x8000000005800000 2\n"),
+        (4, 1, "damaged 0x8000000005800000 5\n"),
+    ] {
+        let is_so = ends_over(&rt, 0x580_0000 + offset, byte, 10, printed)?;
         assert!(rt; is_so, "{offset}");
     }
     Ok(())
 }
 
 #[test]
-fn tells_the_broken_list_of_a_new_volume(rt: HostRuntime) -> Result<(), Fail> {
-    // The number of directories is 4,097.
-    let disk = patched(&rt, made(&rt, "")?, 0x580_0000, &[0x01, 0x10]);
-    let printed = "damaged 0x8000000005800000 5\n";
-    let (is_so, _) = ends(&rt, &["v"], disk, "ls /\n", 10, printed)?;
+fn tells_a_payload_and_an_entry_of_the_freemap_that_are_damaged(
+    rt: HostRuntime,
+) -> Result<(), Fail> {
+    // The kind of an object, and the zeros behind the zone of big-block 0.
+    let payload = "damaged 0x9000000006000000 6\n";
+    assert!(rt; ends_over(&rt, 0x600_0000, 0, 10, payload)?);
+    let entry = "damaged 0x4000000001000000 7\n";
+    assert!(rt; ends_over(&rt, 0x100_0001, 1, 10, entry)?);
+    Ok(())
+}
+
+#[test]
+fn answers_up_to_the_greatest_id(rt: HostRuntime) -> Result<(), Fail> {
+    // The last id of the new volume's header is 9,223,372,036,854,775,806.
+    let last = [0xFE, 0xFF, 0xFF, 0xFF, 0xFF, 0xFF, 0xFF, 0x7F];
+    let disk = patched(&rt, made(&rt, "")?, 24, &last);
+    let printed = "0x7fffffffffffffff ok\n- ids spent\n- ids spent\n";
+    let (is_so, disk) = ends(&rt, &["v"], disk, "mkdir /a\nls /\n\nmkdir /b\n", 0, printed)?;
+    assert!(rt; is_so);
+    let (is_so, _) = ends(&rt, &["v"], disk, "ls /\n", 0, "- ids spent\n")?;
     assert!(rt; is_so);
     Ok(())
 }

@@ -51,8 +51,9 @@ fn ends_with(status: u8, wanted: u8, out: &MemSink, printed: &[&str]) -> bool {
     status == wanted && printed.iter().any(|text| out.bytes() == text.as_bytes())
 }
 
-// How a run ends that makes the directory `b`, where this call of the disk fails. The next run finds the
-// old volume or the new one, and the new one where the run was acknowledged.
+// How a run ends that makes the directory `b`, where this call of the disk fails: within the call, which
+// then makes nothing, or outside it. After a status 0 the next run finds what was printed. Where writing
+// back fails it may find no volume.
 fn end_of_change<R: AllocGlobal + Threads + Wait + Sync>(
     rt: &R,
     call: u64,
@@ -60,22 +61,25 @@ fn end_of_change<R: AllocGlobal + Threads + Wait + Sync>(
     let disk = made(rt)?.failing(vec![in rt.alloc(); call]?);
     let script = b"mkdir /b\n".to_vec(rt.alloc())?;
     let (status, out, disk) = parts(run_over(rt, &["v"], disk, script, &[], &[])?);
-    let told = ["media 0 1\n", "0x0000000000000003 ok\nmedia 0 1\n"];
     let completes = ends_with(status, 0, &out, &[DONE]);
-    let stops = ends_with(status, 4, &out, &told);
-    Ok(match which(rt, disk, &[OLD, NEW])? {
-        Some(1) if completes => Some(End::Completed),
-        Some(_) if stops => Some(End::Stopped),
-        _ => None,
-    })
+    let refuses = ends_with(status, 0, &out, &["0x0000000000000003 media 0 1\n"]);
+    let stops_early = ends_with(status, 4, &out, &["media 0 1\n"]);
+    let stops_late = ends_with(status, 4, &out, &["0x0000000000000003 ok\nmedia 0 1\n"]);
+    Ok(
+        match which(rt, disk, &[OLD, NEW, "0x0000000000000004 ok 1 d:a\n"])? {
+            Some(0) if stops_early => Some(End::Stopped),
+            Some(1) if completes => Some(End::Completed),
+            Some(2) if refuses => Some(End::Stopped),
+            _ if stops_late => Some(End::Stopped),
+            _ => None,
+        },
+    )
 }
 
 #[test]
-fn keeps_the_old_or_the_new_volume_where_a_call_of_the_disk_fails(
-    rt: HostRuntime,
-) -> Result<(), Fail> {
+fn keeps_what_was_printed_where_a_call_of_the_disk_fails(rt: HostRuntime) -> Result<(), Fail> {
     let mut last = Some(End::Stopped);
-    for call in 1..=40 {
+    for call in 1..=60 {
         let end = end_of_change(&rt, call)?;
         assert!(rt;
             end.is_some() && (end == last || last == Some(End::Stopped)),
@@ -89,7 +93,7 @@ fn keeps_the_old_or_the_new_volume_where_a_call_of_the_disk_fails(
 }
 
 // How a run ends that makes a volume, where this call of the disk fails. Nothing is promised of the disk
-// where it failed before a volume was open; later, the next run finds the empty volume or the new one.
+// but where the run ends with status 0.
 fn end_of_making<R: AllocGlobal + Threads + Wait + Sync>(
     rt: &R,
     call: u64,
@@ -98,22 +102,21 @@ fn end_of_making<R: AllocGlobal + Threads + Wait + Sync>(
     let script = b"mkdir /a\n".to_vec(rt.alloc())?;
     let (status, out, disk) = parts(run_over(rt, &MAKES, disk, script, &[], &[])?);
     let completes = ends_with(status, 0, &out, &["0x0000000000000002 ok\n"]);
-    let stops_late = ends_with(status, 4, &out, &["0x0000000000000002 ok\nmedia 0 1\n"]);
-    let stops_early = ends_with(status, 4, &out, &["media 0 1\n"]);
-    Ok(
-        match which(rt, disk, &["0x0000000000000002 ok 0\n", OLD])? {
-            Some(1) if completes => Some(End::Completed),
-            Some(_) if stops_late => Some(End::Stopped),
-            _ if stops_early => Some(End::Stopped),
-            _ => None,
-        },
-    )
+    let refuses = ends_with(status, 0, &out, &["0x0000000000000002 media 0 1\n"]);
+    let told = ["media 0 1\n", "0x0000000000000002 ok\nmedia 0 1\n"];
+    let stops = ends_with(status, 4, &out, &told);
+    Ok(match which(rt, disk, &["0x0000000000000003 ok 0\n", OLD])? {
+        Some(0) if refuses => Some(End::Stopped),
+        Some(1) if completes => Some(End::Completed),
+        _ if stops => Some(End::Stopped),
+        _ => None,
+    })
 }
 
 #[test]
 fn tells_the_call_of_the_disk_that_fails_as_a_volume_is_made(rt: HostRuntime) -> Result<(), Fail> {
     let mut last = Some(End::Stopped);
-    for call in 1..=60 {
+    for call in 1..=120 {
         let end = end_of_making(&rt, call)?;
         assert!(rt;
             end.is_some() && (end == last || last == Some(End::Stopped)),
@@ -126,8 +129,8 @@ fn tells_the_call_of_the_disk_that_fails_as_a_volume_is_made(rt: HostRuntime) ->
     Ok(())
 }
 
-// How a run of three lines ends whose sink fails at this call. No line is run after that, and the next
-// run finds the old volume.
+// How a run of three lines ends whose sink fails at this call. No line is run after that, nothing is
+// written back, and the next run finds the old volume.
 fn end_of_printing<R: AllocGlobal + Threads + Wait + Sync>(
     rt: &R,
     call: u64,
@@ -147,7 +150,7 @@ fn end_of_printing<R: AllocGlobal + Threads + Wait + Sync>(
 }
 
 #[test]
-fn writes_nothing_where_a_call_of_the_sink_fails(rt: HostRuntime) -> Result<(), Fail> {
+fn keeps_the_volume_where_a_call_of_the_sink_fails(rt: HostRuntime) -> Result<(), Fail> {
     let mut last = Some(End::Stopped);
     for call in 1..=10 {
         let end = end_of_printing(&rt, call)?;

@@ -1,4 +1,4 @@
-// Lines and their replies, and lines outside the grammar.
+// Lines that are run, and lines that are refused.
 
 use super::*;
 
@@ -19,104 +19,42 @@ fn prints_nothing_for_remarks(rt: HostRuntime) -> Result<(), Fail> {
 }
 
 #[test]
-fn makes_a_name_once(rt: HostRuntime) -> Result<(), Fail> {
-    let cases = [
-        (
-            "mkdir /a\nmkdir /a\n",
-            0,
-            "0x0000000000000002 ok\n0x0000000000000003 exists\n",
-        ),
-        (
-            "mkdir /a\nmkdir /A\nmkdir /a\n",
-            0,
-            "0x0000000000000002 ok\n0x0000000000000003 ok\n0x0000000000000004 exists\n",
-        ),
-    ];
-    assert_eq!(rt; first_wrong(&rt, &cases)?, None);
-    Ok(())
-}
-
-#[test]
-fn lists_by_bytes_what_stood_as_of_an_id(rt: HostRuntime) -> Result<(), Fail> {
-    let cases = [
-        (
-            "ls /\nls /@@0x0000000000000001\n",
-            0,
-            "0x0000000000000002 ok 0\n0x0000000000000003 ok 0\n",
-        ),
-        (
-            "mkdir /b\nmkdir /B\nmkdir /a\nls /\nls /@@0x0000000000000003\n",
-            0,
-            "0x0000000000000002 ok\n0x0000000000000003 ok\n0x0000000000000004 ok\n\
-0x0000000000000005 ok 3 d:B d:a d:b\n0x0000000000000006 ok 2 d:B d:b\n",
-        ),
-    ];
-    assert_eq!(rt; first_wrong(&rt, &cases)?, None);
-    Ok(())
-}
-
-#[test]
-fn refuses_ids_that_were_not_drawn_or_are_not_kept(rt: HostRuntime) -> Result<(), Fail> {
-    // An id of a later call, the call's own id, the greatest number, and 0.
-    let cases = [
-        (
-            "ls /@@0x0000000000000003\n",
-            0,
-            "0x0000000000000002 future 0x0000000000000001\n",
-        ),
-        (
-            "ls /@@0x0000000000000002\n",
-            0,
-            "0x0000000000000002 future 0x0000000000000001\n",
-        ),
-        (
-            "ls /\nls /@@0xffffFFFFffffFFFF\n",
-            0,
-            "0x0000000000000002 ok 0\n0x0000000000000003 future 0x0000000000000002\n",
-        ),
-        (
-            "ls /@@0x0000000000000000\n",
-            0,
-            "0x0000000000000002 not retained\n",
-        ),
-    ];
-    assert_eq!(rt; first_wrong(&rt, &cases)?, None);
-    Ok(())
-}
-
-#[test]
-fn takes_ids_with_digits_of_either_case(rt: HostRuntime) -> Result<(), Fail> {
-    let script = "mkdir /a\n\
-ls /\nls /\nls /\nls /\nls /\nls /\nls /\nls /\nls /@@0x000000000000000A\nls /@@0x000000000000000a\n";
-    let printed = "0x0000000000000002 ok\n0x0000000000000003 ok 1 d:a\n\
-0x0000000000000004 ok 1 d:a\n0x0000000000000005 ok 1 d:a\n0x0000000000000006 ok 1 d:a\n\
-0x0000000000000007 ok 1 d:a\n0x0000000000000008 ok 1 d:a\n0x0000000000000009 ok 1 d:a\n\
-0x000000000000000a ok 1 d:a\n0x000000000000000b ok 1 d:a\n0x000000000000000c ok 1 d:a\n";
-    assert_eq!(rt; first_wrong(&rt, &[(script, 0, printed)])?, None);
-    Ok(())
-}
-
-#[test]
 fn tells_the_first_bad_line_and_runs_none(rt: HostRuntime) -> Result<(), Fail> {
     let cases = [
         ("mkdir /a\nfrob /b\n", 8, "bad line 2\n"),
         ("mkdir /a\nfrob /b\nfrob /c\nmkdir /d\n", 8, "bad line 2\n"),
         ("\n#\n #\n", 8, "bad line 3\n"),
-        ("ls /\ncat / 0 1\n", 8, "bad line 2\n"),
         ("mkdir /a\n\n\n\n\n\n\n\n\nmkdir", 8, "bad line 10\n"),
     ];
     assert_eq!(rt; first_wrong(&rt, &cases)?, None);
     Ok(())
 }
 
-// The first of these texts that as the only line of a script is not told as a bad one.
+#[test]
+fn tells_the_first_of_bad_lines_of_two_sorts(rt: HostRuntime) -> Result<(), Fail> {
+    let cases = [
+        ("mkdir /a\nsync\nfrob\n", 8, "bad line 2\n"),
+        ("mkdir /a\nfrob\nsync\n", 8, "bad line 2\n"),
+        ("#\n2: ls /\nfrob\n", 8, "bad line 2\n"),
+        ("sync\n2: ls /\n", 8, "bad line 1\n"),
+        ("1: ls /\nsync\n", 8, "bad line 1\n"),
+        ("ls /\nls /\n\n8: sync", 8, "bad line 4\n"),
+    ];
+    assert_eq!(rt; first_wrong(&rt, &cases)?, None);
+    Ok(())
+}
+
+// The first of these texts that as the only line of a script is not told as a bad one, by itself or with
+// a lane.
 fn first_good<R: AllocGlobal + Threads + Wait + Sync>(
     rt: &R,
     texts: &[&str],
 ) -> Result<Option<usize>, AllocError> {
     for (number, text) in texts.iter().enumerate() {
+        let with_lane = format!(in rt.alloc(); "1: {text}")?;
         let (is_bad, _) = ends(rt, &MAKES, blank(rt), text, 8, "bad line 1\n")?;
-        if !is_bad {
+        let (is_bad_too, _) = ends(rt, &MAKES, blank(rt), with_lane.as_str(), 8, "bad line 1\n")?;
+        if !is_bad || !is_bad_too {
             return Ok(Some(number));
         }
     }
@@ -124,11 +62,33 @@ fn first_good<R: AllocGlobal + Threads + Wait + Sync>(
 }
 
 #[test]
-fn refuses_what_is_no_mkdir(rt: HostRuntime) -> Result<(), Fail> {
+fn refuses_forms_that_are_not_served(rt: HostRuntime) -> Result<(), Fail> {
+    let texts = [
+        "sync",
+        "synctid",
+        "prune /",
+        "prune-everything /",
+        "reblock",
+        "reblock 50",
+        "pfs-master /m 00000000000000aa",
+        "pfs-slave /s 00000000000000aa",
+        "pfs-status /",
+        "pfs-upgrade /",
+        "mirror-read / 0x0000000000000000",
+        "mirror-write /",
+        "mirror-copy /m /s",
+        "mirror-copy /m /s 5",
+        "progress",
+    ];
+    assert_eq!(rt; first_good(&rt, &texts)?, None);
+    Ok(())
+}
+
+#[test]
+fn refuses_what_is_no_form(rt: HostRuntime) -> Result<(), Fail> {
     let texts = [
         "mkdir",
         "mkdir ",
-        "m",
         "MKDIR /a",
         " mkdir /a",
         "mkdir  /a",
@@ -136,43 +96,43 @@ fn refuses_what_is_no_mkdir(rt: HostRuntime) -> Result<(), Fail> {
         "mkdir /a ",
         "mkdir /a /b",
         "mkdir /a\r",
-        "mkdir a",
-        "mkdir /",
-        "mkdir //a",
-        "mkdir /a/",
-        "mkdir /a/b",
-        "mkdir /.",
-        "mkdir /..",
-        "mkdir /a@@b",
-        "mkdir /a\tb",
-        "mkdir /\u{1}",
         "mkdir /\u{7f}",
-        "1: mkdir /a",
-        "touch /a",
+        "ls",
+        "df /",
+        "ln /a",
     ];
     assert_eq!(rt; first_good(&rt, &texts)?, None);
     Ok(())
 }
 
 #[test]
-fn refuses_what_is_no_ls(rt: HostRuntime) -> Result<(), Fail> {
+fn refuses_values_outside_their_range(rt: HostRuntime) -> Result<(), Fail> {
     let texts = [
-        "ls",
-        "ls ",
-        "ls  /",
-        "ls / ",
-        "ls //",
-        "ls /a",
-        "LS /",
-        "ls /@@",
-        "ls /@@0x000000000000002",
-        "ls /@@0x00000000000000002",
-        "ls /@@0x000000000000000g",
-        "ls /@@0X0000000000000002",
-        "ls /a@@0x0000000000000002",
-        "ls /@@0x0000000000000002/",
+        "cat /f 0 0",
+        "cat /f 0 16385",
+        "cat /f 00 1",
+        "cat /f 18446744073709551616 1",
+        "fill /f 0 0 00",
+        "fill /f 0 65537 00",
+        "fill /f 0 1 000",
+        "write /f 0 0",
+        "write /f 0 0g",
+        "write /f -1 00",
+        "truncate /f +1",
     ];
     assert_eq!(rt; first_good(&rt, &texts)?, None);
+    Ok(())
+}
+
+#[test]
+fn refuses_each_line_with_a_lane(rt: HostRuntime) -> Result<(), Fail> {
+    let cases = [
+        ("1: mkdir /a\n", 8, "bad line 1\n"),
+        ("8: df\n", 8, "bad line 1\n"),
+        ("mkdir /a\n# remark\n3: ls /\n4: ls /\n", 8, "bad line 3\n"),
+        ("9: ls /\n", 8, "bad line 1\n"),
+    ];
+    assert_eq!(rt; first_wrong(&rt, &cases)?, None);
     Ok(())
 }
 
@@ -201,7 +161,10 @@ fn takes_names_of_up_to_255_bytes(rt: HostRuntime) -> Result<(), Fail> {
     let done = "0x0000000000000002 ok\n";
     assert!(rt; repeats(&rt, "mkdir /", b'a', 255, 0, done)?);
     assert!(rt; repeats(&rt, "mkdir /", 0xFF, 255, 0, done)?);
-    assert!(rt; repeats(&rt, "mkdir /", b'a', 256, 8, "bad line 1\n")?);
+    let bad = "0x0000000000000002 bad path 1\n";
+    assert!(rt; repeats(&rt, "mkdir /", b'a', 256, 0, bad)?);
+    let long = "0x0000000000000002 bad path 1023\n";
+    assert!(rt; repeats(&rt, "mkdir /", b'a', 1_023, 0, long)?);
     Ok(())
 }
 
