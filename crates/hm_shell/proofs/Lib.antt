@@ -10,3 +10,4 @@ pub mod RunLemmas
 pub mod ServeLemmas
 pub mod AloneLemmas
 pub mod AloneMoreLemmas
+pub mod TextLemmas

@@ -21,7 +21,7 @@ use Rattle.hm_shell.specs.declared.stop.Stop.{Stop}
 use Rattle.hm_shell.specs.Alone.{IsAlone, out_text}
 use Rattle.hm_shell.specs.Lines.{IsServedLine}
 use Rattle.hm_shell.specs.Making.{MakesVolume}
-use Rattle.hm_shell.specs.Running.{AnswersAll, AnswersInPart, HasHistory, IsCounted, IsKept, IsWriteCause, LeavesVolume, OverEach, Ran, RunsAll, StandsForNone, StoppedUsing}
+use Rattle.hm_shell.specs.Running.{AnswersAll, AnswersInPart, HasHistory, IsCounted, IsKept, IsWriteCause, LeavesVolume, OverEach, Ran, RunsAll, StandsForNone, StoppedRunning, StoppedUsing}
 use Rattle.hm_shell.specs.Seen.{Seen}
 use Rattle.hm_shell.specs.Serving.{FailsWriting, GoesFrom, LeavesAtLine, Served, ServedInPart, StopsUsing, UsesAll}
 use Rattle.hm_shell.specs.Stop.{of_fault}
@@ -184,3 +184,13 @@ module _ {D I O : Type 0} where
                 (write_cause made.told made.faults input output begun core mounted writing.served.from new writing.fault writing.finished);
           });
         }
+
+    -- the same where there was no error, and where there was one
+    pub RunsAll-opened : (old_out new_out : Option (List ℕ)) (r : Result (Unit {0}) Stop) → OnOk r (UsesAll lines begun new old_out new_out) → OnOk r (RunsAll newfs lines old new old_out new_out)
+    RunsAll-opened old_out new_out (Ok done) used = RunsAll-used old_out new_out used
+    RunsAll-opened old_out new_out (Err stop) used = tt
+
+    pub StoppedRunning-opened : (old_out new_out : Seen (List ℕ)) (r : Result (Unit {0}) Stop) → IfErr r (StopsUsing lines begun new old_out new_out)
+        → IfErr r (StoppedRunning newfs lines old new old_out new_out)
+    StoppedRunning-opened old_out new_out (Ok done) stops = tt
+    StoppedRunning-opened old_out new_out (Err stop) stops = inr (StoppedUsing-stopped old_out new_out stop stops)

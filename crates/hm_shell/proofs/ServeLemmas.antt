@@ -1,15 +1,17 @@
 -- Lines that are served from the front.
-use Rattle.std.proofs.Common.{◌≡◌, ℕ, suc, ◌+◌, ◌*◌, ◌<◌, ◌≤◌, List, [], ◌∷◌, ◌++◌, length, take, refl, subst, sym, ◌∙◌, ap, inl, inr, arith, append_assoc, append-nil, length-append}
-use Rattle.std.specs.Prelude.{All, Contains, IfErr, OnOk, Option, Result, Ok, Err, ◌⊎◌}
+use Rattle.std.proofs.Common.{◌≡◌, ℕ, suc, ◌+◌, ◌*◌, ◌<◌, ◌≤◌, List, [], ◌∷◌, ◌++◌, get_or, length, take, refl, subst, sym, ◌∙◌, ap, inl, inr, arith, append_assoc, append-nil, length-append}
+use Rattle.std.specs.Prelude.{All, Contains, IfErr, OnErr, OnOk, Option, Some, Result, Ok, Err, ◌⊎◌, slice_get}
 use Rattle.std.proofs.lemmas.List.Elements.{All-contains, Contains-append_cases, Contains-append_right}
+use Rattle.std.proofs.lemmas.Option.{get_or_from_slice_get}
 use Rattle.hm_types.specs.declared.limits.TheConstants.{GREATEST_ID}
 use Rattle.hm_pipe.specs.Pipe.{Gains}
 use Rattle.hm_pipe.proofs.PipeLemmas.{Gains-none, Gains-append}
 use Rattle.hm_model.specs.declared.entry.Entry.{Entry}
 use Rattle.hm_model.specs.declared.line.Line.{Line}
 use Rattle.hm_model.specs.Out.{IsOf, entry_words, printed_line, spent_words}
-use Rattle.hm_tree_core.specs.Core.{Enters, KeepsRest, StandsOver}
+use Rattle.hm_tree_core.specs.Core.{Enters, KeepsRest, StandsOver, Steps}
 use Rattle.hm_tree_core.specs.State.{CoreState}
+use Rattle.hm_tree_core.specs.declared.step.Step.TheVariants.{Answered, Spent}
 use Rattle.hm_shell.specs.declared.stop.Stop.{Stop}
 use Rattle.hm_shell.specs.declared.stop.Stop.TheVariants.{Usage, NotVolume, BadField, DiskFault, Damaged, ScriptFault, OutFault, NoMemory, BadLine, TooLong}
 use Rattle.hm_shell.specs.Alone.{Answers, IsAlone, line_text, out_text}
@@ -59,6 +61,15 @@ served_next lines before rest line each split =
 -- a history with one entry more has one
 not_empty : (history : List Entry) (e : Entry) → history ++ e ∷ [] ≡ [] → ⊥
 not_empty history e none = (let length_is = ap length none in let more = length-append history (e ∷ []) in absurd (omega (arith, length_is, more)))
+
+-- the entry at the end of a history
+last_entry : (history : List Entry) (e d : Entry) → get_or (history ++ e ∷ []) (length history) d ≡ e
+last_entry [] e d = refl
+last_entry (x ∷ xs) e d = last_entry xs e d
+
+entry_there : (history : List Entry) (e found : Entry) (place : ℕ) → place ≡ length history → slice_get (history ++ e ∷ []) place ≡ Some found → found ≡ e
+entry_there history e found place there is =
+    sym (get_or_from_slice_get (history ++ e ∷ []) (length history) found e (subst (λ (k : ℕ). slice_get (history ++ e ∷ []) k ≡ Some found) there is)) ∙ last_entry history e e
 
 module _ {D I O : Type 0} where
   KeepsRest-none : (core : CoreState D I O) → KeepsRest core core
@@ -277,3 +288,45 @@ module _ {D I O : Type 0} where
     printed = part.printed;
     gained = part.gained;
   }
+
+  -- the same where there was an error
+  pub part_after : (lines : List Line) (a b c : CoreState D I O) (held holds : Option (List ℕ)) (r : Result (Unit {0}) Stop) → b ≡ record a { spare = b.spare }
+      → OnErr r (ServedInPart lines b c held holds) → OnErr r (ServedInPart lines a c held holds)
+  part_after lines a b c held holds (Ok done) keeps part = tt
+  part_after lines a b c held holds (Err stop) keeps part = ServedInPart-after lines a b c held holds keeps part
+
+  module _ (old new : CoreState D I O) (line : Line) (r : Result (Unit {0}) Stop) where
+    -- a line was called, and its entry printed or not
+    module _ (place : ℕ) (e : Entry) (steps : Steps old new line.lane line.number line.command (Answered place)) (there : slice_get new.history place ≡ Some e) where
+      runs_answered : RunsLine old new line (printed_line (entry_words e))
+      runs_answered = inl (steps.1, ap (λ (x : Entry). printed_line (entry_words x))
+          (entry_there old.history steps.1.entry e place steps.0 (subst (λ (h : List Entry). slice_get h place ≡ Some e) steps.1.history there)))
+
+      pub answered_printed : (held holds : Option (List ℕ)) → OnOk r (Gains held (printed_line (entry_words e)) holds) → OnOk r (ServesLine old new line held holds)
+      answered_printed held holds gained = by r gained where
+        by : (r : Result (Unit {0}) Stop) → OnOk r (Gains held (printed_line (entry_words e)) holds) → OnOk r (ServesLine old new line held holds)
+        by (Ok done) gained = record { text = printed_line (entry_words e); runs = runs_answered; gained = gained }
+        by (Err stop) gained = tt
+
+      pub answered_stopped : (held holds : Seen (List ℕ)) → IfErr r (StoppedPrinting (printed_line (entry_words e)) held holds) → IfErr r (StoppedServing old new line held holds)
+      answered_stopped held holds stopped = by r stopped where
+        by : (r : Result (Unit {0}) Stop) → IfErr r (StoppedPrinting (printed_line (entry_words e)) held holds) → IfErr r (StoppedServing old new line held holds)
+        by (Ok done) stopped = tt
+        by (Err stop) stopped = record { text = printed_line (entry_words e); runs = runs_answered; printing = stopped }
+
+    -- it found no id left
+    module _ (steps : Steps old new line.lane line.number line.command Spent) where
+      runs_spent : RunsLine old new line (printed_line spent_words)
+      runs_spent = inr (steps.0, steps.1, refl)
+
+      pub spent_printed : (held holds : Option (List ℕ)) → OnOk r (Gains held (printed_line spent_words) holds) → OnOk r (ServesLine old new line held holds)
+      spent_printed held holds gained = by r gained where
+        by : (r : Result (Unit {0}) Stop) → OnOk r (Gains held (printed_line spent_words) holds) → OnOk r (ServesLine old new line held holds)
+        by (Ok done) gained = record { text = printed_line spent_words; runs = runs_spent; gained = gained }
+        by (Err stop) gained = tt
+
+      pub spent_stopped : (held holds : Seen (List ℕ)) → IfErr r (StoppedPrinting (printed_line spent_words) held holds) → IfErr r (StoppedServing old new line held holds)
+      spent_stopped held holds stopped = by r stopped where
+        by : (r : Result (Unit {0}) Stop) → IfErr r (StoppedPrinting (printed_line spent_words) held holds) → IfErr r (StoppedServing old new line held holds)
+        by (Ok done) stopped = tt
+        by (Err stop) stopped = record { text = printed_line spent_words; runs = runs_spent; printing = stopped }

@@ -1,13 +1,9 @@
-use Rattle.std.proofs.Common.{◌≤◌, length}
-use Rattle.hm_core.specs.Core.{KeepsRest}
+use Rattle.std.proofs.Common.{◌≤◌}
+use Rattle.hm_tree_core.specs.Seen.{seen as seen_core}
 use Rattle.hm_shell.specs.Serving.{Serving}
 use Rattle.hm_shell.proofs.serve.serve_lines.Given as goal
 
-abbrev pub invariant-lines : goal.invariant-lines
-invariant-lines g l =
-    Serving l.script l.rest l.number l.core (g.K.Sink.held l.fn.out) (g.K.Sink.held l.out)
+abbrev pub invariant-loop-line : goal.invariant-loop-line
+invariant-loop-line g l =
+    Serving l.fn.lines.items l.yielded l.line-iterator.rest.items (seen_core l.fn.core) (seen_core l.core) (g.K.Sink.held l.fn.out) (g.K.Sink.held l.out)
     × (g.K.Sink.faults l.fn.out ≤ g.K.Sink.faults l.out)
-    × KeepsRest l.fn.core l.core
-
-abbrev pub decreases-lines : goal.decreases-lines
-decreases-lines g l = length l.rest
