@@ -1,46 +1,31 @@
 -- How a run ended, and what its status says.
 use Rattle.std.proofs.Common.{◌≡◌, ◌≢◌, ◌↔◌, ℕ, List, [], refl, sym, ◌∙◌, ap, subst, inl, inr, arith, lit<}
-use Rattle.std.specs.Prelude.{◌⊎◌, Err, IfErr, IfSome, Ok, OnOk, Option, Some, None, Result}
-use Rattle.hm_shell.specs.declared.job.Job.{Job}
+use Rattle.std.specs.Prelude.{◌⊎◌, Err, IfErr, Ok, OnOk, Result}
+use Rattle.hm_tree_core.specs.declared.fault.OpenFault.{OpenFault}
+use Rattle.hm_tree_core.specs.declared.fault.OpenFault.TheVariants.{BadField as bad_field, Fault as of_disk, NotVolume as no_volume}
+use Rattle.hm_types.specs.declared.fault.Fault.TheVariants.{Damaged as damage, Media as media, NoMemory as no_memory}
 use Rattle.hm_shell.specs.declared.stop.Stop.{Stop}
 use Rattle.hm_shell.specs.declared.stop.Stop.TheVariants.{Usage, NotVolume, BadField, DiskFault, Damaged, ScriptFault, OutFault, NoMemory, BadLine, TooLong}
 use Rattle.hm_shell.specs.Devices.{Sight}
 use Rattle.hm_shell.specs.Exact.{IsStatus}
-use Rattle.hm_shell.specs.Preparing.{WasPrepared}
 use Rattle.hm_shell.specs.Printing.{Prints}
 use Rattle.hm_shell.specs.Run.{Completes, Stops, StopsLater, StopsWith}
-use Rattle.hm_shell.specs.Running.{IsDue, IsNewSize}
 use Rattle.hm_shell.specs.Seen.{Seen}
-use Rattle.hm_shell.specs.Stop.{last_line, status_of}
-use Rattle.hm_shell.specs.Words.{HasPlan, IsPlan, IsUsageFault}
-
--- the size that words name is one of a volume
-new_size : (words : List (List ℕ)) (volume : List ℕ) (newfs : Option ℕ) → IsPlan words volume newfs → IfSome newfs IsNewSize
-new_size words volume None plan = tt
-new_size words volume (Some size) plan = (plan.size_is.least, plan.size_is.most)
-
--- what was made ready may be run
-pub IsDue-prepared : (words : List (List ℕ)) (old new : Seen (List ℕ)) (job : Job) → WasPrepared words old new job → IsDue job
-IsDue-prepared words old new job was = record {
-  size = new_size words was.prepared.volume job.newfs was.prepared.plan;
-  good = was.prepared.good;
-  lines = was.lines;
-  few = omega (arith, was.lines, was.prepared.read.lines);
-  bytes = was.prepared.read.bytes;
-}
+use Rattle.hm_shell.specs.Stop.{last_line, of_open, status_of}
+use Rattle.hm_shell.specs.Words.{HasPlan, IsUsageFault}
 
 -- how a run ended
 abbrev pub HasEnded : List (List ℕ) → Sight → Sight → ℕ → Type 0
 HasEnded words old new status = ((status ≡ 0) × Completes words old new) ⊎ StopsWith words status old new
 
 -- from what was done, and the last line
-pub HasEnded-from : (words : List (List ℕ)) (old mid new : Sight) (outcome : Result (Unit {0}) Stop) (status : ℕ) → OnOk outcome (Completes words old mid) → IfErr outcome (λ stop. Stops words old mid stop) → OnOk outcome ((status ≡ 0) × (new.out.told ≡ mid.out.told)) → IfErr outcome (λ stop. (status ≡ status_of stop) × Prints [] (last_line stop) mid.out new.out) → new.disk ≡ mid.disk → new.script ≡ mid.script → HasEnded words old new status
+pub HasEnded-from : (words : List (List ℕ)) (old mid new : Sight) (outcome : Result (Unit {0}) Stop) (status : ℕ) → OnOk outcome (Completes words old mid) → IfErr outcome (Stops words old mid) → OnOk outcome ((status ≡ 0) × (new.out.told ≡ mid.out.told)) → IfErr outcome (λ stop. (status ≡ status_of stop) × Prints [] (last_line stop) mid.out new.out) → new.disk ≡ mid.disk → new.script ≡ mid.script → HasEnded words old new status
 HasEnded-from words old mid new (Ok done) status completes stops ended line disk script =
     inl (
       ended.0,
       record {
         newfs = completes.newfs;
-        script = completes.script;
+        lines = completes.lines;
         prepared = rw script completes.prepared;
         runs = rw (disk, ended.1) completes.runs;
       },
@@ -71,6 +56,14 @@ pub stopped_from : (words : List (List ℕ)) (old new : Sight) (status : ℕ) �
 stopped_from words old new status (inl done) other = absurd (other done.0)
 stopped_from words old new status (inr stopped) other = stopped
 
+-- opening a volume tells no fault of usage
+no_usage : (fault : OpenFault) → Usage ≡ of_open fault → ⊥
+no_usage no_volume is = absurd (cc)
+no_usage (bad_field place) is = absurd (cc)
+no_usage (of_disk (media before after)) is = absurd (cc)
+no_usage (of_disk (damage at kind)) is = absurd (cc)
+no_usage (of_disk no_memory) is = absurd (cc)
+
 -- the words of a run that stopped elsewhere keep the rule
 plan_or_usage : (words : List (List ℕ)) (old new : Sight) (stop : Stop) → Stops words old new stop → (IsUsageFault words × (stop ≡ Usage)) ⊎ (HasPlan words × (status_of stop ≢ 2))
 plan_or_usage words old new stop (inr later) =
@@ -78,10 +71,10 @@ plan_or_usage words old new stop (inr later) =
   where
     none : (stop : Stop) → status_of stop ≡ 2 → StopsLater words old new stop → ⊥
     none Usage is later = elim later.stopped [
-      | inl opening ↦ absurd opening.0
+      | inl opening ↦ absurd (no_usage opening.0.fault opening.0.stop_is)
       | inr using ↦ elim using.stops [
-        | inl serving ↦ absurd serving.4
-        | inr writing ↦ absurd writing.1
+        | inl line ↦ absurd line.cause
+        | inr writing ↦ absurd writing.cause
       ]
     ]
     none NotVolume is later = absurd (omega (arith, is))

@@ -1,46 +1,63 @@
 -- Which status the words, the script and the disk bring.
-use Rattle.std.proofs.Common.{◌≡◌, ℕ, List, [], ◌∷◌, ◌++◌, Option, Some, None, length, refl, sym, ◌∙◌, ap, subst, inl, inr, arith, lit<, length-append}
-use Rattle.std.specs.Prelude.{All, Contains, IfSome}
+use Rattle.std.proofs.Common.{◌≡◌, ℕ, Bool, true, false, if◌then◌else◌, List, [], ◌∷◌, ◌++◌, Option, Some, None, length, refl, sym, ◌∙◌, ap, subst, inl, inr, arith, lit<, length-append, append-nil}
+use Rattle.std.specs.Prelude.{◌==◌, Contains, IfSome}
 use Rattle.std.specs.List.{AllByRecursion}
-use Rattle.std.proofs.lemmas.Bool.{true≢false}
-use Rattle.std.proofs.lemmas.List.Elements.{recursion_from_All}
+use Rattle.std.proofs.lemmas.List.Elements.{Contains-append_left, recursion_from_All}
+use Rattle.hm_types.specs.Told.{BothTell}
+use Rattle.hm_types.specs.Tree.{root_tree}
+use Rattle.hm_types.specs.declared.fault.Fault.TheVariants.{Damaged as damage, Media as media, NoMemory as no_memory}
 use Rattle.hm_pipe.specs.Pipe.{Gives, IsAtEnd}
 use Rattle.hm_disk.specs.Crash.{Told}
+use Rattle.hm_header.specs.OnDisk.{HasFault, HasHeader, first_slot, second_slot}
+use Rattle.hm_header.specs.declared.fault.HeaderFault.{HeaderFault}
+use Rattle.hm_header.specs.declared.fault.HeaderFault.TheVariants.{BadField as header_field, NotVolume as header_none}
+use Rattle.hm_header.specs.declared.header.Header.{Header}
+use Rattle.hm_header.proofs.SlotLemmas.{chosen_has_none, chosen_is_one}
+use Rattle.hm_load.specs.Damage.{IsDamage}
+use Rattle.hm_load.proofs.OnceLemmas.{whole_is_undamaged}
+use Rattle.hm_image.specs.Stands.{StandsFor}
+use Rattle.hm_model.specs.declared.line.Line.{Line}
 use Rattle.hm_model.specs.Lines.{texts_of}
 use Rattle.hm_model.specs.Script.{IsTooLong}
-use Rattle.hm_model.specs.Volume.{Volume}
-use Rattle.hm_model.specs.Served.Lines.{IsFirstBad, IsLine}
-use Rattle.hm_core.specs.Open.{HasBrokenList, IsTooSmall}
-use Rattle.hm_core.proofs.StandsLemmas.{HasBrokenList-header, HasNoHeader, StandsFor-header, StandsFor-unbroken, no_header_at_all, no_header_in_range}
+use Rattle.hm_model.specs.Volume.{PseudoFileSystem, Volume, fresh, new_master}
+use Rattle.hm_tree_core.specs.History.{IsClear}
+use Rattle.hm_tree_core.specs.Opened.{HasDamage, IsFailure, IsMade, IsNotMade, IsNotMounted, IsTooSmall}
+use Rattle.hm_tree_core.specs.declared.fault.OpenFault.{OpenFault}
+use Rattle.hm_tree_core.specs.declared.fault.OpenFault.TheVariants.{BadField as bad_field, Fault as of_disk, NotVolume as no_volume}
 use Rattle.hm_shell.specs.declared.stop.Stop.{Stop}
 use Rattle.hm_shell.specs.declared.stop.Stop.TheVariants.{Usage, NotVolume, BadField, DiskFault, Damaged, ScriptFault, OutFault, NoMemory, BadLine, TooLong}
 use Rattle.hm_shell.specs.Devices.{Sight}
-use Rattle.hm_shell.specs.Exact.{Brings, DiskBrings, ScriptBrings}
-use Rattle.hm_shell.specs.Opening.{GivesNone, OpensOn, StoppedOpening}
+use Rattle.hm_shell.specs.Exact.{Brings, DiskBrings, NewBrings, OldBrings, ScriptBrings}
+use Rattle.hm_shell.specs.Lines.{IsFirstBad, IsGoodScript, IsServedText}
+use Rattle.hm_shell.specs.Opening.{HasWhole, IsUnopened, OpensOn, StoppedOpening}
 use Rattle.hm_shell.specs.Preparing.{IsPrepared, StoppedPreparing}
 use Rattle.hm_shell.specs.Reading.{WasRead}
 use Rattle.hm_shell.specs.Run.{Stops}
-use Rattle.hm_shell.specs.Running.{StoppedFrom, StoppedRunning}
+use Rattle.hm_shell.specs.Running.{StandsForNone, StoppedRunning, StoppedUsing}
 use Rattle.hm_shell.specs.Seen.{Seen}
-use Rattle.hm_shell.specs.Stop.{status_of}
+use Rattle.hm_shell.specs.Stop.{of_open, status_of}
 use Rattle.hm_shell.proofs.EndLemmas.{HasEnded}
-use Rattle.hm_shell.proofs.LinesLemmas.{second_good}
 use Rattle.hm_shell.proofs.ReadLemmas.{lines_of_front}
-
-append-none : {X : Type 0} (xs : List X) → xs ++ [] ≡ xs
-append-none [] = refl
-append-none (x ∷ xs) = ap (λ ys. x ∷ ys) (append-none xs)
 
 -- of a device that tells
 told_gives : {A : Type 0} (o : Option A) (P : A → Type 0) → ((x : A) → o ≡ Some x → P x) → IfSome o P
 told_gives None P gives = tt
 told_gives (Some x) P gives = gives x refl
 
+each_gives : {A : Type 0} (o : Option A) (P Q : A → Type 0) → ((x : A) → P x → Q x) → IfSome o P → IfSome o Q
+each_gives None P Q gives p = tt
+each_gives (Some x) P Q gives p = gives x p
+
+both_gives : (old new : Option Told) (R : Told → Told → Type 0) (P : Told → Type 0) → ((s t : Told) → R s t → P s) → BothTell old new R → IfSome old P
+both_gives None new R P gives both = tt
+both_gives (Some s) None R P gives both = absurd both
+both_gives (Some s) (Some t) R P gives both = gives s t both
+
 -- what was read to the end is all that was told
 read_is_told : (script bytes : List ℕ) (after : Option (List ℕ)) → Gives (Some bytes) script after → IsAtEnd after → bytes ≡ script
 read_is_told script bytes None gave ended = absurd (cc)
 read_is_told script bytes (Some rest) gave ended =
-    let all : bytes ≡ script ++ rest = cc in all ∙ (ap (λ r. script ++ r) ended ∙ append-none script)
+    let all : bytes ≡ script ++ rest = cc in all ∙ (ap (λ r. script ++ r) ended ∙ append-nil script)
 
 same_script : (old new : Seen (List ℕ)) (script bytes : List ℕ) → WasRead old new script → old.told ≡ Some bytes → bytes ≡ script
 same_script old new script bytes read is = read_is_told script bytes new.told (rw is at read.gave) read.ended
@@ -57,89 +74,42 @@ too_long_told taken bytes (Some rest) gave (inl long) =
 too_long_told taken bytes (Some rest) gave (inr long) =
     let all : bytes ≡ taken ++ rest = cc in inr (omega (arith, ap (λ b. length (texts_of b)) all, lines_of_front taken rest, long))
 
--- where all texts are lines, none is bad
-no_bad : (script : List ℕ) (number : ℕ) → All IsLine (texts_of script) → IsFirstBad script number → ⊥
-no_bad script number good bad =
-    let all : AllByRecursion IsLine (bad.before ++ bad.bad ∷ bad.rest) = subst (AllByRecursion IsLine) bad.texts (recursion_from_All IsLine (texts_of script) good) in
-    elim (second_good bad.before (bad.bad ∷ bad.rest) all).0 [
-      | inl remark ↦ absurd (true≢false (sym remark ∙ bad.no_line.0))
-      | inr call ↦ bad.no_line.1 call.0 call.1
-    ]
+-- where all texts are served, none is bad
+served_after : (texts more : List (List ℕ)) → AllByRecursion IsServedText (texts ++ more) → AllByRecursion IsServedText more
+served_after [] more good = good
+served_after (t ∷ ts) more good = served_after ts more good.1
 
-some_is_none : (size : ℕ) → Some size ≡ None → ⊥
-some_is_none size is = absurd (cc)
+no_bad : (script : List ℕ) (number : ℕ) → IsGoodScript script → IsFirstBad script number → ⊥
+no_bad script number good bad =
+    let all : AllByRecursion IsServedText (bad.before ++ bad.bad ∷ bad.rest) = subst (AllByRecursion IsServedText) bad.texts (recursion_from_All IsServedText (texts_of script) good) in
+    bad.outside (served_after bad.before (bad.bad ∷ bad.rest) all).0
+
+-- a header that counts leaves no fault, and what is whole no damage
+headed_has_none : (bytes : List ℕ) (header : Header) (slot : ℕ) (fault : HeaderFault) → HasHeader bytes header slot → HasFault bytes fault → ⊥
+headed_has_none bytes header slot fault counts = chosen_has_none (first_slot bytes) (second_slot bytes) (length bytes) header slot fault counts
+
+whole_has_none : (bytes : List ℕ) (at kind : ℕ) → HasWhole bytes → HasDamage bytes at kind → ⊥
+whole_has_none bytes at kind whole damaged =
+    let same : damaged.header ≡ whole.header =
+    (chosen_is_one (first_slot bytes) (second_slot bytes) (length bytes) damaged.header whole.header damaged.slot whole.slot damaged.counts whole.counts).0 in
+    whole_is_undamaged bytes whole.header at kind whole.whole (subst (λ h. IsDamage bytes h at kind) same damaged.damage)
+
+-- the volume as it is made has certain trees
+only_clear : (size : ℕ) (found : Bool) (s : PseudoFileSystem) → (if found then Some (new_master 0 0 ((1, root_tree) ∷ [])) else None) ≡ Some s → s.clear ≡ true
+only_clear size true s is = (let same : new_master 0 0 ((1, root_tree) ∷ []) ≡ s = cc in sym (ap (λ (p : PseudoFileSystem). p.clear) same))
+only_clear size false s is = absurd (cc)
+
+fresh_is_clear : (size : ℕ) → IsClear (fresh size)
+fresh_is_clear size pfs s is = only_clear size (0 == pfs) s is
+
+-- the statuses that a whole disk brings are some of those that any disk with a header does
+wider : (status : ℕ) → Contains (0 ∷ 4 ∷ 5 ∷ 6 ∷ 7 ∷ []) status → Contains (0 ∷ 4 ∷ 5 ∷ 6 ∷ 7 ∷ 10 ∷ []) status
+wider status has = Contains-append_left (0 ∷ 4 ∷ 5 ∷ 6 ∷ 7 ∷ []) (10 ∷ []) status has
 
 -- a status that comes anyway
 any_disk : (newfs : Option ℕ) (t : Told) (status : ℕ) → Contains (3 ∷ 4 ∷ 5 ∷ 7 ∷ []) status → Contains (0 ∷ 4 ∷ 5 ∷ 6 ∷ 7 ∷ []) status → Contains (10 ∷ 4 ∷ 5 ∷ 7 ∷ []) status → DiskBrings newfs t status
-any_disk newfs t status three zero ten = record {
-  small = λ _ _ _. three;
-  made = λ _ _ _. zero;
-  none = λ _ _. three;
-  field = λ _ _ _. three;
-  broken = λ _ _ _. ten;
-  stands = λ _ _ _. zero;
-}
-
--- with a volume that was opened
-opened_brings : (newfs : Option ℕ) (disk opened : Option Told) (opening : Volume) (status : ℕ) → OpensOn newfs opening disk opened → Contains (0 ∷ 4 ∷ 5 ∷ 6 ∷ 7 ∷ []) status → IfSome disk (λ t. DiskBrings newfs t status)
-opened_brings newfs None opened opening status opens zero = tt
-opened_brings None (Some t) opened opening status opens zero = record {
-  small = λ size is small. absurd (some_is_none size (sym is));
-  made = λ _ _ _. zero;
-  none = λ _ is. absurd (StandsFor-header t.bytes opening opens.1 (no_header_at_all t.bytes is));
-  field = λ place _ is. absurd (StandsFor-header t.bytes opening opens.1 (no_header_in_range t.bytes place is));
-  broken = λ at _ is. absurd (StandsFor-unbroken t.bytes opening at opens.1 is);
-  stands = λ _ _ _. zero;
-}
-opened_brings (Some size) (Some t) None opening status opens zero = absurd opens
-opened_brings (Some size) (Some t) (Some u) opening status opens zero = record {
-  small = λ other is small. absurd (opens.2 (subst (λ n. IsTooSmall n t) (same_size other is) small));
-  made = λ _ _ _. zero;
-  none = λ is _. absurd (some_is_none size is);
-  field = λ _ is _. absurd (some_is_none size is);
-  broken = λ _ is _. absurd (some_is_none size is);
-  stands = λ _ _ _. zero;
-}
-  where
-    same_size : (other : ℕ) → Some size ≡ Some other → other ≡ size
-    same_size other is = cc
-
-none_brings : (t : Told) → HasNoHeader t.bytes → DiskBrings None t 3
-none_brings t is = record {
-  small = λ _ _ _. (0, lit< tt, refl);
-  made = λ size is _. absurd (some_is_none size (sym is));
-  none = λ _ _. (0, lit< tt, refl);
-  field = λ _ _ _. (0, lit< tt, refl);
-  broken = λ at _ broken. absurd (HasBrokenList-header t.bytes at broken is);
-  stands = λ volume _ stands. absurd (StandsFor-header t.bytes volume stands is);
-}
-
-small_brings : (size : ℕ) (t : Told) → IsTooSmall size t → DiskBrings (Some size) t 3
-small_brings size t small = record {
-  small = λ _ _ _. (0, lit< tt, refl);
-  made = λ other is fits. absurd (fits (subst (λ n. IsTooSmall n t) (same_size other is) small));
-  none = λ is _. absurd (some_is_none size is);
-  field = λ _ is _. absurd (some_is_none size is);
-  broken = λ _ is _. absurd (some_is_none size is);
-  stands = λ _ is _. absurd (some_is_none size is);
-}
-  where
-    same_size : (other : ℕ) → Some size ≡ Some other → size ≡ other
-    same_size other is = cc
-
-broken_brings : (t : Told) (at : ℕ) → HasBrokenList t.bytes at → DiskBrings None t 10
-broken_brings t at broken = record {
-  small = λ size is _. absurd (some_is_none size (sym is));
-  made = λ size is _. absurd (some_is_none size (sym is));
-  none = λ _ is. absurd (HasBrokenList-header t.bytes at broken (no_header_at_all t.bytes is));
-  field = λ place _ is. absurd (HasBrokenList-header t.bytes at broken (no_header_in_range t.bytes place is));
-  broken = λ _ _ _. (0, lit< tt, refl);
-  stands = λ volume _ stands. absurd (StandsFor-unbroken t.bytes volume at stands broken);
-}
-
-each_gives : (o : Option Told) (P Q : Told → Type 0) → ((t : Told) → P t → Q t) → IfSome o P → IfSome o Q
-each_gives None P Q gives p = tt
-each_gives (Some t) P Q gives p = gives t p
+any_disk None t status three whole ten = record { none = λ _ _. three; damaged = λ _ _ _. ten; stands = λ _ _ _. whole; headed = λ _ _ _. wider status whole }
+any_disk (Some size) t status three whole ten = record { small = λ _. three; made = λ _. whole }
 
 four_anyway : (newfs : Option ℕ) (o : Option Told) → IfSome o (λ t. DiskBrings newfs t 4)
 four_anyway newfs o = told_gives o (λ t. DiskBrings newfs t 4) (λ t _. any_disk newfs t 4 (1, lit< tt, refl) (1, lit< tt, refl) (1, lit< tt, refl))
@@ -150,69 +120,130 @@ five_anyway newfs o = told_gives o (λ t. DiskBrings newfs t 5) (λ t _. any_dis
 seven_anyway : (newfs : Option ℕ) (o : Option Told) → IfSome o (λ t. DiskBrings newfs t 7)
 seven_anyway newfs o = told_gives o (λ t. DiskBrings newfs t 7) (λ t _. any_disk newfs t 7 (3, lit< tt, refl) (4, lit< tt, refl) (3, lit< tt, refl))
 
-gives_header : (newfs : Option ℕ) (t : Told) → GivesNone newfs t NotVolume → DiskBrings newfs t 3
-gives_header None t is = none_brings t (no_header_at_all t.bytes is)
-gives_header (Some size) t is = absurd is
+-- with a volume that was opened
+opened_brings : (newfs : Option ℕ) (disk opened : Option Told) (status : ℕ) → OpensOn newfs disk opened → Contains (0 ∷ 4 ∷ 5 ∷ 6 ∷ 7 ∷ []) status → IfSome disk (λ t. DiskBrings newfs t status)
+opened_brings None disk opened status opens has = each_gives disk (λ t. HasWhole t.bytes) (λ t. OldBrings t status) (λ t whole. record {
+  none = λ fault is. absurd (headed_has_none t.bytes whole.header whole.slot fault whole.counts is);
+  damaged = λ at kind is. absurd (whole_has_none t.bytes at kind whole is);
+  stands = λ _ _ _. has;
+  headed = λ _ _ _. wider status has;
+}) opens.1
+opened_brings (Some size) disk opened status opens has = both_gives disk opened (IsMade size) (λ t. NewBrings size t status) (λ s t made. record {
+  small = λ small. absurd (made.room small);
+  made = λ _. has;
+}) opens
 
-gives_field : (newfs : Option ℕ) (t : Told) (place : ℕ) → GivesNone newfs t (BadField place) → DiskBrings newfs t 3
-gives_field None t place is = none_brings t (no_header_in_range t.bytes place is)
-gives_field (Some size) t place is = small_brings size t is.1
+-- with a volume that was damaged as it was written back, and so was none
+damaged_brings : (newfs : Option ℕ) (disk opened : Option Told) → OpensOn newfs disk opened → IfSome opened StandsForNone → IfSome disk (λ t. DiskBrings newfs t 10)
+damaged_brings None None opened opens none = tt
+damaged_brings None (Some t) opened opens none =
+    let stood : StandsForNone t = rw opens.0 at none in record {
+      none = λ fault is. absurd (headed_has_none t.bytes opens.1.header opens.1.slot fault opens.1.counts is);
+      damaged = λ at kind is. absurd (whole_has_none t.bytes at kind opens.1 is);
+      stands = λ volume stands clear. absurd (stood volume stands clear);
+      headed = λ _ _ _. (5, lit< tt, refl);
+    }
+damaged_brings (Some size) None opened opens none = tt
+damaged_brings (Some size) (Some s) None opens none = absurd opens
+damaged_brings (Some size) (Some s) (Some t) opens none = absurd (none (fresh size) opens.stands.stands (fresh_is_clear size))
 
-gives_damage : (newfs : Option ℕ) (t : Told) (at kind : ℕ) → GivesNone newfs t (Damaged at kind) → DiskBrings newfs t 10
-gives_damage None t at kind is = broken_brings t at is.1
-gives_damage (Some size) t at kind is = absurd is
+-- with a disk that has no volume
+none_brings : (t : Told) (fault : HeaderFault) → HasFault t.bytes fault → ((volume : Volume) → StandsFor t.bytes volume → ⊥) → OldBrings t 3
+none_brings t fault is never = record {
+  none = λ _ _. (0, lit< tt, refl);
+  damaged = λ at kind damaged. absurd (headed_has_none t.bytes damaged.header damaged.slot fault damaged.counts is);
+  stands = λ volume stands _. absurd (never volume stands);
+  headed = λ header slot counts. absurd (headed_has_none t.bytes header slot fault counts is);
+}
+
+-- with one that is damaged
+ten_brings : (t : Told) (at kind : ℕ) → HasDamage t.bytes at kind → ((volume : Volume) → StandsFor t.bytes volume → ⊥) → OldBrings t 10
+ten_brings t at kind damaged never = record {
+  none = λ fault is. absurd (headed_has_none t.bytes damaged.header damaged.slot fault damaged.counts is);
+  damaged = λ _ _ _. (0, lit< tt, refl);
+  stands = λ volume stands _. absurd (never volume stands);
+  headed = λ _ _ _. (5, lit< tt, refl);
+}
+
+small_brings : (size : ℕ) (t : Told) → IsTooSmall size t → NewBrings size t 3
+small_brings size t small = record { small = λ _. (0, lit< tt, refl); made = λ fits. absurd (fits small) }
+
+-- with one on which none was opened
+unmounted_brings : (old new : Option Told) (fault : OpenFault) → IsNotMounted old new fault → IfSome old (λ t. OldBrings t (status_of (of_open fault)))
+unmounted_brings None new fault not = tt
+unmounted_brings (Some t) new no_volume not = none_brings t header_none not.why not.whole
+unmounted_brings (Some t) new (bad_field place) not = none_brings t (header_field place) not.why not.whole
+unmounted_brings (Some t) new (of_disk (damage at kind)) not = ten_brings t at kind not.why not.whole
+unmounted_brings (Some t) new (of_disk (media before after)) not = any_disk None t 4 (1, lit< tt, refl) (1, lit< tt, refl) (1, lit< tt, refl)
+unmounted_brings (Some t) new (of_disk no_memory) not = any_disk None t 7 (3, lit< tt, refl) (4, lit< tt, refl) (3, lit< tt, refl)
+
+-- with one on which none was made
+unmade_brings : (size : ℕ) (old new : Option Told) (fault : OpenFault) → IsNotMade size old new fault → IfSome old (λ t. NewBrings size t (status_of (of_open fault)))
+unmade_brings size old new no_volume not = absurd not
+unmade_brings size old new (bad_field place) not = each_gives old (IsTooSmall size) (λ t. NewBrings size t 3) (small_brings size) not.2
+unmade_brings size old new (of_disk (media before after)) not = four_anyway (Some size) old
+unmade_brings size old new (of_disk (damage at kind)) not = absurd not
+unmade_brings size old new (of_disk no_memory) not = absurd not
+
+-- with one on which a volume was made, and not opened
+unopened_brings : (size : ℕ) (old new : Option Told) (fault : OpenFault) → BothTell old new (λ s t. IsMade size s t × IsFailure fault) → IfSome old (λ t. NewBrings size t (status_of (of_open fault)))
+unopened_brings size old new no_volume made =
+    both_gives old new (λ s t. IsMade size s t × IsFailure no_volume) (λ t. NewBrings size t 3) (λ s t made. absurd made.1) made
+unopened_brings size old new (bad_field place) made =
+    both_gives old new (λ s t. IsMade size s t × IsFailure (bad_field place)) (λ t. NewBrings size t 3) (λ s t made. absurd made.1) made
+unopened_brings size old new (of_disk (media before after)) made = four_anyway (Some size) old
+unopened_brings size old new (of_disk (damage at kind)) made =
+    both_gives old new (λ s t. IsMade size s t × IsFailure (of_disk (damage at kind))) (λ t. NewBrings size t 10) (λ s t made. absurd made.1) made
+unopened_brings size old new (of_disk no_memory) made = seven_anyway (Some size) old
+
+not_opened_brings : (newfs : Option ℕ) (old new : Option Told) (fault : OpenFault) → IsUnopened newfs old new fault → IfSome old (λ t. DiskBrings newfs t (status_of (of_open fault)))
+not_opened_brings None old new fault not = unmounted_brings old new fault not
+not_opened_brings (Some size) old new fault (inl not) = unmade_brings size old new fault not
+not_opened_brings (Some size) old new fault (inr made) = unopened_brings size old new fault made
 
 abbrev MayCome : Option ℕ → Option Told → ℕ → Type 0
 MayCome newfs disk status = Contains (0 ∷ 3 ∷ 4 ∷ 5 ∷ 6 ∷ 7 ∷ 10 ∷ []) status × IfSome disk (λ t. DiskBrings newfs t status)
 
+open_status : (fault : OpenFault) → Contains (0 ∷ 3 ∷ 4 ∷ 5 ∷ 6 ∷ 7 ∷ 10 ∷ []) (status_of (of_open fault))
+open_status no_volume = (1, lit< tt, refl)
+open_status (bad_field place) = (1, lit< tt, refl)
+open_status (of_disk (media before after)) = (2, lit< tt, refl)
+open_status (of_disk (damage at kind)) = (6, lit< tt, refl)
+open_status (of_disk no_memory) = (5, lit< tt, refl)
+
 opening_brings : (newfs : Option ℕ) (old new : Seen Told) (stop : Stop) → StoppedOpening newfs old new stop → MayCome newfs old.told (status_of stop)
-opening_brings newfs old new NotVolume stopped = ((1, lit< tt, refl), each_gives old.told (λ t. GivesNone newfs t NotVolume) (λ t. DiskBrings newfs t 3) (gives_header newfs) stopped.1)
-opening_brings newfs old new (BadField place) stopped = ((1, lit< tt, refl), each_gives old.told (λ t. GivesNone newfs t (BadField place)) (λ t. DiskBrings newfs t 3) (λ t is. gives_field newfs t place is) stopped.1)
-opening_brings newfs old new (Damaged at kind) stopped = ((6, lit< tt, refl), each_gives old.told (λ t. GivesNone newfs t (Damaged at kind)) (λ t. DiskBrings newfs t 10) (λ t is. gives_damage newfs t at kind is) stopped.1)
-opening_brings newfs old new (DiskFault before after) stopped = ((2, lit< tt, refl), four_anyway newfs old.told)
-opening_brings newfs old new NoMemory stopped = ((5, lit< tt, refl), seven_anyway newfs old.told)
-opening_brings newfs old new Usage stopped = absurd stopped
-opening_brings newfs old new (ScriptFault before after) stopped = absurd stopped
-opening_brings newfs old new OutFault stopped = absurd stopped
-opening_brings newfs old new (BadLine number) stopped = absurd stopped
-opening_brings newfs old new TooLong stopped = absurd stopped
+opening_brings newfs old new stop stopped =
+    subst (λ s. MayCome newfs old.told (status_of s)) (sym stopped.stop_is) (open_status stopped.fault, not_opened_brings newfs old.told new.told stopped.fault stopped.unopened)
 
-using_brings : (newfs : Option ℕ) (script : List ℕ) (opening : Volume) (disk : Option Told) (opened new_disk : Seen Told) (old_out new_out : Seen (List ℕ)) (stop : Stop) → OpensOn newfs opening disk opened.told → StoppedFrom script opening opened new_disk old_out new_out stop → MayCome newfs disk (status_of stop)
-using_brings newfs script opening disk opened new_disk old_out new_out OutFault opens stopped =
-    ((4, lit< tt, refl), opened_brings newfs disk opened.told opening 6 opens (3, lit< tt, refl))
-using_brings newfs script opening disk opened new_disk old_out new_out NoMemory opens stopped =
-    ((5, lit< tt, refl), seven_anyway newfs disk)
-using_brings newfs script opening disk opened new_disk old_out new_out (DiskFault before after) opens stopped =
-    ((2, lit< tt, refl), four_anyway newfs disk)
-using_brings newfs script opening disk opened new_disk old_out new_out Usage opens (inl served) = absurd served.4
-using_brings newfs script opening disk opened new_disk old_out new_out Usage opens (inr wrote) = absurd wrote.1
-using_brings newfs script opening disk opened new_disk old_out new_out NotVolume opens (inl served) = absurd served.4
-using_brings newfs script opening disk opened new_disk old_out new_out NotVolume opens (inr wrote) = absurd wrote.1
-using_brings newfs script opening disk opened new_disk old_out new_out (BadField place) opens (inl served) = absurd served.4
-using_brings newfs script opening disk opened new_disk old_out new_out (BadField place) opens (inr wrote) = absurd wrote.1
-using_brings newfs script opening disk opened new_disk old_out new_out (Damaged at kind) opens (inl served) = absurd served.4
-using_brings newfs script opening disk opened new_disk old_out new_out (Damaged at kind) opens (inr wrote) = absurd wrote.1
-using_brings newfs script opening disk opened new_disk old_out new_out (ScriptFault b a) opens (inl served) = absurd served.4
-using_brings newfs script opening disk opened new_disk old_out new_out (ScriptFault b a) opens (inr wrote) = absurd wrote.1
-using_brings newfs script opening disk opened new_disk old_out new_out (BadLine number) opens (inl served) = absurd served.4
-using_brings newfs script opening disk opened new_disk old_out new_out (BadLine number) opens (inr wrote) = absurd wrote.1
-using_brings newfs script opening disk opened new_disk old_out new_out TooLong opens (inl served) = absurd served.4
-using_brings newfs script opening disk opened new_disk old_out new_out TooLong opens (inr wrote) = absurd wrote.1
+using_brings : (newfs : Option ℕ) (lines : List Line) (old_disk new_disk : Seen Told) (old_out new_out : Seen (List ℕ)) (stop : Stop) → StoppedUsing newfs lines old_disk new_disk old_out new_out stop → MayCome newfs old_disk.told (status_of stop)
+using_brings newfs lines old_disk new_disk old_out new_out OutFault using =
+    ((4, lit< tt, refl), opened_brings newfs old_disk.told using.opened 6 using.opens (3, lit< tt, refl))
+using_brings newfs lines old_disk new_disk old_out new_out NoMemory using = ((5, lit< tt, refl), seven_anyway newfs old_disk.told)
+using_brings newfs lines old_disk new_disk old_out new_out (DiskFault before after) using = ((2, lit< tt, refl), four_anyway newfs old_disk.told)
+using_brings newfs lines old_disk new_disk old_out new_out (Damaged at kind) using = elim using.stops [
+  | inl line ↦ absurd line.cause
+  | inr writing ↦ ((6, lit< tt, refl), damaged_brings newfs old_disk.told using.opened using.opens writing.cause)
+]
+using_brings newfs lines old_disk new_disk old_out new_out Usage using = elim using.stops [ inl line ↦ absurd line.cause | inr writing ↦ absurd writing.cause ]
+using_brings newfs lines old_disk new_disk old_out new_out NotVolume using = elim using.stops [ inl line ↦ absurd line.cause | inr writing ↦ absurd writing.cause ]
+using_brings newfs lines old_disk new_disk old_out new_out (BadField place) using = elim using.stops [ inl line ↦ absurd line.cause | inr writing ↦ absurd writing.cause ]
+using_brings newfs lines old_disk new_disk old_out new_out (ScriptFault b a) using = elim using.stops [ inl line ↦ absurd line.cause | inr writing ↦ absurd writing.cause ]
+using_brings newfs lines old_disk new_disk old_out new_out (BadLine number) using = elim using.stops [ inl line ↦ absurd line.cause | inr writing ↦ absurd writing.cause ]
+using_brings newfs lines old_disk new_disk old_out new_out TooLong using = elim using.stops [ inl line ↦ absurd line.cause | inr writing ↦ absurd writing.cause ]
 
-running_brings : (newfs : Option ℕ) (script : List ℕ) (old_disk new_disk : Seen Told) (old_out new_out : Seen (List ℕ)) (stop : Stop) → StoppedRunning newfs script old_disk new_disk old_out new_out stop → MayCome newfs old_disk.told (status_of stop)
-running_brings newfs script old_disk new_disk old_out new_out stop (inl opening) = opening_brings newfs old_disk new_disk stop opening.0
-running_brings newfs script old_disk new_disk old_out new_out stop (inr using) =
-    using_brings newfs script using.opening old_disk.told using.opened new_disk old_out new_out stop using.opens using.stops
+running_brings : (newfs : Option ℕ) (lines : List Line) (old_disk new_disk : Seen Told) (old_out new_out : Seen (List ℕ)) (stop : Stop) → StoppedRunning newfs lines old_disk new_disk old_out new_out stop → MayCome newfs old_disk.told (status_of stop)
+running_brings newfs lines old_disk new_disk old_out new_out stop (inl opening) = opening_brings newfs old_disk new_disk stop opening.0
+running_brings newfs lines old_disk new_disk old_out new_out stop (inr using) = using_brings newfs lines old_disk new_disk old_out new_out stop using
 
 -- a script that was found good
-good_brings : (words : List (List ℕ)) (old : Sight) (new_script : Seen (List ℕ)) (newfs : Option ℕ) (script : List ℕ) (status : ℕ) → IsPrepared words newfs script old.script new_script → MayCome newfs old.disk.told status → Brings words old status
-good_brings words old new_script newfs script status prepared may plan = (
+good_brings : (words : List (List ℕ)) (old : Sight) (new_script : Seen (List ℕ)) (newfs : Option ℕ) (lines : List Line) (status : ℕ) → IsPrepared words newfs lines old.script new_script → MayCome newfs old.disk.told status → Brings words old status
+good_brings words old new_script newfs lines status prepared may plan = (
   prepared.volume,
   newfs,
   prepared.plan,
-  told_gives old.script.told (λ bytes. ScriptBrings newfs old.disk.told bytes status) (λ bytes is. subst (λ b. ScriptBrings newfs old.disk.told b status) (sym (same_script old.script new_script script bytes prepared.read is)) (record {
-    too_long = λ long. absurd (short_enough old.script new_script script prepared.read long);
-    bad = λ number _ bad. absurd (no_bad script number prepared.good bad);
+  told_gives old.script.told (λ bytes. ScriptBrings newfs old.disk.told bytes status) (λ bytes is. subst (λ b. ScriptBrings newfs old.disk.told b status) (sym (same_script old.script new_script prepared.script bytes prepared.read is)) (record {
+    too_long = λ long. absurd (short_enough old.script new_script prepared.script prepared.read long);
+    bad = λ number _ bad. absurd (no_bad prepared.script number prepared.good bad);
     good = λ _ _. may;
   })),
 )
@@ -271,11 +302,11 @@ preparing_brings words old new OutFault stopped plan = absurd stopped
 stops_bring : (words : List (List ℕ)) (old new : Sight) (stop : Stop) → Stops words old new stop → Brings words old (status_of stop)
 stops_bring words old new stop (inl before) = preparing_brings words old new.script stop before.0
 stops_bring words old new stop (inr later) =
-    good_brings words old new.script later.newfs later.script (status_of stop) later.prepared (running_brings later.newfs later.script old.disk new.disk old.out new.out stop later.stopped)
+    good_brings words old new.script later.newfs later.lines (status_of stop) later.prepared (running_brings later.newfs later.lines old.disk new.disk old.out new.out stop later.stopped)
 
 -- what a run brings, however it ended
 pub Brings-ended : (words : List (List ℕ)) (old new : Sight) (status : ℕ) → HasEnded words old new status → Brings words old status
 Brings-ended words old new status (inl done) =
-    subst (Brings words old) (sym done.0) (good_brings words old new.script done.1.newfs done.1.script 0 done.1.prepared ((0, lit< tt, refl), opened_brings done.1.newfs old.disk.told done.1.runs.opened done.1.runs.opening 0 done.1.runs.opens (0, lit< tt, refl)))
+    subst (Brings words old) (sym done.0) (good_brings words old new.script done.1.newfs done.1.lines 0 done.1.prepared ((0, lit< tt, refl), opened_brings done.1.newfs old.disk.told done.1.runs.opened 0 done.1.runs.opens (0, lit< tt, refl)))
 Brings-ended words old new status (inr stopped) =
     subst (Brings words old) (sym stopped.1) (stops_bring words old (record new { out = stopped.2.out }) stopped.0 stopped.2.stops)

@@ -2,6 +2,7 @@ pub mod EndLemmas
 pub mod ExactLemmas
 pub mod HexLemmas
 pub mod LinesLemmas
+pub mod PrepareLemmas
 pub mod OpenLemmas
 pub mod PlanLemmas
 pub mod PrintLemmas

@@ -1,4 +1,5 @@
 // What a run is given, and what it hands back.
+ghost use Rattle.std.specs.Prelude.{◌≤◌};
 
 use hm_disk::Disk;
 use hm_pipe::{Sink, Source};
@@ -16,6 +17,9 @@ pub struct Devices<D: Disk, S: Source, K: Sink, I, O> {
     pub stream_in: I,
     /// Where a stream would go. No line writes one so far.
     pub stream_out: O,
+    // It says nothing, but by it the struct alone tells a contract what is seen of the devices.
+    ghost seen: { (D.faults disk ≤ D.faults disk) × (S.faults script ≤ S.faults script)
+        × (K.faults out ≤ K.faults out) },
 }
 
 /// How a run ended: the exit status, and the devices that it was given.

@@ -2,22 +2,30 @@ use Rattle.std.proofs.Common.{refl}
 use Rattle.hm_shell.specs.Devices.{Sight, sight}
 use Rattle.hm_shell.specs.Seen.{seen}
 use Rattle.hm_shell.specs.Words.{texts}
-use Rattle.hm_shell.proofs.EndLemmas.{HasEnded-from, status_from}
+use Rattle.hm_shell.proofs.EndLemmas.{HasEnded-from, status_from, stopped_from}
 use Rattle.hm_shell.proofs.ExactLemmas.{Brings-ended}
 use Rattle.hm_shell.proofs.run.run.Goals as goal
 
 pub returns-clause-exact : goal.returns-clause-exact
 returns-clause-exact g c =
     let words = texts c.args.words.now in
-    let old : Sight = sight g.D.Disk.told g.D.Disk.faults g.S.Source.left g.S.Source.faults g.K.Sink.held g.K.Sink.faults c.args.devices in
-    let mid : Sight = sight g.D.Disk.told g.D.Disk.faults g.S.Source.left g.S.Source.faults g.K.Sink.held g.K.Sink.faults c.perform-devices.result.0 in
+    let old : Sight = sight c.args.devices in
+    let mid : Sight = sight c.perform-devices.result.0 in
     let new : Sight = record mid { out = seen g.K.Sink.held g.K.Sink.faults c.end-status.new.out } in
     Brings-ended words old new c.end-status.result (HasEnded-from words old mid new c.perform-devices.result.1 c.end-status.result c.perform-devices.ensures.ok c.perform-devices.ensures.err c.end-status.ensures.done c.end-status.ensures.stopped refl refl)
 
 pub returns-clause-statuses : goal.returns-clause-statuses
 returns-clause-statuses g c =
     let words = texts c.args.words.now in
-    let old : Sight = sight g.D.Disk.told g.D.Disk.faults g.S.Source.left g.S.Source.faults g.K.Sink.held g.K.Sink.faults c.args.devices in
-    let mid : Sight = sight g.D.Disk.told g.D.Disk.faults g.S.Source.left g.S.Source.faults g.K.Sink.held g.K.Sink.faults c.perform-devices.result.0 in
+    let old : Sight = sight c.args.devices in
+    let mid : Sight = sight c.perform-devices.result.0 in
     let new : Sight = record mid { out = seen g.K.Sink.held g.K.Sink.faults c.end-status.new.out } in
     status_from words old new c.end-status.result (HasEnded-from words old mid new c.perform-devices.result.1 c.end-status.result c.perform-devices.ensures.ok c.perform-devices.ensures.err c.end-status.ensures.done c.end-status.ensures.stopped refl refl)
+
+pub returns-clause-stopped : goal.returns-clause-stopped
+returns-clause-stopped g c =
+    let words = texts c.args.words.now in
+    let old : Sight = sight c.args.devices in
+    let mid : Sight = sight c.perform-devices.result.0 in
+    let new : Sight = record mid { out = seen g.K.Sink.held g.K.Sink.faults c.end-status.new.out } in
+    stopped_from words old new c.end-status.result (HasEnded-from words old mid new c.perform-devices.result.1 c.end-status.result c.perform-devices.ensures.ok c.perform-devices.ensures.err c.end-status.ensures.done c.end-status.ensures.stopped refl refl)
