@@ -3,6 +3,7 @@ pub mod PlacedLemmas
 pub mod CountLemmas
 pub mod WordLemmas
 pub mod BeginLemmas
+pub mod OpeningLemmas
 pub mod FitLemmas
 pub mod ReplyLemmas
 pub mod FloorLemmas

@@ -1,5 +1,5 @@
-//! The core over the tree: its calls over the store of a volume in use, what it keeps between them, as
-//! laws that its proof rests on, and one piece of a flush. Nothing mounts one yet.
+//! The core over the tree: making and mounting a volume, its calls over the store of one in use, what it
+//! keeps between them, as laws that its proof rests on, and one piece of a flush.
 #![tactic(auto)]
 
 mod calls;
@@ -9,6 +9,7 @@ mod fault;
 mod laws;
 mod opening;
 mod served;
+mod slots;
 mod step;
 mod steps;
 #[cfg(test)]
