@@ -87,3 +87,9 @@ not_loaded (Some t) new header fault same counts sound damage = record {
   why = why_damaged t.bytes header counts.0 fault counts.1 damage;
   whole = λ volume stands. sound (sound_by t.bytes header counts.0 volume counts.1 stands);
 }
+
+-- a disk on which a header counts has room for its volume
+pub room_on : (told : Option Told) (header : Header) (bigblocks : ℕ) → bigblocks ≡ header.bigblocks → IfSome told (IsHeaderOn header)
+    → IfSome told (λ t. bigblocks * BIGBLOCK_BYTES ≤ length t.bytes)
+room_on None header bigblocks same counts = tt
+room_on (Some t) header bigblocks same counts = subst (λ (n : ℕ). n * BIGBLOCK_BYTES ≤ length t.bytes) (sym same) counts.1.room

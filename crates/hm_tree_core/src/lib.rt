@@ -7,6 +7,7 @@ mod ending;
 mod entries;
 mod fault;
 mod laws;
+mod mounting;
 mod opening;
 mod served;
 mod slots;

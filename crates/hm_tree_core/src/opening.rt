@@ -6,11 +6,13 @@ ghost use Rattle.hm_tree_core.specs.Opened.{HasOpenCause, IsMade, IsMounted, IsN
 ghost use Rattle.hm_tree_core.specs.Seen.{seen};
 
 use crate::fault::OpenFault;
-use crate::slots::disk_fault;
+use crate::mounting::open_space;
+use crate::slots::{disk_fault, read_header};
 use crate::volume::Core;
 use hm_disk::Disk;
 use hm_newfs::write_volume;
-use hm_types::{BIGBLOCK_BYTES, Failed, Fault};
+use hm_stored::Stored;
+use hm_types::{BIGBLOCK_BYTES, Failed};
 use std::alloc::Global;
 
 // Where the number of big-blocks stands in a header slot, in bytes.
@@ -56,6 +58,25 @@ impl<D: Disk, I, O> Core<D, I, O> {
         ensures cause { IfErr result (λ e. (D.faults disk ≤ D.faults e.0)
             × IsOpenCaused (D.faults disk) (D.faults e.0) e.3) }
     {
-        Err((disk, input, output, OpenFault::Fault(Fault::NoMemory)))
+        let mut disk = disk;
+        let (header, slot) = match read_header(&mut disk) {
+            Ok(answer) => answer,
+            Err(fault) => return Err((disk, input, output, fault)),
+        };
+        match open_space(alloc, disk, &header) {
+            Ok((space, free)) => Ok(Core {
+                alloc,
+                input,
+                output,
+                header,
+                slot,
+                last: header.last,
+                free,
+                start: space.disk().faults(),
+                history: Vec::new(alloc),
+                stored: Stored::over(space, header.root),
+            }),
+            Err((disk, fault)) => Err((disk, input, output, OpenFault::Fault(fault))),
+        }
     }
 }
