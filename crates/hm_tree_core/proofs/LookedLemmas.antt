@@ -16,6 +16,7 @@ use Rattle.hm_stored.specs.Standing.{Holds, HoldsBy, basis_now}
 use Rattle.hm_stored.specs.Turn.{IsClosed, LooksSame}
 use Rattle.hm_stored.specs.declared.roots.Roots.{Roots}
 use Rattle.hm_tree_core.specs.History.{HoldsState, IsLegalOver}
+use Rattle.hm_tree_core.proofs.CommittedLemmas.{SameCommitted}
 
 -- a space that holds something has its books in order
 pub held_firm : (h : Heap) (root : ℕ) (es : List FullElement) → Holds h root es → IsFirm (basis_now h root)
@@ -72,6 +73,15 @@ module _ (old new : Heap) (looks : LooksSame old new) where
       clear = is.held.clear;
       opened = is.held.opened;
     };
+  }
+
+  pub looked_committed : SameCommitted old new
+  looked_committed = record {
+    bigblocks = bigblocks_same;
+    disk = disk_same;
+    committed = ap (λ (f : PagesFrame). f.committed) looks.pages;
+    boundary = ap (λ (f : PagesFrame). f.boundary) looks.pages;
+    root = ap (λ (h : Heap). h.roots.committed) looks.rest;
   }
 
   pub looked_closed : IsClosed old → IsClosed new

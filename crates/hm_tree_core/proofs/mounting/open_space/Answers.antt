@@ -1,10 +1,13 @@
-use Rattle.std.proofs.Common.{◌≡◌, ℕ, ◌*◌, ◌≤◌, Option, length, sym, subst, ap, ◌∙◌}
+use Rattle.std.proofs.Common.{◌≡◌, ◌⊎◌, ℕ, ◌*◌, ◌≤◌, Option, length, sym, subst, ap, ◌∙◌}
 use Rattle.std.specs.Prelude.{IfErr, IfOk, IfSome, Result}
 use Rattle.hm_types.specs.Faults.{IsUndamaged}
+use Rattle.hm_types.specs.Offset.{zone_of}
+use Rattle.hm_types.specs.declared.zone.TheConstants.{TREE_ZONE}
 use Rattle.hm_types.specs.declared.fault.Fault.{Fault}
 use Rattle.hm_types.specs.declared.fault.Fault.TheVariants.{NoMemory as no_memory}
 use Rattle.hm_types.specs.declared.limits.TheConstants.{BIGBLOCK_BYTES}
 use Rattle.hm_disk.specs.Crash.{Told}
+use Rattle.hm_load.specs.Freemap.{IsPageOf}
 use Rattle.hm_load.specs.Held.{HoldsImage}
 use Rattle.hm_pages.specs.Store.{contents}
 use Rattle.hm_stored.specs.Heap.{heap_of}
@@ -48,3 +51,8 @@ returns-in-Err-free_blocks-clause-err g c =
     ap g.D.Disk.told (c.into_disk.ensures ∙ c.free_blocks.ensures.disk ∙ c.over-space.ensures.disk) ∙ c.load.ensures.same in
     subst (λ (fault : Fault). IsNotMounted old new (of_disk fault)) (sym none)
     (told_nothing old new (of_disk no_memory) same (λ bytes. tt) tt)
+
+pub over-space-requires-clause-only : goal.over-space-requires-clause-only
+unfolding heap_of
+over-space-requires-clause-only g c = λ at is.
+    subst (λ (n : ℕ). (zone_of at ≡ TREE_ZONE) ⊎ IsPageOf n at) (sym c.of.ensures.bigblocks) (c.in-Ok.ensures.loaded.only at is)
