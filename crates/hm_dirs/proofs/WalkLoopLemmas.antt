@@ -52,8 +52,8 @@ first_and_more (first ∷ more) part some is =
     let few : length more ≤ length (first ∷ more) - 1 = omega arith in
     ap (λ (p : Part). p ∷ more) (sym is) ∙ ap (λ (list : List Part). part ∷ list) (sym (take_all (length (first ∷ more) - 1) more few))
 
--- the first part has no id where none has one
-no_id : (id : Option Id) → option_map_or (λ (i : Id). true) id false ≡ false → id ≡ None
+-- an id that a part does not have
+pub no_id : (id : Option Id) → option_map_or (λ (i : Id). true) id false ≡ false → id ≡ None
 no_id None is = refl
 no_id (Some id) is = absurd (cc)
 
