@@ -7,3 +7,6 @@ pub mod MountedLemmas
 pub mod WrittenLemmas
 pub mod StaysLemmas
 pub mod ApartLemmas
+pub mod FrozenLemmas
+pub mod InPlaceLemmas
+pub mod ChangedLemmas
