@@ -25,7 +25,8 @@ use Rattle.hm_stored.specs.Basis.{IsFirm, nodes, refers}
 use Rattle.hm_stored.specs.Heap.{Heap}
 use Rattle.hm_stored.specs.Standing.{HoldsBy, basis_now}
 use Rattle.hm_state.specs.Volume.{HoldsVolume}
-use Rattle.hm_state.specs.Written.{AreOfVolume, IsHeaderOf, IsWritten}
+use Rattle.hm_stored.specs.Held.{AreOfVolume}
+use Rattle.hm_state.specs.Written.{IsHeaderOf, IsWritten}
 use Rattle.hm_state.proofs.ApartLemmas.{placed}
 use Rattle.hm_state.proofs.KeptLemmas.{nodes_keep, references_kept}
 use Rattle.hm_state.proofs.StaysLemmas.{written_stays}

@@ -10,3 +10,5 @@ pub mod ApartLemmas
 pub mod FrozenLemmas
 pub mod InPlaceLemmas
 pub mod ChangedLemmas
+pub mod CommittedLemmas
+pub mod BackedLemmas

@@ -3,7 +3,8 @@ use Rattle.std.specs.Prelude.{IfSome}
 use Rattle.hm_btree.specs.Tree.{IsTreeSpace}
 use Rattle.hm_stored.specs.Basis.{nodes}
 use Rattle.hm_stored.specs.Heap.{Heap}
-use Rattle.hm_state.specs.Written.{AreOfVolume, IsWritten}
+use Rattle.hm_stored.specs.Held.{AreOfVolume}
+use Rattle.hm_state.specs.Written.{IsWritten}
 
 -- a space with the pages that were committed last in place of the current ones
 abbrev pub committed_in : Heap → Heap

@@ -8,7 +8,7 @@ use Rattle.hm_pages.specs.Store.{Store}
 use Rattle.hm_stored.specs.Basis.{IsFirm}
 use Rattle.hm_stored.specs.Heap.{Heap}
 use Rattle.hm_stored.specs.Standing.{basis_now}
-use Rattle.hm_state.specs.Written.{AreOfVolume}
+use Rattle.hm_stored.specs.Held.{AreOfVolume}
 
 -- A space between two calls has its books in order, by the tree from a root on, and a store has its pages once they were
 -- frozen.

@@ -9,6 +9,7 @@ mod fault;
 mod laws;
 mod opening;
 mod served;
+mod space;
 mod step;
 mod steps;
 #[cfg(test)]
@@ -28,6 +29,7 @@ pub use laws::{
 };
 pub use opening::newfs;
 pub use served::is_served;
+pub use space::tell_space;
 pub use step::Step;
 pub use volume::Core;
 pub use write::write_pages;
