@@ -3,6 +3,8 @@ pub mod PlacedLemmas
 pub mod CountLemmas
 pub mod WordLemmas
 pub mod BeginLemmas
+pub mod OpeningLemmas
+pub mod MountingLemmas
 pub mod FitLemmas
 pub mod ReplyLemmas
 pub mod FloorLemmas

@@ -10,4 +10,5 @@ pub mod Seen
 pub mod Served
 pub mod Core
 pub mod Opened
+pub mod Mounting
 pub mod Finished

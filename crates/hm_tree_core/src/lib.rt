@@ -1,5 +1,5 @@
-//! The core over the tree: its calls over the store of a volume in use, what it keeps between them, as
-//! laws that its proof rests on, and one piece of a flush. Nothing mounts one yet.
+//! The core over the tree: making and mounting a volume, its calls over the store of one in use, what it
+//! keeps between them, as laws that its proof rests on, and one piece of a flush.
 #![tactic(auto)]
 
 mod calls;
@@ -7,8 +7,10 @@ mod ending;
 mod entries;
 mod fault;
 mod laws;
+mod mounting;
 mod opening;
 mod served;
+mod slots;
 mod space;
 mod step;
 mod steps;
