@@ -1,5 +1,5 @@
 // What follows from the definitions alone: each function states one law, and does nothing.
-ghost use Rattle.std.specs.Prelude.{◌≡◌, ◌≢◌, ℕ, ◌+◌, ◌<◌, ◌≤◌, IsSome, List, Option, Some};
+ghost use Rattle.std.specs.Prelude.{◌≡◌, ◌≢◌, ℕ, ◌+◌, ◌-◌, ◌<◌, ◌≤◌, IsSome, List, Option, Some};
 ghost use Rattle.std.specs.Prelude.{length, slice_index};
 ghost use Rattle.std.specs.List.{Contains};
 ghost use Rattle.hm_types.specs.Elements.{FullElement};
@@ -9,8 +9,9 @@ ghost use Rattle.hm_types.specs.declared.limits.TheConstants.{PAGE_BYTES};
 ghost use Rattle.hm_disk.specs.Crash.{Told};
 ghost use Rattle.hm_fields.specs.Fields.{AreBytes};
 ghost use Rattle.hm_header.specs.declared.header.Header.{Header};
+ghost use Rattle.hm_header.specs.Change.{Changes};
 ghost use Rattle.hm_header.specs.OnDisk.{HasHeader};
-ghost use Rattle.hm_header.specs.Range.{IsSize};
+ghost use Rattle.hm_header.specs.Range.{IsRoot, IsSize};
 ghost use Rattle.hm_freemap.specs.Extents.{IsApart};
 ghost use Rattle.hm_key.specs.declared.element.Element.{Element};
 ghost use Rattle.hm_btree.specs.Tree.{IsTreeSpace};
@@ -28,6 +29,8 @@ ghost use Rattle.hm_stored.specs.Held.{AreOfVolume};
 ghost use Rattle.hm_stored.specs.Mounted.{IsBooksOf};
 ghost use Rattle.hm_stored.specs.Standing.{Holds, basis_now};
 ghost use Rattle.hm_state.specs.Backed.{IsBacked};
+ghost use Rattle.hm_state.specs.Frozen.{HasFrozen};
+ghost use Rattle.hm_state.specs.Placed.{ArePlaces, PutsPages};
 ghost use Rattle.hm_state.specs.Volume.{HoldsVolume};
 ghost use Rattle.hm_state.specs.Written.{HasSamePayloads, IsHeaderOf, IsWritten};
 
@@ -112,4 +115,23 @@ pub fn pages_of_a_space_are_apart()
     ensures within { (h : Heap) (root : ℕ) → IsFirm (basis_now h root) → AreOfVolume h →
         IsSize h.bigblocks → (at : ℕ) → IsSome (h.pages.current at) →
         (start_of first_layer2 ≤ byte_of at) × (byte_of at + PAGE_BYTES ≤ start_of h.bigblocks) }
+{}
+
+/// The frozen pages of a space may each be written where it stands: their places lie within its volume,
+/// behind layer 1 of the freemap, and are apart. Its root is one that a header may name. Where the disk
+/// had all that was committed last, it has all of the space then, and once the next header was written
+/// too, it stands for the volume.
+pub fn a_volume_written_in_place_stands()
+    ensures places { (h : Heap) (root size : ℕ) (f : Store) → HasFrozen h root f →
+        start_of h.bigblocks ≤ size → ArePlaces size f.frozen_group }
+    ensures root { (h : Heap) (root : ℕ) → IsFirm (basis_now h root) → IsRoot h.bigblocks root }
+    ensures written { (h : Heap) (root : ℕ) (f : Store) (old new : Told) → HasFrozen h root f →
+        h.disk ≡ Some old → start_of h.bigblocks ≤ length old.bytes → IsBacked h →
+        PutsPages f.frozen f.frozen_group (length f.frozen_group) old new →
+        ((at : ℕ) (page : List ℕ) → h.pages.current at ≡ Some page → AreBytes page) →
+        IsWritten h root new.bytes }
+    ensures stands { (h : Heap) (root last : ℕ) (volume : Volume) (header : Header) (slot : ℕ)
+        (old new : Told) → HoldsVolume h root last volume → AreOfVolume h →
+        IsWritten h root old.bytes → IsHeaderOf h root last header →
+        Changes header (1 - slot) old new → StandsFor new.bytes volume }
 {}
