@@ -16,7 +16,7 @@ use Rattle.hm_stored.specs.Heap.{Heap, heap_of}
 use Rattle.hm_stored.specs.Held.{AreOnlyOf}
 use Rattle.hm_stored.specs.Mounted.{IsBooksOf}
 use Rattle.hm_stored.specs.declared.books.Books.{Books}
-use Rattle.hm_state.specs.Backed.{IsBacked, committed_in}
+use Rattle.hm_state.specs.Backed.{IsBacked}
 use Rattle.hm_state.specs.Written.{IsWritten}
 use Rattle.hm_state.proofs.MountedLemmas.{mounted_pages, mounted_written}
 

@@ -1,6 +1,6 @@
 -- What no call of a space touches of its disk: all before the pool, and the state that was committed last.
-use Rattle.std.proofs.Common.{◌≡◌, ◌⊎◌, Bool, true, false, true≢false, ℕ, ◌+◌, ◌*◌, ◌<◌, ◌≤◌, List, Option, Some, None, IsSome, refl, sym, ap, subst, ◌∙◌, arith, cond}
-use Rattle.std.proofs.Common.{is_some, length, map, nat_le, nat_lt, slice_index, slice_range}
+use Rattle.std.proofs.Common.{◌≡◌, Bool, true, false, true≢false, ℕ, ◌+◌, ◌*◌, ◌<◌, ◌≤◌, List, Option, Some, None, IsSome, refl, sym, ap, subst, ◌∙◌, arith, cond}
+use Rattle.std.proofs.Common.{is_some, length, map, nat_lt, slice_index, slice_range}
 use Rattle.std.specs.Prelude.{IfSome, option_map, ◌&&◌, ◌||◌}
 use Rattle.std.specs.List.{All, Contains, list_any}
 use Rattle.std.proofs.lemmas.Bool.{le-leb, lt-ltb}
@@ -16,7 +16,7 @@ use Rattle.hm_header.specs.OnDisk.{HasHeader, first_slot, second_slot}
 use Rattle.hm_header.specs.Slots.{IsChosen}
 use Rattle.hm_header.specs.declared.header.Header.{Header}
 use Rattle.hm_header.specs.declared.header.TheConstants.{SLOT_BYTES}
-use Rattle.hm_freemap.specs.Places.{entries_per_page, page_of}
+use Rattle.hm_freemap.specs.Places.{page_of}
 use Rattle.hm_btree.specs.Tree.{IsTreeSpace}
 use Rattle.hm_image.specs.Image.{bytes_at, pages_of, references_from, to_payload}
 use Rattle.hm_image.specs.Same.{HasSameBytes, HasSameFreemap, HasSameTree}
@@ -25,7 +25,7 @@ use Rattle.hm_image.proofs.PartLemmas.{part_same}
 use Rattle.hm_search.specs.Tree.{elements_of}
 use Rattle.hm_stored.specs.Basis.{entry_outside, nodes, refers}
 use Rattle.hm_stored.specs.Fixed.{does_name, fixed_with, is_fixed}
-use Rattle.hm_stored.specs.Heap.{Frame, Heap, content_of, fixed_of, frame_of}
+use Rattle.hm_stored.specs.Heap.{Frame, Heap, content_of, frame_of}
 use Rattle.hm_stored.specs.Held.{AreOnlyOf}
 use Rattle.hm_state.specs.Backed.{IsBacked, committed_in}
 use Rattle.hm_state.specs.Written.{IsWritten}

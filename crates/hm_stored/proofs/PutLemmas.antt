@@ -5,7 +5,6 @@ use Rattle.std.specs.Prelude.{All, IfSome, IsTrue, option_map, ◌&&◌}
 use Rattle.std.proofs.Math.Logic.{∥∥₁_elim}
 use Rattle.std.proofs.Props.{props}
 use Rattle.std.proofs.lemmas.List.{take-take}
-use Rattle.hm_types.specs.Elements.{FullElement}
 use Rattle.hm_types.specs.Layout.{first_pool, start_of}
 use Rattle.hm_types.specs.Offset.{byte_of}
 use Rattle.hm_types.specs.Space.{IsPayloadZone, Spends, in_zone, rounded}

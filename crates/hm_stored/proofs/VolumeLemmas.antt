@@ -1,6 +1,6 @@
 -- The pages of a space stay those of its volume.
-use Rattle.std.proofs.Common.{◌≡◌, ◌≢◌, ◌⊎◌, Bool, true, false, true≢false, ℕ, zero, suc, ◌<◌, inl, inr, ⊎_elim, List, Option, Some, None, Result, Ok, Err}
-use Rattle.std.proofs.Common.{refl, sym, ap, subst, ◌∙◌, arith, cond, is_some, nat_eq}
+use Rattle.std.proofs.Common.{◌≡◌, ◌⊎◌, Bool, false, true≢false, ℕ, zero, suc, inl, inr, ⊎_elim, List, Option, Some, None, Result, Ok, Err}
+use Rattle.std.proofs.Common.{refl, sym, ap, subst, ◌∙◌, arith, cond, is_some}
 use Rattle.std.specs.Prelude.{IfSome, IsSome, OnErr, OnOk}
 use Rattle.std.proofs.Math.Logic.{∥∥₁_elim, ∥∥₁_map}
 use Rattle.std.proofs.Props.{props}
@@ -13,7 +13,6 @@ use Rattle.hm_disk.specs.Crash.{Told}
 use Rattle.hm_fields.specs.Pages.{PageMap}
 use Rattle.hm_freemap.specs.Places.{page_of}
 use Rattle.hm_pages.specs.Calls.{IsBegun, IsChanged, IsKept as IsPagesKept, IsUndone}
-use Rattle.hm_pages.specs.Maps.{set_at}
 use Rattle.hm_pages.specs.Store.{Store, frame_of as pages_frame}
 use Rattle.hm_load.specs.Freemap.{IsPageOf}
 use Rattle.hm_stored.specs.Calls.{SameBooks}
