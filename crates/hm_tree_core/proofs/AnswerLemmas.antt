@@ -6,6 +6,7 @@ use Rattle.std.specs.Prelude.{IfSome, IsSome}
 use Rattle.hm_types.specs.Elements.{FullElement}
 use Rattle.hm_types.specs.Space.{reserve_of}
 use Rattle.hm_types.specs.declared.fault.Fault.{Fault}
+use Rattle.hm_types.specs.declared.fault.Fault.TheVariants.{Damaged as damage, Media as device, NoMemory as no_memory}
 use Rattle.hm_types.specs.declared.limits.TheConstants.{GREATEST_ID}
 use Rattle.hm_btree.specs.Tree.{HoldsTree, told_elements}
 use Rattle.hm_fields.specs.Pages.{PageMap}
@@ -16,8 +17,10 @@ use Rattle.hm_key.specs.declared.element.Element.{Element}
 use Rattle.hm_calls.specs.Commands.{IsOnTrees, reserves_for}
 use Rattle.hm_calls.specs.Edits.{all_reserves}
 use Rattle.hm_calls.specs.Known.{AreKnown, AreOlderOrSlaves}
+use Rattle.hm_calls.specs.Possible.{MayReply}
 use Rattle.hm_calls.specs.Writes.{reserves}
 use Rattle.hm_cursor.specs.Told.{HasReadingCause, Lists, fulls}
+use Rattle.hm_model.specs.Reply.{told_boundary}
 use Rattle.hm_model.specs.Volume.{Volume}
 use Rattle.hm_model.specs.declared.command.Command.{Command}
 use Rattle.hm_model.specs.declared.command.Command.TheVariants.{Fill, Truncate, Write}
@@ -25,6 +28,7 @@ use Rattle.hm_model.specs.declared.entry.Entry.{Entry}
 use Rattle.hm_model.specs.declared.reply.Reply.{Reply}
 use Rattle.hm_state.specs.Volume.{HoldsVolume}
 use Rattle.hm_step.specs.Next.{IsStep}
+use Rattle.hm_step.proofs.EarlyLemmas.{no_boundary}
 use Rattle.hm_stored.specs.Content.{HaveContent, KeepsContent, OpensContent}
 use Rattle.hm_stored.specs.Basis.{nodes}
 use Rattle.hm_stored.specs.Heap.{Frame, Heap, bytes_of, content_of, does_tell, extents_in, frame_of, free_of, pages_of, places_in, room_of}
@@ -44,6 +48,7 @@ use Rattle.hm_tree_core.proofs.CommittedLemmas.{SameCommitted, backed_same, kept
 use Rattle.hm_tree_core.proofs.FaultLemmas.{no_damage_told}
 use Rattle.hm_tree_core.proofs.LedgerLemmas.{paid_call}
 use Rattle.hm_tree_core.proofs.OpenLemmas.{dropped_holds, held_known, kept_holds, opened_tells}
+use Rattle.hm_tree_core.proofs.WordLemmas.{words_are_read}
 
 -- the free big-blocks and the room of two spaces with the same maps
 pub free_same : (a b : Heap) → b.whole ≡ a.whole → b.bigblocks ≡ a.bigblocks → b.append ≡ a.append → b.pages.committed ≡ a.pages.committed
@@ -176,6 +181,12 @@ pub caused_over : {T : Type 0} (es : Option (List Element)) (xs : Option (List E
 caused_over es xs n n' m m' result begin end cause =
     subst (λ (k : ℕ). HasReadingCause es xs k m' result) begin (subst (λ (k : ℕ). HasReadingCause es xs n k result) (sym end) cause)
 
+-- a fault is told without a boundary
+pub fault_silent : (fault : Fault) → told_boundary (reply_to fault) ≡ None
+fault_silent (device before after) = refl
+fault_silent (damage at kind) = refl
+fault_silent no_memory = refl
+
 -- the store changed, and the call is closed
 module _ {S : Type 0} (heap : S → Heap) (root_of : S → ℕ) (h : Heap) (root last : ℕ) (old new : S) (h' : Heap) (root' : ℕ) (command : Command) (reply : Reply)
     (faults faults' : ℕ) (closed : IsClosed h) (kept : ∥ IsKept h ∥₁) (opens : IsOpened root last h (heap old)) (same : root_of old ≡ root)
@@ -249,11 +260,12 @@ module _ {S : Type 0} (heap : S → Heap) (root_of : S → ℕ) (h : Heap) (root
   module _ (whole : (heap new).whole ≡ true) (keeps : IsKeptOf (heap new) h') (content : KeepsContent (heap new) h') (root_is : root' ≡ root_of new)
       (pages : ArePages h') (tree : HoldsTree (pages_of (heap new)) (root_of new))
       (step : IsStep elements extents free (record { command = command; last = last; busy = None }) old new reply)
-      (charges : Charges room free (reserves_for command) old new) where
+      (charges : Charges room free (reserves_for command) old new) (may : MayReply last None command reply) where
     pub kept_answers : Answers faults faults' last command h h' root root' reply
     kept_answers = record {
       closed = record { begin = keeps.pages.begin; whole = ap (λ (x : Heap). x.whole) keeps.rest ∙ whole };
       counted = counted;
+      silent = no_boundary last None command (words_are_read command).0 reply served (words_are_read command).1 may;
       committed = committed_end (record {
         bigblocks = ap (λ (x : Heap). x.bigblocks) keeps.rest;
         disk = ap (λ (x : Heap). x.disk) keeps.rest;
@@ -284,7 +296,7 @@ module _ {S : Type 0} (heap : S → Heap) (root_of : S → ℕ) (h : Heap) (root
 
   -- it failed, and was dropped
   module _ (drops : IsDropped (heap new) h') (root_is : root' ≡ (heap new).roots.current) (held : IfSome (content_of (heap new)) (Holds h' root'))
-      (fails : (volume : Volume) → HoldsVolume h root last volume → TellsFailure faults faults' reply) where
+      (fails : (volume : Volume) → HoldsVolume h root last volume → TellsFailure faults faults' reply) (silent : told_boundary reply ≡ None) where
     current : (heap new).roots.current ≡ root
     current = ap (λ (f : Frame). f.roots.current) frame ∙ ap (λ (x : Heap). x.roots.current) opens.rest
 
@@ -306,6 +318,7 @@ module _ {S : Type 0} (heap : S → Heap) (root_of : S → ℕ) (h : Heap) (root
     dropped_answers = record {
       closed = record { begin = drops.pages.begin; whole = ap (λ (x : Heap). x.whole) drops.rest };
       counted = counted;
+      silent = silent;
       committed = committed_end (record {
         bigblocks = ap (λ (x : Heap). x.bigblocks) drops.rest;
         disk = ap (λ (x : Heap). x.disk) drops.rest;

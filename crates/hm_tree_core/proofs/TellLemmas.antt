@@ -27,6 +27,7 @@ use Rattle.hm_tree_core.specs.Answer.{Answers, KeepsCommitted}
 use Rattle.hm_tree_core.specs.History.{IsLegalOver}
 use Rattle.hm_tree_core.specs.Ledger.{IsPaid}
 use Rattle.hm_tree_core.specs.Told.{reply_to}
+use Rattle.hm_tree_core.proofs.AnswerLemmas.{fault_silent}
 use Rattle.hm_tree_core.proofs.CommittedLemmas.{backed_same, kept_same}
 use Rattle.hm_tree_core.proofs.LookedLemmas.{held_firm, looked_closed, looked_committed, looked_free, looked_legal, looked_room}
 use Rattle.hm_tree_core.proofs.SpaceLemmas.{space_refused, space_told}
@@ -84,6 +85,7 @@ module _ (old new : Heap) (root root' faults faults' : ℕ) (closed : IsClosed o
     told_answers space free pool_is is = record {
       closed = looked_closed old new looks closed;
       counted = counted;
+      silent = refl;
       committed = record {
         bigblocks = kept.bigblocks;
         boundary = kept.boundary;
@@ -101,6 +103,7 @@ module _ (old new : Heap) (root root' faults faults' : ℕ) (closed : IsClosed o
     failed_answers fault bad caused = record {
       closed = looked_closed old new looks closed;
       counted = counted;
+      silent = fault_silent fault;
       committed = record {
         bigblocks = kept.bigblocks;
         boundary = kept.boundary;

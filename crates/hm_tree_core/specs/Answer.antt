@@ -1,9 +1,10 @@
 -- What a call over a store makes of its space, from one moment without an open call to another.
-use Rattle.std.specs.Prelude.{◌≡◌, ℕ, ◌+◌, ◌≤◌, IfSome, List, [], ◌∷◌, ◌++◌}
+use Rattle.std.specs.Prelude.{◌≡◌, ℕ, ◌+◌, ◌≤◌, IfSome, List, [], ◌∷◌, ◌++◌, None}
 use Rattle.hm_header.specs.OnDisk.{HasHeader}
 use Rattle.hm_header.specs.declared.header.Header.{Header}
 use Rattle.hm_model.specs.Foreign.{Foreigners}
 use Rattle.hm_model.specs.Needs.{floor}
+use Rattle.hm_model.specs.Reply.{told_boundary}
 use Rattle.hm_model.specs.Volume.{Volume}
 use Rattle.hm_model.specs.declared.command.Command.{Command}
 use Rattle.hm_model.specs.declared.entry.Entry.{Entry}
@@ -29,12 +30,13 @@ pub record KeepsCommitted (Told : Type 0) (h h' : Heap) : Type 0 where
   pub header : (header : Header) (slot : ℕ) → IfSome h.disk (λ t. HasHeader t.bytes header slot) → IfSome h'.disk (λ t. HasHeader t.bytes header slot)
   pub backed : Told → IsBacked h → IsBacked h'
 
--- A call was answered so, over which the count of faults went from one to another. No call is open, the big-blocks that
+-- A call was answered so, over which the count of faults went from one to another. The reply tells no boundary, no call is open, the big-blocks that
 -- were begun are paid for, what was committed is still there, and each history that was legal goes on legally with the
 -- entry of the call.
 pub record Answers (faults faults' last : ℕ) (command : Command) (h h' : Heap) (root root' : ℕ) (reply : Reply) : Type 0 where
   pub closed : IsClosed h'
   pub counted : faults ≤ faults'
+  pub silent : told_boundary reply ≡ None
   pub committed : KeepsCommitted ((volume : Volume) × HoldsVolume h root last volume) h h'
   pub paid : (first calls : ℕ) → IsPaid first (free_of h) calls (room_of h) → IsPaid first (free_of h') (calls + 1) (room_of h')
   pub legal : (free start : ℕ) (history : List Entry) (opening : Volume) (foreigners : Foreigners) (entry : Entry)

@@ -1,8 +1,9 @@
 -- What the calls of a core do.
-use Rattle.std.specs.Prelude.{◌≡◌, ℕ, ◌+◌, ◌≤◌, [], ◌∷◌, ◌++◌, IfSome, length}
+use Rattle.std.specs.Prelude.{◌≡◌, ℕ, ◌+◌, ◌≤◌, [], ◌∷◌, ◌++◌, IfSome, None, length}
 use Rattle.hm_types.specs.declared.limits.TheConstants.{GREATEST_ID}
 use Rattle.hm_model.specs.After.{after}
 use Rattle.hm_model.specs.Foreign.{Foreigners}
+use Rattle.hm_model.specs.Reply.{told_boundary}
 use Rattle.hm_model.specs.Volume.{Volume}
 use Rattle.hm_model.specs.declared.command.Command.{Command}
 use Rattle.hm_model.specs.declared.entry.Entry.{Entry}
@@ -39,11 +40,13 @@ module _ {D I O : Type 0} where
     pub input : new.input ≡ old.input
     pub output : new.output ≡ old.output
 
-  -- The history gained the entry of this call, by the next id, and at most one place of the room is taken.
+  -- The history gained the entry of this call, by the next id, whose reply tells no boundary, and at most one place of the room
+  -- is taken.
   pub record Enters (old new : CoreState D I O) (lane line : ℕ) (command : Command) : Type 0 where
     pub entry : Entry
     pub history : new.history ≡ old.history ++ entry ∷ []
     pub of_line : (entry.lane ≡ lane) × (entry.line ≡ line) × (entry.call ≡ command)
+    pub silent : told_boundary entry.reply ≡ None
     pub id : (entry.id.0 ≡ old.last + 1) × (new.last ≡ old.last + 1)
     pub spare : old.spare ≤ new.spare + 1
     pub rest : KeepsRest old new

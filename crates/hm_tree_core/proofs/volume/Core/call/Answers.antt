@@ -39,6 +39,7 @@ returns g c =
           entry = entry;
           history = c.push_reserved.ensures.items;
           of_line = (refl, refl, refl);
+          silent = answers.silent;
           id = (refl, refl);
           spare = omega (arith, c.push_reserved.ensures.len, c.push_reserved.ensures.capacity);
           rest = record { header = refl; slot = refl; free = refl; start = refl; input = refl; output = refl };
