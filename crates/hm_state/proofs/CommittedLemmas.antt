@@ -1,6 +1,6 @@
 -- What no call of a space touches of its disk: all before the pool, and the state that was committed last.
-use Rattle.std.proofs.Common.{◌≡◌, Bool, true, false, true≢false, ℕ, ◌+◌, ◌*◌, ◌<◌, ◌≤◌, List, Option, Some, None, IsSome, refl, sym, ap, subst, ◌∙◌, arith, cond}
-use Rattle.std.proofs.Common.{is_some, length, map, nat_lt, slice_index, slice_range}
+use Rattle.std.proofs.Common.{◌≡◌, Bool, true, false, true≢false, ℕ, ◌+◌, ◌*◌, ◌<◌, ◌≤◌, List, Option, Some, None, IsSome, refl, sym, ap, subst, ◌∙◌}
+use Rattle.std.proofs.Common.{arith, cond, is_some, length, map, nat_lt, slice_index, slice_range}
 use Rattle.std.specs.Prelude.{IfSome, option_map, ◌&&◌, ◌||◌}
 use Rattle.std.specs.List.{All, Contains, list_any}
 use Rattle.std.proofs.lemmas.Bool.{le-leb, lt-ltb}
@@ -49,7 +49,8 @@ fixed_bytes bigblocks known committed root s t same byte fixed =
       by_test false is got = absurd (true≢false (sym is))
 
 -- a byte before the pool is fixed
-low_fixed : (bigblocks : ℕ) (known : Bool) (refs : List Reference) (byte : ℕ) → byte < start_of (first_pool bigblocks) → is_fixed bigblocks known refs byte ≡ true
+low_fixed : (bigblocks : ℕ) (known : Bool) (refs : List Reference) (byte : ℕ) → byte < start_of (first_pool bigblocks)
+    → is_fixed bigblocks known refs byte ≡ true
 low_fixed bigblocks known refs byte low =
     ap (λ (t : Bool). t || (known && list_any (does_name byte) refs)) (lt-ltb byte (start_of (first_pool bigblocks)) low)
 

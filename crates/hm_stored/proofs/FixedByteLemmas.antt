@@ -20,7 +20,8 @@ use Rattle.hm_stored.specs.Fixed.{does_name, fixed_with, is_fixed}
 -- a byte that a reference names is none of what stands apart from it
 named_outside : (at len byte : ℕ) (r : Reference) → does_name byte r ≡ true → IsApart (reference at len) r → Outside ((byte_of at, rounded len) ∷ []) byte
 named_outside at len byte r named apart = by_parts (nat_le (begin_of r) byte) (nat_lt byte (begin_of r + r.len)) refl refl named where
-  by_parts : (a b : Bool) → nat_le (begin_of r) byte ≡ a → nat_lt byte (begin_of r + r.len) ≡ b → (a && b) ≡ true → Outside ((byte_of at, rounded len) ∷ []) byte
+  by_parts : (a b : Bool) → nat_le (begin_of r) byte ≡ a → nat_lt byte (begin_of r + r.len) ≡ b → (a && b) ≡ true
+      → Outside ((byte_of at, rounded len) ∷ []) byte
   by_parts true true from to both =
       let low = leb-true (begin_of r) byte from in
       let high = ltb-true byte (begin_of r + r.len) to in (

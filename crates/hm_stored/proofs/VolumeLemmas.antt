@@ -56,7 +56,8 @@ volume_still old new was is books books' frame same spot = volume_kept old new w
 -- as the pages do
 pub volume_look : (old new : Store) (disk : Option Told) (books : Books) → pages_frame new ≡ pages_frame old → Some new.current ≡ Some old.current
     → ∥ IsOfVolume (heap_of old disk books) ∥₁ → ∥ IsOfVolume (heap_of new disk books) ∥₁
-volume_look old new disk books frame pages = volume_kept old new disk disk books books frame (record { bigblocks = refl; begun = refl; roots = refl; last = refl })
+volume_look old new disk books frame pages = volume_kept old new disk disk books books frame
+    (record { bigblocks = refl; begun = refl; roots = refl; last = refl })
     (λ at beside. ap (λ (o : Option PageMap). spot_in o at) pages) where
       spot_in : Option PageMap → ℕ → Bool
       spot_in None at = false
