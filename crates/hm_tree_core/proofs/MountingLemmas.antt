@@ -1,31 +1,29 @@
 -- The space of a volume that was read.
-use Rattle.std.proofs.Common.{◌≡◌, ℕ, ◌+◌, ◌^◌, ◌<◌, ◌≤◌, List, [], Option, Some, None, slice_index, refl, sym, ap, subst, ◌∙◌, arith}
+use Rattle.std.proofs.Common.{◌≡◌, ℕ, ◌^◌, ◌≤◌, List, [], Option, Some, None, refl, sym, ap, subst, ◌∙◌, arith}
 use Rattle.std.specs.Prelude.{IfSome, IsSomeAnd, if◌then◌else◌}
 use Rattle.hm_types.specs.Elements.{FullElement}
 use Rattle.hm_types.specs.Faults.{IsCaused}
 use Rattle.hm_types.specs.Layout.{IsPool}
 use Rattle.hm_types.specs.declared.fault.Fault.{Fault}
 use Rattle.hm_types.specs.declared.fault.Fault.TheVariants.{Damaged, Media, NoMemory}
-use Rattle.hm_types.specs.declared.zone.TheConstants.{TREE_ZONE}
 use Rattle.hm_disk.specs.Crash.{Told}
 use Rattle.hm_fields.specs.Pages.{PageMap}
 use Rattle.hm_header.specs.OnDisk.{HasHeader}
 use Rattle.hm_header.specs.Range.{IsHeader}
 use Rattle.hm_header.specs.declared.header.Header.{Header}
 use Rattle.hm_freemap.specs.Faults.{IsBadBlock, IsFreemapDamage, IsGoodBlock}
-use Rattle.hm_freemap.specs.Stand.{HoldsPoolEntry, Maps, entry_of, entry_page, free_by}
-use Rattle.hm_pages.specs.Store.{Store, Frame as PagesFrame, frame_of as pages_frame}
+use Rattle.hm_freemap.specs.Stand.{HoldsPoolEntry, Maps, entry_page, free_by}
+use Rattle.hm_pages.specs.Store.{Store, Frame as PagesFrame}
 use Rattle.hm_model.specs.Foreign.{Foreigners}
 use Rattle.hm_model.specs.Volume.{Volume}
 use Rattle.hm_model.specs.declared.entry.Entry.{Entry}
-use Rattle.hm_image.specs.StandFor.{StandFor}
 use Rattle.hm_image.specs.Stands.{StandsFor}
 use Rattle.hm_load.specs.Held.{HoldsImage}
 use Rattle.hm_load.specs.Loaded.{IsLoaded}
 use Rattle.hm_stored.specs.Basis.{Basis, IsFirm, fulls_in}
 use Rattle.hm_stored.specs.Heap.{Heap, free_of, heap_of, maps_of, room_of}
 use Rattle.hm_stored.specs.Mounted.{IsBooksOf}
-use Rattle.hm_stored.specs.Standing.{Holds, HoldsBy, basis_now}
+use Rattle.hm_stored.specs.Standing.{HoldsBy, basis_now}
 use Rattle.hm_stored.specs.Turn.{IsClosed, LooksSame}
 use Rattle.hm_stored.specs.declared.books.Books.{Books}
 use Rattle.hm_state.specs.Volume.{HoldsVolume}

@@ -28,7 +28,7 @@ fn made(rt: &impl Abort, alloc: Global) -> MemDisk {
 
 // Mounts a disk, and gives it back, with why it was refused.
 fn tried<D: Disk + Drop>(rt: &impl Abort, alloc: Global, disk: D) -> (D, Option<OpenFault>) {
-    let (disk, input, output, fault) = match Core::mount(alloc, disk, 1, 2) {
+    let (disk, input, output, fault) = match Core::mount(alloc, disk, 1u8, 2u8) {
         Ok(core) => {
             let (disk, input, output) = core.into_devices();
             (disk, input, output, None)
@@ -62,8 +62,21 @@ fn refusal(
     Ok(fault)
 }
 
-// Damage of this kind at a raw offset.
+// Whether this damage is told of a volume in which a byte is another one.
+fn is_told(
+    rt: &impl Abort,
+    alloc: Global,
+    (place, byte): (u64, u8),
+    (raw, kind): (u64, u8),
+) -> Result<bool, Failed> {
+    Ok(refusal(rt, alloc, place, &[byte])? == damage(raw, kind))
+}
+
+// Damage of this kind at a raw offset, and none for kind 0.
 fn damage(raw: u64, kind: u8) -> Option<OpenFault> {
+    if kind == 0 {
+        return None;
+    }
     let at = HOff::from_raw(raw).unwrap_or_default();
     Some(OpenFault::Fault(Fault::Damaged { at, kind }))
 }
@@ -79,7 +92,7 @@ fn first_fault() -> OpenFault {
 #[test]
 fn a_new_volume_is_mounted(rt: HostRuntime) {
     let alloc = rt.alloc();
-    let core = match Core::mount(alloc, made(&rt, alloc), 1, 2) {
+    let core = match Core::mount(alloc, made(&rt, alloc), 1u8, 2u8) {
         Ok(core) => core,
         Err(_) => panic!(rt; "not mounted"),
     };
@@ -151,16 +164,17 @@ fn the_first_damage_is_told(rt: HostRuntime) -> Result<(), Fail> {
         (ROOT + 2, 64, 0x8000_0000_0580_0000, 2),
         (ROOT + 64 + 36, 3, 0x8000_0000_0580_0000, 3),
         (ROOT + 4, 1, 0x8000_0000_0580_0000, 5),
-        (ROOT + 8, 2, 0x8000_0000_0580_0000, 9),
+        (ROOT + 8, 0, 0x8000_0000_0580_0000, 9),
         // The inode of the root directory, and the record.
         (PAYLOADS, 5, 0x9000_0000_0600_0000, 6),
         (PAYLOADS + 32, 3, 0x9000_0000_0600_0020, 6),
+        // A mirror above each id, and what no element refers to.
+        (ROOT + 8, 2, 0, 0),
+        (PAYLOADS + 80, 1, 0, 0),
     ] {
-        let fault = refusal(&rt, alloc, place, &[byte])?;
-        assert_eq!(rt; fault, damage(raw, kind), "{place} {byte}");
+        let told = is_told(&rt, alloc, (place, byte), (raw, kind))?;
+        assert!(rt; told, "{place} {byte}");
     }
-    // What no element refers to.
-    assert_eq!(rt; refusal(&rt, alloc, PAYLOADS + 80, &[1])?, None);
     Ok(())
 }
 

@@ -1,14 +1,11 @@
-use Rattle.std.proofs.Common.{◌≡◌, ℕ, ◌*◌, ◌≤◌, Option, length, sym, subst, ap, ◌∙◌}
-use Rattle.std.specs.Prelude.{IfErr, IfOk, IfSome, Result}
-use Rattle.hm_types.specs.Faults.{IsUndamaged}
+use Rattle.std.proofs.Common.{◌≡◌, ◌*◌, ◌≤◌, Option, length, sym, subst, ap, ◌∙◌}
+use Rattle.std.specs.Prelude.{IfSome}
 use Rattle.hm_types.specs.declared.fault.Fault.{Fault}
 use Rattle.hm_types.specs.declared.fault.Fault.TheVariants.{NoMemory as no_memory}
 use Rattle.hm_types.specs.declared.limits.TheConstants.{BIGBLOCK_BYTES}
 use Rattle.hm_disk.specs.Crash.{Told}
-use Rattle.hm_load.specs.Held.{HoldsImage}
 use Rattle.hm_pages.specs.Store.{contents}
 use Rattle.hm_stored.specs.Heap.{heap_of}
-use Rattle.hm_tree_core.specs.declared.fault.OpenFault.{OpenFault}
 use Rattle.hm_tree_core.specs.declared.fault.OpenFault.TheVariants.{Fault as of_disk}
 use Rattle.hm_tree_core.specs.Opened.{IsNotMounted}
 use Rattle.hm_tree_core.proofs.MountingLemmas.{closed_first, no_damage, read_from}
