@@ -24,8 +24,8 @@ use Rattle.hm_image.proofs.NamedLemmas.{page_byte}
 use Rattle.hm_image.proofs.OffsetLemmas.{byte_is}
 use Rattle.hm_stored.specs.Basis.{IsFirm, elements_in, nodes, refers}
 use Rattle.hm_stored.specs.Heap.{Heap}
+use Rattle.hm_stored.specs.Held.{AreOfVolume}
 use Rattle.hm_stored.specs.Standing.{basis_now}
-use Rattle.hm_state.specs.Written.{AreOfVolume}
 use Rattle.hm_state.proofs.KeptLemmas.{page_referred}
 
 -- two pages of layer 2 are one, or share no byte

@@ -7,3 +7,5 @@ pub mod MountedLemmas
 pub mod WrittenLemmas
 pub mod StaysLemmas
 pub mod ApartLemmas
+pub mod CommittedLemmas
+pub mod BackedLemmas

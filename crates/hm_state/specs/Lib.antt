@@ -1,2 +1,3 @@
 pub mod Volume
 pub mod Written
+pub mod Backed

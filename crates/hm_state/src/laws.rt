@@ -1,8 +1,9 @@
 // What follows from the definitions alone: each function states one law, and does nothing.
-ghost use Rattle.std.specs.Prelude.{◌≡◌, ◌≢◌, ℕ, ◌+◌, ◌≤◌, IsSome, List, Option, Some};
+ghost use Rattle.std.specs.Prelude.{◌≡◌, ◌≢◌, ℕ, ◌+◌, ◌<◌, ◌≤◌, IsSome, List, Option, Some};
+ghost use Rattle.std.specs.Prelude.{length, slice_index};
 ghost use Rattle.std.specs.List.{Contains};
 ghost use Rattle.hm_types.specs.Elements.{FullElement};
-ghost use Rattle.hm_types.specs.Layout.{first_layer2, start_of};
+ghost use Rattle.hm_types.specs.Layout.{first_layer2, first_pool, start_of};
 ghost use Rattle.hm_types.specs.Offset.{byte_of};
 ghost use Rattle.hm_types.specs.declared.limits.TheConstants.{PAGE_BYTES};
 ghost use Rattle.hm_disk.specs.Crash.{Told};
@@ -22,11 +23,13 @@ ghost use Rattle.hm_load.specs.Held.{HoldsImage};
 ghost use Rattle.hm_load.specs.Loaded.{IsLoaded};
 ghost use Rattle.hm_stored.specs.declared.books.Books.{Books};
 ghost use Rattle.hm_stored.specs.Basis.{IsFirm, elements_in, nodes};
-ghost use Rattle.hm_stored.specs.Heap.{Heap, heap_of};
+ghost use Rattle.hm_stored.specs.Heap.{Heap, content_of, frame_of, heap_of};
+ghost use Rattle.hm_stored.specs.Held.{AreOfVolume};
 ghost use Rattle.hm_stored.specs.Mounted.{IsBooksOf};
 ghost use Rattle.hm_stored.specs.Standing.{Holds, basis_now};
+ghost use Rattle.hm_state.specs.Backed.{IsBacked};
 ghost use Rattle.hm_state.specs.Volume.{HoldsVolume};
-ghost use Rattle.hm_state.specs.Written.{AreOfVolume, HasSamePayloads, IsHeaderOf, IsWritten};
+ghost use Rattle.hm_state.specs.Written.{HasSamePayloads, IsHeaderOf, IsWritten};
 
 /// Where the bytes of a disk stand for a volume, the space over the pages that were loaded from them
 /// and over that disk, with the books of their header, holds this volume. The header is that of the
@@ -70,6 +73,31 @@ pub fn what_was_written_stays()
     ensures { (h : Heap) (root : ℕ) (old new : List ℕ) → IsTreeSpace (nodes h.pages.current) root →
         AreOfVolume h → IsWritten h root old → HasSameFreemap old new h.bigblocks →
         HasSameTree old new root → IsWritten h root new }
+{}
+
+/// Where the bytes of a disk stand for a volume, they have all of the state that was committed last in
+/// the space over the pages that were loaded from them: what was loaded is what was committed.
+pub fn a_mounted_volume_is_backed()
+    ensures { (t : Told) (header : Header) (slot : ℕ) (s : Store) (books : Books)
+        (volume : Volume) → StandsFor t.bytes volume → HasHeader t.bytes header slot →
+        IsLoaded header s → HoldsImage t.bytes header s → IsBooksOf header books →
+        ((at : ℕ) (page : List ℕ) → s.current at ≡ Some page → AreBytes page) →
+        IsBacked (heap_of s (Some t) books) }
+{}
+
+/// Calls of a space, which leave its frame, leave on its disk all that stands before the pool, so that
+/// the header that counts is the same one; and where the content at the call's beginning is known, all
+/// of the state that was committed last.
+pub fn what_was_committed_stays()
+    ensures slots { (old new : Heap) (s t : Told) → frame_of new ≡ frame_of old →
+        old.disk ≡ Some s → new.disk ≡ Some t → (length t.bytes ≡ length s.bytes) ×
+        ((byte : ℕ) → byte < start_of (first_pool old.bigblocks) →
+        slice_index t.bytes byte ≡ slice_index s.bytes byte) }
+    ensures header { (old new : Heap) (s t : Told) (header : Header) (slot : ℕ) →
+        frame_of new ≡ frame_of old → old.disk ≡ Some s → new.disk ≡ Some t →
+        HasHeader s.bytes header slot → HasHeader t.bytes header slot }
+    ensures backed { (old new : Heap) → frame_of new ≡ frame_of old → IsSome (content_of old) →
+        IsBacked old → IsBacked new }
 {}
 
 /// The pages of a space lie within its volume, behind layer 1 of the freemap, and share no byte with

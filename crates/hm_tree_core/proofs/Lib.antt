@@ -16,3 +16,5 @@ pub mod KnownLemmas
 pub mod OpenLemmas
 pub mod AnswerLemmas
 pub mod StepLemmas
+pub mod LookedLemmas
+pub mod TellLemmas

@@ -13,6 +13,7 @@ mod opening;
 mod opening_tests;
 mod served;
 mod slots;
+mod space;
 mod step;
 mod steps;
 #[cfg(test)]
@@ -32,6 +33,7 @@ pub use laws::{
 };
 pub use opening::newfs;
 pub use served::is_served;
+pub use space::tell_space;
 pub use step::Step;
 pub use volume::Core;
 pub use write::write_pages;

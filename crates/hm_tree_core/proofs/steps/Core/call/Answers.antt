@@ -7,7 +7,7 @@ use Rattle.hm_stored.specs.Heap.{heap_of}
 use Rattle.hm_tree_core.specs.History.{IsLegalOver}
 use Rattle.hm_tree_core.specs.Inside.{IsInOrder}
 use Rattle.hm_tree_core.proofs.StepLemmas.{entry_of, least_left, ordered_next}
-use Rattle.hm_tree_core.proofs.volume.Core.call.Goals as goal
+use Rattle.hm_tree_core.proofs.steps.Core.call.Goals as goal
 
 pub invariant_of-self : goal.invariant_of-self
 invariant_of-self g c =
