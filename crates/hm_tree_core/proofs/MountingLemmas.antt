@@ -1,89 +1,51 @@
 -- The space of a volume that was read.
-use Rattle.std.proofs.Common.{◌≡◌, ℕ, ◌^◌, ◌≤◌, List, [], Option, Some, None, refl, sym, ap, subst, ◌∙◌, arith}
-use Rattle.std.specs.Prelude.{IfSome, IsSomeAnd, if◌then◌else◌}
-use Rattle.hm_types.specs.Elements.{FullElement}
+use Rattle.std.proofs.Common.{◌≡◌, ℕ, ◌≤◌, List, [], Option, Some, None, refl, sym, ap, subst, ◌∙◌, arith}
+use Rattle.std.specs.Prelude.{IfSome}
 use Rattle.hm_types.specs.Faults.{IsCaused}
 use Rattle.hm_types.specs.Layout.{IsPool}
 use Rattle.hm_types.specs.declared.fault.Fault.{Fault}
 use Rattle.hm_types.specs.declared.fault.Fault.TheVariants.{Damaged, Media, NoMemory}
 use Rattle.hm_disk.specs.Crash.{Told}
+use Rattle.hm_fields.specs.Fields.{AreBytes}
 use Rattle.hm_fields.specs.Pages.{PageMap}
+use Rattle.hm_fields.specs.declared.states.State.{State}
+use Rattle.hm_fields.specs.declared.states.State.TheVariants.{Current}
 use Rattle.hm_header.specs.OnDisk.{HasHeader}
 use Rattle.hm_header.specs.Range.{IsHeader}
 use Rattle.hm_header.specs.declared.header.Header.{Header}
 use Rattle.hm_freemap.specs.Faults.{IsBadBlock, IsFreemapDamage, IsGoodBlock}
-use Rattle.hm_freemap.specs.Stand.{HoldsPoolEntry, Maps, entry_page, free_by}
-use Rattle.hm_pages.specs.Store.{Store, Frame as PagesFrame}
+use Rattle.hm_freemap.specs.Stand.{HoldsPoolEntry, Maps, entry_page}
+use Rattle.hm_pages.specs.Store.{Store, in_state}
 use Rattle.hm_model.specs.Foreign.{Foreigners}
 use Rattle.hm_model.specs.Volume.{Volume}
 use Rattle.hm_model.specs.declared.entry.Entry.{Entry}
 use Rattle.hm_image.specs.Stands.{StandsFor}
 use Rattle.hm_load.specs.Held.{HoldsImage}
 use Rattle.hm_load.specs.Loaded.{IsLoaded}
-use Rattle.hm_stored.specs.Basis.{Basis, IsFirm, fulls_in}
 use Rattle.hm_stored.specs.Heap.{Heap, free_of, heap_of, maps_of, room_of}
 use Rattle.hm_stored.specs.Mounted.{IsBooksOf}
-use Rattle.hm_stored.specs.Standing.{HoldsBy, basis_now}
 use Rattle.hm_stored.specs.Turn.{IsClosed, LooksSame}
 use Rattle.hm_stored.specs.declared.books.Books.{Books}
 use Rattle.hm_state.specs.Volume.{HoldsVolume}
+use Rattle.hm_state.proofs.BackedLemmas.{mounted_backed}
 use Rattle.hm_state.proofs.MountedLemmas.{mounted}
 use Rattle.hm_tree_core.specs.Core.{StandsOver}
 use Rattle.hm_tree_core.specs.History.{IsClear, IsLegalOver}
 use Rattle.hm_tree_core.specs.Inside.{IsInOrder}
 use Rattle.hm_tree_core.specs.Ledger.{IsPaid}
-use Rattle.hm_tree_core.specs.Mounting.{HoldsWhatStands, IsHeaderOn, IsReadFrom}
+use Rattle.hm_tree_core.specs.Mounting.{BacksWhatStands, HoldsWhatStands, IsHeaderOn, IsReadFrom}
 use Rattle.hm_tree_core.specs.Opened.{IsMounted}
 use Rattle.hm_tree_core.specs.State.{CoreState}
 use Rattle.hm_tree_core.proofs.BeginLemmas.{first}
 use Rattle.hm_tree_core.proofs.LedgerLemmas.{paid_first}
+use Rattle.hm_tree_core.proofs.LookedLemmas.{looked_backed, looked_closed, looked_free, looked_held}
 
 abbrev maps_with : PageMap → PageMap → PageMap → Maps
 maps_with committed frozen current = record { committed = committed; frozen = frozen; current = current }
 
-abbrev basis_with : Heap → ℕ → Maps → Basis
-basis_with h root maps = record { bigblocks = h.bigblocks; append = h.append; maps = maps; roots = record h.roots { current = root } }
-
--- a look at a space leaves what it holds
-module _ (old new : Heap) (looks : LooksSame old new) where
-  abbrev looked : Heap
-  looked = record old { pages = new.pages }
-
-  maps_same : maps_of looked ≡ maps_of old
-  maps_same =
-      ap (λ (f : PagesFrame). maps_with f.committed f.frozen new.pages.current) looks.pages
-      ∙ ap (λ (m : PageMap). maps_with old.pages.committed old.pages.frozen m) looks.current
-
-  basis_same : (root : ℕ) → basis_now looked root ≡ basis_now old root
-  basis_same root = ap (λ (m : Maps). basis_with old root m) maps_same
-
-  holds_by : (root : ℕ) (es : List FullElement) (o : Option Told) → IsSomeAnd o (λ t. HoldsBy old root t.bytes es)
-      → IsSomeAnd o (λ t. HoldsBy looked root t.bytes es)
-  holds_by root es None holds = holds
-  holds_by root es (Some t) holds = record {
-    firm = subst IsFirm (sym (basis_same root)) holds.firm;
-    elements = ap (λ (b : Basis). fulls_in b t.bytes) (basis_same root) ∙ holds.elements;
-  }
-
-  pub closed_still : IsClosed old → IsClosed new
-  closed_still closed = subst IsClosed (sym looks.rest) (record {
-    begin = ap (λ (f : PagesFrame). f.begin) looks.pages ∙ closed.begin;
-    whole = closed.whole;
-  })
-
-  pub free_still : free_of new ≡ free_of old
-  free_still =
-      ap free_of looks.rest
-      ∙ ap (λ (m : Maps). if old.whole then free_by old.bigblocks old.append m else 2 ^ 32) maps_same
-
-  pub held_still : (root last : ℕ) (volume : Volume) → HoldsVolume old root last volume → HoldsVolume new root last volume
-  held_still root last volume holds =
-      subst (λ (h : Heap). HoldsVolume h root last volume) (sym looks.rest)
-      (record {
-        bigblocks = holds.bigblocks;
-        last_is = holds.last_is;
-        elements = (holds.elements.0, holds_by root holds.elements.0 old.disk holds.elements.1, holds.elements.2);
-      })
+-- each page of a store is bytes, in each of its states
+abbrev ArePages : Store → Type 0
+ArePages s = (state : State) (at : ℕ) (page : List ℕ) → in_state s state at ≡ Some page → AreBytes page
 
 -- the space over the pages that were loaded from what a disk tells
 module _ (header : Header) (s : Store) (books : Books) (loaded : IsLoaded header s) (of_header : IsBooksOf header books) where
@@ -91,8 +53,15 @@ module _ (header : Header) (s : Store) (books : Books) (loaded : IsLoaded header
       → LooksSame (heap_of s told books) h → IfSome told (HoldsWhatStands h header)
   held_told None h counts image looks = tt
   held_told (Some t) h counts image looks = λ volume stands.
-      held_still (heap_of s (Some t) books) h looks header.root header.last.0 volume
+      looked_held (heap_of s (Some t) books) h looks header.root header.last.0 volume
       (mounted t header counts.0 s books volume stands counts.1 loaded image of_header)
+
+  backed_told : (told : Option Told) (h : Heap) → ArePages s → IfSome told (IsHeaderOn header)
+      → IfSome told (λ t. HoldsImage t.bytes header s) → LooksSame (heap_of s told books) h → IfSome told (BacksWhatStands h)
+  backed_told None h bytes counts image looks = tt
+  backed_told (Some t) h bytes counts image looks = λ volume stands.
+      looked_backed (heap_of s (Some t) books) h looks
+      (mounted_backed t header counts.0 s books volume stands counts.1 loaded image of_header (bytes Current))
 
   pub closed_first : (told : Option Told) → IsClosed (heap_of s told books)
   unfolding heap_of
@@ -105,17 +74,18 @@ module _ (header : Header) (s : Store) (books : Books) (loaded : IsLoaded header
   opened_is : (told disk : Option Told) (opened : Heap) → disk ≡ told → opened ≡ heap_of s disk books → opened ≡ heap_of s told books
   opened_is told disk opened same is = subst (λ (o : Option Told). opened ≡ heap_of s o books) same is
 
-  pub read_from : (told disk : Option Told) (opened now : Heap) (free : ℕ) → IfSome told (IsHeaderOn header)
+  pub read_from : (told disk : Option Told) (opened now : Heap) (free : ℕ) → ArePages s → IfSome told (IsHeaderOn header)
       → IfSome told (λ t. HoldsImage t.bytes header s) → disk ≡ told → opened ≡ heap_of s disk books → LooksSame opened now
       → free ≡ free_of opened → IsReadFrom told header free now
-  read_from told disk opened now free counts image kept made looks counted =
+  read_from told disk opened now free bytes counts image kept made looks counted =
       let is : opened ≡ heap_of s told books = opened_is told disk opened kept made in
       let same : LooksSame (heap_of s told books) now = subst (λ (h : Heap). LooksSame h now) is looks in
       record {
-        closed = closed_still (heap_of s told books) now same (closed_first told);
+        closed = looked_closed (heap_of s told books) now same (closed_first told);
         disk = ap (λ (h : Heap). h.disk) same.rest ∙ disk_first told;
-        free_is = counted ∙ ap free_of is ∙ sym (free_still (heap_of s told books) now same);
+        free_is = counted ∙ ap free_of is ∙ sym (looked_free (heap_of s told books) now same);
         holds = held_told told now counts image same;
+        backed = backed_told told now bytes counts image same;
       }
 
   -- each big-block of its pool is good

@@ -11,6 +11,7 @@ ghost use Rattle.hm_tree_core.specs.declared.fault.OpenFault.TheVariants.{Fault 
 use hm_disk::Disk;
 use hm_header::Header;
 use hm_load::load;
+use hm_pages::pages_are_bytes;
 use hm_stored::{Books, Space};
 use hm_types::Fault;
 use std::alloc::Global;
@@ -36,6 +37,7 @@ pub(crate) fn open_space<D: Disk>(
         Ok(store) => store,
         Err(fault) => return Err((disk, fault)),
     };
+    pages_are_bytes(&store);
     let mut space = Space::over(store, disk, Books::of(alloc, header));
     match space.free_blocks() {
         Ok(free) => Ok((space, free)),

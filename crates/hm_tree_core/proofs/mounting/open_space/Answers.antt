@@ -7,6 +7,7 @@ use Rattle.hm_disk.specs.Crash.{Told}
 use Rattle.hm_pages.specs.Store.{contents}
 use Rattle.hm_stored.specs.Heap.{heap_of}
 use Rattle.hm_tree_core.specs.declared.fault.OpenFault.TheVariants.{Fault as of_disk}
+use Rattle.hm_state.proofs.MountedLemmas.{mounted_pages}
 use Rattle.hm_tree_core.specs.Opened.{IsNotMounted}
 use Rattle.hm_tree_core.proofs.MountingLemmas.{closed_first, no_damage, read_from}
 use Rattle.hm_tree_core.proofs.OpeningLemmas.{not_loaded, room_on, told_nothing}
@@ -26,10 +27,14 @@ over-space-requires-clause-size g c =
     subst (λ (told : Option Told). IfSome told (λ t. c.of.result.bigblocks * BIGBLOCK_BYTES ≤ length t.bytes)) (sym c.load.ensures.same)
     (room_on (g.D.Disk.told c.args.disk) c.args.header.now c.of.result.bigblocks c.of.ensures.bigblocks c.requires.counts)
 
+pub over-space-requires-clause-only : goal.over-space-requires-clause-only
+over-space-requires-clause-only g c =
+    mounted_pages (g.D.Disk.told c.load.new.disk) c.args.header.now (contents c.in-Ok.store) c.of.result c.in-Ok.ensures.loaded c.of.ensures
+
 pub returns-in-Ok-free_blocks-clause-ok : goal.returns-in-Ok-free_blocks-clause-ok
 returns-in-Ok-free_blocks-clause-ok g c =
     read_from c.args.header.now (contents c.in-Ok.store) c.of.result c.in-Ok.ensures.loaded c.of.ensures (g.D.Disk.told c.args.disk)
-    (g.D.Disk.told c.load.new.disk) _ _ c.in-Ok-free_blocks.free c.requires.counts c.in-Ok.ensures.holds c.load.ensures.same
+    (g.D.Disk.told c.load.new.disk) _ _ c.in-Ok-free_blocks.free c.pages_are_bytes.ensures c.requires.counts c.in-Ok.ensures.holds c.load.ensures.same
     c.over-space.ensures.heap c.free_blocks.ensures.same c.in-Ok-free_blocks.ensures.ok
 
 pub returns-in-Err-free_blocks-clause-err : goal.returns-in-Err-free_blocks-clause-err

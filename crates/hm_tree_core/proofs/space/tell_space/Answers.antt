@@ -4,4 +4,3 @@ use Rattle.hm_pages.specs.Store.{contents}
 use Rattle.hm_stored.specs.Heap.{heap_of}
 use Rattle.hm_tree_core.proofs.TellLemmas.{failed_answers, told_answers}
 use Rattle.hm_tree_core.proofs.space.tell_space.Goals as goal
-
