@@ -35,14 +35,15 @@ use Rattle.hm_stored.specs.Standing.{Holds}
 use Rattle.hm_stored.specs.Turn.{IsClosed, IsDropped, IsKeptOf, IsOpened}
 use Rattle.hm_stored.proofs.KnownLemmas.{known_each}
 use Rattle.hm_stored.proofs.OpenedLemmas.{opens_content, told_held}
-use Rattle.hm_tree_core.specs.Answer.{Answers, IsEntryOf}
+use Rattle.hm_tree_core.specs.Answer.{Answers, IsEntryOf, KeepsCommitted}
 use Rattle.hm_tree_core.specs.Calls.{IsNextCall}
 use Rattle.hm_tree_core.specs.Ledger.{IsPaid, calls_in}
 use Rattle.hm_tree_core.specs.Told.{ArePages, HoldsSame, HoldsTold, TellsFailure, TellsHeld, reply_to}
 use Rattle.hm_tree_core.proofs.CallLemmas.{failed_call, served_call}
+use Rattle.hm_tree_core.proofs.CommittedLemmas.{SameCommitted, backed_same, kept_framed, kept_same}
 use Rattle.hm_tree_core.proofs.FaultLemmas.{no_damage_told}
 use Rattle.hm_tree_core.proofs.LedgerLemmas.{paid_call}
-use Rattle.hm_tree_core.proofs.OpenLemmas.{dropped_holds, kept_holds, opened_tells}
+use Rattle.hm_tree_core.proofs.OpenLemmas.{dropped_holds, held_known, kept_holds, opened_tells}
 
 -- the free big-blocks and the room of two spaces with the same maps
 pub free_same : (a b : Heap) → b.whole ≡ a.whole → b.bigblocks ≡ a.bigblocks → b.append ≡ a.append → b.pages.committed ≡ a.pages.committed
@@ -208,6 +209,39 @@ module _ {S : Type 0} (heap : S → Heap) (root_of : S → ℕ) (h : Heap) (root
   is_next : (entry : Entry) → IsEntryOf last command reply entry → IsNextCall last entry
   is_next entry is = record { served = subst IsOnTrees (sym is.call_is) served; left = left; own = is.own }
 
+  begun_committed : SameCommitted h (heap old)
+  begun_committed = record {
+    bigblocks = ap (λ (x : Heap). x.bigblocks) opens.rest;
+    disk = ap (λ (x : Heap). x.disk) opens.rest;
+    committed = opens.pages.flush.committed;
+    boundary = opens.pages.flush.boundary;
+    root = ap (λ (x : Heap). x.roots.committed) opens.rest;
+  }
+
+  -- a space that held a volume tells its content once a call is opened
+  content_told : (volume : Volume) × HoldsVolume h root last volume → IsSome (content_of (heap old))
+  content_told (volume, holds) =
+      let known = held_known h root last volume holds holds.elements.0 holds.elements.1 in
+      let told = opens_content h (heap old) root last closed kept opens holds.elements.0 holds.elements.1 known in
+      subst (λ (o : Option (List FullElement)). IsSome o) (sym told.content) refl
+
+  -- what was committed stays, until the call is closed
+  committed_new : KeepsCommitted ((volume : Volume) × HoldsVolume h root last volume) h (heap new)
+  committed_new = record {
+    bigblocks = (kept_framed (heap old) (heap new) frame).bigblocks ∙ begun_committed.bigblocks;
+    boundary = (kept_framed (heap old) (heap new) frame).boundary ∙ begun_committed.boundary;
+    header = λ header slot on. (kept_framed (heap old) (heap new) frame).header header slot ((kept_same h (heap old) begun_committed).header header slot on);
+    backed = λ held backed. (kept_framed (heap old) (heap new) frame).backed (content_told held) (backed_same h (heap old) begun_committed backed);
+  }
+
+  committed_end : SameCommitted (heap new) h' → KeepsCommitted ((volume : Volume) × HoldsVolume h root last volume) h h'
+  committed_end same = record {
+    bigblocks = same.bigblocks ∙ committed_new.bigblocks;
+    boundary = same.boundary ∙ committed_new.boundary;
+    header = λ header slot on. (kept_same (heap new) h' same).header header slot (committed_new.header header slot on);
+    backed = λ held backed. backed_same (heap new) h' same (committed_new.backed held backed);
+  }
+
   bigblocks : (heap new).bigblocks ≡ h.bigblocks
   bigblocks = ap (λ (f : Frame). f.bigblocks) frame ∙ ap (λ (x : Heap). x.bigblocks) opens.rest
 
@@ -220,6 +254,13 @@ module _ {S : Type 0} (heap : S → Heap) (root_of : S → ℕ) (h : Heap) (root
     kept_answers = record {
       closed = record { begin = keeps.pages.begin; whole = ap (λ (x : Heap). x.whole) keeps.rest ∙ whole };
       counted = counted;
+      committed = committed_end (record {
+        bigblocks = ap (λ (x : Heap). x.bigblocks) keeps.rest;
+        disk = ap (λ (x : Heap). x.disk) keeps.rest;
+        committed = keeps.pages.flush.committed;
+        boundary = keeps.pages.flush.boundary;
+        root = ap (λ (x : Heap). x.roots.committed) keeps.rest;
+      });
       paid = λ first calls paid.
           paid_as (heap new) h' first (calls + 1)
           (free_same (heap new) h' (ap (λ (x : Heap). x.whole) keeps.rest) (ap (λ (x : Heap). x.bigblocks) keeps.rest)
@@ -265,6 +306,13 @@ module _ {S : Type 0} (heap : S → Heap) (root_of : S → ℕ) (h : Heap) (root
     dropped_answers = record {
       closed = record { begin = drops.pages.begin; whole = ap (λ (x : Heap). x.whole) drops.rest };
       counted = counted;
+      committed = committed_end (record {
+        bigblocks = ap (λ (x : Heap). x.bigblocks) drops.rest;
+        disk = ap (λ (x : Heap). x.disk) drops.rest;
+        committed = drops.pages.flush.committed;
+        boundary = drops.pages.flush.boundary;
+        root = ap (λ (x : Heap). x.roots.committed) drops.rest;
+      });
       paid = λ first calls paid.
           paid_later first (free_of h') calls (room_of h')
           (paid_as h h' first calls

@@ -16,5 +16,6 @@ pub mod KnownLemmas
 pub mod OpenLemmas
 pub mod AnswerLemmas
 pub mod StepLemmas
+pub mod CommittedLemmas
 pub mod LookedLemmas
 pub mod TellLemmas

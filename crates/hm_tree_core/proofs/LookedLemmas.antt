@@ -1,30 +1,24 @@
 -- A look at a space leaves what it holds, and each history that was legal.
-use Rattle.std.proofs.Common.{◌≡◌, ℕ, ◌^◌, Bool, List, Option, None, Some, IsSome, map, refl, sym, ap, subst, ◌∙◌}
-use Rattle.std.specs.Prelude.{IfSome, IsSomeAnd, if◌then◌else◌}
-use Rattle.std.specs.List.{All}
+use Rattle.std.proofs.Common.{◌≡◌, ℕ, ◌^◌, Bool, List, Option, None, Some, refl, sym, ap, subst, ◌∙◌}
+use Rattle.std.specs.Prelude.{IsSomeAnd, if◌then◌else◌}
 use Rattle.hm_types.specs.Elements.{FullElement}
 use Rattle.hm_types.specs.declared.limits.TheConstants.{BIGBLOCK_BYTES}
 use Rattle.hm_disk.specs.Crash.{Told}
 use Rattle.hm_fields.specs.Pages.{PageMap}
 use Rattle.hm_pages.specs.Store.{Frame as PagesFrame}
-use Rattle.hm_btree.specs.Tree.{IsTreeSpace}
-use Rattle.hm_freemap.specs.Places.{page_of}
 use Rattle.hm_freemap.specs.Stand.{Maps, free_by, is_handed_out, room_in}
 use Rattle.hm_model.specs.Foreign.{Foreigners}
 use Rattle.hm_model.specs.Legal.{state_after}
 use Rattle.hm_model.specs.Volume.{Volume}
 use Rattle.hm_model.specs.declared.entry.Entry.{Entry}
-use Rattle.hm_image.specs.Image.{to_payload}
-use Rattle.hm_image.specs.Same.{HasSameBytes}
-use Rattle.hm_state.specs.Backed.{IsBacked, committed_in}
-use Rattle.hm_state.specs.Volume.{HoldsVolume}
-use Rattle.hm_state.specs.Written.{HasSamePayloads, IsWritten}
-use Rattle.hm_stored.specs.Basis.{Basis, IsFirm, elements_in, fulls_in, nodes}
+use Rattle.hm_stored.specs.Basis.{Basis, IsFirm, fulls_in}
 use Rattle.hm_stored.specs.Heap.{Heap, free_of, maps_of, room_of}
 use Rattle.hm_stored.specs.Standing.{Holds, HoldsBy, basis_now}
 use Rattle.hm_stored.specs.Turn.{IsClosed, LooksSame}
 use Rattle.hm_stored.specs.declared.roots.Roots.{Roots}
-use Rattle.hm_tree_core.specs.History.{IsLegalOver, setting_of}
+use Rattle.hm_state.specs.Volume.{HoldsVolume}
+use Rattle.hm_tree_core.specs.History.{HoldsState, IsLegalOver, setting_of}
+use Rattle.hm_tree_core.proofs.CommittedLemmas.{SameCommitted}
 
 -- a space that holds something has its books in order
 pub held_firm : (h : Heap) (root : ℕ) (es : List FullElement) → Holds h root es → IsFirm (basis_now h root)
@@ -80,11 +74,19 @@ module _ (old new : Heap) (looks : LooksSame old new) where
     legal = is.legal;
     counted = is.counted;
     held = record {
-      holds = looked_held root last
-          (state_after (setting_of free start faults opening foreigners) is.events).volume is.held.holds;
+      holds = looked_held root last (state_after (setting_of free start faults opening foreigners) is.events).volume is.held.holds;
       clear = is.held.clear;
       opened = is.held.opened;
     };
+  }
+
+  pub looked_committed : SameCommitted old new
+  looked_committed = record {
+    bigblocks = bigblocks_same;
+    disk = disk_same;
+    committed = ap (λ (f : PagesFrame). f.committed) looks.pages;
+    boundary = ap (λ (f : PagesFrame). f.boundary) looks.pages;
+    root = ap (λ (h : Heap). h.roots.committed) looks.rest;
   }
 
   pub looked_closed : IsClosed old → IsClosed new
@@ -104,49 +106,3 @@ module _ (old new : Heap) (looks : LooksSame old new) where
     by : (w : Bool) (a : List ℕ) (c : PageMap) → w ≡ old.whole → a ≡ old.append → c ≡ old.pages.current
         → (λ zone. if w then room_in a c zone else (if is_handed_out zone then BIGBLOCK_BYTES else 0)) ≡ room_of old
     by w a c first second third = rw (first, second, third) refl
-
-  -- the same space, with the pages as they are now
-  abbrev moved : Heap
-  moved = record old { pages = new.pages }
-
-  committed_same : new.pages.committed ≡ old.pages.committed
-  committed_same = ap (λ (f : PagesFrame). f.committed) looks.pages
-
-  committed_basis : (root : ℕ) → basis_now (committed_in moved) root ≡ basis_now (committed_in old) root
-  committed_basis root = by new.pages.committed new.pages.frozen committed_same (ap (λ (f : PagesFrame). f.frozen) looks.pages) where
-    by : (c f : PageMap) → c ≡ old.pages.committed → f ≡ old.pages.frozen
-        → record {
-          bigblocks = old.bigblocks;
-          append = old.append;
-          maps = record { committed = c; frozen = f; current = c };
-          roots = record old.roots { current = root };
-        } ≡ basis_now (committed_in old) root
-    by c f first second = rw (first, second) refl
-
-  payloads_same : (root : ℕ) (image : List ℕ) (d : Option Told) → IfSome d (λ t. HasSamePayloads (committed_in old) root t.bytes image)
-      → IfSome d (λ t. HasSamePayloads (committed_in moved) root t.bytes image)
-  payloads_same root image None same = same
-  payloads_same root image (Some t) same =
-      subst (λ (b : Basis). All (HasSameBytes t.bytes image) (map to_payload (elements_in b))) (sym (committed_basis root)) same
-
-  written_same : (root : ℕ) (image : List ℕ) → IsWritten (committed_in old) root image → IsWritten (committed_in moved) root image
-  written_same root image is = record {
-    layer1 = is.layer1;
-    pages = λ at page there. is.pages at page (subst (λ (m : PageMap). m at ≡ Some page) committed_same there);
-    bytes = λ at page there. is.bytes at page (subst (λ (m : PageMap). m at ≡ Some page) committed_same there);
-    past = λ block low none. is.past block low (subst (λ (m : PageMap). m (page_of block) ≡ None) committed_same none);
-    payloads = payloads_same root image old.disk is.payloads;
-  }
-
-  looked_written : (root : ℕ) (d : Option Told) → IfSome d (λ t. IsWritten (committed_in old) root t.bytes)
-      → IfSome d (λ t. IsWritten (committed_in moved) root t.bytes)
-  looked_written root None is = is
-  looked_written root (Some t) is = written_same root t.bytes is
-
-  -- and the disk has what it had of what was committed last
-  pub looked_backed : IsBacked old → IsBacked new
-  looked_backed is = subst IsBacked (sym looks.rest) (record {
-    tree = subst (λ (m : PageMap). IsTreeSpace (nodes m) old.roots.committed) (sym committed_same) is.tree;
-    pages = λ at there. is.pages at (subst (λ (m : PageMap). IsSome (m at)) committed_same there);
-    written = looked_written old.roots.committed old.disk is.written;
-  })

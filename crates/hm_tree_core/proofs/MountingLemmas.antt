@@ -1,6 +1,7 @@
 -- The space of a volume that was read.
-use Rattle.std.proofs.Common.{◌≡◌, ℕ, ◌≤◌, List, [], Option, Some, None, refl, sym, ap, subst, ◌∙◌, arith}
-use Rattle.std.specs.Prelude.{IfSome}
+use Rattle.std.proofs.Common.{◌≡◌, ℕ, ◌^◌, ◌≤◌, List, [], Option, Some, None, refl, sym, ap, subst, ◌∙◌, arith}
+use Rattle.std.specs.Prelude.{IfSome, IsSomeAnd, if◌then◌else◌}
+use Rattle.hm_types.specs.Elements.{FullElement}
 use Rattle.hm_types.specs.Faults.{IsCaused}
 use Rattle.hm_types.specs.Layout.{IsPool}
 use Rattle.hm_types.specs.declared.fault.Fault.{Fault}
@@ -14,16 +15,18 @@ use Rattle.hm_header.specs.OnDisk.{HasHeader}
 use Rattle.hm_header.specs.Range.{IsHeader}
 use Rattle.hm_header.specs.declared.header.Header.{Header}
 use Rattle.hm_freemap.specs.Faults.{IsBadBlock, IsFreemapDamage, IsGoodBlock}
-use Rattle.hm_freemap.specs.Stand.{HoldsPoolEntry, Maps, entry_page}
-use Rattle.hm_pages.specs.Store.{Store, in_state}
+use Rattle.hm_freemap.specs.Stand.{HoldsPoolEntry, Maps, entry_page, free_by}
+use Rattle.hm_pages.specs.Store.{Frame as PagesFrame, Store, in_state}
 use Rattle.hm_model.specs.Foreign.{Foreigners}
 use Rattle.hm_model.specs.Volume.{Volume}
 use Rattle.hm_model.specs.declared.entry.Entry.{Entry}
 use Rattle.hm_image.specs.Stands.{StandsFor}
 use Rattle.hm_load.specs.Held.{HoldsImage}
 use Rattle.hm_load.specs.Loaded.{IsLoaded}
+use Rattle.hm_stored.specs.Basis.{Basis, IsFirm, fulls_in}
 use Rattle.hm_stored.specs.Heap.{Heap, free_of, heap_of, maps_of, room_of}
 use Rattle.hm_stored.specs.Mounted.{IsBooksOf}
+use Rattle.hm_stored.specs.Standing.{HoldsBy, basis_now}
 use Rattle.hm_stored.specs.Turn.{IsClosed, LooksSame}
 use Rattle.hm_stored.specs.declared.books.Books.{Books}
 use Rattle.hm_state.specs.Volume.{HoldsVolume}
@@ -38,7 +41,8 @@ use Rattle.hm_tree_core.specs.Opened.{IsMounted}
 use Rattle.hm_tree_core.specs.State.{CoreState}
 use Rattle.hm_tree_core.proofs.BeginLemmas.{first}
 use Rattle.hm_tree_core.proofs.LedgerLemmas.{paid_first}
-use Rattle.hm_tree_core.proofs.LookedLemmas.{looked_backed, looked_closed, looked_free, looked_held}
+use Rattle.hm_tree_core.proofs.CommittedLemmas.{backed_same}
+use Rattle.hm_tree_core.proofs.LookedLemmas.{looked_closed, looked_committed, looked_free, looked_held}
 
 abbrev maps_with : PageMap → PageMap → PageMap → Maps
 maps_with committed frozen current = record { committed = committed; frozen = frozen; current = current }
@@ -60,8 +64,16 @@ module _ (header : Header) (s : Store) (books : Books) (loaded : IsLoaded header
       → IfSome told (λ t. HoldsImage t.bytes header s) → LooksSame (heap_of s told books) h → IfSome told (BacksWhatStands h)
   backed_told None h bytes counts image looks = tt
   backed_told (Some t) h bytes counts image looks = λ volume stands.
-      looked_backed (heap_of s (Some t) books) h looks
+      backed_same (heap_of s (Some t) books) h (looked_committed (heap_of s (Some t) books) h looks)
       (mounted_backed t header counts.0 s books volume stands counts.1 loaded image of_header (bytes Current))
+
+  bigblocks_read : (told : Option Told) (h : Heap) → LooksSame (heap_of s told books) h → header.bigblocks ≡ h.bigblocks
+  unfolding heap_of
+  bigblocks_read told h looks = sym of_header.bigblocks ∙ sym (ap (λ (x : Heap). x.bigblocks) looks.rest)
+
+  idle_read : (told : Option Told) (h : Heap) → LooksSame (heap_of s told books) h → h.pages.boundary ≡ None
+  unfolding heap_of
+  idle_read told h looks = ap (λ (f : PagesFrame). f.boundary) looks.pages ∙ loaded.plain.flush.1
 
   pub closed_first : (told : Option Told) → IsClosed (heap_of s told books)
   unfolding heap_of
@@ -86,6 +98,8 @@ module _ (header : Header) (s : Store) (books : Books) (loaded : IsLoaded header
         free_is = counted ∙ ap free_of is ∙ sym (looked_free (heap_of s told books) now same);
         holds = held_told told now counts image same;
         backed = backed_told told now bytes counts image same;
+        bigblocks = bigblocks_read told now same;
+        idle = idle_read told now same;
       }
 
   -- each big-block of its pool is good
@@ -129,11 +143,14 @@ module _ (header : Header) (s : Store) (books : Books) (loaded : IsLoaded header
 
 -- what always holds of a core, as it is mounted
 pub ordered_first : (told : Option Told) (header : Header) (slot free : ℕ) (h : Heap) → IsHeader header → slot ≤ 1
-    → IsReadFrom told header free h → IsInOrder header slot header.last.0 free h []
-ordered_first told header slot free h range low read = record {
+    → IfSome told (λ t. HasHeader t.bytes header slot) → IsReadFrom told header free h → IsInOrder header slot header.last.0 free h []
+ordered_first told header slot free h range low chosen read = record {
   header_is = range;
   slot_is = low;
+  on_disk = subst (λ (d : Option Told). IfSome d (λ t. HasHeader t.bytes header slot)) (sym read.disk) chosen;
+  bigblocks = read.bigblocks;
   closed = read.closed;
+  idle = read.idle;
   later = omega arith;
   greatest = range.last.1;
   paid = subst (λ (n : ℕ). IsPaid free n 0 (room_of h)) read.free_is (paid_first free (room_of h));
@@ -142,11 +159,11 @@ ordered_first told header slot free h range low read = record {
 -- a core over a space that was read, with no history
 module _ {D I O : Type 0} (core : CoreState D I O) (new : core.history ≡ []) (root : core.root ≡ core.header.root)
     (last : core.last ≡ core.header.last.0) (start : core.start ≡ core.faults) where
-  stands_over : (told : Option Told) → IfSome told (HoldsWhatStands core.heap core.header)
+  stands_over : (told : Option Told) → core.heap.disk ≡ told → IfSome told (BacksWhatStands core.heap) → IfSome told (HoldsWhatStands core.heap core.header)
       → IfSome told (λ t. (opening : Volume) (foreigners : Foreigners) → StandsFor t.bytes opening → IsClear opening
       → StandsOver core opening foreigners)
-  stands_over None holds = tt
-  stands_over (Some t) holds = λ opening foreigners stands clear.
+  stands_over None disk backed holds = tt
+  stands_over (Some t) disk backed holds = λ opening foreigners stands clear.
       let held : HoldsVolume core.heap core.root core.last opening =
       subst (λ (n : ℕ). HoldsVolume core.heap n core.last opening) (sym root)
       (subst (λ (n : ℕ). HoldsVolume core.heap core.header.root n opening) (sym last) (holds opening stands)) in
@@ -155,6 +172,8 @@ module _ {D I O : Type 0} (core : CoreState D I O) (new : core.history ≡ []) (
             (λ (l : List Entry). IsLegalOver core.free core.start core.faults l core.heap core.root core.last opening foreigners)
             (sym new)
             (first core.free core.start core.faults core.heap core.root core.last opening foreigners (omega (arith, start)) held clear);
+        backed = backed opening stands;
+        untouched = λ none. subst (λ (d : Option Told). IfSome d (λ t. StandsFor t.bytes opening)) (sym disk) stands;
       }
 
   pub is_mounted : (told : Option Told) (faults : ℕ) → faults ≤ core.faults
@@ -167,6 +186,6 @@ module _ {D I O : Type 0} (core : CoreState D I O) (new : core.history ≡ []) (
     last = last;
     free = read.free_is;
     counting = chosen;
-    stands = stands_over told read.holds;
+    stands = stands_over told read.disk read.backed read.holds;
     streams = (refl, refl);
   }

@@ -1,5 +1,5 @@
 -- What a volume is read from, and the space that comes of it.
-use Rattle.std.specs.Prelude.{◌≡◌, ℕ, Option, IfSome}
+use Rattle.std.specs.Prelude.{◌≡◌, ℕ, None, Option, IfSome}
 use Rattle.hm_disk.specs.Crash.{Told}
 use Rattle.hm_header.specs.OnDisk.{HasHeader}
 use Rattle.hm_header.specs.declared.header.Header.{Header}
@@ -30,3 +30,5 @@ pub record IsReadFrom (told : Option Told) (header : Header) (free : ℕ) (h : H
   pub free_is : free ≡ free_of h
   pub holds : IfSome told (HoldsWhatStands h header)
   pub backed : IfSome told (BacksWhatStands h)
+  pub bigblocks : header.bigblocks ≡ h.bigblocks
+  pub idle : h.pages.boundary ≡ None

@@ -1,6 +1,7 @@
 -- What comes of making a volume, and of opening one.
 use Rattle.std.specs.Prelude.{◌≡◌, ℕ, ◌*◌, ◌<◌, ◌≤◌, List, [], Option, IfErr, IfSome, Result, length}
 use Rattle.hm_types.specs.Faults.{IsCaused, IsUndamaged}
+use Rattle.hm_types.specs.declared.fault.Fault.{Fault}
 use Rattle.hm_types.specs.declared.fault.Fault.TheVariants.{Damaged, Media, NoMemory}
 use Rattle.hm_types.specs.declared.limits.TheConstants.{BIGBLOCK_BYTES}
 use Rattle.hm_disk.specs.Crash.{Told}

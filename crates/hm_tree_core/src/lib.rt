@@ -2,6 +2,7 @@
 //! keeps between them, as laws that its proof rests on, and one piece of a flush.
 #![tactic(auto)]
 
+mod asked;
 mod calls;
 mod ending;
 mod entries;

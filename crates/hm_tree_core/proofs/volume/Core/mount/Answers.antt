@@ -1,5 +1,7 @@
 use Rattle.std.proofs.Common.{◌≤◌, List, Option, refl, sym, subst, ap, ◌∙◌, arith}
+use Rattle.std.specs.Prelude.{IfSome}
 use Rattle.hm_disk.specs.Crash.{Told}
+use Rattle.hm_header.specs.OnDisk.{HasHeader}
 use Rattle.hm_model.specs.declared.entry.Entry.{Entry}
 use Rattle.hm_pages.specs.Store.{contents}
 use Rattle.hm_stored.specs.Heap.{heap_of}
@@ -20,7 +22,8 @@ invariant_of-result g c =
     (heap_of (contents s.pages.store) (g.D.Disk.told s.disk) s.books)) (sym c.over.ensures.space) c.in-Ok-open_space.ensures.ok in
     record {
       ordered = ∣ subst (λ (l : List Entry). IsInOrder header slot header.last.0 free h l) (sym c.new.ensures.items)
-          (ordered_first (g.D.Disk.told c.read_header.new.disk) header slot free h c.in-Ok.ensures.header.0 c.in-Ok.ensures.header.1 read) ∣₁;
+          (ordered_first (g.D.Disk.told c.read_header.new.disk) header slot free h c.in-Ok.ensures.header.0 c.in-Ok.ensures.header.1
+          (subst (λ (told : Option Told). IfSome told (λ t. HasHeader t.bytes header slot)) (sym c.read_header.ensures.same) c.in-Ok.ensures.chosen) read) ∣₁;
     }
 
 pub returns-in-Ok-open_space-clause-ok : goal.returns-in-Ok-open_space-clause-ok
