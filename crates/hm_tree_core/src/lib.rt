@@ -10,6 +10,8 @@ mod fault;
 mod laws;
 mod mounting;
 mod opening;
+#[cfg(test)]
+mod opening_tests;
 mod served;
 mod slots;
 mod space;
