@@ -18,3 +18,6 @@ pub mod AnswerLemmas
 pub mod StepLemmas
 pub mod LookedLemmas
 pub mod TellLemmas
+pub mod WriteLemmas
+pub mod ReadyLemmas
+pub mod FinishLemmas

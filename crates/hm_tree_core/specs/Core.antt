@@ -1,11 +1,13 @@
 -- What the calls of a core do.
-use Rattle.std.specs.Prelude.{◌≡◌, ℕ, ◌+◌, ◌≤◌, [], ◌∷◌, ◌++◌, length}
+use Rattle.std.specs.Prelude.{◌≡◌, ℕ, ◌+◌, ◌≤◌, [], ◌∷◌, ◌++◌, IfSome, length}
 use Rattle.hm_types.specs.declared.limits.TheConstants.{GREATEST_ID}
 use Rattle.hm_model.specs.After.{after}
 use Rattle.hm_model.specs.Foreign.{Foreigners}
 use Rattle.hm_model.specs.Volume.{Volume}
 use Rattle.hm_model.specs.declared.command.Command.{Command}
 use Rattle.hm_model.specs.declared.entry.Entry.{Entry}
+use Rattle.hm_image.specs.Stands.{StandsFor}
+use Rattle.hm_state.specs.Backed.{IsBacked}
 use Rattle.hm_tree_core.specs.History.{IsLegalOver}
 use Rattle.hm_tree_core.specs.State.{CoreState}
 use Rattle.hm_tree_core.specs.declared.step.Step.{Step}
@@ -13,9 +15,11 @@ use Rattle.hm_tree_core.specs.declared.step.Step.TheVariants.{Answered, Spent}
 
 module _ {D I O : Type 0} where
   -- A core stands for the volume on which its run began: its history is legal over it, and its space holds the volume after
-  -- that history.
+  -- that history. Its disk has all that was committed last, and as long as nothing was done it stands for that volume.
   pub record StandsOver (core : CoreState D I O) (opening : Volume) (foreigners : Foreigners) : Type 0 where
     pub legal : IsLegalOver core.free core.start core.faults core.history core.heap core.root core.last opening foreigners
+    pub backed : IsBacked core.heap
+    pub untouched : core.history ≡ [] → IfSome core.heap.disk (λ t. StandsFor t.bytes opening)
 
   -- the volume after its history
   abbrev pub volume_after : {core : CoreState D I O} {opening : Volume} {foreigners : Foreigners}

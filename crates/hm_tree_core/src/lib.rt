@@ -4,11 +4,15 @@
 
 mod calls;
 mod ending;
+#[cfg(test)]
+mod ending_tests;
 mod entries;
 mod fault;
 mod laws;
 mod mounting;
 mod opening;
+#[cfg(test)]
+mod opening_tests;
 mod served;
 mod slots;
 mod space;
@@ -18,6 +22,7 @@ mod steps;
 mod tests;
 mod volume;
 mod write;
+mod write_back;
 
 pub use calls::answer_over;
 pub use fault::OpenFault;
