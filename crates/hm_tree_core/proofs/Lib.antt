@@ -19,3 +19,6 @@ pub mod StepLemmas
 pub mod CommittedLemmas
 pub mod LookedLemmas
 pub mod TellLemmas
+pub mod WriteLemmas
+pub mod ReadyLemmas
+pub mod FinishLemmas

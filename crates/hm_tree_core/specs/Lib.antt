@@ -1,5 +1,5 @@
 pub mod Ledger
-pub mod Placed
+pub mod WrittenBack
 pub mod History
 pub mod Told
 pub mod Calls

@@ -5,6 +5,8 @@
 mod asked;
 mod calls;
 mod ending;
+#[cfg(test)]
+mod ending_tests;
 mod entries;
 mod fault;
 mod laws;
@@ -21,6 +23,7 @@ mod steps;
 mod tests;
 mod volume;
 mod write;
+mod write_back;
 
 pub use calls::answer_over;
 pub use fault::OpenFault;
