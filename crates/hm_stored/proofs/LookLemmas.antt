@@ -1,5 +1,5 @@
 -- A look at a space leaves what it holds.
-use Rattle.std.proofs.Common.{◌≡◌, Bool, true, ℕ, ◌^◌, Option, None, Some, Result, Ok, Err, refl, sym, ap, ◌∙◌, cond}
+use Rattle.std.proofs.Common.{◌≡◌, true, ℕ, ◌^◌, Option, Some, Result, Ok, Err, refl, sym, ap, ◌∙◌, cond}
 use Rattle.std.specs.Prelude.{IfOk}
 use Rattle.hm_types.specs.declared.fault.Fault.{Fault}
 use Rattle.hm_disk.specs.Crash.{Told}
@@ -8,13 +8,12 @@ use Rattle.hm_freemap.specs.Calls.{CountsFree}
 use Rattle.hm_freemap.specs.Places.{HasLayer2}
 use Rattle.hm_freemap.specs.Stand.{free_by}
 use Rattle.hm_pages.specs.Store.{Store, Frame as PagesFrame, frame_of as pages_frame, layer2}
-use Rattle.hm_stored.specs.Basis.{nodes}
-use Rattle.hm_stored.specs.Heap.{Heap, does_tell, free_of, heap_of, maps_of, pages_of}
+use Rattle.hm_stored.specs.Heap.{free_of, heap_of, maps_of}
 use Rattle.hm_stored.specs.Held.{IsKept}
 use Rattle.hm_stored.specs.Turn.{LooksSame}
 use Rattle.hm_stored.specs.declared.books.Books.{Books}
 use Rattle.hm_stored.proofs.AdmitLemmas.{kept_still}
-use Rattle.hm_stored.proofs.BasisLemmas.{SameBasis, content_same, tell_same}
+use Rattle.hm_stored.proofs.BasisLemmas.{SameBasis}
 use Rattle.hm_stored.proofs.TurnLemmas.{layer2_kept}
 
 -- a look that left the pages in each state
@@ -49,17 +48,3 @@ free_counted store disk books (Ok free) whole counts =
     let h = heap_of store disk books in
     counts.by_maps ∙ sym (ap (λ t. cond t (free_by h.bigblocks h.append (maps_of h)) (2 ^ 32)) whole)
 free_counted store disk books (Err fault) whole counts = tt
-
--- the nodes that it tells are those that it told
-pub look_pages : (old new : Heap) → LooksSame old new → pages_of new ≡ pages_of old
-look_pages old new looks =
-    let basis : SameBasis old new = record {
-      pages = looks.pages;
-      bigblocks = ap (λ (h : Heap). h.bigblocks) looks.rest;
-      begun = ap (λ (h : Heap). h.begun) looks.rest;
-      roots = ap (λ (h : Heap). h.roots) looks.rest;
-      last = ap (λ (h : Heap). h.last) looks.rest;
-    } in
-    let tells = tell_same old new (content_same old new basis (ap (λ (h : Heap). h.disk) looks.rest)) (ap (λ (h : Heap). h.whole) looks.rest) in
-    ap (λ (t : Bool). cond t (Some (nodes new.pages.current)) None) tells
-    ∙ ap (λ (pages : PageMap). cond (does_tell old) (Some (nodes pages)) None) looks.current

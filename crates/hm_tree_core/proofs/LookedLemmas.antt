@@ -8,6 +8,7 @@ use Rattle.hm_fields.specs.Pages.{PageMap}
 use Rattle.hm_pages.specs.Store.{Frame as PagesFrame}
 use Rattle.hm_freemap.specs.Stand.{Maps, free_by, is_handed_out, room_in}
 use Rattle.hm_model.specs.Foreign.{Foreigners}
+use Rattle.hm_model.specs.Legal.{state_after}
 use Rattle.hm_model.specs.Volume.{Volume}
 use Rattle.hm_model.specs.declared.entry.Entry.{Entry}
 use Rattle.hm_stored.specs.Basis.{Basis, IsFirm, fulls_in}
@@ -15,7 +16,9 @@ use Rattle.hm_stored.specs.Heap.{Heap, free_of, maps_of, room_of}
 use Rattle.hm_stored.specs.Standing.{Holds, HoldsBy, basis_now}
 use Rattle.hm_stored.specs.Turn.{IsClosed, LooksSame}
 use Rattle.hm_stored.specs.declared.roots.Roots.{Roots}
-use Rattle.hm_tree_core.specs.History.{HoldsState, IsLegalOver}
+use Rattle.hm_state.specs.Volume.{HoldsVolume}
+use Rattle.hm_tree_core.specs.History.{HoldsState, IsLegalOver, setting_of}
+use Rattle.hm_tree_core.proofs.CommittedLemmas.{SameCommitted}
 
 -- a space that holds something has its books in order
 pub held_firm : (h : Heap) (root : ℕ) (es : List FullElement) → Holds h root es → IsFirm (basis_now h root)
@@ -56,6 +59,13 @@ module _ (old new : Heap) (looks : LooksSame old new) where
       elements = ap (λ (b : Basis). fulls_in b t.bytes) (basis_same root) ∙ holds.elements;
     }
 
+  pub looked_held : (root last : ℕ) (volume : Volume) → HoldsVolume old root last volume → HoldsVolume new root last volume
+  looked_held root last volume is = record {
+    bigblocks = bigblocks_same ∙ is.bigblocks;
+    last_is = is.last_is;
+    elements = (is.elements.0, held_same root is.elements.0 is.elements.1, is.elements.2);
+  }
+
   pub looked_legal : (free start faults : ℕ) (history : List Entry) (root last : ℕ) (opening : Volume) (foreigners : Foreigners)
       → IsLegalOver free start faults history old root last opening foreigners → IsLegalOver free start faults history new root last opening foreigners
   looked_legal free start faults history root last opening foreigners is = record {
@@ -64,14 +74,19 @@ module _ (old new : Heap) (looks : LooksSame old new) where
     legal = is.legal;
     counted = is.counted;
     held = record {
-      holds = record {
-        bigblocks = bigblocks_same ∙ is.held.holds.bigblocks;
-        last_is = is.held.holds.last_is;
-        elements = (is.held.holds.elements.0, held_same root is.held.holds.elements.0 is.held.holds.elements.1, is.held.holds.elements.2);
-      };
+      holds = looked_held root last (state_after (setting_of free start faults opening foreigners) is.events).volume is.held.holds;
       clear = is.held.clear;
       opened = is.held.opened;
     };
+  }
+
+  pub looked_committed : SameCommitted old new
+  looked_committed = record {
+    bigblocks = bigblocks_same;
+    disk = disk_same;
+    committed = ap (λ (f : PagesFrame). f.committed) looks.pages;
+    boundary = ap (λ (f : PagesFrame). f.boundary) looks.pages;
+    root = ap (λ (h : Heap). h.roots.committed) looks.rest;
   }
 
   pub looked_closed : IsClosed old → IsClosed new

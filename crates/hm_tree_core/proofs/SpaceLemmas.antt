@@ -1,12 +1,12 @@
 -- A call that tells the space, as the next one of a history.
-use Rattle.std.proofs.Common.{◌≡◌, ℕ, ◌+◌, ◌-◌, ◌<◌, ◌≤◌, false, inl, List, [], ◌∷◌, ◌++◌, refl, sym, ap, subst, ◌∙◌, arith}
+use Rattle.std.proofs.Common.{◌≡◌, ℕ, ◌+◌, ◌-◌, ◌<◌, ◌≤◌, max, false, inl, inr, List, [], ◌∷◌, ◌++◌, refl, sym, ap, subst, ◌∙◌, arith}
 use Rattle.std.specs.Prelude.{None}
 use Rattle.std.specs.Bool.{nat_le}
 use Rattle.std.specs.List.{Contains}
 use Rattle.std.proofs.lemmas.Bool.Decides.{nat_tests}
 use Rattle.hm_types.specs.Layout.{first_pool}
 use Rattle.hm_types.specs.declared.limits.TheConstants.{GREATEST_ID}
-use Rattle.hm_model.specs.After.{Event, State, on_volume, opening_state}
+use Rattle.hm_model.specs.After.{Event, State, after_event, on_volume, opening_state}
 use Rattle.hm_model.specs.Call.{Call}
 use Rattle.hm_model.specs.Caused.{HasNumbers, IsCaused, Known, at_any_point, known_after, known_at, number_of}
 use Rattle.hm_model.specs.Due.{Check, refusal}
@@ -59,6 +59,7 @@ module _ (free start faults faults' : ℕ) (history : List Entry) (h : Heap) (ro
     pub allowed : IsReply (floor_after run so_far.events) (call_of (record some { call = Df; reply = reply })) reply
     pub lands : is_refusal reply ≡ false → NamesAdded (call_of (record some { call = Df; reply = reply })) reply
     pub undamaged : IsUndamaged reply
+    pub steps : after_event state (event_of (record some { call = Df; reply = reply })) ≡ on_volume state (record state.volume { last = max some.id.0 0 })
 
   module _ (some : Entry) (reply : Reply) (own_is : some.id.0 ≡ last + 1) (may : MayTell some reply) where
     abbrev entry : Entry
@@ -94,7 +95,7 @@ module _ (free start faults faults' : ℕ) (history : List Entry) (h : Heap) (ro
     after_is : state_after run (so_far.events ++ event ∷ []) ≡ on_volume state (after_call false (call_of entry))
     after_is =
         after_events-push (opening_state opening foreigners) so_far.events event
-        ∙ ap (λ (n : ℕ). on_volume state (record state.volume { last = n })) (omega (arith, own))
+        ∙ (may.steps ∙ ap (λ (n : ℕ). on_volume state (record state.volume { last = n })) (omega (arith, own)))
 
     stands : StandFor so_far.held.holds.elements.0 (state_after run (so_far.events ++ event ∷ [])).volume
     stands = subst (λ (s : State). StandFor so_far.held.holds.elements.0 s.volume) (sym after_is)
@@ -123,11 +124,12 @@ module _ (free start faults faults' : ℕ) (history : List Entry) (h : Heap) (ro
         allowed = inl (subst (λ (o : Check). IsDue (floor_after run so_far.events) call o (Space pool spare)) (sym none) is_space);
         lands = λ accepts. tt;
         undamaged = tt;
+        steps = refl;
       }
 
   -- or memory was refused
   refused_may : (some : Entry) → MayTell some NoMemory
-  refused_may some = record { possible = (3, omega arith, refl); numbers = tt; allowed = inr tt; lands = λ accepts. absurd (cc); undamaged = tt }
+  refused_may some = record { possible = (3, omega arith, refl); numbers = tt; allowed = inr tt; lands = λ accepts. absurd (cc); undamaged = tt; steps = refl }
 
   same_entry : (entry : Entry) (command : Command) (reply : Reply) → entry.call ≡ command → entry.reply ≡ reply
       → record entry { call = command; reply = reply } ≡ entry

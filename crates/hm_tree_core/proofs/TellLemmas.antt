@@ -1,5 +1,6 @@
 -- A call that tells the space is the next one of each history.
 use Rattle.std.proofs.Common.{◌≡◌, ℕ, ◌+◌, ◌-◌, ◌^◌, ◌≤◌, ◌<◌, Bool, true, List, [], ◌∷◌, ◌++◌, refl, sym, ap, subst, ◌∙◌, cond, count_by, length, arith}
+use Rattle.std.specs.Prelude.{IsSome}
 use Rattle.std.proofs.lemmas.List.FromFn.{length-range_with_len}
 use Rattle.std.proofs.lemmas.List.Sums.{count_by-le-length}
 use Rattle.hm_types.specs.Faults.{IsCaused}
@@ -19,17 +20,19 @@ use Rattle.hm_model.specs.declared.entry.Entry.{Entry}
 use Rattle.hm_model.specs.declared.reply.Reply.{Reply}
 use Rattle.hm_model.specs.declared.reply.Reply.TheVariants.{NoMemory, Space}
 use Rattle.hm_stored.specs.Basis.{IsFirm, states_of}
-use Rattle.hm_stored.specs.Heap.{Heap, free_of, maps_of, room_of}
+use Rattle.hm_stored.specs.Heap.{Heap, content_of, free_of, maps_of, room_of}
 use Rattle.hm_stored.specs.Standing.{basis_now}
 use Rattle.hm_stored.specs.Turn.{IsClosed, LooksSame}
-use Rattle.hm_tree_core.specs.Answer.{Answers}
+use Rattle.hm_tree_core.specs.Answer.{Answers, KeepsCommitted}
 use Rattle.hm_tree_core.specs.History.{IsLegalOver}
 use Rattle.hm_tree_core.specs.Ledger.{IsPaid}
 use Rattle.hm_tree_core.specs.Told.{reply_to}
-use Rattle.hm_tree_core.proofs.LookedLemmas.{held_firm, looked_closed, looked_free, looked_legal, looked_room}
+use Rattle.hm_tree_core.proofs.AnswerLemmas.{fault_silent}
+use Rattle.hm_tree_core.proofs.CommittedLemmas.{backed_same, kept_same}
+use Rattle.hm_tree_core.proofs.LookedLemmas.{held_firm, looked_closed, looked_committed, looked_free, looked_legal, looked_room}
 use Rattle.hm_tree_core.proofs.SpaceLemmas.{space_refused, space_told}
 
-module _ (old new : Heap) (root faults faults' : ℕ) (closed : IsClosed old) (looks : LooksSame old new) (same : faults' ≡ faults) where
+module _ (old new : Heap) (root root' faults faults' : ℕ) (closed : IsClosed old) (looks : LooksSame old new) (stays : root' ≡ root) (same : faults' ≡ faults) where
   counted : faults ≤ faults'
   counted = omega (arith, same)
 
@@ -65,28 +68,51 @@ module _ (old new : Heap) (root faults faults' : ℕ) (closed : IsClosed old) (l
       absurd (bad.bad (good_block old.bigblocks old.append (maps_of old) (states_of (basis_now old root)) firm.stand bad.block bad.looked))
   memory_alone no_memory bad caused firm = refl
 
+  kept : KeepsCommitted (IsSome (content_of old)) old new
+  kept = kept_same old new (looked_committed old new looks)
+
   module _ (last : ℕ) (left : last < GREATEST_ID) where
-    pub told_answers : (free : ℕ) → free ≡ free_of old
-        → Answers faults faults' last Df old new root root (Space (old.bigblocks - first_pool old.bigblocks) free)
-    told_answers free is = record {
+    -- what was legal before the look is so after it
+    there : (first start : ℕ) (history : List Entry) (opening : Volume) (foreigners : Foreigners)
+        → IsLegalOver first start faults' history old root (last + 1) opening foreigners
+        → IsLegalOver first start faults' history new root' (last + 1) opening foreigners
+    there first start history opening foreigners legal =
+        subst (λ (r : ℕ). IsLegalOver first start faults' history new r (last + 1) opening foreigners) (sym stays)
+        (looked_legal old new looks first start faults' history root (last + 1) opening foreigners legal)
+
+    pub told_answers : (space free : ℕ) → space ≡ old.bigblocks - first_pool old.bigblocks → free ≡ free_of old
+        → Answers faults faults' last Df old new root root' (Space space free)
+    told_answers space free pool_is is = record {
       closed = looked_closed old new looks closed;
       counted = counted;
+      silent = refl;
+      committed = record {
+        bigblocks = kept.bigblocks;
+        boundary = kept.boundary;
+        header = kept.header;
+        backed = λ held. backed_same old new (looked_committed old new looks);
+      };
       paid = paid_same;
       legal = λ first start history opening foreigners entry enough of so_far.
-          looked_legal old new looks first start faults' (history ++ entry ∷ []) root (last + 1) opening foreigners
-          (space_told first start faults faults' history old root last opening foreigners so_far counted left entry of.call_is of.own
-          (old.bigblocks - first_pool old.bigblocks, free, of.reply_is, refl, omega (arith, is, enough), omega (arith, is, free_most)));
+          there first start (history ++ entry ∷ []) opening foreigners (space_told first start faults faults' history old root last opening foreigners so_far counted left entry of.call_is of.own
+          (space, free, of.reply_is, pool_is, omega (arith, is, enough), omega (arith, is, pool_is, free_most)));
     }
 
     pub failed_answers : (fault : Fault) → IsFreemapDamage old.bigblocks old.append (IsPool old.bigblocks) (maps_of old) fault → IsCaused 0 0 fault
-        → Answers faults faults' last Df old new root root (reply_to fault)
+        → Answers faults faults' last Df old new root root' (reply_to fault)
     failed_answers fault bad caused = record {
       closed = looked_closed old new looks closed;
       counted = counted;
+      silent = fault_silent fault;
+      committed = record {
+        bigblocks = kept.bigblocks;
+        boundary = kept.boundary;
+        header = kept.header;
+        backed = λ held. backed_same old new (looked_committed old new looks);
+      };
       paid = paid_same;
       legal = λ first start history opening foreigners entry enough of so_far.
           let firm = held_firm old root so_far.held.holds.elements.0 so_far.held.holds.elements.1 in
-          looked_legal old new looks first start faults' (history ++ entry ∷ []) root (last + 1) opening foreigners
-          (space_refused first start faults faults' history old root last opening foreigners so_far counted left entry of.call_is of.own
+          there first start (history ++ entry ∷ []) opening foreigners (space_refused first start faults faults' history old root last opening foreigners so_far counted left entry of.call_is of.own
           (of.reply_is ∙ memory_alone fault bad caused firm));
     }
