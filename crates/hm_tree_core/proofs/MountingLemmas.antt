@@ -21,6 +21,7 @@ use Rattle.hm_model.specs.Foreign.{Foreigners}
 use Rattle.hm_model.specs.Volume.{Volume}
 use Rattle.hm_model.specs.declared.entry.Entry.{Entry}
 use Rattle.hm_image.specs.Stands.{StandsFor}
+use Rattle.hm_load.specs.Damage.{IsWhole}
 use Rattle.hm_load.specs.Held.{HoldsImage}
 use Rattle.hm_load.specs.Loaded.{IsLoaded}
 use Rattle.hm_stored.specs.Basis.{Basis, IsFirm, fulls_in}
@@ -86,6 +87,10 @@ module _ (header : Header) (s : Store) (books : Books) (loaded : IsLoaded header
   opened_is : (told disk : Option Told) (opened : Heap) → disk ≡ told → opened ≡ heap_of s disk books → opened ≡ heap_of s told books
   opened_is told disk opened same is = subst (λ (o : Option Told). opened ≡ heap_of s o books) same is
 
+  whole_told : (told : Option Told) → IfSome told (λ t. HoldsImage t.bytes header s) → IfSome told (λ t. IsWhole t.bytes header)
+  whole_told None image = tt
+  whole_told (Some t) image = image.whole
+
   pub read_from : (told disk : Option Told) (opened now : Heap) (free : ℕ) → ArePages s → IfSome told (IsHeaderOn header)
       → IfSome told (λ t. HoldsImage t.bytes header s) → disk ≡ told → opened ≡ heap_of s disk books → LooksSame opened now
       → free ≡ free_of opened → IsReadFrom told header free now
@@ -98,6 +103,7 @@ module _ (header : Header) (s : Store) (books : Books) (loaded : IsLoaded header
         free_is = counted ∙ ap free_of is ∙ sym (looked_free (heap_of s told books) now same);
         holds = held_told told now counts image same;
         backed = backed_told told now bytes counts image same;
+        whole = whole_told told image;
         bigblocks = bigblocks_read told now same;
         idle = idle_read told now same;
       }
@@ -186,6 +192,7 @@ module _ {D I O : Type 0} (core : CoreState D I O) (new : core.history ≡ []) (
     last = last;
     free = read.free_is;
     counting = chosen;
+    whole = read.whole;
     stands = stands_over told read.disk read.backed read.holds;
     streams = (refl, refl);
   }

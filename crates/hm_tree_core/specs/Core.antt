@@ -1,5 +1,5 @@
 -- What the calls of a core do.
-use Rattle.std.specs.Prelude.{◌≡◌, ℕ, ◌+◌, ◌≤◌, [], ◌∷◌, ◌++◌, IfSome, None, length}
+use Rattle.std.specs.Prelude.{◌≡◌, ℕ, ◌+◌, ◌<◌, ◌≤◌, [], ◌∷◌, ◌++◌, IfSome, None, length}
 use Rattle.hm_types.specs.declared.limits.TheConstants.{GREATEST_ID}
 use Rattle.hm_model.specs.After.{after}
 use Rattle.hm_model.specs.Foreign.{Foreigners}
@@ -40,9 +40,10 @@ module _ {D I O : Type 0} where
     pub input : new.input ≡ old.input
     pub output : new.output ≡ old.output
 
-  -- The history gained the entry of this call, by the next id, whose reply tells no boundary, and at most one place of the room
-  -- is taken.
+  -- An id was left. The history gained the entry of this call, by the next id, whose reply tells no boundary, and at most one
+  -- place of the room is taken.
   pub record Enters (old new : CoreState D I O) (lane line : ℕ) (command : Command) : Type 0 where
+    pub left : old.last < GREATEST_ID
     pub entry : Entry
     pub history : new.history ≡ old.history ++ entry ∷ []
     pub of_line : (entry.lane ≡ lane) × (entry.line ≡ line) × (entry.call ≡ command)

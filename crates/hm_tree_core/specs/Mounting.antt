@@ -4,6 +4,7 @@ use Rattle.hm_disk.specs.Crash.{Told}
 use Rattle.hm_header.specs.OnDisk.{HasHeader}
 use Rattle.hm_header.specs.declared.header.Header.{Header}
 use Rattle.hm_image.specs.Stands.{StandsFor}
+use Rattle.hm_load.specs.Damage.{IsWhole}
 use Rattle.hm_model.specs.Volume.{Volume}
 use Rattle.hm_state.specs.Backed.{IsBacked}
 use Rattle.hm_state.specs.Volume.{HoldsVolume}
@@ -30,5 +31,6 @@ pub record IsReadFrom (told : Option Told) (header : Header) (free : ℕ) (h : H
   pub free_is : free ≡ free_of h
   pub holds : IfSome told (HoldsWhatStands h header)
   pub backed : IfSome told (BacksWhatStands h)
+  pub whole : IfSome told (λ t. IsWhole t.bytes header)
   pub bigblocks : header.bigblocks ≡ h.bigblocks
   pub idle : h.pages.boundary ≡ None

@@ -9,7 +9,7 @@ use Rattle.hm_header.specs.OnDisk.{HasFault, HasHeader}
 use Rattle.hm_header.specs.declared.fault.HeaderFault.TheVariants.{BadField as bad_field, NotVolume as no_volume}
 use Rattle.hm_header.specs.declared.header.Header.{Header}
 use Rattle.hm_image.specs.Stands.{StandsFor}
-use Rattle.hm_load.specs.Damage.{IsDamage}
+use Rattle.hm_load.specs.Damage.{IsDamage, IsWhole}
 use Rattle.hm_model.specs.Foreign.{Foreigners}
 use Rattle.hm_model.specs.Volume.{Volume, fresh}
 use Rattle.hm_stored.specs.Heap.{free_of}
@@ -80,8 +80,8 @@ pub record IsMade (bigblocks : ℕ) (old new : Told) : Type 0 where
   pub room : IsTooSmall bigblocks old → ⊥
 
 module _ {D I O : Type 0} where
-  -- A core as it is mounted over a disk that told this, whose faults were counted so far: nothing has happened yet, and
-  -- whatever volume the disk stands for, in which all trees are certain, the core stands for it.
+  -- A core as it is mounted over a disk that told this, whose faults were counted so far: nothing has happened yet, nothing
+  -- below the header is damaged, and whatever volume the disk stands for, in which all trees are certain, the core stands for it.
   pub record IsMounted (old : Option Told) (faults : ℕ) (input : I) (output : O) (core : CoreState D I O) : Type 0 where
     pub history : core.history ≡ []
     pub told : core.heap.disk ≡ old
@@ -89,6 +89,7 @@ module _ {D I O : Type 0} where
     pub last : core.last ≡ core.header.last.0
     pub free : core.free ≡ free_of core.heap
     pub counting : IfSome old (λ t. HasHeader t.bytes core.header core.slot)
+    pub whole : IfSome old (λ t. IsWhole t.bytes core.header)
     pub stands : IfSome old (λ t. (opening : Volume) (foreigners : Foreigners) → StandsFor t.bytes opening → IsClear opening
         → StandsOver core opening foreigners)
     pub streams : (core.input ≡ input) × (core.output ≡ output)

@@ -1,6 +1,7 @@
 -- A call is answered and entered.
 use Rattle.std.proofs.Common.{List, ◌+◌, refl, sym, subst, ◌∙◌, arith}
-use Rattle.std.proofs.Math.Logic.{∥∥₁_map}
+use Rattle.std.proofs.Math.Logic.{∥∥₁_elim, ∥∥₁_map}
+use Rattle.std.proofs.Props.{props}
 use Rattle.hm_model.specs.declared.entry.Entry.{Entry}
 use Rattle.hm_pages.specs.Store.{contents}
 use Rattle.hm_stored.specs.Heap.{heap_of}
@@ -36,6 +37,7 @@ returns g c =
       steps = (
         omega (arith, c.len-place.ensures, s.history.ok),
         record {
+          left = ∥∥₁_elim s.ordered (hlevel props) (λ o. let greatest = o.greatest in omega (arith, greatest));
           entry = entry;
           history = c.push_reserved.ensures.items;
           of_line = (refl, refl, refl);
