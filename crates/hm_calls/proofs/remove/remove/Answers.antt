@@ -1,7 +1,6 @@
-use Rattle.std.proofs.Common.{◌≡◌, ◌∙◌, List, Some, None, Err, ap, refl, subst, sym, arith}
+use Rattle.std.proofs.Common.{◌≡◌, ◌∙◌, None, Err, ap, refl, subst, sym, arith}
 use Rattle.std.proofs.lemmas.Result.{err_from_is_err_and}
 use Rattle.hm_path.specs.Path.{IsPath}
-use Rattle.hm_path.specs.declared.part.Part.{Part}
 use Rattle.hm_model.specs.Due.{is_dir_or_link, no_future, has_id}
 use Rattle.hm_model.specs.Sites.{Parts, TakesName}
 use Rattle.hm_model.specs.View.{object_at}

@@ -1,4 +1,4 @@
-use Rattle.std.proofs.Common.{◌≡◌, ◌∙◌, List, Some, None, Err, ap, length, refl, subst, sym, arith}
+use Rattle.std.proofs.Common.{◌≡◌, ◌∙◌, None, Err, ap, length, refl, subst, sym, arith}
 use Rattle.std.proofs.lemmas.Result.{err_from_is_err_and}
 use Rattle.std.specs.Bool.{nat_lt}
 use Rattle.hm_types.specs.Tree.{FileTree, entries_in}
@@ -6,7 +6,6 @@ use Rattle.hm_cursor.specs.Told.{fulls}
 use Rattle.hm_records.specs.KeysFit.{KeysFit}
 use Rattle.hm_records.specs.View.{IsViewOf}
 use Rattle.hm_path.specs.Path.{IsPath}
-use Rattle.hm_path.specs.declared.part.Part.{Part}
 use Rattle.hm_model.specs.Due.{is_dir, no_future, refuse_if, has_id}
 use Rattle.hm_model.specs.Sites.{Parts, TakesName}
 use Rattle.hm_model.specs.View.{object_at}
