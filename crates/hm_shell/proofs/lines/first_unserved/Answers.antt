@@ -1,4 +1,4 @@
-use Rattle.std.proofs.Common.{All, List, Some, None, subst, sym, ◌∙◌}
+use Rattle.std.proofs.Common.{All, List, subst}
 use Rattle.std.proofs.lemmas.List.{take_all}
 use Rattle.hm_model.specs.declared.line.Line.{Line}
 use Rattle.hm_model.specs.Out.{lines_in}

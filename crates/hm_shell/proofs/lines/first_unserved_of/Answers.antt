@@ -1,4 +1,4 @@
-use Rattle.std.proofs.Common.{All, arith, subst, sym, ◌∙◌}
+use Rattle.std.proofs.Common.{All, subst, sym, ◌∙◌}
 use Rattle.std.proofs.lemmas.Bool.{false≢true}
 use Rattle.std.proofs.lemmas.List.{take_all}
 use Rattle.hm_shell.specs.Lines.{IsServable}

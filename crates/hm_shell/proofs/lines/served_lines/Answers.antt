@@ -1,5 +1,4 @@
-use Rattle.std.proofs.Common.{List, subst, sym}
-use Rattle.hm_model.specs.declared.line.Line.{Line}
+use Rattle.std.proofs.Common.{subst, sym}
 use Rattle.hm_shell.specs.Lines.{AreServedLines}
 use Rattle.hm_shell.proofs.LinesLemmas.{served_from, unserved_from}
 use Rattle.hm_shell.proofs.lines.served_lines.Goals as goal
