@@ -103,7 +103,10 @@ mod tests {
             (b"".as_slice(), ""),
             (b"\n# a remark\n", ""),
             (b"ls /\n\ntouch /a\ndf", "1 3 4 "),
-            (b"write /a 0 00\nfill /a 1 2 03\ntruncate /a 9\ncat /a 0 9\n", "1 2 3 4 "),
+            (
+                b"write /a 0 00\nfill /a 1 2 03\ntruncate /a 9\ncat /a 0 9\n",
+                "1 2 3 4 ",
+            ),
             (b"ls /\nsync\n", "bad 2"),
             (b"progress\n", "bad 1"),
             (b"ls /\n1: ls /\n", "bad 2"),
