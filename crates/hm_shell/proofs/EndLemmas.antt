@@ -19,7 +19,10 @@ abbrev pub HasEnded : List (List ℕ) → Sight → Sight → ℕ → Type 0
 HasEnded words old new status = ((status ≡ 0) × Completes words old new) ⊎ StopsWith words status old new
 
 -- from what was done, and the last line
-pub HasEnded-from : (words : List (List ℕ)) (old mid new : Sight) (outcome : Result (Unit {0}) Stop) (status : ℕ) → OnOk outcome (Completes words old mid) → IfErr outcome (Stops words old mid) → OnOk outcome ((status ≡ 0) × (new.out.told ≡ mid.out.told)) → IfErr outcome (λ stop. (status ≡ status_of stop) × Prints [] (last_line stop) mid.out new.out) → new.disk ≡ mid.disk → new.script ≡ mid.script → HasEnded words old new status
+pub HasEnded-from : (words : List (List ℕ)) (old mid new : Sight) (outcome : Result (Unit {0}) Stop) (status : ℕ) → OnOk outcome (Completes words old mid)
+    → IfErr outcome (Stops words old mid) → OnOk outcome ((status ≡ 0) × (new.out.told ≡ mid.out.told))
+    → IfErr outcome (λ stop. (status ≡ status_of stop) × Prints [] (last_line stop) mid.out new.out) → new.disk ≡ mid.disk → new.script ≡ mid.script
+    → HasEnded words old new status
 HasEnded-from words old mid new (Ok done) status completes stops ended line disk script =
     inl (
       ended.0,
@@ -65,7 +68,8 @@ no_usage (of_disk (damage at kind)) is = absurd (cc)
 no_usage (of_disk no_memory) is = absurd (cc)
 
 -- the words of a run that stopped elsewhere keep the rule
-plan_or_usage : (words : List (List ℕ)) (old new : Sight) (stop : Stop) → Stops words old new stop → (IsUsageFault words × (stop ≡ Usage)) ⊎ (HasPlan words × (status_of stop ≢ 2))
+plan_or_usage : (words : List (List ℕ)) (old new : Sight) (stop : Stop) → Stops words old new stop
+    → (IsUsageFault words × (stop ≡ Usage)) ⊎ (HasPlan words × (status_of stop ≢ 2))
 plan_or_usage words old new stop (inr later) =
     inr ((later.prepared.volume, later.newfs, later.prepared.plan), λ is. none stop is later)
   where

@@ -81,7 +81,8 @@ served_after (t ∷ ts) more good = served_after ts more good.1
 
 no_bad : (script : List ℕ) (number : ℕ) → IsGoodScript script → IsFirstBad script number → ⊥
 no_bad script number good bad =
-    let all : AllByRecursion IsServedText (bad.before ++ bad.bad ∷ bad.rest) = subst (AllByRecursion IsServedText) bad.texts (recursion_from_All IsServedText (texts_of script) good) in
+    let all : AllByRecursion IsServedText (bad.before ++ bad.bad ∷ bad.rest) =
+    subst (AllByRecursion IsServedText) bad.texts (recursion_from_All IsServedText (texts_of script) good) in
     bad.outside (served_after bad.before (bad.bad ∷ bad.rest) all).0
 
 -- a header that counts leaves no fault, and what is whole no damage
@@ -107,7 +108,8 @@ wider : (status : ℕ) → Contains (0 ∷ 4 ∷ 5 ∷ 6 ∷ 7 ∷ []) status �
 wider status has = Contains-append_left (0 ∷ 4 ∷ 5 ∷ 6 ∷ 7 ∷ []) (10 ∷ []) status has
 
 -- a status that comes anyway
-any_disk : (newfs : Option ℕ) (t : Told) (status : ℕ) → Contains (3 ∷ 4 ∷ 5 ∷ 7 ∷ []) status → Contains (0 ∷ 4 ∷ 5 ∷ 6 ∷ 7 ∷ []) status → Contains (10 ∷ 4 ∷ 5 ∷ 7 ∷ []) status → DiskBrings newfs t status
+any_disk : (newfs : Option ℕ) (t : Told) (status : ℕ) → Contains (3 ∷ 4 ∷ 5 ∷ 7 ∷ []) status → Contains (0 ∷ 4 ∷ 5 ∷ 6 ∷ 7 ∷ []) status
+    → Contains (10 ∷ 4 ∷ 5 ∷ 7 ∷ []) status → DiskBrings newfs t status
 any_disk None t status three whole ten = record { none = λ _ _. three; damaged = λ _ _ _. ten; stands = λ _ _ _. whole; headed = λ _ _ _. wider status whole }
 any_disk (Some size) t status three whole ten = record { small = λ _. three; made = λ _. whole }
 
@@ -121,7 +123,8 @@ seven_anyway : (newfs : Option ℕ) (o : Option Told) → IfSome o (λ t. DiskBr
 seven_anyway newfs o = told_gives o (λ t. DiskBrings newfs t 7) (λ t _. any_disk newfs t 7 (3, lit< tt, refl) (4, lit< tt, refl) (3, lit< tt, refl))
 
 -- with a volume that was opened
-opened_brings : (newfs : Option ℕ) (disk opened : Option Told) (status : ℕ) → OpensOn newfs disk opened → Contains (0 ∷ 4 ∷ 5 ∷ 6 ∷ 7 ∷ []) status → IfSome disk (λ t. DiskBrings newfs t status)
+opened_brings : (newfs : Option ℕ) (disk opened : Option Told) (status : ℕ) → OpensOn newfs disk opened → Contains (0 ∷ 4 ∷ 5 ∷ 6 ∷ 7 ∷ []) status
+    → IfSome disk (λ t. DiskBrings newfs t status)
 opened_brings None disk opened status opens has = each_gives disk (λ t. HasWhole t.bytes) (λ t. OldBrings t status) (λ t whole. record {
   none = λ fault is. absurd (headed_has_none t.bytes whole.header whole.slot fault whole.counts is);
   damaged = λ at kind is. absurd (whole_has_none t.bytes at kind whole is);
@@ -134,7 +137,8 @@ opened_brings (Some size) disk opened status opens has = both_gives disk opened 
 }) opens
 
 -- with a volume that was damaged as it was written back, and so was none
-damaged_brings : (newfs : Option ℕ) (disk opened : Option Told) → OpensOn newfs disk opened → IfSome opened StandsForNone → IfSome disk (λ t. DiskBrings newfs t 10)
+damaged_brings : (newfs : Option ℕ) (disk opened : Option Told) → OpensOn newfs disk opened → IfSome opened StandsForNone
+    → IfSome disk (λ t. DiskBrings newfs t 10)
 damaged_brings None None opened opens none = tt
 damaged_brings None (Some t) opened opens none =
     let stood : StandsForNone t = rw opens.0 at none in record {
@@ -178,7 +182,8 @@ unmounted_brings (Some t) new (of_disk (media before after)) not = any_disk None
 unmounted_brings (Some t) new (of_disk no_memory) not = any_disk None t 7 (3, lit< tt, refl) (4, lit< tt, refl) (3, lit< tt, refl)
 
 -- with one on which none was made
-unmade_brings : (size : ℕ) (old new : Option Told) (fault : OpenFault) → IsNotMade size old new fault → IfSome old (λ t. NewBrings size t (status_of (of_open fault)))
+unmade_brings : (size : ℕ) (old new : Option Told) (fault : OpenFault) → IsNotMade size old new fault
+    → IfSome old (λ t. NewBrings size t (status_of (of_open fault)))
 unmade_brings size old new no_volume not = absurd not
 unmade_brings size old new (bad_field place) not = each_gives old (IsTooSmall size) (λ t. NewBrings size t 3) (small_brings size) not.2
 unmade_brings size old new (of_disk (media before after)) not = four_anyway (Some size) old
@@ -186,7 +191,8 @@ unmade_brings size old new (of_disk (damage at kind)) not = absurd not
 unmade_brings size old new (of_disk no_memory) not = absurd not
 
 -- with one on which a volume was made, and not opened
-unopened_brings : (size : ℕ) (old new : Option Told) (fault : OpenFault) → BothTell old new (λ s t. IsMade size s t × IsFailure fault) → IfSome old (λ t. NewBrings size t (status_of (of_open fault)))
+unopened_brings : (size : ℕ) (old new : Option Told) (fault : OpenFault) → BothTell old new (λ s t. IsMade size s t × IsFailure fault)
+    → IfSome old (λ t. NewBrings size t (status_of (of_open fault)))
 unopened_brings size old new no_volume made =
     both_gives old new (λ s t. IsMade size s t × IsFailure no_volume) (λ t. NewBrings size t 3) (λ s t made. absurd made.1) made
 unopened_brings size old new (bad_field place) made =
@@ -196,7 +202,8 @@ unopened_brings size old new (of_disk (damage at kind)) made =
     both_gives old new (λ s t. IsMade size s t × IsFailure (of_disk (damage at kind))) (λ t. NewBrings size t 10) (λ s t made. absurd made.1) made
 unopened_brings size old new (of_disk no_memory) made = seven_anyway (Some size) old
 
-not_opened_brings : (newfs : Option ℕ) (old new : Option Told) (fault : OpenFault) → IsUnopened newfs old new fault → IfSome old (λ t. DiskBrings newfs t (status_of (of_open fault)))
+not_opened_brings : (newfs : Option ℕ) (old new : Option Told) (fault : OpenFault) → IsUnopened newfs old new fault
+    → IfSome old (λ t. DiskBrings newfs t (status_of (of_open fault)))
 not_opened_brings None old new fault not = unmounted_brings old new fault not
 not_opened_brings (Some size) old new fault (inl not) = unmade_brings size old new fault not
 not_opened_brings (Some size) old new fault (inr made) = unopened_brings size old new fault made
@@ -213,9 +220,11 @@ open_status (of_disk no_memory) = (5, lit< tt, refl)
 
 opening_brings : (newfs : Option ℕ) (old new : Seen Told) (stop : Stop) → StoppedOpening newfs old new stop → MayCome newfs old.told (status_of stop)
 opening_brings newfs old new stop stopped =
-    subst (λ s. MayCome newfs old.told (status_of s)) (sym stopped.stop_is) (open_status stopped.fault, not_opened_brings newfs old.told new.told stopped.fault stopped.unopened)
+    subst (λ s. MayCome newfs old.told (status_of s)) (sym stopped.stop_is)
+    (open_status stopped.fault, not_opened_brings newfs old.told new.told stopped.fault stopped.unopened)
 
-using_brings : (newfs : Option ℕ) (lines : List Line) (old_disk new_disk : Seen Told) (old_out new_out : Seen (List ℕ)) (stop : Stop) → StoppedUsing newfs lines old_disk new_disk old_out new_out stop → MayCome newfs old_disk.told (status_of stop)
+using_brings : (newfs : Option ℕ) (lines : List Line) (old_disk new_disk : Seen Told) (old_out new_out : Seen (List ℕ)) (stop : Stop)
+    → StoppedUsing newfs lines old_disk new_disk old_out new_out stop → MayCome newfs old_disk.told (status_of stop)
 using_brings newfs lines old_disk new_disk old_out new_out OutFault using =
     ((4, lit< tt, refl), opened_brings newfs old_disk.told using.opened 6 using.opens (3, lit< tt, refl))
 using_brings newfs lines old_disk new_disk old_out new_out NoMemory using = ((5, lit< tt, refl), seven_anyway newfs old_disk.told)
@@ -225,30 +234,39 @@ using_brings newfs lines old_disk new_disk old_out new_out (Damaged at kind) usi
   | inr writing ↦ ((6, lit< tt, refl), damaged_brings newfs old_disk.told using.opened using.opens writing.cause)
 ]
 using_brings newfs lines old_disk new_disk old_out new_out Usage using = elim using.stops [ inl line ↦ absurd line.cause | inr writing ↦ absurd writing.cause ]
-using_brings newfs lines old_disk new_disk old_out new_out NotVolume using = elim using.stops [ inl line ↦ absurd line.cause | inr writing ↦ absurd writing.cause ]
-using_brings newfs lines old_disk new_disk old_out new_out (BadField place) using = elim using.stops [ inl line ↦ absurd line.cause | inr writing ↦ absurd writing.cause ]
-using_brings newfs lines old_disk new_disk old_out new_out (ScriptFault b a) using = elim using.stops [ inl line ↦ absurd line.cause | inr writing ↦ absurd writing.cause ]
-using_brings newfs lines old_disk new_disk old_out new_out (BadLine number) using = elim using.stops [ inl line ↦ absurd line.cause | inr writing ↦ absurd writing.cause ]
-using_brings newfs lines old_disk new_disk old_out new_out TooLong using = elim using.stops [ inl line ↦ absurd line.cause | inr writing ↦ absurd writing.cause ]
+using_brings newfs lines old_disk new_disk old_out new_out NotVolume using =
+    elim using.stops [ inl line ↦ absurd line.cause | inr writing ↦ absurd writing.cause ]
+using_brings newfs lines old_disk new_disk old_out new_out (BadField place) using =
+    elim using.stops [ inl line ↦ absurd line.cause | inr writing ↦ absurd writing.cause ]
+using_brings newfs lines old_disk new_disk old_out new_out (ScriptFault b a) using =
+    elim using.stops [ inl line ↦ absurd line.cause | inr writing ↦ absurd writing.cause ]
+using_brings newfs lines old_disk new_disk old_out new_out (BadLine number) using =
+    elim using.stops [ inl line ↦ absurd line.cause | inr writing ↦ absurd writing.cause ]
+using_brings newfs lines old_disk new_disk old_out new_out TooLong using =
+    elim using.stops [ inl line ↦ absurd line.cause | inr writing ↦ absurd writing.cause ]
 
-running_brings : (newfs : Option ℕ) (lines : List Line) (old_disk new_disk : Seen Told) (old_out new_out : Seen (List ℕ)) (stop : Stop) → StoppedRunning newfs lines old_disk new_disk old_out new_out stop → MayCome newfs old_disk.told (status_of stop)
+running_brings : (newfs : Option ℕ) (lines : List Line) (old_disk new_disk : Seen Told) (old_out new_out : Seen (List ℕ)) (stop : Stop)
+    → StoppedRunning newfs lines old_disk new_disk old_out new_out stop → MayCome newfs old_disk.told (status_of stop)
 running_brings newfs lines old_disk new_disk old_out new_out stop (inl opening) = opening_brings newfs old_disk new_disk stop opening.0
 running_brings newfs lines old_disk new_disk old_out new_out stop (inr using) = using_brings newfs lines old_disk new_disk old_out new_out stop using
 
 -- a script that was found good
-good_brings : (words : List (List ℕ)) (old : Sight) (new_script : Seen (List ℕ)) (newfs : Option ℕ) (lines : List Line) (status : ℕ) → IsPrepared words newfs lines old.script new_script → MayCome newfs old.disk.told status → Brings words old status
+good_brings : (words : List (List ℕ)) (old : Sight) (new_script : Seen (List ℕ)) (newfs : Option ℕ) (lines : List Line) (status : ℕ)
+    → IsPrepared words newfs lines old.script new_script → MayCome newfs old.disk.told status → Brings words old status
 good_brings words old new_script newfs lines status prepared may plan = (
   prepared.volume,
   newfs,
   prepared.plan,
-  told_gives old.script.told (λ bytes. ScriptBrings newfs old.disk.told bytes status) (λ bytes is. subst (λ b. ScriptBrings newfs old.disk.told b status) (sym (same_script old.script new_script prepared.script bytes prepared.read is)) (record {
-    too_long = λ long. absurd (short_enough old.script new_script prepared.script prepared.read long);
-    bad = λ number _ bad. absurd (no_bad prepared.script number prepared.good bad);
-    good = λ _ _. may;
-  })),
+  told_gives old.script.told (λ bytes. ScriptBrings newfs old.disk.told bytes status)
+      (λ bytes is. subst (λ b. ScriptBrings newfs old.disk.told b status) (sym (same_script old.script new_script prepared.script bytes prepared.read is)) (record {
+        too_long = λ long. absurd (short_enough old.script new_script prepared.script prepared.read long);
+        bad = λ number _ bad. absurd (no_bad prepared.script number prepared.good bad);
+        good = λ _ _. may;
+      })),
 )
 
-preparing_brings : (words : List (List ℕ)) (old : Sight) (new : Seen (List ℕ)) (stop : Stop) → StoppedPreparing words old.script new stop → Brings words old (status_of stop)
+preparing_brings : (words : List (List ℕ)) (old : Sight) (new : Seen (List ℕ)) (stop : Stop) → StoppedPreparing words old.script new stop
+    → Brings words old (status_of stop)
 preparing_brings words old new Usage stopped plan = absurd (stopped.0 plan.0 plan.1 plan.2)
 preparing_brings words old new (ScriptFault before after) stopped plan = (
   plan.0,
@@ -302,11 +320,13 @@ preparing_brings words old new OutFault stopped plan = absurd stopped
 stops_bring : (words : List (List ℕ)) (old new : Sight) (stop : Stop) → Stops words old new stop → Brings words old (status_of stop)
 stops_bring words old new stop (inl before) = preparing_brings words old new.script stop before.0
 stops_bring words old new stop (inr later) =
-    good_brings words old new.script later.newfs later.lines (status_of stop) later.prepared (running_brings later.newfs later.lines old.disk new.disk old.out new.out stop later.stopped)
+    good_brings words old new.script later.newfs later.lines (status_of stop) later.prepared
+    (running_brings later.newfs later.lines old.disk new.disk old.out new.out stop later.stopped)
 
 -- what a run brings, however it ended
 pub Brings-ended : (words : List (List ℕ)) (old new : Sight) (status : ℕ) → HasEnded words old new status → Brings words old status
 Brings-ended words old new status (inl done) =
-    subst (Brings words old) (sym done.0) (good_brings words old new.script done.1.newfs done.1.lines 0 done.1.prepared ((0, lit< tt, refl), opened_brings done.1.newfs old.disk.told done.1.runs.opened 0 done.1.runs.opens (0, lit< tt, refl)))
+    subst (Brings words old) (sym done.0) (good_brings words old new.script done.1.newfs done.1.lines 0 done.1.prepared
+    ((0, lit< tt, refl), opened_brings done.1.newfs old.disk.told done.1.runs.opened 0 done.1.runs.opens (0, lit< tt, refl)))
 Brings-ended words old new status (inr stopped) =
     subst (Brings words old) (sym stopped.1) (stops_bring words old (record new { out = stopped.2.out }) stopped.0 stopped.2.stops)

@@ -87,7 +87,8 @@ served_single command (inl is) = on_trees_single command is
 served_single command (inr is) = subst IsSingle (sym is) (record { calls = λ e. absurd (cc); ends_at_once = refl; begins = refl })
 
 -- the texts of lines that are served
-served_texts : (number : ℕ) (texts : List (List ℕ)) (lines : List (Option Line)) → ReadEach number texts lines → AllByRecursion IsServable (somes lines) → AllByRecursion IsServedText texts
+served_texts : (number : ℕ) (texts : List (List ℕ)) (lines : List (Option Line)) → ReadEach number texts lines → AllByRecursion IsServable (somes lines)
+    → AllByRecursion IsServedText texts
 served_texts number [] [] read each = tt
 served_texts number [] (line ∷ lines) read each = absurd read
 served_texts number (text ∷ texts) [] read each = absurd read
@@ -96,7 +97,8 @@ served_texts number (text ∷ texts) (Some line ∷ lines) read each =
     (inr (line.command, subst (λ n. Gives text n line.command) each.0.lane read.0.2, each.0.served), served_texts (number + 1) texts lines read.1 each.1)
 
 -- lines of a script that are served
-served_each : (number : ℕ) (texts : List (List ℕ)) (lines : List (Option Line)) → ReadEach number texts lines → AllByRecursion IsServable (somes lines) → AllByRecursion IsServedLine (somes lines)
+served_each : (number : ℕ) (texts : List (List ℕ)) (lines : List (Option Line)) → ReadEach number texts lines → AllByRecursion IsServable (somes lines)
+    → AllByRecursion IsServedLine (somes lines)
 served_each number [] [] read each = tt
 served_each number [] (line ∷ lines) read each = absurd read
 served_each number (text ∷ texts) [] read each = absurd read
@@ -124,7 +126,8 @@ unfolding Rise
 numbers_rise number [] [] read = tt
 numbers_rise number [] (line ∷ lines) read = absurd read
 numbers_rise number (text ∷ texts) [] read = absurd read
-numbers_rise number (text ∷ texts) (None ∷ lines) read = lower_bound number (number + 1) (somes lines) (omega arith) (numbers_rise (number + 1) texts lines read.1)
+numbers_rise number (text ∷ texts) (None ∷ lines) read =
+    lower_bound number (number + 1) (somes lines) (omega arith) (numbers_rise (number + 1) texts lines read.1)
 numbers_rise number (text ∷ texts) (Some line ∷ lines) read =
     (omega (arith, read.0.1), rw read.0.1 (numbers_rise (number + 1) texts lines read.1))
 
@@ -144,7 +147,8 @@ first_or_later x xs y has = elim (Contains-append_cases (x ∷ []) xs y has) [
   by_index zero below at = at
   by_index (suc k) below at = absurd (omega (arith, below))
 
-rising : (bound : ℕ) (before rest : List Line) (line earlier : Line) → Rise bound (before ++ line ∷ rest) → Contains before earlier → earlier.number < line.number
+rising : (bound : ℕ) (before rest : List Line) (line earlier : Line) → Rise bound (before ++ line ∷ rest) → Contains before earlier
+    → earlier.number < line.number
 unfolding Rise
 rising bound [] rest line earlier rise has = (let lt = has.1 in absurd (omega (arith, lt)))
 rising bound (b ∷ before) rest line earlier rise has = elim (first_or_later b before earlier has) [
@@ -157,7 +161,8 @@ are_rising number texts lines read before rest line earlier split has =
     rising number before rest line earlier (subst (Rise number) split (numbers_rise number texts lines read)) has
 
 -- a script whose lines are all served
-pub served_from : (script : List ℕ) (blocks : List (List Line)) → IsScriptOf script blocks → All IsServable (lines_in blocks) → AreServedLines script (lines_in blocks)
+pub served_from : (script : List ℕ) (blocks : List (List Line)) → IsScriptOf script blocks → All IsServable (lines_in blocks)
+    → AreServedLines script (lines_in blocks)
 served_from script blocks is each =
     let same : lines_in blocks ≡ somes is.lines = ap lines_in is.blocks_are ∙ lines_in_blocks is.lines in
     let all : AllByRecursion IsServable (somes is.lines) = subst (AllByRecursion IsServable) same (recursion_from_All IsServable (lines_in blocks) each) in
@@ -185,7 +190,8 @@ record FirstBad (number : ℕ) (texts : List (List ℕ)) (place : ℕ) : Type 0 
   outside : IsServedText bad → ⊥
   place_is : place ≡ length before + number
 
-bad_with : (number : ℕ) (text : List ℕ) (texts : List (List ℕ)) (place : ℕ) → IsServedText text → FirstBad (number + 1) texts place → FirstBad number (text ∷ texts) place
+bad_with : (number : ℕ) (text : List ℕ) (texts : List (List ℕ)) (place : ℕ) → IsServedText text → FirstBad (number + 1) texts place
+    → FirstBad number (text ∷ texts) place
 bad_with number text texts place good bad = record {
   before = text ∷ bad.before;
   bad = bad.bad;
@@ -196,7 +202,9 @@ bad_with number text texts place good bad = record {
   place_is = omega (arith, bad.place_is);
 }
 
-bad_from : (number : ℕ) (texts : List (List ℕ)) (lines : List (Option Line)) (before : List Line) (line : Line) (rest : List Line) → ReadEach number texts lines → somes lines ≡ before ++ line ∷ rest → AllByRecursion IsServable before → (IsServable line → ⊥) → FirstBad number texts line.number
+bad_from : (number : ℕ) (texts : List (List ℕ)) (lines : List (Option Line)) (before : List Line) (line : Line) (rest : List Line)
+    → ReadEach number texts lines → somes lines ≡ before ++ line ∷ rest → AllByRecursion IsServable before → (IsServable line → ⊥)
+    → FirstBad number texts line.number
 bad_from number [] [] [] line rest read split each outside = absurd (cc)
 bad_from number [] [] (b ∷ before) line rest read split each outside = absurd (cc)
 bad_from number [] (l ∷ lines) before line rest read split each outside = absurd read
@@ -217,13 +225,17 @@ bad_from number (text ∷ texts) (Some l ∷ lines) (b ∷ before) line rest rea
     let same : b ≡ l = cc in
     let tail : somes lines ≡ before ++ line ∷ rest = cc in
     let served : IsServable l = subst IsServable same each.0 in
-    bad_with number text texts line.number (inr (l.command, subst (λ n. Gives text n l.command) served.lane read.0.2, served.served)) (bad_from (number + 1) texts lines before line rest read.1 tail each.1 outside)
+    bad_with number text texts line.number (inr (l.command, subst (λ n. Gives text n l.command) served.lane read.0.2, served.served))
+    (bad_from (number + 1) texts lines before line rest read.1 tail each.1 outside)
 
 -- the first line that is not served, of a script all of whose lines are in the grammar
-pub unserved_from : (script : List ℕ) (blocks : List (List Line)) (number : ℕ) → IsScriptOf script blocks → IsFirstUnserved (lines_in blocks) number → IsFirstBad script number
+pub unserved_from : (script : List ℕ) (blocks : List (List Line)) (number : ℕ) → IsScriptOf script blocks → IsFirstUnserved (lines_in blocks) number
+    → IsFirstBad script number
 unserved_from script blocks number is first =
     let same : lines_in blocks ≡ somes is.lines = ap lines_in is.blocks_are ∙ lines_in_blocks is.lines in
-    let bad : FirstBad 1 (texts_of script) first.line.number = bad_from 1 (texts_of script) is.lines first.before first.line first.rest is.read (sym same ∙ first.split) (recursion_from_All IsServable first.before first.good) first.outside in
+    let bad : FirstBad 1 (texts_of script) first.line.number =
+    bad_from 1 (texts_of script) is.lines first.before first.line first.rest is.read (sym same ∙ first.split)
+    (recursion_from_All IsServable first.before first.good) first.outside in
     record {
       before = bad.before;
       bad = bad.bad;
@@ -235,7 +247,8 @@ unserved_from script blocks number is first =
     }
 
 -- a bad line of the first lines is one of the script
-pub bad_in_front : (script front : List ℕ) (count number : ℕ) → texts_of front ≡ take count (texts_of script) → IsFirstBad front number → IsFirstBad script number
+pub bad_in_front : (script front : List ℕ) (count number : ℕ) → texts_of front ≡ take count (texts_of script) → IsFirstBad front number
+    → IsFirstBad script number
 bad_in_front script front count number are bad =
     let split : texts_of script ≡ (bad.before ++ bad.bad ∷ bad.rest) ++ drop count (texts_of script) =
     sym (take-append-drop count (texts_of script)) ∙ ap (λ ts. ts ++ drop count (texts_of script)) (sym are ∙ bad.texts) in
@@ -250,11 +263,13 @@ bad_in_front script front count number are bad =
     }
 
 -- a line outside the grammar is the first bad one where those before it are served
-pub bad_itself : (script front : List ℕ) (blocks : List (List Line)) (number : ℕ) → IsFirstBadLine script number → texts_of front ≡ take (number - 1) (texts_of script) → IsScriptOf front blocks → All IsServable (lines_in blocks) → IsFirstBad script number
+pub bad_itself : (script front : List ℕ) (blocks : List (List Line)) (number : ℕ) → IsFirstBadLine script number
+    → texts_of front ≡ take (number - 1) (texts_of script) → IsScriptOf front blocks → All IsServable (lines_in blocks) → IsFirstBad script number
 bad_itself script front blocks number first are is each =
     let count : number - 1 ≡ length first.before = omega (arith, first.place) in
     let before : texts_of front ≡ first.before =
-    are ∙ (ap (take (number - 1)) first.texts ∙ (ap (λ n. take n (first.before ++ first.bad ∷ first.rest)) count ∙ take-append_seam first.before (first.bad ∷ first.rest))) in
+    are ∙ (ap (take (number - 1)) first.texts ∙ (ap (λ n. take n (first.before ++ first.bad ∷ first.rest)) count ∙ take-append_seam first.before
+    (first.bad ∷ first.rest))) in
     record {
       before = first.before;
       bad = first.bad;
@@ -296,10 +311,12 @@ module _ (lines : List Line) (i : ℕ) (line : Line) (within : i < length lines)
   first_by_command unserved = first_here (λ is. unserved is.served)
 
 -- blocks were looked through up to one
-module _ (blocks : List (List Line)) (i : ℕ) (block : List Line) (within : i < length blocks) (here : block ≡ get_or blocks i block) (each : All IsServable (lines_in (take i blocks))) where
+module _ (blocks : List (List Line)) (i : ℕ) (block : List Line) (within : i < length blocks) (here : block ≡ get_or blocks i block)
+    (each : All IsServable (lines_in (take i blocks))) where
   lines_more : lines_in (take (i + 1) blocks) ≡ lines_in (take i blocks) ++ block
   lines_more =
-      ap lines_in (take_more blocks i block within ∙ ap (λ b. take i blocks ++ b ∷ []) (sym here)) ∙ (flat_map-append (λ b. b) (take i blocks) (block ∷ []) ∙ ap (λ ls. lines_in (take i blocks) ++ ls) (append-nil block))
+      ap lines_in (take_more blocks i block within ∙ ap (λ b. take i blocks ++ b ∷ []) (sym here)) ∙
+      (flat_map-append (λ b. b) (take i blocks) (block ∷ []) ∙ ap (λ ls. lines_in (take i blocks) ++ ls) (append-nil block))
 
   pub block_passed : All IsServable block → All IsServable (lines_in (take (i + 1) blocks))
   block_passed are = subst (All IsServable) (sym lines_more) (All-append IsServable (lines_in (take i blocks)) block each are)
@@ -308,12 +325,14 @@ module _ (blocks : List (List Line)) (i : ℕ) (block : List Line) (within : i <
   first_in_block number first =
       let rest : List Line = lines_in (drop (i + 1) blocks) in
       let split : lines_in blocks ≡ (lines_in (take i blocks) ++ block) ++ rest =
-      ap lines_in (sym (take-append-drop (i + 1) blocks)) ∙ (flat_map-append (λ b. b) (take (i + 1) blocks) (drop (i + 1) blocks) ∙ ap (λ ls. ls ++ rest) lines_more) in
+      ap lines_in (sym (take-append-drop (i + 1) blocks)) ∙ (flat_map-append (λ b. b) (take (i + 1) blocks) (drop (i + 1) blocks) ∙ ap (λ ls. ls ++ rest)
+      lines_more) in
       record {
         before = lines_in (take i blocks) ++ first.before;
         line = first.line;
         rest = first.rest ++ rest;
-        split = split ∙ (ap (λ ls. (lines_in (take i blocks) ++ ls) ++ rest) first.split ∙ regroup (lines_in (take i blocks)) first.before (first.line ∷ first.rest) rest);
+        split = split ∙ (ap (λ ls. (lines_in (take i blocks) ++ ls) ++ rest) first.split ∙
+            regroup (lines_in (take i blocks)) first.before (first.line ∷ first.rest) rest);
         good = All-append IsServable (lines_in (take i blocks)) first.before each first.good;
         outside = first.outside;
         number_is = first.number_is;

@@ -38,7 +38,8 @@ few_lines script lines is =
     omega (arith, ap length same, no_more 1 (texts_of script) is.lines is.read)
 
 -- from the words, the script and its lines
-pub prepared_from : (words : List (List ℕ)) (old new : Seen (List ℕ)) (job : Job) (script : List ℕ) → (volume : List ℕ) × IsPlan words volume job.newfs → WasRead old new script → AreServedLines script job.lines.items → WasPrepared words old new job
+pub prepared_from : (words : List (List ℕ)) (old new : Seen (List ℕ)) (job : Job) (script : List ℕ) → (volume : List ℕ) × IsPlan words volume job.newfs
+    → WasRead old new script → AreServedLines script job.lines.items → WasPrepared words old new job
 prepared_from words old new job script plan read are = record {
   prepared = record {
     volume = plan.0;

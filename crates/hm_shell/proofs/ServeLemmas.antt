@@ -98,7 +98,7 @@ module _ {D I O : Type 0} where
   GoesFrom-reserved core spare = record {
     rest = record { header = refl; slot = refl; free = refl; start = refl; input = refl; output = refl };
     never_falls = omega arith;
-    goes_on = λ opening foreigners stands. record { legal = stands.legal };
+    goes_on = λ opening foreigners stands. record { legal = stands.legal; backed = stands.backed; untouched = stands.untouched };
     idle = λ none. refl;
   }
 
@@ -289,7 +289,12 @@ module _ {D I O : Type 0} where
     gained = part.gained;
   }
 
-  -- the same where there was an error
+  -- the same where there was no error, and where there was one
+  pub served_after : (lines : List Line) (a b c : CoreState D I O) (held holds : Option (List ℕ)) (r : Result (Unit {0}) Stop) → b ≡ record a { spare = b.spare }
+      → OnOk r (Served lines b c held holds) → OnOk r (Served lines a c held holds)
+  served_after lines a b c held holds (Ok done) keeps served = Served-after lines a b c held holds keeps served
+  served_after lines a b c held holds (Err stop) keeps served = tt
+
   pub part_after : (lines : List Line) (a b c : CoreState D I O) (held holds : Option (List ℕ)) (r : Result (Unit {0}) Stop) → b ≡ record a { spare = b.spare }
       → OnErr r (ServedInPart lines b c held holds) → OnErr r (ServedInPart lines a c held holds)
   part_after lines a b c held holds (Ok done) keeps part = tt

@@ -3,7 +3,7 @@ use Rattle.std.specs.Prelude.{◌≡◌, ◌⊎◌, ℕ, ◌+◌, ◌<◌, List,
 use Rattle.hm_model.specs.declared.command.Command.{Command}
 use Rattle.hm_model.specs.declared.line.Line.{Line}
 use Rattle.hm_model.specs.Lines.{texts_of}
-use Rattle.hm_model.specs.Script.{Gives, IsScriptOf, is_remark}
+use Rattle.hm_model.specs.Script.{Gives, IsScriptOf, IsTooLong, is_remark}
 use Rattle.hm_tree_core.specs.Served.{IsAsked, IsServed}
 use Rattle.hm_shell.specs.declared.stop.Stop.{Stop}
 use Rattle.hm_shell.specs.declared.stop.Stop.TheVariants.{Usage, NotVolume, BadField, DiskFault, Damaged, ScriptFault, OutFault, NoMemory, BadLine, TooLong}
@@ -52,6 +52,7 @@ pub record AreServedLines (script : List ℕ) (lines : List Line) : Type 0 where
 -- why there are no such lines
 abbrev pub IsLinesStop : List ℕ → Stop → Type 0
 IsLinesStop script (BadLine number) = IsFirstBad script number
+IsLinesStop script TooLong = IsTooLong script
 IsLinesStop script NoMemory = Unit {0}
 IsLinesStop script Usage = ⊥
 IsLinesStop script NotVolume = ⊥
@@ -60,7 +61,6 @@ IsLinesStop script (DiskFault before after) = ⊥
 IsLinesStop script (Damaged at kind) = ⊥
 IsLinesStop script (ScriptFault before after) = ⊥
 IsLinesStop script OutFault = ⊥
-IsLinesStop script TooLong = ⊥
 
 -- a line without a lane, of a call that is served
 pub record IsServable (line : Line) : Type 0 where

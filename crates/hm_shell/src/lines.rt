@@ -1,7 +1,7 @@
 // The lines of a script, which are all served, or the first that is not.
 ghost use Rattle.std.specs.Prelude.{◌≡◌, All, IfErr, IfOk, MatchOption};
 ghost use Rattle.hm_model.specs.Out.{lines_in};
-ghost use Rattle.hm_model.specs.Script.{IsFirstBadLine, IsTooLong};
+ghost use Rattle.hm_model.specs.Script.{IsFirstBadLine};
 ghost use Rattle.hm_shell.specs.Lines.{AreServedLines, IsFirstUnserved, IsLinesStop, IsServable};
 
 use crate::stop::Stop;
@@ -12,9 +12,8 @@ use hm_types::NoMemory;
 use std::alloc::Global;
 
 /// The lines of a script, each of a call that is served, and without a lane. Else the first line that is
-/// none, or want of memory.
+/// none, a script that is too long, or want of memory.
 pub(crate) fn served_lines(alloc: Global, script: &[u8]) -> Result<Vec<Line>, Stop>
-    requires { IsTooLong script.now → ⊥ }
     ensures ok { IfOk result (λ lines. AreServedLines script.now lines.items) }
     ensures err { IfErr result (IsLinesStop script.now) }
 {
@@ -32,8 +31,7 @@ pub(crate) fn served_lines(alloc: Global, script: &[u8]) -> Result<Vec<Line>, St
 // The first line that is not served, where this one is the first outside the grammar: one of those before
 // it, or itself.
 fn first_bad(alloc: Global, script: &[u8], number: u32) -> Stop
-    requires short { IsTooLong script.now → ⊥ }
-    requires outside { IsFirstBadLine script.now number }
+    requires { IsFirstBadLine script.now number }
     ensures { IsLinesStop script.now result }
 {
     let Ok(blocks) = read(alloc, first_lines(script, number - 1)) else {
@@ -77,4 +75,49 @@ fn lines_of(alloc: Global, script: Script) -> Result<Vec<Line>, NoMemory>
         lines.append(&mut block.into_lines())?;
     }
     Ok(lines)
+}
+
+#[cfg(test)]
+mod tests {
+    use super::*;
+    use std::test::Fail;
+
+    // The numbers of a script's lines, or the first that is not served.
+    fn shown(alloc: Global, script: &[u8]) -> Result<String, Fail> {
+        let lines = match served_lines(alloc, script) {
+            Ok(lines) => lines,
+            Err(Stop::BadLine { number }) => return Ok(format!(in alloc; "bad {number}")?),
+            Err(_) => return Ok(String::from_str(alloc, "no memory")?),
+        };
+        let mut text = String::new(alloc);
+        for line in &lines {
+            let number = line.number;
+            text.push_str(format!(in alloc; "{number} ")?.as_str())?;
+        }
+        Ok(text)
+    }
+
+    #[test]
+    fn takes_lines_that_are_served_and_without_a_lane(rt: HostRuntime) -> Result<(), Fail> {
+        for (script, want) in [
+            (b"".as_slice(), ""),
+            (b"\n# a remark\n", ""),
+            (b"ls /\n\ntouch /a\ndf", "1 3 4 "),
+            (
+                b"write /a 0 00\nfill /a 1 2 03\ntruncate /a 9\ncat /a 0 9\n",
+                "1 2 3 4 ",
+            ),
+            (b"ls /\nsync\n", "bad 2"),
+            (b"progress\n", "bad 1"),
+            (b"ls /\n1: ls /\n", "bad 2"),
+            (b"1: ls /\n2: ls /\n", "bad 1"),
+            (b"ls /\nfrob\n", "bad 2"),
+            (b"sync\nfrob\n", "bad 1"),
+            (b"frob\nsync\n", "bad 1"),
+            (b"ls /\n#\n1: df\nls /\nfrob", "bad 3"),
+        ] {
+            assert_eq!(rt; shown(rt.alloc(), script)?.as_str(), want, "{script:?}");
+        }
+        Ok(())
+    }
 }

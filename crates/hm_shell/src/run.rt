@@ -25,12 +25,13 @@ use std::thread::Threads;
 ///
 /// It ends with status 0 once each line was answered and the volume is on the disk. Else it ends
 /// at the first of these that it meets: words that break the rule (2), a fault of the script's
-/// source (5), a script that is too long (9), a line that is none of the grammar (8), a disk that
-/// fails (4), that has no volume or one whose header is out of range (3), or whose directories are
-/// damaged (10), a fault of the sink (6), and want of memory outside a call's own reply (7). It
-/// then prints a last line, but for a fault of the sink, which ends it in silence. A fault of the
-/// sink in the last line leaves the status as it is. Nothing is written to the disk before words
-/// and script were found good, and after a fault of the sink.
+/// source (5), a script that is too long (9), a line that is outside the grammar, or has a lane, or is
+/// of a call that is not served (8), a disk that fails (4), that has no volume or one whose header is
+/// out of range (3), or a volume that is damaged (10), a fault of the sink (6), and want of memory
+/// outside a call's own reply (7). It then prints a last line, but for a fault of the sink, which ends
+/// it in silence. A fault of the sink in the last line leaves the status as it is. Nothing is written
+/// to the disk before words and script were found good, and nothing is flushed after a fault of the
+/// sink.
 ///
 /// The streams are handed back as they are, and the gate is not called.
 pub fn run<
@@ -42,7 +43,8 @@ pub fn run<
     O: Sink + Send,
     G: Gate + Sync,
 >(rt: &R, words: &[String], devices: Devices<D, S, K, I, O>, _gate: &G) -> Ended<D, S, K, I, O>
-    // Each line of the script was answered, in one legal history, and the disk keeps what it made.
+    // Each line of the script was answered, and whatever volume the disk stood for, it stands for that
+    // after these answers.
     ensures done { result.status ≡ 0 →
         Completes (texts words.now) (sight devices) (sight result.devices) }
 

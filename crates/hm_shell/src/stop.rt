@@ -26,7 +26,8 @@ pub(crate) enum Stop {
     OutFault,
     /// An allocation was refused outside a call.
     NoMemory,
-    /// The line with this number, counted from 1, is none of the grammar.
+    /// The line with this number, counted from 1, is outside the grammar, or has a lane, or is of a call
+    /// that is not served.
     BadLine { number: u32 },
     /// The script has more bytes or more lines than it may have.
     TooLong,

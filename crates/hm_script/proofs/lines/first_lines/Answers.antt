@@ -8,7 +8,8 @@ lines-init c = record { within = omega arith; ended = λ rest. refl; fewer = ome
 
 pub returns-in_default : goal.returns-in_default
 returns-in_default c =
-    all_lines c.args.script.now c.lines.end c.args.count c.lines.left c.lines.invariant.ended c.lines.invariant.passed c.lines.invariant.fewer c.lines-test.true (rw (rest_is c.lines.end c.args.script.now) at c.in_default.ensures)
+    all_lines c.args.script.now c.lines.end c.args.count c.lines.left c.lines.invariant.ended c.lines.invariant.passed c.lines.invariant.fewer
+    c.lines-test.true (rw (rest_is c.lines.end c.args.script.now) at c.in_default.ensures)
 
 pub lines-preserved : goal.lines-preserved
 lines-preserved c =

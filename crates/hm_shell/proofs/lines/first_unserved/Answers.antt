@@ -1,4 +1,4 @@
-use Rattle.std.proofs.Common.{All, List, Some, None, subst, sym, ◌∙◌}
+use Rattle.std.proofs.Common.{All, List, subst}
 use Rattle.std.proofs.lemmas.List.{take_all}
 use Rattle.hm_model.specs.declared.line.Line.{Line}
 use Rattle.hm_model.specs.Out.{lines_in}
@@ -10,7 +10,8 @@ pub returns-in-Some : goal.returns-in-Some
 returns-in-Some c =
     let within = rw c.blocks-block-items.ensures at c.loop-block-test.true in
     let here = rw c.blocks-block-items.ensures at c.block-item.is in
-    first_in_block c.args.script.now c.loop-block.block-index c.block-item.result within here c.loop-block.invariant c.in-Some.number (rw c.lines.ensures at c.in-Some.ensures)
+    first_in_block c.args.script.now c.loop-block.block-index c.block-item.result within here c.loop-block.invariant c.in-Some.number
+    (rw c.lines.ensures at c.in-Some.ensures)
 
 pub loop-block-preserved : goal.loop-block-preserved
 loop-block-preserved c =

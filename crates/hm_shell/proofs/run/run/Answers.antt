@@ -12,7 +12,8 @@ returns-clause-exact g c =
     let old : Sight = sight c.args.devices in
     let mid : Sight = sight c.perform-devices.result.0 in
     let new : Sight = record mid { out = seen g.K.Sink.held g.K.Sink.faults c.end-status.new.out } in
-    Brings-ended words old new c.end-status.result (HasEnded-from words old mid new c.perform-devices.result.1 c.end-status.result c.perform-devices.ensures.ok c.perform-devices.ensures.err c.end-status.ensures.done c.end-status.ensures.stopped refl refl)
+    Brings-ended words old new c.end-status.result (HasEnded-from words old mid new c.perform-devices.result.1 c.end-status.result
+    c.perform-devices.ensures.ok c.perform-devices.ensures.err c.end-status.ensures.done c.end-status.ensures.stopped refl refl)
 
 pub returns-clause-statuses : goal.returns-clause-statuses
 returns-clause-statuses g c =
@@ -20,7 +21,8 @@ returns-clause-statuses g c =
     let old : Sight = sight c.args.devices in
     let mid : Sight = sight c.perform-devices.result.0 in
     let new : Sight = record mid { out = seen g.K.Sink.held g.K.Sink.faults c.end-status.new.out } in
-    status_from words old new c.end-status.result (HasEnded-from words old mid new c.perform-devices.result.1 c.end-status.result c.perform-devices.ensures.ok c.perform-devices.ensures.err c.end-status.ensures.done c.end-status.ensures.stopped refl refl)
+    status_from words old new c.end-status.result (HasEnded-from words old mid new c.perform-devices.result.1 c.end-status.result
+    c.perform-devices.ensures.ok c.perform-devices.ensures.err c.end-status.ensures.done c.end-status.ensures.stopped refl refl)
 
 pub returns-clause-stopped : goal.returns-clause-stopped
 returns-clause-stopped g c =
@@ -28,4 +30,5 @@ returns-clause-stopped g c =
     let old : Sight = sight c.args.devices in
     let mid : Sight = sight c.perform-devices.result.0 in
     let new : Sight = record mid { out = seen g.K.Sink.held g.K.Sink.faults c.end-status.new.out } in
-    stopped_from words old new c.end-status.result (HasEnded-from words old mid new c.perform-devices.result.1 c.end-status.result c.perform-devices.ensures.ok c.perform-devices.ensures.err c.end-status.ensures.done c.end-status.ensures.stopped refl refl)
+    stopped_from words old new c.end-status.result (HasEnded-from words old mid new c.perform-devices.result.1 c.end-status.result
+    c.perform-devices.ensures.ok c.perform-devices.ensures.err c.end-status.ensures.done c.end-status.ensures.stopped refl refl)
