@@ -1,6 +1,6 @@
 #!/usr/bin/env bash
-# Writing a volume back: the bytes and the syncs of a run that adds 1,000 directories to a volume of 24
-# big-blocks, as strace counts them.
+# Writing a volume: the writes and the syncs of a run that adds 1,000 directories to a volume of 24
+# big-blocks, as strace counts them: payloads as the lines are run, and pages and the header at the end.
 . "$(dirname "${BASH_SOURCE[0]}")/common.bash"
 
 command -v strace >/dev/null || stop "strace is not there"
@@ -14,19 +14,21 @@ strace -f -e trace=open,openat,write,pwrite64,fsync,fdatasync -o "$room/calls" \
     "$program" "$volume" <"$script" >"$room/out" || stop "the run ended with status $?"
 [ "$(grep -c ' ok$' "$room/out")" -eq "$directories" ] || stop "not each line was answered ok"
 
-# The list: its count, and for each directory its id, the length of its name, and 8 bytes of name.
-list=$((8 + directories * (8 + 2 + 8)))
-slots=$((2 * 16384))
-awk -v volume="$volume" -v list="$list" -v slots="$slots" '
+# What each directory adds: an inode of 32 bytes, and an entry of 8 bytes and its name, of 8 bytes.
+payloads=$((directories * (32 + 16)))
+awk -v volume="$volume" -v directories="$directories" -v payloads="$payloads" '
     index($0, "\"" volume "\"") && match($0, /= [0-9]+$/) { fd = substr($0, RSTART + 2) }
     fd != "" && ($0 ~ " (write|pwrite64)\\(" fd ",") && match($0, /= [0-9]+$/) {
-        writes++; bytes += substr($0, RSTART + 2)
+        written = substr($0, RSTART + 2)
+        writes++
+        bytes += written
+        if (written == 4096) pages++; else small += written
     }
     fd != "" && ($0 ~ " f(data)?sync\\(" fd "\\)") { syncs++ }
     END {
-        printf "directories       %d more, in a list of %d bytes\n", (list - 8) / 18, list
+        printf "directories       %d more, with %d bytes of inodes and entries\n", directories, payloads
         printf "writes            %d to the volume, %d bytes\n", writes, bytes
-        printf "list and slots    %d bytes\n", list + slots
-        printf "ratio             %.2f\n", bytes / (list + slots)
+        printf "pages             %d of them, of 4,096 bytes\n", pages
+        printf "the others        %d bytes\n", small
         printf "syncs             %d\n", syncs
     }' "$room/calls"
