@@ -1,17 +1,15 @@
 -- Lines that run by themselves print what the lines of a run print.
-use Rattle.std.proofs.Common.{◌≡◌, ◌≢◌, ◌⊎◌, inl, inr, ⊎_elim, ℕ, ◌<◌, ◌≤◌, Bool, true, false, List, [], ◌∷◌, ◌++◌, Option, None, Some, refl, sym, ap, subst, ◌∙◌, arith, append-nil}
-use Rattle.std.specs.Prelude.{All, Contains, IfSome, filter, map, if◌then◌else◌, ◌&&◌, ◌==◌}
+use Rattle.std.proofs.Common.{◌≡◌, ◌≢◌, ◌⊎◌, inl, ⊎_elim, ℕ, Bool, true, false, List, [], ◌∷◌, refl, sym, ap, subst, arith, append-nil}
+use Rattle.std.specs.Prelude.{All, Contains, filter, map, if◌then◌else◌, ◌&&◌, ◌==◌}
 use Rattle.std.specs.List.{AllByRecursion, AllZip, flat_map}
 use Rattle.std.proofs.lemmas.List.Elements.{All-contains, Contains-get_or, recursion_from_All}
-use Rattle.hm_types.specs.declared.id.Id.{Id}
 use Rattle.hm_model.specs.declared.command.Command.{Command}
 use Rattle.hm_model.specs.declared.command.Command.TheVariants.{Mkdir, Touch, Symlink, Snapshot, Ln, Mv, Write, Fill, Truncate, Rm, Rmdir, Ls, Cat, Stat, Readlink, Sync, Synctid, Prune, PruneAll, Reblock, PfsMaster, PfsSlave, PfsStatus, PfsUpgrade, MirrorRead, MirrorWrite, MirrorCopy, Df, End, Progress}
 use Rattle.hm_model.specs.declared.entry.Entry.{Entry}
 use Rattle.hm_model.specs.declared.line.Line.{Line}
-use Rattle.hm_model.specs.Caused.{is_ending, is_housekeeping, opens}
-use Rattle.hm_model.specs.Out.{AreOrdered, IsAnswered, IsBlockText, IsCallLine, IsLineText, IsOf, IsOut, IsSpent, KeepsBoundary, answers, begins, ends, endings_of, joined, lines_in, openings_of}
-use Rattle.hm_model.specs.Reply.{told_boundary, is_refusal}
-use Rattle.hm_shell.specs.Alone.{Answers, FoundNone, HasEntry, IsAlone, IsSingle, alone, line_text, out_text}
+use Rattle.hm_model.specs.Caused.{is_ending, opens}
+use Rattle.hm_model.specs.Out.{AreOrdered, IsAnswered, IsBlockText, IsCallLine, IsLineText, IsOut, IsSpent, KeepsBoundary, answers, begins, ends, endings_of, joined, lines_in, openings_of}
+use Rattle.hm_shell.specs.Alone.{Answers, FoundNone, HasEntry, IsAlone, alone, line_text, out_text}
 
 -- what a line of a call prints is the text of its line
 module _ (history : List Entry) (end : ℕ) (block : List Line) (line : Line) (text : List ℕ) where

@@ -1,13 +1,12 @@
 -- Making and opening a volume.
 use Rattle.std.proofs.Common.{◌≡◌, ℕ, ◌≤◌, refl, sym, ◌∙◌, subst, arith, inl, inr}
-use Rattle.std.specs.Prelude.{Err, IfErr, IfSome, None, Ok, OnOk, Option, Result, Some}
+use Rattle.std.specs.Prelude.{Err, IfSome, None, Ok, OnOk, Option, Result, Some}
 use Rattle.hm_types.specs.Told.{BothTell}
 use Rattle.hm_types.specs.declared.fault.Fault.TheVariants.{Media as media, Damaged as damage, NoMemory as no_memory}
 use Rattle.hm_disk.specs.Crash.{Told}
-use Rattle.hm_load.specs.Damage.{IsWhole}
 use Rattle.hm_model.specs.Volume.{Volume, fresh}
 use Rattle.hm_image.specs.Stands.{StandsFor}
-use Rattle.hm_tree_core.specs.Opened.{HasOpenCause, IsFailure, IsMade, IsMounted, IsNotMade, IsNotMounted, IsOpenCaused, IsOpenFault}
+use Rattle.hm_tree_core.specs.Opened.{IsFailure, IsMade, IsMounted, IsNotMade, IsNotMounted, IsOpenCaused}
 use Rattle.hm_tree_core.specs.State.{CoreState}
 use Rattle.hm_tree_core.specs.declared.fault.OpenFault.{OpenFault}
 use Rattle.hm_tree_core.specs.declared.fault.OpenFault.TheVariants.{NotVolume as no_volume, BadField as bad_field, Fault as of_disk}
@@ -18,12 +17,14 @@ use Rattle.hm_shell.specs.Seen.{Seen}
 use Rattle.hm_shell.specs.Stop.{of_open}
 
 -- what did not fail has made a volume, where one was asked for
-pub made_not_err : (newfs : Option ℕ) (old new : Option Told) (r : Result (Unit {0}) Stop) → OnOk r (MakesVolume newfs old new) → ((stop : Stop) → r ≡ Err stop → ⊥) → MakesVolume newfs old new
+pub made_not_err : (newfs : Option ℕ) (old new : Option Told) (r : Result (Unit {0}) Stop) → OnOk r (MakesVolume newfs old new)
+    → ((stop : Stop) → r ≡ Err stop → ⊥) → MakesVolume newfs old new
 made_not_err newfs old new (Ok done) made not_err = made
 made_not_err newfs old new (Err stop) made not_err = absurd (not_err stop refl)
 
 -- a volume was not made
-pub StoppedOpening-made : (size : ℕ) (old new : Seen Told) (fault : OpenFault) → IsNotMade size old.told new.told fault → IsOpenCaused old.faults new.faults fault → StoppedOpening (Some size) old new (of_open fault)
+pub StoppedOpening-made : (size : ℕ) (old new : Seen Told) (fault : OpenFault) → IsNotMade size old.told new.told fault
+    → IsOpenCaused old.faults new.faults fault → StoppedOpening (Some size) old new (of_open fault)
 StoppedOpening-made size old new fault not_made caused = record { fault = fault; stop_is = refl; unopened = inl not_made; caused = caused }
 
 -- what is caused within a call is caused within a longer one
@@ -36,7 +37,8 @@ caused_longer a b c (of_disk (damage at kind)) earlier caused = tt
 caused_longer a b c (of_disk no_memory) earlier caused = tt
 
 -- a new volume is opened, unless the disk or memory fails
-made_fails : (size : ℕ) (a b : Option Told) (fault : OpenFault) → BothTell a b (IsMade size) → IfSome b (λ t. (volume : Volume) → StandsFor t.bytes volume → IsFailure fault)
+made_fails : (size : ℕ) (a b : Option Told) (fault : OpenFault) → BothTell a b (IsMade size)
+    → IfSome b (λ t. (volume : Volume) → StandsFor t.bytes volume → IsFailure fault)
     → BothTell a b (λ s t. IsMade size s t × IsFailure fault)
 made_fails size None None fault made whole = tt
 made_fails size None (Some t) fault made whole = absurd made
@@ -46,10 +48,12 @@ made_fails size (Some s) (Some t) fault made whole = (made, whole (fresh size) m
 unopened : (newfs : Option ℕ) (a b c : Option Told) (fault : OpenFault) → MakesVolume newfs a b → IsNotMounted b c fault → IsUnopened newfs a c fault
 unopened None a b c fault made not_mounted = subst (λ (o : Option Told). IsNotMounted o c fault) made not_mounted
 unopened (Some size) a b c fault made not_mounted =
-    inr (subst (λ (o : Option Told). BothTell a o (λ s t. IsMade size s t × IsFailure fault)) (sym not_mounted.told) (made_fails size a b fault made not_mounted.whole))
+    inr (subst (λ (o : Option Told). BothTell a o (λ s t. IsMade size s t × IsFailure fault)) (sym not_mounted.told)
+    (made_fails size a b fault made not_mounted.whole))
 
 -- a disk on which a volume was made or not, and none was opened
-pub StoppedOpening-mount : (newfs : Option ℕ) (a b c : Seen Told) (fault : OpenFault) → MakesVolume newfs a.told b.told → IsNotMounted b.told c.told fault → a.faults ≤ b.faults
+pub StoppedOpening-mount : (newfs : Option ℕ) (a b c : Seen Told) (fault : OpenFault) → MakesVolume newfs a.told b.told → IsNotMounted b.told c.told fault
+    → a.faults ≤ b.faults
     → IsOpenCaused b.faults c.faults fault → StoppedOpening newfs a c (of_open fault)
 StoppedOpening-mount newfs a b c fault made not_mounted earlier caused = record {
   fault = fault;
@@ -59,7 +63,8 @@ StoppedOpening-mount newfs a b c fault made not_mounted earlier caused = record 
 }
 
 module _ {D I O : Type 0} where
-  has_whole : (told : Option Told) (faults : ℕ) (input : I) (output : O) (core : CoreState D I O) → IsMounted told faults input output core → IfSome told (λ t. HasWhole t.bytes)
+  has_whole : (told : Option Told) (faults : ℕ) (input : I) (output : O) (core : CoreState D I O) → IsMounted told faults input output core
+      → IfSome told (λ t. HasWhole t.bytes)
   has_whole None faults input output core mounted = tt
   has_whole (Some t) faults input output core mounted = record { header = core.header; slot = core.slot; counts = mounted.counting; whole = mounted.whole }
 

@@ -9,7 +9,7 @@ use Rattle.hm_model.specs.Script.{ReadEach}
 use Rattle.hm_shell.specs.declared.job.Job.{Job}
 use Rattle.hm_shell.specs.Alone.{alone}
 use Rattle.hm_shell.specs.Lines.{AreServedLines, HasLines}
-use Rattle.hm_shell.specs.Preparing.{IsDue, WasPrepared}
+use Rattle.hm_shell.specs.Preparing.{WasPrepared}
 use Rattle.hm_shell.specs.Reading.{WasRead}
 use Rattle.hm_shell.specs.Seen.{Seen}
 use Rattle.hm_shell.specs.Words.{IsPlan}

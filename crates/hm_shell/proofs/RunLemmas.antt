@@ -1,9 +1,8 @@
 -- From the lines that were served on an open volume to the run of a script's lines on a disk.
-use Rattle.std.proofs.Common.{◌≡◌, ◌≢◌, ℕ, ◌≤◌, List, [], ◌++◌, length, take, refl, sym, ◌∙◌, ap, append_assoc, arith, subst, inl, inr}
+use Rattle.std.proofs.Common.{ℕ, ◌≤◌, List, ◌++◌, take, refl, sym, ◌∙◌, ap, append_assoc, arith, subst, inl, inr}
 use Rattle.std.specs.Prelude.{All, Contains, Err, IfErr, IfSome, IsSomeAnd, None, Ok, OnOk, Option, Result, Some}
 use Rattle.std.proofs.lemmas.List.Elements.{All-contains, Contains-append_left}
 use Rattle.hm_types.specs.Told.{BothTell}
-use Rattle.hm_types.specs.Faults.{IsCaused, IsUndamaged}
 use Rattle.hm_types.specs.declared.fault.Fault.{Fault}
 use Rattle.hm_types.specs.declared.fault.Fault.TheVariants.{Media as media, Damaged as damage, NoMemory as no_memory}
 use Rattle.hm_disk.specs.Crash.{Told}
@@ -13,8 +12,7 @@ use Rattle.hm_model.specs.After.{after}
 use Rattle.hm_model.specs.Foreign.{Foreigners, no_foreigners}
 use Rattle.hm_model.specs.Volume.{Volume}
 use Rattle.hm_tree_core.specs.Core.{StandsOver}
-use Rattle.hm_tree_core.specs.Finished.{HasNextHeader, IsFinished, LeavesVolume as CoreLeaves}
-use Rattle.hm_tree_core.specs.History.{IsClear}
+use Rattle.hm_tree_core.specs.Finished.{IsFinished, LeavesVolume as CoreLeaves}
 use Rattle.hm_tree_core.specs.Opened.{IsMounted}
 use Rattle.hm_tree_core.specs.State.{CoreState}
 use Rattle.hm_shell.specs.declared.stop.Stop.{Stop}
@@ -23,7 +21,7 @@ use Rattle.hm_shell.specs.Lines.{IsServedLine}
 use Rattle.hm_shell.specs.Making.{MakesVolume}
 use Rattle.hm_shell.specs.Running.{AnswersAll, AnswersInPart, HasHistory, IsCounted, IsKept, IsWriteCause, LeavesVolume, OverEach, Ran, RunsAll, StandsForNone, StoppedRunning, StoppedUsing}
 use Rattle.hm_shell.specs.Seen.{Seen}
-use Rattle.hm_shell.specs.Serving.{FailsWriting, GoesFrom, LeavesAtLine, Served, ServedInPart, StopsUsing, UsesAll}
+use Rattle.hm_shell.specs.Serving.{GoesFrom, Served, ServedInPart, StopsUsing, UsesAll}
 use Rattle.hm_shell.specs.Stop.{of_fault}
 use Rattle.hm_shell.proofs.AloneLemmas.{answers_out}
 use Rattle.hm_shell.proofs.AloneMoreLemmas.{each_from}
@@ -83,7 +81,8 @@ module _ {D I O : Type 0} where
     }
 
     histories : OverEach begun.heap.disk (HasHistory (ran_of core))
-    histories = each_told begun.heap.disk _ _ (λ t stands opening foreigners is clear. has_history opening foreigners (stands opening foreigners is clear)) stands_now
+    histories = each_told begun.heap.disk _ _ (λ t stands opening foreigners is clear. has_history opening foreigners (stands opening foreigners is clear))
+        stands_now
 
     module _ (disk : Seen Told) (done : Unit {0}) (finished : IsFinished core disk.told disk.faults (Ok done)) where
       leaves : (opening : Volume) (foreigners : Foreigners) → StandsOver core opening foreigners → LeavesVolume (ran_of core) disk.told opening foreigners
@@ -92,7 +91,8 @@ module _ {D I O : Type 0} where
         has = has_history opening foreigners stands;
         stands = told_after core.heap.disk disk.told _ _ stands.legal.held.holds.elements.1 (both_leave core.heap.disk disk.told finished.volume);
       } where
-        both_leave : (a b : Option Told) → BothTell a b (λ s t. CoreLeaves core t.bytes) → BothTell a b (λ s t. StandsFor t.bytes (after opening foreigners stands.legal.events).volume)
+        both_leave : (a b : Option Told) → BothTell a b (λ s t. CoreLeaves core t.bytes)
+            → BothTell a b (λ s t. StandsFor t.bytes (after opening foreigners stands.legal.events).volume)
         both_leave None None both = tt
         both_leave None (Some t) both = absurd both
         both_leave (Some s) None both = absurd both
@@ -102,28 +102,33 @@ module _ {D I O : Type 0} where
       is_kept = record {
         unwritten = λ none. (finished.nothing none).1 ∙ ap (λ h. h.disk) (from.idle none);
         settled = λ some. each_told disk.told _ _ (λ t next. next.settled) (on_told core.heap.disk disk.told _ (finished.header some));
-        volume = each_told begun.heap.disk _ _ (λ t stands opening foreigners is clear. leaves opening foreigners (stands opening foreigners is clear)) stands_now;
+        volume = each_told begun.heap.disk _ _ (λ t stands opening foreigners is clear. leaves opening foreigners (stands opening foreigners is clear))
+            stands_now;
       }
 
     -- damage is told of what was no volume alone
     no_damage : (disk : Seen Told) (at kind : ℕ) → IsFinished core disk.told disk.faults (Err (damage at kind)) → IfSome begun.heap.disk StandsForNone
-    no_damage disk at kind finished = each_told begun.heap.disk _ _ (λ t stands volume is clear. none volume (stands volume no_foreigners is clear)) stands_now where
-      none : (volume : Volume) → StandsOver core volume no_foreigners → ⊥
-      none volume stands = where_told core.heap.disk _ ⊥ stands.legal.held.holds.elements.1 (finished.whole volume no_foreigners stands)
+    no_damage disk at kind finished = each_told begun.heap.disk _ _ (λ t stands volume is clear. none volume (stands volume no_foreigners is clear))
+        stands_now where
+          none : (volume : Volume) → StandsOver core volume no_foreigners → ⊥
+          none volume stands = where_told core.heap.disk _ ⊥ stands.legal.held.holds.elements.1 (finished.whole volume no_foreigners stands)
 
-    write_cause : (disk : Seen Told) (fault : Fault) → IsFinished core disk.told disk.faults (Err fault) → IsWriteCause begun.heap.disk core.faults disk.faults (of_fault fault)
+    write_cause : (disk : Seen Told) (fault : Fault) → IsFinished core disk.told disk.faults (Err fault)
+        → IsWriteCause begun.heap.disk core.faults disk.faults (of_fault fault)
     write_cause disk (media before after) finished = finished.cause.caused
     write_cause disk (damage at kind) finished = no_damage disk at kind finished
     write_cause disk no_memory finished = tt
 
-  answers_all : (lines : List Line) (begun core : CoreState D I O) (old new : Option (List ℕ)) → All IsServedLine lines → Served lines begun core old new → AnswersAll lines (ran_of core) old new
+  answers_all : (lines : List Line) (begun core : CoreState D I O) (old new : Option (List ℕ)) → All IsServedLine lines → Served lines begun core old new
+      → AnswersAll lines (ran_of core) old new
   answers_all lines begun core old new each served = record {
     text = out_text lines core.history;
     out = answers_out core.last core.history lines (are_alone lines each) served.answers;
     gained = served.gained;
   }
 
-  answers_in_part : (lines : List Line) (begun core : CoreState D I O) (old new : Option (List ℕ)) → All IsServedLine lines → (part : ServedInPart lines begun core old new)
+  answers_in_part : (lines : List Line) (begun core : CoreState D I O) (old new : Option (List ℕ)) → All IsServedLine lines
+      → (part : ServedInPart lines begun core old new)
       → AnswersInPart lines (out_text part.before core.history ++ take part.printed (out_text part.last core.history)) (ran_of core)
   answers_in_part lines begun core old new each part = record {
     before = part.before;
@@ -137,7 +142,8 @@ module _ {D I O : Type 0} where
   } where
     front : All IsAlone (part.before ++ part.last)
     front = each_from IsAlone (part.before ++ part.last) (λ l has. All-contains IsAlone lines l (are_alone lines each)
-        (subst (λ (ls : List Line). Contains ls l) (sym (part.split ∙ sym (append_assoc part.before part.last part.rest))) (Contains-append_left (part.before ++ part.last) part.rest l has)))
+        (subst (λ (ls : List Line). Contains ls l) (sym (part.split ∙ sym (append_assoc part.before part.last part.rest)))
+        (Contains-append_left (part.before ++ part.last) part.rest l has)))
 
   module _ (newfs : Option ℕ) (lines : List Line) (each : All IsServedLine lines) (old made new : Seen Told) (input : I) (output : O) (begun : CoreState D I O)
       (makes : MakesVolume newfs old.told made.told) (earlier : old.faults ≤ made.faults) (mounted : IsMounted made.told made.faults input output begun) where
@@ -147,13 +153,15 @@ module _ {D I O : Type 0} where
       opened = begun.heap.disk;
       opens = OpensOn-mounted newfs old.told made.told made.faults input output begun makes mounted;
       ran = ran_of used.core;
-      counted = counted made.told made.faults input output begun used.core mounted used.served.from old.faults new.faults earlier used.finished.cause.never_falls;
+      counted = counted made.told made.faults input output begun used.core mounted used.served.from old.faults new.faults earlier
+          used.finished.cause.never_falls;
       answered = answers_all lines begun used.core old_out new_out each used.served;
       kept = is_kept made.told made.faults input output begun used.core mounted used.served.from new tt used.finished;
     }
 
     -- the run stopped
-    pub StoppedUsing-stopped : (old_out new_out : Seen (List ℕ)) (stop : Stop) → StopsUsing lines begun new old_out new_out stop → StoppedUsing newfs lines old new old_out new_out stop
+    pub StoppedUsing-stopped : (old_out new_out : Seen (List ℕ)) (stop : Stop) → StopsUsing lines begun new old_out new_out stop
+        → StoppedUsing newfs lines old new old_out new_out stop
     StoppedUsing-stopped old_out new_out stop (inl at_line) =
         let core = at_line.core in
         let part = at_line.served in
@@ -161,7 +169,8 @@ module _ {D I O : Type 0} where
           opened = begun.heap.disk;
           opens = OpensOn-mounted newfs old.told made.told made.faults input output begun makes mounted;
           ran = ran_of core;
-          counted = counted made.told made.faults input output begun core mounted part.from old.faults new.faults earlier (let count = at_line.count in omega (arith, count));
+          counted = counted made.told made.faults input output begun core mounted part.from old.faults new.faults earlier
+              (let count = at_line.count in omega (arith, count));
           legal = histories made.told made.faults input output begun core mounted part.from;
           stops = inl (record {
             text = out_text part.before core.history ++ take part.printed (out_text part.last core.history);
@@ -176,7 +185,8 @@ module _ {D I O : Type 0} where
           opened = begun.heap.disk;
           opens = OpensOn-mounted newfs old.told made.told made.faults input output begun makes mounted;
           ran = ran_of core;
-          counted = counted made.told made.faults input output begun core mounted writing.served.from old.faults new.faults earlier writing.finished.cause.never_falls;
+          counted = counted made.told made.faults input output begun core mounted writing.served.from old.faults new.faults earlier
+              writing.finished.cause.never_falls;
           legal = histories made.told made.faults input output begun core mounted writing.served.from;
           stops = inr (record {
             answered = answers_all lines begun core old_out.told new_out.told each writing.served;
@@ -186,7 +196,8 @@ module _ {D I O : Type 0} where
         }
 
     -- the same where there was no error, and where there was one
-    pub RunsAll-opened : (old_out new_out : Option (List ℕ)) (r : Result (Unit {0}) Stop) → OnOk r (UsesAll lines begun new old_out new_out) → OnOk r (RunsAll newfs lines old new old_out new_out)
+    pub RunsAll-opened : (old_out new_out : Option (List ℕ)) (r : Result (Unit {0}) Stop) → OnOk r (UsesAll lines begun new old_out new_out)
+        → OnOk r (RunsAll newfs lines old new old_out new_out)
     RunsAll-opened old_out new_out (Ok done) used = RunsAll-used old_out new_out used
     RunsAll-opened old_out new_out (Err stop) used = tt
 

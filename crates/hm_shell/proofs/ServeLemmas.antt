@@ -1,6 +1,6 @@
 -- Lines that are served from the front.
-use Rattle.std.proofs.Common.{◌≡◌, ℕ, suc, ◌+◌, ◌*◌, ◌<◌, ◌≤◌, List, [], ◌∷◌, ◌++◌, get_or, length, take, refl, subst, sym, ◌∙◌, ap, inl, inr, arith, append_assoc, append-nil, length-append}
-use Rattle.std.specs.Prelude.{All, Contains, IfErr, OnErr, OnOk, Option, Some, Result, Ok, Err, ◌⊎◌, slice_get}
+use Rattle.std.proofs.Common.{◌≡◌, ℕ, ◌+◌, ◌*◌, ◌<◌, ◌≤◌, List, [], ◌∷◌, ◌++◌, get_or, length, take, refl, subst, sym, ◌∙◌, ap, inl, inr, arith, append_assoc, append-nil, length-append}
+use Rattle.std.specs.Prelude.{All, Contains, IfErr, OnErr, OnOk, Option, Some, Result, Ok, Err, slice_get}
 use Rattle.std.proofs.lemmas.List.Elements.{All-contains, Contains-append_cases, Contains-append_right}
 use Rattle.std.proofs.lemmas.Option.{get_or_from_slice_get}
 use Rattle.hm_types.specs.declared.limits.TheConstants.{GREATEST_ID}
@@ -9,7 +9,7 @@ use Rattle.hm_pipe.proofs.PipeLemmas.{Gains-none, Gains-append}
 use Rattle.hm_model.specs.declared.entry.Entry.{Entry}
 use Rattle.hm_model.specs.declared.line.Line.{Line}
 use Rattle.hm_model.specs.Out.{IsOf, entry_words, printed_line, spent_words}
-use Rattle.hm_tree_core.specs.Core.{Enters, KeepsRest, StandsOver, Steps}
+use Rattle.hm_tree_core.specs.Core.{Enters, KeepsRest, Steps}
 use Rattle.hm_tree_core.specs.State.{CoreState}
 use Rattle.hm_tree_core.specs.declared.step.Step.TheVariants.{Answered, Spent}
 use Rattle.hm_shell.specs.declared.stop.Stop.{Stop}
@@ -50,13 +50,15 @@ IsOutCause-printing line old new (BadLine number) stopped = absurd stopped
 IsOutCause-printing line old new TooLong stopped = absurd stopped
 
 -- the lines before one that stands in rising lines have lower numbers
-below_next : (lines before rest : List Line) (line : Line) → AreRising lines → lines ≡ before ++ line ∷ rest → (l : Line) → Contains before l → l.number < line.number
+below_next : (lines before rest : List Line) (line : Line) → AreRising lines → lines ≡ before ++ line ∷ rest → (l : Line) → Contains before l
+    → l.number < line.number
 below_next lines before rest line rising split l has = rising before rest line l split has
 
 -- a line in the middle of served lines is one
 pub served_next : (lines before rest : List Line) (line : Line) → All IsServedLine lines → lines ≡ before ++ line ∷ rest → IsServedLine line
 served_next lines before rest line each split =
-    All-contains IsServedLine lines line each (subst (λ (ls : List Line). Contains ls line) (sym split) (Contains-append_right before (line ∷ rest) line (0, omega arith, refl)))
+    All-contains IsServedLine lines line each
+    (subst (λ (ls : List Line). Contains ls line) (sym split) (Contains-append_right before (line ∷ rest) line (0, omega arith, refl)))
 
 -- a history with one entry more has one
 not_empty : (history : List Entry) (e : Entry) → history ++ e ∷ [] ≡ [] → ⊥
@@ -69,7 +71,8 @@ last_entry (x ∷ xs) e d = last_entry xs e d
 
 entry_there : (history : List Entry) (e found : Entry) (place : ℕ) → place ≡ length history → slice_get (history ++ e ∷ []) place ≡ Some found → found ≡ e
 entry_there history e found place there is =
-    sym (get_or_from_slice_get (history ++ e ∷ []) (length history) found e (subst (λ (k : ℕ). slice_get (history ++ e ∷ []) k ≡ Some found) there is)) ∙ last_entry history e e
+    sym (get_or_from_slice_get (history ++ e ∷ []) (length history) found e (subst (λ (k : ℕ). slice_get (history ++ e ∷ []) k ≡ Some found) there is))
+    ∙ last_entry history e e
 
 module _ {D I O : Type 0} where
   KeepsRest-none : (core : CoreState D I O) → KeepsRest core core
@@ -140,7 +143,8 @@ module _ {D I O : Type 0} where
       has_entered : HasRun lines line begun old new (printed_line (entry_words enters.entry))
       has_entered = record {
         from = GoesFrom-entered begun old new line.lane line.number line.command served.from enters;
-        answers = rw enters.history (answers_more lines old.history line later old.last enters.entry served.answers enters.left own_entry enters.silent above new.last);
+        answers = rw enters.history
+            (answers_more lines old.history line later old.last enters.entry served.answers enters.left own_entry enters.silent above new.last);
         up_to = up_to_entered;
         earlier = rw enters.history (out_before lines old.history line later old.last served.answers enters.entry own_entry alone.single);
         own = rw enters.history (append-nil (line_text (old.history ++ enters.entry ∷ []) line)
@@ -193,7 +197,8 @@ module _ {D I O : Type 0} where
           from = run.from;
           answers = run.answers;
           printed = part.0;
-          gained = rw (run.earlier, run.own) (Gains-append held holds third.told (out_text lines old.history) (take part.0 stopped.text) served.gained (rw same part.1));
+          gained = rw (run.earlier, run.own)
+              (Gains-append held holds third.told (out_text lines old.history) (take part.0 stopped.text) served.gained (rw same part.1));
         }
 
   -- no line was served yet
@@ -205,11 +210,13 @@ module _ {D I O : Type 0} where
     gained = Gains-none held;
   }
 
-  pub Serving-none : (lines : List Line) (core : CoreState D I O) (held : Option (List ℕ)) → core.history ≡ [] → 2 * length lines ≤ core.spare → Serving lines [] lines core core held held
+  pub Serving-none : (lines : List Line) (core : CoreState D I O) (held : Option (List ℕ)) → core.history ≡ [] → 2 * length lines ≤ core.spare
+      → Serving lines [] lines core core held held
   Serving-none lines core held none room = record { split = refl; served = Served-none core core held (GoesFrom-none core) none; room = room }
 
   -- nothing was served
-  pub ServedInPart-none : (lines : List Line) (begun core : CoreState D I O) (held : Option (List ℕ)) → core ≡ record begun { spare = core.spare } → begun.history ≡ []
+  pub ServedInPart-none : (lines : List Line) (begun core : CoreState D I O) (held : Option (List ℕ)) → core ≡ record begun { spare = core.spare }
+      → begun.history ≡ []
       → ServedInPart lines begun core held held
   ServedInPart-none lines begun core held keeps none =
       let from : GoesFrom begun core = subst (λ (c : CoreState D I O). GoesFrom begun c) (sym keeps) (GoesFrom-reserved begun core.spare) in
@@ -227,7 +234,8 @@ module _ {D I O : Type 0} where
       }
 
   -- the next line is a served one, and there is room for it
-  pub room_next : (lines before rest : List Line) (line : Line) (begun core : CoreState D I O) (held holds : Option (List ℕ)) → Serving lines before (line ∷ rest) begun core held holds → 2 ≤ core.spare
+  pub room_next : (lines before rest : List Line) (line : Line) (begun core : CoreState D I O) (held holds : Option (List ℕ))
+      → Serving lines before (line ∷ rest) begun core held holds → 2 ≤ core.spare
   room_next lines before rest line begun core held holds so_far = (let room = so_far.room in omega (arith, room))
 
   module _ (lines before rest : List Line) (line : Line) (each : All IsServedLine lines) (rising : AreRising lines)
@@ -240,35 +248,47 @@ module _ {D I O : Type 0} where
         record {
           split = so_far.split ∙ sym (append_assoc before (line ∷ []) rest);
           served = Served-line before line later is_alone begun old held holds so_far.served new gained serves;
-          room = (let room = so_far.room in let left = spare_left before line later is_alone begun old held holds so_far.served new gained serves in omega (arith, room, left));
+          room = (let room = so_far.room in let left = spare_left before line later is_alone begun old held holds so_far.served new gained serves in omega
+              (arith, room, left));
         }
 
     -- the lines before were served when this one stopped
-    pub ServedInPart-stopped : (held : Option (List ℕ)) (second third : Seen (List ℕ)) (stop : Stop) → Serving lines before (line ∷ rest) begun old held second.told
+    pub ServedInPart-stopped : (held : Option (List ℕ)) (second third : Seen (List ℕ)) (stop : Stop)
+        → Serving lines before (line ∷ rest) begun old held second.told
         → StoppedServing old new line second third stop → ServedInPart lines begun new held third.told
     ServedInPart-stopped held second third stop so_far stopped =
         part_line before line (below_next lines before rest line rising so_far.split) (served_next lines before rest line each so_far.split).by_itself
         begun old held second.told so_far.served lines rest new second third stop refl so_far.split stopped
 
     -- and this is why
-    pub IsOutCause-stopped : (second third : Seen (List ℕ)) (stop : Stop) → StoppedServing old new line second third stop → IsOutCause second.faults third.faults stop
+    pub IsOutCause-stopped : (second third : Seen (List ℕ)) (stop : Stop) → StoppedServing old new line second third stop
+        → IsOutCause second.faults third.faults stop
     IsOutCause-stopped second third stop stopped = IsOutCause-printing stopped.text second third stop stopped.printing
 
   -- all were served
-  pub Served-all : (lines before : List Line) (begun core : CoreState D I O) (held holds : Option (List ℕ)) → Serving lines before [] begun core held holds → Served lines begun core held holds
+  pub Served-all : (lines before : List Line) (begun core : CoreState D I O) (held holds : Option (List ℕ)) → Serving lines before [] begun core held holds
+      → Served lines begun core held holds
   Served-all lines before begun core held holds so_far =
       subst (λ (ls : List Line). Served ls begun core held holds) (sym (append-nil before) ∙ sym so_far.split) so_far.served
 
   -- what was served from a core in which room was made was served from it
   GoesFrom-after : (a c : CoreState D I O) (spare : ℕ) → GoesFrom (record a { spare = spare }) c → GoesFrom a c
   GoesFrom-after a c spare from = record {
-    rest = record { header = from.rest.header; slot = from.rest.slot; free = from.rest.free; start = from.rest.start; input = from.rest.input; output = from.rest.output };
+    rest = record {
+      header = from.rest.header;
+      slot = from.rest.slot;
+      free = from.rest.free;
+      start = from.rest.start;
+      input = from.rest.input;
+      output = from.rest.output;
+    };
     never_falls = from.never_falls;
     goes_on = λ opening foreigners stands. from.goes_on opening foreigners ((GoesFrom-reserved a spare).goes_on opening foreigners stands);
     idle = from.idle;
   }
 
-  pub Served-after : (lines : List Line) (a b c : CoreState D I O) (held holds : Option (List ℕ)) → b ≡ record a { spare = b.spare } → Served lines b c held holds → Served lines a c held holds
+  pub Served-after : (lines : List Line) (a b c : CoreState D I O) (held holds : Option (List ℕ)) → b ≡ record a { spare = b.spare }
+      → Served lines b c held holds → Served lines a c held holds
   Served-after lines a b c held holds keeps served = record {
     from = GoesFrom-after a c b.spare (subst (λ (x : CoreState D I O). GoesFrom x c) keeps served.from);
     answers = served.answers;
@@ -276,7 +296,8 @@ module _ {D I O : Type 0} where
     gained = served.gained;
   }
 
-  pub ServedInPart-after : (lines : List Line) (a b c : CoreState D I O) (held holds : Option (List ℕ)) → b ≡ record a { spare = b.spare } → ServedInPart lines b c held holds → ServedInPart lines a c held holds
+  pub ServedInPart-after : (lines : List Line) (a b c : CoreState D I O) (held holds : Option (List ℕ)) → b ≡ record a { spare = b.spare }
+      → ServedInPart lines b c held holds → ServedInPart lines a c held holds
   ServedInPart-after lines a b c held holds keeps part = record {
     before = part.before;
     last = part.last;
@@ -290,7 +311,8 @@ module _ {D I O : Type 0} where
   }
 
   -- the same where there was no error, and where there was one
-  pub served_after : (lines : List Line) (a b c : CoreState D I O) (held holds : Option (List ℕ)) (r : Result (Unit {0}) Stop) → b ≡ record a { spare = b.spare }
+  pub served_after : (lines : List Line) (a b c : CoreState D I O) (held holds : Option (List ℕ)) (r : Result (Unit {0}) Stop)
+      → b ≡ record a { spare = b.spare }
       → OnOk r (Served lines b c held holds) → OnOk r (Served lines a c held holds)
   served_after lines a b c held holds (Ok done) keeps served = Served-after lines a b c held holds keeps served
   served_after lines a b c held holds (Err stop) keeps served = tt
@@ -302,20 +324,27 @@ module _ {D I O : Type 0} where
 
   module _ (old new : CoreState D I O) (line : Line) (r : Result (Unit {0}) Stop) where
     -- a line was called, and its entry printed or not
-    module _ (place : ℕ) (e : Entry) (steps : Steps old new line.lane line.number line.command (Answered place)) (there : slice_get new.history place ≡ Some e) where
+    module _ (place : ℕ) (e : Entry) (steps : Steps old new line.lane line.number line.command (Answered place))
+        (there : slice_get new.history place ≡ Some e) where
       runs_answered : RunsLine old new line (printed_line (entry_words e))
-      runs_answered = inl (steps.1, ap (λ (x : Entry). printed_line (entry_words x))
-          (entry_there old.history steps.1.entry e place steps.0 (subst (λ (h : List Entry). slice_get h place ≡ Some e) steps.1.history there)))
+      runs_answered = inl (
+        steps.1,
+        ap (λ (x : Entry). printed_line (entry_words x))
+            (entry_there old.history steps.1.entry e place steps.0 (subst (λ (h : List Entry). slice_get h place ≡ Some e) steps.1.history there)),
+      )
 
-      pub answered_printed : (held holds : Option (List ℕ)) → OnOk r (Gains held (printed_line (entry_words e)) holds) → OnOk r (ServesLine old new line held holds)
+      pub answered_printed : (held holds : Option (List ℕ)) → OnOk r (Gains held (printed_line (entry_words e)) holds)
+          → OnOk r (ServesLine old new line held holds)
       answered_printed held holds gained = by r gained where
         by : (r : Result (Unit {0}) Stop) → OnOk r (Gains held (printed_line (entry_words e)) holds) → OnOk r (ServesLine old new line held holds)
         by (Ok done) gained = record { text = printed_line (entry_words e); runs = runs_answered; gained = gained }
         by (Err stop) gained = tt
 
-      pub answered_stopped : (held holds : Seen (List ℕ)) → IfErr r (StoppedPrinting (printed_line (entry_words e)) held holds) → IfErr r (StoppedServing old new line held holds)
+      pub answered_stopped : (held holds : Seen (List ℕ)) → IfErr r (StoppedPrinting (printed_line (entry_words e)) held holds)
+          → IfErr r (StoppedServing old new line held holds)
       answered_stopped held holds stopped = by r stopped where
-        by : (r : Result (Unit {0}) Stop) → IfErr r (StoppedPrinting (printed_line (entry_words e)) held holds) → IfErr r (StoppedServing old new line held holds)
+        by : (r : Result (Unit {0}) Stop) → IfErr r (StoppedPrinting (printed_line (entry_words e)) held holds)
+            → IfErr r (StoppedServing old new line held holds)
         by (Ok done) stopped = tt
         by (Err stop) stopped = record { text = printed_line (entry_words e); runs = runs_answered; printing = stopped }
 
@@ -330,7 +359,8 @@ module _ {D I O : Type 0} where
         by (Ok done) gained = record { text = printed_line spent_words; runs = runs_spent; gained = gained }
         by (Err stop) gained = tt
 
-      pub spent_stopped : (held holds : Seen (List ℕ)) → IfErr r (StoppedPrinting (printed_line spent_words) held holds) → IfErr r (StoppedServing old new line held holds)
+      pub spent_stopped : (held holds : Seen (List ℕ)) → IfErr r (StoppedPrinting (printed_line spent_words) held holds)
+          → IfErr r (StoppedServing old new line held holds)
       spent_stopped held holds stopped = by r stopped where
         by : (r : Result (Unit {0}) Stop) → IfErr r (StoppedPrinting (printed_line spent_words) held holds) → IfErr r (StoppedServing old new line held holds)
         by (Ok done) stopped = tt

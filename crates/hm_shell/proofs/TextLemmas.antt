@@ -1,16 +1,16 @@
 -- What one line more prints.
-use Rattle.std.proofs.Common.{◌≡◌, ◌≢◌, ℕ, ◌<◌, true, false, List, [], ◌∷◌, ◌++◌, refl, sym, ap, ◌∙◌, arith, append-nil}
+use Rattle.std.proofs.Common.{◌≡◌, ◌≢◌, ℕ, ◌<◌, false, List, [], ◌∷◌, ◌++◌, refl, ap, ◌∙◌, arith, append-nil}
 use Rattle.std.specs.Prelude.{Contains, filter}
 use Rattle.std.specs.List.{AllByRecursion}
 use Rattle.std.proofs.lemmas.Bool.{eq-eqb}
 use Rattle.std.proofs.lemmas.Grind.{flat_map-append}
 use Rattle.std.proofs.lemmas.List.Elements.{filter-append, recursion_from_All}
 use Rattle.hm_model.specs.Caused.{opens}
-use Rattle.hm_model.specs.Out.{IsOf, begins, ends, entry_words, line_words, printed_line, spent_words}
+use Rattle.hm_model.specs.Out.{IsOf, begins, ends, entry_words, printed_line, spent_words}
 use Rattle.hm_model.specs.declared.entry.Entry.{Entry}
 use Rattle.hm_model.specs.declared.line.Line.{Line}
 use Rattle.hm_shell.specs.Alone.{Answers, IsSingle, line_text, out_text}
-use Rattle.hm_shell.proofs.AloneMoreLemmas.{AreOfOthers, apart, each_from, none_begins, none_ends}
+use Rattle.hm_shell.proofs.AloneMoreLemmas.{apart, each_from, none_begins, none_ends}
 
 -- an entry of another line adds nothing to what begins a line, or ends it
 begins_other : (number : ℕ) (history : List Entry) (e : Entry) → e.line ≢ number → filter (begins number) (history ++ e ∷ []) ≡ filter (begins number) history
@@ -33,8 +33,10 @@ out_others (line ∷ lines) history e others =
     ∙ ap (λ rest. line_text history line ++ rest) (out_others lines history e others.1)
 
 -- what all lines print, with one line more
-pub out_more : (lines : List Line) (line : Line) (history : List Entry) → out_text (lines ++ line ∷ []) history ≡ out_text lines history ++ line_text history line
-out_more lines line history = flat_map-append (line_text history) lines (line ∷ []) ∙ ap (λ rest. out_text lines history ++ rest) (append-nil (line_text history line))
+pub out_more : (lines : List Line) (line : Line) (history : List Entry)
+    → out_text (lines ++ line ∷ []) history ≡ out_text lines history ++ line_text history line
+out_more lines line history = flat_map-append (line_text history) lines (line ∷ [])
+    ∙ ap (λ rest. out_text lines history ++ rest) (append-nil (line_text history line))
 
 module _ (lines : List Line) (history : List Entry) (line : Line) (later : (l : Line) → Contains lines l → l.number < line.number)
     (end : ℕ) (h : Answers end lines history) where
@@ -54,7 +56,8 @@ module _ (lines : List Line) (history : List Entry) (line : Line) (later : (l : 
     ends_own = rw (eq-eqb e.line line.number of.number, of.command, single.begins) refl
 
     one_begins : filter (begins line.number) (history ++ e ∷ []) ≡ e ∷ []
-    one_begins = filter-append (begins line.number) history (e ∷ []) ∙ rw (none_begins line.number history (apart lines history line later end h), begins_own) refl
+    one_begins = filter-append (begins line.number) history (e ∷ [])
+        ∙ rw (none_begins line.number history (apart lines history line later end h), begins_own) refl
 
     none_ends_it : filter (ends line.number) (history ++ e ∷ []) ≡ []
     none_ends_it = filter-append (ends line.number) history (e ∷ []) ∙ rw (none_ends line.number history (apart lines history line later end h), ends_own) refl

@@ -1,5 +1,5 @@
 -- Which status the words, the script and the disk bring, where nothing fails.
-use Rattle.std.specs.Prelude.{◌≡◌, ℕ, List, [], ◌∷◌, Option, None, Some, IfSome, Contains}
+use Rattle.std.specs.Prelude.{ℕ, List, [], ◌∷◌, Option, None, Some, IfSome, Contains}
 use Rattle.hm_disk.specs.Crash.{Told}
 use Rattle.hm_header.specs.OnDisk.{HasFault, HasHeader}
 use Rattle.hm_header.specs.declared.fault.HeaderFault.{HeaderFault}

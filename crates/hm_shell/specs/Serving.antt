@@ -1,5 +1,5 @@
 -- The lines of a script, served from the front on an open volume, and what comes of it.
-use Rattle.std.specs.Prelude.{◌≡◌, ◌⊎◌, ℕ, ◌*◌, ◌≤◌, List, [], ◌∷◌, ◌++◌, Option, Contains, Ok, Err, length, take}
+use Rattle.std.specs.Prelude.{◌≡◌, ◌⊎◌, ℕ, ◌*◌, ◌≤◌, List, [], ◌++◌, Option, Contains, Ok, Err, length, take}
 use Rattle.hm_types.specs.declared.fault.Fault.{Fault}
 use Rattle.hm_types.specs.declared.limits.TheConstants.{GREATEST_ID}
 use Rattle.hm_disk.specs.Crash.{Told}

@@ -15,6 +15,7 @@ loop-line-preserved g c = (
 
 pub returns-in_err-serve_line-clause-err : goal.returns-in_err-serve_line-clause-err
 returns-in_err-serve_line-clause-err g c =
-    on_err c.from_residual.result (ServedInPart-stopped c.args.lines.items c.loop-line.yielded c.next.new.self.rest.items c.in-Some.line c.requires.each c.requires.rising
+    on_err c.from_residual.result
+    (ServedInPart-stopped c.args.lines.items c.loop-line.yielded c.next.new.self.rest.items c.in-Some.line c.requires.each c.requires.rising
     (seen_core c.args.core.now) (seen_core c.loop-line.core) (seen_core c.serve_line.new.core) (g.K.Sink.held c.args.out.now) _ _ _
     (rw c.in-Some.ensures.steps.0 at c.loop-line.invariant.0) c.in_err-serve_line.ensures.err)

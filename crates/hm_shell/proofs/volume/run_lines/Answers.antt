@@ -14,10 +14,10 @@ returns-in-Err-clause-err g c = inl (record {
 pub returns-clause-ok : goal.returns-clause-ok
 returns-clause-ok g c = elim c.match-outcome.branch [
   | in-Ok w ↦ rw w.outcome-is (record {
-      core = seen_core c.serve_script.new.core;
-      served = c.in_default.ensures.ok;
-      finished = rw w.in-Ok.is at c.finish-disk.ensures.disk;
-    })
+    core = seen_core c.serve_script.new.core;
+    served = c.in_default.ensures.ok;
+    finished = rw w.in-Ok.is at c.finish-disk.ensures.disk;
+  })
   | in-Err-outcome w ↦ rw w.outcome-is tt
 ]
 
@@ -25,10 +25,10 @@ pub returns-clause-err : goal.returns-clause-err
 returns-clause-err g c = elim c.match-outcome.branch [
   | in-Ok w ↦ rw w.outcome-is tt
   | in-Err-outcome w ↦ rw (w.outcome-is, w.of_fault.ensures) (inr (record {
-      core = seen_core c.serve_script.new.core;
-      served = c.in_default.ensures.ok;
-      fault = w.in-Err-outcome.fault;
-      stop_is = refl;
-      finished = rw w.in-Err-outcome.is at c.finish-disk.ensures.disk;
-    }))
+    core = seen_core c.serve_script.new.core;
+    served = c.in_default.ensures.ok;
+    fault = w.in-Err-outcome.fault;
+    stop_is = refl;
+    finished = rw w.in-Err-outcome.is at c.finish-disk.ensures.disk;
+  }))
 ]

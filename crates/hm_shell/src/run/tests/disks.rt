@@ -165,7 +165,14 @@ fn answers_up_to_the_greatest_id(rt: HostRuntime) -> Result<(), Fail> {
     let last = [0xFE, 0xFF, 0xFF, 0xFF, 0xFF, 0xFF, 0xFF, 0x7F];
     let disk = patched(&rt, made(&rt, "")?, 24, &last);
     let printed = "0x7fffffffffffffff ok\n- ids spent\n- ids spent\n";
-    let (is_so, disk) = ends(&rt, &["v"], disk, "mkdir /a\nls /\n\nmkdir /b\n", 0, printed)?;
+    let (is_so, disk) = ends(
+        &rt,
+        &["v"],
+        disk,
+        "mkdir /a\nls /\n\nmkdir /b\n",
+        0,
+        printed,
+    )?;
     assert!(rt; is_so);
     let (is_so, _) = ends(&rt, &["v"], disk, "ls /\n", 0, "- ids spent\n")?;
     assert!(rt; is_so);

@@ -105,12 +105,14 @@ fn end_of_making<R: AllocGlobal + Threads + Wait + Sync>(
     let refuses = ends_with(status, 0, &out, &["0x0000000000000002 media 0 1\n"]);
     let told = ["media 0 1\n", "0x0000000000000002 ok\nmedia 0 1\n"];
     let stops = ends_with(status, 4, &out, &told);
-    Ok(match which(rt, disk, &["0x0000000000000003 ok 0\n", OLD])? {
-        Some(0) if refuses => Some(End::Stopped),
-        Some(1) if completes => Some(End::Completed),
-        _ if stops => Some(End::Stopped),
-        _ => None,
-    })
+    Ok(
+        match which(rt, disk, &["0x0000000000000003 ok 0\n", OLD])? {
+            Some(0) if refuses => Some(End::Stopped),
+            Some(1) if completes => Some(End::Completed),
+            _ if stops => Some(End::Stopped),
+            _ => None,
+        },
+    )
 }
 
 #[test]
