@@ -33,3 +33,5 @@ pub mod MoveOverLemmas
 pub mod KnownLemmas
 pub mod TestLemmas
 pub mod MoveBesideLemmas
+pub mod GivenLemmas
+pub mod MayReplyLemmas

@@ -60,7 +60,7 @@ use Rattle.hm_calls.proofs.SceneLemmas.{scenes_named, scenes_placed, scenes_so, 
 use Rattle.hm_calls.proofs.StageLemmas.{acts_ended, good_new, master_passes, master_stopped, nameless_new, no_ids, of_refusal, past_stopped}
 use Rattle.hm_calls.proofs.StageLemmas.{refusal_so, scenes_below, scenes_own, untouched, writes_changes}
 
-makes_change : (new : New) (word : List ℕ) → is_tree_call (command_by new word) ≡ true
+pub makes_change : (new : New) (word : List ℕ) → is_tree_call (command_by new word) ≡ true
 makes_change Directory word = refl
 makes_change File word = refl
 makes_change (Softlink target) word = refl

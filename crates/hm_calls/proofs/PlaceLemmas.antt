@@ -31,6 +31,7 @@ use Rattle.hm_dirs.specs.Walk.{AreDrawn, EndsAt, IsDrawn, IsOn, OnShown, Scene, 
 use Rattle.hm_dirs.specs.declared.position.Course.{Course}
 use Rattle.hm_dirs.specs.declared.position.Stand.{Stand}
 use Rattle.hm_dirs.proofs.WalkLemmas.{nothing_told, shown_both, shown_next}
+use Rattle.hm_dirs.proofs.WalkLoopLemmas.{no_id}
 use Rattle.hm_calls.specs.Places.{IsNamed, IsReached}
 use Rattle.hm_calls.specs.declared.stop.Stop.{Stop}
 use Rattle.hm_calls.specs.declared.stop.Stop.TheVariants.{Refused, Failed}
@@ -334,6 +335,17 @@ front_has_none (part ∷ []) none = refl
 front_has_none (part ∷ next ∷ parts) none =
     let both = or_false (option_map_or (λ (_ : Id). true) part.as_of false) (has_id (Parts (next ∷ parts))) none in
     rw (both.0) (front_has_none (next ∷ parts) both.1)
+
+-- neither they nor the last part, by how they make up the path
+pub none_apart : (parts front : List Part) (last : Part) → parts ≡ front ++ last ∷ [] → has_id (Parts parts) ≡ false
+    → (has_id (Parts front) ≡ false) × (last.as_of ≡ None)
+none_apart parts front last split none = apart front (rw split at none) where
+  apart : (front : List Part) → has_id (Parts (front ++ last ∷ [])) ≡ false → (has_id (Parts front) ≡ false) × (last.as_of ≡ None)
+  apart [] none = (refl, no_id last.as_of (or_false (option_map_or (λ (_ : Id). true) last.as_of false) false none).0)
+  apart (part ∷ front) none =
+      let both = or_false (option_map_or (λ (_ : Id). true) part.as_of false) (has_id (Parts (front ++ last ∷ []))) none in
+      let rest = apart front both.1 in
+      (rw (both.0) rest.0, rest.1)
 
 -- and so the walk over them
 pub front_walks_now : (volume : Volume) (view : View) (mode : Mode) (parts : List Part) (here : Place) (passed : Passed) → has_id (Parts parts) ≡ false

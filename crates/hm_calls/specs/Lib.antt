@@ -4,6 +4,7 @@ pub mod Due
 pub mod Stop
 pub mod Known
 pub mod Places
+pub mod Possible
 pub mod Writes
 pub mod Changes
 pub mod Replies

@@ -1,5 +1,5 @@
 // What a call on names, or on the bytes of files, answers.
-ghost use Rattle.std.specs.Prelude.{◌≡◌, ◌≤◌, IfOk, IsTrue, ◌+◌, OnOk};
+ghost use Rattle.std.specs.Prelude.{◌≡◌, ◌≤◌, IfOk, IsTrue, ◌+◌, ◌-◌, OnOk, option_map};
 ghost use Rattle.hm_types.specs.declared.limits.TheConstants.{GREATEST_ID};
 ghost use Rattle.hm_key.specs.Balance.{Balanced};
 ghost use Rattle.hm_key.specs.Charges.{Charges};
@@ -11,6 +11,7 @@ ghost use Rattle.hm_model.specs.declared.reply.Reply.TheVariants.{Done as done};
 ghost use Rattle.hm_cursor.specs.Told.{HasReadingCause};
 ghost use Rattle.hm_calls.specs.Commands.{IsOnTrees, LowersRoomFor, reserves_for};
 ghost use Rattle.hm_calls.specs.Known.{AreKnown};
+ghost use Rattle.hm_calls.specs.Possible.{Gives, MayReply};
 ghost use Rattle.hm_calls.specs.Replies.{Asks, IsAnswered, Replies};
 ghost use Rattle.hm_calls.specs.Space.{TakesAtMost};
 ghost use Rattle.hm_calls.specs.Stop.{HasStopCause};
@@ -38,6 +39,9 @@ use std::alloc::Global;
 /// ends, from its id on, and leaves every older view. A refusal and a call that looks leave the store
 /// as it was.
 ///
+/// Whatever the store tells, the reply is one that the call may have by its words: the refusal of the
+/// first of its early checks that fails, which look at no store, or one that its command can give.
+///
 /// Each pseudo file system is a slave by its record, or all ids of its elements are below the
 /// call's own; so it is again for the id after it. `busy` is the id by which a mirror or upgrade
 /// call was opened that is open; none of these calls minds it. The zones 8 and 9 lose at most their
@@ -64,6 +68,7 @@ pub fn answer<T: ElementStore + Extents, H: NameHash>(
     requires known { AreKnown (T.elements store.old) (T.extents store.old) id.0 }
     ensures replies { IfOk result (Replies T.elements T.mark T.extents T.room T.free
         (H.hash_of hash.now) id.0 (Asks command.now busy) command.now store.old store.new) }
+    ensures possible { IfOk result (MayReply (id.0 - 1) (option_map (λ i. i.0) busy) command.now) }
     ensures known { OnOk result (AreKnown (T.elements store.new) (T.extents store.new)
         (id.0 + 1)) }
     ensures keeps { Keeps T.elements T.extents store.old store.new result }
@@ -96,6 +101,7 @@ fn serve<T: ElementStore + Extents, H: NameHash>(
     requires known { AreKnown (T.elements store.old) (T.extents store.old) id.0 }
     ensures answers { IsAnswered T.elements T.mark T.extents T.room T.free (H.hash_of hash.now) id.0
         command.now store.old store.new result }
+    ensures gives { Gives id.0 command.now result }
     ensures done { IsTrue (is_tree_call command.now) → IfOk result (λ reply. reply ≡ done) }
     ensures known { OnOk result (AreKnown (T.elements store.new) (T.extents store.new)
         (id.0 + 1)) }

@@ -25,7 +25,7 @@ ghost use Rattle.hm_cursor.specs.Told.{HasReadingCause, OnBalanced, fulls};
 ghost use Rattle.hm_dirs.specs.Names.{IsLookedUp, IsSpot, OnNamed, first_key, names_of_hash};
 ghost use Rattle.hm_calls.specs.Known.{AreBelowIn, AreKnown};
 ghost use Rattle.hm_cursor.specs.Names.{IsHash};
-ghost use Rattle.hm_calls.specs.Stop.{Answers, Decides, HasStopCause};
+ghost use Rattle.hm_calls.specs.Stop.{Answers, Decides, HasStopCause, IfRefused};
 
 use crate::stop::Stop;
 use hm_cursor::{find_record, next_name};
@@ -49,6 +49,7 @@ pub(crate) fn check_master<T: ElementStore + Extents>(
         (system_of volume pfs.0) false) read_only) result) }
     ensures below { OnOk result ((id : ℕ) → AreKnown (T.elements store.old) (T.extents store.old) id
         → AreBelowIn (T.elements store.old) (T.extents store.old) pfs.0 id) }
+    ensures gives { IfRefused result (λ reply. reply ≡ read_only) }
     ensures keeps { Same T.elements T.mark T.extents T.room T.free store.old store.new }
     ensures borrowed { (T.name store.new ≡ T.name store.old)
         × (T.frame store.new ≡ T.frame store.old) }
@@ -113,6 +114,7 @@ pub(crate) fn check_new<T: ElementStore + Extents, H: NameHash>(
         (tree : FileTree) → IsViewOf (fulls lists) directory.now.at.pfs.0 directory.now.as_of.0 tree →
         Answers (option_map_or (λ _. Some exists) (named_in tree directory.now.at.object name.now) None)
         result) }
+    ensures gives { IfRefused result (λ reply. reply ≡ exists) }
     ensures keeps { Same T.elements T.mark T.extents T.room T.free store.old store.new }
     ensures borrowed { (T.name store.new ≡ T.name store.old)
         × (T.frame store.new ≡ T.frame store.old) }
@@ -137,6 +139,7 @@ pub(crate) fn check_empty<T: ElementStore + Extents>(
         IsViewOf (fulls lists) directory.now.at.pfs.0 directory.now.as_of.0 tree →
         Answers (refuse_if (nat_lt 0 (length (entries_in tree directory.now.at.object))) not_empty)
         result) }
+    ensures gives { IfRefused result (λ reply. reply ≡ not_empty) }
     ensures keeps { Same T.elements T.mark T.extents T.room T.free store.old store.new }
     ensures borrowed { (T.name store.new ≡ T.name store.old)
         × (T.frame store.new ≡ T.frame store.old) }
@@ -169,6 +172,7 @@ pub(crate) fn spot_in<T: ElementStore + Extents, H: NameHash>(
         IsViewOf (fulls lists) directory.now.at.pfs.0 directory.now.as_of.0 tree →
         IsSpot (Counts (fulls lists) directory.now.as_of.0) directory.now.at.pfs.0
         directory.now.at.object (first_key (H.hash_of hash.now name.now)) spot)) }
+    ensures gives { IfRefused result (λ reply. reply ≡ hash_full) }
     ensures keeps { Same T.elements T.mark T.extents T.room T.free store.old store.new }
     ensures borrowed { (T.name store.new ≡ T.name store.old)
         × (T.frame store.new ≡ T.frame store.old) }

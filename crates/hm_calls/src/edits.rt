@@ -10,6 +10,7 @@ ghost use Rattle.hm_calls.specs.Due.{space_for};
 ghost use Rattle.hm_calls.specs.Edits.{HasAllReserves, IsEdit, all_reserves, command_for};
 ghost use Rattle.hm_calls.specs.Edits.{is_there, zones_for};
 ghost use Rattle.hm_calls.specs.Known.{AreKnown};
+ghost use Rattle.hm_calls.specs.Possible.{Gives, IsNoSpace};
 ghost use Rattle.hm_calls.specs.Replies.{Acts};
 ghost use Rattle.hm_calls.specs.Space.{TakesAtMost};
 ghost use Rattle.hm_calls.specs.Stop.{Answers, HasStopCause, IfRefused};
@@ -43,6 +44,7 @@ pub(crate) fn edit_file<T: ElementStore + Extents, H: NameHash>(
     requires known { AreKnown (T.elements store.old) (T.extents store.old) id.0 }
     ensures answers { Acts T.elements T.mark T.extents T.room T.free (H.hash_of hash.now) id.0
         (λ (call : Call). call.command ≡ command_for edit.entry word.now) store.old store.new result }
+    ensures gives { Gives id.0 (command_for edit.entry word.now) result }
     ensures done { IfOk result (λ reply. reply ≡ done) }
     ensures known { OnOk result (AreKnown (T.elements store.new) (T.extents store.new)
         (id.0 + 1)) }
@@ -75,6 +77,7 @@ pub(crate) fn edit_file<T: ElementStore + Extents, H: NameHash>(
 fn admit_edit<T: ElementStore + Extents>(store: &mut T, edit: Edit, size: u64) -> Result<(), Stop>
     ensures check { Answers (space_for (zones_for edit.entry size) 4 (T.room store.old)
         (T.free store.old)) result }
+    ensures gives { IfRefused result IsNoSpace }
     ensures reserves { OnOk result (IsFalse (is_there edit.entry size) →
         HasAllReserves (T.room store.new)) }
     ensures content { OnOk result (SameContent T.elements T.mark T.extents store.old store.new) }

@@ -18,7 +18,7 @@ ghost use Rattle.hm_dirs.specs.Walk.{IsRead, Scene, place_of};
 ghost use Rattle.hm_records.specs.declared.inode.Inode.{Inode as Node};
 ghost use Rattle.hm_volume.specs.Found.{IsFoundBy};
 ghost use Rattle.hm_calls.specs.Places.{ask_kind, gives_way_by, refuse_kind};
-ghost use Rattle.hm_calls.specs.Stop.{Decides, OfFault};
+ghost use Rattle.hm_calls.specs.Stop.{Decides, IfRefused, OfFault};
 
 use crate::rename::Moved;
 use crate::stop::Stop;
@@ -31,6 +31,7 @@ use hm_types::Obj;
 pub(crate) fn check_no_directory(stand: &Stand) -> Result<(), Stop>
     ensures check { (scene : Scene) → IsRead scene stand.now →
         Decides (refuse_kind is_dir_or_link is_a_dir (object_at scene.view (place_of stand.now.at))) result }
+    ensures gives { IfRefused result (λ reply. reply ≡ is_a_dir) }
     ensures failed { IfErr result (OfFault (λ _. ⊥)) }
 {
     match kind_of(stand) {
@@ -43,6 +44,7 @@ pub(crate) fn check_no_directory(stand: &Stand) -> Result<(), Stop>
 pub(crate) fn check_directory(stand: &Stand) -> Result<(), Stop>
     ensures check { (scene : Scene) → IsRead scene stand.now →
         Decides (ask_kind is_dir no_dir (object_at scene.view (place_of stand.now.at))) result }
+    ensures gives { IfRefused result (λ reply. reply ≡ no_dir) }
     ensures failed { IfErr result (OfFault (λ _. ⊥)) }
 {
     match kind_of(stand) {
@@ -55,6 +57,7 @@ pub(crate) fn check_directory(stand: &Stand) -> Result<(), Stop>
 pub(crate) fn check_no_softlink(stand: &Stand) -> Result<(), Stop>
     ensures check { (scene : Scene) → IsRead scene stand.now →
         Decides (refuse_kind is_softlink no_file (object_at scene.view (place_of stand.now.at))) result }
+    ensures gives { IfRefused result (λ reply. reply ≡ no_file) }
     ensures failed { IfErr result (OfFault (λ _. ⊥)) }
 {
     match kind_of(stand) {
@@ -67,6 +70,7 @@ pub(crate) fn check_no_softlink(stand: &Stand) -> Result<(), Stop>
 pub(crate) fn check_link(stand: &Stand) -> Result<(), Stop>
     ensures check { (scene : Scene) → IsRead scene stand.now →
         Decides (ask_kind is_link no_link (object_at scene.view (place_of stand.now.at))) result }
+    ensures gives { IfRefused result (λ reply. reply ≡ no_link) }
     ensures failed { IfErr result (OfFault (λ _. ⊥)) }
 {
     match kind_of(stand) {
@@ -81,6 +85,7 @@ pub(crate) fn check_links(stand: &Stand) -> Result<(), Stop>
         Decides (refuse_if (option_map_or (λ (o : Object). nat_le (2 ^ 32 - 1) o.links)
         (object_at scene.view (place_of stand.now.at)) false) too_big) result }
     ensures room { OnOk result (IfSome stand.now.inode (λ inode. inode.links < 2 ^ 32 - 1)) }
+    ensures gives { IfRefused result (λ reply. reply ≡ too_big) }
     ensures failed { IfErr result (OfFault (λ _. ⊥)) }
 {
     match stand.inode {
@@ -105,6 +110,7 @@ pub(crate) fn check_way(moved: &Stand, there: Obj, inode: Option<Inode>) -> Resu
         IfSome o (λ found. found.number.0 ≡ there.0) →
         Decides (if option_map_or (λ found. option_map_or (λ m. gives_way call m found)
         (object_at scene.view (place_of moved.now.at)) false) o false then None else Some exists) result }
+    ensures gives { IfRefused result (λ reply. reply ≡ exists) }
     ensures failed { IfErr result (OfFault (λ _. ⊥)) }
 {
     if gives_way(moved.inode, inode, there.0 == moved.at.object.0) {

@@ -7,6 +7,7 @@ ghost use Rattle.hm_model.specs.Call.{Call};
 ghost use Rattle.hm_model.specs.declared.command.Command.TheVariants.{Ln as ln};
 ghost use Rattle.hm_model.specs.declared.reply.Reply.TheVariants.{Done as done};
 ghost use Rattle.hm_calls.specs.Known.{AreKnown};
+ghost use Rattle.hm_calls.specs.Possible.{Gives};
 ghost use Rattle.hm_calls.specs.Replies.{Acts};
 ghost use Rattle.hm_calls.specs.Space.{TakesAtMost};
 ghost use Rattle.hm_calls.specs.Stop.{HasStopCause};
@@ -39,6 +40,7 @@ pub(crate) fn link<T: ElementStore + Extents, H: NameHash>(
     requires known { AreKnown (T.elements store.old) (T.extents store.old) id.0 }
     ensures answers { Acts T.elements T.mark T.extents T.room T.free (H.hash_of hash.now) id.0
         (λ (call : Call). call.command ≡ ln old.now new.now) store.old store.new result }
+    ensures gives { Gives id.0 (ln old.now new.now) result }
     ensures done { IfOk result (λ reply. reply ≡ done) }
     ensures known { OnOk result (AreKnown (T.elements store.new) (T.extents store.new)
         (id.0 + 1)) }

@@ -6,6 +6,7 @@ ghost use Rattle.hm_key.specs.Stores.{Same};
 ghost use Rattle.hm_model.specs.Call.{Call};
 ghost use Rattle.hm_model.specs.declared.command.Command.TheVariants.{Cat as cat, Ls as ls, Readlink as readlink};
 ghost use Rattle.hm_model.specs.declared.command.Command.TheVariants.{Stat as stat};
+ghost use Rattle.hm_calls.specs.Possible.{Gives};
 ghost use Rattle.hm_calls.specs.Replies.{Looks};
 ghost use Rattle.hm_calls.specs.Stop.{HasStopCause};
 
@@ -33,6 +34,7 @@ pub(crate) fn list_names<T: ElementStore + Extents, H: NameHash>(
     requires balanced { Balanced (T.elements store.old) (T.extents store.old) }
     ensures answers { Looks T.elements T.mark T.extents T.room T.free (H.hash_of hash.now) id.0
         (λ (call : Call). call.command ≡ ls word.now) store.old store.new result }
+    ensures gives { Gives id.0 (ls word.now) result }
     ensures keeps { Same T.elements T.mark T.extents T.room T.free store.old store.new }
     ensures borrowed { (T.name store.new ≡ T.name store.old)
         × (T.frame store.new ≡ T.frame store.old) }
@@ -62,6 +64,7 @@ pub(crate) fn tell_bytes<T: ElementStore + Extents, H: NameHash>(
     requires balanced { Balanced (T.elements store.old) (T.extents store.old) }
     ensures answers { Looks T.elements T.mark T.extents T.room T.free (H.hash_of hash.now) id.0
         (λ (call : Call). call.command ≡ cat word.now offset count) store.old store.new result }
+    ensures gives { Gives id.0 (cat word.now offset count) result }
     ensures keeps { Same T.elements T.mark T.extents T.room T.free store.old store.new }
     ensures borrowed { (T.name store.new ≡ T.name store.old)
         × (T.frame store.new ≡ T.frame store.old) }
@@ -92,6 +95,7 @@ pub(crate) fn tell_status<T: ElementStore + Extents, H: NameHash>(
     requires balanced { Balanced (T.elements store.old) (T.extents store.old) }
     ensures answers { Looks T.elements T.mark T.extents T.room T.free (H.hash_of hash.now) id.0
         (λ (call : Call). call.command ≡ stat word.now) store.old store.new result }
+    ensures gives { Gives id.0 (stat word.now) result }
     ensures keeps { Same T.elements T.mark T.extents T.room T.free store.old store.new }
     ensures borrowed { (T.name store.new ≡ T.name store.old)
         × (T.frame store.new ≡ T.frame store.old) }
@@ -126,6 +130,7 @@ pub(crate) fn tell_target<T: ElementStore + Extents, H: NameHash>(
     requires balanced { Balanced (T.elements store.old) (T.extents store.old) }
     ensures answers { Looks T.elements T.mark T.extents T.room T.free (H.hash_of hash.now) id.0
         (λ (call : Call). call.command ≡ readlink word.now) store.old store.new result }
+    ensures gives { Gives id.0 (readlink word.now) result }
     ensures keeps { Same T.elements T.mark T.extents T.room T.free store.old store.new }
     ensures borrowed { (T.name store.new ≡ T.name store.old)
         × (T.frame store.new ≡ T.frame store.old) }

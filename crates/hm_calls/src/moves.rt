@@ -18,6 +18,7 @@ ghost use Rattle.hm_dirs.specs.Walk.{IsRead, Scene};
 ghost use Rattle.hm_calls.specs.Due.{space_for};
 ghost use Rattle.hm_calls.specs.Known.{AreBelowIn, AreKnown};
 ghost use Rattle.hm_calls.specs.Moves.{IsMovedOver, MovesBeside, over_checks};
+ghost use Rattle.hm_calls.specs.Possible.{Gives, RefusesBeside, RefusesOver};
 ghost use Rattle.hm_calls.specs.Replies.{Acts};
 ghost use Rattle.hm_calls.specs.Space.{TakesAtMost};
 ghost use Rattle.hm_calls.specs.Stop.{Answers, HasStopCause, IfRefused};
@@ -51,6 +52,7 @@ pub(crate) fn move_to<T: ElementStore + Extents, H: NameHash>(
     requires known { AreKnown (T.elements store.old) (T.extents store.old) id.0 }
     ensures answers { Acts T.elements T.mark T.extents T.room T.free (H.hash_of hash.now) id.0
         (λ (call : Call). call.command ≡ mv old.now new.now) store.old store.new result }
+    ensures gives { Gives id.0 (mv old.now new.now) result }
     ensures done { IfOk result (λ reply. reply ≡ done) }
     ensures known { OnOk result (AreKnown (T.elements store.new) (T.extents store.new)
         (id.0 + 1)) }
@@ -125,6 +127,7 @@ fn move_beside<T: ElementStore + Extents, H: NameHash>(
     ensures ok { OnOk result (Writes T.elements T.extents
         (MovesBeside (H.hash_of hash.now) (place_of_name old.entry) (place_of_name new.entry)
         new.entry.directory.now.as_of.0 id.0 moved.obj) store.old store.new) }
+    ensures gives { IfRefused result RefusesBeside }
     ensures keeps { Keeps T.elements T.extents store.old store.new result }
     ensures room { TakesAtMost T.room T.free reserves store.old store.new result
         × (T.name store.new ≡ T.name store.old) × (T.frame store.new ≡ T.frame store.old) }
@@ -165,6 +168,7 @@ fn move_over<T: ElementStore + Extents, H: NameHash>(
     ensures ok { OnOk result (Writes T.elements T.extents
         (IsMovedOver (H.hash_of hash.now) (place_of_name old.entry) (place_of_name new.entry) key id.0
         object.now moved.obj there) store.old store.new) }
+    ensures gives { IfRefused result RefusesOver }
     ensures keeps { Keeps T.elements T.extents store.old store.new result }
     ensures room { TakesAtMost T.room T.free reserves store.old store.new result
         × (T.name store.new ≡ T.name store.old) × (T.frame store.new ≡ T.frame store.old) }

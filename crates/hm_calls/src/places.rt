@@ -1,14 +1,16 @@
 // Where the paths of a call lead.
-ghost use Rattle.std.specs.Prelude.{◌≡◌, ℕ, List, Some, IfOk};
+ghost use Rattle.std.specs.Prelude.{◌≡◌, ℕ, List, Bool, false, None, Some, IfOk};
 ghost use Rattle.hm_key.specs.Balance.{Balanced};
 ghost use Rattle.hm_key.specs.Stores.{Same};
-ghost use Rattle.hm_model.specs.Sites.{in_directory, front_of, last_name, standing_name};
+ghost use Rattle.hm_model.specs.Due.{has_id};
+ghost use Rattle.hm_model.specs.Sites.{Parts, in_directory, front_of, last_name, standing_name};
 ghost use Rattle.hm_model.specs.Walk.{Follows as follows, Passed, Stays as stays, step as stepped, walk as walked_along};
 ghost use Rattle.hm_records.specs.KeysFit.{KeysFit};
 ghost use Rattle.hm_dirs.specs.Walk.{AreDrawn, IsDrawn, IsOn, OnShown, mode_of, place_of, reply_of};
 ghost use Rattle.hm_calls.specs.declared.stop.Stop.TheVariants.{Refused as refusal};
 ghost use Rattle.hm_calls.specs.Places.{IsNamed, IsPlaced, IsReached};
-ghost use Rattle.hm_calls.specs.Stop.{HasStopCause};
+ghost use Rattle.hm_calls.specs.Possible.{IsLost};
+ghost use Rattle.hm_calls.specs.Stop.{HasStopCause, IfRefused};
 
 use crate::stop::Stop;
 use hm_dirs::{Course, Follow, Lost, NameHash, Stand, step, walk};
@@ -32,6 +34,8 @@ pub(crate) fn reach<T: ElementStore + Extents, H: NameHash>(
         KeysFit (H.hash_of hash.now) scene.elements → AreDrawn scene.course.last parts.now
         → IsReached scene (mode_of follow)
         (walked_along scene.volume scene.view (mode_of follow) parts.now) result) }
+    ensures gives { IfRefused result (IsLost (has_id (Parts parts.now))) }
+    ensures now { has_id (Parts parts.now) ≡ false → IfOk result (λ stand. stand.at.when ≡ None) }
     ensures keeps { Same T.elements T.mark T.extents T.room T.free store.old store.new }
     ensures borrowed { (T.name store.new ≡ T.name store.old)
         × (T.frame store.new ≡ T.frame store.old) }
@@ -54,6 +58,7 @@ pub(crate) fn reach_directory<T: ElementStore + Extents, H: NameHash>(
         KeysFit (H.hash_of hash.now) scene.elements → AreDrawn scene.course.last front.now
         → (name : List ℕ) → IsPlaced scene name (in_directory scene.view (Some name)
         (walked_along scene.volume scene.view follows front.now)) result) }
+    ensures gives { IfRefused result (IsLost (has_id (Parts front.now))) }
     ensures keeps { Same T.elements T.mark T.extents T.room T.free store.old store.new }
     ensures borrowed { (T.name store.new ≡ T.name store.old)
         × (T.frame store.new ≡ T.frame store.old) }
@@ -83,6 +88,8 @@ pub(crate) fn reach_name<T: ElementStore + Extents, H: NameHash>(
         → IsNamed scene name (standing_name (Some name)
         (walked_along scene.volume scene.view follows (front_of parts.now))
         (walked_along scene.volume scene.view stays parts.now)) result) }
+    ensures gives { (name : List ℕ) → last_name parts.now ≡ Some name →
+        IfRefused result (IsLost (has_id (Parts parts.now))) }
     ensures keeps { Same T.elements T.mark T.extents T.room T.free store.old store.new }
     ensures borrowed { (T.name store.new ≡ T.name store.old)
         × (T.frame store.new ≡ T.frame store.old) }
@@ -111,6 +118,9 @@ fn reach_last<T: ElementStore + Extents, H: NameHash>(
         KeysFit (H.hash_of hash.now) scene.elements → IsDrawn scene.course.last last.now.as_of
         → (passed : Passed) → IsOn scene passed directory → IsReached scene stays
         (stepped scene.volume scene.view stays last.now (place_of directory.at) passed) result) }
+    ensures gives { (ids : Bool) →
+        (ids ≡ false → (last.now.as_of ≡ None) × (directory.at.when ≡ None)) →
+        IfRefused result (IsLost ids) }
     ensures keeps { Same T.elements T.mark T.extents T.room T.free store.old store.new }
     ensures borrowed { (T.name store.new ≡ T.name store.old)
         × (T.frame store.new ≡ T.frame store.old) }

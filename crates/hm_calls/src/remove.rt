@@ -9,6 +9,7 @@ ghost use Rattle.hm_model.specs.declared.command.Command.TheVariants.{Rm as rm, 
 ghost use Rattle.hm_calls.specs.Due.{space_for, zones_beside};
 ghost use Rattle.hm_model.specs.declared.reply.Reply.TheVariants.{Done as done};
 ghost use Rattle.hm_calls.specs.Known.{AreKnown};
+ghost use Rattle.hm_calls.specs.Possible.{Gives, IsNoSpace};
 ghost use Rattle.hm_calls.specs.Replies.{Acts};
 ghost use Rattle.hm_calls.specs.Space.{TakesAtMost};
 ghost use Rattle.hm_calls.specs.Stop.{Answers, HasStopCause, IfRefused};
@@ -41,6 +42,7 @@ pub(crate) fn remove<T: ElementStore + Extents, H: NameHash>(
     requires known { AreKnown (T.elements store.old) (T.extents store.old) id.0 }
     ensures answers { Acts T.elements T.mark T.extents T.room T.free (H.hash_of hash.now) id.0
         (λ (call : Call). call.command ≡ rm word.now) store.old store.new result }
+    ensures gives { Gives id.0 (rm word.now) result }
     ensures done { IfOk result (λ reply. reply ≡ done) }
     ensures known { OnOk result (AreKnown (T.elements store.new) (T.extents store.new)
         (id.0 + 1)) }
@@ -73,6 +75,7 @@ pub(crate) fn remove<T: ElementStore + Extents, H: NameHash>(
 fn admit_rest<T: ElementStore + Extents>(store: &mut T, inode: &Inode) -> Result<(), Stop>
     ensures check { Answers (space_for (zones_beside inode.now) 0 (T.room store.old)
         (T.free store.old)) result }
+    ensures gives { IfRefused result IsNoSpace }
     ensures reserves { OnOk result (1 < inode.now.links → HasReserves (T.room store.new)) }
     ensures content { OnOk result (SameContent T.elements T.mark T.extents store.old store.new) }
     ensures refused { IfRefused result (λ _.
@@ -109,6 +112,7 @@ pub(crate) fn remove_directory<T: ElementStore + Extents, H: NameHash>(
     requires known { AreKnown (T.elements store.old) (T.extents store.old) id.0 }
     ensures answers { Acts T.elements T.mark T.extents T.room T.free (H.hash_of hash.now) id.0
         (λ (call : Call). call.command ≡ rmdir word.now) store.old store.new result }
+    ensures gives { Gives id.0 (rmdir word.now) result }
     ensures done { IfOk result (λ reply. reply ≡ done) }
     ensures known { OnOk result (AreKnown (T.elements store.new) (T.extents store.new)
         (id.0 + 1)) }

@@ -8,6 +8,7 @@ ghost use Rattle.hm_model.specs.Needs.{bytes_zones, names_zones};
 ghost use Rattle.hm_model.specs.declared.reply.Reply.TheVariants.{NoSpace as no_space};
 ghost use Rattle.hm_calls.specs.Due.{lacking};
 ghost use Rattle.hm_calls.specs.Edits.{HasAllReserves};
+ghost use Rattle.hm_calls.specs.Possible.{IsNoSpace};
 ghost use Rattle.hm_calls.specs.Space.{TakesAtMost};
 ghost use Rattle.hm_calls.specs.Stop.{Answers, HasStopCause, IfRefused};
 ghost use Rattle.hm_calls.specs.Writes.{HasReserves};
@@ -24,6 +25,7 @@ pub(crate) fn admit_names<T: ElementStore + Extents>(store: &mut T, held: u32) -
     ensures check { Answers (refuse_if (nat_lt (T.free store.old - held)
         (lacking names_zones (T.room store.old)))
         (no_space (T.free store.old) (lacking names_zones (T.room store.old)))) result }
+    ensures gives { IfRefused result IsNoSpace }
     ensures reserves { OnOk result (HasReserves (T.room store.new)) }
     ensures content { OnOk result (SameContent T.elements T.mark T.extents store.old store.new) }
     ensures refused { IfRefused result (λ _.
@@ -48,6 +50,7 @@ pub(crate) fn admit_bytes<T: ElementStore + Extents>(store: &mut T, held: u32) -
     ensures check { Answers (refuse_if (nat_lt (T.free store.old - held)
         (lacking bytes_zones (T.room store.old)))
         (no_space (T.free store.old) (lacking bytes_zones (T.room store.old)))) result }
+    ensures gives { IfRefused result IsNoSpace }
     ensures reserves { OnOk result (HasAllReserves (T.room store.new)) }
     ensures content { OnOk result (SameContent T.elements T.mark T.extents store.old store.new) }
     ensures refused { IfRefused result (λ _.

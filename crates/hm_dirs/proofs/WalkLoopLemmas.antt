@@ -1,16 +1,21 @@
 -- A walk over the parts of a path, one after the other.
-use Rattle.std.proofs.Common.{◌≡◌, ◌-◌, ◌≤◌, Bool, true, false, ℕ, List, [], ◌∷◌, Option, drop, get_or, length, take, Ok, Err, refl, sym, ap, subst, ◌∙◌, arith}
+use Rattle.std.proofs.Common.{◌≡◌, ◌-◌, ◌≤◌, Bool, true, false, ℕ, List, [], ◌∷◌, Option, Some, None, Result, drop, get_or, length, take, Ok, Err, refl, sym, ap, subst, ◌∙◌, arith}
 use Rattle.std.specs.Prelude.{◌==◌, if◌then◌else◌}
+use Rattle.std.specs.Option.{option_map_or}
 use Rattle.std.proofs.lemmas.Bool.{eqb-true, eq-eqb, false≢true}
 use Rattle.std.proofs.lemmas.List.{take_all}
 use Rattle.hm_types.specs.Elements.{Key}
+use Rattle.hm_types.specs.declared.id.Id.{Id}
 use Rattle.hm_path.specs.declared.part.Part.{Part}
 use Rattle.hm_key.specs.Extents.{Extent}
 use Rattle.hm_key.specs.Stores.{Same}
 use Rattle.hm_key.specs.declared.element.Element.{Element}
+use Rattle.hm_model.specs.Due.{has_id}
+use Rattle.hm_model.specs.Sites.{Parts}
 use Rattle.hm_model.specs.View.{Position as Place}
 use Rattle.hm_model.specs.Walk.{Passed, Walked, Reaches, Refuses, Follow as Mode, Follows as follows, and_then, follow_before, start, step, walk, walk_on}
-use Rattle.hm_dirs.specs.Walk.{AreDrawn, ComesOut, EndsAt, IsOn, Scene, place_of}
+use Rattle.hm_model.proofs.EffectLemmas.{or_false}
+use Rattle.hm_dirs.specs.Walk.{AreDrawn, ComesOut, EndsAt, IsOn, Scene, StaysNow, place_of}
 use Rattle.hm_dirs.specs.declared.position.Lost.{Lost}
 use Rattle.hm_dirs.specs.declared.position.Stand.{Stand}
 
@@ -46,6 +51,19 @@ first_and_more [] part some is = absurd (omega (arith, some))
 first_and_more (first ∷ more) part some is =
     let few : length more ≤ length (first ∷ more) - 1 = omega arith in
     ap (λ (p : Part). p ∷ more) (sym is) ∙ ap (λ (list : List Part). part ∷ list) (sym (take_all (length (first ∷ more) - 1) more few))
+
+-- an id that a part does not have
+pub no_id : (id : Option Id) → option_map_or (λ (i : Id). true) id false ≡ false → id ≡ None
+no_id None is = refl
+no_id (Some id) is = absurd (cc)
+
+-- a part without an id leads from a place as of now to another one
+pub now_on : (rest more : List Part) (part : Part) (from : Stand) (walked : Result Stand Lost) → rest ≡ part ∷ more
+    → (has_id (Parts rest) ≡ false) × (from.at.when ≡ None) → (part.as_of ≡ None → from.at.when ≡ None → StaysNow walked)
+    → (has_id (Parts more) ≡ false) × StaysNow walked
+now_on rest more part from walked split now step =
+    let both = or_false (option_map_or (λ (i : Id). true) part.as_of false) (has_id (Parts more)) (rw split at now.0) in
+    (both.1, step (no_id part.as_of both.0) now.1)
 
 module _ (scene : Scene) (mode : Mode) (parts : List Part) where
   -- before the first part

@@ -160,6 +160,14 @@ ComesOut scene mode (Refuses reply passed) (Err lost) = reply ≡ reply_of lost
 ComesOut scene mode (Reaches here passed) (Err lost) = ⊥
 ComesOut scene mode (Refuses reply passed) (Ok stand) = ⊥
 
+-- Whatever a store tells: without an id a walk comes to a place as of now, or is lost for another reason than that an id is
+-- not kept.
+abbrev pub StaysNow : Result Stand Lost → Type 0
+StaysNow (Ok stand) = stand.at.when ≡ None
+StaysNow (Err NotFound) = Unit {0}
+StaysNow (Err NotDir) = Unit {0}
+StaysNow (Err NotRetained) = ⊥
+
 -- from where a walk is it goes on as that of the model
 abbrev pub GoesOn : Scene → Mode → (Place → Passed → Walked) → Stand → Result Stand Lost → Type 0
 GoesOn scene mode next from walked =

@@ -1,5 +1,5 @@
 // From an object to one that it leads to: over a link, to a name, or as of another id.
-ghost use Rattle.std.specs.Prelude.{◌≡◌, IfOk, Some};
+ghost use Rattle.std.specs.Prelude.{◌≡◌, IfOk, None, Some};
 ghost use Rattle.hm_types.specs.declared.object.Object.{Object};
 ghost use Rattle.hm_key.specs.Balance.{Balanced};
 ghost use Rattle.hm_key.specs.Stores.{Same};
@@ -9,7 +9,7 @@ ghost use Rattle.hm_model.specs.Walk.{by_id as seen, by_name as named, find_name
 ghost use Rattle.hm_model.specs.Walk.{from_found as gone, over_link as led};
 ghost use Rattle.hm_records.specs.KeysFit.{KeysFit};
 ghost use Rattle.hm_cursor.specs.Told.{HasReadingCause};
-ghost use Rattle.hm_dirs.specs.Walk.{GoesOn, IsDrawn, OnShown, mode_of, place_of};
+ghost use Rattle.hm_dirs.specs.Walk.{GoesOn, IsDrawn, OnShown, StaysNow, mode_of, place_of};
 
 use crate::hash::NameHash;
 use crate::lookup::look_up;
@@ -35,6 +35,7 @@ fn over_link<T: ElementStore + Extents>(
         OnShown (T.elements store.old) (T.extents store.old) course (λ scene.
         GoesOn scene (mode_of follow)
         (led scene.volume scene.view (mode_of follow) pfs.0) stand walked)) }
+    ensures now { stand.at.when ≡ None → IfOk result StaysNow }
     ensures keeps { Same T.elements T.mark T.extents T.room T.free store.old store.new }
     ensures borrowed { (T.name store.new ≡ T.name store.old)
         × (T.frame store.new ≡ T.frame store.old) }
@@ -62,6 +63,7 @@ fn from_found<T: ElementStore + Extents>(
         (object : Object) → object_at scene.view (place_of stand.at) ≡ Some object
         → GoesOn scene (mode_of follow)
         (gone scene.volume scene.view (mode_of follow) object) stand walked)) }
+    ensures now { stand.at.when ≡ None → IfOk result StaysNow }
     ensures keeps { Same T.elements T.mark T.extents T.room T.free store.old store.new }
     ensures borrowed { (T.name store.new ≡ T.name store.old)
         × (T.frame store.new ≡ T.frame store.old) }
@@ -88,6 +90,7 @@ fn to_object<T: ElementStore + Extents>(
         OnShown (T.elements store.old) (T.extents store.old) course (λ scene.
         GoesOn scene (mode_of follow) (λ here. find_object scene.volume scene.view
         (mode_of follow) (record here { object = object })) stand walked)) }
+    ensures now { stand.at.when ≡ None → IfOk result StaysNow }
     ensures keeps { Same T.elements T.mark T.extents T.room T.free store.old store.new }
     ensures borrowed { (T.name store.new ≡ T.name store.old)
         × (T.frame store.new ≡ T.frame store.old) }
@@ -116,6 +119,7 @@ fn to_name<T: ElementStore + Extents, H: NameHash>(
         OnShown (T.elements store.old) (T.extents store.old) course (λ scene.
         KeysFit (H.hash_of hash.now) scene.elements → GoesOn scene (mode_of follow)
         (find_name scene.volume scene.view (mode_of follow) name.now) stand walked)) }
+    ensures now { stand.at.when ≡ None → IfOk result StaysNow }
     ensures keeps { Same T.elements T.mark T.extents T.room T.free store.old store.new }
     ensures borrowed { (T.name store.new ≡ T.name store.old)
         × (T.frame store.new ≡ T.frame store.old) }
@@ -150,6 +154,7 @@ pub(crate) fn by_name<T: ElementStore + Extents, H: NameHash>(
         OnShown (T.elements store.old) (T.extents store.old) course (λ scene.
         KeysFit (H.hash_of hash.now) scene.elements → GoesOn scene (mode_of follow)
         (named scene.volume scene.view (mode_of follow) part.now.name) stand walked)) }
+    ensures now { stand.at.when ≡ None → IfOk result StaysNow }
     ensures keeps { Same T.elements T.mark T.extents T.room T.free store.old store.new }
     ensures borrowed { (T.name store.new ≡ T.name store.old)
         × (T.frame store.new ≡ T.frame store.old) }
@@ -178,6 +183,7 @@ pub(crate) fn by_id<T: ElementStore + Extents>(
         OnShown (T.elements store.old) (T.extents store.old) course (λ scene.
         IsDrawn scene.course.last as_of
         → GoesOn scene follows (seen scene.volume scene.view as_of) stand walked)) }
+    ensures now { as_of ≡ None → stand.at.when ≡ None → IfOk result StaysNow }
     ensures keeps { Same T.elements T.mark T.extents T.room T.free store.old store.new }
     ensures borrowed { (T.name store.new ≡ T.name store.old)
         × (T.frame store.new ≡ T.frame store.old) }

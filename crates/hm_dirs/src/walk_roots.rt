@@ -1,5 +1,5 @@
 // The roots of pseudo file systems: where walks begin, and where links lead.
-ghost use Rattle.std.specs.Prelude.{◌≡◌, [], ◌∷◌, IfOk};
+ghost use Rattle.std.specs.Prelude.{◌≡◌, [], ◌∷◌, IfOk, None};
 ghost use Rattle.hm_key.specs.Balance.{Balanced};
 ghost use Rattle.hm_key.specs.Stores.{Same};
 ghost use Rattle.hm_model.specs.Walk.{Passed, enter as entered, start as begin, take_pfs as taken};
@@ -7,7 +7,7 @@ ghost use Rattle.hm_model.specs.Walk.{Follows as follows, TakesPfs as takes_pfs}
 ghost use Rattle.hm_records.specs.View.{IsViewOf};
 ghost use Rattle.hm_cursor.specs.Told.{HasReadingCause};
 ghost use Rattle.hm_dirs.specs.Walk.{ComesOut, EndsAt, IsDrawn, IsSeenAs, IsShownAs, IsTold};
-ghost use Rattle.hm_dirs.specs.Walk.{OnShown, found_at, place_of, root_at, shown_by, when_of};
+ghost use Rattle.hm_dirs.specs.Walk.{OnShown, StaysNow, found_at, place_of, root_at, shown_by, when_of};
 
 use crate::position::{Course, Lost, Position, Stand};
 use hm_cursor::{find_inode, find_record};
@@ -29,6 +29,7 @@ pub(crate) fn start<T: ElementStore + Extents>(
     ensures ok { IfOk result (λ stand.
         OnShown (T.elements store.old) (T.extents store.old) course (λ scene.
         EndsAt scene follows begin ((0, 1) ∷ []) stand)) }
+    ensures now { IfOk result (λ stand. stand.at.when ≡ None) }
     ensures keeps { Same T.elements T.mark T.extents T.room T.free store.old store.new }
     ensures borrowed { (T.name store.new ≡ T.name store.old)
         × (T.frame store.new ≡ T.frame store.old) }
@@ -63,6 +64,7 @@ pub(crate) fn enter<T: ElementStore + Extents>(
         (list : Passed) → IsTold scene list passed → IsDrawn scene.course.last when
         → ComesOut scene follows
         (entered scene.volume scene.view pfs.0 (when_of when) list) walked)) }
+    ensures now { when ≡ None → IfOk result StaysNow }
     ensures keeps { Same T.elements T.mark T.extents T.room T.free store.old store.new }
     ensures borrowed { (T.name store.new ≡ T.name store.old)
         × (T.frame store.new ≡ T.frame store.old) }
@@ -93,6 +95,7 @@ pub(crate) fn take_pfs<T: ElementStore + Extents>(
         OnShown (T.elements store.old) (T.extents store.old) course (λ scene.
         (list : Passed) → IsTold scene list passed → ComesOut scene takes_pfs
         (taken scene.volume pfs.0 (when_of when) list) walked)) }
+    ensures now { when ≡ None → IfOk result StaysNow }
     ensures keeps { Same T.elements T.mark T.extents T.room T.free store.old store.new }
     ensures borrowed { (T.name store.new ≡ T.name store.old)
         × (T.frame store.new ≡ T.frame store.old) }
@@ -123,6 +126,7 @@ pub(crate) fn look_at<T: ElementStore + Extents>(
         (list : Passed) → IsTold scene list passed → IsDrawn scene.course.last at.when
         → IsViewOf scene.elements at.pfs.0 as_of.0 (scene.view at.pfs.0 (when_of at.when))
         → ComesOut scene follows (found_at scene.view (place_of at) list) walked)) }
+    ensures now { at.when ≡ None → IfOk result StaysNow }
     ensures keeps { Same T.elements T.mark T.extents T.room T.free store.old store.new }
     ensures borrowed { (T.name store.new ≡ T.name store.old)
         × (T.frame store.new ≡ T.frame store.old) }

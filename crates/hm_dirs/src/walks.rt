@@ -1,11 +1,13 @@
 // Walks along the parts of a path, over the elements of a store.
-ghost use Rattle.std.specs.Prelude.{◌≡◌, IfOk};
+ghost use Rattle.std.specs.Prelude.{◌≡◌, IfOk, None, false};
 ghost use Rattle.hm_key.specs.Balance.{Balanced};
 ghost use Rattle.hm_key.specs.Stores.{Same};
+ghost use Rattle.hm_model.specs.Due.{has_id};
+ghost use Rattle.hm_model.specs.Sites.{Parts};
 ghost use Rattle.hm_model.specs.Walk.{step as stepped, walk as walked_along};
 ghost use Rattle.hm_records.specs.KeysFit.{KeysFit};
 ghost use Rattle.hm_cursor.specs.Told.{HasReadingCause};
-ghost use Rattle.hm_dirs.specs.Walk.{AreDrawn, ComesOut, GoesOn, IsDrawn, OnShown, mode_of};
+ghost use Rattle.hm_dirs.specs.Walk.{AreDrawn, ComesOut, GoesOn, IsDrawn, OnShown, StaysNow, mode_of};
 
 use crate::hash::NameHash;
 use crate::position::{Course, Follow, Lost, Stand};
@@ -39,6 +41,7 @@ pub fn walk<T: ElementStore + Extents, H: NameHash>(
         KeysFit (H.hash_of hash.now) scene.elements → AreDrawn scene.course.last parts.now
         → ComesOut scene (mode_of follow)
         (walked_along scene.volume scene.view (mode_of follow) parts.now) walked)) }
+    ensures now { has_id (Parts parts.now) ≡ false → IfOk result StaysNow }
     ensures keeps { Same T.elements T.mark T.extents T.room T.free store.old store.new }
     ensures borrowed { (T.name store.new ≡ T.name store.old)
         × (T.frame store.new ≡ T.frame store.old) }
@@ -75,6 +78,7 @@ pub fn step<T: ElementStore + Extents, H: NameHash>(
         KeysFit (H.hash_of hash.now) scene.elements → IsDrawn scene.course.last part.now.as_of
         → GoesOn scene (mode_of follow)
         (stepped scene.volume scene.view (mode_of follow) part.now) stand walked)) }
+    ensures now { part.now.as_of ≡ None → stand.at.when ≡ None → IfOk result StaysNow }
     ensures keeps { Same T.elements T.mark T.extents T.room T.free store.old store.new }
     ensures borrowed { (T.name store.new ≡ T.name store.old)
         × (T.frame store.new ≡ T.frame store.old) }

@@ -1,5 +1,6 @@
 -- The pages of a space share no byte with each other, nor with a payload.
-use Rattle.std.proofs.Common.{◌≡◌, ◌≢◌, ◌⊎◌, inl, inr, ℕ, ◌+◌, ◌*◌, ◌/◌, ◌<◌, ◌≤◌, List, ◌∷◌, IsSome, ap, refl, sym, ◌∙◌, arith, map}
+use Rattle.std.proofs.Common.{◌≡◌, ◌≢◌, ◌⊎◌, inl, inr, true≢false, ℕ, ◌+◌, ◌*◌, ◌/◌, ◌<◌, ◌≤◌, List, ◌∷◌}
+use Rattle.std.proofs.Common.{IsSome, None, Option, ap, refl, sym, ◌∙◌, arith, is_some, map}
 use Rattle.std.specs.List.{Contains}
 use Rattle.std.proofs.lemmas.Bool.{cases_lt}
 use Rattle.std.proofs.lemmas.List.Elements.{All-contains, Contains-append_right}
@@ -24,8 +25,8 @@ use Rattle.hm_image.proofs.NamedLemmas.{page_byte}
 use Rattle.hm_image.proofs.OffsetLemmas.{byte_is}
 use Rattle.hm_stored.specs.Basis.{IsFirm, elements_in, nodes, refers}
 use Rattle.hm_stored.specs.Heap.{Heap}
+use Rattle.hm_stored.specs.Held.{AreOfVolume}
 use Rattle.hm_stored.specs.Standing.{basis_now}
-use Rattle.hm_state.specs.Written.{AreOfVolume}
 use Rattle.hm_state.proofs.KeptLemmas.{page_referred}
 
 -- two pages of layer 2 are one, or share no byte
@@ -53,7 +54,7 @@ module _ (h : Heap) (root : ℕ) (firm : IsFirm (basis_now h root)) (only : AreO
   refs = refers current root
 
   -- what the tree refers to stands in the pool
-  placed : (r : Reference) → Contains refs r → (start_of (first_pool h.bigblocks) ≤ begin_of r) × (end_of r ≤ start_of h.bigblocks)
+  pub placed : (r : Reference) → Contains refs r → (start_of (first_pool h.bigblocks) ≤ begin_of r) × (end_of r ≤ start_of h.bigblocks)
   placed r there =
       let is = All-contains (IsPlaced h.bigblocks) refs r (all_left (IsPlaced h.bigblocks) refs _ firm.stand.placed) there in
       let low = placed_low h.bigblocks r is in
@@ -140,3 +141,20 @@ module _ (h : Heap) (root : ℕ) (firm : IsFirm (basis_now h root)) (only : AreO
             let pool = firm.stand.appended.pool 0 (omega arith) in
             (omega (arith, both.0, byte), omega (arith, both.1, byte, pool.0, pool.1))
       ]
+
+  -- a page of layer 2 that the space does not keep shares no byte with one that it keeps
+  pub past_apart : (at block : ℕ) → IsSome (current at) → block < layer2_blocks h.bigblocks * blocks_per_layer2 → current (page_of block) ≡ None
+      → (byte_of at + PAGE_BYTES ≤ byte_of (page_of block)) ⊎ (byte_of (page_of block) + PAGE_BYTES ≤ byte_of at)
+  past_apart at block there few none =
+      let place = page_byte h.bigblocks block size few in
+      elim (only at there) [
+        | inl zone ↦ inr (omega (arith, place.1, (placed (to_node at) (page_referred current root at firm.tree zone there)).0))
+        | inr (next, low, here) ↦
+            let byte = ap byte_of here in
+            elim (layer2_apart next block (omega (arith, low, size.1)) (omega (arith, few, size.1)) (λ same. missing (here ∙ same))) [
+              | inl before ↦ inl (omega (arith, before, byte))
+              | inr after ↦ inr (omega (arith, after, byte))
+            ]
+      ] where
+        missing : at ≢ page_of block
+        missing same = true≢false (sym there ∙ ap (λ (x : ℕ). is_some (current x)) same ∙ ap (λ (o : Option (List ℕ)). is_some o) none)

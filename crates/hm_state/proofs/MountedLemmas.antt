@@ -39,11 +39,12 @@ use Rattle.hm_load.specs.Loaded.{IsLoaded}
 use Rattle.hm_load.proofs.TreeLemmas.{Keeps, same_there}
 use Rattle.hm_stored.specs.Basis.{AreFixed, Basis, IsFirm, entry_outside, fulls_in, nodes, refers}
 use Rattle.hm_stored.specs.Heap.{heap_of}
+use Rattle.hm_stored.specs.Held.{AreOfVolume}
 use Rattle.hm_stored.specs.Mounted.{IsBooksOf}
 use Rattle.hm_stored.specs.Standing.{basis_now}
 use Rattle.hm_stored.specs.declared.books.Books.{Books}
 use Rattle.hm_state.specs.Volume.{HoldsVolume}
-use Rattle.hm_state.specs.Written.{AreOfVolume, IsHeaderOf, IsWritten}
+use Rattle.hm_state.specs.Written.{IsHeaderOf, IsWritten}
 use Rattle.hm_state.proofs.FreeLemmas.{free_fits, free_sum}
 use Rattle.hm_state.proofs.KeptLemmas.{all_kept, nodes_keep, references_kept}
 use Rattle.hm_state.proofs.ListLemmas.{all_thrice, apart_thrice}

@@ -17,7 +17,8 @@ use Rattle.hm_image.proofs.ReferenceLemmas.{All-right}
 use Rattle.hm_image.proofs.SameLemmas.{page_same}
 use Rattle.hm_stored.specs.Basis.{nodes, refers}
 use Rattle.hm_stored.specs.Heap.{Heap}
-use Rattle.hm_state.specs.Written.{AreOfVolume, HasSamePayloads, IsWritten}
+use Rattle.hm_stored.specs.Held.{AreOfVolume}
+use Rattle.hm_state.specs.Written.{HasSamePayloads, IsWritten}
 use Rattle.hm_state.proofs.KeptLemmas.{nodes_keep, page_referred, references_kept}
 
 module _ (h : Heap) (root : ℕ) (tree : IsTreeSpace (nodes h.pages.current) root) (only : AreOfVolume h) (old new : List ℕ)

@@ -1,2 +1,5 @@
 pub mod Volume
 pub mod Written
+pub mod Backed
+pub mod Placed
+pub mod Frozen

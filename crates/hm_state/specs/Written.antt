@@ -1,16 +1,13 @@
 -- What bytes have, once all that a space holds was written to them.
-use Rattle.std.specs.Prelude.{◌≡◌, ◌⊎◌, ℕ, ◌*◌, ◌<◌, List, None, Some, IfSome, IsSome, map}
+use Rattle.std.specs.Prelude.{◌≡◌, ℕ, ◌*◌, ◌<◌, List, None, Some, IfSome, map}
 use Rattle.std.specs.List.{All}
 use Rattle.hm_types.specs.Layout.{blocks_per_layer2, layer2_blocks}
-use Rattle.hm_types.specs.Offset.{zone_of}
-use Rattle.hm_types.specs.declared.zone.TheConstants.{TREE_ZONE}
 use Rattle.hm_fields.specs.Fields.{AreBytes}
 use Rattle.hm_freemap.specs.Places.{page_of}
 use Rattle.hm_header.specs.declared.header.Header.{Header}
 use Rattle.hm_image.specs.Image.{pages_of, to_payload}
 use Rattle.hm_image.specs.Same.{HasSameBytes}
 use Rattle.hm_image.specs.Sound.{HasEntry, HasLayer1}
-use Rattle.hm_load.specs.Freemap.{IsPageOf}
 use Rattle.hm_stored.specs.Basis.{elements_in, entry_outside}
 use Rattle.hm_stored.specs.Heap.{Heap}
 use Rattle.hm_stored.specs.Standing.{basis_now}
@@ -25,10 +22,6 @@ pub record IsHeaderOf (h : Heap) (root last : ℕ) (header : Header) : Type 0 wh
 -- the payloads of the elements from a root on have the same bytes
 abbrev pub HasSamePayloads : Heap → ℕ → List ℕ → List ℕ → Type 0
 HasSamePayloads h root old new = All (HasSameBytes old new) (map to_payload (elements_in (basis_now h root)))
-
--- each page of a space is a node, or has entries of layer 2 for big-blocks of its volume
-abbrev pub AreOfVolume : Heap → Type 0
-AreOfVolume h = (at : ℕ) → IsSome (h.pages.current at) → (zone_of at ≡ TREE_ZONE) ⊎ IsPageOf h.bigblocks at
 
 -- The bytes have all that a space holds: layer 1 of a volume of its size, each of its pages, which are bytes, and the
 -- payloads that its disk tells. Of layer 2 a space keeps the pages with entries of its big-blocks alone: those of the

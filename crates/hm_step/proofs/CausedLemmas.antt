@@ -11,23 +11,25 @@ use Rattle.hm_model.specs.Answer.{file_bytes, kind_number, listing, record_of, s
 use Rattle.hm_model.specs.Bytes.{read_at}
 use Rattle.hm_model.specs.Call.{Call, all_located, each_located, first_site, second_site, site_object, site_system}
 use Rattle.hm_model.specs.Caused.{IsPossible, on_a_file, on_a_read, possible}
-use Rattle.hm_model.specs.Due.{Check, a_file, no_dir, good_path, has_its_name, is_pass, checks, is_dir, is_dir_or_link, is_kind, is_link, is_passed, is_softlink, name_is_new, early_checks, first_refusal, has_id, fits_file, hash_is_full, hash_left, good_paths, ids_left, intervals_left, no_future, no_future_begin, none_open, is_in_slave, is_pfs_call, is_tree_call, is_way_free, new_name, new_pfs, pruned_count, own_checks, own_checks_of, past_stays, refusal, refuse_if, slaves_stay, walks}
+use Rattle.hm_model.specs.Due.{Check, a_file, no_dir, checks, is_dir, is_dir_or_link, is_kind, is_link, is_passed, is_softlink, name_is_new, early_checks, first_refusal, has_id, fits_file, hash_is_full, hash_left, good_paths, ids_left, intervals_left, no_future, no_future_begin, none_open, is_in_slave, is_pfs_call, is_tree_call, is_way_free, new_name, new_pfs, pruned_count, own_checks, own_checks_of, past_stays, refusal, refuse_if, slaves_stay, walks}
 use Rattle.hm_model.specs.Needs.{bytes_zones, held_of, has_other_link, has_other_size, names_zones, stays_put, zones_of}
-use Rattle.hm_model.specs.Sites.{BadAt, Parsed, Parts, Site, TakesName, Use, Walks, uses_of}
+use Rattle.hm_model.specs.Sites.{Parsed, Site, TakesName, Walks, uses_of}
 use Rattle.hm_model.specs.Walk.{Follow, Follows, Stays}
 use Rattle.hm_model.specs.declared.command.Command.{Command}
 use Rattle.hm_model.specs.declared.command.Command.TheVariants.{Cat, Fill, Prune, PruneAll, PfsMaster, PfsSlave, PfsStatus, Truncate, Write, Ln, Ls, Mkdir, Mv, Readlink, Rm, Rmdir, Snapshot, Stat, Symlink, Touch}
 use Rattle.hm_model.specs.declared.reply.Reply.{Reply}
-use Rattle.hm_model.specs.declared.reply.Reply.TheVariants.{BadPath, Busy, Future, Content as Bytes, Done, Listing, MadePfs, Status, Target as Text, TooManyIntervals, CrossPfs, Exists, HashFull, IntoItself, IsDir, NotEmpty, NotFile, NotLink, TooBig, NoSpace, NotDir, NotFound, NotRetained, ReadOnly}
+use Rattle.hm_model.specs.declared.reply.Reply.TheVariants.{Content as Bytes, Done, Listing, MadePfs, Status, Target as Text, TooManyIntervals, CrossPfs, Exists, HashFull, IntoItself, IsDir, NotEmpty, NotFile, NotLink, TooBig, NoSpace, NotDir, NotFound, NotRetained, ReadOnly}
 use Rattle.std.proofs.lemmas.Bool.Decides.{nat_tests}
 use Rattle.hm_model.proofs.CheckLemmas.{no_first, no_rest}
 use Rattle.hm_model.proofs.DueLemmas.{of_option}
 use Rattle.hm_records.proofs.MemberLemmas.{has_tail}
 use Rattle.hm_calls.specs.Due.{due_over, lacking}
 use Rattle.hm_calls.specs.Commands.{IsOnTrees}
-use Rattle.hm_step.proofs.PossibleLemmas.{OfAll, OfCheck, all_both, all_fine, first_of_all, none_fine, walks_fine}
+use Rattle.hm_calls.proofs.GivenLemmas.{behind_cat, behind_file, behind_link, dir_in_walk, file_accepted, file_lacks, in_read, kept_in_read, lost_in_walk, too_large}
+use Rattle.hm_step.proofs.PossibleLemmas.{OfAll, OfCheck, all_fine, first_of_all, none_fine, walks_fine}
 use Rattle.hm_step.proofs.ReplyLemmas.{Way, first_front, lacks, refused, serves, way}
-use Rattle.hm_step.proofs.GivenLemmas.{IsPlain, MayGive, behind_cat, behind_file, by_option, by_test, dir_in_walk, file_accepted, file_lacks, in_read, kept_in_read, lost_in_walk, too_large, unless_test}
+use Rattle.hm_step.proofs.EarlyLemmas.{early_plain}
+use Rattle.hm_step.proofs.GivenLemmas.{IsPlain, MayGive, by_option, by_test, unless_test}
 
 -- one check after others
 pub first_split : (xs ys : List Check) (r : Reply) → first_refusal (xs ++ ys) ≡ Some r → (first_refusal xs ≡ Some r) ⊎ (first_refusal ys ≡ Some r)
@@ -168,11 +170,8 @@ module _ (call : Call) where
       read_walks (Stat path) paths (has_tail 104 2 (on_a_read paths) (in_read paths 2 lost_in_walk), tt)
       (has_tail 104 3 (on_a_read paths) (in_read paths 3 dir_in_walk), tt) (λ has. (has_tail 104 8 (on_a_read paths) (kept_in_read paths has), tt))
   walks_give (Readlink path) paths of_trees no_id =
-      read_walks (Readlink path) paths (behind 2 (in_read paths 2 lost_in_walk), tt) (behind 3 (in_read paths 3 dir_in_walk), tt)
-      (λ has. (behind 8 (kept_in_read paths has), tt))
-    where
-      behind : (n : ℕ) → Contains (on_a_read paths) n → Contains (105 ∷ 31 ∷ on_a_read paths) n
-      behind n has = has_tail 105 n (31 ∷ on_a_read paths) (has_tail 31 n (on_a_read paths) has)
+      read_walks (Readlink path) paths (behind_link paths 2 (in_read paths 2 lost_in_walk), tt) (behind_link paths 3 (in_read paths 3 dir_in_walk), tt)
+      (λ has. (behind_link paths 8 (kept_in_read paths has), tt))
   walks_give other paths of_trees no_id = absurd of_trees
 
   slaves_give : (command : Command) (paths : List Parsed) (test : Bool) → IsOnTrees command
@@ -375,7 +374,7 @@ module _ (call : Call) where
       (has_tail 104 2 (on_a_read paths) (in_read paths 2 lost_in_walk), tt)
   accepted_gives (Readlink path) paths of_trees fits =
       of_option (MayGive (Readlink path) paths) (at_by (Readlink path)) (site_object call (first_site call)) NotFound (λ o. ((0, omega arith, refl), tt))
-      (has_tail 105 2 (31 ∷ on_a_read paths) (has_tail 31 2 (on_a_read paths) (in_read paths 2 lost_in_walk)), tt)
+      (behind_link paths 2 (in_read paths 2 lost_in_walk), tt)
   accepted_gives (Mkdir path) paths of_trees fits = ((0, omega arith, refl), tt)
   accepted_gives (Touch path) paths of_trees fits = ((0, omega arith, refl), tt)
   accepted_gives (Symlink target path) paths of_trees fits = ((0, omega arith, refl), tt)
@@ -477,51 +476,6 @@ module _ (call : Call) where
           of_first last (hash_gives call.command call.paths of_trees, (intervals_give call.command call.paths of_trees, tt)) found
       by_last (inl found) = by_own (first_split (early ++ on_walks) own r found)
 
-    -- the early refusals are plain
-    goods_plain : (uses : List (Use × List ℕ)) (paths : List Parsed) → OfAll IsPlain (good_paths uses paths)
-    goods_plain [] paths = tt
-    goods_plain (u ∷ uses) [] = tt
-    goods_plain (u ∷ uses) (path ∷ paths) = (good_plain u.0 path, goods_plain uses paths) where
-      good_plain : (v : Use) (path : Parsed) → OfCheck IsPlain (good_path v path)
-      good_plain v (BadAt place) = tt
-      good_plain v (Parts parts) = unless_test IsPlain (has_its_name v parts) (BadPath 0) tt
-
-    futures_plain : (paths : List Parsed) → OfAll IsPlain (map (no_future call.volume.last) paths)
-    futures_plain [] = tt
-    futures_plain (path ∷ paths) = (by_test IsPlain _ (Future (record { 0 = call.volume.last })) tt, futures_plain paths)
-
-    begin_plain : (command : Command) → IsOnTrees command → OfCheck IsPlain (no_future_begin call.volume.last command)
-    begin_plain (Mkdir path) of_trees = tt
-    begin_plain (Touch path) of_trees = tt
-    begin_plain (Symlink target path) of_trees = tt
-    begin_plain (Snapshot path) of_trees = tt
-    begin_plain (Ln old new) of_trees = tt
-    begin_plain (Mv old new) of_trees = tt
-    begin_plain (Write path offset bytes) of_trees = tt
-    begin_plain (Fill path offset count byte) of_trees = tt
-    begin_plain (Truncate path size) of_trees = tt
-    begin_plain (Rm path) of_trees = tt
-    begin_plain (Rmdir path) of_trees = tt
-    begin_plain (Ls path) of_trees = tt
-    begin_plain (Cat path offset count) of_trees = tt
-    begin_plain (Stat path) of_trees = tt
-    begin_plain (Readlink path) of_trees = tt
-    begin_plain other of_trees = absurd of_trees
-
-    early_plain : OfAll IsPlain early
-    early_plain =
-        let good : List Check = good_paths (uses_of call.command) call.paths in
-        let futures : List Check = map (no_future call.volume.last) call.paths in (
-          open_plain (is_pass call.command),
-          all_both IsPlain (good ++ futures) (no_future_begin call.volume.last call.command ∷ past_stays call.command call.paths ∷ [])
-              (all_both IsPlain good futures (goods_plain (uses_of call.command) call.paths) (futures_plain call.paths))
-              (begin_plain call.command of_trees, (by_test IsPlain _ ReadOnly tt, tt)),
-        )
-      where
-        open_plain : (test : Bool) → OfCheck IsPlain (if test then option_map_or (λ opening. Some (Busy (record { 0 = opening }))) call.busy None else None)
-        open_plain true = by_option IsPlain (λ opening. Some (Busy (record { 0 = opening }))) call.busy (λ opening. tt)
-        open_plain false = tt
-
     module _ (room : ℕ → ℕ) (free : ℕ) (reply : Reply) (due : reply ≡ due_over call room free) where
       pub possible_is : IsPossible (first_refusal early) (possible call.command call.paths) reply × IsPlain reply
       possible_is = by (first_refusal early) refl where
@@ -541,5 +495,8 @@ module _ (call : Call) where
         by : (found : Check) → first_refusal early ≡ found → IsPossible found (possible call.command call.paths) reply × IsPlain reply
         by None none = in_way none (way call room free)
         by (Some r) is =
-            let same : reply ≡ r = by_way r is (way call room free) in
-            (inl same, subst IsPlain (sym same) (subst (OfCheck IsPlain) is (first_of_all IsPlain early early_plain)))
+            let same : reply ≡ r = by_way r is (way call room free) in (
+              inl same,
+              subst IsPlain (sym same) (subst (OfCheck IsPlain) is (first_of_all IsPlain early
+                  (early_plain call.volume.last call.busy call.command call.paths of_trees))),
+            )

@@ -12,5 +12,6 @@ pub mod HistoryLemmas
 pub mod NextCallLemmas
 pub mod PossibleLemmas
 pub mod GivenLemmas
+pub mod EarlyLemmas
 pub mod CausedLemmas
 pub mod LegalLemmas

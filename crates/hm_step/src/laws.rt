@@ -1,5 +1,5 @@
 // What follows from the definitions alone: each function states one law, and does nothing.
-ghost use Rattle.std.specs.Prelude.{ℕ, ◌+◌, ◌<◌, List, [], ◌∷◌, ◌++◌};
+ghost use Rattle.std.specs.Prelude.{◌≡◌, ℕ, ◌+◌, ◌<◌, List, [], ◌∷◌, ◌++◌, None, Option};
 ghost use Rattle.std.specs.List.{All};
 ghost use Rattle.hm_types.specs.Elements.{FullElement};
 ghost use Rattle.hm_types.specs.declared.limits.TheConstants.{GREATEST_ID};
@@ -7,11 +7,17 @@ ghost use Rattle.hm_cursor.specs.Told.{IsBroken, Lists, fulls};
 ghost use Rattle.hm_model.specs.After.{Event};
 ghost use Rattle.hm_model.specs.Caused.{HasNumbers, known_after, known_at};
 ghost use Rattle.hm_model.specs.Legal.{IsAllowed, MayFollow, Setting, call_after, state_after};
+ghost use Rattle.hm_model.specs.Reply.{told_boundary};
+ghost use Rattle.hm_model.specs.Sites.{Parsed, ReadsWords};
 ghost use Rattle.hm_model.specs.View.{Substitute, view_of};
 ghost use Rattle.hm_model.specs.Volume.{Volume};
+ghost use Rattle.hm_model.specs.declared.command.Command.{Command};
+ghost use Rattle.hm_model.specs.declared.reply.Reply.{Reply};
 ghost use Rattle.hm_records.specs.Payload.{IsPayload};
 ghost use Rattle.hm_volume.specs.Shown.{ShowsAs};
+ghost use Rattle.hm_calls.specs.Commands.{IsOnTrees};
 ghost use Rattle.hm_calls.specs.Known.{AreOlderOrSlaves};
+ghost use Rattle.hm_calls.specs.Possible.{MayReply};
 ghost use Rattle.hm_step.specs.Seen.{AreGiven};
 ghost use Rattle.hm_step.specs.Served.{IsServed};
 ghost use Rattle.hm_image.specs.StandFor.{StandFor};
@@ -74,4 +80,12 @@ pub fn a_failed_call_is_a_step()
         IsFailure event.entry.reply →
         HasNumbers run.now (known_after (known_at run.opening.last run.start) before) event.entry →
         MayFollow run before event }
+{}
+
+/// A reply that a call on names or on the bytes of files may have, by its words alone, tells no
+/// boundary.
+pub fn a_possible_reply_tells_no_boundary()
+    ensures { (last : ℕ) (busy : Option ℕ) (command : Command) (paths : List Parsed) (reply : Reply) →
+        IsOnTrees command → ReadsWords command paths → MayReply last busy command reply →
+        told_boundary reply ≡ None }
 {}

@@ -1,5 +1,5 @@
 // A call, as the next one of a history.
-ghost use Rattle.std.specs.Prelude.{◌≡◌, ◌+◌, ◌<◌, IfOk, OnOk};
+ghost use Rattle.std.specs.Prelude.{◌≡◌, ◌+◌, ◌<◌, IfOk, OnOk, option_map};
 ghost use Rattle.hm_types.specs.declared.limits.TheConstants.{GREATEST_ID};
 ghost use Rattle.hm_key.specs.Balance.{Balanced};
 ghost use Rattle.hm_key.specs.Charges.{Charges};
@@ -8,6 +8,7 @@ ghost use Rattle.hm_cursor.specs.Told.{HasReadingCause};
 ghost use Rattle.hm_model.specs.Forms.{IsInRange};
 ghost use Rattle.hm_calls.specs.Commands.{IsOnTrees, LowersRoomFor, reserves_for};
 ghost use Rattle.hm_calls.specs.Known.{AreKnown};
+ghost use Rattle.hm_calls.specs.Possible.{MayReply};
 ghost use Rattle.hm_step.specs.Next.{IsStep};
 
 use hm_calls::answer;
@@ -19,8 +20,9 @@ use std::alloc::Global;
 
 /// Answers a call on names or on the bytes of files by the id after `last`, the last one that was
 /// drawn: the reply is a step of each history for whose volume the elements of the store stand, so
-/// that those that it leaves stand for the volume after it. What else it promises, and which faults it
-/// has, are those of `answer` of hm_calls. After a fault nothing is known of the content.
+/// that those that it leaves stand for the volume after it. Whatever the store tells, the reply is one
+/// that the call may have by its words. What else it promises, and which faults it has, are those of
+/// `answer` of hm_calls. After a fault nothing is known of the content.
 pub fn answer_next<T: ElementStore + Extents>(
     alloc: Global,
     store: &mut T,
@@ -34,6 +36,7 @@ pub fn answer_next<T: ElementStore + Extents>(
     requires known { AreKnown (T.elements store.old) (T.extents store.old) (last.0 + 1) }
     ensures step { IfOk result (IsStep T.elements T.extents T.free
         (record { command = command.now; last = last.0; busy = busy }) store.old store.new) }
+    ensures possible { IfOk result (MayReply last.0 (option_map (λ i. i.0) busy) command.now) }
     ensures known { OnOk result (AreKnown (T.elements store.new) (T.extents store.new)
         (last.0 + 2)) }
     ensures keeps { Keeps T.elements T.extents store.old store.new result }

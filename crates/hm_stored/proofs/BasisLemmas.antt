@@ -5,6 +5,7 @@ use Rattle.hm_types.specs.Elements.{FullElement}
 use Rattle.hm_types.specs.References.{Reference}
 use Rattle.hm_types.specs.Told.{BothTell}
 use Rattle.hm_disk.specs.Crash.{Told}
+use Rattle.hm_disk.specs.Disk.{moment_of}
 use Rattle.hm_fields.specs.Pages.{PageMap}
 use Rattle.hm_key.specs.Extents.{Extent}
 use Rattle.std.specs.Option.{MatchOption}
@@ -13,7 +14,9 @@ use Rattle.hm_pages.specs.Calls.{IsChanged}
 use Rattle.hm_pages.specs.Sets.{ChangeSet, HasChanged}
 use Rattle.hm_pages.specs.Store.{Store, Frame as PagesFrame, frame_of as pages_frame}
 use Rattle.hm_stored.specs.Basis.{Basis, nodes}
-use Rattle.hm_stored.specs.Heap.{Heap, basis_with, bytes_of, content_of, content_with, does_tell, elements_with, extents_in, frame_of, pages_of, places_in}
+use Rattle.hm_stored.specs.Heap.{Heap, basis_with, bytes_of, content_of, content_with, does_tell, elements_with, extents_in}
+use Rattle.hm_stored.specs.Heap.{fixed_of, frame_of, pages_of, places_in}
+use Rattle.hm_stored.specs.Fixed.{fixed_with}
 use Rattle.hm_stored.specs.Held.{Held, HeldBy}
 use Rattle.hm_stored.specs.Log.{after_changes, filled, places_of}
 use Rattle.hm_stored.specs.declared.change.Change.{Change}
@@ -56,6 +59,15 @@ module _ (h h' : Heap) (same : SameBasis h h') where
       ap (λ (n : ℕ). content_with n (option_map (basis_with h') h'.pages.begin) h'.disk) same.last
       ∙ (ap (λ (o : Option Basis). content_with h.last o h'.disk) bases_same ∙ ap (content_with h.last (option_map (basis_with h) h.pages.begin)) disk)
 
+  -- the same bytes are fixed, where as much is told
+  pub fixed_told : content_of h' ≡ content_of h
+      → fixed_of h' ≡ fixed_with h.bigblocks (is_some (content_of h)) h.pages.committed h.roots.committed h'.disk
+  fixed_told content = by_parts h'.bigblocks (content_of h') h'.pages.committed h'.roots same.bigblocks content committed_same same.roots where
+    by_parts : (n : ℕ) (es : Option (List FullElement)) (c : PageMap) (r : Roots) → n ≡ h.bigblocks → es ≡ content_of h → c ≡ h.pages.committed
+        → r ≡ h.roots → fixed_with n (is_some es) c r.committed h'.disk
+        ≡ fixed_with h.bigblocks (is_some (content_of h)) h.pages.committed h.roots.committed h'.disk
+    by_parts n es c r first second third fourth = rw (first, second, third, fourth) refl
+
   pub places_same : h'.log ≡ h.log → places_in h' ≡ places_in h
   places_same log =
       ap (λ (l : List Change). after_changes l (places_of (elements_with (option_map (basis_with h') h'.pages.begin)))) log
@@ -97,23 +109,25 @@ extents_same h h' tell bytes places =
     ∙ (ap (λ (b : List ℕ). cond (does_tell h) (Some (map (filled b) (places_in h'))) None) bytes
     ∙ ap (λ (xs : List Extent). cond (does_tell h) (Some (map (filled (bytes_of h.disk)) xs)) None) places)
 
--- the frame is the same
+-- the frame is the same, where the disk tells as much, at the same moment, and the same fixed bytes
+pub frame_told : (h h' : Heap) → SameBasis h h' → option_map (λ (t : Told). length t.bytes) h'.disk ≡ option_map (λ (t : Told). length t.bytes) h.disk
+    → moment_of h'.disk ≡ moment_of h.disk → content_of h' ≡ content_of h → fixed_of h' ≡ fixed_of h → frame_of h' ≡ frame_of h
+frame_told h h' same size moment content fixed =
+    by_parts (pages_frame h'.pages) h'.bigblocks h'.begun h'.roots h'.last (option_map (λ (t : Told). length t.bytes) h'.disk) (moment_of h'.disk)
+    (content_of h') (fixed_of h') same.pages same.bigblocks same.begun same.roots same.last size moment content fixed where
+      by_parts : (p : PagesFrame) (n : ℕ) (a : List ℕ) (r : Roots) (l : ℕ) (s m : Option ℕ) (c : Option (List FullElement)) (x : Option (ℕ → Option ℕ))
+          → p ≡ pages_frame h.pages → n ≡ h.bigblocks → a ≡ h.begun → r ≡ h.roots → l ≡ h.last → s ≡ option_map (λ (t : Told). length t.bytes) h.disk
+          → m ≡ moment_of h.disk → c ≡ content_of h → x ≡ fixed_of h
+          → record { pages = p; bigblocks = n; begun = a; roots = r; last = l; size = s; moment = m; content = c; fixed = x } ≡ frame_of h
+      by_parts p n a r l s m c x first second third fourth fifth sixth seventh eighth ninth =
+          rw (first, second, third, fourth, fifth, sixth, seventh, eighth, ninth) refl
+
+-- as it is where the disk is the same
 pub frame_same : (h h' : Heap) → SameBasis h h' → h'.disk ≡ h.disk → frame_of h' ≡ frame_of h
-frame_same h h' same disk = by_parts (pages_frame h'.pages) h'.bigblocks h'.begun h'.roots h'.last h'.disk (content_of h')
-    same.pages same.bigblocks same.begun same.roots same.last disk (content_same h h' same disk) where
-      by_parts : (p : PagesFrame) (n : ℕ) (a : List ℕ) (r : Roots) (l : ℕ) (d : Option Told) (c : Option (List FullElement))
-          → p ≡ pages_frame h.pages → n ≡ h.bigblocks → a ≡ h.begun → r ≡ h.roots → l ≡ h.last → d ≡ h.disk → c ≡ content_of h
-          → record {
-            pages = p;
-            bigblocks = n;
-            begun = a;
-            roots = r;
-            last = l;
-            size = option_map (λ (t : Told). length t.bytes) d;
-            moment = option_map (λ (t : Told). t.moment) d;
-            content = c;
-          } ≡ frame_of h
-      by_parts p n a r l d c first second third fourth fifth sixth seventh = rw (first, second, third, fourth, fifth, sixth, seventh) refl
+frame_same h h' same disk =
+    frame_told h h' same (ap (option_map (λ (t : Told). length t.bytes)) disk) (ap moment_of disk) (content_same h h' same disk)
+    (fixed_told h h' same (content_same h h' same disk)
+    ∙ ap (fixed_with h.bigblocks (is_some (content_of h)) h.pages.committed h.roots.committed) disk)
 
 -- a change of a store of pages leaves its frame
 pub changed_frame : (at : ℕ) (page : Option (List ℕ)) (old new : Store) → IsChanged at page old new → pages_frame new ≡ pages_frame old

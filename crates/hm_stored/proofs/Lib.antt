@@ -8,6 +8,7 @@ mod CauseLemmas
 mod ChangeLemmas
 mod ExtentCallLemmas
 mod FetchLemmas
+mod FixedByteLemmas
 mod FixedLemmas
 mod HeldLemmas
 pub mod KnownLemmas
@@ -30,6 +31,7 @@ mod StoredLemmas
 mod UseLemmas
 mod TurnLemmas
 mod UntoldLemmas
+mod VolumeLemmas
 mod TreeLemmas
 mod MountLemmas
 mod ToldLemmas

@@ -3,10 +3,13 @@ use Rattle.std.proofs.Common.{◌≡◌, ◌≢◌, ◌⊎◌, ℕ, zero, suc, �
 use Rattle.std.proofs.lemmas.Bool.{cases_eq, cases_lt}
 use Rattle.hm_header.specs.Range.{IsAppend, IsHeader}
 use Rattle.hm_header.specs.declared.header.Header.{Header}
-use Rattle.hm_freemap.specs.Stand.{AreBelow, AreDistinct}
+use Rattle.hm_freemap.specs.Stand.{AreBelow, AreDistinct, AreOfPool}
 
 pub header_below : (header : Header) → IsHeader header → AreBelow header.bigblocks header.append
 header_below header is k low = (is.append k low).0.1
+
+pub header_pool : (header : Header) → IsHeader header → AreOfPool header.bigblocks header.append
+header_pool header is k low = (is.append k low).0
 
 -- of four, each is none of those before it
 away : (n : ℕ) (append : List ℕ) → length append ≡ 4 → ((k : ℕ) → k < 4 → IsAppend n (take k append) (slice_index append k))

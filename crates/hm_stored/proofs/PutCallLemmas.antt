@@ -119,7 +119,7 @@ module _ (old new : Store) (was is : Option Told) (books books' : Books) (zone :
     unfolding heap_of
     place_stays = record {
       frame = frame_put h h' zone at (length bytes) books.most books.below
-          (based leaves.same) whole low high some puts.taken.takes has_room alters kept moment;
+          (based leaves.same) whole low high some puts.taken.takes has_room alters kept books.pool moment;
       spent = (put_spent h h' zone at (length bytes) books.most books.below (based leaves.same) whole low high some puts.taken.takes has_room alters kept
           leaves.append leaves.whole books.distinct).0;
     }
@@ -135,7 +135,7 @@ module _ (old new : Store) (was is : Option Told) (books books' : Books) (zone :
     unfolding heap_of
     torn_frame = ⊎_elim (λ (same : is ≡ was). frame_same h h' (based leaves.same) same)
         (λ (t : Tears zone (length bytes) old new was is books).
-        frame_put h h' zone t.at (length bytes) books.most books.below (based leaves.same) whole low high some t.takes has_room t.torn kept moment)
+        frame_put h h' zone t.at (length bytes) books.most books.below (based leaves.same) whole low high some t.takes has_room t.torn kept books.pool moment)
         tears
 
     torn_size : IfSome was (λ (t : Told). books.bigblocks * BIGBLOCK_BYTES ≤ length t.bytes)

@@ -1,11 +1,11 @@
 -- What a space tells as bytes are put into a new extent, or were torn there.
-use Rattle.std.proofs.Common.{◌≡◌, Bool, true, false, true≢false, ℕ, ◌+◌, ◌-◌, ◌*◌, ◌≤◌, List, [], ◌∷◌, take, drop, Option, Some, None, refl, sym, ap}
+use Rattle.std.proofs.Common.{◌≡◌, Bool, true, false, true≢false, ℕ, ◌+◌, ◌-◌, ◌*◌, ◌≤◌, List, [], ◌∷◌, ◌++◌, take, drop, Option, Some, None, refl, sym, ap}
 use Rattle.std.proofs.Common.{subst, ◌∙◌, arith, cond, eq-eqb, is_some, length, slice_range}
 use Rattle.std.specs.Prelude.{All, IfSome, IsTrue, option_map, ◌&&◌}
 use Rattle.std.proofs.Math.Logic.{∥∥₁_elim}
 use Rattle.std.proofs.Props.{props}
 use Rattle.std.proofs.lemmas.List.{take-take}
-use Rattle.hm_types.specs.Elements.{FullElement}
+use Rattle.hm_types.specs.Layout.{first_pool, start_of}
 use Rattle.hm_types.specs.Offset.{byte_of}
 use Rattle.hm_types.specs.Space.{IsPayloadZone, Spends, in_zone, rounded}
 use Rattle.hm_types.specs.declared.limits.TheConstants.{BIGBLOCK_BYTES, MOST_BIGBLOCKS}
@@ -16,22 +16,22 @@ use Rattle.hm_fields.specs.Pages.{PageMap}
 use Rattle.hm_key.specs.Extents.{PlacesAt, with_extent}
 use Rattle.hm_freemap.specs.Change.{appended}
 use Rattle.hm_freemap.specs.Extents.{IsApart, Takes, reference}
-use Rattle.hm_freemap.specs.Stand.{AreBelow, AreDistinct, append_of, entry_of, room_in}
-use Rattle.hm_pages.specs.Store.{Frame as PagesFrame, frame_of as pages_frame}
-use Rattle.hm_stored.specs.Basis.{Basis, fulls_in, states_of}
+use Rattle.hm_freemap.specs.Stand.{AreBelow, AreDistinct, AreOfPool, append_of, entry_of, room_in}
+use Rattle.hm_freemap.proofs.ListLemmas.{all_right}
+use Rattle.hm_stored.specs.Basis.{Basis, fulls_in, refers, states_of}
 use Rattle.hm_stored.specs.Calls.{Alters, ChangesExtents}
 use Rattle.hm_stored.specs.DecideFirm.{is_firm}
-use Rattle.hm_stored.specs.Heap.{Heap, basis_with, bytes_of, content_by, content_of, content_with, does_hold, does_tell, frame_of, free_of}
+use Rattle.hm_stored.specs.Heap.{Heap, basis_with, bytes_of, content_by, content_of, content_with, does_hold, does_tell, fixed_of, frame_of, free_of}
 use Rattle.hm_stored.specs.Heap.{is_firm_with, maps_of, places_in, room_of}
-use Rattle.hm_stored.specs.Held.{AreNodes, IsKept, IsSafe, Safe}
+use Rattle.hm_stored.specs.Held.{AreNodes, Held, IsKept, IsSafe, Safe, with_refs}
 use Rattle.hm_stored.specs.Known.{is_known}
 use Rattle.hm_freemap.proofs.TakeLemmas.{handed_out}
 use Rattle.hm_stored.specs.Log.{filled, one_of}
-use Rattle.hm_stored.specs.declared.roots.Roots.{Roots}
 use Rattle.hm_stored.proofs.ApartLemmas.{all_apart}
-use Rattle.hm_stored.proofs.BasisLemmas.{SameBasis, bases_same, begin_same, beside, held_map, tell_same}
+use Rattle.hm_stored.proofs.BasisLemmas.{SameBasis, bases_same, begin_same, beside, fixed_told, frame_told, held_map, tell_same}
 use Rattle.hm_stored.proofs.BookLemmas.{grows_put, nodes_kept}
-use Rattle.hm_stored.proofs.CauseLemmas.{on_books, tells_parts}
+use Rattle.hm_stored.proofs.CauseLemmas.{on_begin, on_books, tells_parts}
+use Rattle.hm_stored.proofs.FixedByteLemmas.{fixed_altered}
 use Rattle.hm_stored.proofs.LogLemmas.{content_kept}
 use Rattle.hm_stored.proofs.NewNodeLemmas.{room_whole}
 use Rattle.hm_stored.proofs.PageLemmas.{nodes_same}
@@ -135,22 +135,32 @@ module _ (h h' : Heap) (zone at len : ℕ) (few : h.bigblocks ≤ MOST_BIGBLOCKS
   pub content_put : content_of h' ≡ content_of h
   content_put = ∥∥₁_elim kept (hlevel props) (λ k. same_content k.safe)
 
-  pub frame_put : moment_of h'.disk ≡ moment_of h.disk → frame_of h' ≡ frame_of h
-  frame_put moment = by_parts (pages_frame h'.pages) h'.bigblocks h'.begun h'.roots h'.last (option_map (λ (t : Told). length t.bytes) h'.disk)
-      (moment_of h'.disk) (content_of h') basis.pages basis.bigblocks basis.begun basis.roots basis.last
-      (size_same h.disk h'.disk alters) moment content_put where
-        size_same : (was is : Option Told) → Alters (byte_of at) (rounded len) was is
-            → option_map (λ (t : Told). length t.bytes) is ≡ option_map (λ (t : Told). length t.bytes) was
-        size_same None None both = refl
-        size_same (Some t) (Some u) both = ap Some both.size
-        size_same None (Some u) both = absurd both
-        size_same (Some t) None both = absurd both
+  -- what was committed last stands apart, where it is known
+  committed_apart : Held h → is_some (content_of h) ≡ true → All (IsApart (reference at len)) (refers h.pages.committed h.roots.committed)
+  committed_apart held known =
+      on_begin h (All (IsApart (reference at len)) (refers h.pages.committed h.roots.committed))
+      (ap (λ (w : Bool). w && is_some (content_of h)) whole ∙ known) held (λ begin refs is.
+      let states = states_of (basis_with h begin) in
+      let all = takes.dead (with_refs refs states) is.stand in
+      all_right (IsApart (reference at len)) states.frozen states.committed
+      (all_right (IsApart (reference at len)) refs (states.frozen ++ states.committed) all))
 
-        by_parts : (p : PagesFrame) (n : ℕ) (a : List ℕ) (r : Roots) (l : ℕ) (s m : Option ℕ) (c : Option (List FullElement))
-            → p ≡ pages_frame h.pages → n ≡ h.bigblocks → a ≡ h.begun → r ≡ h.roots → l ≡ h.last → s ≡ option_map (λ (t : Told). length t.bytes) h.disk
-            → m ≡ moment_of h.disk → c ≡ content_of h
-            → record { pages = p; bigblocks = n; begun = a; roots = r; last = l; size = s; moment = m; content = c } ≡ frame_of h
-        by_parts p n a r l s m c first second third fourth fifth sixth seventh eighth = rw (first, second, third, fourth, fifth, sixth, seventh, eighth) refl
+  in_pool : AreOfPool h.bigblocks h.append → start_of (first_pool h.bigblocks) ≤ byte_of at
+  in_pool pool = let one = pool (zone - TREE_ZONE) (omega (arith, low, high)) in omega (arith, one.0, takes.begin)
+
+  fixed_put : AreOfPool h.bigblocks h.append → fixed_of h' ≡ fixed_of h
+  fixed_put pool = fixed_told h h' basis content_put
+      ∙ ∥∥₁_elim kept (hlevel props) (λ k. fixed_altered h.bigblocks (is_some (content_of h)) h.pages.committed h.roots.committed at len
+      (in_pool pool) (committed_apart k.held) h.disk h'.disk alters)
+
+  pub frame_put : AreOfPool h.bigblocks h.append → moment_of h'.disk ≡ moment_of h.disk → frame_of h' ≡ frame_of h
+  frame_put pool moment = frame_told h h' basis (size_same h.disk h'.disk alters) moment content_put (fixed_put pool) where
+    size_same : (was is : Option Told) → Alters (byte_of at) (rounded len) was is
+        → option_map (λ (t : Told). length t.bytes) is ≡ option_map (λ (t : Told). length t.bytes) was
+    size_same None None both = refl
+    size_same (Some t) (Some u) both = ap Some both.size
+    size_same None (Some u) both = absurd both
+    size_same (Some t) None both = absurd both
 
   tells_put : h'.whole ≡ true → does_tell h' ≡ does_tell h
   tells_put whole' = tell_same h h' content_put (whole' ∙ sym whole)

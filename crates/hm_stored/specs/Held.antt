@@ -1,15 +1,18 @@
 -- What always holds of a space.
-use Rattle.std.specs.Prelude.{◌≡◌, ℕ, ◌+◌, ◌*◌, ◌^◌, ◌<◌, ◌≤◌, ◌&&◌, false, nat_eq, List, Option, None, Some, if◌then◌else◌, is_some, length, map}
-use Rattle.std.specs.Prelude.{All, IfSome, IsTrue, count_by, pos, ◌<ℤ◌}
+use Rattle.std.specs.Prelude.{◌≡◌, ◌⊎◌, ℕ, ◌+◌, ◌*◌, ◌^◌, ◌<◌, ◌≤◌, ◌&&◌, false, nat_eq, List, Option, None, Some, if◌then◌else◌, is_some, length, map}
+use Rattle.std.specs.Prelude.{All, IfSome, IsSome, IsTrue, count_by, pos, ◌<ℤ◌}
+use Rattle.hm_types.specs.Offset.{zone_of}
 use Rattle.hm_types.specs.References.{IsPlaced, Reference, References}
 use Rattle.hm_types.specs.Space.{rounded}
 use Rattle.hm_types.specs.declared.limits.TheConstants.{BIGBLOCK_BYTES, PAGE_BYTES}
+use Rattle.hm_types.specs.declared.zone.TheConstants.{TREE_ZONE}
 use Rattle.hm_fields.specs.Pages.{PageMap}
 use Rattle.hm_key.specs.Extents.{AreExtents, Extent, extent_at}
 use Rattle.hm_node.specs.Inner.{IsNodeOffset}
 use Rattle.hm_node.specs.Shape.{HoldsNode}
 use Rattle.hm_freemap.specs.Extents.{is_extent, reference}
 use Rattle.hm_freemap.specs.Stand.{IsBelow, StandBy, entry_of, home_of}
+use Rattle.hm_load.specs.Freemap.{IsPageOf}
 use Rattle.hm_stored.specs.Basis.{AreFixed, Basis, nodes, states_of}
 use Rattle.hm_stored.specs.Heap.{Heap, basis_with, bytes_of, does_hold, does_tell, maps_of, places_in}
 use Rattle.hm_stored.specs.Log.{filled}
@@ -68,3 +71,16 @@ pub record IsKept (h : Heap) : Type 0 where
   pub size : IfSome h.disk (λ t. h.bigblocks * BIGBLOCK_BYTES ≤ length t.bytes)
   pub safe : Safe h
   pub held : Held h
+
+-- each page of a map is a node, or has entries of layer 2 for big-blocks of a volume of so many
+abbrev pub AreOnlyOf : ℕ → PageMap → Type 0
+AreOnlyOf bigblocks pages = (at : ℕ) → IsSome (pages at) → (zone_of at ≡ TREE_ZONE) ⊎ IsPageOf bigblocks at
+
+-- each page of a space is a node, or has entries of layer 2 for big-blocks of its volume
+abbrev pub AreOfVolume : Heap → Type 0
+AreOfVolume h = AreOnlyOf h.bigblocks h.pages.current
+
+-- What always holds of the pages of a space beside: they are of its volume, and were when the open call began.
+pub record IsOfVolume (h : Heap) : Type 0 where
+  pub only : AreOfVolume h
+  pub begun : IfSome h.pages.begin (AreOnlyOf h.bigblocks)

@@ -4,6 +4,7 @@ pub mod Decide
 pub mod DecideTree
 pub mod Known
 pub mod DecideFirm
+pub mod Fixed
 pub mod Heap
 pub mod Held
 pub mod Calls

@@ -1,5 +1,6 @@
 -- Nodes in a store of pages: what is known of each, and how one comes and goes.
-use Rattle.std.specs.Prelude.{◌≡◌, ℕ, List, None, Some}
+use Rattle.std.specs.Prelude.{◌≡◌, ◌≢◌, ℕ, Bool, List, None, Some, is_some}
+use Rattle.hm_types.specs.Offset.{zone_of}
 use Rattle.hm_types.specs.Space.{rounded}
 use Rattle.hm_types.specs.declared.zone.TheConstants.{TREE_ZONE}
 use Rattle.hm_fields.specs.Pages.{PageMap}
@@ -15,6 +16,14 @@ use Rattle.hm_btree.specs.declared.space.TheConstants.{NODE_BYTES}
 -- where a node may stand, a page holds one
 pub record KeepsNodes (at : ℕ) (bytes : List ℕ) : Type 0 where
   pub node : IsNodeOffset at → HoldsNode bytes
+
+-- at which offsets a page stands
+abbrev pub spots : Store → ℕ → Bool
+spots s at = is_some (s.current at)
+
+-- they are the same beside the nodes
+abbrev pub HasSameSpots : Store → Store → Type 0
+HasSameSpots old new = (at : ℕ) → zone_of at ≢ TREE_ZONE → spots new at ≡ spots old at
 
 -- the maps of a store of pages
 abbrev pub maps_in : Store → Maps

@@ -2,7 +2,7 @@
 ghost use Rattle.std.specs.Prelude.{◌≤◌};
 ghost use Rattle.std.proofs.Props.{props};
 ghost use Rattle.hm_types.specs.declared.limits.TheConstants.{LEAST_BIGBLOCKS, MOST_BIGBLOCKS};
-ghost use Rattle.hm_freemap.specs.Stand.{AreBelow, AreDistinct};
+ghost use Rattle.hm_freemap.specs.Stand.{AreBelow, AreDistinct, AreOfPool};
 
 use crate::change::Change;
 use crate::roots::Roots;
@@ -35,6 +35,8 @@ pub struct Books {
     ghost begun_below: { AreBelow bigblocks begun } by { Prim.hlevel props },
     ghost distinct: { AreDistinct append } by { Prim.hlevel props },
     ghost begun_distinct: { AreDistinct begun } by { Prim.hlevel props },
+    ghost pool: { AreOfPool bigblocks append } by { Prim.hlevel props },
+    ghost begun_pool: { AreOfPool bigblocks begun } by { Prim.hlevel props },
 }
 
 impl Books {
@@ -42,7 +44,7 @@ impl Books {
     ghost use Rattle.hm_stored.specs.Mounted.{IsBooksOf};
 
     /// The books of the volume with this header, as it is mounted: no call is open.
-    #[tactic(auto, using(crate::proofs::MountLemmas::header_below, crate::proofs::MountLemmas::header_distinct))]
+    #[tactic(auto, using(crate::proofs::MountLemmas::header_below, crate::proofs::MountLemmas::header_distinct, crate::proofs::MountLemmas::header_pool))]
     pub fn of(alloc: Global, header: &Header) -> Books
         requires header { IsHeader header.now }
         ensures { IsBooksOf header.now result }

@@ -9,6 +9,7 @@ ghost use Rattle.hm_freemap.specs.Places.{HasLayer2};
 ghost use Rattle.hm_freemap.specs.Stand.{append_of, room_in};
 ghost use Rattle.hm_pages.specs.Store.{contents, frame_of, layer2};
 ghost use Rattle.hm_stored.specs.Calls.{GivesExtent, IsNotRenewed, LeavesBooks, Renews, SameBooks, SharesExtent, TakesExtent};
+ghost use Rattle.hm_stored.specs.Nodes.{spots};
 
 use crate::books::Books;
 use crate::change::Change;
@@ -30,6 +31,7 @@ pub(crate) fn take(
         (contents pages.old.store) (contents pages.new.store) books.old books.new) }
     ensures books { LeavesBooks books.old books.new result }
     ensures frame { frame_of (contents pages.new.store) ≡ frame_of (contents pages.old.store) }
+    ensures spots { spots (contents pages.new.store) ≡ spots (contents pages.old.store) }
     ensures cause { HasFreemapCause books.old.bigblocks books.old.append
         (λ one. one ≡ append_of books.old.append zone)
         (Some (contents pages.old.store).committed) (Some (contents pages.old.store).frozen)
@@ -55,6 +57,7 @@ pub(crate) fn share(
         (contents pages.old.store) (contents pages.new.store) books.old books.new) }
     ensures books { LeavesBooks books.old books.new result }
     ensures frame { frame_of (contents pages.new.store) ≡ frame_of (contents pages.old.store) }
+    ensures spots { spots (contents pages.new.store) ≡ spots (contents pages.old.store) }
     ensures cause { HasExtentCause books.old.bigblocks books.old.append
         (block_of (byte_of at)) (rounded len)
         (Some (contents pages.old.store).committed) (Some (contents pages.old.store).frozen)
@@ -80,6 +83,7 @@ pub(crate) fn give(
         (contents pages.old.store) (contents pages.new.store) books.old books.new) }
     ensures books { LeavesBooks books.old books.new result }
     ensures frame { frame_of (contents pages.new.store) ≡ frame_of (contents pages.old.store) }
+    ensures spots { spots (contents pages.new.store) ≡ spots (contents pages.old.store) }
     ensures cause { HasExtentCause books.old.bigblocks books.old.append
         (block_of (byte_of at)) (rounded len)
         (Some (contents pages.old.store).committed) (Some (contents pages.old.store).frozen)
@@ -108,6 +112,7 @@ pub(crate) fn renew(
         (contents pages.old.store) (contents pages.new.store) books.old books.new) }
     ensures books { SameBooks books.old books.new }
     ensures frame { frame_of (contents pages.new.store) ≡ frame_of (contents pages.old.store) }
+    ensures spots { spots (contents pages.new.store) ≡ spots (contents pages.old.store) }
     ensures cause { HasAdmissionCause books.old.bigblocks books.old.append
         (Some (contents pages.old.store).committed) (Some (contents pages.old.store).frozen)
         (Some (contents pages.old.store).current) 0 0 result }

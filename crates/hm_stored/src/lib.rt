@@ -14,6 +14,7 @@ mod space_calls;
 mod stored;
 mod stored_elements;
 mod stored_extents;
+mod stored_space;
 mod stored_turns;
 #[cfg(test)]
 mod tests;

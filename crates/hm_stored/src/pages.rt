@@ -23,17 +23,24 @@ impl Counted for VolumePages {
 }
 
 impl Pages for VolumePages {
-    ghost use Rattle.std.specs.Prelude.{Some};
+    ghost use Rattle.std.specs.Prelude.{ℕ, Bool, Some};
+    ghost use Rattle.hm_stored.specs.Nodes.{spots};
 
     ghost pages = { λ s. Some (contents s.store).current };
 
-    ghost rest = { λ _. tt };
+    ghost Rest = { ℕ → Bool };
+
+    ghost rest = { λ s. spots (contents s.store) };
 
     fn page(&mut self, at: HOff, into: &mut Page) -> Result<(), Fault> {
         self.store.page(at, into)
     }
 
+    /// Puts a page in place of the one that stands at `at`. Where none stands, it answers `NoMemory`.
     fn change(&mut self, at: HOff, with: &Page) -> Result<(), Fault> {
+        if self.store.look(at).is_none() {
+            return Err(Fault::NoMemory);
+        }
         self.store.change(at, with)
     }
 }

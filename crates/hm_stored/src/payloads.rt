@@ -11,6 +11,7 @@ ghost use Rattle.hm_freemap.specs.Places.{HasLayer2};
 ghost use Rattle.hm_freemap.specs.Stand.{append_of, room_in};
 ghost use Rattle.hm_pages.specs.Store.{contents, frame_of, layer2};
 ghost use Rattle.hm_stored.specs.Calls.{LeavesBooks, MayTear, PutsBytes};
+ghost use Rattle.hm_stored.specs.Nodes.{spots};
 
 use crate::books::Books;
 use crate::extents::take;
@@ -39,6 +40,7 @@ pub(crate) fn put<D: Disk>(
     ensures books { LeavesBooks books.old books.new result }
     ensures frame { (frame_of (contents pages.new.store) ≡ frame_of (contents pages.old.store))
         × (moment_of (D.told disk.new) ≡ moment_of (D.told disk.old)) }
+    ensures spots { spots (contents pages.new.store) ≡ spots (contents pages.old.store) }
     ensures cause { HasFreemapCause books.old.bigblocks books.old.append
         (λ one. one ≡ append_of books.old.append zone)
         (Some (contents pages.old.store).committed) (Some (contents pages.old.store).frozen)

@@ -3,7 +3,7 @@ ghost use Rattle.std.proofs.Props.{props};
 ghost use Rattle.hm_freemap.specs.Places.{HasLayer2};
 ghost use Rattle.hm_pages.specs.Store.{contents, layer2};
 ghost use Rattle.hm_stored.specs.Heap.{heap_of};
-ghost use Rattle.hm_stored.specs.Held.{IsKept};
+ghost use Rattle.hm_stored.specs.Held.{IsKept, IsOfVolume};
 
 use crate::books::Books;
 use crate::pages::VolumePages;
@@ -24,4 +24,5 @@ pub struct Space<D: Disk> {
     pub(crate) books: Books,
     ghost there: { HasLayer2 books.bigblocks (layer2 (contents pages.store)) } by { Prim.hlevel props },
     ghost kept: { ∥ IsKept (heap_of (contents pages.store) (D.told disk) books) ∥₁ },
+    ghost of_volume: { ∥ IsOfVolume (heap_of (contents pages.store) (D.told disk) books) ∥₁ },
 }

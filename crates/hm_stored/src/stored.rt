@@ -4,6 +4,7 @@ ghost use Rattle.hm_btree.specs.Tree.{HoldsTree};
 ghost use Rattle.hm_fields.specs.Fields.{AreBytes};
 ghost use Rattle.hm_pages.specs.Store.{contents};
 ghost use Rattle.hm_stored.specs.Heap.{heap_of, pages_of};
+ghost use Rattle.hm_stored.specs.Held.{AreOfVolume};
 ghost use Rattle.hm_stored.specs.Turn.{IsClosed};
 
 use crate::space::Space;
@@ -89,6 +90,13 @@ impl<D: Disk> Stored<D> {
     {
         pages_are_bytes(&self.space.pages.store);
     }
+
+    /// Does nothing, and says that each page is a node, or has entries of layer 2 for big-blocks of the
+    /// volume.
+    pub fn pages_are_of_volume(&self)
+        ensures { AreOfVolume (heap_of (contents self.now.space.pages.store)
+            (D.told self.now.space.disk) self.now.space.books) }
+    {}
 
     /// The space and the root.
     pub fn into_parts(self) -> (Space<D>, HOff)

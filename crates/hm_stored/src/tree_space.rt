@@ -9,7 +9,7 @@ ghost use Rattle.hm_freemap.specs.Places.{HasLayer2};
 ghost use Rattle.hm_freemap.specs.Stand.{AreBelow, append_of, room_in};
 ghost use Rattle.hm_pages.specs.Store.{contents, frame_of, layer2};
 ghost use Rattle.hm_stored.specs.Heap.{heap_of};
-ghost use Rattle.hm_stored.specs.Nodes.{AddsNode, DropsNode};
+ghost use Rattle.hm_stored.specs.Nodes.{AddsNode, DropsNode, HasSameSpots};
 
 use crate::grants::{give, take};
 use crate::pages::VolumePages;
@@ -68,6 +68,7 @@ fn add_node(
     ensures ok { IfOk result (λ at. AddsNode bigblocks append with.now at
         (contents pages.old.store) (contents pages.new.store)) }
     ensures frame { frame_of (contents pages.new.store) ≡ frame_of (contents pages.old.store) }
+    ensures spots { HasSameSpots (contents pages.old.store) (contents pages.new.store) }
     ensures cause { HasFreemapCause bigblocks append (λ one. one ≡ append_of append tree_zone)
         (Some (contents pages.old.store).committed) (Some (contents pages.old.store).frozen)
         (Some (contents pages.old.store).current) 0 0 result }
@@ -76,7 +77,7 @@ fn add_node(
     if !is_node_offset(at) {
         return Err(Fault::NoMemory);
     }
-    match pages.change(at, with) {
+    match pages.store.change(at, with) {
         Ok(()) => Ok(at),
         Err(_) => Err(Fault::NoMemory),
     }
@@ -96,6 +97,7 @@ fn take_node(
     ensures ok { OnOk result (DropsNode bigblocks append at
         (contents pages.old.store) (contents pages.new.store)) }
     ensures frame { frame_of (contents pages.new.store) ≡ frame_of (contents pages.old.store) }
+    ensures spots { HasSameSpots (contents pages.old.store) (contents pages.new.store) }
     ensures cause { HasExtentCause bigblocks append (block_of (byte_of at)) 4096
         (Some (contents pages.old.store).committed) (Some (contents pages.old.store).frozen)
         (Some (contents pages.old.store).current) 0 0 result }

@@ -7,6 +7,7 @@ ghost use Rattle.hm_pages.specs.Store.{contents, layer2};
 ghost use Rattle.hm_stored.specs.Heap.{heap_of};
 ghost use Rattle.hm_stored.specs.Basis.{nodes};
 ghost use Rattle.hm_stored.specs.Content.{DropsContent, KeepsContent, OpensContent};
+ghost use Rattle.hm_stored.specs.Held.{AreOfVolume};
 ghost use Rattle.hm_stored.specs.Turn.{IsClosed, IsDropped, IsEnded, IsKeptOf, IsOpened};
 
 use crate::books::Books;
@@ -18,11 +19,13 @@ use hm_types::{HOff, Id};
 
 impl<D: Disk> Space<D> {
     /// A space over the pages of a volume, its disk and its books. No call is open, the pages of zone 8
-    /// are the tree from the current root on, and the disk is as long as the volume.
+    /// are the tree from the current root on, the others have entries of layer 2 for its big-blocks, and
+    /// the disk is as long as the volume.
     pub fn over(store: PageStore, disk: D, books: Books) -> Space<D>
         requires layer2 { HasLayer2 books.bigblocks (layer2 (contents store)) }
         requires closed { IsClosed (heap_of (contents store) (D.told disk) books) }
         requires tree { IsTreeSpace (nodes (contents store).current) books.roots.current }
+        requires only { AreOfVolume (heap_of (contents store) (D.told disk) books) }
         requires size { IfSome (D.told disk) (λ t. books.bigblocks * BIGBLOCK_BYTES ≤ length t.bytes) }
         ensures heap { heap_of (contents result.pages.store) (D.told result.disk) result.books
             ≡ heap_of (contents store) (D.told disk) books }
@@ -120,6 +123,17 @@ impl<D: Disk> Space<D> {
     {
         let Space { disk, .. } = self;
         disk
+    }
+
+    /// Its pages, its disk and its books, of a space that is used no more.
+    pub fn into_parts(self) -> (PageStore, D, Books)
+        ensures pages { result.0 ≡ self.pages.store }
+        ensures disk { result.1 ≡ self.disk }
+        ensures books { result.2 ≡ self.books }
+    {
+        let Space { pages, disk, books } = self;
+        let VolumePages { store } = pages;
+        (store, disk, books)
     }
 
     /// What it keeps beside pages and disk.

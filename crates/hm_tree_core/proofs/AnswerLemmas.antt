@@ -6,6 +6,7 @@ use Rattle.std.specs.Prelude.{IfSome, IsSome}
 use Rattle.hm_types.specs.Elements.{FullElement}
 use Rattle.hm_types.specs.Space.{reserve_of}
 use Rattle.hm_types.specs.declared.fault.Fault.{Fault}
+use Rattle.hm_types.specs.declared.fault.Fault.TheVariants.{Damaged as damage, Media as device, NoMemory as no_memory}
 use Rattle.hm_types.specs.declared.limits.TheConstants.{GREATEST_ID}
 use Rattle.hm_btree.specs.Tree.{HoldsTree, told_elements}
 use Rattle.hm_fields.specs.Pages.{PageMap}
@@ -16,8 +17,10 @@ use Rattle.hm_key.specs.declared.element.Element.{Element}
 use Rattle.hm_calls.specs.Commands.{IsOnTrees, reserves_for}
 use Rattle.hm_calls.specs.Edits.{all_reserves}
 use Rattle.hm_calls.specs.Known.{AreKnown, AreOlderOrSlaves}
+use Rattle.hm_calls.specs.Possible.{MayReply}
 use Rattle.hm_calls.specs.Writes.{reserves}
 use Rattle.hm_cursor.specs.Told.{HasReadingCause, Lists, fulls}
+use Rattle.hm_model.specs.Reply.{told_boundary}
 use Rattle.hm_model.specs.Volume.{Volume}
 use Rattle.hm_model.specs.declared.command.Command.{Command}
 use Rattle.hm_model.specs.declared.command.Command.TheVariants.{Fill, Truncate, Write}
@@ -25,6 +28,7 @@ use Rattle.hm_model.specs.declared.entry.Entry.{Entry}
 use Rattle.hm_model.specs.declared.reply.Reply.{Reply}
 use Rattle.hm_state.specs.Volume.{HoldsVolume}
 use Rattle.hm_step.specs.Next.{IsStep}
+use Rattle.hm_step.proofs.EarlyLemmas.{no_boundary}
 use Rattle.hm_stored.specs.Content.{HaveContent, KeepsContent, OpensContent}
 use Rattle.hm_stored.specs.Basis.{nodes}
 use Rattle.hm_stored.specs.Heap.{Frame, Heap, bytes_of, content_of, does_tell, extents_in, frame_of, free_of, pages_of, places_in, room_of}
@@ -35,14 +39,16 @@ use Rattle.hm_stored.specs.Standing.{Holds}
 use Rattle.hm_stored.specs.Turn.{IsClosed, IsDropped, IsKeptOf, IsOpened}
 use Rattle.hm_stored.proofs.KnownLemmas.{known_each}
 use Rattle.hm_stored.proofs.OpenedLemmas.{opens_content, told_held}
-use Rattle.hm_tree_core.specs.Answer.{Answers, IsEntryOf}
+use Rattle.hm_tree_core.specs.Answer.{Answers, IsEntryOf, KeepsCommitted}
 use Rattle.hm_tree_core.specs.Calls.{IsNextCall}
 use Rattle.hm_tree_core.specs.Ledger.{IsPaid, calls_in}
 use Rattle.hm_tree_core.specs.Told.{ArePages, HoldsSame, HoldsTold, TellsFailure, TellsHeld, reply_to}
 use Rattle.hm_tree_core.proofs.CallLemmas.{failed_call, served_call}
+use Rattle.hm_tree_core.proofs.CommittedLemmas.{SameCommitted, backed_same, kept_framed, kept_same}
 use Rattle.hm_tree_core.proofs.FaultLemmas.{no_damage_told}
 use Rattle.hm_tree_core.proofs.LedgerLemmas.{paid_call}
-use Rattle.hm_tree_core.proofs.OpenLemmas.{dropped_holds, kept_holds, opened_tells}
+use Rattle.hm_tree_core.proofs.OpenLemmas.{dropped_holds, held_known, kept_holds, opened_tells}
+use Rattle.hm_tree_core.proofs.WordLemmas.{words_are_read}
 
 -- the free big-blocks and the room of two spaces with the same maps
 pub free_same : (a b : Heap) → b.whole ≡ a.whole → b.bigblocks ≡ a.bigblocks → b.append ≡ a.append → b.pages.committed ≡ a.pages.committed
@@ -175,6 +181,12 @@ pub caused_over : {T : Type 0} (es : Option (List Element)) (xs : Option (List E
 caused_over es xs n n' m m' result begin end cause =
     subst (λ (k : ℕ). HasReadingCause es xs k m' result) begin (subst (λ (k : ℕ). HasReadingCause es xs n k result) (sym end) cause)
 
+-- a fault is told without a boundary
+pub fault_silent : (fault : Fault) → told_boundary (reply_to fault) ≡ None
+fault_silent (device before after) = refl
+fault_silent (damage at kind) = refl
+fault_silent no_memory = refl
+
 -- the store changed, and the call is closed
 module _ {S : Type 0} (heap : S → Heap) (root_of : S → ℕ) (h : Heap) (root last : ℕ) (old new : S) (h' : Heap) (root' : ℕ) (command : Command) (reply : Reply)
     (faults faults' : ℕ) (closed : IsClosed h) (kept : ∥ IsKept h ∥₁) (opens : IsOpened root last h (heap old)) (same : root_of old ≡ root)
@@ -208,6 +220,39 @@ module _ {S : Type 0} (heap : S → Heap) (root_of : S → ℕ) (h : Heap) (root
   is_next : (entry : Entry) → IsEntryOf last command reply entry → IsNextCall last entry
   is_next entry is = record { served = subst IsOnTrees (sym is.call_is) served; left = left; own = is.own }
 
+  begun_committed : SameCommitted h (heap old)
+  begun_committed = record {
+    bigblocks = ap (λ (x : Heap). x.bigblocks) opens.rest;
+    disk = ap (λ (x : Heap). x.disk) opens.rest;
+    committed = opens.pages.flush.committed;
+    boundary = opens.pages.flush.boundary;
+    root = ap (λ (x : Heap). x.roots.committed) opens.rest;
+  }
+
+  -- a space that held a volume tells its content once a call is opened
+  content_told : (volume : Volume) × HoldsVolume h root last volume → IsSome (content_of (heap old))
+  content_told (volume, holds) =
+      let known = held_known h root last volume holds holds.elements.0 holds.elements.1 in
+      let told = opens_content h (heap old) root last closed kept opens holds.elements.0 holds.elements.1 known in
+      subst (λ (o : Option (List FullElement)). IsSome o) (sym told.content) refl
+
+  -- what was committed stays, until the call is closed
+  committed_new : KeepsCommitted ((volume : Volume) × HoldsVolume h root last volume) h (heap new)
+  committed_new = record {
+    bigblocks = (kept_framed (heap old) (heap new) frame).bigblocks ∙ begun_committed.bigblocks;
+    boundary = (kept_framed (heap old) (heap new) frame).boundary ∙ begun_committed.boundary;
+    header = λ header slot on. (kept_framed (heap old) (heap new) frame).header header slot ((kept_same h (heap old) begun_committed).header header slot on);
+    backed = λ held backed. (kept_framed (heap old) (heap new) frame).backed (content_told held) (backed_same h (heap old) begun_committed backed);
+  }
+
+  committed_end : SameCommitted (heap new) h' → KeepsCommitted ((volume : Volume) × HoldsVolume h root last volume) h h'
+  committed_end same = record {
+    bigblocks = same.bigblocks ∙ committed_new.bigblocks;
+    boundary = same.boundary ∙ committed_new.boundary;
+    header = λ header slot on. (kept_same (heap new) h' same).header header slot (committed_new.header header slot on);
+    backed = λ held backed. backed_same (heap new) h' same (committed_new.backed held backed);
+  }
+
   bigblocks : (heap new).bigblocks ≡ h.bigblocks
   bigblocks = ap (λ (f : Frame). f.bigblocks) frame ∙ ap (λ (x : Heap). x.bigblocks) opens.rest
 
@@ -215,11 +260,19 @@ module _ {S : Type 0} (heap : S → Heap) (root_of : S → ℕ) (h : Heap) (root
   module _ (whole : (heap new).whole ≡ true) (keeps : IsKeptOf (heap new) h') (content : KeepsContent (heap new) h') (root_is : root' ≡ root_of new)
       (pages : ArePages h') (tree : HoldsTree (pages_of (heap new)) (root_of new))
       (step : IsStep elements extents free (record { command = command; last = last; busy = None }) old new reply)
-      (charges : Charges room free (reserves_for command) old new) where
+      (charges : Charges room free (reserves_for command) old new) (may : MayReply last None command reply) where
     pub kept_answers : Answers faults faults' last command h h' root root' reply
     kept_answers = record {
       closed = record { begin = keeps.pages.begin; whole = ap (λ (x : Heap). x.whole) keeps.rest ∙ whole };
       counted = counted;
+      silent = no_boundary last None command (words_are_read command).0 reply served (words_are_read command).1 may;
+      committed = committed_end (record {
+        bigblocks = ap (λ (x : Heap). x.bigblocks) keeps.rest;
+        disk = ap (λ (x : Heap). x.disk) keeps.rest;
+        committed = keeps.pages.flush.committed;
+        boundary = keeps.pages.flush.boundary;
+        root = ap (λ (x : Heap). x.roots.committed) keeps.rest;
+      });
       paid = λ first calls paid.
           paid_as (heap new) h' first (calls + 1)
           (free_same (heap new) h' (ap (λ (x : Heap). x.whole) keeps.rest) (ap (λ (x : Heap). x.bigblocks) keeps.rest)
@@ -243,7 +296,7 @@ module _ {S : Type 0} (heap : S → Heap) (root_of : S → ℕ) (h : Heap) (root
 
   -- it failed, and was dropped
   module _ (drops : IsDropped (heap new) h') (root_is : root' ≡ (heap new).roots.current) (held : IfSome (content_of (heap new)) (Holds h' root'))
-      (fails : (volume : Volume) → HoldsVolume h root last volume → TellsFailure faults faults' reply) where
+      (fails : (volume : Volume) → HoldsVolume h root last volume → TellsFailure faults faults' reply) (silent : told_boundary reply ≡ None) where
     current : (heap new).roots.current ≡ root
     current = ap (λ (f : Frame). f.roots.current) frame ∙ ap (λ (x : Heap). x.roots.current) opens.rest
 
@@ -265,6 +318,14 @@ module _ {S : Type 0} (heap : S → Heap) (root_of : S → ℕ) (h : Heap) (root
     dropped_answers = record {
       closed = record { begin = drops.pages.begin; whole = ap (λ (x : Heap). x.whole) drops.rest };
       counted = counted;
+      silent = silent;
+      committed = committed_end (record {
+        bigblocks = ap (λ (x : Heap). x.bigblocks) drops.rest;
+        disk = ap (λ (x : Heap). x.disk) drops.rest;
+        committed = drops.pages.flush.committed;
+        boundary = drops.pages.flush.boundary;
+        root = ap (λ (x : Heap). x.roots.committed) drops.rest;
+      });
       paid = λ first calls paid.
           paid_later first (free_of h') calls (room_of h')
           (paid_as h h' first calls

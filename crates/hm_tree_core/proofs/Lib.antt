@@ -3,6 +3,8 @@ pub mod PlacedLemmas
 pub mod CountLemmas
 pub mod WordLemmas
 pub mod BeginLemmas
+pub mod OpeningLemmas
+pub mod MountingLemmas
 pub mod FitLemmas
 pub mod ReplyLemmas
 pub mod FloorLemmas
@@ -14,3 +16,9 @@ pub mod KnownLemmas
 pub mod OpenLemmas
 pub mod AnswerLemmas
 pub mod StepLemmas
+pub mod CommittedLemmas
+pub mod LookedLemmas
+pub mod TellLemmas
+pub mod WriteLemmas
+pub mod ReadyLemmas
+pub mod FinishLemmas

@@ -27,7 +27,7 @@ held_once h root es es' = by h.disk where
   by (Some t) first second = sym first.elements ∙ second.elements
 
 module _ (h : Heap) (root last : ℕ) (volume : Volume) (holds : HoldsVolume h root last volume) where
-  held_known : (es : List FullElement) → Holds h root es → IsTrue (is_known last es)
+  pub held_known : (es : List FullElement) → Holds h root es → IsTrue (is_known last es)
   held_known es there =
       subst (λ (l : List FullElement). is_known last l ≡ true) (held_once h root holds.elements.0 es holds.elements.1 there)
       (ap (λ (n : ℕ). is_known n holds.elements.0) holds.last_is ∙ volume_known holds.elements.0 volume holds.elements.2)

@@ -12,13 +12,13 @@ use Rattle.hm_disk.proofs.DiskLemmas.{BothTell-then, IfSome-then}
 use Rattle.hm_disk.proofs.CrashLemmas.{MayLeave-same}
 use Rattle.hm_disk.proofs.OverwriteLemmas.{MayLeave-overwritten}
 use Rattle.hm_header.proofs.SliceLemmas.{slice-kept, slice-overwritten}
-use Rattle.hm_tree_core.specs.Placed.{ArePlaces, KeepsOthers, PutsPages, Stands}
+use Rattle.hm_state.specs.Placed.{AreAllApart, AreInside, KeepsOthers, PutsPages, Stands}
 
 module _ (pages : PageMap) (places : List ℕ) where
   -- before the first one
   pub puts_none : (t : Told) → PutsPages pages places 0 t t
   puts_none t = record {
-    stand = λ i below. absurd (omega (arith, below));
+    stand = λ apart i below. absurd (omega (arith, below));
     others = record { size = refl; same = λ byte inside outside. refl };
   }
 
@@ -45,7 +45,7 @@ module _ (pages : PageMap) (places : List ℕ) where
       subst (λ (bs : List ℕ). MayLeave t.bytes ((byte_of at, PAGE_BYTES) ∷ []) bs) (sym same.bytes_are) (MayLeave-same t.bytes _)
 
   -- one page more
-  module _ (i : ℕ) (page : List ℕ) (s t u : Told) (below : i < length places) (are : ArePlaces (length s.bytes) places)
+  module _ (i : ℕ) (page : List ℕ) (s t u : Told) (below : i < length places) (are : AreInside (length s.bytes) places)
       (there : pages (slice_index places i) ≡ Some page) (sized : length page ≡ PAGE_BYTES) (so_far : PutsPages pages places i s t)
       (written : Written (byte_of (slice_index places i)) page t u) where
     at : ℕ
@@ -53,7 +53,7 @@ module _ (pages : PageMap) (places : List ℕ) where
 
     fits : byte_of at + PAGE_BYTES ≤ length t.bytes
     unfolding at
-    fits = (let size = so_far.others.size in omega (arith, size, are.within i below))
+    fits = (let size = so_far.others.size in omega (arith, size, (are i below).1))
 
     change : MayLeave t.bytes ((byte_of at, PAGE_BYTES) ∷ []) u.bytes
     unfolding at
@@ -68,26 +68,26 @@ module _ (pages : PageMap) (places : List ℕ) where
           (rw written.bytes_are (slice-overwritten t.bytes (byte_of (slice_index places i)) page (omega (arith, sized, fits))))
 
     -- those before stand still
-    before : (j : ℕ) → j < i → Stands pages u.bytes (slice_index places j)
+    before : AreAllApart places → (j : ℕ) → j < i → Stands pages u.bytes (slice_index places j)
     unfolding at
-    before j low =
-        so_far.stand j low
+    before apart j low =
+        so_far.stand apart j low
         ∙ ap (λ (bs : List ℕ). Some bs) (sym (slice-kept t.bytes u.bytes (byte_of (slice_index places i)) PAGE_BYTES
-        (byte_of (slice_index places j)) (byte_of (slice_index places j) + PAGE_BYTES) (are.apart j i low below) change))
+        (byte_of (slice_index places j)) (byte_of (slice_index places j) + PAGE_BYTES) (apart j i low below) change))
 
-    each : (j : ℕ) → j < i + 1 → Stands pages u.bytes (slice_index places j)
+    each : AreAllApart places → (j : ℕ) → j < i + 1 → Stands pages u.bytes (slice_index places j)
     unfolding at
-    each j low = ⊎_elim (λ e. subst (λ (k : ℕ). Stands pages u.bytes (slice_index places k)) (sym e) this)
-        (λ apart. before j (omega (arith, low, apart))) (cases_eq j i)
+    each apart j low = ⊎_elim (λ e. subst (λ (k : ℕ). Stands pages u.bytes (slice_index places k)) (sym e) this)
+        (λ less. before apart j (omega (arith, low, less))) (cases_eq j i)
 
     pub puts_more : PutsPages pages places (i + 1) s u
     unfolding at
     puts_more = record { stand = each; others = others_more i s t u below so_far.others change }
 
   -- the place of the next page lies on the disk
-  pub next_within : (i : ℕ) (s t : Told) → i < length places → ArePlaces (length s.bytes) places → PutsPages pages places i s t
+  pub next_within : (i : ℕ) (s t : Told) → i < length places → AreInside (length s.bytes) places → PutsPages pages places i s t
       → byte_of (slice_index places i) + PAGE_BYTES ≤ length t.bytes
-  next_within i s t below are so_far = (let size = so_far.others.size in omega (arith, size, are.within i below))
+  next_within i s t below are so_far = (let size = so_far.others.size in omega (arith, size, (are i below).1))
 
   pub told_none : (told : Option Told) → BothTell told told (PutsPages pages places 0)
   told_none None = tt
@@ -95,22 +95,22 @@ module _ (pages : PageMap) (places : List ℕ) where
 
   -- The same of a disk that tells or not: `at` is where the next page stands, and these are its bytes.
   module _ (old told new : Option Told) (i place : ℕ) (bytes : List ℕ) (below : i < length places)
-      (at : place ≡ byte_of (slice_index places i)) (are : IfSome old (λ t. ArePlaces (length t.bytes) places))
+      (at : place ≡ byte_of (slice_index places i)) (are : IfSome old (λ t. AreInside (length t.bytes) places))
       (so_far : BothTell old told (PutsPages pages places i)) where
     pub told_within : (size : ℕ) → size ≡ PAGE_BYTES → IfSome told (λ t. place + size ≤ length t.bytes)
-    told_within size sized = IfSome-then old told (λ t. ArePlaces (length t.bytes) places) (λ t. place + size ≤ length t.bytes)
+    told_within size sized = IfSome-then old told (λ t. AreInside (length t.bytes) places) (λ t. place + size ≤ length t.bytes)
         (PutsPages pages places i)
         (λ s t places_are done. (let within = next_within i s t below places_are done in omega (arith, at, sized, within))) are so_far
 
     pub told_more : pages (slice_index places i) ≡ Some bytes → length bytes ≡ PAGE_BYTES → BothTell told new (Written place bytes)
         → BothTell old new (PutsPages pages places (i + 1))
-    told_more there sized written = BothTell-then old told new (λ t. ArePlaces (length t.bytes) places) (PutsPages pages places i)
+    told_more there sized written = BothTell-then old told new (λ t. AreInside (length t.bytes) places) (PutsPages pages places i)
         (Written place bytes) (PutsPages pages places (i + 1))
         (λ s t u places_are done wrote. puts_more i bytes s t u below places_are there sized done
         (subst (λ (n : ℕ). Written n bytes t u) at wrote)) are so_far written
 
     pub told_torn : (size : ℕ) → size ≡ PAGE_BYTES → BothTell told new (MayBeTorn place size) → BothTell old new (KeepsOthers places)
-    told_torn size sized torn = BothTell-then old told new (λ t. ArePlaces (length t.bytes) places) (PutsPages pages places i)
+    told_torn size sized torn = BothTell-then old told new (λ t. AreInside (length t.bytes) places) (PutsPages pages places i)
         (MayBeTorn place size) (KeepsOthers places)
         (λ s t u places_are done may. others_more i s t u below done.others (torn_leaves (slice_index places i) t u
         (subst (λ (n : ℕ). MayBeTorn n PAGE_BYTES t u) at (subst (λ (n : ℕ). MayBeTorn place n t u) sized may)))) are so_far torn

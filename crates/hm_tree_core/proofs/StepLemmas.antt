@@ -1,5 +1,5 @@
 -- One step of a core.
-use Rattle.std.proofs.Common.{ℕ, ◌+◌, ◌-◌, ◌≤◌, ◌<◌, Bool, true, false, List, [], ◌∷◌, ◌++◌, length, length-append, sym, subst, arith, cond}
+use Rattle.std.proofs.Common.{ℕ, ◌+◌, ◌-◌, ◌≤◌, ◌<◌, Bool, true, false, List, [], ◌∷◌, ◌++◌, length, length-append, sym, ap, subst, ◌∙◌, ◌≡◌, arith, cond}
 use Rattle.std.proofs.Math.Logic.{∥∥₁_elim}
 use Rattle.std.proofs.Props.{props}
 use Rattle.hm_types.specs.declared.limits.TheConstants.{BIGBLOCK_BYTES, GREATEST_ID}
@@ -18,6 +18,12 @@ use Rattle.hm_tree_core.proofs.FloorLemmas.{floor_paid}
 -- the entry of a call with these
 abbrev pub entry_of : ℕ → ℕ → ℕ → Command → Reply → Entry
 entry_of id lane line command reply = record { id = record { 0 = id }; lane = lane; line = line; call = command; reply = reply }
+
+-- a history with an entry is not empty
+pub no_entry : (history : List Entry) (entry : Entry) → history ++ entry ∷ [] ≡ [] → ⊥
+no_entry history entry none = (let long = length-append history (entry ∷ []) in
+    let empty = ap (λ (l : List Entry). length l) none in
+    omega (arith, long, empty))
 
 -- the room of a zone is that of a big-block at most
 room_most : (h : Heap) (zone : ℕ) → room_of h zone ≤ BIGBLOCK_BYTES
@@ -40,7 +46,10 @@ module _ (header : Header) (slot last free : ℕ) (h : Heap) (history : List Ent
   ordered_next h' root root' faults faults' command reply entry left answers o = record {
     header_is = o.header_is;
     slot_is = o.slot_is;
+    on_disk = answers.committed.header header slot o.on_disk;
+    bigblocks = o.bigblocks ∙ sym answers.committed.bigblocks;
     closed = answers.closed;
+    idle = answers.committed.boundary ∙ o.idle;
     later = let later = o.later in omega (arith, later);
     greatest = omega (arith, left);
     paid = subst (λ (n : ℕ). IsPaid free (free_of h') n (room_of h')) (sym (length-append history (entry ∷ [])))

@@ -1,13 +1,18 @@
 -- What a call over a store makes of its space, from one moment without an open call to another.
-use Rattle.std.specs.Prelude.{◌≡◌, ℕ, ◌+◌, ◌≤◌, List, [], ◌∷◌, ◌++◌}
+use Rattle.std.specs.Prelude.{◌≡◌, ℕ, ◌+◌, ◌≤◌, IfSome, List, [], ◌∷◌, ◌++◌, None}
+use Rattle.hm_header.specs.OnDisk.{HasHeader}
+use Rattle.hm_header.specs.declared.header.Header.{Header}
 use Rattle.hm_model.specs.Foreign.{Foreigners}
 use Rattle.hm_model.specs.Needs.{floor}
+use Rattle.hm_model.specs.Reply.{told_boundary}
 use Rattle.hm_model.specs.Volume.{Volume}
 use Rattle.hm_model.specs.declared.command.Command.{Command}
 use Rattle.hm_model.specs.declared.entry.Entry.{Entry}
 use Rattle.hm_model.specs.declared.reply.Reply.{Reply}
 use Rattle.hm_stored.specs.Heap.{Heap, free_of, room_of}
 use Rattle.hm_stored.specs.Turn.{IsClosed}
+use Rattle.hm_state.specs.Backed.{IsBacked}
+use Rattle.hm_state.specs.Volume.{HoldsVolume}
 use Rattle.hm_tree_core.specs.History.{IsLegalOver}
 use Rattle.hm_tree_core.specs.Ledger.{IsPaid}
 
@@ -17,11 +22,22 @@ pub record IsEntryOf (last : ℕ) (command : Command) (reply : Reply) (entry : E
   pub reply_is : entry.reply ≡ reply
   pub own : entry.id.0 ≡ last + 1
 
--- A call was answered so, over which the count of faults went from one to another. No call is open, the big-blocks that
--- were begun are paid for, and each history that was legal goes on legally with the entry of the call.
+-- What a call leaves of a space: how many big-blocks it has, what is frozen, and on its disk the header that counts; and,
+-- where this holds, all that was committed last.
+pub record KeepsCommitted (Told : Type 0) (h h' : Heap) : Type 0 where
+  pub bigblocks : h'.bigblocks ≡ h.bigblocks
+  pub boundary : h'.pages.boundary ≡ h.pages.boundary
+  pub header : (header : Header) (slot : ℕ) → IfSome h.disk (λ t. HasHeader t.bytes header slot) → IfSome h'.disk (λ t. HasHeader t.bytes header slot)
+  pub backed : Told → IsBacked h → IsBacked h'
+
+-- A call was answered so, over which the count of faults went from one to another. The reply tells no boundary, no call is open, the big-blocks that
+-- were begun are paid for, what was committed is still there, and each history that was legal goes on legally with the
+-- entry of the call.
 pub record Answers (faults faults' last : ℕ) (command : Command) (h h' : Heap) (root root' : ℕ) (reply : Reply) : Type 0 where
   pub closed : IsClosed h'
   pub counted : faults ≤ faults'
+  pub silent : told_boundary reply ≡ None
+  pub committed : KeepsCommitted ((volume : Volume) × HoldsVolume h root last volume) h h'
   pub paid : (first calls : ℕ) → IsPaid first (free_of h) calls (room_of h) → IsPaid first (free_of h') (calls + 1) (room_of h')
   pub legal : (free start : ℕ) (history : List Entry) (opening : Volume) (foreigners : Foreigners) (entry : Entry)
       → floor free history ≤ free_of h → IsEntryOf last command reply entry

@@ -1,11 +1,14 @@
 -- What the calls of a core do.
-use Rattle.std.specs.Prelude.{◌≡◌, ℕ, ◌+◌, ◌≤◌, [], ◌∷◌, ◌++◌, length}
+use Rattle.std.specs.Prelude.{◌≡◌, ℕ, ◌+◌, ◌≤◌, [], ◌∷◌, ◌++◌, IfSome, None, length}
 use Rattle.hm_types.specs.declared.limits.TheConstants.{GREATEST_ID}
 use Rattle.hm_model.specs.After.{after}
 use Rattle.hm_model.specs.Foreign.{Foreigners}
+use Rattle.hm_model.specs.Reply.{told_boundary}
 use Rattle.hm_model.specs.Volume.{Volume}
 use Rattle.hm_model.specs.declared.command.Command.{Command}
 use Rattle.hm_model.specs.declared.entry.Entry.{Entry}
+use Rattle.hm_image.specs.Stands.{StandsFor}
+use Rattle.hm_state.specs.Backed.{IsBacked}
 use Rattle.hm_tree_core.specs.History.{IsLegalOver}
 use Rattle.hm_tree_core.specs.State.{CoreState}
 use Rattle.hm_tree_core.specs.declared.step.Step.{Step}
@@ -13,9 +16,11 @@ use Rattle.hm_tree_core.specs.declared.step.Step.TheVariants.{Answered, Spent}
 
 module _ {D I O : Type 0} where
   -- A core stands for the volume on which its run began: its history is legal over it, and its space holds the volume after
-  -- that history.
+  -- that history. Its disk has all that was committed last, and as long as nothing was done it stands for that volume.
   pub record StandsOver (core : CoreState D I O) (opening : Volume) (foreigners : Foreigners) : Type 0 where
     pub legal : IsLegalOver core.free core.start core.faults core.history core.heap core.root core.last opening foreigners
+    pub backed : IsBacked core.heap
+    pub untouched : core.history ≡ [] → IfSome core.heap.disk (λ t. StandsFor t.bytes opening)
 
   -- the volume after its history
   abbrev pub volume_after : {core : CoreState D I O} {opening : Volume} {foreigners : Foreigners}
@@ -35,11 +40,13 @@ module _ {D I O : Type 0} where
     pub input : new.input ≡ old.input
     pub output : new.output ≡ old.output
 
-  -- The history gained the entry of this call, by the next id, and at most one place of the room is taken.
+  -- The history gained the entry of this call, by the next id, whose reply tells no boundary, and at most one place of the room
+  -- is taken.
   pub record Enters (old new : CoreState D I O) (lane line : ℕ) (command : Command) : Type 0 where
     pub entry : Entry
     pub history : new.history ≡ old.history ++ entry ∷ []
     pub of_line : (entry.lane ≡ lane) × (entry.line ≡ line) × (entry.call ≡ command)
+    pub silent : told_boundary entry.reply ≡ None
     pub id : (entry.id.0 ≡ old.last + 1) × (new.last ≡ old.last + 1)
     pub spare : old.spare ≤ new.spare + 1
     pub rest : KeepsRest old new

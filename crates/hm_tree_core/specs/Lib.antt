@@ -1,5 +1,5 @@
 pub mod Ledger
-pub mod Placed
+pub mod WrittenBack
 pub mod History
 pub mod Told
 pub mod Calls
@@ -10,4 +10,5 @@ pub mod Seen
 pub mod Served
 pub mod Core
 pub mod Opened
+pub mod Mounting
 pub mod Finished

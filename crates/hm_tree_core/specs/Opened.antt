@@ -82,13 +82,13 @@ pub record IsMade (bigblocks : ℕ) (old new : Told) : Type 0 where
 module _ {D I O : Type 0} where
   -- A core as it is mounted over a disk that told this, whose faults were counted so far: nothing has happened yet, and
   -- whatever volume the disk stands for, in which all trees are certain, the core stands for it.
-  pub record IsMounted (told : Option Told) (faults : ℕ) (input : I) (output : O) (core : CoreState D I O) : Type 0 where
+  pub record IsMounted (old : Option Told) (faults : ℕ) (input : I) (output : O) (core : CoreState D I O) : Type 0 where
     pub history : core.history ≡ []
-    pub told : core.heap.disk ≡ told
+    pub told : core.heap.disk ≡ old
     pub counts : (faults ≤ core.faults) × (core.start ≡ core.faults)
     pub last : core.last ≡ core.header.last.0
     pub free : core.free ≡ free_of core.heap
-    pub counting : IfSome told (λ t. HasHeader t.bytes core.header core.slot)
-    pub stands : IfSome told (λ t. (opening : Volume) (foreigners : Foreigners) → StandsFor t.bytes opening → IsClear opening
+    pub counting : IfSome old (λ t. HasHeader t.bytes core.header core.slot)
+    pub stands : IfSome old (λ t. (opening : Volume) (foreigners : Foreigners) → StandsFor t.bytes opening → IsClear opening
         → StandsOver core opening foreigners)
     pub streams : (core.input ≡ input) × (core.output ≡ output)

@@ -53,8 +53,8 @@ pub fn answer_over<D: Disk>(
     }
 }
 
-// The reply that tells of a fault.
-fn failure(fault: Fault) -> Reply
+/// The reply that tells of a fault.
+pub(crate) fn failure(fault: Fault) -> Reply
     ensures { result ≡ reply_to fault }
 {
     match fault {

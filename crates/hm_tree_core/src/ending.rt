@@ -4,7 +4,9 @@ ghost use Rattle.hm_tree_core.specs.Seen.{seen};
 ghost use Rattle.std.specs.Prelude.{◌≡◌};
 
 use crate::volume::Core;
+use crate::write_back::write_back;
 use hm_disk::Disk;
+use hm_header::Header;
 use hm_types::Fault;
 
 impl<D: Disk, I, O> Core<D, I, O> {
@@ -15,10 +17,33 @@ impl<D: Disk, I, O> Core<D, I, O> {
         ensures disk { IsFinished (seen self) (D.told result.0) (D.faults result.0) result.3 }
         ensures streams { (result.1 ≡ (seen self).input) × (result.2 ≡ (seen self).output) }
     {
-        let is_new = self.history.is_empty();
-        let (disk, input, output) = self.into_devices();
-        let outcome = if is_new { Ok(()) } else { Err(Fault::NoMemory) };
-        (disk, input, output, outcome)
+        if self.history.is_empty() {
+            let (disk, input, output) = self.into_devices();
+            return (disk, input, output, Ok(()));
+        }
+        self.stored.pages_are_bytes();
+        self.stored.pages_are_of_volume();
+        let Core {
+            stored,
+            input,
+            output,
+            header,
+            slot,
+            last,
+            ..
+        } = self;
+        let (space, root) = stored.into_parts();
+        let (mut store, mut disk, books) = space.into_parts();
+        let append = books.append;
+        let next = Header {
+            generation: header.next_generation(),
+            last,
+            root,
+            append,
+            ..header
+        };
+        let written = write_back(&mut store, &mut disk, &header, slot, &next);
+        (disk, input, output, written)
     }
 
     /// Ends the use of the volume without a write, and hands back the disk and the streams.

@@ -1,20 +1,29 @@
-//! The core over the tree: its calls over the store of a volume in use, what it keeps between them, as
-//! laws that its proof rests on, and one piece of a flush. Nothing mounts one yet.
+//! The core over the tree: making and mounting a volume, its calls over the store of one in use, what it
+//! keeps between them, as laws that its proof rests on, and one piece of a flush.
 #![tactic(auto)]
 
+mod asked;
 mod calls;
 mod ending;
+#[cfg(test)]
+mod ending_tests;
 mod entries;
 mod fault;
 mod laws;
+mod mounting;
 mod opening;
+#[cfg(test)]
+mod opening_tests;
 mod served;
+mod slots;
+mod space;
 mod step;
 mod steps;
 #[cfg(test)]
 mod tests;
 mod volume;
 mod write;
+mod write_back;
 
 pub use calls::answer_over;
 pub use fault::OpenFault;
@@ -28,6 +37,7 @@ pub use laws::{
 };
 pub use opening::newfs;
 pub use served::is_served;
+pub use space::tell_space;
 pub use step::Step;
 pub use volume::Core;
 pub use write::write_pages;

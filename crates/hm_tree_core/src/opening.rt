@@ -6,10 +6,17 @@ ghost use Rattle.hm_tree_core.specs.Opened.{HasOpenCause, IsMade, IsMounted, IsN
 ghost use Rattle.hm_tree_core.specs.Seen.{seen};
 
 use crate::fault::OpenFault;
+use crate::mounting::open_space;
+use crate::slots::{disk_fault, read_header};
 use crate::volume::Core;
 use hm_disk::Disk;
-use hm_types::Fault;
+use hm_newfs::write_volume;
+use hm_stored::Stored;
+use hm_types::{BIGBLOCK_BYTES, Failed};
 use std::alloc::Global;
+
+// Where the number of big-blocks stands in a header slot, in bytes.
+const BIGBLOCKS_PLACE: u32 = 12;
 
 /// Makes an empty volume of this many big-blocks. Takes no memory.
 ///
@@ -21,7 +28,17 @@ pub fn newfs<D: Disk>(disk: &mut D, bigblocks: u32) -> Result<(), OpenFault>
     ensures err { IfErr result (IsNotMade bigblocks (D.told disk.old) (D.told disk.new)) }
     ensures cause { HasOpenCause (D.faults disk.old) (D.faults disk.new) result }
 {
-    todo!()
+    let before = disk.faults();
+    match disk.size() {
+        Ok(size) if size < u64::from(bigblocks) * BIGBLOCK_BYTES => Err(OpenFault::BadField {
+            place: BIGBLOCKS_PLACE,
+        }),
+        Ok(_) => match write_volume(disk, bigblocks) {
+            Ok(()) => Ok(()),
+            Err(Failed) => Err(disk_fault(disk, before)),
+        },
+        Err(Failed) => Err(disk_fault(disk, before)),
+    }
 }
 
 impl<D: Disk, I, O> Core<D, I, O> {
@@ -41,6 +58,25 @@ impl<D: Disk, I, O> Core<D, I, O> {
         ensures cause { IfErr result (λ e. (D.faults disk ≤ D.faults e.0)
             × IsOpenCaused (D.faults disk) (D.faults e.0) e.3) }
     {
-        Err((disk, input, output, OpenFault::Fault(Fault::NoMemory)))
+        let mut disk = disk;
+        let (header, slot) = match read_header(&mut disk) {
+            Ok(answer) => answer,
+            Err(fault) => return Err((disk, input, output, fault)),
+        };
+        match open_space(alloc, disk, &header) {
+            Ok((space, free)) => Ok(Core {
+                alloc,
+                input,
+                output,
+                header,
+                slot,
+                last: header.last,
+                free,
+                start: space.disk().faults(),
+                history: Vec::new(alloc),
+                stored: Stored::over(space, header.root),
+            }),
+            Err((disk, fault)) => Err((disk, input, output, OpenFault::Fault(fault))),
+        }
     }
 }

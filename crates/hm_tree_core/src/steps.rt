@@ -4,7 +4,7 @@ ghost use Rattle.hm_tree_core.specs.Core.{Steps};
 ghost use Rattle.hm_tree_core.specs.Seen.{seen};
 ghost use Rattle.hm_tree_core.specs.Served.{IsAsked};
 
-use crate::calls::answer_over;
+use crate::asked::answer_asked;
 use crate::step::Step;
 use crate::volume::Core;
 use hm_disk::Disk;
@@ -24,7 +24,7 @@ impl<D: Disk, I, O> Core<D, I, O> {
         if self.last.0 == GREATEST_ID {
             return Step::Spent;
         }
-        let reply = answer_over(self.alloc, &mut self.stored, &command, self.last);
+        let reply = answer_asked(self.alloc, &mut self.stored, &command, self.last);
         let id = Id(self.last.0 + 1);
         let place = self.history.len();
         self.last = id;

@@ -3,7 +3,7 @@ ghost use Rattle.std.specs.Prelude.{IfSome, OnErr, OnOk, length};
 ghost use Rattle.hm_types.specs.Faults.{HasCause};
 ghost use Rattle.hm_types.specs.Told.{BothTell};
 ghost use Rattle.hm_pages.specs.Store.{contents};
-ghost use Rattle.hm_tree_core.specs.Placed.{ArePlaces, KeepsOthers, PutsPages};
+ghost use Rattle.hm_state.specs.Placed.{AreInside, KeepsOthers, PutsPages};
 
 use hm_disk::Disk;
 use hm_pages::PageStore;
@@ -12,7 +12,7 @@ use hm_types::{Failed, HOff};
 /// Writes each frozen page to its place on the disk. Nothing is settled. After `Failed` any of these
 /// places may have any bytes.
 pub fn write_pages<D: Disk>(store: &PageStore, disk: &mut D) -> Result<(), Failed>
-    requires places { IfSome (D.told disk.old) (λ t. ArePlaces (length t.bytes) (contents store.now).frozen_group) }
+    requires inside { IfSome (D.told disk.old) (λ t. AreInside (length t.bytes) (contents store.now).frozen_group) }
     ensures ok { OnOk result (BothTell (D.told disk.old) (D.told disk.new)
         (PutsPages (contents store.now).frozen (contents store.now).frozen_group
         (length (contents store.now).frozen_group))) }

@@ -1,11 +1,11 @@
-use Rattle.std.proofs.Common.{◌≡◌, ◌∙◌, None, Err, ap, refl, subst, sym}
+use Rattle.std.proofs.Common.{◌≡◌, ◌∙◌, None, Err, ap, refl, subst, sym, Some, [], arith, ◌∷◌}
 use Rattle.std.proofs.lemmas.Result.{err_from_is_err_and}
 use Rattle.hm_path.specs.Path.{IsPath}
-use Rattle.hm_model.specs.Due.{fits_file, is_dir_or_link, is_softlink, no_future}
+use Rattle.hm_model.specs.Due.{fits_file, is_dir_or_link, is_softlink, no_future, has_id}
 use Rattle.hm_model.specs.Sites.{Parts, Walks}
 use Rattle.hm_model.specs.View.{object_at}
 use Rattle.hm_model.specs.Walk.{Follows}
-use Rattle.hm_model.specs.declared.reply.Reply.TheVariants.{IsDir, NotFile}
+use Rattle.hm_model.specs.declared.reply.Reply.TheVariants.{IsDir, NotFile, Done, ReadOnly}
 use Rattle.hm_dirs.proofs.WalkLoopLemmas.{same_twice}
 use Rattle.hm_dirs.specs.Walk.{place_of}
 use Rattle.hm_calls.specs.Due.{space_for}
@@ -21,6 +21,10 @@ use Rattle.hm_calls.proofs.SceneLemmas.{IsStoppedBy, answered, decided, scenes_r
 use Rattle.hm_calls.proofs.StageLemmas.{Wrote, acts_ended, drawn_now, master_passes, master_stopped, no_ids, of_refusal, past_stopped, refusal_so}
 use Rattle.hm_calls.proofs.StageLemmas.{space_before, told_before, told_then, untouched}
 use Rattle.hm_calls.proofs.TakeLemmas.{both_stay, takes_charged, took_admitted}
+use Rattle.hm_calls.proofs.GivenLemmas.{behind_file, edit_has, file_accepted, file_lacks, large_among, not_large}
+use Rattle.hm_calls.proofs.MayReplyLemmas.{asks_edit, end_gives, future_gives, later_gives, lost_gives, one_gives, past_gives, space_gives, word_gives}
+use Rattle.hm_model.specs.Caused.{number_of}
+use Rattle.std.proofs.lemmas.Bool.{false≢true}
 use Rattle.hm_calls.proofs.edits.edit_file.Goals as goal
 
 pub returns-in_err-path-clause-answers : goal.returns-in_err-path-clause-answers
@@ -400,3 +404,100 @@ returns-clause-room g c =
       stays.0,
       stays.1,
     )
+
+-- ---- the replies that it may give
+
+pub returns-in_err-path-clause-gives : goal.returns-in_err-path-clause-gives
+returns-in_err-path-clause-gives g c =
+    let p = err_from_is_err_and c.from_residual.result c.from_residual.ensures.1 in
+    word_gives c.args.id.0 (command_for c.args.edit c.args.word.now) (Walks Follows) c.args.word.now (asks_edit c.args.edit c.args.word.now)
+    c.from_residual.result c.in_err-path.field-0.0 (p.1 ∙ ap Err p.2) c.in_err-path.ensures.refused
+
+pub returns-in_err-check_future-clause-gives : goal.returns-in_err-check_future-clause-gives
+returns-in_err-check_future-clause-gives g c =
+    let p = err_from_is_err_and c.from_residual-in_err-check_future.result c.from_residual-in_err-check_future.ensures.1 in
+    future_gives c.args.id.0 (command_for c.args.edit c.args.word.now) (Walks Follows) c.args.word.now (asks_edit c.args.edit c.args.word.now)
+    c.course_before-course.result c.course_before-course.ensures.last c.parts-parts.result.now (subst (IsPath c.args.word.now) (sym
+    c.parts-parts.ensures) c.in_ok-path.ensures.ok) refl c.from_residual-in_err-check_future.result c.in_err-check_future.field-0.0 (p.1 ∙ ap Err
+    p.2) (decided (Unit {0}) (no_future c.course_before-course.result.last.0 (Parts c.parts-parts.result.now)) c.in_err-check_future.field-0.0
+    c.in_err-check_future.ensures)
+
+pub returns-in_err-check_present-clause-gives : goal.returns-in_err-check_present-clause-gives
+returns-in_err-check_present-clause-gives g c =
+    let p = err_from_is_err_and c.from_residual-in_err-check_present.result c.from_residual-in_err-check_present.ensures.1 in
+    past_gives c.args.id.0 (command_for c.args.edit c.args.word.now) (Walks Follows) c.args.word.now (asks_edit c.args.edit c.args.word.now)
+    c.course_before-course.result c.course_before-course.ensures.last c.parts-parts.result.now (subst (IsPath c.args.word.now) (sym
+    c.parts-parts.ensures) c.in_ok-path.ensures.ok) refl c.in_ok-check_future.ensures c.from_residual-in_err-check_present.result
+    c.in_err-check_present.field-0.0 (p.1 ∙ ap Err p.2) (past_stopped (command_for c.args.edit c.args.word.now) c.parts-parts.result.now (edits_tree
+    c.args.edit c.args.word.now) c.in_err-check_present.field-0.0 c.in_err-check_present.ensures)
+
+pub returns-in_err-file-clause-gives : goal.returns-in_err-file-clause-gives
+returns-in_err-file-clause-gives g c =
+    let p = err_from_is_err_and c.from_residual-in_err-file.result c.from_residual-in_err-file.ensures.1 in
+    lost_gives c.args.id.0 (command_for c.args.edit c.args.word.now) (Walks Follows) c.args.word.now (asks_edit c.args.edit c.args.word.now)
+    c.course_before-course.result c.course_before-course.ensures.last c.parts-parts.result.now (subst (IsPath c.args.word.now) (sym
+    c.parts-parts.ensures) c.in_ok-path.ensures.ok) (early_edit c.args.edit c.args.word.now c.course_before-course.result.last.0
+    c.parts-parts.result.now c.in_ok-check_future.ensures c.in_ok-check_present.ensures) (has_id (Parts c.parts-parts.result.now)) (edit_has
+    c.args.edit c.args.word.now (Parts c.parts-parts.result.now ∷ []) 2 (behind_file (end_of c.args.edit) 2 (1, omega arith, refl))) (edit_has
+    c.args.edit c.args.word.now (Parts c.parts-parts.result.now ∷ []) 3 (behind_file (end_of c.args.edit) 3 (2, omega arith, refl))) (λ some. absurd
+    (false≢true (sym (no_ids c.parts-parts.result.now c.in_ok-check_present.ensures) ∙ some))) c.from_residual-in_err-file.result
+    c.in_err-file.field-0.0 (p.1 ∙ ap Err p.2) c.in_err-file.ensures.gives
+
+pub returns-in_err-check_master-clause-gives : goal.returns-in_err-check_master-clause-gives
+returns-in_err-check_master-clause-gives g c =
+    let p = err_from_is_err_and c.from_residual-in_err-check_master.result c.from_residual-in_err-check_master.ensures.1 in
+    one_gives c.args.id.0 (command_for c.args.edit c.args.word.now) (Walks Follows) c.args.word.now (asks_edit c.args.edit c.args.word.now)
+    c.course_before-course.result c.course_before-course.ensures.last c.parts-parts.result.now (subst (IsPath c.args.word.now) (sym
+    c.parts-parts.ensures) c.in_ok-path.ensures.ok) (early_edit c.args.edit c.args.word.now c.course_before-course.result.last.0
+    c.parts-parts.result.now c.in_ok-check_future.ensures c.in_ok-check_present.ensures) ReadOnly (edit_has c.args.edit c.args.word.now (Parts
+    c.parts-parts.result.now ∷ []) 7 (behind_file (end_of c.args.edit) 7 (0, omega arith, refl))) c.from_residual-in_err-check_master.result
+    c.in_err-check_master.field-0.0 (p.1 ∙ ap Err p.2) c.in_err-check_master.ensures.gives
+
+pub returns-in_err-check_no_directory-clause-gives : goal.returns-in_err-check_no_directory-clause-gives
+returns-in_err-check_no_directory-clause-gives g c =
+    let p = err_from_is_err_and c.from_residual-in_err-check_no_directory.result c.from_residual-in_err-check_no_directory.ensures.1 in
+    one_gives c.args.id.0 (command_for c.args.edit c.args.word.now) (Walks Follows) c.args.word.now (asks_edit c.args.edit c.args.word.now)
+    c.course_before-course.result c.course_before-course.ensures.last c.parts-parts.result.now (subst (IsPath c.args.word.now) (sym
+    c.parts-parts.ensures) c.in_ok-path.ensures.ok) (early_edit c.args.edit c.args.word.now c.course_before-course.result.last.0
+    c.parts-parts.result.now c.in_ok-check_future.ensures c.in_ok-check_present.ensures) IsDir (edit_has c.args.edit c.args.word.now (Parts
+    c.parts-parts.result.now ∷ []) 4 (0, omega arith, refl)) c.from_residual-in_err-check_no_directory.result c.in_err-check_no_directory.field-0.0
+    (p.1 ∙ ap Err p.2) c.in_err-check_no_directory.ensures.gives
+
+pub returns-in_err-check_no_softlink-clause-gives : goal.returns-in_err-check_no_softlink-clause-gives
+returns-in_err-check_no_softlink-clause-gives g c =
+    let p = err_from_is_err_and c.from_residual-in_err-check_no_softlink.result c.from_residual-in_err-check_no_softlink.ensures.1 in
+    one_gives c.args.id.0 (command_for c.args.edit c.args.word.now) (Walks Follows) c.args.word.now (asks_edit c.args.edit c.args.word.now)
+    c.course_before-course.result c.course_before-course.ensures.last c.parts-parts.result.now (subst (IsPath c.args.word.now) (sym
+    c.parts-parts.ensures) c.in_ok-path.ensures.ok) (early_edit c.args.edit c.args.word.now c.course_before-course.result.last.0
+    c.parts-parts.result.now c.in_ok-check_future.ensures c.in_ok-check_present.ensures) NotFile (edit_has c.args.edit c.args.word.now (Parts
+    c.parts-parts.result.now ∷ []) 32 (1, omega arith, refl)) c.from_residual-in_err-check_no_softlink.result c.in_err-check_no_softlink.field-0.0
+    (p.1 ∙ ap Err p.2) c.in_err-check_no_softlink.ensures.gives
+
+pub returns-in_err-check_end-clause-gives : goal.returns-in_err-check_end-clause-gives
+returns-in_err-check_end-clause-gives g c =
+    let p = err_from_is_err_and c.from_residual-in_err-check_end.result c.from_residual-in_err-check_end.ensures.1 in
+    later_gives c.args.id.0 (command_for c.args.edit c.args.word.now) (Walks Follows) c.args.word.now (asks_edit c.args.edit c.args.word.now)
+    c.course_before-course.result c.course_before-course.ensures.last c.parts-parts.result.now (subst (IsPath c.args.word.now) (sym
+    c.parts-parts.ensures) c.in_ok-path.ensures.ok) (early_edit c.args.edit c.args.word.now c.course_before-course.result.last.0
+    c.parts-parts.result.now c.in_ok-check_future.ensures c.in_ok-check_present.ensures) (λ reply. fits_file (end_of c.args.edit) ≡ Some reply) (λ
+    reply is. edit_has c.args.edit c.args.word.now (Parts c.parts-parts.result.now ∷ []) (number_of reply) (large_among (end_of c.args.edit) reply
+    is)) c.from_residual-in_err-check_end.result c.in_err-check_end.field-0.0 (p.1 ∙ ap Err p.2) (decided (Unit {0}) (fits_file (end_of c.args.edit))
+    c.in_err-check_end.field-0.0 c.in_err-check_end.ensures.check)
+
+pub returns-in_err-admit_edit-clause-gives : goal.returns-in_err-admit_edit-clause-gives
+returns-in_err-admit_edit-clause-gives g c =
+    let p = err_from_is_err_and c.from_residual-in_err-admit_edit.result c.from_residual-in_err-admit_edit.ensures.1 in
+    space_gives c.args.id.0 (command_for c.args.edit c.args.word.now) (Walks Follows) c.args.word.now (asks_edit c.args.edit c.args.word.now)
+    c.course_before-course.result c.course_before-course.ensures.last c.parts-parts.result.now (subst (IsPath c.args.word.now) (sym
+    c.parts-parts.ensures) c.in_ok-path.ensures.ok) (early_edit c.args.edit c.args.word.now c.course_before-course.result.last.0
+    c.parts-parts.result.now c.in_ok-check_future.ensures c.in_ok-check_present.ensures) (edit_has c.args.edit c.args.word.now (Parts
+    c.parts-parts.result.now ∷ []) 20 (file_lacks (end_of c.args.edit) (not_large (end_of c.args.edit) c.in_ok-check_end.ensures.check)))
+    c.from_residual-in_err-admit_edit.result c.in_err-admit_edit.field-0.0 (p.1 ∙ ap Err p.2) c.in_err-admit_edit.ensures.gives
+
+pub returns-clause-gives : goal.returns-clause-gives
+returns-clause-gives g c =
+    end_gives c.args.id.0 (command_for c.args.edit c.args.word.now) (Walks Follows) c.args.word.now (asks_edit c.args.edit c.args.word.now)
+    c.course_before-course.result c.course_before-course.ensures.last c.parts-parts.result.now (subst (IsPath c.args.word.now) (sym
+    c.parts-parts.ensures) c.in_ok-path.ensures.ok) (early_edit c.args.edit c.args.word.now c.course_before-course.result.last.0
+    c.parts-parts.result.now c.in_ok-check_future.ensures c.in_ok-check_present.ensures) Done (edit_has c.args.edit c.args.word.now (Parts
+    c.parts-parts.result.now ∷ []) 101 (file_accepted (end_of c.args.edit) (not_large (end_of c.args.edit) c.in_ok-check_end.ensures.check)))

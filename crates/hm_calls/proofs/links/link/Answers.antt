@@ -1,4 +1,4 @@
-use Rattle.std.proofs.Common.{◌≡◌, ℕ, ◌+◌, ◌∙◌, List, Some, None, Err, ap, refl, subst, sym}
+use Rattle.std.proofs.Common.{◌≡◌, ℕ, ◌+◌, ◌∙◌, List, Some, None, Err, ap, refl, subst, sym, arith}
 use Rattle.std.specs.Prelude.{◌==◌, if◌then◌else◌}
 use Rattle.std.specs.Bool.{nat_le}
 use Rattle.std.specs.Option.{option_map_or}
@@ -13,7 +13,7 @@ use Rattle.hm_model.specs.Sites.{MakesName, Parts, Walks, at_end, locate}
 use Rattle.hm_model.specs.View.{object_at}
 use Rattle.hm_model.specs.Walk.{Stays, walk}
 use Rattle.hm_model.specs.declared.command.Command.TheVariants.{Ln}
-use Rattle.hm_model.specs.declared.reply.Reply.TheVariants.{CrossPfs, Exists, HashFull, IsDir, NotFile, ReadOnly}
+use Rattle.hm_model.specs.declared.reply.Reply.TheVariants.{CrossPfs, Exists, HashFull, IsDir, NotFile, ReadOnly, Done, TooBig}
 use Rattle.hm_records.specs.View.{IsViewOf}
 use Rattle.hm_dirs.proofs.WalkLoopLemmas.{same_twice}
 use Rattle.hm_dirs.specs.Names.{IsSpot, OnNamed, first_key, names_of_hash}
@@ -38,6 +38,7 @@ use Rattle.hm_calls.proofs.StageLemmas.{Wrote, acts_ended, good_new, master_pass
 use Rattle.hm_calls.proofs.StageLemmas.{scenes_below, scenes_own, space_before, told_before, told_then, untouched}
 use Rattle.hm_calls.proofs.KnownLemmas.{known_same, known_then}
 use Rattle.hm_calls.proofs.TakeLemmas.{both_stay, takes_charged, took_admitted, took_room}
+use Rattle.hm_calls.proofs.MayReplyLemmas.{asks_ln, both_past_gives, early_linked, end_after, first_future_gives, first_word_gives, front_none, lost_after, one_after, second_future_gives, second_name_gives, second_word_gives, space_after, unless_told}
 use Rattle.hm_calls.proofs.links.link.Goals as goal
 
 pub returns-in_err-old-clause-answers : goal.returns-in_err-old-clause-answers
@@ -1252,3 +1253,213 @@ returns-clause-room g c =
       stays.0,
       stays.1,
     )
+
+-- ---- the replies that it may give
+
+pub returns-in_err-old-clause-gives : goal.returns-in_err-old-clause-gives
+returns-in_err-old-clause-gives g c =
+    let p = err_from_is_err_and c.from_residual.result c.from_residual.ensures.1 in
+    first_word_gives c.args.id.0 (Ln c.args.old.now c.args.new.now) (Walks Stays) MakesName c.args.old.now c.args.new.now (asks_ln c.args.old.now
+    c.args.new.now) c.from_residual.result c.in_err-old.field-0.0 (p.1 ∙ ap Err p.2) c.in_err-old.ensures.refused
+
+pub returns-in_err-new-clause-gives : goal.returns-in_err-new-clause-gives
+returns-in_err-new-clause-gives g c =
+    let p = err_from_is_err_and c.from_residual-in_err-new.result c.from_residual-in_err-new.ensures.1 in
+    second_word_gives c.args.id.0 (Ln c.args.old.now c.args.new.now) (Walks Stays) MakesName c.args.old.now c.args.new.now (asks_ln c.args.old.now
+    c.args.new.now) _ c.in_ok-old.ensures.ok refl c.from_residual-in_err-new.result c.in_err-new.field-0.0 (p.1 ∙ ap Err p.2)
+    c.in_err-new.ensures.refused
+
+pub returns-in_err-front-clause-gives : goal.returns-in_err-front-clause-gives
+returns-in_err-front-clause-gives g c =
+    let p = err_from_is_err_and c.from_residual-in_err-front.result c.from_residual-in_err-front.ensures.1 in
+    second_name_gives c.args.id.0 (Ln c.args.old.now c.args.new.now) (Walks Stays) MakesName c.args.old.now c.args.new.now (asks_ln c.args.old.now
+    c.args.new.now) c.parts-parts.result.now (subst (IsPath c.args.old.now) (sym c.parts-parts.ensures) c.in_ok-old.ensures.ok)
+    c.course_before-course.result c.course_before-course.ensures.last c.parts-more.result.now (subst (IsPath c.args.new.now) (sym
+    c.parts-more.ensures) c.in_ok-new.ensures.ok) refl c.from_residual-in_err-front.result c.in_err-front.field-0.0 (p.1 ∙ ap Err p.2) (nameless_new
+    c.parts-more.result.now c.in_err-front.field-0.0 c.in_err-front.ensures.refused)
+
+pub returns-in_err-check_future-clause-gives : goal.returns-in_err-check_future-clause-gives
+returns-in_err-check_future-clause-gives g c =
+    let p = err_from_is_err_and c.from_residual-in_err-check_future.result c.from_residual-in_err-check_future.ensures.1 in
+    first_future_gives c.args.id.0 (Ln c.args.old.now c.args.new.now) (Walks Stays) MakesName c.args.old.now c.args.new.now (asks_ln c.args.old.now
+    c.args.new.now) c.parts-parts.result.now (subst (IsPath c.args.old.now) (sym c.parts-parts.ensures) c.in_ok-old.ensures.ok)
+    c.course_before-course.result c.course_before-course.ensures.last c.parts-more.result.now (subst (IsPath c.args.new.now) (sym
+    c.parts-more.ensures) c.in_ok-new.ensures.ok) refl (good_new c.parts-more.result.now c.in_ok-front.name.now c.in_ok-front.ensures.name)
+    c.from_residual-in_err-check_future.result c.in_err-check_future.field-0.0 (p.1 ∙ ap Err p.2) (decided (Unit {0}) (no_future
+    c.course_before-course.result.last.0 (Parts c.parts-parts.result.now)) c.in_err-check_future.field-0.0 c.in_err-check_future.ensures)
+
+pub returns-in_err-check_future-2-clause-gives : goal.returns-in_err-check_future-2-clause-gives
+returns-in_err-check_future-2-clause-gives g c =
+    let p = err_from_is_err_and c.from_residual-in_err-check_future-2.result c.from_residual-in_err-check_future-2.ensures.1 in
+    second_future_gives c.args.id.0 (Ln c.args.old.now c.args.new.now) (Walks Stays) MakesName c.args.old.now c.args.new.now (asks_ln c.args.old.now
+    c.args.new.now) c.parts-parts.result.now (subst (IsPath c.args.old.now) (sym c.parts-parts.ensures) c.in_ok-old.ensures.ok)
+    c.course_before-course.result c.course_before-course.ensures.last c.parts-more.result.now (subst (IsPath c.args.new.now) (sym
+    c.parts-more.ensures) c.in_ok-new.ensures.ok) refl (good_new c.parts-more.result.now c.in_ok-front.name.now c.in_ok-front.ensures.name)
+    c.in_ok-check_future.ensures c.from_residual-in_err-check_future-2.result c.in_err-check_future-2.field-0.0 (p.1 ∙ ap Err p.2) (decided (Unit
+    {0}) (no_future c.course_before-course.result.last.0 (Parts c.parts-more.result.now)) c.in_err-check_future-2.field-0.0
+    c.in_err-check_future-2.ensures)
+
+pub returns-in_err-check_present-clause-gives : goal.returns-in_err-check_present-clause-gives
+returns-in_err-check_present-clause-gives g c =
+    let p = err_from_is_err_and c.from_residual-in_err-check_present.result c.from_residual-in_err-check_present.ensures.1 in
+    both_past_gives c.args.id.0 (Ln c.args.old.now c.args.new.now) (Walks Stays) MakesName c.args.old.now c.args.new.now (asks_ln c.args.old.now
+    c.args.new.now) c.parts-parts.result.now (subst (IsPath c.args.old.now) (sym c.parts-parts.ensures) c.in_ok-old.ensures.ok)
+    c.course_before-course.result c.course_before-course.ensures.last c.parts-more.result.now (subst (IsPath c.args.new.now) (sym
+    c.parts-more.ensures) c.in_ok-new.ensures.ok) refl (good_new c.parts-more.result.now c.in_ok-front.name.now c.in_ok-front.ensures.name)
+    c.in_ok-check_future.ensures c.in_ok-check_future-2.ensures c.from_residual-in_err-check_present.result c.in_err-check_present.field-0.0 (p.1 ∙
+    ap Err p.2) (first_past (Parts c.parts-parts.result.now) (Parts c.parts-more.result.now) c.in_err-check_present.field-0.0
+    c.in_err-check_present.ensures)
+
+pub returns-in_err-check_present-2-clause-gives : goal.returns-in_err-check_present-2-clause-gives
+returns-in_err-check_present-2-clause-gives g c =
+    let p = err_from_is_err_and c.from_residual-in_err-check_present-2.result c.from_residual-in_err-check_present-2.ensures.1 in
+    both_past_gives c.args.id.0 (Ln c.args.old.now c.args.new.now) (Walks Stays) MakesName c.args.old.now c.args.new.now (asks_ln c.args.old.now
+    c.args.new.now) c.parts-parts.result.now (subst (IsPath c.args.old.now) (sym c.parts-parts.ensures) c.in_ok-old.ensures.ok)
+    c.course_before-course.result c.course_before-course.ensures.last c.parts-more.result.now (subst (IsPath c.args.new.now) (sym
+    c.parts-more.ensures) c.in_ok-new.ensures.ok) refl (good_new c.parts-more.result.now c.in_ok-front.name.now c.in_ok-front.ensures.name)
+    c.in_ok-check_future.ensures c.in_ok-check_future-2.ensures c.from_residual-in_err-check_present-2.result c.in_err-check_present-2.field-0.0 (p.1
+    ∙ ap Err p.2) (second_past (Parts c.parts-parts.result.now) (Parts c.parts-more.result.now) c.in_err-check_present-2.field-0.0
+    c.in_ok-check_present.ensures c.in_err-check_present-2.ensures)
+
+pub returns-in_err-object-clause-gives : goal.returns-in_err-object-clause-gives
+returns-in_err-object-clause-gives g c =
+    let p = err_from_is_err_and c.from_residual-in_err-object.result c.from_residual-in_err-object.ensures.1 in
+    lost_after c.args.id.0 (Ln c.args.old.now c.args.new.now) (Walks Stays) MakesName c.args.old.now c.args.new.now (asks_ln c.args.old.now
+    c.args.new.now) c.parts-parts.result.now (subst (IsPath c.args.old.now) (sym c.parts-parts.ensures) c.in_ok-old.ensures.ok)
+    c.course_before-course.result c.course_before-course.ensures.last c.parts-more.result.now (subst (IsPath c.args.new.now) (sym
+    c.parts-more.ensures) c.in_ok-new.ensures.ok) (early_linked c.args.old.now c.args.new.now c.course_before-course.result.last.0
+    c.parts-parts.result.now c.parts-more.result.now c.in_ok-front.name.now c.in_ok-front.ensures.name c.in_ok-check_future.ensures
+    c.in_ok-check_future-2.ensures c.in_ok-check_present.ensures c.in_ok-check_present-2.ensures) (has_id (Parts c.parts-parts.result.now)) (no_ids
+    c.parts-parts.result.now c.in_ok-check_present.ensures) (9, omega arith, refl) (10, omega arith, refl) c.from_residual-in_err-object.result
+    c.in_err-object.field-0.0 (p.1 ∙ ap Err p.2) c.in_err-object.ensures.gives
+
+pub returns-in_err-directory-clause-gives : goal.returns-in_err-directory-clause-gives
+returns-in_err-directory-clause-gives g c =
+    let p = err_from_is_err_and c.from_residual-in_err-directory.result c.from_residual-in_err-directory.ensures.1 in
+    lost_after c.args.id.0 (Ln c.args.old.now c.args.new.now) (Walks Stays) MakesName c.args.old.now c.args.new.now (asks_ln c.args.old.now
+    c.args.new.now) c.parts-parts.result.now (subst (IsPath c.args.old.now) (sym c.parts-parts.ensures) c.in_ok-old.ensures.ok)
+    c.course_before-course.result c.course_before-course.ensures.last c.parts-more.result.now (subst (IsPath c.args.new.now) (sym
+    c.parts-more.ensures) c.in_ok-new.ensures.ok) (early_linked c.args.old.now c.args.new.now c.course_before-course.result.last.0
+    c.parts-parts.result.now c.parts-more.result.now c.in_ok-front.name.now c.in_ok-front.ensures.name c.in_ok-check_future.ensures
+    c.in_ok-check_future-2.ensures c.in_ok-check_present.ensures c.in_ok-check_present-2.ensures) (has_id (Parts c.in_ok-front.front.now))
+    (front_none c.parts-more.result.now c.in_ok-front.front.now c.in_ok-front.ensures.front c.in_ok-check_present-2.ensures) (9, omega arith, refl)
+    (10, omega arith, refl) c.from_residual-in_err-directory.result c.in_err-directory.field-0.0 (p.1 ∙ ap Err p.2) c.in_err-directory.ensures.gives
+
+pub returns-in_err-check_master-clause-gives : goal.returns-in_err-check_master-clause-gives
+returns-in_err-check_master-clause-gives g c =
+    let p = err_from_is_err_and c.from_residual-in_err-check_master.result c.from_residual-in_err-check_master.ensures.1 in
+    one_after c.args.id.0 (Ln c.args.old.now c.args.new.now) (Walks Stays) MakesName c.args.old.now c.args.new.now (asks_ln c.args.old.now
+    c.args.new.now) c.parts-parts.result.now (subst (IsPath c.args.old.now) (sym c.parts-parts.ensures) c.in_ok-old.ensures.ok)
+    c.course_before-course.result c.course_before-course.ensures.last c.parts-more.result.now (subst (IsPath c.args.new.now) (sym
+    c.parts-more.ensures) c.in_ok-new.ensures.ok) (early_linked c.args.old.now c.args.new.now c.course_before-course.result.last.0
+    c.parts-parts.result.now c.parts-more.result.now c.in_ok-front.name.now c.in_ok-front.ensures.name c.in_ok-check_future.ensures
+    c.in_ok-check_future-2.ensures c.in_ok-check_present.ensures c.in_ok-check_present-2.ensures) ReadOnly (8, omega arith, refl)
+    c.from_residual-in_err-check_master.result c.in_err-check_master.field-0.0 (p.1 ∙ ap Err p.2) c.in_err-check_master.ensures.gives
+
+pub returns-in_err-check_master-2-clause-gives : goal.returns-in_err-check_master-2-clause-gives
+returns-in_err-check_master-2-clause-gives g c =
+    let p = err_from_is_err_and c.from_residual-in_err-check_master-2.result c.from_residual-in_err-check_master-2.ensures.1 in
+    one_after c.args.id.0 (Ln c.args.old.now c.args.new.now) (Walks Stays) MakesName c.args.old.now c.args.new.now (asks_ln c.args.old.now
+    c.args.new.now) c.parts-parts.result.now (subst (IsPath c.args.old.now) (sym c.parts-parts.ensures) c.in_ok-old.ensures.ok)
+    c.course_before-course.result c.course_before-course.ensures.last c.parts-more.result.now (subst (IsPath c.args.new.now) (sym
+    c.parts-more.ensures) c.in_ok-new.ensures.ok) (early_linked c.args.old.now c.args.new.now c.course_before-course.result.last.0
+    c.parts-parts.result.now c.parts-more.result.now c.in_ok-front.name.now c.in_ok-front.ensures.name c.in_ok-check_future.ensures
+    c.in_ok-check_future-2.ensures c.in_ok-check_present.ensures c.in_ok-check_present-2.ensures) ReadOnly (8, omega arith, refl)
+    c.from_residual-in_err-check_master-2.result c.in_err-check_master-2.field-0.0 (p.1 ∙ ap Err p.2) c.in_err-check_master-2.ensures.gives
+
+pub returns-in_err-check_no_directory-clause-gives : goal.returns-in_err-check_no_directory-clause-gives
+returns-in_err-check_no_directory-clause-gives g c =
+    let p = err_from_is_err_and c.from_residual-in_err-check_no_directory.result c.from_residual-in_err-check_no_directory.ensures.1 in
+    one_after c.args.id.0 (Ln c.args.old.now c.args.new.now) (Walks Stays) MakesName c.args.old.now c.args.new.now (asks_ln c.args.old.now
+    c.args.new.now) c.parts-parts.result.now (subst (IsPath c.args.old.now) (sym c.parts-parts.ensures) c.in_ok-old.ensures.ok)
+    c.course_before-course.result c.course_before-course.ensures.last c.parts-more.result.now (subst (IsPath c.args.new.now) (sym
+    c.parts-more.ensures) c.in_ok-new.ensures.ok) (early_linked c.args.old.now c.args.new.now c.course_before-course.result.last.0
+    c.parts-parts.result.now c.parts-more.result.now c.in_ok-front.name.now c.in_ok-front.ensures.name c.in_ok-check_future.ensures
+    c.in_ok-check_future-2.ensures c.in_ok-check_present.ensures c.in_ok-check_present-2.ensures) IsDir (1, omega arith, refl)
+    c.from_residual-in_err-check_no_directory.result c.in_err-check_no_directory.field-0.0 (p.1 ∙ ap Err p.2)
+    c.in_err-check_no_directory.ensures.gives
+
+pub returns-in_err-check_no_softlink-clause-gives : goal.returns-in_err-check_no_softlink-clause-gives
+returns-in_err-check_no_softlink-clause-gives g c =
+    let p = err_from_is_err_and c.from_residual-in_err-check_no_softlink.result c.from_residual-in_err-check_no_softlink.ensures.1 in
+    one_after c.args.id.0 (Ln c.args.old.now c.args.new.now) (Walks Stays) MakesName c.args.old.now c.args.new.now (asks_ln c.args.old.now
+    c.args.new.now) c.parts-parts.result.now (subst (IsPath c.args.old.now) (sym c.parts-parts.ensures) c.in_ok-old.ensures.ok)
+    c.course_before-course.result c.course_before-course.ensures.last c.parts-more.result.now (subst (IsPath c.args.new.now) (sym
+    c.parts-more.ensures) c.in_ok-new.ensures.ok) (early_linked c.args.old.now c.args.new.now c.course_before-course.result.last.0
+    c.parts-parts.result.now c.parts-more.result.now c.in_ok-front.name.now c.in_ok-front.ensures.name c.in_ok-check_future.ensures
+    c.in_ok-check_future-2.ensures c.in_ok-check_present.ensures c.in_ok-check_present-2.ensures) NotFile (2, omega arith, refl)
+    c.from_residual-in_err-check_no_softlink.result c.in_err-check_no_softlink.field-0.0 (p.1 ∙ ap Err p.2) c.in_err-check_no_softlink.ensures.gives
+
+pub returns-in_err-check_one_pfs-clause-gives : goal.returns-in_err-check_one_pfs-clause-gives
+returns-in_err-check_one_pfs-clause-gives g c =
+    let p = err_from_is_err_and c.from_residual-in_err-check_one_pfs.result c.from_residual-in_err-check_one_pfs.ensures.1 in
+    one_after c.args.id.0 (Ln c.args.old.now c.args.new.now) (Walks Stays) MakesName c.args.old.now c.args.new.now (asks_ln c.args.old.now
+    c.args.new.now) c.parts-parts.result.now (subst (IsPath c.args.old.now) (sym c.parts-parts.ensures) c.in_ok-old.ensures.ok)
+    c.course_before-course.result c.course_before-course.ensures.last c.parts-more.result.now (subst (IsPath c.args.new.now) (sym
+    c.parts-more.ensures) c.in_ok-new.ensures.ok) (early_linked c.args.old.now c.args.new.now c.course_before-course.result.last.0
+    c.parts-parts.result.now c.parts-more.result.now c.in_ok-front.name.now c.in_ok-front.ensures.name c.in_ok-check_future.ensures
+    c.in_ok-check_future-2.ensures c.in_ok-check_present.ensures c.in_ok-check_present-2.ensures) CrossPfs (3, omega arith, refl)
+    c.from_residual-in_err-check_one_pfs.result c.in_err-check_one_pfs.field-0.0 (p.1 ∙ ap Err p.2) (unless_told (Unit {0}) _ CrossPfs
+    c.in_err-check_one_pfs.field-0.0 c.in_err-check_one_pfs.ensures)
+
+pub returns-in_err-check_new-clause-gives : goal.returns-in_err-check_new-clause-gives
+returns-in_err-check_new-clause-gives g c =
+    let p = err_from_is_err_and c.from_residual-in_err-check_new.result c.from_residual-in_err-check_new.ensures.1 in
+    one_after c.args.id.0 (Ln c.args.old.now c.args.new.now) (Walks Stays) MakesName c.args.old.now c.args.new.now (asks_ln c.args.old.now
+    c.args.new.now) c.parts-parts.result.now (subst (IsPath c.args.old.now) (sym c.parts-parts.ensures) c.in_ok-old.ensures.ok)
+    c.course_before-course.result c.course_before-course.ensures.last c.parts-more.result.now (subst (IsPath c.args.new.now) (sym
+    c.parts-more.ensures) c.in_ok-new.ensures.ok) (early_linked c.args.old.now c.args.new.now c.course_before-course.result.last.0
+    c.parts-parts.result.now c.parts-more.result.now c.in_ok-front.name.now c.in_ok-front.ensures.name c.in_ok-check_future.ensures
+    c.in_ok-check_future-2.ensures c.in_ok-check_present.ensures c.in_ok-check_present-2.ensures) Exists (5, omega arith, refl)
+    c.from_residual-in_err-check_new.result c.in_err-check_new.field-0.0 (p.1 ∙ ap Err p.2) c.in_err-check_new.ensures.gives
+
+pub returns-in_err-check_links-clause-gives : goal.returns-in_err-check_links-clause-gives
+returns-in_err-check_links-clause-gives g c =
+    let p = err_from_is_err_and c.from_residual-in_err-check_links.result c.from_residual-in_err-check_links.ensures.1 in
+    one_after c.args.id.0 (Ln c.args.old.now c.args.new.now) (Walks Stays) MakesName c.args.old.now c.args.new.now (asks_ln c.args.old.now
+    c.args.new.now) c.parts-parts.result.now (subst (IsPath c.args.old.now) (sym c.parts-parts.ensures) c.in_ok-old.ensures.ok)
+    c.course_before-course.result c.course_before-course.ensures.last c.parts-more.result.now (subst (IsPath c.args.new.now) (sym
+    c.parts-more.ensures) c.in_ok-new.ensures.ok) (early_linked c.args.old.now c.args.new.now c.course_before-course.result.last.0
+    c.parts-parts.result.now c.parts-more.result.now c.in_ok-front.name.now c.in_ok-front.ensures.name c.in_ok-check_future.ensures
+    c.in_ok-check_future-2.ensures c.in_ok-check_present.ensures c.in_ok-check_present-2.ensures) TooBig (4, omega arith, refl)
+    c.from_residual-in_err-check_links.result c.in_err-check_links.field-0.0 (p.1 ∙ ap Err p.2) c.in_err-check_links.ensures.gives
+
+pub returns-in_err-spot-clause-gives : goal.returns-in_err-spot-clause-gives
+returns-in_err-spot-clause-gives g c =
+    let p = err_from_is_err_and c.from_residual-in_err-spot.result c.from_residual-in_err-spot.ensures.1 in
+    one_after c.args.id.0 (Ln c.args.old.now c.args.new.now) (Walks Stays) MakesName c.args.old.now c.args.new.now (asks_ln c.args.old.now
+    c.args.new.now) c.parts-parts.result.now (subst (IsPath c.args.old.now) (sym c.parts-parts.ensures) c.in_ok-old.ensures.ok)
+    c.course_before-course.result c.course_before-course.ensures.last c.parts-more.result.now (subst (IsPath c.args.new.now) (sym
+    c.parts-more.ensures) c.in_ok-new.ensures.ok) (early_linked c.args.old.now c.args.new.now c.course_before-course.result.last.0
+    c.parts-parts.result.now c.parts-more.result.now c.in_ok-front.name.now c.in_ok-front.ensures.name c.in_ok-check_future.ensures
+    c.in_ok-check_future-2.ensures c.in_ok-check_present.ensures c.in_ok-check_present-2.ensures) HashFull (6, omega arith, refl)
+    c.from_residual-in_err-spot.result c.in_err-spot.field-0.0 (p.1 ∙ ap Err p.2) c.in_err-spot.ensures.gives
+
+pub returns-in_err-admit_names-clause-gives : goal.returns-in_err-admit_names-clause-gives
+returns-in_err-admit_names-clause-gives g c =
+    let p = err_from_is_err_and c.from_residual-in_err-admit_names.result c.from_residual-in_err-admit_names.ensures.1 in
+    space_after c.args.id.0 (Ln c.args.old.now c.args.new.now) (Walks Stays) MakesName c.args.old.now c.args.new.now (asks_ln c.args.old.now
+    c.args.new.now) c.parts-parts.result.now (subst (IsPath c.args.old.now) (sym c.parts-parts.ensures) c.in_ok-old.ensures.ok)
+    c.course_before-course.result c.course_before-course.ensures.last c.parts-more.result.now (subst (IsPath c.args.new.now) (sym
+    c.parts-more.ensures) c.in_ok-new.ensures.ok) (early_linked c.args.old.now c.args.new.now c.course_before-course.result.last.0
+    c.parts-parts.result.now c.parts-more.result.now c.in_ok-front.name.now c.in_ok-front.ensures.name c.in_ok-check_future.ensures
+    c.in_ok-check_future-2.ensures c.in_ok-check_present.ensures c.in_ok-check_present-2.ensures) (7, omega arith, refl)
+    c.from_residual-in_err-admit_names.result c.in_err-admit_names.field-0.0 (p.1 ∙ ap Err p.2) c.in_err-admit_names.ensures.gives
+
+pub returns-in_default-clause-gives : goal.returns-in_default-clause-gives
+returns-in_default-clause-gives g c =
+    end_after c.args.id.0 (Ln c.args.old.now c.args.new.now) (Walks Stays) MakesName c.args.old.now c.args.new.now (asks_ln c.args.old.now
+    c.args.new.now) c.parts-parts.result.now (subst (IsPath c.args.old.now) (sym c.parts-parts.ensures) c.in_ok-old.ensures.ok)
+    c.course_before-course.result c.course_before-course.ensures.last c.parts-more.result.now (subst (IsPath c.args.new.now) (sym
+    c.parts-more.ensures) c.in_ok-new.ensures.ok) (early_linked c.args.old.now c.args.new.now c.course_before-course.result.last.0
+    c.parts-parts.result.now c.parts-more.result.now c.in_ok-front.name.now c.in_ok-front.ensures.name c.in_ok-check_future.ensures
+    c.in_ok-check_future-2.ensures c.in_ok-check_present.ensures c.in_ok-check_present-2.ensures) Done (0, omega arith, refl)
+
+pub returns-clause-gives : goal.returns-clause-gives
+returns-clause-gives g c =
+    end_after c.args.id.0 (Ln c.args.old.now c.args.new.now) (Walks Stays) MakesName c.args.old.now c.args.new.now (asks_ln c.args.old.now
+    c.args.new.now) c.parts-parts.result.now (subst (IsPath c.args.old.now) (sym c.parts-parts.ensures) c.in_ok-old.ensures.ok)
+    c.course_before-course.result c.course_before-course.ensures.last c.parts-more.result.now (subst (IsPath c.args.new.now) (sym
+    c.parts-more.ensures) c.in_ok-new.ensures.ok) (early_linked c.args.old.now c.args.new.now c.course_before-course.result.last.0
+    c.parts-parts.result.now c.parts-more.result.now c.in_ok-front.name.now c.in_ok-front.ensures.name c.in_ok-check_future.ensures
+    c.in_ok-check_future-2.ensures c.in_ok-check_present.ensures c.in_ok-check_present-2.ensures) Done (0, omega arith, refl)

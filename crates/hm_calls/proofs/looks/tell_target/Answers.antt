@@ -1,13 +1,13 @@
-use Rattle.std.proofs.Common.{◌≡◌, ◌∙◌, List, None, Err, ap, refl, subst, sym}
+use Rattle.std.proofs.Common.{◌≡◌, ◌∙◌, List, None, Err, ap, refl, subst, sym, [], arith, ◌∷◌}
 use Rattle.std.proofs.lemmas.Result.{err_from_is_err_and}
 use Rattle.hm_path.specs.Path.{IsPath}
 use Rattle.hm_path.specs.declared.part.Part.{Part}
-use Rattle.hm_model.specs.Due.{is_link, no_future}
-use Rattle.hm_model.specs.Sites.{Parts}
+use Rattle.hm_model.specs.Due.{is_link, no_future, has_id}
+use Rattle.hm_model.specs.Sites.{Parts, Walks}
 use Rattle.hm_model.specs.View.{object_at}
 use Rattle.hm_model.specs.Walk.{Stays}
 use Rattle.hm_model.specs.declared.command.Command.TheVariants.{Readlink}
-use Rattle.hm_model.specs.declared.reply.Reply.TheVariants.{NotLink}
+use Rattle.hm_model.specs.declared.reply.Reply.TheVariants.{NotLink, Target}
 use Rattle.hm_dirs.specs.Walk.{place_of}
 use Rattle.hm_calls.specs.Places.{ask_kind}
 use Rattle.hm_calls.proofs.LookLemmas.{look_future, look_stopped, look_walk, look_word, never_gone, no_link, tells_target}
@@ -15,6 +15,8 @@ use Rattle.hm_calls.proofs.PlaceLemmas.{are_drawn}
 use Rattle.hm_calls.proofs.RefusalLemmas.{of_readlink}
 use Rattle.hm_calls.proofs.SceneLemmas.{decided, scenes_reached}
 use Rattle.hm_dirs.proofs.WalkLoopLemmas.{same_twice}
+use Rattle.hm_calls.proofs.GivenLemmas.{behind_link, dir_in_walk, in_read, kept_one, lost_in_walk}
+use Rattle.hm_calls.proofs.MayReplyLemmas.{asks_readlink, end_gives, future_gives, lost_gives, one_gives, word_gives}
 use Rattle.hm_calls.proofs.looks.tell_target.Goals as goal
 
 pub returns-in_err-path-clause-answers : goal.returns-in_err-path-clause-answers
@@ -101,3 +103,62 @@ returns-clause-answers g c =
           (g.T.HasRoom.extents c.reach.new.store) c.in_ok-object.ensures.keeps.elements c.in_ok-object.ensures.keeps.extents c.in_ok-text.ensures.ok,
       same_twice c.in_ok-object.ensures.keeps c.in_ok-text.ensures.keeps,
     )
+
+-- ---- the replies that it may give
+
+pub returns-in_err-path-clause-gives : goal.returns-in_err-path-clause-gives
+returns-in_err-path-clause-gives g c =
+    let p = err_from_is_err_and c.from_residual.result c.from_residual.ensures.1 in
+    word_gives c.args.id.0 (Readlink c.args.word.now) (Walks Stays) c.args.word.now (asks_readlink c.args.word.now) c.from_residual.result
+    c.in_err-path.field-0.0 (p.1 ∙ ap Err p.2) c.in_err-path.ensures.refused
+
+pub returns-in_err-check_future-clause-gives : goal.returns-in_err-check_future-clause-gives
+returns-in_err-check_future-clause-gives g c =
+    let p = err_from_is_err_and c.from_residual-in_err-check_future.result c.from_residual-in_err-check_future.ensures.1 in
+    future_gives c.args.id.0 (Readlink c.args.word.now) (Walks Stays) c.args.word.now (asks_readlink c.args.word.now) c.course_before-course.result
+    c.course_before-course.ensures.last c.parts.result.now (subst (IsPath c.args.word.now) (sym c.parts.ensures) c.in_ok-path.ensures.ok) refl
+    c.from_residual-in_err-check_future.result c.in_err-check_future.field-0.0 (p.1 ∙ ap Err p.2) (decided (Unit {0}) (no_future
+    c.course_before-course.result.last.0 (Parts c.parts.result.now)) c.in_err-check_future.field-0.0 c.in_err-check_future.ensures)
+
+pub returns-in_err-object-clause-gives : goal.returns-in_err-object-clause-gives
+returns-in_err-object-clause-gives g c =
+    let p = err_from_is_err_and c.from_residual-in_err-object.result c.from_residual-in_err-object.ensures.1 in
+    lost_gives c.args.id.0 (Readlink c.args.word.now) (Walks Stays) c.args.word.now (asks_readlink c.args.word.now) c.course_before-course.result
+    c.course_before-course.ensures.last c.parts-2.result.now (subst (IsPath c.args.word.now) (sym c.parts-2.ensures) c.in_ok-path.ensures.ok) (record
+    { good = refl; future = rw (c.parts.ensures ∙ sym c.parts-2.ensures) at c.in_ok-check_future.ensures; past = refl }) (has_id (Parts
+    c.parts-2.result.now)) (behind_link (Parts c.parts-2.result.now ∷ []) 2 (in_read (Parts c.parts-2.result.now ∷ []) 2 lost_in_walk)) (behind_link
+    (Parts c.parts-2.result.now ∷ []) 3 (in_read (Parts c.parts-2.result.now ∷ []) 3 dir_in_walk)) (λ some. behind_link (Parts c.parts-2.result.now ∷
+    []) 8 (kept_one c.parts-2.result.now some)) c.from_residual-in_err-object.result c.in_err-object.field-0.0 (p.1 ∙ ap Err p.2)
+    c.in_err-object.ensures.gives
+
+pub returns-in_err-check_link-clause-gives : goal.returns-in_err-check_link-clause-gives
+returns-in_err-check_link-clause-gives g c =
+    let p = err_from_is_err_and c.from_residual-in_err-check_link.result c.from_residual-in_err-check_link.ensures.1 in
+    one_gives c.args.id.0 (Readlink c.args.word.now) (Walks Stays) c.args.word.now (asks_readlink c.args.word.now) c.course_before-course.result
+    c.course_before-course.ensures.last c.in_ok-path.path c.in_ok-path.ensures.ok (record {
+      good = refl;
+      future = rw c.parts.ensures at
+          c.in_ok-check_future.ensures;
+      past = refl;
+    }) NotLink (1, omega arith, refl) c.from_residual-in_err-check_link.result
+    c.in_err-check_link.field-0.0 (p.1 ∙ ap Err p.2) c.in_err-check_link.ensures.gives
+
+pub returns-in_default-clause-gives : goal.returns-in_default-clause-gives
+returns-in_default-clause-gives g c =
+    end_gives c.args.id.0 (Readlink c.args.word.now) (Walks Stays) c.args.word.now (asks_readlink c.args.word.now) c.course_before-course.result
+    c.course_before-course.ensures.last c.in_ok-path.path c.in_ok-path.ensures.ok (record {
+      good = refl;
+      future = rw c.parts.ensures at
+          c.in_ok-check_future.ensures;
+      past = refl;
+    }) NotLink (1, omega arith, refl)
+
+pub returns-clause-gives : goal.returns-clause-gives
+returns-clause-gives g c =
+    end_gives c.args.id.0 (Readlink c.args.word.now) (Walks Stays) c.args.word.now (asks_readlink c.args.word.now) c.course_before-course.result
+    c.course_before-course.ensures.last c.in_ok-path.path c.in_ok-path.ensures.ok (record {
+      good = refl;
+      future = rw c.parts.ensures at
+          c.in_ok-check_future.ensures;
+      past = refl;
+    }) (Target c.in_ok-text.text) (0, omega arith, refl)

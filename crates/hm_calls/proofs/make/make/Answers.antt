@@ -1,19 +1,24 @@
-use Rattle.std.proofs.Common.{◌≡◌, ◌∙◌, List, None, Err, ap, refl, subst, sym}
+use Rattle.std.proofs.Common.{◌≡◌, ◌∙◌, List, None, Err, ap, refl, subst, sym, [], arith, ◌∷◌}
 use Rattle.std.proofs.lemmas.Result.{err_from_is_err_and}
 use Rattle.hm_path.specs.Path.{IsPath}
 use Rattle.hm_path.specs.declared.part.Part.{Part}
 use Rattle.hm_model.specs.Due.{has_id, no_future, refuse_if}
-use Rattle.hm_model.specs.Sites.{Parts}
-use Rattle.hm_model.specs.declared.reply.Reply.TheVariants.{ReadOnly}
+use Rattle.hm_model.specs.Sites.{Parts, MakesName, front_of}
+use Rattle.hm_model.specs.declared.reply.Reply.TheVariants.{ReadOnly, Done, Exists, HashFull}
 use Rattle.hm_dirs.specs.declared.position.Stand.{Stand}
 use Rattle.hm_dirs.proofs.WalkLoopLemmas.{same_twice}
 use Rattle.hm_calls.specs.Stop.{Answers, Decides}
 use Rattle.hm_calls.proofs.MadeLemmas.{as_named, known_back, made_kept, made_place, make_accepted, make_crowded, make_exists, make_full, make_future}
-use Rattle.hm_calls.proofs.MadeLemmas.{make_lost, make_nameless, make_present, make_slave, make_word, make_writes, same_after}
+use Rattle.hm_calls.proofs.MadeLemmas.{make_lost, make_nameless, make_present, make_slave, make_word, make_writes, same_after, makes_change}
 use Rattle.hm_calls.proofs.KnownLemmas.{known_then}
 use Rattle.hm_calls.specs.Writes.{IsNewIn, PutsObject, place_in, reserves}
 use Rattle.hm_calls.proofs.TakeLemmas.{both_stay, takes_charged, took_admitted}
-use Rattle.hm_calls.specs.New.{object_by}
+use Rattle.hm_calls.specs.New.{object_by, command_by}
+use Rattle.hm_calls.proofs.StageLemmas.{good_new, nameless_new, past_stopped}
+use Rattle.hm_calls.proofs.MayReplyLemmas.{asks_make, early_made, end_gives, front_none, future_gives, lost_gives, name_gives, one_gives, past_gives, space_gives, word_gives}
+use Rattle.hm_calls.proofs.SceneLemmas.{decided}
+use Rattle.std.proofs.lemmas.Bool.{false≢true}
+use Rattle.hm_calls.proofs.GivenLemmas.{made_has}
 use Rattle.hm_calls.proofs.make.make.Goals as goal
 
 pub returns-in_err-path-clause-answers : goal.returns-in_err-path-clause-answers
@@ -328,3 +333,98 @@ returns-clause-room g c =
       stays.0,
       stays.1,
     )
+
+-- ---- the replies that it may give
+
+pub returns-in_err-path-clause-gives : goal.returns-in_err-path-clause-gives
+returns-in_err-path-clause-gives g c =
+    let p = err_from_is_err_and c.from_residual.result c.from_residual.ensures.1 in
+    word_gives c.args.id.0 (command_by c.args.new c.args.word.now) MakesName c.args.word.now (asks_make c.args.new c.args.word.now)
+    c.from_residual.result c.in_err-path.field-0.0 (p.1 ∙ ap Err p.2) c.in_err-path.ensures.refused
+
+pub returns-in_err-front-clause-gives : goal.returns-in_err-front-clause-gives
+returns-in_err-front-clause-gives g c =
+    let p = err_from_is_err_and c.from_residual-in_err-front.result c.from_residual-in_err-front.ensures.1 in
+    name_gives c.args.id.0 (command_by c.args.new c.args.word.now) MakesName c.args.word.now (asks_make c.args.new c.args.word.now)
+    c.course_before-course.result c.course_before-course.ensures.last c.parts.result.now (subst (IsPath c.args.word.now) (sym c.parts.ensures)
+    c.in_ok-path.ensures.ok) c.from_residual-in_err-front.result c.in_err-front.field-0.0 (p.1 ∙ ap Err p.2) (nameless_new c.parts.result.now
+    c.in_err-front.field-0.0 c.in_err-front.ensures.refused)
+
+pub returns-in_err-check_future-clause-gives : goal.returns-in_err-check_future-clause-gives
+returns-in_err-check_future-clause-gives g c =
+    let p = err_from_is_err_and c.from_residual-in_err-check_future.result c.from_residual-in_err-check_future.ensures.1 in
+    future_gives c.args.id.0 (command_by c.args.new c.args.word.now) MakesName c.args.word.now (asks_make c.args.new c.args.word.now)
+    c.course_before-course.result c.course_before-course.ensures.last c.parts-2.result.now (subst (IsPath c.args.word.now) (sym c.parts-2.ensures)
+    c.in_ok-path.ensures.ok) (good_new c.parts-2.result.now c.in_ok-front.name.now (rw (c.parts.ensures ∙ sym c.parts-2.ensures) at
+    c.in_ok-front.ensures.name)) c.from_residual-in_err-check_future.result c.in_err-check_future.field-0.0 (p.1 ∙ ap Err p.2) (decided (Unit {0})
+    (no_future c.course_before-course.result.last.0 (Parts c.parts-2.result.now)) c.in_err-check_future.field-0.0 c.in_err-check_future.ensures)
+
+pub returns-in_err-check_present-clause-gives : goal.returns-in_err-check_present-clause-gives
+returns-in_err-check_present-clause-gives g c =
+    let p = err_from_is_err_and c.from_residual-in_err-check_present.result c.from_residual-in_err-check_present.ensures.1 in
+    past_gives c.args.id.0 (command_by c.args.new c.args.word.now) MakesName c.args.word.now (asks_make c.args.new c.args.word.now)
+    c.course_before-course.result c.course_before-course.ensures.last c.parts-3.result.now (subst (IsPath c.args.word.now) (sym c.parts-3.ensures)
+    c.in_ok-path.ensures.ok) (good_new c.parts-3.result.now c.in_ok-front.name.now (rw (c.parts.ensures ∙ sym c.parts-3.ensures) at
+    c.in_ok-front.ensures.name)) (rw (c.parts-2.ensures ∙ sym c.parts-3.ensures) at c.in_ok-check_future.ensures)
+    c.from_residual-in_err-check_present.result c.in_err-check_present.field-0.0 (p.1 ∙ ap Err p.2) (past_stopped (command_by c.args.new
+    c.args.word.now) c.parts-3.result.now (makes_change c.args.new c.args.word.now) c.in_err-check_present.field-0.0 c.in_err-check_present.ensures)
+
+pub returns-in_err-directory-clause-gives : goal.returns-in_err-directory-clause-gives
+returns-in_err-directory-clause-gives g c =
+    let p = err_from_is_err_and c.from_residual-in_err-directory.result c.from_residual-in_err-directory.ensures.1 in
+    lost_gives c.args.id.0 (command_by c.args.new c.args.word.now) MakesName c.args.word.now (asks_make c.args.new c.args.word.now)
+    c.course_before-course.result c.course_before-course.ensures.last c.in_ok-path.path c.in_ok-path.ensures.ok (early_made c.args.new
+    c.args.word.now c.course_before-course.result.last.0 c.in_ok-path.path c.in_ok-front.name.now (rw c.parts.ensures at c.in_ok-front.ensures.name)
+    (rw c.parts-2.ensures at c.in_ok-check_future.ensures) (rw c.parts-3.ensures at c.in_ok-check_present.ensures)) (has_id (Parts
+    c.in_ok-front.front.now)) (made_has c.args.new c.args.word.now (Parts c.in_ok-path.path ∷ []) 2 (5, omega arith, refl)) (made_has c.args.new
+    c.args.word.now (Parts c.in_ok-path.path ∷ []) 3 (6, omega arith, refl)) (λ some. absurd (false≢true (sym (front_none c.parts-3.result.now
+    c.in_ok-front.front.now (c.in_ok-front.ensures.front ∙ ap front_of (c.parts.ensures ∙ sym c.parts-3.ensures)) c.in_ok-check_present.ensures) ∙
+    some))) c.from_residual-in_err-directory.result c.in_err-directory.field-0.0 (p.1 ∙ ap Err p.2) c.in_err-directory.ensures.gives
+
+pub returns-in_err-check_master-clause-gives : goal.returns-in_err-check_master-clause-gives
+returns-in_err-check_master-clause-gives g c =
+    let p = err_from_is_err_and c.from_residual-in_err-check_master.result c.from_residual-in_err-check_master.ensures.1 in
+    one_gives c.args.id.0 (command_by c.args.new c.args.word.now) MakesName c.args.word.now (asks_make c.args.new c.args.word.now)
+    c.course_before-course.result c.course_before-course.ensures.last c.in_ok-path.path c.in_ok-path.ensures.ok (early_made c.args.new
+    c.args.word.now c.course_before-course.result.last.0 c.in_ok-path.path c.in_ok-front.name.now (rw c.parts.ensures at c.in_ok-front.ensures.name)
+    (rw c.parts-2.ensures at c.in_ok-check_future.ensures) (rw c.parts-3.ensures at c.in_ok-check_present.ensures)) ReadOnly (made_has c.args.new
+    c.args.word.now (Parts c.in_ok-path.path ∷ []) 7 (4, omega arith, refl)) c.from_residual-in_err-check_master.result
+    c.in_err-check_master.field-0.0 (p.1 ∙ ap Err p.2) c.in_err-check_master.ensures.gives
+
+pub returns-in_err-check_new-clause-gives : goal.returns-in_err-check_new-clause-gives
+returns-in_err-check_new-clause-gives g c =
+    let p = err_from_is_err_and c.from_residual-in_err-check_new.result c.from_residual-in_err-check_new.ensures.1 in
+    one_gives c.args.id.0 (command_by c.args.new c.args.word.now) MakesName c.args.word.now (asks_make c.args.new c.args.word.now)
+    c.course_before-course.result c.course_before-course.ensures.last c.in_ok-path.path c.in_ok-path.ensures.ok (early_made c.args.new
+    c.args.word.now c.course_before-course.result.last.0 c.in_ok-path.path c.in_ok-front.name.now (rw c.parts.ensures at c.in_ok-front.ensures.name)
+    (rw c.parts-2.ensures at c.in_ok-check_future.ensures) (rw c.parts-3.ensures at c.in_ok-check_present.ensures)) Exists (made_has c.args.new
+    c.args.word.now (Parts c.in_ok-path.path ∷ []) 1 (1, omega arith, refl)) c.from_residual-in_err-check_new.result c.in_err-check_new.field-0.0
+    (p.1 ∙ ap Err p.2) c.in_err-check_new.ensures.gives
+
+pub returns-in_err-spot-clause-gives : goal.returns-in_err-spot-clause-gives
+returns-in_err-spot-clause-gives g c =
+    let p = err_from_is_err_and c.from_residual-in_err-spot.result c.from_residual-in_err-spot.ensures.1 in
+    one_gives c.args.id.0 (command_by c.args.new c.args.word.now) MakesName c.args.word.now (asks_make c.args.new c.args.word.now)
+    c.course_before-course.result c.course_before-course.ensures.last c.in_ok-path.path c.in_ok-path.ensures.ok (early_made c.args.new
+    c.args.word.now c.course_before-course.result.last.0 c.in_ok-path.path c.in_ok-front.name.now (rw c.parts.ensures at c.in_ok-front.ensures.name)
+    (rw c.parts-2.ensures at c.in_ok-check_future.ensures) (rw c.parts-3.ensures at c.in_ok-check_present.ensures)) HashFull (made_has c.args.new
+    c.args.word.now (Parts c.in_ok-path.path ∷ []) 13 (2, omega arith, refl)) c.from_residual-in_err-spot.result c.in_err-spot.field-0.0 (p.1 ∙ ap
+    Err p.2) c.in_err-spot.ensures.gives
+
+pub returns-in_err-admit_names-clause-gives : goal.returns-in_err-admit_names-clause-gives
+returns-in_err-admit_names-clause-gives g c =
+    let p = err_from_is_err_and c.from_residual-in_err-admit_names.result c.from_residual-in_err-admit_names.ensures.1 in
+    space_gives c.args.id.0 (command_by c.args.new c.args.word.now) MakesName c.args.word.now (asks_make c.args.new c.args.word.now)
+    c.course_before-course.result c.course_before-course.ensures.last c.in_ok-path.path c.in_ok-path.ensures.ok (early_made c.args.new
+    c.args.word.now c.course_before-course.result.last.0 c.in_ok-path.path c.in_ok-front.name.now (rw c.parts.ensures at c.in_ok-front.ensures.name)
+    (rw c.parts-2.ensures at c.in_ok-check_future.ensures) (rw c.parts-3.ensures at c.in_ok-check_present.ensures)) (made_has c.args.new
+    c.args.word.now (Parts c.in_ok-path.path ∷ []) 20 (3, omega arith, refl)) c.from_residual-in_err-admit_names.result
+    c.in_err-admit_names.field-0.0 (p.1 ∙ ap Err p.2) c.in_err-admit_names.ensures.gives
+
+pub returns-clause-gives : goal.returns-clause-gives
+returns-clause-gives g c =
+    end_gives c.args.id.0 (command_by c.args.new c.args.word.now) MakesName c.args.word.now (asks_make c.args.new c.args.word.now)
+    c.course_before-course.result c.course_before-course.ensures.last c.in_ok-path.path c.in_ok-path.ensures.ok (early_made c.args.new
+    c.args.word.now c.course_before-course.result.last.0 c.in_ok-path.path c.in_ok-front.name.now (rw c.parts.ensures at c.in_ok-front.ensures.name)
+    (rw c.parts-2.ensures at c.in_ok-check_future.ensures) (rw c.parts-3.ensures at c.in_ok-check_present.ensures)) Done (made_has c.args.new
+    c.args.word.now (Parts c.in_ok-path.path ∷ []) 101 (0, omega arith, refl))

@@ -1,4 +1,4 @@
-use Rattle.std.proofs.Common.{◌≡◌, ℕ, ◌∙◌, List, Some, None, Err, ap, refl, subst, sym}
+use Rattle.std.proofs.Common.{◌≡◌, ℕ, ◌∙◌, List, Some, None, Err, ap, refl, subst, sym, [], arith, ◌∷◌}
 use Rattle.std.specs.Prelude.{◌==◌, if◌then◌else◌}
 use Rattle.std.proofs.lemmas.Result.{err_from_is_err_and}
 use Rattle.hm_types.specs.Name.{IsName}
@@ -6,7 +6,7 @@ use Rattle.hm_path.specs.Path.{IsPath}
 use Rattle.hm_model.specs.Due.{has_id, no_future, refuse_if, walks}
 use Rattle.hm_model.specs.Sites.{MakesName, Parts, TakesName, locate}
 use Rattle.hm_model.specs.declared.command.Command.TheVariants.{Mv}
-use Rattle.hm_model.specs.declared.reply.Reply.TheVariants.{CrossPfs, IntoItself, NotFound, ReadOnly}
+use Rattle.hm_model.specs.declared.reply.Reply.TheVariants.{CrossPfs, IntoItself, NotFound, ReadOnly, Done}
 use Rattle.hm_dirs.proofs.WalkLoopLemmas.{same_twice}
 use Rattle.hm_dirs.specs.declared.position.Stand.{Stand}
 use Rattle.hm_calls.specs.Known.{AreBelowIn, AreKnown}
@@ -29,6 +29,10 @@ use Rattle.hm_calls.proofs.StageLemmas.{of_refusal, taken, told_then, untaken, u
 use Rattle.hm_key.specs.Stores.{Same}
 use Rattle.hm_calls.proofs.MoveBesideLemmas.{beside_placed, beside_stopped, beside_told, name_is_new}
 use Rattle.hm_calls.proofs.TakeLemmas.{both_stay, charges_later, takes_charged, takes_failed}
+use Rattle.hm_calls.proofs.MayReplyLemmas.{after_gives, asks_mv, both_past_gives, early_moved, end_after, first_future_gives, first_name_gives, first_word_gives, front_none, lost_after, one_after, second_future_gives, second_name_gives, second_word_gives, unless_told}
+use Rattle.hm_calls.proofs.GivenLemmas.{beside_among, over_among}
+use Rattle.hm_calls.specs.Possible.{RefusesBeside, RefusesOver}
+use Rattle.hm_model.specs.Caused.{possible}
 use Rattle.hm_calls.proofs.moves.move_to.Goals as goal
 
 pub returns-in_err-old-clause-answers : goal.returns-in_err-old-clause-answers
@@ -1045,3 +1049,213 @@ returns-clause-answers g c =
           (g.T.HasRoom.free c.args.store.now) (g.T.HasRoom.free c.find_entry.new.store) same.room same.free c.in_ok-move_over.ensures.check)
           (g.T.HasElements.elements c.move_over.new.store) (g.T.HasRoom.extents c.move_over.new.store) writes,
     )
+
+-- ---- the replies that it may give
+
+pub returns-in_err-old-clause-gives : goal.returns-in_err-old-clause-gives
+returns-in_err-old-clause-gives g c =
+    let p = err_from_is_err_and c.from_residual.result c.from_residual.ensures.1 in
+    first_word_gives c.args.id.0 (Mv c.args.old.now c.args.new.now) TakesName MakesName c.args.old.now c.args.new.now (asks_mv c.args.old.now
+    c.args.new.now) c.from_residual.result c.in_err-old.field-0.0 (p.1 ∙ ap Err p.2) c.in_err-old.ensures.refused
+
+pub returns-in_err-old_name-clause-gives : goal.returns-in_err-old_name-clause-gives
+returns-in_err-old_name-clause-gives g c =
+    let p = err_from_is_err_and c.from_residual-in_err-old_name.result c.from_residual-in_err-old_name.ensures.1 in
+    first_name_gives c.args.id.0 (Mv c.args.old.now c.args.new.now) TakesName MakesName c.args.old.now c.args.new.now (asks_mv c.args.old.now
+    c.args.new.now) c.parts-parts.result.now (subst (IsPath c.args.old.now) (sym c.parts-parts.ensures) c.in_ok-old.ensures.ok)
+    c.from_residual-in_err-old_name.result c.in_err-old_name.field-0.0 (p.1 ∙ ap Err p.2) (nameless c.parts-parts.result.now
+    c.in_err-old_name.field-0.0 c.in_err-old_name.ensures.refused)
+
+pub returns-in_err-new-clause-gives : goal.returns-in_err-new-clause-gives
+returns-in_err-new-clause-gives g c =
+    let p = err_from_is_err_and c.from_residual-in_err-new.result c.from_residual-in_err-new.ensures.1 in
+    second_word_gives c.args.id.0 (Mv c.args.old.now c.args.new.now) TakesName MakesName c.args.old.now c.args.new.now (asks_mv c.args.old.now
+    c.args.new.now) c.parts-parts.result.now (subst (IsPath c.args.old.now) (sym c.parts-parts.ensures) c.in_ok-old.ensures.ok) (good_named
+    c.parts-parts.result.now c.in_ok-old_name.old_name.now c.in_ok-old_name.ensures.name) c.from_residual-in_err-new.result c.in_err-new.field-0.0
+    (p.1 ∙ ap Err p.2) c.in_err-new.ensures.refused
+
+pub returns-in_err-front-clause-gives : goal.returns-in_err-front-clause-gives
+returns-in_err-front-clause-gives g c =
+    let p = err_from_is_err_and c.from_residual-in_err-front.result c.from_residual-in_err-front.ensures.1 in
+    second_name_gives c.args.id.0 (Mv c.args.old.now c.args.new.now) TakesName MakesName c.args.old.now c.args.new.now (asks_mv c.args.old.now
+    c.args.new.now) c.parts-parts.result.now (subst (IsPath c.args.old.now) (sym c.parts-parts.ensures) c.in_ok-old.ensures.ok)
+    c.course_before-course.result c.course_before-course.ensures.last c.parts-more.result.now (subst (IsPath c.args.new.now) (sym
+    c.parts-more.ensures) c.in_ok-new.ensures.ok) (good_named c.parts-parts.result.now c.in_ok-old_name.old_name.now c.in_ok-old_name.ensures.name)
+    c.from_residual-in_err-front.result c.in_err-front.field-0.0 (p.1 ∙ ap Err p.2) (nameless_new c.parts-more.result.now c.in_err-front.field-0.0
+    c.in_err-front.ensures.refused)
+
+pub returns-in_err-check_future-clause-gives : goal.returns-in_err-check_future-clause-gives
+returns-in_err-check_future-clause-gives g c =
+    let p = err_from_is_err_and c.from_residual-in_err-check_future.result c.from_residual-in_err-check_future.ensures.1 in
+    first_future_gives c.args.id.0 (Mv c.args.old.now c.args.new.now) TakesName MakesName c.args.old.now c.args.new.now (asks_mv c.args.old.now
+    c.args.new.now) c.parts-parts.result.now (subst (IsPath c.args.old.now) (sym c.parts-parts.ensures) c.in_ok-old.ensures.ok)
+    c.course_before-course.result c.course_before-course.ensures.last c.parts-more.result.now (subst (IsPath c.args.new.now) (sym
+    c.parts-more.ensures) c.in_ok-new.ensures.ok) (good_named c.parts-parts.result.now c.in_ok-old_name.old_name.now c.in_ok-old_name.ensures.name)
+    (good_new c.parts-more.result.now c.in_ok-front.new_name.now c.in_ok-front.ensures.name) c.from_residual-in_err-check_future.result
+    c.in_err-check_future.field-0.0 (p.1 ∙ ap Err p.2) (decided (Unit {0}) (no_future c.course_before-course.result.last.0 (Parts
+    c.parts-parts.result.now)) c.in_err-check_future.field-0.0 c.in_err-check_future.ensures)
+
+pub returns-in_err-check_future-2-clause-gives : goal.returns-in_err-check_future-2-clause-gives
+returns-in_err-check_future-2-clause-gives g c =
+    let p = err_from_is_err_and c.from_residual-in_err-check_future-2.result c.from_residual-in_err-check_future-2.ensures.1 in
+    second_future_gives c.args.id.0 (Mv c.args.old.now c.args.new.now) TakesName MakesName c.args.old.now c.args.new.now (asks_mv c.args.old.now
+    c.args.new.now) c.parts-parts.result.now (subst (IsPath c.args.old.now) (sym c.parts-parts.ensures) c.in_ok-old.ensures.ok)
+    c.course_before-course.result c.course_before-course.ensures.last c.parts-more.result.now (subst (IsPath c.args.new.now) (sym
+    c.parts-more.ensures) c.in_ok-new.ensures.ok) (good_named c.parts-parts.result.now c.in_ok-old_name.old_name.now c.in_ok-old_name.ensures.name)
+    (good_new c.parts-more.result.now c.in_ok-front.new_name.now c.in_ok-front.ensures.name) c.in_ok-check_future.ensures
+    c.from_residual-in_err-check_future-2.result c.in_err-check_future-2.field-0.0 (p.1 ∙ ap Err p.2) (decided (Unit {0}) (no_future
+    c.course_before-course.result.last.0 (Parts c.parts-more.result.now)) c.in_err-check_future-2.field-0.0 c.in_err-check_future-2.ensures)
+
+pub returns-in_err-check_present-clause-gives : goal.returns-in_err-check_present-clause-gives
+returns-in_err-check_present-clause-gives g c =
+    let p = err_from_is_err_and c.from_residual-in_err-check_present.result c.from_residual-in_err-check_present.ensures.1 in
+    both_past_gives c.args.id.0 (Mv c.args.old.now c.args.new.now) TakesName MakesName c.args.old.now c.args.new.now (asks_mv c.args.old.now
+    c.args.new.now) c.parts-parts.result.now (subst (IsPath c.args.old.now) (sym c.parts-parts.ensures) c.in_ok-old.ensures.ok)
+    c.course_before-course.result c.course_before-course.ensures.last c.parts-more.result.now (subst (IsPath c.args.new.now) (sym
+    c.parts-more.ensures) c.in_ok-new.ensures.ok) (good_named c.parts-parts.result.now c.in_ok-old_name.old_name.now c.in_ok-old_name.ensures.name)
+    (good_new c.parts-more.result.now c.in_ok-front.new_name.now c.in_ok-front.ensures.name) c.in_ok-check_future.ensures
+    c.in_ok-check_future-2.ensures c.from_residual-in_err-check_present.result c.in_err-check_present.field-0.0 (p.1 ∙ ap Err p.2) (first_past (Parts
+    c.parts-parts.result.now) (Parts c.parts-more.result.now) c.in_err-check_present.field-0.0 c.in_err-check_present.ensures)
+
+pub returns-in_err-check_present-2-clause-gives : goal.returns-in_err-check_present-2-clause-gives
+returns-in_err-check_present-2-clause-gives g c =
+    let p = err_from_is_err_and c.from_residual-in_err-check_present-2.result c.from_residual-in_err-check_present-2.ensures.1 in
+    both_past_gives c.args.id.0 (Mv c.args.old.now c.args.new.now) TakesName MakesName c.args.old.now c.args.new.now (asks_mv c.args.old.now
+    c.args.new.now) c.parts-parts.result.now (subst (IsPath c.args.old.now) (sym c.parts-parts.ensures) c.in_ok-old.ensures.ok)
+    c.course_before-course.result c.course_before-course.ensures.last c.parts-more.result.now (subst (IsPath c.args.new.now) (sym
+    c.parts-more.ensures) c.in_ok-new.ensures.ok) (good_named c.parts-parts.result.now c.in_ok-old_name.old_name.now c.in_ok-old_name.ensures.name)
+    (good_new c.parts-more.result.now c.in_ok-front.new_name.now c.in_ok-front.ensures.name) c.in_ok-check_future.ensures
+    c.in_ok-check_future-2.ensures c.from_residual-in_err-check_present-2.result c.in_err-check_present-2.field-0.0 (p.1 ∙ ap Err p.2) (second_past
+    (Parts c.parts-parts.result.now) (Parts c.parts-more.result.now) c.in_err-check_present-2.field-0.0 c.in_ok-check_present.ensures
+    c.in_err-check_present-2.ensures)
+
+pub returns-in_err-from-clause-gives : goal.returns-in_err-from-clause-gives
+returns-in_err-from-clause-gives g c =
+    let p = err_from_is_err_and c.from_residual-in_err-from.result c.from_residual-in_err-from.ensures.1 in
+    lost_after c.args.id.0 (Mv c.args.old.now c.args.new.now) TakesName MakesName c.args.old.now c.args.new.now (asks_mv c.args.old.now
+    c.args.new.now) c.parts-parts.result.now (subst (IsPath c.args.old.now) (sym c.parts-parts.ensures) c.in_ok-old.ensures.ok)
+    c.course_before-course.result c.course_before-course.ensures.last c.parts-more.result.now (subst (IsPath c.args.new.now) (sym
+    c.parts-more.ensures) c.in_ok-new.ensures.ok) (early_moved c.args.old.now c.args.new.now c.course_before-course.result.last.0
+    c.parts-parts.result.now c.parts-more.result.now c.in_ok-old_name.old_name.now c.in_ok-front.new_name.now c.in_ok-old_name.ensures.name
+    c.in_ok-front.ensures.name c.in_ok-check_future.ensures c.in_ok-check_future-2.ensures c.in_ok-check_present.ensures
+    c.in_ok-check_present-2.ensures) (has_id (Parts c.parts-parts.result.now)) (no_ids c.parts-parts.result.now c.in_ok-check_present.ensures) (
+      7,
+      omega arith,
+      refl,
+    ) (8, omega arith, refl) c.from_residual-in_err-from.result c.in_err-from.field-0.0 (p.1 ∙ ap Err p.2)
+    (c.in_err-from.ensures.gives c.in_ok-old_name.old_name.now c.in_ok-old_name.ensures.name)
+
+pub returns-in_err-to-clause-gives : goal.returns-in_err-to-clause-gives
+returns-in_err-to-clause-gives g c =
+    let p = err_from_is_err_and c.from_residual-in_err-to.result c.from_residual-in_err-to.ensures.1 in
+    lost_after c.args.id.0 (Mv c.args.old.now c.args.new.now) TakesName MakesName c.args.old.now c.args.new.now (asks_mv c.args.old.now
+    c.args.new.now) c.parts-parts.result.now (subst (IsPath c.args.old.now) (sym c.parts-parts.ensures) c.in_ok-old.ensures.ok)
+    c.course_before-course.result c.course_before-course.ensures.last c.parts-more.result.now (subst (IsPath c.args.new.now) (sym
+    c.parts-more.ensures) c.in_ok-new.ensures.ok) (early_moved c.args.old.now c.args.new.now c.course_before-course.result.last.0
+    c.parts-parts.result.now c.parts-more.result.now c.in_ok-old_name.old_name.now c.in_ok-front.new_name.now c.in_ok-old_name.ensures.name
+    c.in_ok-front.ensures.name c.in_ok-check_future.ensures c.in_ok-check_future-2.ensures c.in_ok-check_present.ensures
+    c.in_ok-check_present-2.ensures) (has_id (Parts c.in_ok-front.front.now)) (front_none c.parts-more.result.now c.in_ok-front.front.now
+    c.in_ok-front.ensures.front c.in_ok-check_present-2.ensures) (7, omega arith, refl) (8, omega arith, refl) c.from_residual-in_err-to.result
+    c.in_err-to.field-0.0 (p.1 ∙ ap Err p.2) c.in_err-to.ensures.gives
+
+pub returns-in_err-check_master-clause-gives : goal.returns-in_err-check_master-clause-gives
+returns-in_err-check_master-clause-gives g c =
+    let p = err_from_is_err_and c.from_residual-in_err-check_master.result c.from_residual-in_err-check_master.ensures.1 in
+    one_after c.args.id.0 (Mv c.args.old.now c.args.new.now) TakesName MakesName c.args.old.now c.args.new.now (asks_mv c.args.old.now
+    c.args.new.now) c.parts-parts.result.now (subst (IsPath c.args.old.now) (sym c.parts-parts.ensures) c.in_ok-old.ensures.ok)
+    c.course_before-course.result c.course_before-course.ensures.last c.parts-more.result.now (subst (IsPath c.args.new.now) (sym
+    c.parts-more.ensures) c.in_ok-new.ensures.ok) (early_moved c.args.old.now c.args.new.now c.course_before-course.result.last.0
+    c.parts-parts.result.now c.parts-more.result.now c.in_ok-old_name.old_name.now c.in_ok-front.new_name.now c.in_ok-old_name.ensures.name
+    c.in_ok-front.ensures.name c.in_ok-check_future.ensures c.in_ok-check_future-2.ensures c.in_ok-check_present.ensures
+    c.in_ok-check_present-2.ensures) ReadOnly (6, omega arith, refl) c.from_residual-in_err-check_master.result c.in_err-check_master.field-0.0 (p.1
+    ∙ ap Err p.2) c.in_err-check_master.ensures.gives
+
+pub returns-in_err-check_master-2-clause-gives : goal.returns-in_err-check_master-2-clause-gives
+returns-in_err-check_master-2-clause-gives g c =
+    let p = err_from_is_err_and c.from_residual-in_err-check_master-2.result c.from_residual-in_err-check_master-2.ensures.1 in
+    one_after c.args.id.0 (Mv c.args.old.now c.args.new.now) TakesName MakesName c.args.old.now c.args.new.now (asks_mv c.args.old.now
+    c.args.new.now) c.parts-parts.result.now (subst (IsPath c.args.old.now) (sym c.parts-parts.ensures) c.in_ok-old.ensures.ok)
+    c.course_before-course.result c.course_before-course.ensures.last c.parts-more.result.now (subst (IsPath c.args.new.now) (sym
+    c.parts-more.ensures) c.in_ok-new.ensures.ok) (early_moved c.args.old.now c.args.new.now c.course_before-course.result.last.0
+    c.parts-parts.result.now c.parts-more.result.now c.in_ok-old_name.old_name.now c.in_ok-front.new_name.now c.in_ok-old_name.ensures.name
+    c.in_ok-front.ensures.name c.in_ok-check_future.ensures c.in_ok-check_future-2.ensures c.in_ok-check_present.ensures
+    c.in_ok-check_present-2.ensures) ReadOnly (6, omega arith, refl) c.from_residual-in_err-check_master-2.result c.in_err-check_master-2.field-0.0
+    (p.1 ∙ ap Err p.2) c.in_err-check_master-2.ensures.gives
+
+pub returns-in_err-check_one_pfs-clause-gives : goal.returns-in_err-check_one_pfs-clause-gives
+returns-in_err-check_one_pfs-clause-gives g c =
+    let p = err_from_is_err_and c.from_residual-in_err-check_one_pfs.result c.from_residual-in_err-check_one_pfs.ensures.1 in
+    one_after c.args.id.0 (Mv c.args.old.now c.args.new.now) TakesName MakesName c.args.old.now c.args.new.now (asks_mv c.args.old.now
+    c.args.new.now) c.parts-parts.result.now (subst (IsPath c.args.old.now) (sym c.parts-parts.ensures) c.in_ok-old.ensures.ok)
+    c.course_before-course.result c.course_before-course.ensures.last c.parts-more.result.now (subst (IsPath c.args.new.now) (sym
+    c.parts-more.ensures) c.in_ok-new.ensures.ok) (early_moved c.args.old.now c.args.new.now c.course_before-course.result.last.0
+    c.parts-parts.result.now c.parts-more.result.now c.in_ok-old_name.old_name.now c.in_ok-front.new_name.now c.in_ok-old_name.ensures.name
+    c.in_ok-front.ensures.name c.in_ok-check_future.ensures c.in_ok-check_future-2.ensures c.in_ok-check_present.ensures
+    c.in_ok-check_present-2.ensures) CrossPfs (1, omega arith, refl) c.from_residual-in_err-check_one_pfs.result c.in_err-check_one_pfs.field-0.0
+    (p.1 ∙ ap Err p.2) (unless_told (Unit {0}) _ CrossPfs c.in_err-check_one_pfs.field-0.0 c.in_err-check_one_pfs.ensures)
+
+pub returns-then-to-clause-gives : goal.returns-then-to-clause-gives
+returns-then-to-clause-gives g c =
+    one_after c.args.id.0 (Mv c.args.old.now c.args.new.now) TakesName MakesName c.args.old.now c.args.new.now (asks_mv c.args.old.now
+    c.args.new.now) c.parts-parts.result.now (subst (IsPath c.args.old.now) (sym c.parts-parts.ensures) c.in_ok-old.ensures.ok)
+    c.course_before-course.result c.course_before-course.ensures.last c.parts-more.result.now (subst (IsPath c.args.new.now) (sym
+    c.parts-more.ensures) c.in_ok-new.ensures.ok) (early_moved c.args.old.now c.args.new.now c.course_before-course.result.last.0
+    c.parts-parts.result.now c.parts-more.result.now c.in_ok-old_name.old_name.now c.in_ok-front.new_name.now c.in_ok-old_name.ensures.name
+    c.in_ok-front.ensures.name c.in_ok-check_future.ensures c.in_ok-check_future-2.ensures c.in_ok-check_present.ensures
+    c.in_ok-check_present-2.ensures) IntoItself (2, omega arith, refl) (Err (Refused IntoItself)) (Refused IntoItself) refl refl
+
+pub returns-in_default-clause-gives : goal.returns-in_default-clause-gives
+returns-in_default-clause-gives g c =
+    one_after c.args.id.0 (Mv c.args.old.now c.args.new.now) TakesName MakesName c.args.old.now c.args.new.now (asks_mv c.args.old.now
+    c.args.new.now) c.parts-parts.result.now (subst (IsPath c.args.old.now) (sym c.parts-parts.ensures) c.in_ok-old.ensures.ok)
+    c.course_before-course.result c.course_before-course.ensures.last c.parts-more.result.now (subst (IsPath c.args.new.now) (sym
+    c.parts-more.ensures) c.in_ok-new.ensures.ok) (early_moved c.args.old.now c.args.new.now c.course_before-course.result.last.0
+    c.parts-parts.result.now c.parts-more.result.now c.in_ok-old_name.old_name.now c.in_ok-front.new_name.now c.in_ok-old_name.ensures.name
+    c.in_ok-front.ensures.name c.in_ok-check_future.ensures c.in_ok-check_future-2.ensures c.in_ok-check_present.ensures
+    c.in_ok-check_present-2.ensures) NotFound (7, omega arith, refl) (Err (Refused NotFound)) (Refused NotFound) refl refl
+
+pub returns-in_err-move_beside-clause-gives : goal.returns-in_err-move_beside-clause-gives
+returns-in_err-move_beside-clause-gives g c =
+    let p = err_from_is_err_and c.from_residual-in_err-move_beside.result c.from_residual-in_err-move_beside.ensures.1 in
+    after_gives c.args.id.0 (Mv c.args.old.now c.args.new.now) TakesName MakesName c.args.old.now c.args.new.now (asks_mv c.args.old.now
+    c.args.new.now) c.parts-parts.result.now (subst (IsPath c.args.old.now) (sym c.parts-parts.ensures) c.in_ok-old.ensures.ok)
+    c.course_before-course.result c.course_before-course.ensures.last c.parts-more.result.now (subst (IsPath c.args.new.now) (sym
+    c.parts-more.ensures) c.in_ok-new.ensures.ok) (early_moved c.args.old.now c.args.new.now c.course_before-course.result.last.0
+    c.parts-parts.result.now c.parts-more.result.now c.in_ok-old_name.old_name.now c.in_ok-front.new_name.now c.in_ok-old_name.ensures.name
+    c.in_ok-front.ensures.name c.in_ok-check_future.ensures c.in_ok-check_future-2.ensures c.in_ok-check_present.ensures
+    c.in_ok-check_present-2.ensures) RefusesBeside (beside_among (possible (Mv c.args.old.now c.args.new.now) (Parts c.parts-parts.result.now ∷ Parts
+    c.parts-more.result.now ∷ [])) (4, omega arith, refl) (5, omega arith, refl)) c.from_residual-in_err-move_beside.result
+    c.in_err-move_beside.field-0.0 (p.1 ∙ ap Err p.2) c.in_err-move_beside.ensures.gives
+
+pub returns-in_default-2-clause-gives : goal.returns-in_default-2-clause-gives
+returns-in_default-2-clause-gives g c =
+    end_after c.args.id.0 (Mv c.args.old.now c.args.new.now) TakesName MakesName c.args.old.now c.args.new.now (asks_mv c.args.old.now
+    c.args.new.now) c.parts-parts.result.now (subst (IsPath c.args.old.now) (sym c.parts-parts.ensures) c.in_ok-old.ensures.ok)
+    c.course_before-course.result c.course_before-course.ensures.last c.parts-more.result.now (subst (IsPath c.args.new.now) (sym
+    c.parts-more.ensures) c.in_ok-new.ensures.ok) (early_moved c.args.old.now c.args.new.now c.course_before-course.result.last.0
+    c.parts-parts.result.now c.parts-more.result.now c.in_ok-old_name.old_name.now c.in_ok-front.new_name.now c.in_ok-old_name.ensures.name
+    c.in_ok-front.ensures.name c.in_ok-check_future.ensures c.in_ok-check_future-2.ensures c.in_ok-check_present.ensures
+    c.in_ok-check_present-2.ensures) Done (0, omega arith, refl)
+
+pub returns-in_err-move_over-clause-gives : goal.returns-in_err-move_over-clause-gives
+returns-in_err-move_over-clause-gives g c =
+    let p = err_from_is_err_and c.from_residual-in_err-move_over.result c.from_residual-in_err-move_over.ensures.1 in
+    after_gives c.args.id.0 (Mv c.args.old.now c.args.new.now) TakesName MakesName c.args.old.now c.args.new.now (asks_mv c.args.old.now
+    c.args.new.now) c.parts-parts.result.now (subst (IsPath c.args.old.now) (sym c.parts-parts.ensures) c.in_ok-old.ensures.ok)
+    c.course_before-course.result c.course_before-course.ensures.last c.parts-more.result.now (subst (IsPath c.args.new.now) (sym
+    c.parts-more.ensures) c.in_ok-new.ensures.ok) (early_moved c.args.old.now c.args.new.now c.course_before-course.result.last.0
+    c.parts-parts.result.now c.parts-more.result.now c.in_ok-old_name.old_name.now c.in_ok-front.new_name.now c.in_ok-old_name.ensures.name
+    c.in_ok-front.ensures.name c.in_ok-check_future.ensures c.in_ok-check_future-2.ensures c.in_ok-check_present.ensures
+    c.in_ok-check_present-2.ensures) RefusesOver (over_among (possible (Mv c.args.old.now c.args.new.now) (Parts c.parts-parts.result.now ∷ Parts
+    c.parts-more.result.now ∷ [])) (3, omega arith, refl) (5, omega arith, refl)) c.from_residual-in_err-move_over.result
+    c.in_err-move_over.field-0.0 (p.1 ∙ ap Err p.2) c.in_err-move_over.ensures.gives
+
+pub returns-clause-gives : goal.returns-clause-gives
+returns-clause-gives g c =
+    end_after c.args.id.0 (Mv c.args.old.now c.args.new.now) TakesName MakesName c.args.old.now c.args.new.now (asks_mv c.args.old.now
+    c.args.new.now) c.parts-parts.result.now (subst (IsPath c.args.old.now) (sym c.parts-parts.ensures) c.in_ok-old.ensures.ok)
+    c.course_before-course.result c.course_before-course.ensures.last c.parts-more.result.now (subst (IsPath c.args.new.now) (sym
+    c.parts-more.ensures) c.in_ok-new.ensures.ok) (early_moved c.args.old.now c.args.new.now c.course_before-course.result.last.0
+    c.parts-parts.result.now c.parts-more.result.now c.in_ok-old_name.old_name.now c.in_ok-front.new_name.now c.in_ok-old_name.ensures.name
+    c.in_ok-front.ensures.name c.in_ok-check_future.ensures c.in_ok-check_future-2.ensures c.in_ok-check_present.ensures
+    c.in_ok-check_present-2.ensures) Done (0, omega arith, refl)

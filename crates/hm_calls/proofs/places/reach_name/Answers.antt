@@ -1,5 +1,7 @@
 use Rattle.std.proofs.lemmas.Result.{err_from_is_err_and}
-use Rattle.hm_calls.proofs.PlaceLemmas.{end_lost, name_lost, name_stands}
+use Rattle.hm_model.specs.Due.{has_id}
+use Rattle.hm_model.specs.Sites.{Parts}
+use Rattle.hm_calls.proofs.PlaceLemmas.{end_lost, name_lost, name_stands, none_apart}
 use Rattle.hm_calls.proofs.places.reach_name.Goals as goal
 
 pub returns-in_err-directory-clause-ok : goal.returns-in_err-directory-clause-ok
@@ -24,3 +26,10 @@ returns-clause-ok g c =
     (g.H.NameHash.hash_of c.args.hash.now) c.args.parts.now c.in-Some.front.now c.in-Some.last.now c.in-Some.ensures.cases.0 c.in_ok-directory.directory
     (g.T.HasElements.elements c.reach.new.store) (g.T.HasRoom.extents c.reach.new.store) c.in_ok-directory.ensures.keeps.elements
     c.in_ok-directory.ensures.keeps.extents c.in_ok-directory.ensures.ok c.in_ok-end.end c.in_ok-end.ensures.ok
+
+pub returns-in_err-end-clause-gives : goal.returns-in_err-end-clause-gives
+returns-in_err-end-clause-gives g c =
+    let p = err_from_is_err_and c.from_residual-in_err-end.result c.from_residual-in_err-end.ensures.1 in
+    λ name named. rw (p.1, p.2) (c.in_err-end.ensures.gives (has_id (Parts c.args.parts.now)) (λ none.
+    let apart = none_apart c.args.parts.now c.in-Some.front.now c.in-Some.last.now c.in-Some.ensures.cases.0 none in
+    (apart.1, c.in_ok-directory.ensures.now apart.0)))

@@ -1,12 +1,12 @@
-use Rattle.std.proofs.Common.{◌≡◌, ◌∙◌, List, Some, None, Err, ap, refl, subst, sym}
+use Rattle.std.proofs.Common.{◌≡◌, ◌∙◌, List, Some, None, Err, ap, refl, subst, sym, arith}
 use Rattle.std.proofs.lemmas.Result.{err_from_is_err_and}
 use Rattle.hm_path.specs.Path.{IsPath}
 use Rattle.hm_path.specs.declared.part.Part.{Part}
-use Rattle.hm_model.specs.Due.{is_dir_or_link, no_future}
+use Rattle.hm_model.specs.Due.{is_dir_or_link, no_future, has_id}
 use Rattle.hm_model.specs.Sites.{Parts, TakesName}
 use Rattle.hm_model.specs.View.{object_at}
 use Rattle.hm_model.specs.declared.command.Command.TheVariants.{Rm}
-use Rattle.hm_model.specs.declared.reply.Reply.TheVariants.{IsDir, NotFound}
+use Rattle.hm_model.specs.declared.reply.Reply.TheVariants.{IsDir, NotFound, Done, ReadOnly}
 use Rattle.hm_dirs.proofs.WalkLoopLemmas.{same_twice}
 use Rattle.hm_dirs.specs.Walk.{place_of}
 use Rattle.hm_calls.specs.Due.{space_for, zones_beside}
@@ -21,6 +21,8 @@ use Rattle.hm_calls.proofs.StageLemmas.{Wrote, acts_ended, early_named, good_nam
 use Rattle.hm_calls.proofs.StageLemmas.{past_stopped, refusal_so, space_before, taken, told_before, told_then, untaken, untouched}
 use Rattle.hm_calls.proofs.KnownLemmas.{known_then}
 use Rattle.hm_calls.proofs.TakeLemmas.{both_stay, takes_charged, took_admitted}
+use Rattle.hm_calls.proofs.MayReplyLemmas.{asks_rm, end_gives, future_gives, lost_gives, name_gives, one_gives, past_gives, space_gives, word_gives}
+use Rattle.std.proofs.lemmas.Bool.{false≢true}
 use Rattle.hm_calls.proofs.remove.remove.Goals as goal
 
 pub returns-in_err-path-clause-answers : goal.returns-in_err-path-clause-answers
@@ -264,3 +266,94 @@ returns-clause-room g c =
       stays.0,
       stays.1,
     )
+
+-- ---- the replies that it may give
+
+pub returns-in_err-path-clause-gives : goal.returns-in_err-path-clause-gives
+returns-in_err-path-clause-gives g c =
+    let p = err_from_is_err_and c.from_residual.result c.from_residual.ensures.1 in
+    word_gives c.args.id.0 (Rm c.args.word.now) TakesName c.args.word.now (asks_rm c.args.word.now) c.from_residual.result c.in_err-path.field-0.0
+    (p.1 ∙ ap Err p.2) c.in_err-path.ensures.refused
+
+pub returns-in_err-name-clause-gives : goal.returns-in_err-name-clause-gives
+returns-in_err-name-clause-gives g c =
+    let p = err_from_is_err_and c.from_residual-in_err-name.result c.from_residual-in_err-name.ensures.1 in
+    name_gives c.args.id.0 (Rm c.args.word.now) TakesName c.args.word.now (asks_rm c.args.word.now) c.course_before-course.result
+    c.course_before-course.ensures.last c.parts-parts.result.now (subst (IsPath c.args.word.now) (sym c.parts-parts.ensures) c.in_ok-path.ensures.ok)
+    c.from_residual-in_err-name.result c.in_err-name.field-0.0 (p.1 ∙ ap Err p.2) (nameless c.parts-parts.result.now c.in_err-name.field-0.0
+    c.in_err-name.ensures.refused)
+
+pub returns-in_err-check_future-clause-gives : goal.returns-in_err-check_future-clause-gives
+returns-in_err-check_future-clause-gives g c =
+    let p = err_from_is_err_and c.from_residual-in_err-check_future.result c.from_residual-in_err-check_future.ensures.1 in
+    future_gives c.args.id.0 (Rm c.args.word.now) TakesName c.args.word.now (asks_rm c.args.word.now) c.course_before-course.result
+    c.course_before-course.ensures.last c.parts-parts.result.now (subst (IsPath c.args.word.now) (sym c.parts-parts.ensures) c.in_ok-path.ensures.ok)
+    (good_named c.parts-parts.result.now c.in_ok-name.name.now c.in_ok-name.ensures.name) c.from_residual-in_err-check_future.result
+    c.in_err-check_future.field-0.0 (p.1 ∙ ap Err p.2) (decided (Unit {0}) (no_future c.course_before-course.result.last.0 (Parts
+    c.parts-parts.result.now)) c.in_err-check_future.field-0.0 c.in_err-check_future.ensures)
+
+pub returns-in_err-check_present-clause-gives : goal.returns-in_err-check_present-clause-gives
+returns-in_err-check_present-clause-gives g c =
+    let p = err_from_is_err_and c.from_residual-in_err-check_present.result c.from_residual-in_err-check_present.ensures.1 in
+    past_gives c.args.id.0 (Rm c.args.word.now) TakesName c.args.word.now (asks_rm c.args.word.now) c.course_before-course.result
+    c.course_before-course.ensures.last c.parts-parts.result.now (subst (IsPath c.args.word.now) (sym c.parts-parts.ensures) c.in_ok-path.ensures.ok)
+    (good_named c.parts-parts.result.now c.in_ok-name.name.now c.in_ok-name.ensures.name) c.in_ok-check_future.ensures
+    c.from_residual-in_err-check_present.result c.in_err-check_present.field-0.0 (p.1 ∙ ap Err p.2) (past_stopped (Rm c.args.word.now)
+    c.parts-parts.result.now refl c.in_err-check_present.field-0.0 c.in_err-check_present.ensures)
+
+pub returns-in_err-directory-clause-gives : goal.returns-in_err-directory-clause-gives
+returns-in_err-directory-clause-gives g c =
+    let p = err_from_is_err_and c.from_residual-in_err-directory.result c.from_residual-in_err-directory.ensures.1 in
+    lost_gives c.args.id.0 (Rm c.args.word.now) TakesName c.args.word.now (asks_rm c.args.word.now) c.course_before-course.result
+    c.course_before-course.ensures.last c.parts-parts.result.now (subst (IsPath c.args.word.now) (sym c.parts-parts.ensures) c.in_ok-path.ensures.ok)
+    (early_named (Rm c.args.word.now) c.course_before-course.result.last.0 c.parts-parts.result.now c.in_ok-name.name.now refl
+    c.in_ok-name.ensures.name c.in_ok-check_future.ensures c.in_ok-check_present.ensures) (has_id (Parts c.parts-parts.result.now)) (
+      4,
+      omega arith,
+      refl,
+    ) (5, omega arith, refl) (λ some. absurd (false≢true (sym (no_ids c.parts-parts.result.now c.in_ok-check_present.ensures) ∙ some)))
+    c.from_residual-in_err-directory.result c.in_err-directory.field-0.0 (p.1 ∙ ap Err p.2) (c.in_err-directory.ensures.gives c.in_ok-name.name.now
+    c.in_ok-name.ensures.name)
+
+pub returns-in_err-check_master-clause-gives : goal.returns-in_err-check_master-clause-gives
+returns-in_err-check_master-clause-gives g c =
+    let p = err_from_is_err_and c.from_residual-in_err-check_master.result c.from_residual-in_err-check_master.ensures.1 in
+    one_gives c.args.id.0 (Rm c.args.word.now) TakesName c.args.word.now (asks_rm c.args.word.now) c.course_before-course.result
+    c.course_before-course.ensures.last c.parts-parts.result.now (subst (IsPath c.args.word.now) (sym c.parts-parts.ensures) c.in_ok-path.ensures.ok)
+    (early_named (Rm c.args.word.now) c.course_before-course.result.last.0 c.parts-parts.result.now c.in_ok-name.name.now refl
+    c.in_ok-name.ensures.name c.in_ok-check_future.ensures c.in_ok-check_present.ensures) ReadOnly (3, omega arith, refl)
+    c.from_residual-in_err-check_master.result c.in_err-check_master.field-0.0 (p.1 ∙ ap Err p.2) c.in_err-check_master.ensures.gives
+
+pub returns-in_err-check_no_directory-clause-gives : goal.returns-in_err-check_no_directory-clause-gives
+returns-in_err-check_no_directory-clause-gives g c =
+    let p = err_from_is_err_and c.from_residual-in_err-check_no_directory.result c.from_residual-in_err-check_no_directory.ensures.1 in
+    one_gives c.args.id.0 (Rm c.args.word.now) TakesName c.args.word.now (asks_rm c.args.word.now) c.course_before-course.result
+    c.course_before-course.ensures.last c.parts-parts.result.now (subst (IsPath c.args.word.now) (sym c.parts-parts.ensures) c.in_ok-path.ensures.ok)
+    (early_named (Rm c.args.word.now) c.course_before-course.result.last.0 c.parts-parts.result.now c.in_ok-name.name.now refl
+    c.in_ok-name.ensures.name c.in_ok-check_future.ensures c.in_ok-check_present.ensures) IsDir (1, omega arith, refl)
+    c.from_residual-in_err-check_no_directory.result c.in_err-check_no_directory.field-0.0 (p.1 ∙ ap Err p.2)
+    c.in_err-check_no_directory.ensures.gives
+
+pub returns-in_err-admit_rest-clause-gives : goal.returns-in_err-admit_rest-clause-gives
+returns-in_err-admit_rest-clause-gives g c =
+    let p = err_from_is_err_and c.from_residual-in_err-admit_rest.result c.from_residual-in_err-admit_rest.ensures.1 in
+    space_gives c.args.id.0 (Rm c.args.word.now) TakesName c.args.word.now (asks_rm c.args.word.now) c.course_before-course.result
+    c.course_before-course.ensures.last c.parts-parts.result.now (subst (IsPath c.args.word.now) (sym c.parts-parts.ensures) c.in_ok-path.ensures.ok)
+    (early_named (Rm c.args.word.now) c.course_before-course.result.last.0 c.parts-parts.result.now c.in_ok-name.name.now refl
+    c.in_ok-name.ensures.name c.in_ok-check_future.ensures c.in_ok-check_present.ensures) (2, omega arith, refl)
+    c.from_residual-in_err-admit_rest.result c.in_err-admit_rest.field-0.0 (p.1 ∙ ap Err p.2) c.in_err-admit_rest.ensures.gives
+
+pub returns-in_default-clause-gives : goal.returns-in_default-clause-gives
+returns-in_default-clause-gives g c =
+    one_gives c.args.id.0 (Rm c.args.word.now) TakesName c.args.word.now (asks_rm c.args.word.now) c.course_before-course.result
+    c.course_before-course.ensures.last c.parts-parts.result.now (subst (IsPath c.args.word.now) (sym c.parts-parts.ensures) c.in_ok-path.ensures.ok)
+    (early_named (Rm c.args.word.now) c.course_before-course.result.last.0 c.parts-parts.result.now c.in_ok-name.name.now refl
+    c.in_ok-name.ensures.name c.in_ok-check_future.ensures c.in_ok-check_present.ensures) NotFound (4, omega arith, refl) (Err (Refused NotFound))
+    (Refused NotFound) refl refl
+
+pub returns-clause-gives : goal.returns-clause-gives
+returns-clause-gives g c =
+    end_gives c.args.id.0 (Rm c.args.word.now) TakesName c.args.word.now (asks_rm c.args.word.now) c.course_before-course.result
+    c.course_before-course.ensures.last c.parts-parts.result.now (subst (IsPath c.args.word.now) (sym c.parts-parts.ensures) c.in_ok-path.ensures.ok)
+    (early_named (Rm c.args.word.now) c.course_before-course.result.last.0 c.parts-parts.result.now c.in_ok-name.name.now refl
+    c.in_ok-name.ensures.name c.in_ok-check_future.ensures c.in_ok-check_present.ensures) Done (0, omega arith, refl)

@@ -1,9 +1,12 @@
-use Rattle.std.proofs.Common.{IfOk, ℕ, ◌*◌, ◌≤◌, ◌∙◌, Option, Some, None, length, sym, subst}
+use Rattle.std.proofs.Common.{IfOk, ◌≡◌, ◌⊎◌, ℕ, ◌*◌, ◌≤◌, ◌∙◌, Option, Some, None, length, sym, subst}
 use Rattle.std.specs.Prelude.{IfSome}
+use Rattle.hm_types.specs.Offset.{zone_of}
 use Rattle.hm_types.specs.declared.limits.TheConstants.{BIGBLOCK_BYTES}
+use Rattle.hm_types.specs.declared.zone.TheConstants.{TREE_ZONE}
 use Rattle.hm_disk.specs.Crash.{Told}
 use Rattle.hm_header.specs.OnDisk.{HasHeader}
 use Rattle.hm_header.specs.declared.header.Header.{Header}
+use Rattle.hm_load.specs.Freemap.{IsPageOf}
 use Rattle.hm_stored.specs.Heap.{heap_of}
 use Rattle.hm_stored.specs.Turn.{IsClosed}
 use Rattle.hm_stored.proofs.tests.mounted.Goals as goal
@@ -11,6 +14,11 @@ use Rattle.hm_stored.proofs.tests.mounted.Goals as goal
 pub over-requires-clause-closed : goal.over-requires-clause-closed
 unfolding heap_of
 over-requires-clause-closed g c = record { begin = c.in-Ok-load.ensures.loaded.plain.begin; whole = c.of.ensures.closed.1 }
+
+pub over-requires-clause-only : goal.over-requires-clause-only
+unfolding heap_of
+over-requires-clause-only g c = λ at there.
+    subst (λ (n : ℕ). (zone_of at ≡ TREE_ZONE) ⊎ IsPageOf n at) (sym c.of.ensures.bigblocks) (c.in-Ok-load.ensures.loaded.only at there)
 
 room_of_header : (o : Option Told) (header : Header) (number : ℕ) → IfSome o (λ (t : Told). HasHeader t.bytes header number)
     → IfSome o (λ (t : Told). header.bigblocks * BIGBLOCK_BYTES ≤ length t.bytes)

@@ -3,7 +3,8 @@ use Rattle.std.proofs.Common.{◌∙◌, inr, refl, sym, ap, subst}
 use Rattle.hm_pages.specs.Store.{contents}
 use Rattle.hm_stored.specs.Heap.{heap_of}
 use Rattle.hm_tree_core.specs.Told.{TellsFailure}
-use Rattle.hm_tree_core.proofs.AnswerLemmas.{balanced_begun, begun_some, caused_over, dropped_answers, fault_told, kept_answers, known_begun}
+use Rattle.hm_model.specs.Reply.{told_boundary}
+use Rattle.hm_tree_core.proofs.AnswerLemmas.{balanced_begun, begun_some, caused_over, dropped_answers, fault_silent, fault_told, kept_answers, known_begun}
 use Rattle.hm_tree_core.proofs.calls.answer_over.Goals as goal
 
 pub answer_next-requires-clause-balanced : goal.answer_next-requires-clause-balanced
@@ -75,7 +76,7 @@ returns-in-Ok g c =
           (caused_over _ _ _ _ (g.D.Disk.faults s.space.disk) (g.D.Disk.faults s3.space.disk) c.answer_next.result
           (ap g.D.Disk.faults c.begin.ensures.disk) (ap g.D.Disk.faults c.keep.ensures.disk) c.answer_next.ensures.cause)
           (sym c.is_whole.ensures ∙ c.if-is_whole.true) c.keep.ensures.turn c.keep.ensures.content c.keep.ensures.root c.pages_are_bytes.ensures s2.tree
-          c.in-Ok.ensures.step c.in-Ok.ensures.charges;
+          c.in-Ok.ensures.step c.in-Ok.ensures.charges c.in-Ok.ensures.possible;
     }
 
 pub returns-in-Ok-2 : goal.returns-in-Ok-2
@@ -93,7 +94,7 @@ returns-in-Ok-2 g c =
           c.answer_next.ensures.borrowed.1 c.requires.served.0 c.requires.left c.answer_next.result
           (caused_over _ _ _ _ (g.D.Disk.faults s.space.disk) (g.D.Disk.faults s3.space.disk) c.answer_next.result
           (ap g.D.Disk.faults c.begin.ensures.disk) (ap g.D.Disk.faults c.undo.ensures.disk) c.answer_next.ensures.cause)
-          c.undo.ensures.turn c.undo.ensures.root c.undo.ensures.held (λ volume holds. inr refl);
+          c.undo.ensures.turn c.undo.ensures.root c.undo.ensures.held (λ volume holds. inr refl) refl;
     }
 
 pub returns-in-Err : goal.returns-in-Err
@@ -119,5 +120,6 @@ returns-in-Err g c =
           (heap_of (contents s.space.pages.store) (g.D.Disk.told s.space.disk) s.space.books) s.root c.args.last.0 s1 s2
           (heap_of (contents s3.space.pages.store) (g.D.Disk.told s3.space.disk) s3.space.books) s3.root c.args.command.now c.failure.result
           (g.D.Disk.faults s.space.disk) (g.D.Disk.faults s3.space.disk) c.requires.closed s.space.kept c.begin.ensures.turn c.begin.ensures.root
-          c.answer_next.ensures.borrowed.1 c.requires.served.0 c.requires.left c.answer_next.result cause c.in-Err.fault c.in-Err.is volume holds));
+          c.answer_next.ensures.borrowed.1 c.requires.served.0 c.requires.left c.answer_next.result cause c.in-Err.fault c.in-Err.is volume holds))
+          (ap told_boundary c.failure.ensures ∙ fault_silent c.in-Err.fault);
     }

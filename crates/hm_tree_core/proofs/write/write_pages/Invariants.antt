@@ -1,7 +1,7 @@
 use Rattle.std.proofs.Common.{◌≤◌}
 use Rattle.hm_types.specs.Told.{BothTell}
 use Rattle.hm_pages.specs.Store.{contents}
-use Rattle.hm_tree_core.specs.Placed.{PutsPages}
+use Rattle.hm_state.specs.Placed.{PutsPages}
 use Rattle.hm_tree_core.proofs.write.write_pages.Given as goal
 
 -- so many pages are written

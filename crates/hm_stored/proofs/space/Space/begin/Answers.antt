@@ -5,6 +5,7 @@ use Rattle.hm_pages.specs.Store.{contents}
 use Rattle.hm_stored.specs.Heap.{heap_of}
 use Rattle.hm_stored.proofs.OpenedLemmas.{opens_content}
 use Rattle.hm_stored.proofs.TurnLemmas.{begin_kept, layer2_kept}
+use Rattle.hm_stored.proofs.VolumeLemmas.{volume_begun}
 use Rattle.hm_stored.proofs.space.Space.begin.Goals as goal
 
 pub begin-requires : goal.begin-requires
@@ -19,6 +20,8 @@ invariant_of-self-6 g c =
       kept = ∥∥₁_map s.kept (begin_kept (contents s.pages.store) (contents c.begin.new.self)
           (g.D.Disk.told s.disk) s.books _ c.requires.closed c.begin.ensures
           refl refl c.clear.ensures.items);
+      of_volume = ∥∥₁_map s.of_volume (λ k. volume_begun (contents s.pages.store) (contents c.begin.new.self) (g.D.Disk.told s.disk) s.books _ refl k
+          c.begin.ensures);
     }
 
 pub returns-clause-turn : goal.returns-clause-turn

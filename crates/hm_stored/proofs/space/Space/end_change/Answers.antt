@@ -19,8 +19,14 @@ invariant_of-self g c =
       | then-self w ↦ w.whole-is ∙ sym (ap (λ (t : Bool). t && c.args.done) w.if-self.true)
       | else-self w ↦ w.whole-is ∙ (w.if-self.false ∙ sym (ap (λ (t : Bool). t && c.args.done) w.if-self.false))
     ] in (
-      (b.least, (b.most, (b.below, (b.begun_below, (b.distinct, (b.begun_distinct, tt)))))),
-      (s.there, (∥∥₁_map s.kept (λ k. subst (λ (t : Bool). IsKept (record h { whole = t })) (sym whole) (ended_kept c.args.done h k)), tt)),
+      (b.least, (b.most, (b.below, (b.begun_below, (b.distinct, (b.begun_distinct, (b.pool, (b.begun_pool, tt)))))))),
+      (
+        s.there,
+        (
+          ∥∥₁_map s.kept (λ k. subst (λ (t : Bool). IsKept (record h { whole = t })) (sym whole) (ended_kept c.args.done h k)),
+          (∥∥₁_map s.of_volume (λ k. record { only = k.only; begun = k.begun }), tt),
+        ),
+      ),
     )
 
 pub returns-clause-ends : goal.returns-clause-ends

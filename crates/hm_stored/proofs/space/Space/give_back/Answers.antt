@@ -2,6 +2,7 @@
 use Rattle.hm_pages.specs.Store.{contents}
 use Rattle.hm_stored.specs.Heap.{heap_of}
 use Rattle.hm_stored.proofs.ExtentCallLemmas.{extent_cause, layer2_stays, given_kept, given_ok, given_stays}
+use Rattle.hm_stored.proofs.VolumeLemmas.{volume_still}
 use Rattle.hm_stored.proofs.space.Space.give_back.Goals as goal
 
 pub invariant_of-self : goal.invariant_of-self
@@ -15,6 +16,8 @@ invariant_of-self g c =
       kept = given_kept old new (g.D.Disk.told s.disk) s.books c.give.new.books c.give.ensures.frame c.if-not-self.false s.kept c.args.at c.args.len
           c.requires.live
           c.give.result c.give.ensures.books c.give.ensures.ok;
+      of_volume = volume_still old new (g.D.Disk.told s.disk) (g.D.Disk.told s.disk) s.books c.give.new.books c.give.ensures.frame
+          c.give.ensures.books.same c.give.ensures.spots s.of_volume;
     }
 
 pub returns-clause-ok : goal.returns-clause-ok

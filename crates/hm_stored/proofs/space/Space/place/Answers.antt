@@ -6,6 +6,7 @@ use Rattle.hm_stored.specs.Heap.{heap_of}
 use Rattle.hm_stored.proofs.ExtentCallLemmas.{layer2_stays}
 use Rattle.hm_stored.proofs.NewNodeLemmas.{room_whole}
 use Rattle.hm_stored.proofs.PutCallLemmas.{puts_cause, puts_kept, puts_ok, puts_stays, sized_of}
+use Rattle.hm_stored.proofs.VolumeLemmas.{volume_still}
 use Rattle.hm_stored.proofs.space.Space.place.Goals as goal
 
 pub put-requires-clause-room : goal.put-requires-clause-room
@@ -29,6 +30,8 @@ invariant_of-self g c =
           (g.D.Disk.told c.put.new.disk) s.books c.put.new.books c.args.zone c.args.bytes.now c.put.ensures.frame.0
           c.put.ensures.frame.1 c.if-not-self.false s.kept c.requires.zone c.requires.some c.requires.room c.put.result c.put.ensures.books
           c.put.ensures.ok c.put.ensures.err;
+      of_volume = volume_still old new (g.D.Disk.told s.disk) (g.D.Disk.told c.put.new.disk) s.books c.put.new.books c.put.ensures.frame.0
+          c.put.ensures.books.same c.put.ensures.spots s.of_volume;
     }
 
 pub returns-clause-ok : goal.returns-clause-ok

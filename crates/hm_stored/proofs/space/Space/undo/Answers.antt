@@ -5,6 +5,7 @@ use Rattle.hm_pages.specs.Store.{contents}
 use Rattle.hm_stored.specs.Heap.{heap_of}
 use Rattle.hm_stored.proofs.DroppedLemmas.{drops_content}
 use Rattle.hm_stored.proofs.TurnLemmas.{undo_kept, layer2_kept}
+use Rattle.hm_stored.proofs.VolumeLemmas.{volume_dropped}
 use Rattle.hm_stored.proofs.space.Space.undo.Goals as goal
 
 pub invariant_of-self-3 : goal.invariant_of-self-3
@@ -14,6 +15,8 @@ invariant_of-self-3 g c =
       there = layer2_kept (contents s.pages.store) (contents c.undo.new.self) s.books.bigblocks c.undo.ensures.flush.committed s.there;
       kept = ∥∥₁_map s.kept (undo_kept (contents s.pages.store) (contents c.undo.new.self)
           (g.D.Disk.told s.disk) s.books _ c.undo.ensures c.requires.opened refl);
+      of_volume = ∥∥₁_map s.of_volume (λ k. volume_dropped (contents s.pages.store) (contents c.undo.new.self) (g.D.Disk.told s.disk) s.books _ refl k
+          c.undo.ensures c.requires.opened);
     }
 
 pub returns-clause-turn : goal.returns-clause-turn

@@ -1,10 +1,11 @@
 -- A node is put in place of the one that stands there.
-use Rattle.std.proofs.Common.{◌≡◌, ◌∙◌, ap, sym, arith, true, is_some}
+use Rattle.std.proofs.Common.{◌≡◌, ◌∙◌, Some, ap, sym, arith, true, is_some}
 use Rattle.hm_types.specs.Offset.{zone_of}
 use Rattle.hm_types.specs.declared.zone.TheConstants.{TREE_ZONE}
 use Rattle.hm_pages.specs.Store.{contents}
 use Rattle.hm_stored.specs.Heap.{heap_of}
 use Rattle.hm_stored.proofs.ChangeLemmas.{frame_put, kept_by, puts_by, rest_put, some_map, told_put}
+use Rattle.hm_stored.proofs.VolumeLemmas.{volume_tried}
 use Rattle.hm_stored.proofs.tree_pages.SpacePages.change.Goals as goal
 
 pub returns-in-Ok-clause-ok : goal.returns-in-Ok-clause-ok
@@ -57,4 +58,9 @@ invariant_of-self g c =
     (some_map (λ p. p.now) c.look.result ∙ c.if-is_none.ensures) in
     let both = kept_by old new told s.books c.args.at c.args.with.now c.change.result c.change.ensures.changed c.change.ensures.unchanged there tree
     c.known_offset.ensures c.requires.kept s.there s.kept in
-    record { there = both.0; kept = both.1 }
+    record {
+      there = both.0;
+      kept = both.1;
+      of_volume = volume_tried c.args.at (Some c.args.with.now) old new told s.books c.change.result tree c.change.ensures.changed
+          c.change.ensures.unchanged s.of_volume;
+    }

@@ -8,6 +8,7 @@ use Rattle.hm_stored.specs.Heap.{heap_of}
 use Rattle.hm_stored.proofs.BasisLemmas.{frame_same}
 use Rattle.hm_stored.proofs.ChangeLemmas.{layer2_same}
 use Rattle.hm_stored.proofs.NodeCallLemmas.{basis, gone_cause, gone_kept, gone_ok, gone_spent}
+use Rattle.hm_stored.proofs.VolumeLemmas.{volume_kept}
 use Rattle.hm_stored.proofs.tree_space.SpaceNodeSpace.drop_node.Goals as goal
 
 pub invariant_of-self-3 : goal.invariant_of-self-3
@@ -24,6 +25,8 @@ invariant_of-self-3 g c =
       kept = gone_kept old new told s.books then c.args.at c.take_node-gone.ensures.frame
           (record { bigblocks = refl; begun = refl; roots = refl; last = refl })
           refl refl refl c.if-not-self.false tree s.kept c.requires c.take_node-gone.result c.is_ok-self.ensures.value c.take_node-gone.ensures.ok;
+      of_volume = volume_kept old new told told s.books then c.take_node-gone.ensures.frame
+          (record { bigblocks = refl; begun = refl; roots = refl; last = refl }) c.take_node-gone.ensures.spots s.of_volume;
     }
 
 pub returns-clause-ok : goal.returns-clause-ok

@@ -8,6 +8,7 @@ use Rattle.hm_stored.proofs.BasisLemmas.{frame_same}
 use Rattle.hm_stored.proofs.ChangeLemmas.{layer2_same}
 use Rattle.hm_stored.proofs.NewNodeLemmas.{room_whole}
 use Rattle.hm_stored.proofs.NodeCallLemmas.{basis, new_cause, new_kept, new_ok, new_spent, ok_map}
+use Rattle.hm_stored.proofs.VolumeLemmas.{volume_kept}
 use Rattle.hm_stored.proofs.tree_space.SpaceNodeSpace.new_node.Goals as goal
 
 pub add_node-added-requires-clause-room : goal.add_node-added-requires-clause-room
@@ -34,6 +35,8 @@ invariant_of-self-2 g c =
       kept = new_kept old new told s.books then c.args.with.now c.add_node-added.ensures.frame
           (record { bigblocks = refl; begun = refl; roots = refl; last = refl })
           refl refl refl c.if-not-self.false s.kept c.add_node-added.result c.is_ok-self.ensures.value c.requires.node c.add_node-added.ensures.ok;
+      of_volume = volume_kept old new told told s.books then c.add_node-added.ensures.frame
+          (record { bigblocks = refl; begun = refl; roots = refl; last = refl }) c.add_node-added.ensures.spots s.of_volume;
     }
 
 pub returns-clause-ok : goal.returns-clause-ok

@@ -1,0 +1,92 @@
+// Files of one directory as rows of a table, by the library of SQLite: what bench/files.sh measures beside.
+//
+//     sqlite_files DATABASE touch FROM COUNT    makes so many files, each in a transaction
+//     sqlite_files DATABASE stat FROM COUNT     looks each of them up, and prints what it finds
+//     sqlite_files DATABASE check               opens the table and checks it
+//
+// A row has the object, its name, and the ids of the calls that made and removed it. Nothing is synced.
+#include <sqlite3.h>
+#include <stdio.h>
+#include <stdlib.h>
+#include <string.h>
+
+static sqlite3 *base;
+
+static void stop(const char *what) {
+    fprintf(stderr, "sqlite_files: %s: %s\n", what, sqlite3_errmsg(base));
+    exit(1);
+}
+
+static void run(const char *sql) {
+    if (sqlite3_exec(base, sql, NULL, NULL, NULL) != SQLITE_OK) stop(sql);
+}
+
+static sqlite3_stmt *prepare(const char *sql) {
+    sqlite3_stmt *statement;
+    if (sqlite3_prepare_v2(base, sql, -1, &statement, NULL) != SQLITE_OK) stop(sql);
+    return statement;
+}
+
+static sqlite3_int64 number(const char *sql) {
+    sqlite3_stmt *statement = prepare(sql);
+    if (sqlite3_step(statement) != SQLITE_ROW) stop(sql);
+    sqlite3_int64 value = sqlite3_column_int64(statement, 0);
+    sqlite3_finalize(statement);
+    return value;
+}
+
+static void end_step(sqlite3_stmt *statement, int wanted) {
+    if (sqlite3_step(statement) != wanted) stop("a step");
+    sqlite3_reset(statement);
+}
+
+static void touch(long from, long count) {
+    sqlite3_stmt *begin = prepare("BEGIN IMMEDIATE"), *commit = prepare("COMMIT");
+    sqlite3_stmt *find = prepare("SELECT object FROM files WHERE name = ? AND deleted IS NULL");
+    sqlite3_stmt *add = prepare("INSERT INTO files VALUES (?, ?, ?, NULL)");
+    sqlite3_int64 id = number("SELECT coalesce(max(created), 1) FROM files");
+    for (long i = from; i < from + count; i++) {
+        char name[32];
+        snprintf(name, sizeof name, "f%08ld", i);
+        id++;
+        end_step(begin, SQLITE_DONE);
+        sqlite3_bind_text(find, 1, name, -1, SQLITE_TRANSIENT);
+        end_step(find, SQLITE_DONE);
+        sqlite3_bind_int64(add, 1, id);
+        sqlite3_bind_text(add, 2, name, -1, SQLITE_TRANSIENT);
+        sqlite3_bind_int64(add, 3, id);
+        end_step(add, SQLITE_DONE);
+        end_step(commit, SQLITE_DONE);
+        printf("0x%016llx ok\n", (unsigned long long)id);
+    }
+}
+
+static void stat_each(long from, long count) {
+    sqlite3_stmt *find = prepare("SELECT object FROM files WHERE name = ? AND deleted IS NULL");
+    for (long i = from; i < from + count; i++) {
+        char name[32];
+        snprintf(name, sizeof name, "f%08ld", i);
+        sqlite3_bind_text(find, 1, name, -1, SQLITE_TRANSIENT);
+        if (sqlite3_step(find) != SQLITE_ROW) stop("a file is missing");
+        printf("ok f 0x%016llx 0 1\n", (unsigned long long)sqlite3_column_int64(find, 0));
+        sqlite3_reset(find);
+    }
+}
+
+int main(int argc, char **argv) {
+    if (argc < 3 || sqlite3_open(argv[1], &base) != SQLITE_OK) return 2;
+    run("PRAGMA journal_mode = WAL");
+    run("PRAGMA synchronous = OFF");
+    run("CREATE TABLE IF NOT EXISTS files (object INTEGER, name TEXT, created INTEGER, deleted INTEGER)");
+    run("CREATE INDEX IF NOT EXISTS names ON files (name)");
+    if (strcmp(argv[2], "check") == 0) {
+        run("PRAGMA quick_check");
+    } else if (argc == 5 && strcmp(argv[2], "touch") == 0) {
+        touch(atol(argv[3]), atol(argv[4]));
+    } else if (argc == 5 && strcmp(argv[2], "stat") == 0) {
+        stat_each(atol(argv[3]), atol(argv[4]));
+    } else {
+        return 2;
+    }
+    return sqlite3_close(base) == SQLITE_BUSY;
+}

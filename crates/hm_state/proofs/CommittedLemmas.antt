@@ -1,0 +1,190 @@
+-- What no call of a space touches of its disk: all before the pool, and the state that was committed last.
+use Rattle.std.proofs.Common.{◌≡◌, Bool, true, false, true≢false, ℕ, ◌+◌, ◌*◌, ◌<◌, ◌≤◌, List, Option, Some, None, IsSome, refl, sym, ap, subst, ◌∙◌}
+use Rattle.std.proofs.Common.{arith, cond, is_some, length, map, nat_lt, slice_index, slice_range}
+use Rattle.std.specs.Prelude.{IfSome, option_map, ◌&&◌, ◌||◌}
+use Rattle.std.specs.List.{All, Contains, list_any}
+use Rattle.std.proofs.lemmas.Bool.{le-leb, lt-ltb}
+use Rattle.std.proofs.lemmas.List.Elements.{All-contains_itself, All-weaker}
+use Rattle.std.proofs.lemmas.List.Folds.{list_any_at}
+use Rattle.hm_types.specs.Layout.{blocks_per_layer2, first_pool, first_undo, layer2_blocks, start_of}
+use Rattle.hm_types.specs.Offset.{byte_of}
+use Rattle.hm_types.specs.References.{Reference, begin_of}
+use Rattle.hm_types.specs.declared.limits.TheConstants.{PAGE_BYTES}
+use Rattle.hm_disk.specs.Crash.{Told}
+use Rattle.hm_fields.specs.Pages.{PageMap}
+use Rattle.hm_header.specs.OnDisk.{HasHeader, first_slot, second_slot}
+use Rattle.hm_header.specs.Slots.{IsChosen}
+use Rattle.hm_header.specs.declared.header.Header.{Header}
+use Rattle.hm_header.specs.declared.header.TheConstants.{SLOT_BYTES}
+use Rattle.hm_freemap.specs.Places.{page_of}
+use Rattle.hm_btree.specs.Tree.{IsTreeSpace}
+use Rattle.hm_image.specs.Image.{bytes_at, pages_of, references_from, to_payload}
+use Rattle.hm_image.specs.Same.{HasSameBytes, HasSameFreemap, HasSameTree}
+use Rattle.hm_image.specs.Sound.{HasEntry, HasLayer1}
+use Rattle.hm_image.proofs.PartLemmas.{part_same}
+use Rattle.hm_search.specs.Tree.{elements_of}
+use Rattle.hm_stored.specs.Basis.{entry_outside, nodes, refers}
+use Rattle.hm_stored.specs.Fixed.{does_name, fixed_with, is_fixed}
+use Rattle.hm_stored.specs.Heap.{Frame, Heap, content_of, frame_of}
+use Rattle.hm_stored.specs.Held.{AreOnlyOf}
+use Rattle.hm_state.specs.Backed.{IsBacked, committed_in}
+use Rattle.hm_state.specs.Written.{IsWritten}
+use Rattle.hm_state.proofs.KeptLemmas.{nodes_keep, references_kept}
+use Rattle.hm_state.proofs.StaysLemmas.{written_stays}
+
+-- where the fixed bytes are the same, each of them is
+abbrev value_in : Option (ℕ → Option ℕ) → ℕ → Option ℕ
+value_in None byte = None
+value_in (Some f) byte = f byte
+
+fixed_bytes : (bigblocks : ℕ) (known : Bool) (committed : PageMap) (root : ℕ) (s t : Told)
+    → fixed_with bigblocks known committed root (Some t) ≡ fixed_with bigblocks known committed root (Some s) → (byte : ℕ)
+    → is_fixed bigblocks known (refers committed root) byte ≡ true → slice_index t.bytes byte ≡ slice_index s.bytes byte
+unfolding fixed_with
+fixed_bytes bigblocks known committed root s t same byte fixed =
+    by_test (is_fixed bigblocks known (refers committed root) byte) fixed (ap (λ o. value_in o byte) same) where
+      by_test : (b : Bool) → b ≡ true → cond b (Some (slice_index t.bytes byte)) None ≡ cond b (Some (slice_index s.bytes byte)) None
+          → slice_index t.bytes byte ≡ slice_index s.bytes byte
+      by_test true is got = cc
+      by_test false is got = absurd (true≢false (sym is))
+
+-- a byte before the pool is fixed
+low_fixed : (bigblocks : ℕ) (known : Bool) (refs : List Reference) (byte : ℕ) → byte < start_of (first_pool bigblocks)
+    → is_fixed bigblocks known refs byte ≡ true
+low_fixed bigblocks known refs byte low =
+    ap (λ (t : Bool). t || (known && list_any (does_name byte) refs)) (lt-ltb byte (start_of (first_pool bigblocks)) low)
+
+-- so is one that a reference names, where they count
+named_fixed : (bigblocks : ℕ) (known : Bool) (refs : List Reference) (r : Reference) (byte : ℕ) → known ≡ true → Contains refs r → begin_of r ≤ byte
+    → byte < begin_of r + r.len → is_fixed bigblocks known refs byte ≡ true
+named_fixed bigblocks known refs r byte is there from to = by_low (nat_lt byte (start_of (first_pool bigblocks))) where
+  named : does_name byte r ≡ true
+  named = ap (λ (t : Bool). t && nat_lt byte (begin_of r + r.len)) (le-leb (begin_of r) byte from) ∙ lt-ltb byte (begin_of r + r.len) to
+
+  any : list_any (does_name byte) refs ≡ true
+  any = list_any_at (does_name byte) refs there.0 r there.1 (ap (does_name byte) there.2 ∙ named)
+
+  by_low : (low : Bool) → (low || (known && list_any (does_name byte) refs)) ≡ true
+  by_low true = refl
+  by_low false = ap (λ (t : Bool). t && list_any (does_name byte) refs) is ∙ any
+
+-- the page with the entry of a big-block lies before the pool
+page_low : (bigblocks block : ℕ) → block < layer2_blocks bigblocks * blocks_per_layer2
+    → byte_of (page_of block) + PAGE_BYTES ≤ start_of (first_undo bigblocks)
+unfolding page_of
+page_low bigblocks block few = omega (arith, few)
+
+-- Two spaces have one frame, and the disks of both tell.
+module _ (old new : Heap) (same : frame_of new ≡ frame_of old) where
+  abbrev known : Bool
+  known = is_some (content_of old)
+
+  abbrev refs : List Reference
+  refs = refers old.pages.committed old.roots.committed
+
+  bigblocks_same : new.bigblocks ≡ old.bigblocks
+  bigblocks_same = ap (λ (f : Frame). f.bigblocks) same
+
+  committed_same : new.pages.committed ≡ old.pages.committed
+  committed_same = ap (λ (f : Frame). f.pages.committed) same
+
+  root_same : new.roots.committed ≡ old.roots.committed
+  root_same = ap (λ (f : Frame). f.roots.committed) same
+
+  fixed_same : fixed_with old.bigblocks known old.pages.committed old.roots.committed new.disk
+      ≡ fixed_with old.bigblocks known old.pages.committed old.roots.committed old.disk
+  fixed_same =
+      sym (by_parts new.bigblocks (is_some (content_of new)) new.pages.committed new.roots.committed bigblocks_same
+      (ap (λ (f : Frame). is_some f.content) same) committed_same root_same)
+      ∙ ap (λ (f : Frame). f.fixed) same where
+        by_parts : (n : ℕ) (k : Bool) (c : PageMap) (r : ℕ) → n ≡ old.bigblocks → k ≡ known → c ≡ old.pages.committed → r ≡ old.roots.committed
+            → fixed_with n k c r new.disk ≡ fixed_with old.bigblocks known old.pages.committed old.roots.committed new.disk
+        by_parts n k c r first second third fourth = rw (first, second, third, fourth) refl
+
+  module _ (s t : Told) (was : old.disk ≡ Some s) (is : new.disk ≡ Some t) where
+    byte_same : (byte : ℕ) → is_fixed old.bigblocks known refs byte ≡ true → slice_index t.bytes byte ≡ slice_index s.bytes byte
+    byte_same =
+        let of_disk : Option Told → Option (ℕ → Option ℕ) = fixed_with old.bigblocks known old.pages.committed old.roots.committed in
+        fixed_bytes old.bigblocks known old.pages.committed old.roots.committed s t (ap of_disk (sym is) ∙ fixed_same ∙ ap of_disk was)
+
+    pub size_same : length t.bytes ≡ length s.bytes
+    size_same =
+        let sizes : Some (length t.bytes) ≡ Some (length s.bytes) =
+        ap (option_map (λ (d : Told). length d.bytes)) (sym is) ∙ ap (λ (f : Frame). f.size) same ∙ ap (option_map (λ (d : Told). length d.bytes)) was in
+        cc
+
+    pub low_same : (byte : ℕ) → byte < start_of (first_pool old.bigblocks) → slice_index t.bytes byte ≡ slice_index s.bytes byte
+    low_same byte low = byte_same byte (low_fixed old.bigblocks known refs byte low)
+
+    range_same : (from to : ℕ) → to ≤ start_of (first_pool old.bigblocks) → slice_range t.bytes from to ≡ slice_range s.bytes from to
+    range_same from to low = part_same s.bytes t.bytes from to size_same (λ byte after before. low_same byte (omega (arith, low, before)))
+
+    first_same : first_slot t.bytes ≡ first_slot s.bytes
+    first_same = range_same 0 SLOT_BYTES (omega arith)
+
+    second_same : second_slot t.bytes ≡ second_slot s.bytes
+    second_same = range_same SLOT_BYTES (2 * SLOT_BYTES) (omega arith)
+
+    pub header_stays : (header : Header) (slot : ℕ) → HasHeader s.bytes header slot → HasHeader t.bytes header slot
+    header_stays header slot counts =
+        let First : List ℕ → Type 0 = λ xs. IsChosen xs (second_slot t.bytes) (length t.bytes) header slot in
+        let Second : List ℕ → Type 0 = λ xs. IsChosen (first_slot s.bytes) xs (length t.bytes) header slot in
+        let Size : ℕ → Type 0 = λ n. IsChosen (first_slot s.bytes) (second_slot s.bytes) n header slot in
+        subst First (sym first_same) (subst Second (sym second_same) (subst Size (sym size_same) counts))
+
+    freemap_same : HasSameFreemap s.bytes t.bytes old.bigblocks
+    freemap_same = record {
+      layer1 = λ i few. range_same (start_of 1 + 32 * i) (start_of 1 + 32 * i + 32) (omega (arith, few));
+      layer2 = λ block few.
+          let low = page_low old.bigblocks block few in
+          let bytes : bytes_at t.bytes (page_of block) PAGE_BYTES ≡ bytes_at s.bytes (page_of block) PAGE_BYTES =
+          range_same (byte_of (page_of block)) (byte_of (page_of block) + PAGE_BYTES) (omega (arith, low)) in
+          rw (size_same, bytes) refl;
+    }
+
+    -- all that the committed tree refers to is the same, where it is known
+    tree_same : known ≡ true → references_from (pages_of s.bytes) old.roots.committed ≡ refs → HasSameTree s.bytes t.bytes old.roots.committed
+    tree_same told named = record {
+      size = size_same;
+      bytes = subst (All (HasSameBytes s.bytes t.bytes)) (sym named)
+          (All-weaker (Contains refs) (HasSameBytes s.bytes t.bytes)
+          (λ r there. part_same s.bytes t.bytes (begin_of r) (begin_of r + r.len) size_same
+          (λ byte from to. byte_same byte (named_fixed old.bigblocks known refs r byte told there from to))) refs (All-contains_itself refs));
+    }
+
+    written_on : known ≡ true → IsTreeSpace (nodes old.pages.committed) old.roots.committed → AreOnlyOf old.bigblocks old.pages.committed
+        → IsWritten (committed_in old) old.roots.committed s.bytes → IsWritten (committed_in old) old.roots.committed t.bytes
+    written_on told tree only written =
+        let named = references_kept (nodes old.pages.committed) (pages_of s.bytes) old.roots.committed
+        (nodes_keep old.pages.committed (pages_of s.bytes) written.pages) tree.sound in
+        written_stays (committed_in old) old.roots.committed tree only s.bytes t.bytes freemap_same (tree_same told named) written
+
+    -- and the new space has it
+    moved : IsWritten (committed_in old) old.roots.committed t.bytes → IsWritten (committed_in new) new.roots.committed t.bytes
+    moved written = record {
+      layer1 = subst (HasLayer1 t.bytes) (sym bigblocks_same) written.layer1;
+      pages = λ at page is. written.pages at page (ap (λ (m : PageMap). m at) (sym committed_same) ∙ is);
+      bytes = λ at page is. written.bytes at page (ap (λ (m : PageMap). m at) (sym committed_same) ∙ is);
+      past = λ block low none. subst (λ (n : ℕ). HasEntry t.bytes block (entry_outside n block)) (sym bigblocks_same)
+          (written.past block (subst (λ (n : ℕ). block < layer2_blocks n * blocks_per_layer2) bigblocks_same low)
+          (ap (λ (m : PageMap). m (page_of block)) (sym committed_same) ∙ none));
+      payloads = subst (λ (d : Option Told). IfSome d (λ u. All (HasSameBytes u.bytes t.bytes) (payloads_in new))) (sym is)
+          (All-weaker (Contains (payloads_in new)) (HasSameBytes t.bytes t.bytes) (λ r at. refl) (payloads_in new) (All-contains_itself (payloads_in new)));
+    } where
+      payloads_in : Heap → List Reference
+      payloads_in h = map to_payload (elements_of (nodes h.pages.committed) h.roots.committed)
+
+  -- the disk of one tells where that of the other does
+  pub backed_stays : IsSome (content_of old) → IsBacked old → IsBacked new
+  backed_stays told backed = record {
+    tree = subst (λ (r : ℕ). IsTreeSpace (nodes new.pages.committed) r) (sym root_same)
+        (subst (λ (m : PageMap). IsTreeSpace (nodes m) old.roots.committed) (sym committed_same) backed.tree);
+    pages = subst (λ (n : ℕ). AreOnlyOf n new.pages.committed) (sym bigblocks_same) (subst (AreOnlyOf old.bigblocks) (sym committed_same) backed.pages);
+    written = by_disk old.disk new.disk refl refl (ap (λ (f : Frame). f.size) same) backed.written;
+  } where
+    by_disk : (o n : Option Told) → old.disk ≡ o → new.disk ≡ n
+        → option_map (λ (d : Told). length d.bytes) n ≡ option_map (λ (d : Told). length d.bytes) o
+        → IfSome o (λ s. IsWritten (committed_in old) old.roots.committed s.bytes) → IfSome n (λ t. IsWritten (committed_in new) new.roots.committed t.bytes)
+    by_disk o None was is size written = tt
+    by_disk None (Some t) was is size written = absurd cc
+    by_disk (Some s) (Some t) was is size written = moved s t was is (written_on s t was is told backed.tree backed.pages written)

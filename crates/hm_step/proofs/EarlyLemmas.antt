@@ -1,0 +1,134 @@
+-- The refusals that the words of a call alone decide are plain, and no reply that a call may have tells a boundary.
+use Rattle.std.proofs.Common.{◌≡◌, ℕ, Bool, true, false, List, [], ◌∷◌, ◌++◌, map, length, refl, sym, ap, subst, ◌∙◌, inl, inr}
+use Rattle.std.specs.Prelude.{Option, None, Some, ◌+◌, ◌==◌, if◌then◌else◌}
+use Rattle.std.specs.Bool.{nat_lt}
+use Rattle.std.specs.List.{Contains, list_any}
+use Rattle.std.specs.Option.{option_map_or}
+use Rattle.std.proofs.lemmas.Bool.{eq-eqb, false≢true}
+use Rattle.hm_types.specs.declared.limits.TheConstants.{MOST_FILE_BYTES}
+use Rattle.hm_model.specs.Caused.{IsPossible, at_any_point, number_of, on_a_change, on_a_file, on_a_read, on_a_walk, possible}
+use Rattle.hm_model.specs.Due.{Check, early_checks, first_refusal, good_path, good_paths, has_id, has_its_name, is_pass, no_future, no_future_begin, past_stays}
+use Rattle.hm_model.specs.Reply.{told_boundary}
+use Rattle.hm_model.specs.Sites.{BadAt, Parsed, Parts, ReadsWords, Use, uses_of}
+use Rattle.hm_model.specs.declared.command.Command.{Command}
+use Rattle.hm_model.specs.declared.command.Command.TheVariants.{Cat, Fill, Truncate, Write, Ln, Ls, Mkdir, Mv, Readlink, Rm, Rmdir, Snapshot, Stat, Symlink, Touch}
+use Rattle.hm_model.specs.declared.reply.Reply.{Reply}
+use Rattle.hm_model.specs.declared.reply.Reply.TheVariants.{BadPath, Busy, Future, ReadOnly, Synced}
+use Rattle.hm_model.proofs.DueLemmas.{of_test}
+use Rattle.hm_model.proofs.EffectLemmas.{or_false}
+use Rattle.hm_records.proofs.MemberLemmas.{has_cases, has_none}
+use Rattle.hm_calls.specs.Commands.{IsOnTrees}
+use Rattle.hm_calls.specs.Possible.{MayReply}
+use Rattle.hm_step.proofs.GivenLemmas.{IsPlain, by_option, by_test, unless_test}
+use Rattle.hm_step.proofs.PossibleLemmas.{OfAll, OfCheck, all_both, first_of_all}
+
+module _ (last : ℕ) (busy : Option ℕ) (command : Command) (paths : List Parsed) (of_trees : IsOnTrees command) where
+  goods_plain : (uses : List (Use × List ℕ)) (paths : List Parsed) → OfAll IsPlain (good_paths uses paths)
+  goods_plain [] paths = tt
+  goods_plain (u ∷ uses) [] = tt
+  goods_plain (u ∷ uses) (path ∷ paths) = (good_plain u.0 path, goods_plain uses paths) where
+    good_plain : (v : Use) (path : Parsed) → OfCheck IsPlain (good_path v path)
+    good_plain v (BadAt place) = tt
+    good_plain v (Parts parts) = unless_test IsPlain (has_its_name v parts) (BadPath 0) tt
+
+  futures_plain : (paths : List Parsed) → OfAll IsPlain (map (no_future last) paths)
+  futures_plain [] = tt
+  futures_plain (path ∷ paths) = (by_test IsPlain _ (Future (record { 0 = last })) tt, futures_plain paths)
+
+  begin_plain : (command : Command) → IsOnTrees command → OfCheck IsPlain (no_future_begin last command)
+  begin_plain (Mkdir path) of_trees = tt
+  begin_plain (Touch path) of_trees = tt
+  begin_plain (Symlink target path) of_trees = tt
+  begin_plain (Snapshot path) of_trees = tt
+  begin_plain (Ln old new) of_trees = tt
+  begin_plain (Mv old new) of_trees = tt
+  begin_plain (Write path offset bytes) of_trees = tt
+  begin_plain (Fill path offset count byte) of_trees = tt
+  begin_plain (Truncate path size) of_trees = tt
+  begin_plain (Rm path) of_trees = tt
+  begin_plain (Rmdir path) of_trees = tt
+  begin_plain (Ls path) of_trees = tt
+  begin_plain (Cat path offset count) of_trees = tt
+  begin_plain (Stat path) of_trees = tt
+  begin_plain (Readlink path) of_trees = tt
+  begin_plain other of_trees = absurd of_trees
+
+  -- each early refusal is plain
+  pub early_plain : OfAll IsPlain (early_checks last busy command paths)
+  early_plain =
+      let good : List Check = good_paths (uses_of command) paths in
+      let futures : List Check = map (no_future last) paths in (
+        open_plain (is_pass command),
+        all_both IsPlain (good ++ futures) (no_future_begin last command ∷ past_stays command paths ∷ [])
+            (all_both IsPlain good futures (goods_plain (uses_of command) paths) (futures_plain paths))
+            (begin_plain command of_trees, (by_test IsPlain _ ReadOnly tt, tt)),
+      )
+    where
+      open_plain : (test : Bool) → OfCheck IsPlain (if test then option_map_or (λ opening. Some (Busy (record { 0 = opening }))) busy None else None)
+      open_plain true = by_option IsPlain (λ opening. Some (Busy (record { 0 = opening }))) busy (λ opening. tt)
+      open_plain false = tt
+
+-- ---- boundaries
+
+-- only the reply with number 106 tells one
+tells_none : (reply : Reply) → (number_of reply ≡ 106 → ⊥) → told_boundary reply ≡ None
+tells_none (Synced boundary) other_number = absurd (other_number refl)
+tells_none other other_number = refl
+
+plain_tells_none : (reply : Reply) → IsPlain reply → told_boundary reply ≡ None
+plain_tells_none (Synced boundary) plain = absurd plain
+plain_tells_none other plain = refl
+
+-- whether that number is among some
+abbrev has_boundary : List ℕ → Bool
+has_boundary numbers = list_any (λ n. n == 106) numbers
+
+untold : (numbers : List ℕ) → has_boundary numbers ≡ false → (n : ℕ) → Contains numbers n → n ≡ 106 → ⊥
+untold [] none n has is = has_none n has
+untold (m ∷ numbers) none n has is =
+    let both = or_false (m == 106) (has_boundary numbers) none in
+    elim (has_cases m n numbers has) [
+      | inl first ↦ false≢true (sym both.0 ∙ eq-eqb m 106 (sym first ∙ is))
+      | inr rest ↦ untold numbers both.1 n rest is
+    ]
+
+read_untold : (front : List ℕ) (paths : List Parsed) → has_boundary (front ++ 8 ∷ on_a_walk) ≡ false → has_boundary (front ++ on_a_walk) ≡ false
+    → has_boundary (front ++ on_a_read paths) ≡ false
+read_untold front paths with_id without =
+    of_test (λ (l : List ℕ). has_boundary (front ++ l) ≡ false) (list_any has_id paths) (8 ∷ on_a_walk) on_a_walk with_id without
+
+file_untold : (end : ℕ) → has_boundary (on_a_file end) ≡ false
+file_untold end =
+    of_test (λ (l : List ℕ). has_boundary (4 ∷ 32 ∷ l) ≡ false) (nat_lt MOST_FILE_BYTES end) (10 ∷ on_a_change) (101 ∷ 20 ∷ on_a_change) refl refl
+
+-- no call on names or on the bytes of files gives it
+possible_untold : (command : Command) (paths : List Parsed) → IsOnTrees command → has_boundary (possible command paths) ≡ false
+possible_untold (Mkdir path) paths of_trees = refl
+possible_untold (Touch path) paths of_trees = refl
+possible_untold (Symlink target path) paths of_trees = refl
+possible_untold (Snapshot path) paths of_trees = refl
+possible_untold (Ln old new) paths of_trees = refl
+possible_untold (Mv old new) paths of_trees = refl
+possible_untold (Write path offset bytes) paths of_trees = file_untold (offset + length bytes)
+possible_untold (Fill path offset count byte) paths of_trees = file_untold (offset + count)
+possible_untold (Truncate path size) paths of_trees = file_untold size
+possible_untold (Rm path) paths of_trees = refl
+possible_untold (Rmdir path) paths of_trees = refl
+possible_untold (Ls path) paths of_trees = read_untold (102 ∷ []) paths refl refl
+possible_untold (Cat path offset count) paths of_trees = read_untold (103 ∷ 4 ∷ 32 ∷ []) paths refl refl
+possible_untold (Stat path) paths of_trees = read_untold (104 ∷ []) paths refl refl
+possible_untold (Readlink path) paths of_trees = read_untold (105 ∷ 31 ∷ []) paths refl refl
+possible_untold other paths of_trees = absurd of_trees
+
+pub no_boundary : (last : ℕ) (busy : Option ℕ) (command : Command) (paths : List Parsed) (reply : Reply) → IsOnTrees command
+    → ReadsWords command paths → MayReply last busy command reply → told_boundary reply ≡ None
+no_boundary last busy command paths reply of_trees reads may = by (first_refusal early) refl (may paths reads) where
+  early : List Check
+  early = early_checks last busy command paths
+
+  by : (found : Check) → first_refusal early ≡ found → IsPossible found (possible command paths) reply → told_boundary reply ≡ None
+  by (Some refusal) is (inl same) =
+      ap told_boundary same
+      ∙ plain_tells_none refusal (subst (OfCheck IsPlain) is (first_of_all IsPlain early (early_plain last busy command paths of_trees)))
+  by (Some refusal) is (inr free) = tells_none reply (untold at_any_point refl (number_of reply) free)
+  by None is has = tells_none reply (untold (possible command paths) (possible_untold command paths of_trees) (number_of reply) has)

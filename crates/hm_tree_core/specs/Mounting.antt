@@ -1,0 +1,34 @@
+-- What a volume is read from, and the space that comes of it.
+use Rattle.std.specs.Prelude.{◌≡◌, ℕ, None, Option, IfSome}
+use Rattle.hm_disk.specs.Crash.{Told}
+use Rattle.hm_header.specs.OnDisk.{HasHeader}
+use Rattle.hm_header.specs.declared.header.Header.{Header}
+use Rattle.hm_image.specs.Stands.{StandsFor}
+use Rattle.hm_model.specs.Volume.{Volume}
+use Rattle.hm_state.specs.Backed.{IsBacked}
+use Rattle.hm_state.specs.Volume.{HoldsVolume}
+use Rattle.hm_stored.specs.Heap.{Heap, free_of}
+use Rattle.hm_stored.specs.Turn.{IsClosed}
+
+-- this header counts on a disk that tells this
+abbrev pub IsHeaderOn : Header → Told → Type 0
+IsHeaderOn header t = (slot : ℕ) × HasHeader t.bytes header slot
+
+-- a space holds whatever volume a disk stands for that tells this
+abbrev pub HoldsWhatStands : Heap → Header → Told → Type 0
+HoldsWhatStands h header t = (volume : Volume) → StandsFor t.bytes volume → HoldsVolume h header.root header.last.0 volume
+
+-- the disk has all that was committed last in a space, whatever volume it stands for
+abbrev pub BacksWhatStands : Heap → Told → Type 0
+BacksWhatStands h t = (volume : Volume) → StandsFor t.bytes volume → IsBacked h
+
+-- A space is that of the volume with this header, as it was read from a disk that told this: no call is open, and so many
+-- big-blocks are free.
+pub record IsReadFrom (told : Option Told) (header : Header) (free : ℕ) (h : Heap) : Type 0 where
+  pub closed : IsClosed h
+  pub disk : h.disk ≡ told
+  pub free_is : free ≡ free_of h
+  pub holds : IfSome told (HoldsWhatStands h header)
+  pub backed : IfSome told (BacksWhatStands h)
+  pub bigblocks : header.bigblocks ≡ h.bigblocks
+  pub idle : h.pages.boundary ≡ None
