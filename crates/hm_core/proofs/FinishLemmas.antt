@@ -1,138 +1,154 @@
--- A volume as it was written, and as a write left it.
-use Rattle.std.proofs.Common.{◌≡◌, inl, inr, ℕ, ◌+◌, ◌-◌, ◌^◌, ◌<◌, ◌≤◌, List, length, take, drop, refl, sym, ◌∙◌, ap, subst, arith, length-append}
-use Rattle.std.specs.Prelude.{slice_range, Option, Some, None, IfSome, Result, Ok, Err, OnOk, OnErr}
-use Rattle.std.proofs.lemmas.List.{take-take}
-use Rattle.std.proofs.lemmas.List.Elements.{recursion_from_All}
-use Rattle.byteorder.specs.Endian.{little_bytes}
-use Rattle.byteorder.specs.Numbers.{length-bytes_low_first}
-use Rattle.hm_types.specs.declared.limits.TheConstants.{BIGBLOCK_BYTES, GREATEST_ID}
-use Rattle.hm_types.specs.declared.fault.Failed.{Failed}
-use Rattle.hm_disk.specs.Crash.{Told}
+-- What a disk stands for once a core has ended.
+use Rattle.std.proofs.Common.{◌≡◌, ◌≢◌, ℕ, ◌+◌, ◌-◌, ◌≤◌, List, [], ◌∷◌, Option, None, Some, Result, Ok, Err, refl, sym, ◌∙◌, ap, subst, arith, length, map}
+use Rattle.std.specs.Prelude.{IfErr, IfSome, IsSomeAnd, OnOk}
+use Rattle.hm_types.specs.Elements.{FullElement}
+use Rattle.hm_types.specs.Faults.{HasFaultCause, IsUndamaged}
+use Rattle.hm_types.specs.Layout.{start_of}
 use Rattle.hm_types.specs.Told.{BothTell}
-use Rattle.hm_header.specs.declared.header.Header.{Header}
+use Rattle.hm_types.specs.declared.fault.Fault.{Fault}
+use Rattle.hm_disk.specs.Crash.{Told}
+use Rattle.hm_disk.proofs.DiskLemmas.{BothTell-map, BothTell-same}
+use Rattle.hm_fields.specs.Fields.{AreBytes}
 use Rattle.hm_header.specs.Range.{IsHeader, IsRoot, IsSize}
-use Rattle.hm_core.specs.declared.directory.Directory.{Directory}
-use Rattle.hm_core.specs.Commit.{Commits, HasHeaderAndList, MayCommit, list_of}
-use Rattle.hm_core.specs.Directories.{AreDirectories, IsDirectory, volume_of}
-use Rattle.hm_core.specs.Finish.{IsBefore, IsEither, IsWritten}
-use Rattle.hm_core.specs.Inside.{made_until}
-use Rattle.hm_core.specs.Listed.{HoldsAt, list_bytes, list_root}
-use Rattle.hm_core.specs.Slots.{with_counts}
-use Rattle.hm_core.specs.Stands.{StandsFor}
-use Rattle.hm_core.proofs.BytesLemmas.{entry_bytes}
-use Rattle.hm_core.proofs.MountLemmas.{short_each}
+use Rattle.hm_header.specs.declared.header.Header.{Header}
+use Rattle.hm_header.proofs.AnswerLemmas.{OnOk-map}
+use Rattle.hm_pages.specs.Store.{Store}
+use Rattle.hm_model.specs.After.{Event, after}
+use Rattle.hm_model.specs.Foreign.{Foreigners}
+use Rattle.hm_model.specs.Legal.{entries_of}
+use Rattle.hm_model.specs.Volume.{Volume}
+use Rattle.hm_model.specs.declared.entry.Entry.{Entry}
+use Rattle.hm_image.specs.Stands.{StandsFor}
+use Rattle.hm_stored.specs.Basis.{IsFirm}
+use Rattle.hm_stored.specs.Heap.{Heap}
+use Rattle.hm_stored.specs.Standing.{Holds, HoldsBy, basis_now}
+use Rattle.hm_state.specs.Frozen.{HasFrozen}
+use Rattle.hm_state.specs.Volume.{HoldsVolume}
+use Rattle.hm_stored.specs.Held.{AreOfVolume}
+use Rattle.hm_state.proofs.ChangedLemmas.{changed_stands}
+use Rattle.hm_state.proofs.FrozenLemmas.{firm_root, frozen_places}
+use Rattle.hm_state.proofs.InPlaceLemmas.{written_in_place}
+use Rattle.hm_core.specs.Core.{StandsOver, volume_after}
+use Rattle.hm_core.specs.Finished.{HasNextHeader, IsFinished, LeavesVolume, next_header}
+use Rattle.hm_state.specs.Placed.{AreInside}
+use Rattle.hm_core.specs.State.{CoreState}
+use Rattle.hm_core.specs.WrittenBack.{Freezes, WritesBack}
 
--- a relation of what was told and what is told, from another and a fact of what was told
-pub BothTell-more : (old new : Option Told) (R : Told → Type 0) (P Q : Told → Told → Type 0) → IfSome old R → ((s t : Told) → R s → P s t → Q s t) → BothTell old new P → BothTell old new Q
-BothTell-more None None R P Q before step both = tt
-BothTell-more (Some s) (Some t) R P Q before step both = step s t before both
-BothTell-more None (Some t) R P Q before step both = both
-BothTell-more (Some s) None R P Q before step both = both
+-- what is told is told
+self_told : (told : Option Told) → IfSome told (λ t. told ≡ Some t)
+self_told None = tt
+self_told (Some t) = refl
 
--- a list is no longer than a big-block
-pub length-list_bytes : (last : ℕ) (ds : List Directory) → AreDirectories last ds → length (list_bytes ds) ≤ BIGBLOCK_BYTES
-length-list_bytes last ds kept =
-    let short = short_each last ds (recursion_from_All (IsDirectory last) ds kept.each) in
-    omega (arith, short, kept.few, length-append (little_bytes 8 (length ds)) (entry_bytes ds), length-bytes_low_first 0 8 (length ds))
+if_told : (told : Option Told) (P : Type 0) → P → IfSome told (λ _. P)
+if_told None P p = tt
+if_told (Some t) P p = p
 
--- what a header that is written after another says
-pub record Follows (header next : Header) (last : ℕ) : Type 0 where
-  pub bigblocks : next.bigblocks ≡ header.bigblocks
-  pub last_is : next.last.0 ≡ last
-  pub rooted : next.root ≡ list_root next.bigblocks next.generation
+-- no entry is one of no event
+no_events : (events : List Event) → entries_of events ≡ [] → events ≡ []
+no_events [] is = refl
+no_events (e ∷ es) is = cc
 
--- the disk stands for what was written
-stands_for : (header next : Header) (slot last : ℕ) (ds : List Directory) (list bytes : List ℕ) → Follows header next last → AreDirectories last ds → list ≡ list_bytes ds → HasHeaderAndList bytes next (1 - slot) list → StandsFor bytes (volume_of header.bigblocks last ds)
-stands_for header next slot last ds list bytes follows kept is has = record {
-  header = next;
-  number = 1 - slot;
-  directories = ds;
-  stands = record {
-    header_is = has.header_is;
-    list = record {
-      root = follows.rooted;
-      kept = subst (λ (n : ℕ). AreDirectories n ds) (sym follows.last_is) kept;
-      held = subst (λ (xs : List ℕ). slice_range bytes (list_of next) (list_of next + length xs) ≡ xs) is has.list_is;
-    };
-  };
-  volume_is = rw (follows.bigblocks, follows.last_is) refl;
-}
+-- what writing back came to, over a store and a disk that told this and whose faults were so many
+pub record WroteBack (s : Store) (old : Option Told) (before : ℕ) (header : Header) (slot : ℕ) (next : Header) (f : Store) (told : Option Told)
+    (faults : ℕ) (result : Result (Unit {0}) Fault) : Type 0 where
+  pub frozen : OnOk result (Freezes next s f)
+  pub ok : OnOk result (BothTell old told (WritesBack f next (1 - slot)))
+  pub whole : IsRoot next.bigblocks next.root → ((g : Store) → Freezes next s g → AreInside (start_of header.bigblocks) g.frozen_group)
+      → IfErr result IsUndamaged
+  pub cause : HasFaultCause before faults result
 
-pub IsWritten-commits : (header next : Header) (slot last : ℕ) (ds : List Directory) (list : List ℕ) (t : Told) → Follows header next last → AreDirectories last ds → list ≡ list_bytes ds → Commits next slot list t → IsWritten header last ds t
-IsWritten-commits header next slot last ds list t follows kept is commits = record {
-  stands = stands_for header next slot last ds list t.bytes follows kept is commits.stands;
-  settled = commits.settled;
-}
+module _ {D I O : Type 0} (core : CoreState D I O) where
+  abbrev h : Heap
+  h = core.heap
 
--- a list stands where the big-block around it is as before
-holds_still : (old new : List ℕ) (place : ℕ) (ds : List Directory) → length (list_bytes ds) ≤ BIGBLOCK_BYTES → slice_range new place (place + BIGBLOCK_BYTES) ≡ slice_range old place (place + BIGBLOCK_BYTES) → HoldsAt old place ds → HoldsAt new place ds
-holds_still old new place ds fits same held =
-    let long : ℕ = length (list_bytes ds) in
-    let cut : (xs : List ℕ) → slice_range xs place (place + long) ≡ take long (slice_range xs place (place + BIGBLOCK_BYTES)) = λ xs. cut_front xs place long BIGBLOCK_BYTES fits in
-    cut new ∙ (ap (λ xs. take long xs) same ∙ (sym (cut old) ∙ held))
-  where
-    cut_front : (xs : List ℕ) (place m n : ℕ) → m ≤ n → slice_range xs place (place + m) ≡ take m (slice_range xs place (place + n))
-    cut_front xs place m n fits =
-        ap (λ k. take k (drop place xs)) (omega arith)
-        ∙ (sym (take-take m n (drop place xs) fits)
-        ∙ ap (λ k. take m (take k (drop place xs))) (omega arith))
+  abbrev next : Header
+  next = next_header core
 
-pub IsEither-may_commit : (header next : Header) (slot last : ℕ) (ds : List Directory) (list : List ℕ) (s t : Told) → Follows header next last → AreDirectories last ds → list ≡ list_bytes ds → IsBefore header slot ds s → MayCommit header slot next list s t → IsEither header last ds t
-IsEither-may_commit header next slot last ds list s t follows kept is before (inl still) = inl (record {
-  header = header;
-  number = slot;
-  directories = made_until header.last.0 ds;
-  stands = record {
-    header_is = still.header_is;
-    list = record {
-      root = before.list.root;
-      kept = before.list.kept;
-      held = holds_still s.bytes t.bytes (list_of header) (made_until header.last.0 ds) (length-list_bytes header.last.0 (made_until header.last.0 ds) before.list.kept) still.list_is before.list.held;
-    };
-  };
-  volume_is = refl;
-})
-IsEither-may_commit header next slot last ds list s t follows kept is before (inr has) =
-    inr (stands_for header next slot last ds list t.bytes follows kept is has)
+  -- a run in which nothing was done
+  module _ (none : core.history ≡ []) where
+    left_alone : (opening : Volume) (foreigners : Foreigners) (stands : StandsOver core opening foreigners) (t : Told) → StandsFor t.bytes opening
+        → StandsFor t.bytes (volume_after stands)
+    left_alone opening foreigners stands t is =
+        let events = no_events stands.legal.events (stands.legal.entries ∙ none) in
+        subst (λ (v : Volume). StandsFor t.bytes v) (ap (λ (es : List Event). (after opening foreigners es).volume) (sym events)) is
 
-is_root : (bigblocks generation : ℕ) → IsSize bigblocks → IsRoot bigblocks (list_root bigblocks generation)
-is_root bigblocks generation size = record {
-  zone = omega (arith, size.0, size.1);
-  volume = omega (arith, size.0, size.1);
-  pool = (omega (arith, size.0, size.1), omega (arith, size.0, size.1));
-  page = omega (arith, size.0, size.1);
-}
+    by_disk : (told : Option Told) → h.disk ≡ told → IfSome told (λ t. LeavesVolume core t.bytes)
+    by_disk None is = tt
+    by_disk (Some t) is = λ opening foreigners stands.
+        left_alone opening foreigners stands t
+        (subst (λ (o : Option Told). IfSome o (λ u. StandsFor u.bytes opening)) is (stands.untouched none))
 
--- the header that is written after another is in range
-pub IsHeader-next : (header : Header) (generation last root : ℕ) → IsHeader header → generation < 2 ^ 64 → header.last.0 ≤ last → last ≤ GREATEST_ID → root ≡ list_root header.bigblocks generation → IsHeader (record header { generation = generation; last = record { 0 = last }; root = root })
-IsHeader-next header generation last root fine small later greatest is = record {
-  version = fine.version;
-  bigblocks = fine.bigblocks;
-  generation = small;
-  last = (omega (arith, fine.last.0), greatest);
-  root = rw is (is_root header.bigblocks generation fine.bigblocks);
-  undo_first = fine.undo_first;
-  undo_count = fine.undo_count;
-  undo_next = fine.undo_next;
-  four = fine.four;
-  append = fine.append;
-}
+    pub untouched_finished : (faults : ℕ) → faults ≡ core.faults → IsFinished core h.disk faults (Ok tt)
+    untouched_finished faults same = record {
+      nothing = λ is. (refl, refl);
+      volume = BothTell-same h.disk (λ _ t. LeavesVolume core t.bytes) (by_disk h.disk refl);
+      header = λ some. absurd (some none);
+      cause = record { never_falls = omega (arith, same); caused = tt };
+      whole = λ opening foreigners stands. if_told h.disk _ tt;
+    }
 
--- a relation of what was told and what is told, from another
-pub both_map : (old new : Option Told) (P Q : Told → Told → Type 0) → ((s t : Told) → P s t → Q s t) → BothTell old new P → BothTell old new Q
-both_map None None P Q step both = tt
-both_map (Some s) (Some t) P Q step both = step s t both
-both_map None (Some t) P Q step both = both
-both_map (Some s) None P Q step both = both
+  -- a run in which something was done
+  module _ (only : AreOfVolume h) (size : core.header.bigblocks ≡ h.bigblocks) (header_is : IsHeader core.header) where
+    module _ (opening : Volume) (foreigners : Foreigners) (stands : StandsOver core opening foreigners) where
+      holds : HoldsVolume h core.root core.last (volume_after stands)
+      holds = stands.legal.held.holds
 
-module _ (header next : Header) (slot last : ℕ) (ds : List Directory) (list : List ℕ) (old new : Option Told) (follows : Follows header next last) (kept : AreDirectories last ds) (is : list ≡ list_bytes ds) where
-  -- where the header was changed, the volume was written
-  pub written : (before after : ℕ) (r : Result (Unit {0}) Failed) → OnOk r (BothTell old new (λ _ t. Commits next slot list t)) → OnOk (with_counts before after r) (BothTell old new (λ _ t. IsWritten header last ds t))
-  written before after (Ok value) both = both_map old new (λ _ t. Commits next slot list t) (λ _ t. IsWritten header last ds t) (λ s t. IsWritten-commits header next slot last ds list t follows kept is) both
-  written before after (Err failed) both = both
+      firm_by : (told : Option Told) (es : List FullElement) → IsSomeAnd told (λ t. HoldsBy h core.root t.bytes es) → IsFirm (basis_now h core.root)
+      firm_by None es held = absurd held
+      firm_by (Some t) es held = held.firm
 
-  -- and else the disk stands for what it stood for, or for that
-  pub not_written : (before after : ℕ) (r : Result (Unit {0}) Failed) → IfSome old (IsBefore header slot ds) → OnErr r (BothTell old new (MayCommit header slot next list)) → OnErr (with_counts before after r) (BothTell old new (λ _ t. IsEither header last ds t))
-  not_written before after (Ok value) stood both = both
-  not_written before after (Err failed) stood both =
-      BothTell-more old new (IsBefore header slot ds) (MayCommit header slot next list) (λ _ t. IsEither header last ds t) stood (λ s t. IsEither-may_commit header next slot last ds list s t follows kept is) both
+      firm : IsFirm (basis_now h core.root)
+      firm = firm_by h.disk holds.elements.0 holds.elements.1
+
+      has_frozen : (f : Store) → Freezes next h.pages f → HasFrozen h core.root f
+      has_frozen f freezes = record {
+        firm = firm;
+        only = only;
+        size = subst IsSize size header_is.bigblocks;
+        boundary = next.last;
+        frozen = freezes.frozen;
+        sound = freezes.sound;
+      }
+
+      root_stands : IsRoot next.bigblocks next.root
+      root_stands = subst (λ (n : ℕ). IsRoot n core.root) (sym size) (firm_root h core.root firm)
+
+      places_stand : (f : Store) → Freezes next h.pages f → AreInside (start_of core.header.bigblocks) f.frozen_group
+      places_stand f freezes =
+          (frozen_places h core.root f (has_frozen f freezes) (start_of core.header.bigblocks) (omega (arith, size))).inside
+
+      new_stands : (f : Store) (s t : Told) → Freezes next h.pages f → h.disk ≡ Some s
+          → ((at : ℕ) (page : List ℕ) → h.pages.current at ≡ Some page → AreBytes page)
+          → WritesBack f next (1 - core.slot) s t → StandsFor t.bytes (volume_after stands)
+      new_stands f s t freezes is bytes wrote =
+          let room : start_of h.bigblocks ≤ length s.bytes =
+          omega (arith, size, wrote.changes.header_is.room, wrote.changes.others.size, wrote.puts.others.size) in
+          let written = written_in_place h core.root f (has_frozen f freezes) s wrote.between is room stands.backed wrote.puts bytes in
+          changed_stands h core.root core.last (volume_after stands) next core.slot wrote.between t holds only written
+          (record { bigblocks = size; append = refl; root_is = refl; last_is = refl }) wrote.changes
+
+    leaves_volume : (f : Store) (s t : Told) → Freezes next h.pages f
+        → ((at : ℕ) (page : List ℕ) → h.pages.current at ≡ Some page → AreBytes page)
+        → h.disk ≡ Some s → WritesBack f next (1 - core.slot) s t → LeavesVolume core t.bytes
+    leaves_volume f s t freezes bytes is wrote opening foreigners stands = new_stands opening foreigners stands f s t freezes is bytes wrote
+
+    -- so ends a core whose pages were written back
+    pub written_finished : (f : Store) (told : Option Told) (faults : ℕ) (result : Result (Unit {0}) Fault) → core.history ≢ []
+        → ((at : ℕ) (page : List ℕ) → h.pages.current at ≡ Some page → AreBytes page)
+        → WroteBack h.pages h.disk core.faults core.header core.slot next f told faults result → IsFinished core told faults result
+    written_finished f told faults result some bytes wrote = record {
+      nothing = λ none. absurd (some none);
+      volume = left result wrote.frozen wrote.ok;
+      header = OnOk-map result _ _ (λ both _. BothTell-map h.disk told (λ s. h.disk ≡ Some s) (WritesBack f next (1 - core.slot))
+          (λ _ t. HasNextHeader core t)
+          (λ s t is w. record { counts = w.changes.header_is; settled = w.changes.settled }) (self_told h.disk) both) wrote.ok;
+      cause = wrote.cause;
+      whole = λ opening foreigners stands.
+          if_told h.disk _ (wrote.whole (root_stands opening foreigners stands) (places_stand opening foreigners stands));
+    } where
+      left : (r : Result (Unit {0}) Fault) → OnOk r (Freezes next h.pages f) → OnOk r (BothTell h.disk told (WritesBack f next (1 - core.slot)))
+          → OnOk r (BothTell h.disk told (λ _ t. LeavesVolume core t.bytes))
+      left (Ok done) freezes both = BothTell-map h.disk told (λ s. h.disk ≡ Some s) (WritesBack f next (1 - core.slot))
+          (λ _ t. LeavesVolume core t.bytes)
+          (λ s t is w. leaves_volume f s t freezes bytes is w) (self_told h.disk) both
+      left (Err fault) freezes both = tt

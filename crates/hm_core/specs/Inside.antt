@@ -1,37 +1,23 @@
 -- What always holds of a core's fields.
-use Rattle.std.specs.Prelude.{◌≡◌, ℕ, ◌≤◌, List, Option, IfSome, filter}
-use Rattle.std.specs.Bool.{nat_le}
+use Rattle.std.specs.Prelude.{◌≡◌, ℕ, ◌≤◌, IfSome, List, None, length}
 use Rattle.hm_types.specs.declared.limits.TheConstants.{GREATEST_ID}
-use Rattle.hm_disk.specs.Crash.{Told}
-use Rattle.hm_header.specs.declared.header.Header.{Header}
+use Rattle.hm_header.specs.OnDisk.{HasHeader}
 use Rattle.hm_header.specs.Range.{IsHeader}
+use Rattle.hm_header.specs.declared.header.Header.{Header}
 use Rattle.hm_model.specs.declared.entry.Entry.{Entry}
-use Rattle.hm_model.specs.Volume.{Volume}
-use Rattle.hm_model.specs.Served.After.{after}
-use Rattle.hm_model.specs.Served.Legal.{IsLegal}
-use Rattle.hm_core.specs.declared.directory.Directory.{Directory}
-use Rattle.hm_core.specs.Directories.{AreDirectories, volume_of}
-use Rattle.hm_core.specs.Listed.{list_root}
-use Rattle.hm_core.specs.Stands.{Stands}
+use Rattle.hm_stored.specs.Heap.{Heap, free_of, room_of}
+use Rattle.hm_stored.specs.Turn.{IsClosed}
+use Rattle.hm_core.specs.Ledger.{IsPaid}
 
--- the directories that were made up to this id
-abbrev pub made_until : ℕ → List Directory → List Directory
-made_until id ds = filter (λ d. nat_le d.id.0 id) ds
-
--- the volume that a header stands for, of which these are the directories and those made since
-abbrev pub opening_of : Header → List Directory → Volume
-opening_of header ds = volume_of header.bigblocks header.last.0 (made_until header.last.0 ds)
-
--- A core's header is in range and names the place of its generation, and the disk stands for it. The
--- history is legal over the volume of this header, and the directories are those of the volume after it.
-pub record IsSound (told : Option Told) (header : Header) (slot last : ℕ) (ds : List Directory)
-    (history : List Entry) : Type 0 where
+-- No call is open, and nothing is frozen. The header is in range, counts on the disk in one of both slots, and has the size of
+-- the space; and no id after its last one is past the greatest. The big-blocks that zones have begun since the volume was mounted are paid for by calls.
+pub record IsInOrder (header : Header) (slot last free : ℕ) (h : Heap) (history : List Entry) : Type 0 where
   pub header_is : IsHeader header
-  pub rooted : header.root ≡ list_root header.bigblocks header.generation
-  pub one_of_two : slot ≤ 1
-  pub stands : IfSome told (λ t. Stands t.bytes header slot (made_until header.last.0 ds))
+  pub slot_is : slot ≤ 1
+  pub on_disk : IfSome h.disk (λ t. HasHeader t.bytes header slot)
+  pub bigblocks : header.bigblocks ≡ h.bigblocks
+  pub closed : IsClosed h
+  pub idle : h.pages.boundary ≡ None
   pub later : header.last.0 ≤ last
   pub greatest : last ≤ GREATEST_ID
-  pub kept : AreDirectories last ds
-  pub legal : IsLegal (opening_of header ds) history
-  pub now_is : after (opening_of header ds) history ≡ volume_of header.bigblocks last ds
+  pub paid : IsPaid free (free_of h) (length history) (room_of h)

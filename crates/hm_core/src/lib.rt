@@ -1,25 +1,42 @@
-//! The state of one volume, and one step of it at a time.
-//!
-//! `newfs` makes a volume on a disk. `Core` reads it, answers calls and enters each in its history,
-//! and writes it. So far the directories of a volume stand in one list on the disk.
+//! The core: making and mounting a volume, its calls, the history of a run, and the end of its use.
 #![tactic(auto)]
 
-mod answer;
-mod change;
-mod directories;
-mod directory;
+mod asked;
+mod calls;
+mod ending;
+#[cfg(test)]
+mod ending_tests;
+mod entries;
 mod fault;
-mod finish;
-mod fresh;
-mod list;
-mod mount;
-mod place;
+mod laws;
+mod mounting;
+mod opening;
+#[cfg(test)]
+mod opening_tests;
+mod served;
 mod slots;
+mod space;
+mod step;
+mod steps;
 #[cfg(test)]
 mod tests;
 mod volume;
+mod write;
+mod write_back;
 
-pub use directory::Directory;
+pub use calls::answer_over;
 pub use fault::OpenFault;
-pub use fresh::newfs;
-pub use volume::{Core, Step};
+pub use laws::{
+    a_call_is_paid_for, a_call_that_tells_space_goes_on, a_core_begins_with_no_history,
+    a_dropped_space_holds_what_was_held, a_dropped_store_holds_what_was_held,
+    a_failed_call_goes_on, a_fault_tells_no_damage, a_kept_space_holds_what_was_told,
+    a_served_call_goes_on, an_opened_space_tells_what_was_held,
+    an_opened_store_tells_what_was_held, every_command_is_read, ids_of_a_volume_are_known,
+    ids_of_held_elements_fit, later_counts_leave_a_history_legal, the_ledger_keeps_the_least,
+};
+pub use opening::newfs;
+pub use served::is_served;
+pub use space::tell_space;
+pub use step::Step;
+pub use volume::Core;
+pub use write::write_pages;

@@ -15,7 +15,7 @@ use Rattle.hm_model.specs.Lines.{texts_of}
 use Rattle.hm_model.specs.Out.{lines_in}
 use Rattle.hm_model.specs.Script.{Gives, IsFirstBadLine, IsGood, IsScriptOf, ReadEach, blocks_of, goes_on, is_remark, with_line}
 use Rattle.hm_script.proofs.ScriptLemmas.{gives_is_one}
-use Rattle.hm_tree_core.specs.Served.{IsServed}
+use Rattle.hm_core.specs.Served.{IsServed}
 use Rattle.hm_shell.specs.Alone.{IsSingle, alone}
 use Rattle.hm_shell.specs.Lines.{AreRising, AreServedLines, IsFirstBad, IsFirstUnserved, IsServable, IsServedLine, IsServedText}
 

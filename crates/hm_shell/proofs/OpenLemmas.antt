@@ -6,10 +6,10 @@ use Rattle.hm_types.specs.declared.fault.Fault.TheVariants.{Media as media, Dama
 use Rattle.hm_disk.specs.Crash.{Told}
 use Rattle.hm_model.specs.Volume.{Volume, fresh}
 use Rattle.hm_image.specs.Stands.{StandsFor}
-use Rattle.hm_tree_core.specs.Opened.{IsFailure, IsMade, IsMounted, IsNotMade, IsNotMounted, IsOpenCaused}
-use Rattle.hm_tree_core.specs.State.{CoreState}
-use Rattle.hm_tree_core.specs.declared.fault.OpenFault.{OpenFault}
-use Rattle.hm_tree_core.specs.declared.fault.OpenFault.TheVariants.{NotVolume as no_volume, BadField as bad_field, Fault as of_disk}
+use Rattle.hm_core.specs.Opened.{IsFailure, IsMade, IsMounted, IsNotMade, IsNotMounted, IsOpenCaused}
+use Rattle.hm_core.specs.State.{CoreState}
+use Rattle.hm_core.specs.declared.fault.OpenFault.{OpenFault}
+use Rattle.hm_core.specs.declared.fault.OpenFault.TheVariants.{NotVolume as no_volume, BadField as bad_field, Fault as of_disk}
 use Rattle.hm_shell.specs.declared.stop.Stop.{Stop}
 use Rattle.hm_shell.specs.Making.{MakesVolume}
 use Rattle.hm_shell.specs.Opening.{HasWhole, IsUnopened, OpensOn, StoppedOpening}

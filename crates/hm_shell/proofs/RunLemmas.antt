@@ -11,10 +11,10 @@ use Rattle.hm_model.specs.declared.line.Line.{Line}
 use Rattle.hm_model.specs.After.{after}
 use Rattle.hm_model.specs.Foreign.{Foreigners, no_foreigners}
 use Rattle.hm_model.specs.Volume.{Volume}
-use Rattle.hm_tree_core.specs.Core.{StandsOver}
-use Rattle.hm_tree_core.specs.Finished.{IsFinished, LeavesVolume as CoreLeaves}
-use Rattle.hm_tree_core.specs.Opened.{IsMounted}
-use Rattle.hm_tree_core.specs.State.{CoreState}
+use Rattle.hm_core.specs.Core.{StandsOver}
+use Rattle.hm_core.specs.Finished.{IsFinished, LeavesVolume as CoreLeaves}
+use Rattle.hm_core.specs.Opened.{IsMounted}
+use Rattle.hm_core.specs.State.{CoreState}
 use Rattle.hm_shell.specs.declared.stop.Stop.{Stop}
 use Rattle.hm_shell.specs.Alone.{IsAlone, out_text}
 use Rattle.hm_shell.specs.Lines.{IsServedLine}

@@ -9,9 +9,9 @@ use Rattle.hm_pipe.proofs.PipeLemmas.{Gains-none, Gains-append}
 use Rattle.hm_model.specs.declared.entry.Entry.{Entry}
 use Rattle.hm_model.specs.declared.line.Line.{Line}
 use Rattle.hm_model.specs.Out.{IsOf, entry_words, printed_line, spent_words}
-use Rattle.hm_tree_core.specs.Core.{Enters, KeepsRest, Steps}
-use Rattle.hm_tree_core.specs.State.{CoreState}
-use Rattle.hm_tree_core.specs.declared.step.Step.TheVariants.{Answered, Spent}
+use Rattle.hm_core.specs.Core.{Enters, KeepsRest, Steps}
+use Rattle.hm_core.specs.State.{CoreState}
+use Rattle.hm_core.specs.declared.step.Step.TheVariants.{Answered, Spent}
 use Rattle.hm_shell.specs.declared.stop.Stop.{Stop}
 use Rattle.hm_shell.specs.declared.stop.Stop.TheVariants.{Usage, NotVolume, BadField, DiskFault, Damaged, ScriptFault, OutFault, NoMemory, BadLine, TooLong}
 use Rattle.hm_shell.specs.Alone.{Answers, IsAlone, line_text, out_text}

@@ -7,8 +7,8 @@ use Rattle.hm_header.specs.declared.header.Header.{Header}
 use Rattle.hm_image.specs.Stands.{StandsFor}
 use Rattle.hm_model.specs.Script.{IsTooLong}
 use Rattle.hm_model.specs.Volume.{Volume}
-use Rattle.hm_tree_core.specs.History.{IsClear}
-use Rattle.hm_tree_core.specs.Opened.{HasDamage, IsTooSmall}
+use Rattle.hm_core.specs.History.{IsClear}
+use Rattle.hm_core.specs.Opened.{HasDamage, IsTooSmall}
 use Rattle.hm_shell.specs.Devices.{Sight}
 use Rattle.hm_shell.specs.Lines.{IsFirstBad, IsGoodScript}
 use Rattle.hm_shell.specs.Words.{HasPlan, IsPlan}

@@ -4,7 +4,7 @@ use Rattle.hm_model.specs.declared.command.Command.{Command}
 use Rattle.hm_model.specs.declared.line.Line.{Line}
 use Rattle.hm_model.specs.Lines.{texts_of}
 use Rattle.hm_model.specs.Script.{Gives, IsScriptOf, IsTooLong, is_remark}
-use Rattle.hm_tree_core.specs.Served.{IsAsked, IsServed}
+use Rattle.hm_core.specs.Served.{IsAsked, IsServed}
 use Rattle.hm_shell.specs.declared.stop.Stop.{Stop}
 use Rattle.hm_shell.specs.declared.stop.Stop.TheVariants.{Usage, NotVolume, BadField, DiskFault, Damaged, ScriptFault, OutFault, NoMemory, BadLine, TooLong}
 use Rattle.hm_shell.specs.Alone.{IsAlone, alone}

@@ -2,7 +2,7 @@
 use Rattle.std.specs.Prelude.{◌≡◌, ℕ, Option, None, Some}
 use Rattle.hm_types.specs.Told.{BothTell}
 use Rattle.hm_disk.specs.Crash.{Told}
-use Rattle.hm_tree_core.specs.Opened.{IsMade}
+use Rattle.hm_core.specs.Opened.{IsMade}
 
 -- it is as before, or a volume of this size was made on it
 abbrev pub MakesVolume : Option ℕ → Option Told → Option Told → Type 0

@@ -5,8 +5,8 @@ use Rattle.hm_disk.specs.Crash.{Told}
 use Rattle.hm_header.specs.OnDisk.{HasHeader}
 use Rattle.hm_header.specs.declared.header.Header.{Header}
 use Rattle.hm_load.specs.Damage.{IsWhole}
-use Rattle.hm_tree_core.specs.declared.fault.OpenFault.{OpenFault}
-use Rattle.hm_tree_core.specs.Opened.{IsFailure, IsMade, IsNotMade, IsNotMounted, IsOpenCaused}
+use Rattle.hm_core.specs.declared.fault.OpenFault.{OpenFault}
+use Rattle.hm_core.specs.Opened.{IsFailure, IsMade, IsNotMade, IsNotMounted, IsOpenCaused}
 use Rattle.hm_shell.specs.declared.stop.Stop.{Stop}
 use Rattle.hm_shell.specs.Seen.{Seen}
 use Rattle.hm_shell.specs.Stop.{of_open}

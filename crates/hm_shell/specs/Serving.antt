@@ -7,9 +7,9 @@ use Rattle.hm_pipe.specs.Pipe.{Gains}
 use Rattle.hm_model.specs.declared.entry.Entry.{Entry}
 use Rattle.hm_model.specs.declared.line.Line.{Line}
 use Rattle.hm_model.specs.Out.{entry_words, printed_line, spent_words}
-use Rattle.hm_tree_core.specs.Core.{Enters, GoesOn, KeepsRest}
-use Rattle.hm_tree_core.specs.Finished.{IsFinished}
-use Rattle.hm_tree_core.specs.State.{CoreState}
+use Rattle.hm_core.specs.Core.{Enters, GoesOn, KeepsRest}
+use Rattle.hm_core.specs.Finished.{IsFinished}
+use Rattle.hm_core.specs.State.{CoreState}
 use Rattle.hm_shell.specs.declared.stop.Stop.{Stop}
 use Rattle.hm_shell.specs.Alone.{Answers, out_text}
 use Rattle.hm_shell.specs.Printing.{StoppedPrinting}

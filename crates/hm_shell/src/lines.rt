@@ -7,7 +7,7 @@ ghost use Rattle.hm_shell.specs.Lines.{AreServedLines, IsFirstUnserved, IsLinesS
 use crate::stop::Stop;
 use hm_model::Line;
 use hm_script::{Script, ScriptFault, first_lines, read};
-use hm_tree_core::is_served;
+use hm_core::is_served;
 use hm_types::NoMemory;
 use std::alloc::Global;
 

@@ -1,8 +1,8 @@
 // The lines of a script, run one after another.
 ghost use Rattle.std.specs.Prelude.{◌≡◌, ◌*◌, ◌≤◌, [], IfErr, OnErr, OnOk, All, length};
 ghost use Rattle.hm_types.specs.declared.limits.TheConstants.{MOST_SCRIPT_LINES};
-ghost use Rattle.hm_tree_core.specs.Seen.{seen as seen_core};
-ghost use Rattle.hm_tree_core.specs.Served.{IsAsked};
+ghost use Rattle.hm_core.specs.Seen.{seen as seen_core};
+ghost use Rattle.hm_core.specs.Served.{IsAsked};
 ghost use Rattle.hm_shell.specs.Lines.{AreRising, IsServedLine};
 ghost use Rattle.hm_shell.specs.Running.{IsOutCause};
 ghost use Rattle.hm_shell.specs.Seen.{seen};
@@ -13,7 +13,7 @@ use crate::stop::Stop;
 use hm_disk::Disk;
 use hm_model::Line;
 use hm_pipe::Sink;
-use hm_tree_core::{Core, Step};
+use hm_core::{Core, Step};
 use std::alloc::Global;
 
 /// Makes room for two entries a line, and then runs the lines in their order. Each reply is printed

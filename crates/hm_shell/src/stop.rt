@@ -2,7 +2,7 @@
 ghost use Rattle.std.specs.Prelude.{◌≡◌};
 ghost use Rattle.hm_shell.specs.Stop.{of_fault, of_open, status_of};
 
-use hm_tree_core::OpenFault;
+use hm_core::OpenFault;
 use hm_types::{Fault, NoMemory};
 use std::alloc::{AllocError, AllocFailed};
 

@@ -2,7 +2,7 @@
 ghost use Rattle.std.specs.Prelude.{◌≡◌, ◌≤◌, [], IfErr, IfSome, OnOk, All, length};
 ghost use Rattle.hm_header.specs.Range.{IsSize};
 ghost use Rattle.hm_types.specs.declared.limits.TheConstants.{MOST_SCRIPT_LINES};
-ghost use Rattle.hm_tree_core.specs.Seen.{seen as seen_core};
+ghost use Rattle.hm_core.specs.Seen.{seen as seen_core};
 ghost use Rattle.hm_shell.specs.Lines.{AreRising, IsServedLine};
 ghost use Rattle.hm_shell.specs.Making.{MakesVolume};
 ghost use Rattle.hm_shell.specs.Opening.{StoppedOpening};
@@ -17,7 +17,7 @@ use crate::stop::Stop;
 use hm_disk::Disk;
 use hm_model::Line;
 use hm_pipe::Sink;
-use hm_tree_core::{Core, newfs};
+use hm_core::{Core, newfs};
 use std::alloc::Global;
 
 /// What a volume was used with, handed back, and what came of it.

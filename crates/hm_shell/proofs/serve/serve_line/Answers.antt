@@ -1,4 +1,4 @@
-use Rattle.hm_tree_core.specs.Seen.{seen as seen_core}
+use Rattle.hm_core.specs.Seen.{seen as seen_core}
 use Rattle.hm_shell.proofs.ServeLemmas.{answered_printed, answered_stopped}
 use Rattle.hm_shell.proofs.serve.serve_line.Goals as goal
 

@@ -1,5 +1,5 @@
 use Rattle.std.proofs.Common.{arith}
-use Rattle.hm_tree_core.specs.Seen.{seen as seen_core}
+use Rattle.hm_core.specs.Seen.{seen as seen_core}
 use Rattle.hm_shell.proofs.PrintLemmas.{on_err}
 use Rattle.hm_shell.proofs.ServeLemmas.{ServedInPart-stopped, Serving-more}
 use Rattle.hm_shell.proofs.serve.serve_lines.Goals as goal

@@ -1,5 +1,5 @@
 use Rattle.std.proofs.Common.{◌≤◌}
-use Rattle.hm_tree_core.specs.Seen.{seen as seen_core}
+use Rattle.hm_core.specs.Seen.{seen as seen_core}
 use Rattle.hm_shell.specs.Serving.{Serving}
 use Rattle.hm_shell.proofs.serve.serve_lines.Given as goal
 

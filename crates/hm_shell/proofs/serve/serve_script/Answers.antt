@@ -1,4 +1,4 @@
-use Rattle.hm_tree_core.specs.Seen.{seen as seen_core}
+use Rattle.hm_core.specs.Seen.{seen as seen_core}
 use Rattle.hm_shell.proofs.PrintLemmas.{on_err}
 use Rattle.hm_shell.proofs.ServeLemmas.{ServedInPart-none, part_after, served_after}
 use Rattle.hm_shell.proofs.serve.serve_script.Goals as goal

@@ -1,5 +1,5 @@
 use Rattle.std.proofs.Common.{inl, refl}
-use Rattle.hm_tree_core.specs.Seen.{seen as seen_core}
+use Rattle.hm_core.specs.Seen.{seen as seen_core}
 use Rattle.hm_shell.specs.Seen.{seen}
 use Rattle.hm_shell.proofs.OpenLemmas.{StoppedOpening-mount, made_not_err}
 use Rattle.hm_shell.proofs.RunLemmas.{RunsAll-opened, StoppedRunning-opened}

@@ -1,5 +1,5 @@
 use Rattle.std.proofs.Common.{ap, inl, inr, refl}
-use Rattle.hm_tree_core.specs.Seen.{seen as seen_core}
+use Rattle.hm_core.specs.Seen.{seen as seen_core}
 use Rattle.hm_shell.proofs.volume.run_lines.Goals as goal
 use Rattle.hm_shell.proofs.volume.run_lines.Goals.{in-Ok, in-Err-outcome}
 

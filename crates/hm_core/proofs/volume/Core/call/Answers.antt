@@ -1,32 +1,60 @@
-use Rattle.std.proofs.Common.{◌+◌, refl, arith}
-use Rattle.hm_core.proofs.StepLemmas.{IsSound-step, entry_of, follows, opening-step}
+-- A call is answered and entered.
+use Rattle.std.proofs.Common.{List, ◌+◌, refl, sym, subst, ◌∙◌, arith}
+use Rattle.std.proofs.Math.Logic.{∥∥₁_elim, ∥∥₁_map}
+use Rattle.std.proofs.Props.{props}
+use Rattle.hm_model.specs.declared.entry.Entry.{Entry}
+use Rattle.hm_pages.specs.Store.{contents}
+use Rattle.hm_stored.specs.Heap.{heap_of}
+use Rattle.hm_core.specs.History.{IsLegalOver}
+use Rattle.hm_core.specs.Inside.{IsInOrder}
+use Rattle.hm_core.proofs.StepLemmas.{entry_of, least_left, no_entry, ordered_next}
 use Rattle.hm_core.proofs.volume.Core.call.Goals as goal
 
 pub invariant_of-self : goal.invariant_of-self
 invariant_of-self g c =
-    rw c.push_reserved.ensures.items (IsSound-step _ c.self.inside.header c.self.inside.slot c.self.inside.last.0 c.self.inside.directories c.answer-reply.new.directories c.self.inside.history.items c.args.lane c.args.line c.args.command c.answer-reply.result c.self.invariant (omega (arith, c.self.invariant.greatest)) c.requires.range c.answer-reply.ensures)
+    let s = c.args.self.now in
+    let t = c.answer_asked-reply.new.stored in
+    let h = heap_of (contents s.stored.space.pages.store) (g.D.Disk.told s.stored.space.disk) s.stored.space.books in
+    let h' = heap_of (contents t.space.pages.store) (g.D.Disk.told t.space.disk) t.space.books in
+    record {
+      ordered = ∥∥₁_map s.ordered (λ o.
+          subst (λ (l : List Entry). IsInOrder s.header s.slot (s.last.0 + 1) s.free h' l) (sym c.push_reserved.ensures.items)
+          (ordered_next s.header s.slot s.last.0 s.free h s.history.items h' s.stored.root t.root (g.D.Disk.faults s.stored.space.disk)
+          (g.D.Disk.faults t.space.disk) c.args.command c.answer_asked-reply.result
+          (entry_of (s.last.0 + 1) c.args.lane c.args.line c.args.command c.answer_asked-reply.result)
+          (let greatest = o.greatest in omega (arith, greatest)) c.answer_asked-reply.ensures.answers o));
+    }
 
-pub returns-clause-legal : goal.returns-clause-legal
-returns-clause-legal g c =
-    rw c.push_reserved.ensures.items (IsSound-step _ c.self.inside.header c.self.inside.slot c.self.inside.last.0 c.self.inside.directories c.answer-reply.new.directories c.self.inside.history.items c.args.lane c.args.line c.args.command c.answer-reply.result c.self.invariant (omega (arith, c.self.invariant.greatest)) c.requires.range c.answer-reply.ensures).legal
-
-pub returns-clause-steps : goal.returns-clause-steps
-returns-clause-steps g c = rw (← c.self.view_is) (
-  omega (arith, c.len-place.ensures, c.self.inside.history.ok),
-  record {
-    entry = entry_of (c.self.inside.last.0 + 1) c.args.lane c.args.line c.args.command c.answer-reply.result;
-    history = c.push_reserved.ensures.items;
-    lane_is = refl;
-    line_is = refl;
-    call_is = refl;
-    follows = follows _ c.self.inside.header c.self.inside.slot c.self.inside.last.0 c.self.inside.directories c.answer-reply.new.directories c.self.inside.history.items c.args.lane c.args.line c.args.command c.answer-reply.result c.self.invariant (omega (arith, c.self.invariant.greatest)) c.answer-reply.ensures;
-    spare = omega (arith, c.push_reserved.ensures.len, c.push_reserved.ensures.capacity);
-    rest = record {
-      opening = opening-step c.self.inside.header c.self.inside.last.0 c.self.inside.directories c.answer-reply.new.directories c.args.command c.answer-reply.result c.self.invariant.later c.answer-reply.ensures;
-      boundary = refl;
-      disk = refl;
-      input = refl;
-      output = refl;
-    };
-  },
-)
+pub returns : goal.returns
+returns g c =
+    let s = c.args.self.now in
+    let t = c.answer_asked-reply.new.stored in
+    let h = heap_of (contents s.stored.space.pages.store) (g.D.Disk.told s.stored.space.disk) s.stored.space.books in
+    let h' = heap_of (contents t.space.pages.store) (g.D.Disk.told t.space.disk) t.space.books in
+    let answers = c.answer_asked-reply.ensures.answers in
+    let entry = entry_of (s.last.0 + 1) c.args.lane c.args.line c.args.command c.answer_asked-reply.result in
+    record {
+      steps = (
+        omega (arith, c.len-place.ensures, s.history.ok),
+        record {
+          left = ∥∥₁_elim s.ordered (hlevel props) (λ o. let greatest = o.greatest in omega (arith, greatest));
+          entry = entry;
+          history = c.push_reserved.ensures.items;
+          of_line = (refl, refl, refl);
+          silent = answers.silent;
+          id = (refl, refl);
+          spare = omega (arith, c.push_reserved.ensures.len, c.push_reserved.ensures.capacity);
+          rest = record { header = refl; slot = refl; free = refl; start = refl; input = refl; output = refl };
+          never_falls = answers.counted;
+          goes_on = λ opening foreigners stands. record {
+            legal = subst (λ (l : List Entry). IsLegalOver s.free s.start (g.D.Disk.faults t.space.disk) l h' t.root (s.last.0 + 1) opening foreigners)
+                (sym c.push_reserved.ensures.items)
+                (answers.legal s.free s.start s.history.items opening foreigners entry
+                (least_left s.header s.slot s.last.0 s.free h s.history.items s.ordered)
+                (record { call_is = refl; reply_is = refl; own = refl }) stands.legal);
+            backed = answers.committed.backed (_, stands.legal.held.holds) stands.backed;
+            untouched = λ none. absurd (no_entry s.history.items entry (sym c.push_reserved.ensures.items ∙ none));
+          };
+        },
+      );
+    }

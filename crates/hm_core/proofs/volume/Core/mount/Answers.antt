@@ -1,17 +1,45 @@
-use Rattle.std.proofs.Common.{refl}
-use Rattle.hm_core.proofs.CoreLemmas.{IsSound-opened, StandsFor-opened}
+use Rattle.std.proofs.Common.{◌≤◌, List, Option, refl, sym, subst, ap, ◌∙◌, arith}
+use Rattle.std.specs.Prelude.{IfSome}
+use Rattle.hm_disk.specs.Crash.{Told}
+use Rattle.hm_header.specs.OnDisk.{HasHeader}
+use Rattle.hm_model.specs.declared.entry.Entry.{Entry}
+use Rattle.hm_pages.specs.Store.{contents}
+use Rattle.hm_stored.specs.Heap.{heap_of}
+use Rattle.hm_core.specs.Inside.{IsInOrder}
+use Rattle.hm_core.specs.Mounting.{IsReadFrom}
+use Rattle.hm_core.proofs.MountingLemmas.{is_mounted, ordered_first}
 use Rattle.hm_core.proofs.volume.Core.mount.Goals as goal
 
 pub invariant_of-result : goal.invariant_of-result
 invariant_of-result g c =
-    rw (c.new.ensures.items, c.open_volume.ensures.same) (IsSound-opened (g.D.Disk.told c.args.disk) c.in-Ok.field-0 c.in-Ok.ensures.ok)
+    let header = c.in-Ok.answer.0 in
+    let slot = c.in-Ok.answer.1 in
+    let free = c.in-Ok-open_space.free in
+    let s = c.over.result.space in
+    let h = heap_of (contents s.pages.store) (g.D.Disk.told s.disk) s.books in
+    let read : IsReadFrom (g.D.Disk.told c.read_header.new.disk) header free h =
+    subst (λ s. IsReadFrom (g.D.Disk.told c.read_header.new.disk) header free
+    (heap_of (contents s.pages.store) (g.D.Disk.told s.disk) s.books)) (sym c.over.ensures.space) c.in-Ok-open_space.ensures.ok in
+    record {
+      ordered = ∣ subst (λ (l : List Entry). IsInOrder header slot header.last.0 free h l) (sym c.new.ensures.items)
+          (ordered_first (g.D.Disk.told c.read_header.new.disk) header slot free h c.in-Ok.ensures.header.0 c.in-Ok.ensures.header.1
+          (subst (λ (told : Option Told). IfSome told (λ t. HasHeader t.bytes header slot)) (sym c.read_header.ensures.same) c.in-Ok.ensures.chosen) read) ∣₁;
+    }
 
-pub returns-in-Ok-clause-ok : goal.returns-in-Ok-clause-ok
-returns-in-Ok-clause-ok g c = record {
-  history = c.new.ensures.items;
-  told = c.open_volume.ensures.same;
-  stands = StandsFor-opened (g.D.Disk.told c.args.disk) c.in-Ok.field-0 c.in-Ok.ensures.ok;
-  boundary = refl;
-  input_is = refl;
-  output_is = refl;
-}
+pub returns-in-Ok-open_space-clause-ok : goal.returns-in-Ok-open_space-clause-ok
+returns-in-Ok-open_space-clause-ok g c =
+    let old = g.D.Disk.told c.args.disk in
+    let header = c.in-Ok.answer.0 in
+    let free = c.in-Ok-open_space.free in
+    let s = c.over.result.space in
+    let h = heap_of (contents s.pages.store) (g.D.Disk.told s.disk) s.books in
+    let same = ap (λ s. g.D.Disk.faults s.disk) c.over.ensures.space in
+    let start = c.faults.ensures ∙ ap g.D.Disk.faults c.disk.ensures ∙ sym same in
+    let read : IsReadFrom old header free h =
+    subst (λ s. IsReadFrom old header free (heap_of (contents s.pages.store) (g.D.Disk.told s.disk) s.books)) (sym c.over.ensures.space)
+    (subst (λ (told : Option Told). IsReadFrom told header free (heap_of (contents c.in-Ok-open_space.space.pages.store)
+    (g.D.Disk.told c.in-Ok-open_space.space.disk) c.in-Ok-open_space.space.books)) c.read_header.ensures.same
+    c.in-Ok-open_space.ensures.ok) in
+    let counted : g.D.Disk.faults c.args.disk ≤ g.D.Disk.faults s.disk =
+    omega (arith, c.read_header.ensures.cause.never_falls, c.in-Ok-open_space.ensures.faults, same) in
+    is_mounted _ c.new.ensures.items c.over.ensures.root refl start old (g.D.Disk.faults c.args.disk) counted c.in-Ok.ensures.chosen read

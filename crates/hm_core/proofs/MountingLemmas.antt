@@ -1,0 +1,198 @@
+-- The space of a volume that was read.
+use Rattle.std.proofs.Common.{◌≡◌, ℕ, ◌^◌, ◌≤◌, List, [], Option, Some, None, refl, sym, ap, subst, ◌∙◌, arith}
+use Rattle.std.specs.Prelude.{IfSome, IsSomeAnd, if◌then◌else◌}
+use Rattle.hm_types.specs.Elements.{FullElement}
+use Rattle.hm_types.specs.Faults.{IsCaused}
+use Rattle.hm_types.specs.Layout.{IsPool}
+use Rattle.hm_types.specs.declared.fault.Fault.{Fault}
+use Rattle.hm_types.specs.declared.fault.Fault.TheVariants.{Damaged, Media, NoMemory}
+use Rattle.hm_disk.specs.Crash.{Told}
+use Rattle.hm_fields.specs.Fields.{AreBytes}
+use Rattle.hm_fields.specs.Pages.{PageMap}
+use Rattle.hm_fields.specs.declared.states.State.{State}
+use Rattle.hm_fields.specs.declared.states.State.TheVariants.{Current}
+use Rattle.hm_header.specs.OnDisk.{HasHeader}
+use Rattle.hm_header.specs.Range.{IsHeader}
+use Rattle.hm_header.specs.declared.header.Header.{Header}
+use Rattle.hm_freemap.specs.Faults.{IsBadBlock, IsFreemapDamage, IsGoodBlock}
+use Rattle.hm_freemap.specs.Stand.{HoldsPoolEntry, Maps, entry_page, free_by}
+use Rattle.hm_pages.specs.Store.{Frame as PagesFrame, Store, in_state}
+use Rattle.hm_model.specs.Foreign.{Foreigners}
+use Rattle.hm_model.specs.Volume.{Volume}
+use Rattle.hm_model.specs.declared.entry.Entry.{Entry}
+use Rattle.hm_image.specs.Stands.{StandsFor}
+use Rattle.hm_load.specs.Damage.{IsWhole}
+use Rattle.hm_load.specs.Held.{HoldsImage}
+use Rattle.hm_load.specs.Loaded.{IsLoaded}
+use Rattle.hm_stored.specs.Basis.{Basis, IsFirm, fulls_in}
+use Rattle.hm_stored.specs.Heap.{Heap, free_of, heap_of, maps_of, room_of}
+use Rattle.hm_stored.specs.Mounted.{IsBooksOf}
+use Rattle.hm_stored.specs.Standing.{HoldsBy, basis_now}
+use Rattle.hm_stored.specs.Turn.{IsClosed, LooksSame}
+use Rattle.hm_stored.specs.declared.books.Books.{Books}
+use Rattle.hm_state.specs.Volume.{HoldsVolume}
+use Rattle.hm_state.proofs.BackedLemmas.{mounted_backed}
+use Rattle.hm_state.proofs.MountedLemmas.{mounted}
+use Rattle.hm_core.specs.Core.{StandsOver}
+use Rattle.hm_core.specs.History.{IsClear, IsLegalOver}
+use Rattle.hm_core.specs.Inside.{IsInOrder}
+use Rattle.hm_core.specs.Ledger.{IsPaid}
+use Rattle.hm_core.specs.Mounting.{BacksWhatStands, HoldsWhatStands, IsHeaderOn, IsReadFrom}
+use Rattle.hm_core.specs.Opened.{IsMounted}
+use Rattle.hm_core.specs.State.{CoreState}
+use Rattle.hm_core.proofs.BeginLemmas.{first}
+use Rattle.hm_core.proofs.LedgerLemmas.{paid_first}
+use Rattle.hm_core.proofs.CommittedLemmas.{backed_same}
+use Rattle.hm_core.proofs.LookedLemmas.{looked_closed, looked_committed, looked_free, looked_held}
+
+abbrev maps_with : PageMap → PageMap → PageMap → Maps
+maps_with committed frozen current = record { committed = committed; frozen = frozen; current = current }
+
+-- each page of a store is bytes, in each of its states
+abbrev ArePages : Store → Type 0
+ArePages s = (state : State) (at : ℕ) (page : List ℕ) → in_state s state at ≡ Some page → AreBytes page
+
+-- the space over the pages that were loaded from what a disk tells
+module _ (header : Header) (s : Store) (books : Books) (loaded : IsLoaded header s) (of_header : IsBooksOf header books) where
+  held_told : (told : Option Told) (h : Heap) → IfSome told (IsHeaderOn header) → IfSome told (λ t. HoldsImage t.bytes header s)
+      → LooksSame (heap_of s told books) h → IfSome told (HoldsWhatStands h header)
+  held_told None h counts image looks = tt
+  held_told (Some t) h counts image looks = λ volume stands.
+      looked_held (heap_of s (Some t) books) h looks header.root header.last.0 volume
+      (mounted t header counts.0 s books volume stands counts.1 loaded image of_header)
+
+  backed_told : (told : Option Told) (h : Heap) → ArePages s → IfSome told (IsHeaderOn header)
+      → IfSome told (λ t. HoldsImage t.bytes header s) → LooksSame (heap_of s told books) h → IfSome told (BacksWhatStands h)
+  backed_told None h bytes counts image looks = tt
+  backed_told (Some t) h bytes counts image looks = λ volume stands.
+      backed_same (heap_of s (Some t) books) h (looked_committed (heap_of s (Some t) books) h looks)
+      (mounted_backed t header counts.0 s books volume stands counts.1 loaded image of_header (bytes Current))
+
+  bigblocks_read : (told : Option Told) (h : Heap) → LooksSame (heap_of s told books) h → header.bigblocks ≡ h.bigblocks
+  unfolding heap_of
+  bigblocks_read told h looks = sym of_header.bigblocks ∙ sym (ap (λ (x : Heap). x.bigblocks) looks.rest)
+
+  idle_read : (told : Option Told) (h : Heap) → LooksSame (heap_of s told books) h → h.pages.boundary ≡ None
+  unfolding heap_of
+  idle_read told h looks = ap (λ (f : PagesFrame). f.boundary) looks.pages ∙ loaded.plain.flush.1
+
+  pub closed_first : (told : Option Told) → IsClosed (heap_of s told books)
+  unfolding heap_of
+  closed_first told = record { begin = loaded.plain.begin; whole = of_header.closed.1 }
+
+  disk_first : (told : Option Told) → (heap_of s told books).disk ≡ told
+  unfolding heap_of
+  disk_first told = refl
+
+  opened_is : (told disk : Option Told) (opened : Heap) → disk ≡ told → opened ≡ heap_of s disk books → opened ≡ heap_of s told books
+  opened_is told disk opened same is = subst (λ (o : Option Told). opened ≡ heap_of s o books) same is
+
+  whole_told : (told : Option Told) → IfSome told (λ t. HoldsImage t.bytes header s) → IfSome told (λ t. IsWhole t.bytes header)
+  whole_told None image = tt
+  whole_told (Some t) image = image.whole
+
+  pub read_from : (told disk : Option Told) (opened now : Heap) (free : ℕ) → ArePages s → IfSome told (IsHeaderOn header)
+      → IfSome told (λ t. HoldsImage t.bytes header s) → disk ≡ told → opened ≡ heap_of s disk books → LooksSame opened now
+      → free ≡ free_of opened → IsReadFrom told header free now
+  read_from told disk opened now free bytes counts image kept made looks counted =
+      let is : opened ≡ heap_of s told books = opened_is told disk opened kept made in
+      let same : LooksSame (heap_of s told books) now = subst (λ (h : Heap). LooksSame h now) is looks in
+      record {
+        closed = looked_closed (heap_of s told books) now same (closed_first told);
+        disk = ap (λ (h : Heap). h.disk) same.rest ∙ disk_first told;
+        free_is = counted ∙ ap free_of is ∙ sym (looked_free (heap_of s told books) now same);
+        holds = held_told told now counts image same;
+        backed = backed_told told now bytes counts image same;
+        whole = whole_told told image;
+        bigblocks = bigblocks_read told now same;
+        idle = idle_read told now same;
+      }
+
+  -- each big-block of its pool is good
+  entry_kept : (block : ℕ) → IsPool header.bigblocks block → (map : PageMap) → s.current ≡ map
+      → HoldsPoolEntry (entry_page map block) block
+  entry_kept block pool map is =
+      let entry = loaded.entries block pool.1 in
+      subst (λ (m : PageMap). HoldsPoolEntry (entry_page m block) block) is (record { entry = entry.entry.pool pool; zero = entry.zero })
+
+  good : (block : ℕ) → IsPool header.bigblocks block
+      → IsGoodBlock header.bigblocks header.append (maps_with s.committed s.frozen s.current) block
+  good block pool = record {
+    pool = pool;
+    committed = entry_kept block pool s.committed loaded.plain.current;
+    frozen = entry_kept block pool s.frozen (loaded.plain.current ∙ sym loaded.plain.frozen);
+    current = entry_kept block pool s.current refl;
+    zone = (loaded.entries block pool.1).appended;
+  }
+
+  bad_nowhere : (told : Option Told) (at kind : ℕ)
+      → IsBadBlock (heap_of s told books).bigblocks (heap_of s told books).append (IsPool (heap_of s told books).bigblocks)
+      (maps_of (heap_of s told books)) at kind → ⊥
+  unfolding heap_of
+  bad_nowhere told at kind damage =
+      damage.bad
+      (subst (λ (n : ℕ). IsGoodBlock n books.append (maps_with s.committed s.frozen s.current) damage.block) (sym of_header.bigblocks)
+      (subst (λ (l : List ℕ). IsGoodBlock header.bigblocks l (maps_with s.committed s.frozen s.current) damage.block)
+      (sym of_header.append.1) (good damage.block (subst (λ (n : ℕ). IsPool n damage.block) of_header.bigblocks damage.looked))))
+
+  -- so damage of its freemap is not told
+  pub no_damage : (told : Option Told) (opened : Heap) (fault : Fault) → opened ≡ heap_of s told books
+      → IsFreemapDamage opened.bigblocks opened.append (IsPool opened.bigblocks) (maps_of opened) fault → IsCaused 0 0 fault
+      → fault ≡ NoMemory
+  no_damage told opened (Media before after) is damage caused =
+      let rose = caused.rose in
+      let end = caused.end in
+      absurd (omega (arith, rose, end))
+  no_damage told opened (Damaged at kind) is damage caused =
+      absurd (bad_nowhere told at kind (subst (λ (h : Heap). IsBadBlock h.bigblocks h.append (IsPool h.bigblocks) (maps_of h) at kind) is damage))
+  no_damage told opened NoMemory is damage caused = refl
+
+-- what always holds of a core, as it is mounted
+pub ordered_first : (told : Option Told) (header : Header) (slot free : ℕ) (h : Heap) → IsHeader header → slot ≤ 1
+    → IfSome told (λ t. HasHeader t.bytes header slot) → IsReadFrom told header free h → IsInOrder header slot header.last.0 free h []
+ordered_first told header slot free h range low chosen read = record {
+  header_is = range;
+  slot_is = low;
+  on_disk = subst (λ (d : Option Told). IfSome d (λ t. HasHeader t.bytes header slot)) (sym read.disk) chosen;
+  bigblocks = read.bigblocks;
+  closed = read.closed;
+  idle = read.idle;
+  later = omega arith;
+  greatest = range.last.1;
+  paid = subst (λ (n : ℕ). IsPaid free n 0 (room_of h)) read.free_is (paid_first free (room_of h));
+}
+
+-- a core over a space that was read, with no history
+module _ {D I O : Type 0} (core : CoreState D I O) (new : core.history ≡ []) (root : core.root ≡ core.header.root)
+    (last : core.last ≡ core.header.last.0) (start : core.start ≡ core.faults) where
+  stands_over : (told : Option Told) → core.heap.disk ≡ told → IfSome told (BacksWhatStands core.heap) → IfSome told (HoldsWhatStands core.heap core.header)
+      → IfSome told (λ t. (opening : Volume) (foreigners : Foreigners) → StandsFor t.bytes opening → IsClear opening
+      → StandsOver core opening foreigners)
+  stands_over None disk backed holds = tt
+  stands_over (Some t) disk backed holds = λ opening foreigners stands clear.
+      let held : HoldsVolume core.heap core.root core.last opening =
+      subst (λ (n : ℕ). HoldsVolume core.heap n core.last opening) (sym root)
+      (subst (λ (n : ℕ). HoldsVolume core.heap core.header.root n opening) (sym last) (holds opening stands)) in
+      record {
+        legal = subst
+            (λ (l : List Entry). IsLegalOver core.free core.start core.faults l core.heap core.root core.last opening foreigners)
+            (sym new)
+            (first core.free core.start core.faults core.heap core.root core.last opening foreigners (omega (arith, start)) held clear);
+        backed = backed opening stands;
+        untouched = λ none. subst (λ (d : Option Told). IfSome d (λ t. StandsFor t.bytes opening)) (sym disk) stands;
+      }
+
+  pub is_mounted : (told : Option Told) (faults : ℕ) → faults ≤ core.faults
+      → IfSome told (λ t. HasHeader t.bytes core.header core.slot) → IsReadFrom told core.header core.free core.heap
+      → IsMounted told faults core.input core.output core
+  is_mounted told faults counted chosen read = record {
+    history = new;
+    told = read.disk;
+    counts = (counted, start);
+    last = last;
+    free = read.free_is;
+    counting = chosen;
+    whole = read.whole;
+    stands = stands_over told read.disk read.backed read.holds;
+    streams = (refl, refl);
+  }

@@ -1,0 +1,118 @@
+-- A call that tells the space is the next one of each history.
+use Rattle.std.proofs.Common.{◌≡◌, ℕ, ◌+◌, ◌-◌, ◌^◌, ◌≤◌, ◌<◌, Bool, true, List, [], ◌∷◌, ◌++◌, refl, sym, ap, subst, ◌∙◌, cond, count_by, length, arith}
+use Rattle.std.specs.Prelude.{IsSome}
+use Rattle.std.proofs.lemmas.List.FromFn.{length-range_with_len}
+use Rattle.std.proofs.lemmas.List.Sums.{count_by-le-length}
+use Rattle.hm_types.specs.Faults.{IsCaused}
+use Rattle.hm_types.specs.Layout.{IsPool, first_pool}
+use Rattle.hm_types.specs.References.{pool}
+use Rattle.hm_types.specs.declared.fault.Fault.{Fault}
+use Rattle.hm_types.specs.declared.fault.Fault.TheVariants.{Damaged as damage, Media as device, NoMemory as no_memory}
+use Rattle.hm_types.specs.declared.limits.TheConstants.{GREATEST_ID}
+use Rattle.hm_freemap.specs.Faults.{IsFreemapDamage}
+use Rattle.hm_freemap.specs.Stand.{free_by, is_free_by}
+use Rattle.hm_freemap.proofs.GoodLemmas.{good_block}
+use Rattle.hm_model.specs.Foreign.{Foreigners}
+use Rattle.hm_model.specs.Needs.{floor}
+use Rattle.hm_model.specs.Volume.{Volume}
+use Rattle.hm_model.specs.declared.command.Command.TheVariants.{Df}
+use Rattle.hm_model.specs.declared.entry.Entry.{Entry}
+use Rattle.hm_model.specs.declared.reply.Reply.{Reply}
+use Rattle.hm_model.specs.declared.reply.Reply.TheVariants.{NoMemory, Space}
+use Rattle.hm_stored.specs.Basis.{IsFirm, states_of}
+use Rattle.hm_stored.specs.Heap.{Heap, content_of, free_of, maps_of, room_of}
+use Rattle.hm_stored.specs.Standing.{basis_now}
+use Rattle.hm_stored.specs.Turn.{IsClosed, LooksSame}
+use Rattle.hm_core.specs.Answer.{Answers, KeepsCommitted}
+use Rattle.hm_core.specs.History.{IsLegalOver}
+use Rattle.hm_core.specs.Ledger.{IsPaid}
+use Rattle.hm_core.specs.Told.{reply_to}
+use Rattle.hm_core.proofs.AnswerLemmas.{fault_silent}
+use Rattle.hm_core.proofs.CommittedLemmas.{backed_same, kept_same}
+use Rattle.hm_core.proofs.LookedLemmas.{held_firm, looked_closed, looked_committed, looked_free, looked_legal, looked_room}
+use Rattle.hm_core.proofs.SpaceLemmas.{space_refused, space_told}
+
+module _ (old new : Heap) (root root' faults faults' : ℕ) (closed : IsClosed old) (looks : LooksSame old new) (stays : root' ≡ root) (same : faults' ≡ faults) where
+  counted : faults ≤ faults'
+  counted = omega (arith, same)
+
+  paid_same : (first calls : ℕ) → IsPaid first (free_of old) calls (room_of old) → IsPaid first (free_of new) (calls + 1) (room_of new)
+  paid_same first calls paid =
+      let later : IsPaid first (free_of old) (calls + 1) (room_of old) = record {
+        begun = paid.begun;
+        filled = λ zone. (let filled = paid.filled zone in omega (arith, filled));
+        paid = paid.paid;
+      } in
+      subst (λ (room : ℕ → ℕ). IsPaid first (free_of new) (calls + 1) room) (sym (looked_room old new looks))
+      (subst (λ (n : ℕ). IsPaid first n (calls + 1) (room_of old)) (sym (looked_free old new looks)) later)
+
+  -- no more big-blocks are free than the pool has
+  free_most : free_of old ≤ old.bigblocks - first_pool old.bigblocks
+  free_most =
+      let whole : free_of old ≡ free_by old.bigblocks old.append (maps_of old) =
+      ap (λ (w : Bool). cond w (free_by old.bigblocks old.append (maps_of old)) (2 ^ 32)) closed.whole in
+      let most : free_by old.bigblocks old.append (maps_of old) ≤ length (pool old.bigblocks) =
+      count_by-le-length (is_free_by old.append (maps_of old)) (pool old.bigblocks) in
+      let long : length (pool old.bigblocks) ≡ old.bigblocks - first_pool old.bigblocks =
+      length-range_with_len (first_pool old.bigblocks) (old.bigblocks - first_pool old.bigblocks) in
+      omega (arith, whole, most, long)
+
+  -- over a volume that stands the only fault is want of memory
+  memory_alone : (fault : Fault) → IsFreemapDamage old.bigblocks old.append (IsPool old.bigblocks) (maps_of old) fault → IsCaused 0 0 fault
+      → IsFirm (basis_now old root) → reply_to fault ≡ NoMemory
+  memory_alone (device before after) bad caused firm =
+      let rose = caused.rose in
+      let end = caused.end in
+      absurd (omega (arith, rose, end))
+  memory_alone (damage at kind) bad caused firm =
+      absurd (bad.bad (good_block old.bigblocks old.append (maps_of old) (states_of (basis_now old root)) firm.stand bad.block bad.looked))
+  memory_alone no_memory bad caused firm = refl
+
+  kept : KeepsCommitted (IsSome (content_of old)) old new
+  kept = kept_same old new (looked_committed old new looks)
+
+  module _ (last : ℕ) (left : last < GREATEST_ID) where
+    -- what was legal before the look is so after it
+    there : (first start : ℕ) (history : List Entry) (opening : Volume) (foreigners : Foreigners)
+        → IsLegalOver first start faults' history old root (last + 1) opening foreigners
+        → IsLegalOver first start faults' history new root' (last + 1) opening foreigners
+    there first start history opening foreigners legal =
+        subst (λ (r : ℕ). IsLegalOver first start faults' history new r (last + 1) opening foreigners) (sym stays)
+        (looked_legal old new looks first start faults' history root (last + 1) opening foreigners legal)
+
+    pub told_answers : (space free : ℕ) → space ≡ old.bigblocks - first_pool old.bigblocks → free ≡ free_of old
+        → Answers faults faults' last Df old new root root' (Space space free)
+    told_answers space free pool_is is = record {
+      closed = looked_closed old new looks closed;
+      counted = counted;
+      silent = refl;
+      committed = record {
+        bigblocks = kept.bigblocks;
+        boundary = kept.boundary;
+        header = kept.header;
+        backed = λ held. backed_same old new (looked_committed old new looks);
+      };
+      paid = paid_same;
+      legal = λ first start history opening foreigners entry enough of so_far.
+          there first start (history ++ entry ∷ []) opening foreigners (space_told first start faults faults' history old root last opening foreigners so_far counted left entry of.call_is of.own
+          (space, free, of.reply_is, pool_is, omega (arith, is, enough), omega (arith, is, pool_is, free_most)));
+    }
+
+    pub failed_answers : (fault : Fault) → IsFreemapDamage old.bigblocks old.append (IsPool old.bigblocks) (maps_of old) fault → IsCaused 0 0 fault
+        → Answers faults faults' last Df old new root root' (reply_to fault)
+    failed_answers fault bad caused = record {
+      closed = looked_closed old new looks closed;
+      counted = counted;
+      silent = fault_silent fault;
+      committed = record {
+        bigblocks = kept.bigblocks;
+        boundary = kept.boundary;
+        header = kept.header;
+        backed = λ held. backed_same old new (looked_committed old new looks);
+      };
+      paid = paid_same;
+      legal = λ first start history opening foreigners entry enough of so_far.
+          let firm = held_firm old root so_far.held.holds.elements.0 so_far.held.holds.elements.1 in
+          there first start (history ++ entry ∷ []) opening foreigners (space_refused first start faults faults' history old root last opening foreigners so_far counted left entry of.call_is of.own
+          (of.reply_is ∙ memory_alone fault bad caused firm));
+    }

@@ -1,0 +1,125 @@
+-- A call is answered, and kept or dropped.
+use Rattle.std.proofs.Common.{◌∙◌, inr, refl, sym, ap, subst}
+use Rattle.hm_pages.specs.Store.{contents}
+use Rattle.hm_stored.specs.Heap.{heap_of}
+use Rattle.hm_core.specs.Told.{TellsFailure}
+use Rattle.hm_model.specs.Reply.{told_boundary}
+use Rattle.hm_core.proofs.AnswerLemmas.{balanced_begun, begun_some, caused_over, dropped_answers, fault_silent, fault_told, kept_answers, known_begun}
+use Rattle.hm_core.proofs.calls.answer_over.Goals as goal
+
+pub answer_next-requires-clause-balanced : goal.answer_next-requires-clause-balanced
+answer_next-requires-clause-balanced g c =
+    let s = c.args.stored.now in
+    let s1 = c.begin.new.self in
+    balanced_begun (heap_of (contents s.space.pages.store) (g.D.Disk.told s.space.disk) s.space.books)
+    (heap_of (contents s1.space.pages.store) (g.D.Disk.told s1.space.disk) s1.space.books) s.root s1.root c.args.last.0 c.requires.closed s.space.kept
+    c.begin.ensures.turn c.begin.ensures.root
+
+pub answer_next-requires-clause-known : goal.answer_next-requires-clause-known
+answer_next-requires-clause-known g c =
+    let s = c.args.stored.now in
+    let s1 = c.begin.new.self in
+    known_begun (heap_of (contents s.space.pages.store) (g.D.Disk.told s.space.disk) s.space.books)
+    (heap_of (contents s1.space.pages.store) (g.D.Disk.told s1.space.disk) s1.space.books) s.root s1.root c.args.last.0 c.requires.closed s.space.kept
+    c.begin.ensures.turn c.begin.ensures.root
+
+pub keep-requires-clause-opened : goal.keep-requires-clause-opened
+unfolding heap_of
+keep-requires-clause-opened g c =
+    let s = c.args.stored.now in
+    let s1 = c.begin.new.self in
+    let s2 = c.answer_next.new.store in
+    begun_some (heap_of (contents s.space.pages.store) (g.D.Disk.told s.space.disk) s.space.books)
+    (heap_of (contents s1.space.pages.store) (g.D.Disk.told s1.space.disk) s1.space.books)
+    (heap_of (contents s2.space.pages.store) (g.D.Disk.told s2.space.disk) s2.space.books) s.root c.args.last.0 c.begin.ensures.turn
+    c.answer_next.ensures.borrowed.1
+
+pub undo-requires : goal.undo-requires
+unfolding heap_of
+undo-requires g c =
+    let s = c.args.stored.now in
+    let s1 = c.begin.new.self in
+    let s2 = c.answer_next.new.store in
+    record {
+      opened = begun_some (heap_of (contents s.space.pages.store) (g.D.Disk.told s.space.disk) s.space.books)
+          (heap_of (contents s1.space.pages.store) (g.D.Disk.told s1.space.disk) s1.space.books)
+          (heap_of (contents s2.space.pages.store) (g.D.Disk.told s2.space.disk) s2.space.books) s.root c.args.last.0 c.begin.ensures.turn
+          c.answer_next.ensures.borrowed.1;
+    }
+
+pub undo-requires-in-Err : goal.undo-requires-in-Err
+unfolding heap_of
+undo-requires-in-Err g c =
+    let s = c.args.stored.now in
+    let s1 = c.begin.new.self in
+    let s2 = c.answer_next.new.store in
+    record {
+      opened = begun_some (heap_of (contents s.space.pages.store) (g.D.Disk.told s.space.disk) s.space.books)
+          (heap_of (contents s1.space.pages.store) (g.D.Disk.told s1.space.disk) s1.space.books)
+          (heap_of (contents s2.space.pages.store) (g.D.Disk.told s2.space.disk) s2.space.books) s.root c.args.last.0 c.begin.ensures.turn
+          c.answer_next.ensures.borrowed.1;
+    }
+
+pub returns-in-Ok : goal.returns-in-Ok
+unfolding heap_of
+returns-in-Ok g c =
+    let s = c.args.stored.now in
+    let s1 = c.begin.new.self in
+    let s2 = c.answer_next.new.store in
+    let s3 = c.keep.new.self in
+    record {
+      answers = kept_answers (λ s. heap_of (contents s.space.pages.store) (g.D.Disk.told s.space.disk) s.space.books) (λ s. s.root)
+          (heap_of (contents s.space.pages.store) (g.D.Disk.told s.space.disk) s.space.books) s.root c.args.last.0 s1 s2
+          (heap_of (contents s3.space.pages.store) (g.D.Disk.told s3.space.disk) s3.space.books) s3.root c.args.command.now c.in-Ok.reply
+          (g.D.Disk.faults s.space.disk) (g.D.Disk.faults s3.space.disk) c.requires.closed s.space.kept c.begin.ensures.turn c.begin.ensures.root
+          c.answer_next.ensures.borrowed.1 c.requires.served.0 c.requires.left c.answer_next.result
+          (caused_over _ _ _ _ (g.D.Disk.faults s.space.disk) (g.D.Disk.faults s3.space.disk) c.answer_next.result
+          (ap g.D.Disk.faults c.begin.ensures.disk) (ap g.D.Disk.faults c.keep.ensures.disk) c.answer_next.ensures.cause)
+          (sym c.is_whole.ensures ∙ c.if-is_whole.true) c.keep.ensures.turn c.keep.ensures.content c.keep.ensures.root c.pages_are_bytes.ensures s2.tree
+          c.in-Ok.ensures.step c.in-Ok.ensures.charges c.in-Ok.ensures.possible;
+    }
+
+pub returns-in-Ok-2 : goal.returns-in-Ok-2
+unfolding heap_of
+returns-in-Ok-2 g c =
+    let s = c.args.stored.now in
+    let s1 = c.begin.new.self in
+    let s2 = c.answer_next.new.store in
+    let s3 = c.undo.new.self in
+    record {
+      answers = dropped_answers (λ s. heap_of (contents s.space.pages.store) (g.D.Disk.told s.space.disk) s.space.books) (λ s. s.root)
+          (heap_of (contents s.space.pages.store) (g.D.Disk.told s.space.disk) s.space.books) s.root c.args.last.0 s1 s2
+          (heap_of (contents s3.space.pages.store) (g.D.Disk.told s3.space.disk) s3.space.books) s3.root c.args.command.now _
+          (g.D.Disk.faults s.space.disk) (g.D.Disk.faults s3.space.disk) c.requires.closed s.space.kept c.begin.ensures.turn c.begin.ensures.root
+          c.answer_next.ensures.borrowed.1 c.requires.served.0 c.requires.left c.answer_next.result
+          (caused_over _ _ _ _ (g.D.Disk.faults s.space.disk) (g.D.Disk.faults s3.space.disk) c.answer_next.result
+          (ap g.D.Disk.faults c.begin.ensures.disk) (ap g.D.Disk.faults c.undo.ensures.disk) c.answer_next.ensures.cause)
+          c.undo.ensures.turn c.undo.ensures.root c.undo.ensures.held (λ volume holds. inr refl) refl;
+    }
+
+pub returns-in-Err : goal.returns-in-Err
+unfolding heap_of
+returns-in-Err g c =
+    let s = c.args.stored.now in
+    let s1 = c.begin.new.self in
+    let s2 = c.answer_next.new.store in
+    let s3 = c.undo-in-Err.new.self in
+    let cause =
+    caused_over _ _ _ _ (g.D.Disk.faults s.space.disk) (g.D.Disk.faults s3.space.disk) c.answer_next.result
+    (ap g.D.Disk.faults c.begin.ensures.disk) (ap g.D.Disk.faults c.undo-in-Err.ensures.disk) c.answer_next.ensures.cause in
+    record {
+      answers = dropped_answers (λ s. heap_of (contents s.space.pages.store) (g.D.Disk.told s.space.disk) s.space.books) (λ s. s.root)
+          (heap_of (contents s.space.pages.store) (g.D.Disk.told s.space.disk) s.space.books) s.root c.args.last.0 s1 s2
+          (heap_of (contents s3.space.pages.store) (g.D.Disk.told s3.space.disk) s3.space.books) s3.root c.args.command.now c.failure.result
+          (g.D.Disk.faults s.space.disk) (g.D.Disk.faults s3.space.disk) c.requires.closed s.space.kept c.begin.ensures.turn c.begin.ensures.root
+          c.answer_next.ensures.borrowed.1 c.requires.served.0 c.requires.left c.answer_next.result cause
+          c.undo-in-Err.ensures.turn c.undo-in-Err.ensures.root c.undo-in-Err.ensures.held
+          (λ volume holds.
+          subst (λ r. TellsFailure (g.D.Disk.faults s.space.disk) (g.D.Disk.faults s3.space.disk) r) (sym c.failure.ensures)
+          (fault_told (λ s. heap_of (contents s.space.pages.store) (g.D.Disk.told s.space.disk) s.space.books) (λ s. s.root)
+          (heap_of (contents s.space.pages.store) (g.D.Disk.told s.space.disk) s.space.books) s.root c.args.last.0 s1 s2
+          (heap_of (contents s3.space.pages.store) (g.D.Disk.told s3.space.disk) s3.space.books) s3.root c.args.command.now c.failure.result
+          (g.D.Disk.faults s.space.disk) (g.D.Disk.faults s3.space.disk) c.requires.closed s.space.kept c.begin.ensures.turn c.begin.ensures.root
+          c.answer_next.ensures.borrowed.1 c.requires.served.0 c.requires.left c.answer_next.result cause c.in-Err.fault c.in-Err.is volume holds))
+          (ap told_boundary c.failure.ensures ∙ fault_silent c.in-Err.fault);
+    }

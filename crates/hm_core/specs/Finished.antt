@@ -1,0 +1,49 @@
+-- What ending the use of a core makes of its disk.
+use Rattle.std.specs.Prelude.{◌≡◌, ◌≢◌, ℕ, ◌+◌, ◌-◌, ◌%◌, ◌^◌, List, [], Option, IfErr, IfSome, IsOk, OnOk, Result}
+use Rattle.hm_types.specs.Faults.{HasFaultCause, IsUndamaged}
+use Rattle.hm_types.specs.Told.{BothTell}
+use Rattle.hm_types.specs.declared.fault.Fault.{Fault}
+use Rattle.hm_disk.specs.Crash.{Told}
+use Rattle.hm_header.specs.OnDisk.{HasHeader}
+use Rattle.hm_header.specs.declared.header.Header.{Header}
+use Rattle.hm_image.specs.Stands.{StandsFor}
+use Rattle.hm_model.specs.Foreign.{Foreigners}
+use Rattle.hm_model.specs.Volume.{Volume}
+use Rattle.hm_core.specs.Core.{StandsOver, volume_after}
+use Rattle.hm_core.specs.State.{CoreState}
+
+module _ {D I O : Type 0} where
+  -- the header that is written next: every other field is that of the one before
+  abbrev pub next_header : CoreState D I O → Header
+  next_header core = record core.header {
+    generation = (core.header.generation + 1) % 2 ^ 64;
+    last = record { 0 = core.last };
+    root = core.root;
+    append = core.heap.append;
+  }
+
+  -- whatever volume the run began on, the bytes stand for the volume after the history
+  abbrev pub LeavesVolume : CoreState D I O → List ℕ → Type 0
+  LeavesVolume core bytes = (opening : Volume) (foreigners : Foreigners) (stands : StandsOver core opening foreigners)
+      → StandsFor bytes (volume_after stands)
+
+  -- the next header counts, in the other slot, and nothing is unsettled
+  pub record HasNextHeader (core : CoreState D I O) (t : Told) : Type 0 where
+    pub counts : HasHeader t.bytes (next_header core) (1 - core.slot)
+    pub settled : t.unsettled ≡ []
+
+  -- Where nothing was done, nothing is written. Else the disk stands for the volume as it is now. Damage is told of no volume
+  -- that stood.
+  pub record IsFinished (core : CoreState D I O) (told : Option Told) (faults : ℕ) (result : Result (Unit {0}) Fault) : Type 0 where
+    pub nothing : core.history ≡ [] → IsOk result × (told ≡ core.heap.disk)
+    pub volume : OnOk result (BothTell core.heap.disk told (λ _ t. LeavesVolume core t.bytes))
+    pub header : OnOk result (core.history ≢ [] → BothTell core.heap.disk told (λ _ t. HasNextHeader core t))
+    pub cause : HasFaultCause core.faults faults result
+    pub whole : (opening : Volume) (foreigners : Foreigners) → StandsOver core opening foreigners
+        → IfSome core.heap.disk (λ _. IfErr result IsUndamaged)
+
+  -- these are the disk and the streams of a core
+  pub record HandsBack (core : CoreState D I O) (disk : D) (input : I) (output : O) : Type 0 where
+    pub disk_is : disk ≡ core.disk
+    pub input_is : input ≡ core.input
+    pub output_is : output ≡ core.output

@@ -1,0 +1,38 @@
+// A call of any command that is served.
+ghost use Rattle.std.specs.Prelude.{◌<◌};
+ghost use Rattle.hm_types.specs.declared.limits.TheConstants.{GREATEST_ID};
+ghost use Rattle.hm_pages.specs.Store.{contents};
+ghost use Rattle.hm_stored.specs.Heap.{heap_of};
+ghost use Rattle.hm_stored.specs.Turn.{IsClosed};
+ghost use Rattle.hm_core.specs.Answer.{Answers};
+ghost use Rattle.hm_core.specs.Served.{IsAsked};
+
+use crate::calls::answer_over;
+use crate::space::tell_space;
+use hm_disk::Disk;
+use hm_model::{Command, Reply};
+use hm_stored::Stored;
+use hm_types::Id;
+use std::alloc::Global;
+
+/// Answers a call by the id after `last`, over the store of a volume in which no call is open.
+pub(crate) fn answer_asked<D: Disk>(
+    alloc: Global,
+    stored: &mut Stored<D>,
+    command: &Command,
+    last: Id,
+) -> Reply
+    requires closed { IsClosed (heap_of (contents stored.old.space.pages.store)
+        (D.told stored.old.space.disk) stored.old.space.books) }
+    requires asked { IsAsked command.now }
+    requires left { last.0 < GREATEST_ID }
+    ensures answers { Answers (D.faults stored.old.space.disk) (D.faults stored.new.space.disk) last.0 command.now
+        (heap_of (contents stored.old.space.pages.store) (D.told stored.old.space.disk) stored.old.space.books)
+        (heap_of (contents stored.new.space.pages.store) (D.told stored.new.space.disk) stored.new.space.books)
+        stored.old.root stored.new.root result }
+{
+    match command {
+        Command::Df => tell_space(stored),
+        _ => answer_over(alloc, stored, command, last),
+    }
+}

@@ -1,0 +1,65 @@
+// One call over a store.
+ghost use Rattle.std.specs.Prelude.{◌≡◌, ◌+◌, ◌<◌};
+ghost use Rattle.hm_types.specs.declared.limits.TheConstants.{GREATEST_ID};
+ghost use Rattle.hm_model.specs.Forms.{IsInRange};
+ghost use Rattle.hm_pages.specs.Store.{contents};
+ghost use Rattle.hm_calls.specs.Commands.{IsOnTrees};
+ghost use Rattle.hm_stored.specs.Heap.{heap_of};
+ghost use Rattle.hm_stored.specs.Turn.{IsClosed};
+ghost use Rattle.hm_core.specs.Answer.{Answers};
+ghost use Rattle.hm_core.specs.Told.{reply_to};
+
+use hm_disk::Disk;
+use hm_model::{Command, Reply};
+use hm_step::answer_next;
+use hm_stored::Stored;
+use hm_types::{Fault, Id};
+use std::alloc::Global;
+
+/// Answers a call on names or file bytes by the id after `last`, over the store of a volume in which no
+/// call is open, and keeps what it changed, or drops it all where the device failed or memory was
+/// refused. Each history that was legal over an opening volume goes on legally with the entry of the
+/// call, where no fewer big-blocks are free than its least.
+pub fn answer_over<D: Disk>(
+    alloc: Global,
+    stored: &mut Stored<D>,
+    command: &Command,
+    last: Id,
+) -> Reply
+    requires closed { IsClosed (heap_of (contents stored.old.space.pages.store)
+        (D.told stored.old.space.disk) stored.old.space.books) }
+    requires served { IsOnTrees command.now × IsInRange command.now }
+    requires left { last.0 < GREATEST_ID }
+    ensures answers { Answers (D.faults stored.old.space.disk) (D.faults stored.new.space.disk) last.0 command.now
+        (heap_of (contents stored.old.space.pages.store) (D.told stored.old.space.disk) stored.old.space.books)
+        (heap_of (contents stored.new.space.pages.store) (D.told stored.new.space.disk) stored.new.space.books)
+        stored.old.root stored.new.root result }
+{
+    stored.begin(last);
+    match answer_next(alloc, stored, command, last, None) {
+        Ok(reply) if stored.is_whole() => {
+            stored.keep();
+            stored.pages_are_bytes();
+            reply
+        }
+        Ok(_) => {
+            stored.undo();
+            Reply::NoMemory
+        }
+        Err(fault) => {
+            stored.undo();
+            failure(fault)
+        }
+    }
+}
+
+/// The reply that tells of a fault.
+pub(crate) fn failure(fault: Fault) -> Reply
+    ensures { result ≡ reply_to fault }
+{
+    match fault {
+        Fault::Media { before, after } => Reply::Media { before, after },
+        Fault::Damaged { at, kind } => Reply::Damaged { at, kind },
+        Fault::NoMemory => Reply::NoMemory,
+    }
+}

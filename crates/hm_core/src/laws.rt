@@ -1,0 +1,181 @@
+// What a core that answers by a store over a space rests on: each function states one law, and does nothing.
+ghost use Rattle.std.specs.Prelude.{◌≡◌, ℕ, ◌+◌, ◌^◌, ◌<◌, ◌≤◌, [], ◌∷◌, ◌++◌};
+ghost use Rattle.std.specs.Prelude.{IfErr, IfSome, IsTrue, true, List, Option, Result, length};
+ghost use Rattle.hm_types.specs.Elements.{FullElement};
+ghost use Rattle.hm_types.specs.Space.{reserve_of};
+ghost use Rattle.hm_types.specs.declared.fault.Fault.{Fault};
+ghost use Rattle.hm_types.specs.declared.limits.TheConstants.{BIGBLOCK_BYTES, GREATEST_ID};
+ghost use Rattle.hm_btree.specs.Tree.{HoldsTree, told_elements};
+ghost use Rattle.hm_key.specs.Charges.{Charges};
+ghost use Rattle.hm_key.specs.Extents.{Extent};
+ghost use Rattle.hm_key.specs.Versions.{IsBelow};
+ghost use Rattle.hm_key.specs.declared.element.Element.{Element};
+ghost use Rattle.hm_cursor.specs.Told.{HasReadingCause};
+ghost use Rattle.hm_model.specs.After.{Event};
+ghost use Rattle.hm_model.specs.Foreign.{Foreigners};
+ghost use Rattle.hm_model.specs.Legal.{IsLegal};
+ghost use Rattle.hm_model.specs.Needs.{floor};
+ghost use Rattle.hm_model.specs.Sites.{Parsed, ReadsWords};
+ghost use Rattle.hm_model.specs.Volume.{Volume};
+ghost use Rattle.hm_model.specs.declared.command.Command.{Command};
+ghost use Rattle.hm_model.specs.declared.command.Command.TheVariants.{Df};
+ghost use Rattle.hm_model.specs.declared.entry.Entry.{Entry};
+ghost use Rattle.hm_image.specs.StandFor.{StandFor};
+ghost use Rattle.hm_stored.specs.Content.{DropsContent, KeepsContent, OpensContent};
+ghost use Rattle.hm_stored.specs.Heap.{Heap, content_of, extents_in, pages_of};
+ghost use Rattle.hm_stored.specs.Known.{AreKnown, is_known};
+ghost use Rattle.hm_stored.specs.Standing.{Holds};
+ghost use Rattle.hm_stored.specs.Told.{elements_told};
+ghost use Rattle.hm_core.specs.Calls.{Fails, IsNextCall, Serves};
+ghost use Rattle.hm_core.specs.History.{IsClear, IsLegalOver, setting_of};
+ghost use Rattle.hm_core.specs.Ledger.{IsPaid};
+ghost use Rattle.hm_core.specs.Told.{
+  ArePages,
+  HoldsSame,
+  HoldsTold,
+  OpensStore,
+  TellsFailure,
+  TellsHeld,
+  TellsSpace,
+  reply_to,
+};
+ghost use Rattle.hm_state.specs.Volume.{HoldsVolume};
+
+use hm_key::{ElementStore, Extents};
+
+/// A core begins with the empty history, over each volume that its space holds and of which all trees
+/// are certain, whatever foreign masters there are.
+pub fn a_core_begins_with_no_history()
+    ensures { (free start faults : ℕ) (h : Heap) (root last : ℕ) (opening : Volume)
+        (foreigners : Foreigners) → start ≤ faults → HoldsVolume h root last opening →
+        IsClear opening →
+        IsLegalOver free start faults [] h root last opening foreigners }
+{}
+
+/// A call that was served: where a history is legal over an opening volume, and the space holds the
+/// volume after it, a call that a store over the space served goes on with it legally, and the space
+/// that came of it holds the volume after that call. The store knows nothing of the volume.
+pub fn a_served_call_goes_on<T: ElementStore + Extents>()
+    ensures { (free start faults faults' : ℕ) (history : List Entry) (h h' : Heap)
+        (root root' last : ℕ) (opening : Volume) (foreigners : Foreigners) (entry : Entry)
+        (old new : T) →
+        IsLegalOver free start faults history h root last opening foreigners →
+        faults ≤ faults' → IsNextCall last entry →
+        Serves T.elements T.extents T.free (floor free history) last entry old new h h' root root' →
+        IsLegalOver free start faults' (history ++ entry ∷ []) h' root' (last + 1) opening foreigners }
+{}
+
+/// A call that failed: the same, where the device failed or memory was refused, and the space that
+/// came of it holds what the one before held.
+pub fn a_failed_call_goes_on()
+    ensures { (free start faults faults' : ℕ) (history : List Entry) (h h' : Heap)
+        (root root' last : ℕ) (opening : Volume) (foreigners : Foreigners) (entry : Entry) →
+        IsLegalOver free start faults history h root last opening foreigners →
+        faults ≤ faults' → IsNextCall last entry → Fails faults faults' entry h h' root root' →
+        IsLegalOver free start faults' (history ++ entry ∷ []) h' root' (last + 1) opening foreigners }
+{}
+
+/// A call `df` that tells the pool of the space, and a number of free big-blocks that is not below the
+/// least: the same, and the space stays.
+pub fn a_call_that_tells_space_goes_on()
+    ensures { (free start faults faults' : ℕ) (history : List Entry) (h : Heap)
+        (root last : ℕ) (opening : Volume) (foreigners : Foreigners) (entry : Entry) →
+        IsLegalOver free start faults history h root last opening foreigners →
+        faults ≤ faults' → last < GREATEST_ID → entry.call ≡ Df → entry.id.0 ≡ last + 1 →
+        TellsSpace free history h entry.reply →
+        IsLegalOver free start faults' (history ++ entry ∷ []) h root (last + 1) opening foreigners }
+{}
+
+/// A fault of a call over a store that tells what a space holds is one of the device or of memory,
+/// where the space holds a volume: no payload is broken.
+pub fn a_fault_tells_no_damage<V>()
+    ensures { (old new : ℕ) (es : Option (List Element)) (xs : Option (List Extent))
+        (h : Heap) (root last : ℕ) (volume : Volume) (result : Result V Fault) →
+        HoldsVolume h root last volume → TellsHeld es xs h root →
+        HasReadingCause es xs old new result →
+        IfErr result (λ fault. TellsFailure old new (reply_to fault)) }
+{}
+
+/// Where a space holds a volume, the space of a call that was opened over it tells what it holds, as a
+/// store over it does: its tree from that root on, and its extents.
+pub fn an_opened_space_tells_what_was_held()
+    ensures { (h h' : Heap) (root last : ℕ) (volume : Volume) →
+        HoldsVolume h root last volume → OpensContent root last h h' →
+        TellsHeld (told_elements true (pages_of h') root) (extents_in h') h root }
+{}
+
+/// The same of a store that was opened over the space: it tells what the space holds.
+pub fn an_opened_store_tells_what_was_held()
+    ensures { (h h' : Heap) (root root' last : ℕ) (volume : Volume) →
+        HoldsVolume h root last volume → OpensStore last h root h' root' →
+        TellsHeld (elements_told h' root') (extents_in h') h root }
+{}
+
+/// Once the call of that store was dropped, the space holds what it held before, whatever the call did.
+pub fn a_dropped_store_holds_what_was_held()
+    ensures { (h h' old new : Heap) (root root' back last : ℕ) (volume : Volume) →
+        HoldsVolume h root last volume → OpensStore last h root h' root' →
+        content_of old ≡ content_of h' → IfSome (content_of old) (Holds new back) →
+        HoldsSame h root new back }
+{}
+
+/// Once the call was kept, the space holds what its tree and its extents told, and the ids fit, since
+/// its pages are bytes.
+pub fn a_kept_space_holds_what_was_told()
+    ensures { (old new : Heap) (root : ℕ) → ArePages new → KeepsContent old new →
+        HoldsTree (pages_of old) root →
+        HoldsTold (told_elements true (pages_of old) root) (extents_in old) new root }
+{}
+
+/// Once the call was dropped, the space holds what it held before, whatever the call did.
+pub fn a_dropped_space_holds_what_was_held()
+    ensures { (h h' old new : Heap) (root last : ℕ) (volume : Volume) →
+        HoldsVolume h root last volume → OpensContent root last h h' →
+        content_of old ≡ content_of h' → old.roots.current ≡ root → DropsContent old new →
+        HoldsSame h root new root }
+{}
+
+/// A history that is legal while so many faults were counted is legal once more were.
+pub fn later_counts_leave_a_history_legal()
+    ensures { (free start faults faults' : ℕ) (opening : Volume) (foreigners : Foreigners)
+        (events : List Event) → faults ≤ faults' →
+        IsLegal (setting_of free start faults opening foreigners) events →
+        IsLegal (setting_of free start faults' opening foreigners) events }
+{}
+
+/// The path words of each command are read, as paths or as bad ones.
+pub fn every_command_is_read()
+    ensures { (command : Command) → (paths : List Parsed) × ReadsWords command paths }
+{}
+
+/// The ids of all elements that a space holds fit 8 bytes, where its pages are bytes.
+pub fn ids_of_held_elements_fit()
+    ensures { (h : Heap) (root : ℕ) (es : List FullElement) → ArePages h → Holds h root es →
+        IsBelow (2 ^ 64) es }
+{}
+
+/// The ids of elements that stand for a volume are known, as a space asks it of what it tells: each
+/// pseudo file system is a slave, or all ids of its elements were drawn.
+pub fn ids_of_a_volume_are_known()
+    ensures each { (es : List FullElement) (volume : Volume) → StandFor es volume →
+        AreKnown volume.last es }
+    ensures tested { (es : List FullElement) (volume : Volume) → StandFor es volume →
+        IsTrue (is_known volume.last es) }
+{}
+
+/// The ledger of a run is in order as it begins, and what it leaves is no less than the least of the
+/// history, where a zone has the room of one big-block at most.
+pub fn the_ledger_keeps_the_least()
+    ensures begins { (free : ℕ) (room : ℕ → ℕ) → IsPaid free free 0 room }
+    ensures leaves { (first spare : ℕ) (history : List Entry) (room : ℕ → ℕ) →
+        ((zone : ℕ) → room zone ≤ BIGBLOCK_BYTES) →
+        IsPaid first spare (length history) room → floor first history ≤ spare }
+{}
+
+/// The ledger is in order still after a call that took no more of a zone than its reserve.
+pub fn a_call_is_paid_for<T: Extents>()
+    ensures { (first calls : ℕ) (most : ℕ → ℕ) (old new : T) →
+        ((zone : ℕ) → most zone ≤ reserve_of zone) → Charges T.room T.free most old new →
+        IsPaid first (T.free old) calls (T.room old) →
+        IsPaid first (T.free new) (calls + 1) (T.room new) }
+{}

@@ -1,0 +1,46 @@
+// The space of a volume that is mounted.
+ghost use Rattle.std.specs.Prelude.{◌≤◌, IfErr, IfOk, IfSome};
+ghost use Rattle.hm_types.specs.Faults.{IsCaused};
+ghost use Rattle.hm_header.specs.Range.{IsHeader};
+ghost use Rattle.hm_pages.specs.Store.{contents};
+ghost use Rattle.hm_stored.specs.Heap.{heap_of};
+ghost use Rattle.hm_core.specs.Mounting.{IsHeaderOn, IsReadFrom};
+ghost use Rattle.hm_core.specs.Opened.{IsNotMounted};
+ghost use Rattle.hm_core.specs.declared.fault.OpenFault.TheVariants.{Fault as of_disk};
+
+use hm_disk::Disk;
+use hm_header::Header;
+use hm_load::load;
+use hm_pages::pages_are_bytes;
+use hm_stored::{Books, Space};
+use hm_types::Fault;
+use std::alloc::Global;
+
+/// The space of the volume with this header, and how many of its big-blocks are free. An error hands
+/// back the disk.
+pub(crate) fn open_space<D: Disk>(
+    alloc: Global,
+    disk: D,
+    header: &Header,
+) -> Result<(Space<D>, u32), (D, Fault)>
+    requires header { IsHeader header.now }
+    requires counts { IfSome (D.told disk) (IsHeaderOn header.now) }
+    ensures ok { IfOk result (λ opened. IsReadFrom (D.told disk) header.now opened.1
+        (heap_of (contents opened.0.pages.store) (D.told opened.0.disk) opened.0.books)) }
+    ensures faults { IfOk result (λ opened. D.faults disk ≤ D.faults opened.0.disk) }
+    ensures err { IfErr result (λ e. IsNotMounted (D.told disk) (D.told e.0) (of_disk e.1)) }
+    ensures cause { IfErr result (λ e. (D.faults disk ≤ D.faults e.0)
+        × IsCaused (D.faults disk) (D.faults e.0) e.1) }
+{
+    let mut disk = disk;
+    let store = match load(alloc, &mut disk, header) {
+        Ok(store) => store,
+        Err(fault) => return Err((disk, fault)),
+    };
+    pages_are_bytes(&store);
+    let mut space = Space::over(store, disk, Books::of(alloc, header));
+    match space.free_blocks() {
+        Ok(free) => Ok((space, free)),
+        Err(fault) => Err((space.into_disk(), fault)),
+    }
+}

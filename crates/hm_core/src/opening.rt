@@ -1,0 +1,82 @@
+// Making a volume, and opening one.
+ghost use Rattle.std.specs.Prelude.{◌≡◌, ◌≤◌, IfErr, IfOk, OnOk};
+ghost use Rattle.hm_types.specs.Told.{BothTell};
+ghost use Rattle.hm_header.specs.Range.{IsSize};
+ghost use Rattle.hm_core.specs.Opened.{HasOpenCause, IsMade, IsMounted, IsNotMade, IsNotMounted, IsOpenCaused};
+ghost use Rattle.hm_core.specs.Seen.{seen};
+
+use crate::fault::OpenFault;
+use crate::mounting::open_space;
+use crate::slots::{disk_fault, read_header};
+use crate::volume::Core;
+use hm_disk::Disk;
+use hm_newfs::write_volume;
+use hm_stored::Stored;
+use hm_types::{BIGBLOCK_BYTES, Failed};
+use std::alloc::Global;
+
+// Where the number of big-blocks stands in a header slot, in bytes.
+const BIGBLOCKS_PLACE: u32 = 12;
+
+/// Makes an empty volume of this many big-blocks. Takes no memory.
+///
+/// `BadField` is answered with place 12 where the disk has fewer bytes, and then it is as before. A
+/// crash within, or a call of the disk that fails, may leave a disk without a volume.
+pub fn newfs<D: Disk>(disk: &mut D, bigblocks: u32) -> Result<(), OpenFault>
+    requires size { IsSize bigblocks }
+    ensures ok { OnOk result (BothTell (D.told disk.old) (D.told disk.new) (IsMade bigblocks)) }
+    ensures err { IfErr result (IsNotMade bigblocks (D.told disk.old) (D.told disk.new)) }
+    ensures cause { HasOpenCause (D.faults disk.old) (D.faults disk.new) result }
+{
+    let before = disk.faults();
+    match disk.size() {
+        Ok(size) if size < u64::from(bigblocks) * BIGBLOCK_BYTES => Err(OpenFault::BadField {
+            place: BIGBLOCKS_PLACE,
+        }),
+        Ok(_) => match write_volume(disk, bigblocks) {
+            Ok(()) => Ok(()),
+            Err(Failed) => Err(disk_fault(disk, before)),
+        },
+        Err(Failed) => Err(disk_fault(disk, before)),
+    }
+}
+
+impl<D: Disk, I, O> Core<D, I, O> {
+    /// Opens the volume on a disk, and keeps two streams for it. It reads both header slots, the
+    /// freemap, the tree and each payload, and writes nothing. An error hands back the disk and the
+    /// streams, and says why: that the disk has no volume, that a field of its header is out of range,
+    /// the first damage of its freemap or its tree, a fault of reading, or want of memory.
+    pub fn mount(
+        alloc: Global,
+        disk: D,
+        input: I,
+        output: O,
+    ) -> Result<Core<D, I, O>, (D, I, O, OpenFault)>
+        ensures ok { IfOk result (λ core. IsMounted (D.told disk) (D.faults disk) input output (seen core)) }
+        ensures err { IfErr result (λ e. IsNotMounted (D.told disk) (D.told e.0) e.3
+            × (e.1 ≡ input) × (e.2 ≡ output)) }
+        ensures cause { IfErr result (λ e. (D.faults disk ≤ D.faults e.0)
+            × IsOpenCaused (D.faults disk) (D.faults e.0) e.3) }
+    {
+        let mut disk = disk;
+        let (header, slot) = match read_header(&mut disk) {
+            Ok(answer) => answer,
+            Err(fault) => return Err((disk, input, output, fault)),
+        };
+        match open_space(alloc, disk, &header) {
+            Ok((space, free)) => Ok(Core {
+                alloc,
+                input,
+                output,
+                header,
+                slot,
+                last: header.last,
+                free,
+                start: space.disk().faults(),
+                history: Vec::new(alloc),
+                stored: Stored::over(space, header.root),
+            }),
+            Err((disk, fault)) => Err((disk, input, output, OpenFault::Fault(fault))),
+        }
+    }
+}

@@ -1,5 +1,0 @@
-use Rattle.hm_tree_core.proofs.BeginLemmas.{first}
-use Rattle.hm_tree_core.proofs.laws.a_core_begins_with_no_history.Goals as goal
-
-pub returns : goal.returns
-returns c = first
