@@ -56,9 +56,10 @@ fn ends_with(status: u8, wanted: u8, out: &MemSink, printed: &[&str]) -> bool {
 // back fails it may find no volume.
 fn end_of_change<R: AllocGlobal + Threads + Wait + Sync>(
     rt: &R,
+    disk: MemDisk,
     call: u64,
 ) -> Result<Option<End>, AllocError> {
-    let disk = made(rt)?.failing(vec![in rt.alloc(); call]?);
+    let disk = disk.failing(vec![in rt.alloc(); call]?);
     let script = b"mkdir /b\n".to_vec(rt.alloc())?;
     let (status, out, disk) = parts(run_over(rt, &["v"], disk, script, &[], &[])?);
     let completes = ends_with(status, 0, &out, &[DONE]);
@@ -77,10 +78,27 @@ fn end_of_change<R: AllocGlobal + Threads + Wait + Sync>(
 }
 
 #[test]
-fn keeps_what_was_printed_where_a_call_of_the_disk_fails(rt: HostRuntime) -> Result<(), Fail> {
+fn writes_nothing_where_a_call_of_opening_fails(rt: HostRuntime) -> Result<(), Fail> {
+    let mut disk = made(&rt)?;
+    let before = disk.changes();
+    // Opening the volume makes more calls than these.
+    for call in 1..=130 {
+        let script = b"mkdir /b\n".to_vec(rt.alloc())?;
+        let failing = disk.failing(vec![in rt.alloc(); call]?);
+        let (status, out, back) = parts(run_over(&rt, &["v"], failing, script, &[], &[])?);
+        assert!(rt; ends_with(status, 4, &out, &["media 0 1\n"]), "{call}");
+        assert_eq!(rt; back.changes(), before, "{call}");
+        disk = back;
+    }
+    Ok(())
+}
+
+#[test]
+fn keeps_what_was_printed_where_a_later_call_fails(rt: HostRuntime) -> Result<(), Fail> {
+    let disk = made(&rt)?;
     let mut last = Some(End::Stopped);
-    for call in 1..=60 {
-        let end = end_of_change(&rt, call)?;
+    for call in 131..=160 {
+        let end = end_of_change(&rt, disk.after_changes(disk.changes())?, call)?;
         assert!(rt;
             end.is_some() && (end == last || last == Some(End::Stopped)),
             "{call}"
@@ -92,12 +110,12 @@ fn keeps_what_was_printed_where_a_call_of_the_disk_fails(rt: HostRuntime) -> Res
     Ok(())
 }
 
-// How a run ends that makes a volume, where this call of the disk fails. Nothing is promised of the disk
-// but where the run ends with status 0.
-fn end_of_making<R: AllocGlobal + Threads + Wait + Sync>(
+// Whether a run that makes a volume, where this call of the disk fails, tells so. Nothing is promised of
+// the disk but where the run ends with status 0.
+fn tells_making<R: AllocGlobal + Threads + Wait + Sync>(
     rt: &R,
     call: u64,
-) -> Result<Option<End>, AllocError> {
+) -> Result<bool, AllocError> {
     let disk = blank(rt).failing(vec![in rt.alloc(); call]?);
     let script = b"mkdir /a\n".to_vec(rt.alloc())?;
     let (status, out, disk) = parts(run_over(rt, &MAKES, disk, script, &[], &[])?);
@@ -107,27 +125,22 @@ fn end_of_making<R: AllocGlobal + Threads + Wait + Sync>(
     let stops = ends_with(status, 4, &out, &told);
     Ok(
         match which(rt, disk, &["0x0000000000000003 ok 0\n", OLD])? {
-            Some(0) if refuses => Some(End::Stopped),
-            Some(1) if completes => Some(End::Completed),
-            _ if stops => Some(End::Stopped),
-            _ => None,
+            Some(0) if refuses => true,
+            Some(1) if completes => true,
+            _ => stops,
         },
     )
 }
 
 #[test]
 fn tells_the_call_of_the_disk_that_fails_as_a_volume_is_made(rt: HostRuntime) -> Result<(), Fail> {
-    let mut last = Some(End::Stopped);
-    for call in 1..=120 {
-        let end = end_of_making(&rt, call)?;
-        assert!(rt;
-            end.is_some() && (end == last || last == Some(End::Stopped)),
-            "{call}"
-        );
-        last = end;
+    // Calls of making the volume, of opening it, of running the line, and of writing it back; and more
+    // than there are.
+    for call in [
+        1, 2, 70, 138, 139, 140, 200, 271, 272, 275, 278, 281, 284, 287, 300,
+    ] {
+        assert!(rt; tells_making(&rt, call)?, "{call}");
     }
-    // The run makes fewer calls than these.
-    assert_eq!(rt; last, Some(End::Completed));
     Ok(())
 }
 
@@ -154,7 +167,7 @@ fn end_of_printing<R: AllocGlobal + Threads + Wait + Sync>(
 #[test]
 fn keeps_the_volume_where_a_call_of_the_sink_fails(rt: HostRuntime) -> Result<(), Fail> {
     let mut last = Some(End::Stopped);
-    for call in 1..=10 {
+    for call in 1..=4 {
         let end = end_of_printing(&rt, call)?;
         assert!(rt;
             end.is_some() && (end == last || last == Some(End::Stopped)),
@@ -162,7 +175,7 @@ fn keeps_the_volume_where_a_call_of_the_sink_fails(rt: HostRuntime) -> Result<()
         );
         last = end;
     }
-    // The run makes fewer calls than these.
+    // The run puts a line three times.
     assert_eq!(rt; last, Some(End::Completed));
     Ok(())
 }
