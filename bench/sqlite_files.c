@@ -4,7 +4,8 @@
 //     sqlite_files DATABASE stat FROM COUNT     looks each of them up, and prints what it finds
 //     sqlite_files DATABASE check               opens the table and checks it
 //
-// A row has the object, its name, and the ids of the calls that made and removed it. Nothing is synced.
+// A row has the object, its name, and the ids of the calls that made and removed it. Nothing is synced, and each
+// reply is printed before the next call, as hammer prints its own.
 #include <sqlite3.h>
 #include <stdio.h>
 #include <stdlib.h>
@@ -59,6 +60,10 @@ static void touch(long from, long count) {
         end_step(commit, SQLITE_DONE);
         printf("0x%016llx ok\n", (unsigned long long)id);
     }
+    sqlite3_finalize(begin);
+    sqlite3_finalize(commit);
+    sqlite3_finalize(find);
+    sqlite3_finalize(add);
 }
 
 static void stat_each(long from, long count) {
@@ -71,10 +76,12 @@ static void stat_each(long from, long count) {
         printf("ok f 0x%016llx 0 1\n", (unsigned long long)sqlite3_column_int64(find, 0));
         sqlite3_reset(find);
     }
+    sqlite3_finalize(find);
 }
 
 int main(int argc, char **argv) {
     if (argc < 3 || sqlite3_open(argv[1], &base) != SQLITE_OK) return 2;
+    setvbuf(stdout, NULL, _IOLBF, 4096);
     run("PRAGMA journal_mode = WAL");
     run("PRAGMA synchronous = OFF");
     run("CREATE TABLE IF NOT EXISTS files (object INTEGER, name TEXT, created INTEGER, deleted INTEGER)");
@@ -88,5 +95,6 @@ int main(int argc, char **argv) {
     } else {
         return 2;
     }
-    return sqlite3_close(base) == SQLITE_BUSY;
+    if (sqlite3_close(base) != SQLITE_OK) stop("closing");
+    return 0;
 }
