@@ -5,9 +5,9 @@ ghost use Rattle.hm_model.specs.Script.{IsFirstBadLine};
 ghost use Rattle.hm_shell.specs.Lines.{AreServedLines, IsFirstUnserved, IsLinesStop, IsServable};
 
 use crate::stop::Stop;
+use hm_core::is_served;
 use hm_model::Line;
 use hm_script::{Script, ScriptFault, first_lines, read};
-use hm_core::is_served;
 use hm_types::NoMemory;
 use std::alloc::Global;
 

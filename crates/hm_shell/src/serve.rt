@@ -10,10 +10,10 @@ ghost use Rattle.hm_shell.specs.Serving.{Served, ServedInPart, ServesLine, Stopp
 
 use crate::print::{print_entry, print_spent};
 use crate::stop::Stop;
+use hm_core::{Core, Step};
 use hm_disk::Disk;
 use hm_model::Line;
 use hm_pipe::Sink;
-use hm_core::{Core, Step};
 use std::alloc::Global;
 
 /// Makes room for two entries a line, and then runs the lines in their order. Each reply is printed

@@ -14,10 +14,10 @@ ghost use Rattle.hm_shell.specs.Serving.{StopsUsing, UsesAll};
 use crate::job::Job;
 use crate::serve::serve_script;
 use crate::stop::Stop;
+use hm_core::{Core, newfs};
 use hm_disk::Disk;
 use hm_model::Line;
 use hm_pipe::Sink;
-use hm_core::{Core, newfs};
 use std::alloc::Global;
 
 /// What a volume was used with, handed back, and what came of it.
