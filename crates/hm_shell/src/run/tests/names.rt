@@ -109,7 +109,7 @@ fn lists_what_stood_as_of_an_id(rt: HostRuntime) -> Result<(), Fail> {
         ("ls /@@0x0000000000000001", "ok 0"),
         ("ls /@@0x0000000000000000", "not retained"),
         ("stat /@@0x0000000000000003/c", "not found"),
-        ("ls /c@@0x0000000000000003", "ok 0"),
+        ("ls /b@@0x0000000000000003", "ok 0"),
         ("ls /@@0x000000000000000A", "ok 3 d:B d:a d:c"),
         ("ls /@@0x000000000000000d", "future 0x000000000000000c"),
         ("ls /@@0xffffFFFFffffFFFF", "future 0x000000000000000d"),
