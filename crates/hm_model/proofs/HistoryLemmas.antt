@@ -1,10 +1,6 @@
--- Histories that go on by one entry.
+-- Lists that go on by one element.
 use Rattle.std.proofs.Common.{◌≡◌, List, [], ◌∷◌, ◌++◌, refl, ap, inl, inr}
 use Rattle.std.specs.Prelude.{◌⊎◌}
-use Rattle.hm_model.specs.declared.entry.Entry.{Entry}
-use Rattle.hm_model.specs.Volume.{Volume}
-use Rattle.hm_model.specs.Served.After.{after, after_entry}
-use Rattle.hm_model.specs.Served.Legal.{IsLegal, MayFollow}
 
 -- no element stands in the empty list
 pub nothing_in_none : {X : Type 0} (before : List X) (x : X) (rest : List X) → [] ≡ before ++ x ∷ rest → ⊥
@@ -24,21 +20,3 @@ last_or_before (z ∷ zs) x (b ∷ bs) y rest e =
       | inl both ↦ inl (cc, both.1)
       | inr more ↦ inr (more.0, cc)
     ]
-
--- nothing happened yet
-pub IsLegal-none : (opening : Volume) → IsLegal opening []
-IsLegal-none opening before e rest is = absurd (nothing_in_none before e rest is)
-
--- a legal history goes on by an entry that may follow it
-pub IsLegal-push : (opening : Volume) (history : List Entry) (e : Entry) → IsLegal opening history → MayFollow opening history e →
-    IsLegal opening (history ++ e ∷ [])
-IsLegal-push opening history e legal follows before f rest is =
-    elim (last_or_before history e before f rest is) [
-      | inl both ↦ let P : List Entry → Entry → Type 0 = MayFollow opening in rw (← both.0, ← both.1) follows
-      | inr more ↦ legal before f more.0 more.1
-    ]
-
--- the volume after one more entry is one step on
-pub after-push : (opening : Volume) (history : List Entry) (e : Entry) → after opening (history ++ e ∷ []) ≡ after_entry (after opening history) e
-after-push opening [] e = refl
-after-push opening (f ∷ fs) e = after-push (after_entry opening f) fs e

@@ -16,7 +16,6 @@ pub mod LandLemmas
 pub mod LineLemmas
 pub mod MasterLemmas
 pub mod NumberLemmas
-pub mod OutLemmas
 pub mod PassEndLemmas
 pub mod PassLemmas
 pub mod RefusalLemmas
@@ -27,7 +26,6 @@ pub mod OwnLemmas
 pub mod PathsLemmas
 pub mod PlaceLemmas
 pub mod ReadLemmas
-pub mod StepLemmas
 pub mod TwinEndLemmas
 pub mod TwinHistoryLemmas
 pub mod TwinLemmas

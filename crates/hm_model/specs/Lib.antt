@@ -32,4 +32,3 @@ pub mod Laws
 pub mod SingleCalls
 pub mod Generator
 pub mod Examples
-pub mod Served

@@ -14,7 +14,6 @@ mod masters;
 mod passes;
 mod refusals;
 mod retentions;
-mod served;
 mod slaves;
 mod small;
 mod streams;
@@ -59,7 +58,6 @@ pub use refusals::{
     checks_give_refusals, refused_calls_change_nothing, refused_endings_keep_all_but_sources,
 };
 pub use retentions::{cuts_keep_what_is_listed, joins_keep_both, walks_find_what_is_kept};
-pub use served::served_ids_rise;
 pub use slaves::slaves_show_their_masters_trees;
 pub use small::{masters_last_intervals_stay_open, retentions_stay_small};
 pub use streams::{lists_follow_themselves, masters_without_elements_have_streams};

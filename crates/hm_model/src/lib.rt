@@ -22,7 +22,6 @@ mod plain;
 mod print;
 mod read;
 mod reply;
-mod served;
 mod stop;
 #[cfg(test)]
 mod tests;
@@ -48,14 +47,13 @@ pub use laws::{
     new_systems_begin_empty, no_part_goes_nowhere, only_passes_and_upgrades_rewrite,
     passes_fit_or_have_too_many_intervals, passes_keep_what_was_shown, passes_set_the_sync_end,
     past_is_a_beginning, refused_calls_change_nothing, refused_endings_keep_all_but_sources,
-    retentions_stay_small, served_ids_rise, slaves_keep_their_past,
-    slaves_keep_their_past_for_good, slaves_show_their_foreign_masters_trees,
-    slaves_show_their_masters_trees, slaves_show_their_sync_end, streams_bring_their_masters_trees,
+    retentions_stay_small, slaves_keep_their_past, slaves_keep_their_past_for_good,
+    slaves_show_their_foreign_masters_trees, slaves_show_their_masters_trees,
+    slaves_show_their_sync_end, streams_bring_their_masters_trees,
     streams_join_what_their_end_brought, upgrades_leave_the_past, walks_find_what_is_kept,
 };
 pub use line::Line;
 pub use plain::{apply, look};
 pub use print::push_answer;
 pub use reply::Reply;
-pub use served::MOST_DIRECTORIES;
 pub use tree::Tree;
