@@ -4,8 +4,6 @@
 mod asked;
 mod calls;
 mod ending;
-#[cfg(test)]
-mod ending_tests;
 mod entries;
 mod fault;
 mod laws;

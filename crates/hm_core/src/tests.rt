@@ -1,84 +1,185 @@
-// Calls over the store of a volume as it is made.
-ghost use Rattle.std.specs.Prelude.{◌≡◌, ◌<◌, IfOk};
-ghost use Rattle.hm_types.specs.declared.limits.TheConstants.{GREATEST_ID};
-ghost use Rattle.hm_model.specs.Forms.{IsInRange};
-ghost use Rattle.hm_calls.specs.Commands.{IsOnTrees};
-ghost use Rattle.hm_pages.specs.Store.{contents};
-ghost use Rattle.hm_stored.specs.Heap.{heap_of};
-ghost use Rattle.hm_stored.specs.Turn.{IsClosed};
+// Volumes in use, whose use is ended, and which are mounted again, on disks in memory.
+ghost use Rattle.std.specs.Prelude.{IfOk};
+ghost use Rattle.hm_core.specs.Served.{IsAsked};
 
-use crate::answer_over;
-use hm_disk::{Disk, MemDisk};
-use hm_header::read_header;
-use hm_load::load;
+use super::*;
+use hm_disk::MemDisk;
 use hm_model::{Command, Reply};
-use hm_newfs::write_volume;
-use hm_stored::{Books, Space, Stored};
-use hm_types::{Bytes, Failed, Id, Text};
+use hm_types::{Bytes, Fault, Id, NoMemory, Text};
 use std::alloc::Global;
+use std::process::Abort;
 use std::test::Fail;
 
-// The store of the volume on a disk, with no open call.
-fn mounted<D: Disk + Drop>(alloc: Global, mut disk: D) -> Result<Stored<D>, Failed>
-    ensures { IfOk result (λ s. IsClosed (heap_of (contents s.space.pages.store)
-        (D.told s.space.disk) s.space.books)) }
-{
-    let header = match read_header(&mut disk)? {
-        Ok((header, _)) => header,
-        Err(_) => return Err(Failed),
-    };
-    match load(alloc, &mut disk, &header) {
-        Ok(store) => {
-            let space = Space::over(store, disk, Books::of(alloc, &header));
-            Ok(Stored::over(space, header.root))
-        }
-        Err(_) => Err(Failed),
+type Volume = Core<MemDisk, u8, u8>;
+
+// How many calls of a disk mount a volume of 24 big-blocks in which nothing was done.
+const CALLS_OF_MOUNT: u64 = 133;
+
+// How many end the use of one in which a file was made: two pages are written, the root and a page of
+// layer 2, and settled; then one read and one sync find the other slot closed, and its body and its
+// gate are written and settled.
+const CALLS_OF_FINISH: u64 = 9;
+
+// A volume of 24 big-blocks.
+fn made(rt: &impl Abort, alloc: Global) -> MemDisk {
+    let mut disk = MemDisk::new(alloc, 24, Vec::new(alloc));
+    assert_eq!(rt; newfs(&mut disk, 24), Ok(()));
+    disk
+}
+
+fn mounted(rt: &impl Abort, alloc: Global, disk: MemDisk) -> Volume {
+    match Core::mount(alloc, disk, 1, 2) {
+        Ok(core) => core,
+        Err(_) => panic!(rt; "not mounted"),
     }
 }
 
-// One call of a volume.
-fn reply_to<D: Disk>(alloc: Global, stored: &mut Stored<D>, command: &Command, last: u64) -> Reply
-    requires closed { IsClosed (heap_of (contents stored.old.space.pages.store)
-        (D.told stored.old.space.disk) stored.old.space.books) }
-    requires served { IsOnTrees command.now × IsInRange command.now }
-    requires left { last < GREATEST_ID }
-    ensures { IsClosed (heap_of (contents stored.new.space.pages.store)
-        (D.told stored.new.space.disk) stored.new.space.books) }
-{
-    answer_over(alloc, stored, command, Id(last))
+// Ends the use of a volume, and gives its disk.
+fn finished(rt: &impl Abort, core: Volume) -> MemDisk {
+    let (disk, input, output, outcome) = core.finish();
+    assert_eq!(rt; outcome, Ok(()));
+    assert_eq!(rt; (input, output), (1, 2));
+    disk
 }
 
-// A file is made, written, read, refused a second time, and gone once it is removed.
+fn path(alloc: Global) -> Result<Text, NoMemory> {
+    Ok(Text::of(Vec::from_slice(alloc, b"/f")?))
+}
+
+fn touch(alloc: Global) -> Result<Command, NoMemory>
+    ensures { IfOk result IsAsked }
+{
+    let path = path(alloc)?;
+    Ok(Command::Touch { path })
+}
+
+fn write(alloc: Global) -> Result<Command, NoMemory>
+    ensures { IfOk result IsAsked }
+{
+    let path = path(alloc)?;
+    let bytes = Bytes::of(Vec::from_slice(alloc, b"abc")?);
+    Ok(Command::Write {
+        path,
+        offset: 0,
+        bytes,
+    })
+}
+
+fn cat(alloc: Global) -> Result<Command, NoMemory>
+    ensures { IfOk result IsAsked }
+{
+    let path = path(alloc)?;
+    Ok(Command::Cat {
+        path,
+        offset: 0,
+        count: 9,
+    })
+}
+
+fn rm(alloc: Global) -> Result<Command, NoMemory>
+    ensures { IfOk result IsAsked }
+{
+    let path = path(alloc)?;
+    Ok(Command::Rm { path })
+}
+
+// One call of a volume. Whether it was answered so.
+fn answers(core: &mut Volume, command: Command, want: &Reply) -> Result<bool, NoMemory>
+    requires { IsAsked command }
+{
+    core.reserve(2)?;
+    let since = core.last();
+    match core.call(0, 1, since, command) {
+        Step::Answered(place) => Ok(core.entry(place).reply == *want),
+        Step::Spent => Ok(false),
+    }
+}
+
+#[test]
+fn what_was_done_is_found_again(rt: HostRuntime) -> Result<(), Fail> {
+    let alloc = rt.alloc();
+    let content = Reply::Content {
+        bytes: Bytes::of(Vec::from_slice(alloc, b"abc")?),
+    };
+    let mut core = mounted(&rt, alloc, made(&rt, alloc));
+    assert!(rt; answers(&mut core, touch(alloc)?, &Reply::Done)?);
+    assert!(rt; answers(&mut core, write(alloc)?, &Reply::Done)?);
+    let mut core = mounted(&rt, alloc, finished(&rt, core));
+    assert_eq!(rt;
+        (core.last(), core.boundary(), core.slot),
+        (Id(3), Id(3), 1)
+    );
+    assert_eq!(rt; core.header.generation, 2);
+    assert!(rt; answers(&mut core, cat(alloc)?, &content)?);
+    assert!(rt; answers(&mut core, touch(alloc)?, &Reply::Exists)?);
+    let mut core = mounted(&rt, alloc, finished(&rt, core));
+    assert_eq!(rt;
+        (core.last(), core.boundary(), core.slot),
+        (Id(5), Id(5), 0)
+    );
+    assert!(rt; answers(&mut core, cat(alloc)?, &content)?);
+    assert_eq!(rt; core.last(), Id(6));
+    Ok(())
+}
+
 #[test]
 fn a_file_is_made_written_read_and_removed(rt: HostRuntime) -> Result<(), Fail> {
     let alloc = rt.alloc();
-    let mut disk = MemDisk::new(alloc, 24, Vec::new(alloc));
-    assert_eq!(rt; write_volume(&mut disk, 24), Ok(()));
-    let mut stored = mounted(alloc, disk)?;
-    let touch = Command::Touch {
-        path: Text::of(Vec::from_slice(alloc, b"/f")?),
-    };
-    assert_eq!(rt; reply_to(alloc, &mut stored, &touch, 1), Reply::Done);
-    assert_eq!(rt; reply_to(alloc, &mut stored, &touch, 2), Reply::Exists);
-    let write = Command::Write {
-        path: Text::of(Vec::from_slice(alloc, b"/f")?),
-        offset: 1,
+    let content = Reply::Content {
         bytes: Bytes::of(Vec::from_slice(alloc, b"abc")?),
     };
-    assert_eq!(rt; reply_to(alloc, &mut stored, &write, 3), Reply::Done);
-    let cat = Command::Cat {
-        path: Text::of(Vec::from_slice(alloc, b"/f")?),
-        offset: 0,
-        count: 9,
+    let mut core = mounted(&rt, alloc, made(&rt, alloc));
+    assert!(rt; answers(&mut core, touch(alloc)?, &Reply::Done)?);
+    assert!(rt; answers(&mut core, touch(alloc)?, &Reply::Exists)?);
+    assert!(rt; answers(&mut core, write(alloc)?, &Reply::Done)?);
+    assert!(rt; answers(&mut core, cat(alloc)?, &content)?);
+    assert!(rt; answers(&mut core, rm(alloc)?, &Reply::Done)?);
+    assert!(rt; answers(&mut core, cat(alloc)?, &Reply::NotFound)?);
+    Ok(())
+}
+
+#[test]
+fn a_volume_in_which_nothing_was_done_is_not_written(rt: HostRuntime) -> Result<(), Fail> {
+    let alloc = rt.alloc();
+    let disk = made(&rt, alloc);
+    let before = disk.changes();
+    let mut core = mounted(&rt, alloc, disk);
+    core.reserve(2)?;
+    let disk = finished(&rt, core);
+    assert_eq!(rt; disk.changes(), before);
+    let core = mounted(&rt, alloc, disk);
+    assert_eq!(rt; (core.boundary(), core.slot), (Id(1), 0));
+    Ok(())
+}
+
+#[test]
+fn each_call_of_ending_that_fails_is_told(rt: HostRuntime) -> Result<(), Fail> {
+    let alloc = rt.alloc();
+    let fault = Fault::Media {
+        before: 0,
+        after: 1,
     };
-    let content = Reply::Content {
-        bytes: Bytes::of(Vec::from_slice(alloc, b"\0abc")?),
-    };
-    assert_eq!(rt; reply_to(alloc, &mut stored, &cat, 4), content);
-    let rm = Command::Rm {
-        path: Text::of(Vec::from_slice(alloc, b"/f")?),
-    };
-    assert_eq!(rt; reply_to(alloc, &mut stored, &rm, 5), Reply::Done);
-    assert_eq!(rt; reply_to(alloc, &mut stored, &cat, 6), Reply::NotFound);
+    let new = made(&rt, alloc);
+    let mut told = 0u64;
+    for call in CALLS_OF_MOUNT + 1..=CALLS_OF_MOUNT + 16 {
+        let disk = new.after_changes(new.changes())?;
+        let disk = disk.failing(vec![in alloc; call]?);
+        let mut core = mounted(&rt, alloc, disk);
+        let done = answers(&mut core, touch(alloc)?, &Reply::Done)?;
+        let (disk, _, _, outcome) = core.finish();
+        match outcome {
+            Ok(()) => {
+                let mut core = mounted(&rt, alloc, disk.failing(Vec::new(alloc)));
+                assert_eq!(rt; core.boundary(), Id(2));
+                let there = if done { Reply::Exists } else { Reply::Done };
+                assert!(rt; answers(&mut core, touch(alloc)?, &there)?, "{call}");
+            }
+            Err(why) => {
+                assert_eq!(rt; why, fault, "{call}");
+                told = told.wrapping_add(1);
+            }
+        }
+    }
+    assert_eq!(rt; told, CALLS_OF_FINISH);
     Ok(())
 }
