@@ -2,8 +2,6 @@
 #![tactic(auto)]
 
 mod change;
-#[cfg(test)]
-mod damage_tests;
 mod empty;
 mod inner_edit;
 mod insert;
@@ -17,8 +15,6 @@ mod remove;
 mod root;
 mod space;
 mod store;
-#[cfg(test)]
-mod tests;
 mod top;
 mod tree;
 mod upper;

@@ -11,8 +11,6 @@ mod edit;
 mod entry;
 mod file_bytes;
 mod generator;
-#[cfg(test)]
-mod generator_tests;
 mod hash;
 mod laws;
 mod line;
@@ -23,8 +21,6 @@ mod print;
 mod read;
 mod reply;
 mod stop;
-#[cfg(test)]
-mod tests;
 mod tree;
 mod tree_edit;
 mod walk;

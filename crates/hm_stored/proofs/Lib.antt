@@ -30,7 +30,7 @@ mod StandingLemmas
 mod StoredLemmas
 mod UseLemmas
 mod TurnLemmas
-mod UntoldLemmas
+pub mod UntoldLemmas
 mod VolumeLemmas
 mod TreeLemmas
 mod MountLemmas

@@ -16,8 +16,6 @@ mod stored_elements;
 mod stored_extents;
 mod stored_space;
 mod stored_turns;
-#[cfg(test)]
-mod tests;
 mod tree_calls;
 mod tree_pages;
 mod tree_space;
