@@ -11,7 +11,6 @@ pub mod GoodLemmas
 pub mod GrantLemmas
 pub mod ListLemmas
 pub mod MapsLemmas
-pub mod OnePageLemmas
 pub mod OrderLemmas
 pub mod PlaceLemmas
 pub mod PutLemmas

@@ -14,4 +14,3 @@ pub mod Decide
 pub mod Admit
 pub mod Renew
 pub mod Fresh
-pub mod OnePage

@@ -8,13 +8,16 @@ use hm_fields::{Page, Pages, State, States};
 use hm_types::{BIGBLOCK_BYTES, Counted, Fault, HOff, PAGE_BYTES};
 
 /// The pages of layer 2 of a volume of so many big-blocks, of which nothing is told, with a count of
-/// reads. What is put into them is forgotten.
+/// reads and one of changes. What is put into them is forgotten.
 #[derive(Drop)]
 pub(crate) struct Made {
     pub(crate) bigblocks: u32,
     // How many bytes zone 8 has taken.
     pub(crate) taken: u32,
     pub(crate) reads: u64,
+    pub(crate) changes: u64,
+    // Where the page stands that was read or changed last, in bytes from the start of the volume.
+    pub(crate) last: u64,
     ghost least: { LEAST_BIGBLOCKS ≤ bigblocks },
     ghost most: { bigblocks ≤ MOST_BIGBLOCKS },
     ghost few: { taken ≤ BIGBLOCK_BYTES },
@@ -37,6 +40,7 @@ impl Pages for Made {
 
     fn page(&mut self, at: HOff, into: &mut Page) -> Result<(), Fault> {
         self.reads = self.reads.saturating_add(1);
+        self.last = at.byte();
         let number = at.byte().saturating_sub(2 * BIGBLOCK_BYTES) / PAGE_BYTES as u64;
         fresh_page(
             self.bigblocks,
@@ -47,7 +51,9 @@ impl Pages for Made {
         Ok(())
     }
 
-    fn change(&mut self, _at: HOff, _with: &Page) -> Result<(), Fault> {
+    fn change(&mut self, at: HOff, _with: &Page) -> Result<(), Fault> {
+        self.changes = self.changes.saturating_add(1);
+        self.last = at.byte();
         Ok(())
     }
 }

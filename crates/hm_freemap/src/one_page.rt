@@ -1,13 +1,11 @@
 // A small volume for tests: one page of layer 2, as committed, as frozen and as it is now.
-ghost use Rattle.hm_freemap.specs.OnePage.{at_page, is_page};
-
 use crate::pages::FreemapPages;
 use crate::place::page_of;
 use hm_fields::{Page, Pages, State, States};
 use hm_types::{Counted, Fault, HOff};
 
-/// The first page of layer 2 in the three states, which are told, with a count of reads and one of
-/// changes.
+/// A page of layer 2 in the three states, of which nothing is told, with a count of reads and one of
+/// changes. Every page of layer 2 reads as this one, and the first alone can be changed.
 #[derive(Drop)]
 pub(crate) struct OnePage {
     pub(crate) committed: Page,
@@ -18,28 +16,22 @@ pub(crate) struct OnePage {
 }
 
 impl Counted for OnePage {
-    ghost use Rattle.std.specs.Prelude.{ℕ, List};
-
     ghost faults = { λ _. 0 };
 
     ghost name = { λ _. 0 };
 
-    ghost Frame = { List ℕ × List ℕ };
-
-    ghost frame = { λ p. (p.committed, p.frozen) };
+    ghost frame = { λ _. tt };
 }
 
 impl Pages for OnePage {
-    ghost use Rattle.std.specs.Prelude.{Some};
+    ghost use Rattle.std.specs.Prelude.{None};
 
-    ghost pages = { λ p. Some (at_page p.current) };
+    ghost pages = { λ _. None };
 
     ghost rest = { λ _. tt };
 
     fn page(&mut self, at: HOff, into: &mut Page) -> Result<(), Fault> {
-        self.reads = self.reads.saturating_add(1);
-        *into = self.current;
-        Ok(())
+        self.page_in(State::Current, at, into)
     }
 
     fn change(&mut self, at: HOff, with: &Page) -> Result<(), Fault> {
@@ -53,20 +45,19 @@ impl Pages for OnePage {
 }
 
 impl States for OnePage {
-    ghost use Rattle.std.specs.Prelude.{Some};
-    ghost use Rattle.hm_freemap.specs.OnePage.{same_maps, has_pages};
+    ghost use Rattle.std.specs.Prelude.{None, true, refl};
 
-    ghost committed = { λ p. Some (at_page p.committed) };
+    ghost committed = { λ _. None };
 
-    ghost frozen = { λ p. Some (at_page p.frozen) };
+    ghost frozen = { λ _. None };
 
-    ghost layer2 = { λ _ at. is_page at };
+    ghost layer2 = { λ _ _. true };
 
-    ghost framed = { λ s t same. same_maps s.committed s.frozen t.committed t.frozen same };
+    ghost framed = { λ s t same. (refl, refl, refl) };
 
-    ghost there = { λ s. has_pages s.committed s.frozen s.current };
+    ghost there = { λ s. record { in_committed = tt; in_frozen = tt; in_current = tt; together = (refl, refl) } };
 
-    fn page_in(&mut self, state: State, at: HOff, into: &mut Page) -> Result<(), Fault> {
+    fn page_in(&mut self, state: State, _at: HOff, into: &mut Page) -> Result<(), Fault> {
         self.reads = self.reads.saturating_add(1);
         match state {
             State::Committed => *into = self.committed,
@@ -78,55 +69,5 @@ impl States for OnePage {
 }
 
 impl FreemapPages for OnePage {
-    ghost freemap_is_kept = { λ at bytes zone. tt };
-}
-
-/// The same, of which nothing is told.
-#[derive(Drop)]
-pub(crate) struct Quiet(pub(crate) OnePage);
-
-impl Counted for Quiet {
-    ghost faults = { λ _. 0 };
-
-    ghost name = { λ _. 0 };
-
-    ghost frame = { λ _. tt };
-}
-
-impl Pages for Quiet {
-    ghost use Rattle.std.specs.Prelude.{None};
-
-    ghost pages = { λ _. None };
-
-    ghost rest = { λ _. tt };
-
-    fn page(&mut self, at: HOff, into: &mut Page) -> Result<(), Fault> {
-        self.0.page(at, into)
-    }
-
-    fn change(&mut self, at: HOff, with: &Page) -> Result<(), Fault> {
-        self.0.change(at, with)
-    }
-}
-
-impl States for Quiet {
-    ghost use Rattle.std.specs.Prelude.{None, refl};
-
-    ghost committed = { λ _. None };
-
-    ghost frozen = { λ _. None };
-
-    ghost layer2 = { λ _ at. is_page at };
-
-    ghost framed = { λ s t same. (refl, refl, refl) };
-
-    ghost there = { λ s. record { in_committed = tt; in_frozen = tt; in_current = tt; together = (refl, refl) } };
-
-    fn page_in(&mut self, state: State, at: HOff, into: &mut Page) -> Result<(), Fault> {
-        self.0.page_in(state, at, into)
-    }
-}
-
-impl FreemapPages for Quiet {
     ghost freemap_is_kept = { λ at bytes zone. tt };
 }

@@ -2,27 +2,27 @@
 ghost use Rattle.std.specs.Prelude.{◌≤◌, ◌<◌};
 
 use crate::made::Made;
-use crate::one_page::{OnePage, Quiet};
+use crate::one_page::OnePage;
 use crate::{
     Entry, Freemap, fresh_page, layer1_offset, page_of, place_of, read_layer1, write_layer1,
 };
 use bitflags::Flags;
 use hm_fields::{Page, State, put_u8, put_u64};
-use hm_types::{Fault, HOff, SpaceFault, Zones};
+use hm_types::{Fault, HOff, SpaceFault, Zones, first_pool};
 use std::process::Abort;
 use std::test::Fail;
 
 // A volume of 24 big-blocks as it was made.
-fn volume() -> Freemap<Quiet> {
+fn volume() -> Freemap<OnePage> {
     let mut page = Page::zero();
     fresh_page(24, &[4_096, 80, 0, 0], 0, &mut page);
-    again(Quiet(OnePage {
+    again(OnePage {
         committed: page,
         frozen: page,
         current: page,
         reads: 0,
         changes: 0,
-    }))
+    })
 }
 
 // The entry of a big-block of the pool that belongs to a zone.
@@ -35,19 +35,19 @@ fn owned(zone: u8, append_off: u32, bytes_free: i32) -> Entry {
 }
 
 // Puts an entry of a big-block into the current page of a small volume.
-fn put(freemap: Freemap<Quiet>, block: u64, entry: &Entry) -> Freemap<Quiet> {
+fn put(freemap: Freemap<OnePage>, block: u64, entry: &Entry) -> Freemap<OnePage> {
     let (mut pages, _) = freemap.into_parts();
-    entry.write(&mut pages.0.current, place_of(block));
+    entry.write(&mut pages.current, place_of(block));
     again(pages)
 }
 
 // A freemap over the pages of a small volume.
-fn again(pages: Quiet) -> Freemap<Quiet> {
+fn again(pages: OnePage) -> Freemap<OnePage> {
     Freemap::over(pages, 24, [11, 12, 13, 14])
 }
 
 // The same, where zone 10 appends to big-block 15.
-fn moved(pages: Quiet) -> Freemap<Quiet> {
+fn moved(pages: OnePage) -> Freemap<OnePage> {
     Freemap::over(pages, 24, [11, 12, 15, 14])
 }
 
@@ -164,29 +164,44 @@ fn a_small_volume_has_nine_free_big_blocks(rt: HostRuntime) -> Result<(), Fail> 
     assert_eq!(rt; freemap.live_bytes(12)?, 80);
     assert_eq!(rt; freemap.live_bytes(23)?, 0);
     let (pages, _) = freemap.into_parts();
-    assert_eq!(rt; (pages.0.reads, pages.0.changes), (6, 0));
+    assert_eq!(rt; (pages.reads, pages.changes), (6, 0));
     Ok(())
 }
 
 #[test]
-fn a_large_volume_is_counted_page_by_page(rt: HostRuntime) -> Result<(), Fail> {
-    let mut freemap = large(4_096);
-    assert_eq!(rt; freemap.free_blocks()?, 524_273);
-    let (pages, _) = freemap.into_parts();
-    assert_eq!(rt; pages.reads, 3 * 2_049);
+fn the_smallest_and_the_largest_layout_have_their_free_big_blocks(
+    rt: HostRuntime,
+) -> Result<(), Fail> {
+    for (bigblocks, first, pool, free, pages, last) in [
+        (24u32, 11u32, 13u32, 9u32, 1u64, 16_777_216u64),
+        (524_289, 12, 524_277, 524_273, 2_049, 25_165_824),
+    ] {
+        assert!(rt; (24..=1_048_576).contains(&bigblocks));
+        let mut freemap = made(bigblocks, 4_096);
+        assert_eq!(rt; freemap.free_blocks()?, free);
+        let (read, append) = freemap.into_parts();
+        assert_eq!(rt; (read.reads, read.last), (3 * pages, last));
+        assert_eq!(rt; append[0], first);
+        assert_eq!(rt; bigblocks - first_pool(bigblocks), pool);
+    }
     Ok(())
 }
 
-// A volume of 524,289 big-blocks, in which zone 8 has taken so many bytes.
-fn large(taken: u32) -> Freemap<Made>
-    requires { taken ≤ 8388608 }
+// A volume as it was made, but that zone 8 has taken so many bytes.
+fn made(bigblocks: u32, taken: u32) -> Freemap<Made>
+    requires least { 24 ≤ bigblocks }
+    requires most { bigblocks ≤ 1048576 }
+    requires taken { taken ≤ 8388608 }
 {
     let pages = Made {
-        bigblocks: 524_289,
+        bigblocks,
         taken,
         reads: 0,
+        changes: 0,
+        last: 0,
     };
-    Freemap::over(pages, 524_289, [12, 13, 14, 15])
+    let first = first_pool(bigblocks);
+    Freemap::over(pages, bigblocks, [first, first + 1, first + 2, first + 3])
 }
 
 #[test]
@@ -201,7 +216,7 @@ fn admit_looks_no_further_than_it_needs(rt: HostRuntime) {
         (8_388_608, 524_273, Some(524_273), 1 + 3 * 2_049),
     ] {
         assert!(rt; taken <= 8_388_608);
-        let mut freemap = large(taken);
+        let mut freemap = made(524_289, taken);
         let want = match free {
             Some(free) => Err(SpaceFault::NoSpace { free, needed: 1 }),
             None => Ok(()),
@@ -224,14 +239,14 @@ fn damage_at(page: u64) -> Fault {
 }
 
 // A small volume where one byte of the entry of a big-block is another one, in one of the states.
-fn with_byte(state: State, block: u64, place: usize, value: u8) -> Freemap<Quiet>
+fn with_byte(state: State, block: u64, place: usize, value: u8) -> Freemap<OnePage>
     requires { place < 16 }
 {
     let (mut pages, _) = volume().into_parts();
     let page = match state {
-        State::Committed => &mut pages.0.committed,
-        State::Frozen => &mut pages.0.frozen,
-        State::Current => &mut pages.0.current,
+        State::Committed => &mut pages.committed,
+        State::Frozen => &mut pages.frozen,
+        State::Current => &mut pages.current,
     };
     put_u8(page, place_of(block) + place, value);
     again(pages)
@@ -240,34 +255,60 @@ fn with_byte(state: State, block: u64, place: usize, value: u8) -> Freemap<Quiet
 #[test]
 fn each_field_of_a_bad_entry_is_told_at_its_page(rt: HostRuntime) {
     for (block, place, value) in [
-        // The zone: of the freemap, none that there is, and a second byte.
-        (16u64, 0usize, 4u8),
+        // The zone: of the headers, the log, the freemap and the volume's end, none that there is,
+        // and a second byte.
+        (16u32, 0usize, 1u8),
+        (16, 0, 3),
+        (16, 0, 4),
+        (16, 0, 15),
+        (16, 0, 2),
         (16, 0, 5),
+        (16, 0, 7),
+        (16, 0, 12),
+        (16, 0, 14),
+        (16, 0, 16),
+        (16, 0, 255),
         (16, 1, 1),
-        (16, 2, 1),
+        (12, 2, 1),
         (16, 3, 1),
-        // The offset of an unused big-block, no whole page, no multiple of 16, and past the end.
+        // The offset: of an unused big-block, no whole page, no multiple of 16, and past the end.
         (16, 4, 16),
+        (23, 7, 1),
         (11, 4, 16),
+        (11, 5, 8),
         (12, 4, 88),
-        (12, 7, 1),
+        (13, 4, 8),
+        (14, 4, 1),
+        (11, 6, 128),
+        (12, 6, 128),
+        (13, 7, 1),
+        (14, 7, 128),
         // The free bytes of an unused one.
         (16, 8, 16),
+        (16, 9, 1),
+        (16, 10, 0),
+        (23, 11, 128),
         // What must be zero.
         (16, 12, 1),
-        (12, 13, 1),
+        (11, 13, 1),
         (12, 14, 1),
         (23, 15, 1),
     ] {
+        assert!(rt; place < 16);
         for state in [State::Committed, State::Frozen, State::Current] {
-            assert!(rt; place < 16);
-            let mut freemap = with_byte(state, block, place, value);
+            let mut freemap = with_byte(state, u64::from(block), place, value);
             assert_eq!(rt;
                 freemap.free_blocks(),
                 Err(damage_at(FIRST_PAGE)),
                 "{block} {place} {state:?}"
             );
         }
+        let mut freemap = with_byte(State::Current, u64::from(block), place, value);
+        assert_eq!(rt;
+            freemap.live_bytes(block),
+            Err(damage_at(FIRST_PAGE)),
+            "{block} {place}"
+        );
     }
 }
 
@@ -324,7 +365,7 @@ fn an_entry_that_tells_more_free_bytes_than_an_extent_leaves_is_damage(
             assert_eq!(rt; shared, Err(damage_at(FIRST_PAGE)), "{bytes_free} {len}");
             let (given, _) = giving.into_parts();
             let (shared, _) = sharing.into_parts();
-            assert_eq!(rt; (given.0.changes, shared.0.changes), (0, 0));
+            assert_eq!(rt; (given.changes, shared.changes), (0, 0));
         }
     }
     Ok(())
@@ -354,12 +395,12 @@ fn offsets_outside_the_pool_are_damage_at_the_page_of_their_entry(rt: HostRuntim
         );
         assert_eq!(rt; freemap.live_bytes(block), Err(damage_at(page)), "{block}");
         let (pages, _) = freemap.into_parts();
-        assert_eq!(rt; (pages.0.reads, pages.0.changes), (0, 0));
+        assert_eq!(rt; (pages.reads, pages.changes), (0, 0));
     }
 }
 
 // Takes an extent.
-fn take(freemap: &mut Freemap<Quiet>, zone: u8, len: u32) -> Result<HOff, Fault>
+fn take(freemap: &mut Freemap<OnePage>, zone: u8, len: u32) -> Result<HOff, Fault>
     requires some { 1 ≤ len }
     requires few { len ≤ 65536 }
     requires zone { (8 ≤ zone) × (zone ≤ 11) }
@@ -388,16 +429,39 @@ fn extents_follow_one_another_and_are_given_back(rt: HostRuntime) -> Result<(), 
 }
 
 #[test]
-fn taking_and_giving_touch_one_page(rt: HostRuntime) -> Result<(), Fail> {
-    let mut freemap = volume();
-    let at = take(&mut freemap, 10, 16_384)?;
-    let (pages, _) = freemap.into_parts();
-    assert_eq!(rt; (pages.0.reads, pages.0.changes), (1, 1));
-    let mut freemap = again(pages);
-    freemap.give_extent(at, 16_384)?;
-    let (pages, _) = freemap.into_parts();
-    assert_eq!(rt; (pages.0.reads, pages.0.changes), (2, 2));
+fn taking_and_giving_touch_one_page_of_any_volume(rt: HostRuntime) -> Result<(), Fail> {
+    for bigblocks in [24u32, 524_289, 1_048_576] {
+        assert!(rt; (24..=1_048_576).contains(&bigblocks));
+        let mut taking = made(bigblocks, 4_096);
+        let at = taking.take_extent(8, 4_096)?;
+        let (pages, _) = taking.into_parts();
+        assert_eq!(rt;
+            (pages.reads, pages.changes, pages.last),
+            (1, 1, FIRST_PAGE)
+        );
+        let mut giving = made(bigblocks, 4_096);
+        giving.give_extent(at, 4_096)?;
+        let (pages, _) = giving.into_parts();
+        assert_eq!(rt;
+            (pages.reads, pages.changes, pages.last),
+            (1, 1, FIRST_PAGE)
+        );
+    }
     Ok(())
+}
+
+#[test]
+fn a_change_where_the_store_has_no_page_is_refused(rt: HostRuntime) {
+    // The entries of these big-blocks stand in the second page of layer 2.
+    let append = [267, 268, 269, 270];
+    let (pages, _) = volume().into_parts();
+    let mut freemap = Freemap::over(pages, 300, append);
+    let at = HOff::make(9, 268 * 8_388_608).unwrap_or_default();
+    assert_eq!(rt; take(&mut freemap, 8, 4_096), Err(Fault::NoMemory));
+    assert_eq!(rt; freemap.share_extent(at, 80), Err(Fault::NoMemory));
+    assert_eq!(rt; freemap.give_extent(at, 80), Err(Fault::NoMemory));
+    let (pages, kept) = freemap.into_parts();
+    assert_eq!(rt; (pages.changes, kept), (0, append));
 }
 
 #[test]
@@ -431,8 +495,8 @@ fn a_big_block_that_is_live_in_the_frozen_state_alone_is_kept(rt: HostRuntime) -
     let full = owned(10, 8_388_608, 0);
     let freemap = put(volume(), 13, &full);
     let (mut pages, _) = freemap.into_parts();
-    owned(9, 16, 8_388_592).write(&mut pages.0.frozen, place_of(15));
-    owned(9, 16, 8_388_592).write(&mut pages.0.committed, place_of(16));
+    owned(9, 16, 8_388_592).write(&mut pages.frozen, place_of(15));
+    owned(9, 16, 8_388_592).write(&mut pages.committed, place_of(16));
     let mut freemap = again(pages);
     assert_eq!(rt; freemap.free_blocks()?, 7);
     assert!(rt; freemap.admit(Zones::LARGE, 4).is_ok());

@@ -1,12 +1,13 @@
 // What follows from the definitions alone: each function states one law, and does nothing.
-ghost use Rattle.std.specs.Prelude.{◌≡◌, ◌<◌, ◌≤◌, ◌+◌, ◌*◌, ℕ, List, [], ◌∷◌, ◌++◌, length, slice_index};
+ghost use Rattle.std.specs.Prelude.{◌≡◌, ◌≢◌, ◌<◌, ◌≤◌, ◌+◌, ◌*◌, ℕ, List, [], ◌∷◌, ◌++◌, length, slice_index};
 ghost use Rattle.hm_disk.specs.Crash.{Told};
 ghost use Rattle.hm_disk.specs.Transfer.{TornAll};
 ghost use Rattle.hm_header.specs.declared.fault.HeaderFault.{HeaderFault};
+ghost use Rattle.hm_header.specs.declared.fault.HeaderFault.TheVariants.{BadField};
 ghost use Rattle.hm_header.specs.declared.header.Header.{Header};
 ghost use Rattle.hm_header.specs.declared.header.TheConstants.{BODY_BYTES, GATE_OPEN, SLOT_BYTES};
 ghost use Rattle.hm_header.specs.Change.{AnyCrash, AreSlotsSettled, HasNextBody, IsClosedBeside, IsCounting};
-ghost use Rattle.hm_header.specs.Layout.{body_of};
+ghost use Rattle.hm_header.specs.Layout.{body_of, header_in};
 ghost use Rattle.hm_header.specs.Parts.{AreInRange, all_parts};
 ghost use Rattle.hm_header.specs.Range.{HasRoom, IsHeader};
 ghost use Rattle.hm_header.specs.Slots.{Counts, FirstCounts, SecondCounts, Follows, IsChosen, TakesPart};
@@ -66,6 +67,13 @@ pub fn no_chosen_header_has_a_fault()
     ensures { (first second : List ℕ) (size : ℕ) (header : Header) (number : ℕ)
         (fault : HeaderFault) → IsChosen first second size header number →
         IsFault first second size fault → ⊥ }
+{}
+
+/// Where a slot counts whose version is not 2, as a volume of version 1 has it, the fault is told at 8.
+pub fn another_version_is_bad_at_8()
+    ensures { (first second : List ℕ) (size number : ℕ) → Counts first second number →
+        (header_in (slot_of first second number)).version ≢ 2 →
+        IsFault first second size (BadField 8) }
 {}
 
 /// Of two slots that take part, the one with the next generation after the other's counts. So the

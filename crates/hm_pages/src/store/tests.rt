@@ -2,12 +2,12 @@
 
 use super::PageStore;
 use hm_fields::{Page, Pages, State, States, get_u64, put_u64};
-use hm_types::{FREEMAP_ZONE, Fault, HOff, Id, TREE_ZONE};
+use hm_types::{FREEMAP_ZONE, Fault, HOff, Id, TREE_ZONE, UNAVAILABLE_ZONE};
 use std::process::Abort;
 use std::test::Fail;
 
-// How many offsets the steps speak of. The last two are of the freemap.
-const PLACES: usize = 8;
+// How many offsets the steps speak of. Two are of the freemap, and the last is no page's.
+const PLACES: usize = 9;
 
 // What stands at each offset: 0 for no page, and else the number in it.
 type Map = [u8; PLACES];
@@ -34,8 +34,12 @@ enum Step {
 }
 
 fn place(rt: &impl Abort, i: usize) -> HOff {
-    let zone = if i < 6 { TREE_ZONE } else { FREEMAP_ZONE };
-    HOff::make(zone, 4096 * (i % PLACES) as u64).expect(rt, "an offset")
+    let (zone, byte) = match i {
+        8 => (UNAVAILABLE_ZONE, 0xF_FFFF_FFFF_FFFF),
+        6 | 7 => (FREEMAP_ZONE, 4096 * i as u64),
+        _ => (TREE_ZONE, 4096 * (i % 6) as u64),
+    };
+    HOff::make(zone, byte).expect(rt, "an offset")
 }
 
 fn numbered(number: u8) -> Page {
@@ -145,13 +149,15 @@ fn steps_do_what_they_do_to_three_plain_maps(rt: HostRuntime) -> Result<(), Fail
         Step::Keep,
         Step::Begin,
         Step::Undo,
-        // A call that is dropped: a page removed, one changed, new ones of the tree and the freemap.
+        // A call that is dropped: a page removed, one changed, and new ones where the store has none:
+        // of the tree, of the freemap, and at the greatest offset.
         Step::Begin,
         Step::Remove(0),
         Step::Change(1, 21),
         Step::Change(2, 22),
         Step::Change(6, 26),
         Step::Change(7, 27),
+        Step::Change(8, 28),
         Step::Undo,
         // The same call, kept.
         Step::Begin,
@@ -162,6 +168,7 @@ fn steps_do_what_they_do_to_three_plain_maps(rt: HostRuntime) -> Result<(), Fail
         Step::Change(3, 33),
         Step::Remove(3),
         Step::Change(6, 36),
+        Step::Change(8, 38),
         Step::Keep,
         Step::Freeze,
         // Three different numbers at one offset, and one removed that is frozen.
@@ -270,7 +277,7 @@ fn a_group_has_no_more_pages_than_it_may(rt: HostRuntime) -> Result<(), Fail> {
     );
     assert_eq!(rt;
         numbers_in(&rt, &mut store, State::Current)?,
-        [10, 0, 22, 23, 0, 0, 0, 0]
+        [10, 0, 22, 23, 0, 0, 0, 0, 0]
     );
     take(&rt, &mut store, Step::Keep)?;
     assert_eq!(rt; store.group_len(), 3);
