@@ -6,15 +6,17 @@ use Rattle.std.specs.List.{Contains, list_any}
 use Rattle.hm_types.specs.declared.limits.TheConstants.{MOST_FILE_BYTES}
 use Rattle.hm_path.specs.declared.part.Part.{Part}
 use Rattle.hm_model.specs.Caused.{number_of, on_a_change, on_a_file, on_a_name, on_a_read, on_a_walk, possible}
-use Rattle.hm_model.specs.Due.{fits_file, has_id}
-use Rattle.hm_model.specs.Sites.{Parsed, Parts}
+use Rattle.hm_model.specs.Due.{Check, fits_file, good_path, has_id, has_its_name, no_future, past_stays, refuse_if}
+use Rattle.hm_model.specs.Sites.{BadAt, Parsed, Parts, Use}
+use Rattle.hm_model.specs.declared.command.Command.{Command}
 use Rattle.hm_model.specs.declared.reply.Reply.{Reply}
-use Rattle.hm_model.specs.declared.reply.Reply.TheVariants.{Exists, HashFull, NoSpace, NotDir, NotFound, NotRetained, TooBig}
+use Rattle.hm_model.specs.declared.reply.Reply.TheVariants.{BadPath, Exists, Future, HashFull, NoSpace, NotDir, NotFound, NotRetained, ReadOnly, TooBig}
 use Rattle.hm_model.proofs.DueLemmas.{of_test}
 use Rattle.hm_records.proofs.MemberLemmas.{has_tail}
 use Rattle.hm_calls.specs.Edits.{command_for, end_of}
 use Rattle.hm_calls.specs.New.{command_by}
-use Rattle.hm_calls.specs.Possible.{IsLost, IsNoSpace, RefusesBeside, RefusesOver}
+use Rattle.hm_calls.specs.Places.{IsBadPath}
+use Rattle.hm_calls.specs.Possible.{IsLost, IsNoSpace, IsOwn, RefusesBeside, RefusesOver}
 use Rattle.hm_calls.specs.declared.edit.Edit.{Edit}
 use Rattle.hm_calls.specs.declared.edit.Edit.TheVariants.{Fill, Truncate, Write}
 use Rattle.hm_calls.specs.declared.new.New.{New}
@@ -22,32 +24,65 @@ use Rattle.hm_calls.specs.declared.new.New.TheVariants.{Directory, File, Snapsho
 
 -- ---- replies by their numbers
 
-abbrev pub IsAmong : List ℕ → Reply → Type 0
-IsAmong numbers reply = Contains numbers (number_of reply)
+-- a reply is a call's own, with one of these numbers
+pub record IsAmong (numbers : List ℕ) (reply : Reply) : Type 0 where
+  pub own : IsOwn reply
+  pub listed : Contains numbers (number_of reply)
 
 -- the refusals of a walk, that for want of space, and one that is known
 pub lost_among : (numbers : List ℕ) (ids : Bool) → Contains numbers 2 → Contains numbers 3 → (ids ≡ true → Contains numbers 8)
     → (reply : Reply) → IsLost ids reply → IsAmong numbers reply
-lost_among numbers ids lost no_directory kept NotFound is = lost
-lost_among numbers ids lost no_directory kept NotDir is = no_directory
-lost_among numbers ids lost no_directory kept NotRetained is = kept is
+lost_among numbers ids lost no_directory kept NotFound is = record { own = tt; listed = lost }
+lost_among numbers ids lost no_directory kept NotDir is = record { own = tt; listed = no_directory }
+lost_among numbers ids lost no_directory kept NotRetained is = record { own = tt; listed = kept is }
 lost_among numbers ids lost no_directory kept other is = absurd is
 
 pub space_among : (numbers : List ℕ) → Contains numbers 20 → (reply : Reply) → IsNoSpace reply → IsAmong numbers reply
-space_among numbers lacks (NoSpace free needed) is = lacks
+space_among numbers lacks (NoSpace free needed) is = record { own = tt; listed = lacks }
 space_among numbers lacks other is = absurd is
 
-pub one_among : (numbers : List ℕ) (refusal : Reply) → IsAmong numbers refusal → (reply : Reply) → reply ≡ refusal → IsAmong numbers reply
-one_among numbers refusal has reply is = subst (IsAmong numbers) (sym is) has
+pub one_among : (numbers : List ℕ) (refusal : Reply) → IsOwn refusal → Contains numbers (number_of refusal) → (reply : Reply) → reply ≡ refusal
+    → IsAmong numbers reply
+one_among numbers refusal own has reply is = subst (IsAmong numbers) (sym is) (record { own = own; listed = has })
 
 -- the refusals of a move to a name that is not there yet, and of one to a name that leads to an object
 pub beside_among : (numbers : List ℕ) → Contains numbers 13 → Contains numbers 20 → (reply : Reply) → RefusesBeside reply → IsAmong numbers reply
-beside_among numbers full lacks reply (inl is) = one_among numbers HashFull full reply is
+beside_among numbers full lacks reply (inl is) = one_among numbers HashFull tt full reply is
 beside_among numbers full lacks reply (inr is) = space_among numbers lacks reply is
 
 pub over_among : (numbers : List ℕ) → Contains numbers 1 → Contains numbers 20 → (reply : Reply) → RefusesOver reply → IsAmong numbers reply
-over_among numbers there lacks reply (inl is) = one_among numbers Exists there reply is
+over_among numbers there lacks reply (inl is) = one_among numbers Exists tt there reply is
 over_among numbers there lacks reply (inr is) = space_among numbers lacks reply is
+
+-- ---- the refusals of the early checks
+
+-- a check refuses by a call's own reply
+abbrev pub RefusesOwn : Check → Type 0
+RefusesOwn (Some refusal) = IsOwn refusal
+RefusesOwn None = Unit {0}
+
+pub refusal_own : (check : Check) → RefusesOwn check → (reply : Reply) → check ≡ Some reply → IsOwn reply
+refusal_own check own reply is = subst RefusesOwn is own
+
+tested_own : (test : Bool) (refusal : Reply) → IsOwn refusal → RefusesOwn (refuse_if test refusal)
+tested_own true refusal own = own
+tested_own false refusal own = tt
+
+pub bad_own : (word : List ℕ) (reply : Reply) → IsBadPath word reply → IsOwn reply
+bad_own word reply bad = subst IsOwn (sym bad.1) tt
+
+pub good_own : (u : Use) (path : Parsed) → RefusesOwn (good_path u path)
+good_own u (BadAt place) = tt
+good_own u (Parts parts) = by (has_its_name u parts) where
+  by : (test : Bool) → RefusesOwn (if test then None else Some (BadPath 0))
+  by true = tt
+  by false = tt
+
+pub future_own : (last : ℕ) (path : Parsed) → RefusesOwn (no_future last path)
+future_own last path = tested_own _ (Future (record { 0 = last })) tt
+
+pub past_own : (command : Command) (paths : List Parsed) → RefusesOwn (past_stays command paths)
+past_own command paths = tested_own _ ReadOnly tt
 
 -- ---- the lists of commands
 
@@ -99,7 +134,7 @@ large_among end reply is = by (nat_lt MOST_FILE_BYTES end) refl where
   by : (large : Bool) → nat_lt MOST_FILE_BYTES end ≡ large → IsAmong (on_a_file end) reply
   by true large =
       let same : TooBig ≡ reply = let one : Some TooBig ≡ Some reply = rw large at is in cc in
-      subst (IsAmong (on_a_file end)) same (too_large end large)
+      subst (IsAmong (on_a_file end)) same (record { own = tt; listed = too_large end large })
   by false small = absurd (let lost : None ≡ Some reply = rw small at is in cc)
 
 pub not_large : (end : ℕ) → fits_file end ≡ None → nat_lt MOST_FILE_BYTES end ≡ false
@@ -127,6 +162,11 @@ made_has new word paths n = subst (λ (numbers : List ℕ). Contains numbers n) 
 pub edit_has : (edit : Edit) (word : List ℕ) (paths : List Parsed) (n : ℕ) → Contains (on_a_file (end_of edit)) n
     → Contains (possible (command_for edit word) paths) n
 edit_has edit word paths n = subst (λ (numbers : List ℕ). Contains numbers n) (sym (edit_numbers edit word paths))
+
+pub edit_large : (edit : Edit) (word : List ℕ) (paths : List Parsed) (reply : Reply) → fits_file (end_of edit) ≡ Some reply
+    → IsAmong (possible (command_for edit word) paths) reply
+edit_large edit word paths reply is =
+    subst (λ (numbers : List ℕ). IsAmong numbers reply) (sym (edit_numbers edit word paths)) (large_among (end_of edit) reply is)
 
 -- a path with an id is one of a read
 pub kept_one : (parts : List Part) → has_id (Parts parts) ≡ true → Contains (on_a_read (Parts parts ∷ [])) 8

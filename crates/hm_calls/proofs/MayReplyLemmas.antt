@@ -5,9 +5,9 @@ use Rattle.std.specs.List.{AllZip, Contains}
 use Rattle.std.proofs.lemmas.Bool.{false≢true}
 use Rattle.hm_path.specs.declared.part.Part.{Part}
 use Rattle.hm_path.specs.Path.{IsPath}
-use Rattle.hm_model.specs.Caused.{IsPossible, possible}
+use Rattle.hm_model.specs.Caused.{IsPossible, number_of, possible}
 use Rattle.hm_model.specs.Due.{Check, early_checks, first_refusal, good_path, has_id, no_future, past_stays, refuse_if}
-use Rattle.hm_model.specs.Sites.{IsParsed, MakesName, Parsed, Parts, TakesName, Use, Walks, front_of, last_name, uses_of}
+use Rattle.hm_model.specs.Sites.{IsParsed, MakesName, Parsed, Parts, ReadsWords, TakesName, Use, Walks, front_of, last_name, uses_of}
 use Rattle.hm_model.specs.Walk.{Follows, Stays}
 use Rattle.hm_model.specs.declared.command.Command.{Command}
 use Rattle.hm_model.specs.declared.command.Command.TheVariants.{Cat, Ln, Ls, Mv, Readlink, Rm, Rmdir, Stat}
@@ -18,7 +18,7 @@ use Rattle.hm_dirs.specs.declared.position.Course.{Course}
 use Rattle.hm_calls.specs.Edits.{command_for}
 use Rattle.hm_calls.specs.New.{command_by}
 use Rattle.hm_calls.specs.Places.{IsBadPath}
-use Rattle.hm_calls.specs.Possible.{Gives, IsGiven, IsLost, IsNoSpace}
+use Rattle.hm_calls.specs.Possible.{Gives, IsGiven, IsLost, IsNoSpace, IsOwn}
 use Rattle.hm_calls.specs.Stop.{Decides, OfRefusal}
 use Rattle.hm_calls.specs.declared.edit.Edit.{Edit}
 use Rattle.hm_calls.specs.declared.edit.Edit.TheVariants.{Fill, Truncate, Write}
@@ -26,7 +26,7 @@ use Rattle.hm_calls.specs.declared.new.New.{New}
 use Rattle.hm_calls.specs.declared.new.New.TheVariants.{Directory, File, Snapshot, Softlink}
 use Rattle.hm_calls.specs.declared.stop.Stop.{Stop}
 use Rattle.hm_calls.specs.declared.stop.Stop.TheVariants.{Failed, Refused}
-use Rattle.hm_calls.proofs.GivenLemmas.{IsAmong, lost_among, one_among, space_among}
+use Rattle.hm_calls.proofs.GivenLemmas.{IsAmong, RefusesOwn, bad_own, future_own, good_own, lost_among, one_among, past_own, refusal_own, space_among}
 use Rattle.hm_calls.proofs.MakeLemmas.{make_past}
 use Rattle.hm_calls.proofs.PlaceLemmas.{front_has_none}
 use Rattle.hm_calls.proofs.RefusalLemmas.{AsRead, IsFirst, PassBoth, PassEarly, all_pass, bad_once, pass, read_one, read_two, refuse_second, stop}
@@ -41,7 +41,7 @@ refused_first list numbers reply first = subst (λ (check : Check). IsPossible c
 
 passed_first : (list : List Check) (numbers : List ℕ) (reply : Reply) → IsFirst list None → IsAmong numbers reply
     → IsPossible (first_refusal list) numbers reply
-passed_first list numbers reply first has = subst (λ (check : Check). IsPossible check numbers reply) (sym first.is) has
+passed_first list numbers reply first has = subst (λ (check : Check). IsPossible check numbers reply) (sym first.is) has.listed
 
 -- the early checks of a command of one word
 abbrev early_one : ℕ → Command → Use → Parsed → List Check
@@ -75,19 +75,22 @@ module _ (id : ℕ) (command : Command) where
 -- ---- calls of one word
 
 module _ (id : ℕ) (command : Command) (u : Use) (word : List ℕ) (asks : AsksOne command u word) where
-  by_one : (reply : Reply)
+  by_one : (reply : Reply) → IsOwn reply
       → ((path : Parsed) → IsParsed word path → IsPossible (first_refusal (early_one (id - 1) command u path)) (possible command (path ∷ [])) reply)
       → IsGiven id command reply
-  by_one reply each busy paths reads =
-      let one = read_one u word paths (subst (λ (us : List (Use × List ℕ)). AllZip AsRead us paths) asks.uses reads) in
-      subst (λ (ps : List Parsed). IsPossible (first_refusal (early_checks (id - 1) busy command ps)) (possible command ps) reply) (sym one.1)
-      (subst (λ (list : List Check). IsPossible (first_refusal list) (possible command (one.0 ∷ [])) reply) (sym (asks.early (id - 1) busy one.0))
-      (each one.0 one.2))
+  by_one reply own each busy = record { own = own; listed = λ paths reads. of_words paths reads } where
+    of_words : (paths : List Parsed) → ReadsWords command paths
+        → IsPossible (first_refusal (early_checks (id - 1) busy command paths)) (possible command paths) reply
+    of_words paths reads =
+        let one = read_one u word paths (subst (λ (us : List (Use × List ℕ)). AllZip AsRead us paths) asks.uses reads) in
+        subst (λ (ps : List Parsed). IsPossible (first_refusal (early_checks (id - 1) busy command ps)) (possible command ps) reply) (sym one.1)
+        (subst (λ (list : List Check). IsPossible (first_refusal list) (possible command (one.0 ∷ [])) reply) (sym (asks.early (id - 1) busy one.0))
+        (each one.0 one.2))
 
   -- its word is no path
   pub word_gives : (result : Result Reply Stop) (stopped : Stop) → result ≡ Err stopped → OfRefusal (IsBadPath word) stopped → Gives id command result
   word_gives =
-      stopped_given id command (IsBadPath word) (λ reply bad. by_one reply (λ path reads.
+      stopped_given id command (IsBadPath word) (λ reply bad. by_one reply (bad_own word reply bad) (λ path reads.
       refused_first (early_one (id - 1) command u path) (possible command (path ∷ [])) reply (pass refl (stop (bad_once u word reply path bad reads)))))
 
   module _ (course : Course) (before : course.last.0 + 1 ≡ id) (parts : List Part) (path_is : IsPath word parts) where
@@ -97,37 +100,41 @@ module _ (id : ℕ) (command : Command) (u : Use) (word : List ℕ) (asks : Asks
     abbrev pub numbers_here : List ℕ
     numbers_here = possible command (Parts parts ∷ [])
 
-    by_path : (reply : Reply) → IsPossible (first_refusal early_here) numbers_here reply → IsGiven id command reply
-    by_path reply is =
-        by_one reply (λ path reads.
+    by_path : (reply : Reply) → IsOwn reply → IsPossible (first_refusal early_here) numbers_here reply → IsGiven id command reply
+    by_path reply own is =
+        by_one reply own (λ path reads.
         subst (λ (p : Parsed). IsPossible (first_refusal (early_one (id - 1) command u p)) (possible command (p ∷ [])) reply)
         (sym (read_once word parts path path_is reads))
         (subst (λ (last : ℕ). IsPossible (first_refusal (early_one last command u (Parts parts))) numbers_here reply) (omega (arith, before)) is))
 
-    early_gives : (check : Check) → ((reply : Reply) → check ≡ Some reply → IsFirst early_here (Some reply))
+    early_gives : (check : Check) → RefusesOwn check → ((reply : Reply) → check ≡ Some reply → IsFirst early_here (Some reply))
         → (result : Result Reply Stop) (stopped : Stop) → result ≡ Err stopped → IsStoppedBy check stopped → Gives id command result
-    early_gives check first =
+    early_gives check own first =
         stopped_given id command (λ reply. check ≡ Some reply)
-        (λ reply is. by_path reply (refused_first early_here numbers_here reply (first reply is)))
+        (λ reply is. by_path reply (refusal_own check own reply is) (refused_first early_here numbers_here reply (first reply is)))
 
     -- it lacks a name that it needs; it has an id in the future; it has one where there must be none
     pub name_gives : (result : Result Reply Stop) (stopped : Stop) → result ≡ Err stopped → IsStoppedBy (good_path u (Parts parts)) stopped
         → Gives id command result
-    name_gives = early_gives (good_path u (Parts parts)) (λ reply is. pass refl (stop is))
+    name_gives = early_gives (good_path u (Parts parts)) (good_own u (Parts parts)) (λ reply is. pass refl (stop is))
 
     pub future_gives : good_path u (Parts parts) ≡ None → (result : Result Reply Stop) (stopped : Stop) → result ≡ Err stopped
         → IsStoppedBy (no_future course.last.0 (Parts parts)) stopped → Gives id command result
-    future_gives good = early_gives (no_future course.last.0 (Parts parts)) (λ reply is. pass refl (pass good (stop is)))
+    future_gives good =
+        early_gives (no_future course.last.0 (Parts parts)) (future_own course.last.0 (Parts parts))
+        (λ reply is. pass refl (pass good (stop is)))
 
     pub past_gives : good_path u (Parts parts) ≡ None → no_future course.last.0 (Parts parts) ≡ None → (result : Result Reply Stop) (stopped : Stop)
         → result ≡ Err stopped → IsStoppedBy (past_stays command (Parts parts ∷ [])) stopped → Gives id command result
     past_gives good future =
-        early_gives (past_stays command (Parts parts ∷ [])) (λ reply is. pass refl (pass good (pass future (pass refl (stop is)))))
+        early_gives (past_stays command (Parts parts ∷ [])) (past_own command (Parts parts ∷ []))
+        (λ reply is. pass refl (pass good (pass future (pass refl (stop is)))))
 
     module _ (early : PassEarly command u course.last.0 parts) where
       later : (reply : Reply) → IsAmong numbers_here reply → IsGiven id command reply
       later reply has =
-          by_path reply (passed_first early_here numbers_here reply (pass refl (pass early.good (pass early.future (pass refl (pass early.past all_pass)))))
+          by_path reply has.own
+          (passed_first early_here numbers_here reply (pass refl (pass early.good (pass early.future (pass refl (pass early.past all_pass)))))
           has)
 
       -- a later step refuses: by some refusals, by one, by those of a walk, and for want of space
@@ -135,9 +142,10 @@ module _ (id : ℕ) (command : Command) (u : Use) (word : List ℕ) (asks : Asks
           → (result : Result Reply Stop) (stopped : Stop) → result ≡ Err stopped → OfRefusal P stopped → Gives id command result
       later_gives P each = stopped_given id command P (λ reply refuses. later reply (each reply refuses))
 
-      pub one_gives : (refusal : Reply) → IsAmong numbers_here refusal → (result : Result Reply Stop) (stopped : Stop) → result ≡ Err stopped
+      pub one_gives : (refusal : Reply) → IsOwn refusal → Contains numbers_here (number_of refusal)
+          → (result : Result Reply Stop) (stopped : Stop) → result ≡ Err stopped
           → OfRefusal (λ reply. reply ≡ refusal) stopped → Gives id command result
-      one_gives refusal has = later_gives (λ reply. reply ≡ refusal) (one_among numbers_here refusal has)
+      one_gives refusal own has = later_gives (λ reply. reply ≡ refusal) (one_among numbers_here refusal own has)
 
       pub lost_gives : (ids : Bool) → Contains numbers_here 2 → Contains numbers_here 3 → (ids ≡ true → Contains numbers_here 8)
           → (result : Result Reply Stop) (stopped : Stop) → result ≡ Err stopped → OfRefusal (IsLost ids) stopped → Gives id command result
@@ -148,47 +156,51 @@ module _ (id : ℕ) (command : Command) (u : Use) (word : List ℕ) (asks : Asks
       space_gives lacks = later_gives IsNoSpace (space_among numbers_here lacks)
 
       -- the reply at the end
-      pub end_gives : (reply : Reply) → IsAmong numbers_here reply → Gives id command (Ok reply)
-      end_gives = later
+      pub end_gives : (reply : Reply) → IsOwn reply → Contains numbers_here (number_of reply) → Gives id command (Ok reply)
+      end_gives reply own has = later reply (record { own = own; listed = has })
 
 -- ---- calls of two
 
 module _ (id : ℕ) (command : Command) (u v : Use) (word other : List ℕ) (asks : AsksTwo command u v word other) where
-  by_two : (reply : Reply) → ((path next : Parsed) → IsParsed word path → IsParsed other next
+  by_two : (reply : Reply) → IsOwn reply → ((path next : Parsed) → IsParsed word path → IsParsed other next
       → IsPossible (first_refusal (early_two (id - 1) command u v path next)) (possible command (path ∷ next ∷ [])) reply) → IsGiven id command reply
-  by_two reply each busy paths reads =
-      let (path, next, same, path_is, next_is) =
-      read_two u v word other paths (subst (λ (us : List (Use × List ℕ)). AllZip AsRead us paths) asks.uses reads) in
-      subst (λ (ps : List Parsed). IsPossible (first_refusal (early_checks (id - 1) busy command ps)) (possible command ps) reply) (sym same)
-      (subst (λ (list : List Check). IsPossible (first_refusal list) (possible command (path ∷ next ∷ [])) reply) (sym (asks.early (id - 1) busy path next))
-      (each path next path_is next_is))
+  by_two reply own each busy = record { own = own; listed = λ paths reads. of_words paths reads } where
+    of_words : (paths : List Parsed) → ReadsWords command paths
+        → IsPossible (first_refusal (early_checks (id - 1) busy command paths)) (possible command paths) reply
+    of_words paths reads =
+        let (path, next, same, path_is, next_is) =
+        read_two u v word other paths (subst (λ (us : List (Use × List ℕ)). AllZip AsRead us paths) asks.uses reads) in
+        subst (λ (ps : List Parsed). IsPossible (first_refusal (early_checks (id - 1) busy command ps)) (possible command ps) reply) (sym same)
+        (subst (λ (list : List Check). IsPossible (first_refusal list) (possible command (path ∷ next ∷ [])) reply) (sym (asks.early (id - 1) busy path next))
+        (each path next path_is next_is))
 
   pub first_word_gives : (result : Result Reply Stop) (stopped : Stop) → result ≡ Err stopped → OfRefusal (IsBadPath word) stopped
       → Gives id command result
   first_word_gives =
-      stopped_given id command (IsBadPath word) (λ reply bad. by_two reply (λ path next reads reads'.
+      stopped_given id command (IsBadPath word) (λ reply bad. by_two reply (bad_own word reply bad) (λ path next reads reads'.
       refused_first (early_two (id - 1) command u v path next) (possible command (path ∷ next ∷ [])) reply
       (pass refl (stop (bad_once u word reply path bad reads)))))
 
   module _ (parts : List Part) (path_is : IsPath word parts) where
-    by_first : (reply : Reply) → ((next : Parsed) → IsParsed other next
+    by_first : (reply : Reply) → IsOwn reply → ((next : Parsed) → IsParsed other next
         → IsPossible (first_refusal (early_two (id - 1) command u v (Parts parts) next)) (possible command (Parts parts ∷ next ∷ [])) reply)
         → IsGiven id command reply
-    by_first reply each =
-        by_two reply (λ path next reads reads'.
+    by_first reply own each =
+        by_two reply own (λ path next reads reads'.
         subst (λ (p : Parsed). IsPossible (first_refusal (early_two (id - 1) command u v p next)) (possible command (p ∷ next ∷ [])) reply)
         (sym (read_once word parts path path_is reads)) (each next reads'))
 
     pub first_name_gives : (result : Result Reply Stop) (stopped : Stop) → result ≡ Err stopped → IsStoppedBy (good_path u (Parts parts)) stopped
         → Gives id command result
     first_name_gives =
-        stopped_given id command (λ reply. good_path u (Parts parts) ≡ Some reply) (λ reply is. by_first reply (λ next reads.
+        stopped_given id command (λ reply. good_path u (Parts parts) ≡ Some reply)
+        (λ reply is. by_first reply (refusal_own (good_path u (Parts parts)) (good_own u (Parts parts)) reply is) (λ next reads.
         refused_first (early_two (id - 1) command u v (Parts parts) next) (possible command (Parts parts ∷ next ∷ [])) reply (pass refl (stop is))))
 
     pub second_word_gives : good_path u (Parts parts) ≡ None → (result : Result Reply Stop) (stopped : Stop) → result ≡ Err stopped
         → OfRefusal (IsBadPath other) stopped → Gives id command result
     second_word_gives good =
-        stopped_given id command (IsBadPath other) (λ reply bad. by_first reply (λ next reads.
+        stopped_given id command (IsBadPath other) (λ reply bad. by_first reply (bad_own other reply bad) (λ next reads.
         refused_first (early_two (id - 1) command u v (Parts parts) next) (possible command (Parts parts ∷ next ∷ [])) reply
         (pass refl (pass good (stop (bad_once v other reply next bad reads))))))
 
@@ -199,46 +211,49 @@ module _ (id : ℕ) (command : Command) (u v : Use) (word other : List ℕ) (ask
       abbrev pub numbers_both : List ℕ
       numbers_both = possible command (Parts parts ∷ Parts more ∷ [])
 
-      by_both : (reply : Reply) → IsPossible (first_refusal early_both) numbers_both reply → IsGiven id command reply
-      by_both reply is =
-          by_first reply (λ next reads.
+      by_both : (reply : Reply) → IsOwn reply → IsPossible (first_refusal early_both) numbers_both reply → IsGiven id command reply
+      by_both reply own is =
+          by_first reply own (λ next reads.
           subst (λ (p : Parsed). IsPossible (first_refusal (early_two (id - 1) command u v (Parts parts) p)) (possible command (Parts parts ∷ p ∷ [])) reply)
           (sym (read_once other more next more_is reads))
           (subst (λ (last : ℕ). IsPossible (first_refusal (early_two last command u v (Parts parts) (Parts more))) numbers_both reply)
           (omega (arith, before)) is))
 
-      early_stops : (check : Check) → ((reply : Reply) → check ≡ Some reply → IsFirst early_both (Some reply))
+      early_stops : (check : Check) → RefusesOwn check → ((reply : Reply) → check ≡ Some reply → IsFirst early_both (Some reply))
           → (result : Result Reply Stop) (stopped : Stop) → result ≡ Err stopped → IsStoppedBy check stopped → Gives id command result
-      early_stops check first =
+      early_stops check own first =
           stopped_given id command (λ reply. check ≡ Some reply)
-          (λ reply is. by_both reply (refused_first early_both numbers_both reply (first reply is)))
+          (λ reply is. by_both reply (refusal_own check own reply is) (refused_first early_both numbers_both reply (first reply is)))
 
       module _ (good : good_path u (Parts parts) ≡ None) where
         pub second_name_gives : (result : Result Reply Stop) (stopped : Stop) → result ≡ Err stopped → IsStoppedBy (good_path v (Parts more)) stopped
             → Gives id command result
-        second_name_gives = early_stops (good_path v (Parts more)) (λ reply is. pass refl (pass good (stop is)))
+        second_name_gives = early_stops (good_path v (Parts more)) (good_own v (Parts more)) (λ reply is. pass refl (pass good (stop is)))
 
         module _ (fine : good_path v (Parts more) ≡ None) where
           pub first_future_gives : (result : Result Reply Stop) (stopped : Stop) → result ≡ Err stopped
               → IsStoppedBy (no_future course.last.0 (Parts parts)) stopped → Gives id command result
-          first_future_gives = early_stops (no_future course.last.0 (Parts parts)) (λ reply is. pass refl (pass good (pass fine (stop is))))
+          first_future_gives =
+              early_stops (no_future course.last.0 (Parts parts)) (future_own course.last.0 (Parts parts))
+              (λ reply is. pass refl (pass good (pass fine (stop is))))
 
           pub second_future_gives : no_future course.last.0 (Parts parts) ≡ None → (result : Result Reply Stop) (stopped : Stop) → result ≡ Err stopped
               → IsStoppedBy (no_future course.last.0 (Parts more)) stopped → Gives id command result
           second_future_gives future =
-              early_stops (no_future course.last.0 (Parts more)) (λ reply is. pass refl (pass good (pass fine (pass future (stop is)))))
+              early_stops (no_future course.last.0 (Parts more)) (future_own course.last.0 (Parts more))
+              (λ reply is. pass refl (pass good (pass fine (pass future (stop is)))))
 
           pub both_past_gives : no_future course.last.0 (Parts parts) ≡ None → no_future course.last.0 (Parts more) ≡ None
               → (result : Result Reply Stop) (stopped : Stop) → result ≡ Err stopped
               → IsStoppedBy (past_stays command (Parts parts ∷ Parts more ∷ [])) stopped → Gives id command result
           both_past_gives future next =
-              early_stops (past_stays command (Parts parts ∷ Parts more ∷ []))
+              early_stops (past_stays command (Parts parts ∷ Parts more ∷ [])) (past_own command (Parts parts ∷ Parts more ∷ []))
               (λ reply is. pass refl (pass good (pass fine (pass future (pass next (pass refl (stop is)))))))
 
       module _ (early : PassBoth command u v course.last.0 parts more) where
         after : (reply : Reply) → IsAmong numbers_both reply → IsGiven id command reply
         after reply has =
-            by_both reply (passed_first early_both numbers_both reply (pass refl (pass early.good (pass early.fine (pass early.future (pass early.later
+            by_both reply has.own (passed_first early_both numbers_both reply (pass refl (pass early.good (pass early.fine (pass early.future (pass early.later
             (pass refl (pass early.past all_pass))))))) has)
 
         -- a later step refuses: by some refusals, by one, by those of a walk, and for want of space
@@ -246,9 +261,10 @@ module _ (id : ℕ) (command : Command) (u v : Use) (word other : List ℕ) (ask
             → (result : Result Reply Stop) (stopped : Stop) → result ≡ Err stopped → OfRefusal P stopped → Gives id command result
         after_gives P each = stopped_given id command P (λ reply refuses. after reply (each reply refuses))
 
-        pub one_after : (refusal : Reply) → IsAmong numbers_both refusal → (result : Result Reply Stop) (stopped : Stop) → result ≡ Err stopped
+        pub one_after : (refusal : Reply) → IsOwn refusal → Contains numbers_both (number_of refusal)
+            → (result : Result Reply Stop) (stopped : Stop) → result ≡ Err stopped
             → OfRefusal (λ reply. reply ≡ refusal) stopped → Gives id command result
-        one_after refusal has = after_gives (λ reply. reply ≡ refusal) (one_among numbers_both refusal has)
+        one_after refusal own has = after_gives (λ reply. reply ≡ refusal) (one_among numbers_both refusal own has)
 
         pub lost_after : (ids : Bool) → ids ≡ false → Contains numbers_both 2 → Contains numbers_both 3
             → (result : Result Reply Stop) (stopped : Stop) → result ≡ Err stopped → OfRefusal (IsLost ids) stopped → Gives id command result
@@ -260,8 +276,8 @@ module _ (id : ℕ) (command : Command) (u v : Use) (word other : List ℕ) (ask
         space_after lacks = after_gives IsNoSpace (space_among numbers_both lacks)
 
         -- the reply at the end
-        pub end_after : (reply : Reply) → IsAmong numbers_both reply → Gives id command (Ok reply)
-        end_after = after
+        pub end_after : (reply : Reply) → IsOwn reply → Contains numbers_both (number_of reply) → Gives id command (Ok reply)
+        end_after reply own has = after reply (record { own = own; listed = has })
 
 -- one that is refused unless a test holds
 pub unless_told : (T : Type 0) (test : Bool) (refusal : Reply) (stopped : Stop) → Decides {T = T} (if test then None else Some refusal) (Err stopped)

@@ -5,16 +5,24 @@ use Rattle.hm_model.specs.Due.{early_checks, first_refusal}
 use Rattle.hm_model.specs.Sites.{Parsed, ReadsWords}
 use Rattle.hm_model.specs.declared.command.Command.{Command}
 use Rattle.hm_model.specs.declared.reply.Reply.{Reply}
-use Rattle.hm_model.specs.declared.reply.Reply.TheVariants.{Exists, HashFull, NoSpace, NotDir, NotFound, NotRetained}
+use Rattle.hm_model.specs.declared.reply.Reply.TheVariants.{Damaged, Exists, HashFull, Media, NoMemory, NoSpace, NotDir, NotFound, NotRetained}
 use Rattle.hm_calls.specs.Stop.{OfRefusal}
 use Rattle.hm_calls.specs.declared.stop.Stop.{Stop}
 
--- A reply is one that a call may have by its words alone: the refusal of the first of its early checks that fails, or one of
--- those that its command can give.
-abbrev pub MayReply : ℕ → Option ℕ → Command → Reply → Type 0
-MayReply last busy command reply =
-    (paths : List Parsed) → ReadsWords command paths
-    → IsPossible (first_refusal (early_checks last busy command paths)) (possible command paths) reply
+-- A reply is a call's own: it tells no device that failed, no damage and no want of memory. These are faults, of which a call
+-- makes no reply.
+abbrev pub IsOwn : Reply → Type 0
+IsOwn (Media before after) = ⊥
+IsOwn (Damaged at kind) = ⊥
+IsOwn NoMemory = ⊥
+IsOwn other = Unit {0}
+
+-- A reply is one that a call may have by its words alone: its own, and the refusal of the first of its early checks that fails,
+-- or one of those that its command can give.
+pub record MayReply (last : ℕ) (busy : Option ℕ) (command : Command) (reply : Reply) : Type 0 where
+  pub own : IsOwn reply
+  pub listed : (paths : List Parsed) → ReadsWords command paths
+      → IsPossible (first_refusal (early_checks last busy command paths)) (possible command paths) reply
 
 -- such a reply of a call by this id, whatever mirror or upgrade call is open
 abbrev pub IsGiven : ℕ → Command → Reply → Type 0

@@ -4,6 +4,7 @@ use Rattle.std.proofs.Common.{IsTrue, false, refl, sym, ap, subst, ◌∙◌, ar
 use Rattle.std.proofs.Common.{Result, Err, nat_eq, eqb-true}
 use Rattle.std.specs.Prelude.{IfSome, IsSome}
 use Rattle.hm_types.specs.Elements.{FullElement}
+use Rattle.hm_types.specs.Faults.{IsCaused}
 use Rattle.hm_types.specs.Space.{reserve_of}
 use Rattle.hm_types.specs.declared.fault.Fault.{Fault}
 use Rattle.hm_types.specs.declared.fault.Fault.TheVariants.{Damaged as damage, Media as device, NoMemory as no_memory}
@@ -44,6 +45,7 @@ use Rattle.hm_core.specs.Calls.{IsNextCall}
 use Rattle.hm_core.specs.Ledger.{IsPaid, calls_in}
 use Rattle.hm_core.specs.Told.{ArePages, HoldsSame, HoldsTold, TellsFailure, TellsHeld, reply_to}
 use Rattle.hm_core.proofs.CallLemmas.{failed_call, served_call}
+use Rattle.hm_core.proofs.CausedLemmas.{fault_goes_on, reply_goes_on}
 use Rattle.hm_core.proofs.CommittedLemmas.{SameCommitted, backed_same, kept_framed, kept_same}
 use Rattle.hm_core.proofs.FaultLemmas.{no_damage_told}
 use Rattle.hm_core.proofs.LedgerLemmas.{paid_call}
@@ -266,6 +268,10 @@ module _ {S : Type 0} (heap : S → Heap) (root_of : S → ℕ) (h : Heap) (root
       closed = record { begin = keeps.pages.begin; whole = ap (λ (x : Heap). x.whole) keeps.rest ∙ whole };
       counted = counted;
       silent = no_boundary last None command (words_are_read command).0 reply served (words_are_read command).1 may;
+      caused = λ first start history entry is so_far.
+          reply_goes_on first start faults faults' last history so_far counted entry left is.own (subst IsOnTrees (sym is.call_is) served)
+          (subst (λ (c : Command). MayReply last None c entry.reply) (sym is.call_is)
+          (subst (λ (r : Reply). MayReply last None command r) (sym is.reply_is) may));
       committed = committed_end (record {
         bigblocks = ap (λ (x : Heap). x.bigblocks) keeps.rest;
         disk = ap (λ (x : Heap). x.disk) keeps.rest;
@@ -296,7 +302,8 @@ module _ {S : Type 0} (heap : S → Heap) (root_of : S → ℕ) (h : Heap) (root
 
   -- it failed, and was dropped
   module _ (drops : IsDropped (heap new) h') (root_is : root' ≡ (heap new).roots.current) (held : IfSome (content_of (heap new)) (Holds h' root'))
-      (fails : (volume : Volume) → HoldsVolume h root last volume → TellsFailure faults faults' reply) (silent : told_boundary reply ≡ None) where
+      (fails : (volume : Volume) → HoldsVolume h root last volume → TellsFailure faults faults' reply) (fault : Fault) (tells_fault : reply ≡ reply_to fault)
+      (fault_is : IsCaused faults faults' fault) where
     current : (heap new).roots.current ≡ root
     current = ap (λ (f : Frame). f.roots.current) frame ∙ ap (λ (x : Heap). x.roots.current) opens.rest
 
@@ -318,7 +325,10 @@ module _ {S : Type 0} (heap : S → Heap) (root_of : S → ℕ) (h : Heap) (root
     dropped_answers = record {
       closed = record { begin = drops.pages.begin; whole = ap (λ (x : Heap). x.whole) drops.rest };
       counted = counted;
-      silent = silent;
+      silent = ap told_boundary tells_fault ∙ fault_silent fault;
+      caused = λ first start history entry is so_far.
+          fault_goes_on first start faults faults' last history so_far counted entry left is.own (subst IsOnTrees (sym is.call_is) served) fault
+          (is.reply_is ∙ tells_fault) fault_is;
       committed = committed_end (record {
         bigblocks = ap (λ (x : Heap). x.bigblocks) drops.rest;
         disk = ap (λ (x : Heap). x.disk) drops.rest;

@@ -2,7 +2,7 @@
 use Rattle.std.proofs.Common.{ℕ, ◌<◌, ◌≤◌, max, Bool, true, false, List, arith}
 use Rattle.hm_types.specs.Faults.{IsMedia}
 use Rattle.hm_model.specs.After.{Event}
-use Rattle.hm_model.specs.Caused.{Counts, HasNumbers, IsCutAt, Known, ended_command, is_output, counts_after, known_after, known_at, stream_count, stream_told}
+use Rattle.hm_model.specs.Caused.{Counts, HasCause, HasNumbers, IsCutAt, Known, ended_command, is_output, counts_after, known_after, known_at, stream_count, stream_told}
 use Rattle.hm_model.specs.Legal.{IsLegal, MayFollow, Setting}
 use Rattle.hm_model.specs.declared.entry.Entry.{Entry}
 use Rattle.hm_model.specs.declared.reply.Reply.{Reply}
@@ -45,6 +45,15 @@ numbers_later now later known e le numbers = by e.reply numbers where
   by (Cut items) is = is
   by other is = tt
 
+pub cause_later : (now later : Counts) (known : Known) (event : Event) → AreLater now later → HasCause now known event → HasCause later known event
+cause_later now later known event le cause = record {
+  id = cause.id;
+  drawn = cause.drawn;
+  read = cause.read;
+  possible = cause.possible;
+  numbers = numbers_later now later known event.entry le cause.numbers;
+}
+
 -- the same run, with other counts now
 abbrev pub counted_to : Setting → Counts → Setting
 counted_to run later = record run { now = later }
@@ -52,13 +61,7 @@ counted_to run later = record run { now = later }
 pub follows_later : (run : Setting) (later : Counts) (before : List Event) (event : Event) → AreLater run.now later
     → MayFollow run before event → MayFollow (counted_to run later) before event
 follows_later run later before event le follows = record {
-  caused = record {
-    id = follows.caused.id;
-    drawn = follows.caused.drawn;
-    read = follows.caused.read;
-    possible = follows.caused.possible;
-    numbers = numbers_later run.now later (known_after (known_at run.opening.last run.start) before) event.entry le follows.caused.numbers;
-  };
+  caused = cause_later run.now later (known_after (known_at run.opening.last run.start) before) event le follows.caused;
   allowed = follows.allowed;
   lands = follows.lands;
   fed = follows.fed;

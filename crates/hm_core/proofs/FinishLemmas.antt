@@ -33,6 +33,7 @@ use Rattle.hm_core.specs.Finished.{HasNextHeader, IsFinished, LeavesVolume, next
 use Rattle.hm_state.specs.Placed.{AreInside}
 use Rattle.hm_core.specs.State.{CoreState}
 use Rattle.hm_core.specs.WrittenBack.{Freezes, WritesBack}
+use Rattle.hm_core.proofs.CausedLemmas.{caused_later}
 
 -- what is told is told
 self_told : (told : Option Told) → IfSome told (λ t. told ≡ Some t)
@@ -84,6 +85,7 @@ module _ {D I O : Type 0} (core : CoreState D I O) where
       volume = BothTell-same h.disk (λ _ t. LeavesVolume core t.bytes) (by_disk h.disk refl);
       header = λ some. absurd (some none);
       cause = record { never_falls = omega (arith, same); caused = tt };
+      caused = λ run. caused_later core.header.last.0 core.start core.faults faults core.last core.history run (omega (arith, same));
       whole = λ opening foreigners stands. if_told h.disk _ tt;
     }
 
@@ -143,6 +145,7 @@ module _ {D I O : Type 0} (core : CoreState D I O) where
           (λ _ t. HasNextHeader core t)
           (λ s t is w. record { counts = w.changes.header_is; settled = w.changes.settled }) (self_told h.disk) both) wrote.ok;
       cause = wrote.cause;
+      caused = λ run. caused_later core.header.last.0 core.start core.faults faults core.last core.history run wrote.cause.never_falls;
       whole = λ opening foreigners stands.
           if_told h.disk _ (wrote.whole (root_stands opening foreigners stands) (places_stand opening foreigners stands));
     } where

@@ -11,6 +11,7 @@ pub mod FloorLemmas
 pub mod StateLemmas
 pub mod CallLemmas
 pub mod SpaceLemmas
+pub mod CausedLemmas
 pub mod FaultLemmas
 pub mod KnownLemmas
 pub mod OpenLemmas

@@ -32,14 +32,15 @@ use Rattle.hm_stored.specs.Turn.{IsClosed, LooksSame}
 use Rattle.hm_stored.specs.declared.books.Books.{Books}
 use Rattle.hm_state.specs.Volume.{HoldsVolume}
 use Rattle.hm_state.proofs.BackedLemmas.{mounted_backed}
-use Rattle.hm_state.proofs.MountedLemmas.{mounted}
+use Rattle.hm_state.proofs.MountedLemmas.{mounted, mounted_free}
 use Rattle.hm_core.specs.Core.{StandsOver}
 use Rattle.hm_core.specs.History.{IsClear, IsLegalOver}
 use Rattle.hm_core.specs.Inside.{IsInOrder}
 use Rattle.hm_core.specs.Ledger.{IsPaid}
-use Rattle.hm_core.specs.Mounting.{BacksWhatStands, HoldsWhatStands, IsHeaderOn, IsReadFrom}
+use Rattle.hm_core.specs.Mounting.{CountsFree, BacksWhatStands, HoldsWhatStands, IsHeaderOn, IsReadFrom}
 use Rattle.hm_core.specs.Opened.{IsMounted}
 use Rattle.hm_core.specs.State.{CoreState}
+use Rattle.hm_core.proofs.CausedLemmas.{caused_first}
 use Rattle.hm_core.proofs.BeginLemmas.{first}
 use Rattle.hm_core.proofs.LedgerLemmas.{paid_first}
 use Rattle.hm_core.proofs.CommittedLemmas.{backed_same}
@@ -87,6 +88,12 @@ module _ (header : Header) (s : Store) (books : Books) (loaded : IsLoaded header
   opened_is : (told disk : Option Told) (opened : Heap) → disk ≡ told → opened ≡ heap_of s disk books → opened ≡ heap_of s told books
   opened_is told disk opened same is = subst (λ (o : Option Told). opened ≡ heap_of s o books) same is
 
+  counted_told : (told : Option Told) (free : ℕ) → free ≡ free_of (heap_of s told books) → IfSome told (IsHeaderOn header)
+      → IfSome told (λ t. HoldsImage t.bytes header s) → IfSome told (CountsFree free header)
+  counted_told None free is counts image = tt
+  counted_told (Some t) free is counts image = λ volume stands.
+      is ∙ mounted_free t header counts.0 s books volume stands counts.1 loaded image of_header
+
   whole_told : (told : Option Told) → IfSome told (λ t. HoldsImage t.bytes header s) → IfSome told (λ t. IsWhole t.bytes header)
   whole_told None image = tt
   whole_told (Some t) image = image.whole
@@ -101,6 +108,7 @@ module _ (header : Header) (s : Store) (books : Books) (loaded : IsLoaded header
         closed = looked_closed (heap_of s told books) now same (closed_first told);
         disk = ap (λ (h : Heap). h.disk) same.rest ∙ disk_first told;
         free_is = counted ∙ ap free_of is ∙ sym (looked_free (heap_of s told books) now same);
+        counted = counted_told told free (counted ∙ ap free_of is) counts image;
         holds = held_told told now counts image same;
         backed = backed_told told now bytes counts image same;
         whole = whole_told told image;
@@ -190,7 +198,9 @@ module _ {D I O : Type 0} (core : CoreState D I O) (new : core.history ≡ []) (
     told = read.disk;
     counts = (counted, start);
     last = last;
+    caused = caused_first core.header.last.0 core.start core.faults core.last core.history new (omega (arith, start)) last;
     free = read.free_is;
+    counted = read.counted;
     counting = chosen;
     whole = read.whole;
     stands = stands_over told read.disk read.backed read.holds;

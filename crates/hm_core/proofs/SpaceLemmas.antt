@@ -31,6 +31,11 @@ use Rattle.hm_core.specs.Told.{TellsSpace}
 use Rattle.hm_core.proofs.CallLemmas.{drawn_next, floor_next, goes_on, left_next}
 use Rattle.hm_core.proofs.StateLemmas.{holds_after}
 
+-- an entry with the call and the reply that it has
+pub same_entry : (entry : Entry) (command : Command) (reply : Reply) → entry.call ≡ command → entry.reply ≡ reply
+    → record entry { call = command; reply = reply } ≡ entry
+same_entry entry command reply call_is reply_is = rw (← call_is, ← reply_is) refl
+
 module _ (free start faults faults' : ℕ) (history : List Entry) (h : Heap) (root last : ℕ) (opening : Volume) (foreigners : Foreigners)
     (so_far : IsLegalOver free start faults history h root last opening foreigners) (counted : faults ≤ faults') (left : last < GREATEST_ID) where
   -- the run with the count of now, and what it has come to
@@ -130,10 +135,6 @@ module _ (free start faults faults' : ℕ) (history : List Entry) (h : Heap) (ro
   -- or memory was refused
   refused_may : (some : Entry) → MayTell some NoMemory
   refused_may some = record { possible = (3, omega arith, refl); numbers = tt; allowed = inr tt; lands = λ accepts. absurd (cc); undamaged = tt; steps = refl }
-
-  same_entry : (entry : Entry) (command : Command) (reply : Reply) → entry.call ≡ command → entry.reply ≡ reply
-      → record entry { call = command; reply = reply } ≡ entry
-  same_entry entry command reply call_is reply_is = rw (← call_is, ← reply_is) refl
 
   pub space_told : (entry : Entry) → entry.call ≡ Df → entry.id.0 ≡ last + 1 → TellsSpace free history h entry.reply
       → IsLegalOver free start faults' (history ++ entry ∷ []) h root (last + 1) opening foreigners

@@ -28,6 +28,7 @@ use Rattle.hm_core.specs.History.{IsLegalOver}
 use Rattle.hm_core.specs.Ledger.{IsPaid}
 use Rattle.hm_core.specs.Told.{reply_to}
 use Rattle.hm_core.proofs.AnswerLemmas.{fault_silent}
+use Rattle.hm_core.proofs.CausedLemmas.{space_fault_goes_on, space_goes_on}
 use Rattle.hm_core.proofs.CommittedLemmas.{backed_same, kept_same}
 use Rattle.hm_core.proofs.LookedLemmas.{held_firm, looked_closed, looked_committed, looked_free, looked_legal, looked_room}
 use Rattle.hm_core.proofs.SpaceLemmas.{space_refused, space_told}
@@ -68,6 +69,15 @@ module _ (old new : Heap) (root root' faults faults' : ℕ) (closed : IsClosed o
       absurd (bad.bad (good_block old.bigblocks old.append (maps_of old) (states_of (basis_now old root)) firm.stand bad.block bad.looked))
   memory_alone no_memory bad caused firm = refl
 
+  -- the device does not fail in it
+  no_device : (fault : Fault) → IsCaused 0 0 fault → IsCaused faults faults' fault
+  no_device (device before after) caused =
+      let rose = caused.rose in
+      let end = caused.end in
+      absurd (omega (arith, rose, end))
+  no_device (damage at kind) caused = tt
+  no_device no_memory caused = tt
+
   kept : KeepsCommitted (IsSome (content_of old)) old new
   kept = kept_same old new (looked_committed old new looks)
 
@@ -86,6 +96,8 @@ module _ (old new : Heap) (root root' faults faults' : ℕ) (closed : IsClosed o
       closed = looked_closed old new looks closed;
       counted = counted;
       silent = refl;
+      caused = λ first start history entry of so_far.
+          space_goes_on first start faults faults' last history so_far counted entry left of.own of.call_is space free of.reply_is;
       committed = record {
         bigblocks = kept.bigblocks;
         boundary = kept.boundary;
@@ -104,6 +116,9 @@ module _ (old new : Heap) (root root' faults faults' : ℕ) (closed : IsClosed o
       closed = looked_closed old new looks closed;
       counted = counted;
       silent = fault_silent fault;
+      caused = λ first start history entry of so_far.
+          space_fault_goes_on first start faults faults' last history so_far counted entry left of.own of.call_is fault of.reply_is
+          (no_device fault caused);
       committed = record {
         bigblocks = kept.bigblocks;
         boundary = kept.boundary;

@@ -13,6 +13,7 @@ use Rattle.hm_stored.specs.Heap.{Heap, free_of, room_of}
 use Rattle.hm_stored.specs.Turn.{IsClosed}
 use Rattle.hm_state.specs.Backed.{IsBacked}
 use Rattle.hm_state.specs.Volume.{HoldsVolume}
+use Rattle.hm_core.specs.Caused.{IsCausedFrom}
 use Rattle.hm_core.specs.History.{IsLegalOver}
 use Rattle.hm_core.specs.Ledger.{IsPaid}
 
@@ -32,13 +33,15 @@ pub record KeepsCommitted (Told : Type 0) (h h' : Heap) : Type 0 where
 
 -- A call was answered so, over which the count of faults went from one to another. The reply tells no boundary, no call is open, the big-blocks that
 -- were begun are paid for, what was committed is still there, and each history that was legal goes on legally with the
--- entry of the call.
+-- entry of the call. Whatever the space holds, the reply has its cause.
 pub record Answers (faults faults' last : ℕ) (command : Command) (h h' : Heap) (root root' : ℕ) (reply : Reply) : Type 0 where
   pub closed : IsClosed h'
   pub counted : faults ≤ faults'
   pub silent : told_boundary reply ≡ None
   pub committed : KeepsCommitted ((volume : Volume) × HoldsVolume h root last volume) h h'
   pub paid : (first calls : ℕ) → IsPaid first (free_of h) calls (room_of h) → IsPaid first (free_of h') (calls + 1) (room_of h')
+  pub caused : (first start : ℕ) (history : List Entry) (entry : Entry) → IsEntryOf last command reply entry
+      → IsCausedFrom first start faults last history → IsCausedFrom first start faults' (last + 1) (history ++ entry ∷ [])
   pub legal : (free start : ℕ) (history : List Entry) (opening : Volume) (foreigners : Foreigners) (entry : Entry)
       → floor free history ≤ free_of h → IsEntryOf last command reply entry
       → IsLegalOver free start faults history h root last opening foreigners

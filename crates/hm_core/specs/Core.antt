@@ -9,6 +9,7 @@ use Rattle.hm_model.specs.declared.command.Command.{Command}
 use Rattle.hm_model.specs.declared.entry.Entry.{Entry}
 use Rattle.hm_image.specs.Stands.{StandsFor}
 use Rattle.hm_state.specs.Backed.{IsBacked}
+use Rattle.hm_core.specs.Caused.{IsCausedFrom}
 use Rattle.hm_core.specs.History.{IsLegalOver}
 use Rattle.hm_core.specs.State.{CoreState}
 use Rattle.hm_core.specs.declared.step.Step.{Step}
@@ -31,6 +32,10 @@ module _ {D I O : Type 0} where
   abbrev pub GoesOn : CoreState D I O → CoreState D I O → Type 0
   GoesOn old new = (opening : Volume) (foreigners : Foreigners) → StandsOver old opening foreigners → StandsOver new opening foreigners
 
+  -- each reply of its history has its cause, from the last id of the header on which it was mounted and the count of faults then
+  abbrev pub IsCausedRun : CoreState D I O → Type 0
+  IsCausedRun core = IsCausedFrom core.header.last.0 core.start core.faults core.last core.history
+
   -- what a core began with, and the two streams, are as before
   pub record KeepsRest (old new : CoreState D I O) : Type 0 where
     pub header : new.header ≡ old.header
@@ -40,8 +45,8 @@ module _ {D I O : Type 0} where
     pub input : new.input ≡ old.input
     pub output : new.output ≡ old.output
 
-  -- An id was left. The history gained the entry of this call, by the next id, whose reply tells no boundary, and at most one
-  -- place of the room is taken.
+  -- An id was left. The history gained the entry of this call, by the next id, whose reply tells no boundary and has its cause,
+  -- and at most one place of the room is taken.
   pub record Enters (old new : CoreState D I O) (lane line : ℕ) (command : Command) : Type 0 where
     pub left : old.last < GREATEST_ID
     pub entry : Entry
@@ -52,6 +57,7 @@ module _ {D I O : Type 0} where
     pub spare : old.spare ≤ new.spare + 1
     pub rest : KeepsRest old new
     pub never_falls : old.faults ≤ new.faults
+    pub caused : IsCausedRun old → IsCausedRun new
     pub goes_on : GoesOn old new
 
   -- a call was answered and entered, or no id was left and all is as before

@@ -9,7 +9,8 @@ use Rattle.hm_header.specs.declared.header.Header.{Header}
 use Rattle.hm_image.specs.Stands.{StandsFor}
 use Rattle.hm_model.specs.Foreign.{Foreigners}
 use Rattle.hm_model.specs.Volume.{Volume}
-use Rattle.hm_core.specs.Core.{StandsOver, volume_after}
+use Rattle.hm_core.specs.Caused.{IsCausedFrom}
+use Rattle.hm_core.specs.Core.{IsCausedRun, StandsOver, volume_after}
 use Rattle.hm_core.specs.State.{CoreState}
 
 module _ {D I O : Type 0} where
@@ -33,12 +34,13 @@ module _ {D I O : Type 0} where
     pub settled : t.unsettled ≡ []
 
   -- Where nothing was done, nothing is written. Else the disk stands for the volume as it is now. Damage is told of no volume
-  -- that stood.
+  -- that stood. Each reply of the history has its cause still.
   pub record IsFinished (core : CoreState D I O) (told : Option Told) (faults : ℕ) (result : Result (Unit {0}) Fault) : Type 0 where
     pub nothing : core.history ≡ [] → IsOk result × (told ≡ core.heap.disk)
     pub volume : OnOk result (BothTell core.heap.disk told (λ _ t. LeavesVolume core t.bytes))
     pub header : OnOk result (core.history ≢ [] → BothTell core.heap.disk told (λ _ t. HasNextHeader core t))
     pub cause : HasFaultCause core.faults faults result
+    pub caused : IsCausedRun core → IsCausedFrom core.header.last.0 core.start faults core.last core.history
     pub whole : (opening : Volume) (foreigners : Foreigners) → StandsOver core opening foreigners
         → IfSome core.heap.disk (λ _. IfErr result IsUndamaged)
 

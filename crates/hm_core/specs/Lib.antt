@@ -1,6 +1,7 @@
 pub mod Ledger
 pub mod WrittenBack
 pub mod History
+pub mod Caused
 pub mod Told
 pub mod Calls
 pub mod Answer

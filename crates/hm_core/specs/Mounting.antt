@@ -7,6 +7,7 @@ use Rattle.hm_image.specs.Stands.{StandsFor}
 use Rattle.hm_load.specs.Damage.{IsWhole}
 use Rattle.hm_model.specs.Volume.{Volume}
 use Rattle.hm_state.specs.Backed.{IsBacked}
+use Rattle.hm_state.specs.Free.{free_in}
 use Rattle.hm_state.specs.Volume.{HoldsVolume}
 use Rattle.hm_stored.specs.Heap.{Heap, free_of}
 use Rattle.hm_stored.specs.Turn.{IsClosed}
@@ -23,12 +24,17 @@ HoldsWhatStands h header t = (volume : Volume) → StandsFor t.bytes volume → 
 abbrev pub BacksWhatStands : Heap → Told → Type 0
 BacksWhatStands h t = (volume : Volume) → StandsFor t.bytes volume → IsBacked h
 
+-- so many big-blocks are free on a disk that tells this, where it stands for a volume
+abbrev pub CountsFree : ℕ → Header → Told → Type 0
+CountsFree free header t = (volume : Volume) → StandsFor t.bytes volume → free ≡ free_in t.bytes header
+
 -- A space is that of the volume with this header, as it was read from a disk that told this: no call is open, and so many
 -- big-blocks are free.
 pub record IsReadFrom (told : Option Told) (header : Header) (free : ℕ) (h : Heap) : Type 0 where
   pub closed : IsClosed h
   pub disk : h.disk ≡ told
   pub free_is : free ≡ free_of h
+  pub counted : IfSome told (CountsFree free header)
   pub holds : IfSome told (HoldsWhatStands h header)
   pub backed : IfSome told (BacksWhatStands h)
   pub whole : IfSome told (λ t. IsWhole t.bytes header)

@@ -6,6 +6,8 @@ use Rattle.hm_types.specs.Told.{BothTell}
 use Rattle.hm_types.specs.declared.fault.Fault.{Fault}
 use Rattle.hm_types.specs.declared.fault.Fault.TheVariants.{Media as media, Damaged as damage, NoMemory as no_memory}
 use Rattle.hm_disk.specs.Crash.{Told}
+use Rattle.hm_header.specs.OnDisk.{HasHeader}
+use Rattle.hm_header.specs.declared.header.Header.{Header}
 use Rattle.hm_image.specs.Stands.{StandsFor}
 use Rattle.hm_model.specs.declared.line.Line.{Line}
 use Rattle.hm_model.specs.After.{after}
@@ -13,13 +15,14 @@ use Rattle.hm_model.specs.Foreign.{Foreigners, no_foreigners}
 use Rattle.hm_model.specs.Volume.{Volume}
 use Rattle.hm_core.specs.Core.{StandsOver}
 use Rattle.hm_core.specs.Finished.{IsFinished, LeavesVolume as CoreLeaves}
+use Rattle.hm_core.specs.Mounting.{CountsFree}
 use Rattle.hm_core.specs.Opened.{IsMounted}
 use Rattle.hm_core.specs.State.{CoreState}
 use Rattle.hm_shell.specs.declared.stop.Stop.{Stop}
 use Rattle.hm_shell.specs.Alone.{IsAlone, out_text}
 use Rattle.hm_shell.specs.Lines.{IsServedLine}
 use Rattle.hm_shell.specs.Making.{MakesVolume}
-use Rattle.hm_shell.specs.Running.{AnswersAll, AnswersInPart, HasHistory, IsCounted, IsKept, IsWriteCause, LeavesVolume, OverEach, Ran, RunsAll, StandsForNone, StoppedRunning, StoppedUsing}
+use Rattle.hm_shell.specs.Running.{AnswersAll, AnswersInPart, BeginsOn, HasCauses, HasHistory, IsCounted, IsKept, IsWriteCause, LeavesVolume, OverEach, Ran, RunsAll, StandsForNone, StoppedRunning, StoppedUsing}
 use Rattle.hm_shell.specs.Seen.{Seen}
 use Rattle.hm_shell.specs.Serving.{GoesFrom, Served, ServedInPart, StopsUsing, UsesAll}
 use Rattle.hm_shell.specs.Stop.{of_fault}
@@ -53,7 +56,14 @@ each_told (Some t) P Q from p = from t p
 module _ {D I O : Type 0} where
   -- what a core tells of the run
   abbrev pub ran_of : CoreState D I O → Ran
-  ran_of core = record { history = core.history; last = core.last; free = core.free; start = core.start; faults = core.faults }
+  ran_of core = record {
+    history = core.history;
+    first = core.header.last.0;
+    last = core.last;
+    free = core.free;
+    start = core.start;
+    faults = core.faults;
+  }
 
   module _ (told : Option Told) (faults : ℕ) (input : I) (output : O) (begun core : CoreState D I O)
       (mounted : IsMounted told faults input output begun) (from : GoesFrom begun core) where
@@ -66,6 +76,24 @@ module _ {D I O : Type 0} where
           rose = omega (arith, second, start, falls);
           end = later;
         }
+
+    -- each reply has its cause
+    has_causes : HasCauses (ran_of core)
+    has_causes = from.caused mounted.caused
+
+    -- and it began with what the disk told
+    begins_on : IfSome begun.heap.disk (BeginsOn (ran_of core))
+    begins_on = subst (λ (o : Option Told). IfSome o (BeginsOn (ran_of core))) (sym mounted.told) (by told mounted.counting mounted.counted) where
+      by : (o : Option Told) → IfSome o (λ t. HasHeader t.bytes begun.header begun.slot) → IfSome o (CountsFree begun.free begun.header)
+          → IfSome o (BeginsOn (ran_of core))
+      by None counts free = tt
+      by (Some t) counts free = record {
+        header = begun.header;
+        slot = begun.slot;
+        counts = counts;
+        first_is = ap (λ (h : Header). h.last.0) from.rest.header;
+        free_is = λ volume stands. from.rest.free ∙ free volume stands;
+      }
 
     -- it stands for each volume that the disk stood for
     stands_now : OverEach begun.heap.disk (StandsOver core)
@@ -153,6 +181,8 @@ module _ {D I O : Type 0} where
       opened = begun.heap.disk;
       opens = OpensOn-mounted newfs old.told made.told made.faults input output begun makes mounted;
       ran = ran_of used.core;
+      begins = begins_on made.told made.faults input output begun used.core mounted used.served.from;
+      caused = has_causes made.told made.faults input output begun used.core mounted used.served.from;
       counted = counted made.told made.faults input output begun used.core mounted used.served.from old.faults new.faults earlier
           used.finished.cause.never_falls;
       answered = answers_all lines begun used.core old_out new_out each used.served;
@@ -169,6 +199,8 @@ module _ {D I O : Type 0} where
           opened = begun.heap.disk;
           opens = OpensOn-mounted newfs old.told made.told made.faults input output begun makes mounted;
           ran = ran_of core;
+          begins = begins_on made.told made.faults input output begun core mounted part.from;
+          caused = has_causes made.told made.faults input output begun core mounted part.from;
           counted = counted made.told made.faults input output begun core mounted part.from old.faults new.faults earlier
               (let count = at_line.count in omega (arith, count));
           legal = histories made.told made.faults input output begun core mounted part.from;
@@ -185,6 +217,8 @@ module _ {D I O : Type 0} where
           opened = begun.heap.disk;
           opens = OpensOn-mounted newfs old.told made.told made.faults input output begun makes mounted;
           ran = ran_of core;
+          begins = begins_on made.told made.faults input output begun core mounted writing.served.from;
+          caused = has_causes made.told made.faults input output begun core mounted writing.served.from;
           counted = counted made.told made.faults input output begun core mounted writing.served.from old.faults new.faults earlier
               writing.finished.cause.never_falls;
           legal = histories made.told made.faults input output begun core mounted writing.served.from;

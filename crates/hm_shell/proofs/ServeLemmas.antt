@@ -92,6 +92,7 @@ module _ {D I O : Type 0} where
   GoesFrom-none core = record {
     rest = KeepsRest-none core;
     never_falls = omega arith;
+    caused = λ run. run;
     goes_on = λ opening foreigners stands. stands;
     idle = λ none. refl;
   }
@@ -101,6 +102,7 @@ module _ {D I O : Type 0} where
   GoesFrom-reserved core spare = record {
     rest = record { header = refl; slot = refl; free = refl; start = refl; input = refl; output = refl };
     never_falls = omega arith;
+    caused = λ run. run;
     goes_on = λ opening foreigners stands. record { legal = stands.legal; backed = stands.backed; untouched = stands.untouched };
     idle = λ none. refl;
   }
@@ -110,6 +112,7 @@ module _ {D I O : Type 0} where
   GoesFrom-entered a b c lane number command so_far enters = record {
     rest = KeepsRest-more a b c so_far.rest enters.rest;
     never_falls = (let first = so_far.never_falls in let second = enters.never_falls in omega (arith, first, second));
+    caused = λ run. enters.caused (so_far.caused run);
     goes_on = λ opening foreigners stands. enters.goes_on opening foreigners (so_far.goes_on opening foreigners stands);
     idle = λ none. absurd (not_empty b.history enters.entry (sym enters.history ∙ none));
   }
@@ -283,6 +286,7 @@ module _ {D I O : Type 0} where
       output = from.rest.output;
     };
     never_falls = from.never_falls;
+    caused = from.caused;
     goes_on = λ opening foreigners stands. from.goes_on opening foreigners ((GoesFrom-reserved a spare).goes_on opening foreigners stands);
     idle = from.idle;
   }

@@ -3,6 +3,8 @@ use Rattle.std.specs.Prelude.{◌≡◌, ◌≢◌, ◌⊎◌, ℕ, ◌≤◌, L
 use Rattle.hm_types.specs.Faults.{IsMedia, Rose}
 use Rattle.hm_pipe.specs.Pipe.{Gains}
 use Rattle.hm_disk.specs.Crash.{Told}
+use Rattle.hm_header.specs.OnDisk.{HasHeader}
+use Rattle.hm_header.specs.declared.header.Header.{Header}
 use Rattle.hm_image.specs.Stands.{StandsFor}
 use Rattle.hm_model.specs.declared.entry.Entry.{Entry}
 use Rattle.hm_model.specs.declared.line.Line.{Line}
@@ -11,6 +13,8 @@ use Rattle.hm_model.specs.Foreign.{Foreigners}
 use Rattle.hm_model.specs.Legal.{IsLegal, entries_of}
 use Rattle.hm_model.specs.Out.{IsOut}
 use Rattle.hm_model.specs.Volume.{Volume}
+use Rattle.hm_state.specs.Free.{free_in}
+use Rattle.hm_core.specs.Caused.{IsCausedFrom}
 use Rattle.hm_core.specs.History.{IsClear, setting_of}
 use Rattle.hm_shell.specs.declared.stop.Stop.{Stop}
 use Rattle.hm_shell.specs.declared.stop.Stop.TheVariants.{Usage, NotVolume, BadField, DiskFault, Damaged, ScriptFault, OutFault, NoMemory, BadLine, TooLong}
@@ -18,10 +22,11 @@ use Rattle.hm_shell.specs.Alone.{alone, out_text}
 use Rattle.hm_shell.specs.Opening.{OpensOn, StoppedOpening}
 use Rattle.hm_shell.specs.Seen.{Seen}
 
--- What a core tells of a run: its history, the last id at its end, how many big-blocks were free as it began, and the
--- counts of the disk's faults as it began and at its end.
+-- What a core tells of a run: its history, the last id as it began and at its end, how many big-blocks were free as it began,
+-- and the counts of the disk's faults as it began and at its end.
 pub record Ran : Type 0 where
   pub history : List Entry
+  pub first : ℕ
   pub last : ℕ
   pub free : ℕ
   pub start : ℕ
@@ -32,6 +37,19 @@ pub record IsCounted (old new : ℕ) (ran : Ran) : Type 0 where
   pub begin : old ≤ ran.start
   pub rose : ran.start ≤ ran.faults
   pub end : ran.faults ≤ new
+
+-- each reply of its history has its cause, from the last id and the count of faults as it began on
+abbrev pub HasCauses : Ran → Type 0
+HasCauses ran = IsCausedFrom ran.first ran.start ran.faults ran.last ran.history
+
+-- A run began on a disk that told this: with the last id of the header that counts, and, where the disk stood for a volume, with
+-- as many free big-blocks as its bytes leave.
+pub record BeginsOn (ran : Ran) (t : Told) : Type 0 where
+  pub header : Header
+  pub slot : ℕ
+  pub counts : HasHeader t.bytes header slot
+  pub first_is : ran.first ≡ header.last.0
+  pub free_is : (volume : Volume) → StandsFor t.bytes volume → ran.free ≡ free_in t.bytes header
 
 -- All lines of a script were answered, and the sink gained what a run with this history prints.
 pub record AnswersAll (lines : List Line) (ran : Ran) (old new : Option (List ℕ)) : Type 0 where
@@ -75,13 +93,15 @@ pub record IsKept (opened new : Option Told) (ran : Ran) : Type 0 where
   pub settled : ran.history ≢ [] → IfSome new (λ t. t.unsettled ≡ [])
   pub volume : OverEach opened (LeavesVolume ran new)
 
--- the whole run of a script's lines: a volume is made or not, opened, used and written back
+-- The whole run of a script's lines: a volume is made or not, opened, used and written back. Each reply has its cause.
 pub record RunsAll (newfs : Option ℕ) (lines : List Line) (old_disk new_disk : Seen Told)
     (old_out new_out : Option (List ℕ)) : Type 0 where
   pub opened : Option Told
   pub opens : OpensOn newfs old_disk.told opened
   pub ran : Ran
+  pub begins : IfSome opened (BeginsOn ran)
   pub counted : IsCounted old_disk.faults new_disk.faults ran
+  pub caused : HasCauses ran
   pub answered : AnswersAll lines ran old_out new_out
   pub kept : IsKept opened new_disk.told ran
 
@@ -128,14 +148,16 @@ pub record StopsWriting (lines : List Line) (opened : Option Told) (ran : Ran) (
   pub answered : AnswersAll lines ran old_out new_out
   pub cause : IsWriteCause opened ran.faults faults stop
 
--- A run stopped with an open volume: at a line, or as the volume was written back. Its history is a legal one over each
--- volume that the disk stood for as it was opened.
+-- A run stopped with an open volume: at a line, or as the volume was written back. Each reply of its history has its cause,
+-- and it is a legal one over each volume that the disk stood for as it was opened.
 pub record StoppedUsing (newfs : Option ℕ) (lines : List Line) (old_disk new_disk : Seen Told)
     (old_out new_out : Seen (List ℕ)) (stop : Stop) : Type 0 where
   pub opened : Option Told
   pub opens : OpensOn newfs old_disk.told opened
   pub ran : Ran
+  pub begins : IfSome opened (BeginsOn ran)
   pub counted : IsCounted old_disk.faults new_disk.faults ran
+  pub caused : HasCauses ran
   pub legal : OverEach opened (HasHistory ran)
   pub stops : StopsAtLine lines ran old_out new_out stop
       ⊎ StopsWriting lines opened ran new_disk.faults old_out.told new_out.told stop

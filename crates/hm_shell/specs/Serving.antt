@@ -7,7 +7,7 @@ use Rattle.hm_pipe.specs.Pipe.{Gains}
 use Rattle.hm_model.specs.declared.entry.Entry.{Entry}
 use Rattle.hm_model.specs.declared.line.Line.{Line}
 use Rattle.hm_model.specs.Out.{entry_words, printed_line, spent_words}
-use Rattle.hm_core.specs.Core.{Enters, GoesOn, KeepsRest}
+use Rattle.hm_core.specs.Core.{Enters, GoesOn, IsCausedRun, KeepsRest}
 use Rattle.hm_core.specs.Finished.{IsFinished}
 use Rattle.hm_core.specs.State.{CoreState}
 use Rattle.hm_shell.specs.declared.stop.Stop.{Stop}
@@ -18,11 +18,12 @@ use Rattle.hm_shell.specs.Seen.{Seen}
 use Rattle.hm_shell.specs.Stop.{of_fault}
 
 module _ {D I O : Type 0} where
-  -- What has come of a core: what it began with stays, it stands for each volume for which it stood, and where its history
-  -- has no entry its space is as it was.
+  -- What has come of a core: what it began with stays, each reply has its cause still, it stands for each volume for which it
+  -- stood, and where its history has no entry its space is as it was.
   pub record GoesFrom (begun core : CoreState D I O) : Type 0 where
     pub rest : KeepsRest begun core
     pub never_falls : begun.faults ≤ core.faults
+    pub caused : IsCausedRun begun → IsCausedRun core
     pub goes_on : GoesOn begun core
     pub idle : core.history ≡ [] → core.heap ≡ begun.heap
 

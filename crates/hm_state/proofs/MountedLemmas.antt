@@ -1,12 +1,12 @@
 -- The space over the pages that were loaded from a sound image holds the volume of the image.
-use Rattle.std.proofs.Common.{◌≡◌, ◌⊎◌, true≢false, ℕ, ◌+◌, ◌*◌, ◌<◌, ◌≤◌, List, Option, Some, None, IsSome, refl, sym, ap, subst, ◌∙◌, arith}
+use Rattle.std.proofs.Common.{◌≡◌, ◌⊎◌, true≢false, ℕ, ◌+◌, ◌*◌, ◌^◌, ◌<◌, ◌≤◌, Bool, true, cond, List, Option, Some, None, IsSome, refl, sym, ap, subst, ◌∙◌, arith}
 use Rattle.std.proofs.Common.{length, map, pos, slice_index, is_some, ◌+ℤ◌}
 use Rattle.std.specs.Prelude.{IfSome}
 use Rattle.std.specs.List.{All, Contains}
 use Rattle.std.proofs.lemmas.List.Elements.{All-contains, All-contains_itself, All-weaker}
 use Rattle.hm_types.specs.Layout.{IsPool, blocks_per_layer2, layer2_blocks, start_of}
 use Rattle.hm_types.specs.Offset.{zone_of}
-use Rattle.hm_types.specs.References.{AreFew, IsPlaced, NoneOverlap, Reference, end_of, live_bytes}
+use Rattle.hm_types.specs.References.{AreFew, IsPlaced, NoneOverlap, Reference, end_of, free_blocks, live_bytes}
 use Rattle.hm_types.specs.declared.limits.TheConstants.{BIGBLOCK_BYTES}
 use Rattle.hm_types.specs.declared.zone.TheConstants.{TREE_ZONE}
 use Rattle.hm_disk.specs.Crash.{Told}
@@ -20,9 +20,10 @@ use Rattle.hm_search.specs.Tree.{elements_of}
 use Rattle.hm_btree.specs.Tree.{IsTreeSpace}
 use Rattle.hm_freemap.specs.Entry.{SpellsEntry, entry_in}
 use Rattle.hm_freemap.specs.Places.{page_of, place_of}
-use Rattle.hm_freemap.specs.Stand.{AreAppended, IsBelow, StandBy, Tells, entry_of, entry_page, home_of}
+use Rattle.hm_freemap.specs.Stand.{AreAppended, IsBelow, StandBy, Tells, entry_of, entry_page, free_by, home_of}
 use Rattle.hm_freemap.specs.declared.entry.Entry.{Entry}
 use Rattle.hm_freemap.proofs.BoundLemmas.{live_few}
+use Rattle.hm_freemap.proofs.FreeLemmas.{free_same}
 use Rattle.hm_freemap.proofs.ListLemmas.{and_right}
 use Rattle.hm_freemap.proofs.SpellLemmas.{entry_back}
 use Rattle.hm_model.specs.Volume.{Volume}
@@ -38,11 +39,12 @@ use Rattle.hm_load.specs.Held.{HoldsImage}
 use Rattle.hm_load.specs.Loaded.{IsLoaded}
 use Rattle.hm_load.proofs.TreeLemmas.{Keeps, same_there}
 use Rattle.hm_stored.specs.Basis.{AreFixed, Basis, IsFirm, entry_outside, fulls_in, nodes, refers}
-use Rattle.hm_stored.specs.Heap.{heap_of}
+use Rattle.hm_stored.specs.Heap.{free_of, heap_of}
 use Rattle.hm_stored.specs.Held.{AreOfVolume}
 use Rattle.hm_stored.specs.Mounted.{IsBooksOf}
 use Rattle.hm_stored.specs.Standing.{basis_now}
 use Rattle.hm_stored.specs.declared.books.Books.{Books}
+use Rattle.hm_state.specs.Free.{free_in}
 use Rattle.hm_state.specs.Volume.{HoldsVolume}
 use Rattle.hm_state.specs.Written.{IsHeaderOf, IsWritten}
 use Rattle.hm_state.proofs.FreeLemmas.{free_fits, free_sum}
@@ -238,6 +240,23 @@ module _ (t : Told) (header : Header) (slot : ℕ) (s : Store) (books : Books) (
           subst (λ (h : Header). StandFor (elements_from image h.root) volume) one stands.elements,
         );
       }
+
+  -- as many big-blocks are free in it as on the image
+  pub mounted_free : free_of (heap_of s (Some t) books) ≡ free_in t.bytes header
+  unfolding heap_of
+  mounted_free =
+      let there = layer2_there header s loaded in
+      by_parts books.whole books.bigblocks books.append s.committed s.frozen is.closed.1 is.bigblocks is.append.1 (sym loaded.plain.current)
+      (loaded.plain.frozen ∙ sym loaded.plain.current)
+      ∙ (free_same header.bigblocks header.append (plain header s.current).maps _
+      (stand t.bytes header sound s.current holds.pages there loaded.entries loaded.tree)
+      ∙ ap (λ (rs : List Reference). free_blocks header.bigblocks header.append (record { committed = rs; frozen = rs; current = rs }))
+      (sym (refs_same t.bytes header sound s.current holds.pages there loaded.entries loaded.tree)))
+    where
+      by_parts : (w : Bool) (n : ℕ) (a : List ℕ) (c f : PageMap) → w ≡ true → n ≡ header.bigblocks → a ≡ header.append → c ≡ s.current
+          → f ≡ s.current → cond w (free_by n a (record { committed = c; frozen = f; current = s.current })) (2 ^ 32)
+          ≡ free_by header.bigblocks header.append (plain header s.current).maps
+      by_parts w n a c f first second third fourth fifth = rw (first, second, third, fourth, fifth) refl
 
   -- the disk has all of the space
   pub mounted_written : ((at : ℕ) (page : List ℕ) → s.current at ≡ Some page → AreBytes page) → IsWritten (heap_of s (Some t) books) header.root t.bytes

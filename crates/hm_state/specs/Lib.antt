@@ -3,3 +3,4 @@ pub mod Written
 pub mod Backed
 pub mod Placed
 pub mod Frozen
+pub mod Free

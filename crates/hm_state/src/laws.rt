@@ -24,11 +24,12 @@ ghost use Rattle.hm_load.specs.Held.{HoldsImage};
 ghost use Rattle.hm_load.specs.Loaded.{IsLoaded};
 ghost use Rattle.hm_stored.specs.declared.books.Books.{Books};
 ghost use Rattle.hm_stored.specs.Basis.{IsFirm, elements_in, nodes};
-ghost use Rattle.hm_stored.specs.Heap.{Heap, content_of, frame_of, heap_of};
+ghost use Rattle.hm_stored.specs.Heap.{Heap, content_of, frame_of, free_of, heap_of};
 ghost use Rattle.hm_stored.specs.Held.{AreOfVolume};
 ghost use Rattle.hm_stored.specs.Mounted.{IsBooksOf};
 ghost use Rattle.hm_stored.specs.Standing.{Holds, basis_now};
 ghost use Rattle.hm_state.specs.Backed.{IsBacked};
+ghost use Rattle.hm_state.specs.Free.{free_in};
 ghost use Rattle.hm_state.specs.Frozen.{HasFrozen};
 ghost use Rattle.hm_state.specs.Placed.{ArePlaces, PutsPages};
 ghost use Rattle.hm_state.specs.Volume.{HoldsVolume};
@@ -36,12 +37,17 @@ ghost use Rattle.hm_state.specs.Written.{HasSamePayloads, IsHeaderOf, IsWritten}
 
 /// Where the bytes of a disk stand for a volume, the space over the pages that were loaded from them
 /// and over that disk, with the books of their header, holds this volume. The header is that of the
-/// space, its pages are of its volume, and the disk has all that it holds.
+/// space, its pages are of its volume, and the disk has all that it holds. As many big-blocks are free as
+/// the tree of the bytes leaves free.
 pub fn a_mounted_volume_is_held()
     ensures held { (t : Told) (header : Header) (slot : ℕ) (s : Store) (books : Books)
         (volume : Volume) → StandsFor t.bytes volume → HasHeader t.bytes header slot →
         IsLoaded header s → HoldsImage t.bytes header s → IsBooksOf header books →
         HoldsVolume (heap_of s (Some t) books) header.root header.last.0 volume }
+    ensures free { (t : Told) (header : Header) (slot : ℕ) (s : Store) (books : Books)
+        (volume : Volume) → StandsFor t.bytes volume → HasHeader t.bytes header slot →
+        IsLoaded header s → HoldsImage t.bytes header s → IsBooksOf header books →
+        free_of (heap_of s (Some t) books) ≡ free_in t.bytes header }
     ensures header { (told : Option Told) (header : Header) (s : Store) (books : Books) →
         IsBooksOf header books →
         IsHeaderOf (heap_of s told books) header.root header.last.0 header }

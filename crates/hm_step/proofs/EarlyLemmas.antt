@@ -1,10 +1,10 @@
--- The refusals that the words of a call alone decide are plain, and no reply that a call may have tells a boundary.
-use Rattle.std.proofs.Common.{◌≡◌, ℕ, Bool, true, false, List, [], ◌∷◌, ◌++◌, map, length, refl, sym, ap, subst, ◌∙◌, inl, inr}
-use Rattle.std.specs.Prelude.{Option, None, Some, ◌+◌, ◌==◌, if◌then◌else◌}
+-- The refusals that the words of a call alone decide are plain, and so is each reply that a call may have by its words.
+use Rattle.std.proofs.Common.{◌≡◌, ℕ, Bool, true, false, List, [], ◌∷◌, ◌++◌, map, length, refl, sym, subst, inl, inr}
+use Rattle.std.specs.Prelude.{Option, None, Some, ◌+◌, ◌==◌, ◌||◌, if◌then◌else◌}
 use Rattle.std.specs.Bool.{nat_lt}
 use Rattle.std.specs.List.{Contains, list_any}
 use Rattle.std.specs.Option.{option_map_or}
-use Rattle.std.proofs.lemmas.Bool.{eq-eqb, false≢true}
+use Rattle.std.proofs.lemmas.Bool.{false≢true}
 use Rattle.hm_types.specs.declared.limits.TheConstants.{MOST_FILE_BYTES}
 use Rattle.hm_model.specs.Caused.{IsPossible, at_any_point, number_of, on_a_change, on_a_file, on_a_read, on_a_walk, possible}
 use Rattle.hm_model.specs.Due.{Check, early_checks, first_refusal, good_path, good_paths, has_id, has_its_name, is_pass, no_future, no_future_begin, past_stays}
@@ -13,12 +13,12 @@ use Rattle.hm_model.specs.Sites.{BadAt, Parsed, Parts, ReadsWords, Use, uses_of}
 use Rattle.hm_model.specs.declared.command.Command.{Command}
 use Rattle.hm_model.specs.declared.command.Command.TheVariants.{Cat, Fill, Truncate, Write, Ln, Ls, Mkdir, Mv, Readlink, Rm, Rmdir, Snapshot, Stat, Symlink, Touch}
 use Rattle.hm_model.specs.declared.reply.Reply.{Reply}
-use Rattle.hm_model.specs.declared.reply.Reply.TheVariants.{BadPath, Busy, Future, ReadOnly, Synced}
+use Rattle.hm_model.specs.declared.reply.Reply.TheVariants.{BadPath, Busy, Cut, Damaged, Future, Media, Passed, ReadOnly, StreamFault, Synced}
 use Rattle.hm_model.proofs.DueLemmas.{of_test}
 use Rattle.hm_model.proofs.EffectLemmas.{or_false}
 use Rattle.hm_records.proofs.MemberLemmas.{has_cases, has_none}
 use Rattle.hm_calls.specs.Commands.{IsOnTrees}
-use Rattle.hm_calls.specs.Possible.{MayReply}
+use Rattle.hm_calls.specs.Possible.{IsOwn, MayReply}
 use Rattle.hm_step.proofs.GivenLemmas.{IsPlain, by_option, by_test, unless_test}
 use Rattle.hm_step.proofs.PossibleLemmas.{OfAll, OfCheck, all_both, first_of_all}
 
@@ -68,41 +68,49 @@ module _ (last : ℕ) (busy : Option ℕ) (command : Command) (paths : List Pars
       open_plain true = by_option IsPlain (λ opening. Some (Busy (record { 0 = opening }))) busy (λ opening. tt)
       open_plain false = tt
 
--- ---- boundaries
+-- ---- the replies that tell more
 
--- only the reply with number 106 tells one
-tells_none : (reply : Reply) → (number_of reply ≡ 106 → ⊥) → told_boundary reply ≡ None
-tells_none (Synced boundary) other_number = absurd (other_number refl)
-tells_none other other_number = refl
+-- whether a number is that of a reply which tells a boundary, the faults of a stream, ids, or a count
+abbrev tells_more : ℕ → Bool
+tells_more n = (n == 106) || (n == 28) || (n == 111) || (n == 112)
+
+plain_of : (reply : Reply) → IsOwn reply → tells_more (number_of reply) ≡ false → IsPlain reply
+plain_of (Media before after) own is = absurd own
+plain_of (Damaged at kind) own is = absurd own
+plain_of (Synced boundary) own is = absurd (false≢true (sym is))
+plain_of (StreamFault before after) own is = absurd (false≢true (sym is))
+plain_of (Passed begin end) own is = absurd (false≢true (sym is))
+plain_of (Cut items) own is = absurd (false≢true (sym is))
+plain_of other own is = tt
 
 plain_tells_none : (reply : Reply) → IsPlain reply → told_boundary reply ≡ None
 plain_tells_none (Synced boundary) plain = absurd plain
 plain_tells_none other plain = refl
 
--- whether that number is among some
-abbrev has_boundary : List ℕ → Bool
-has_boundary numbers = list_any (λ n. n == 106) numbers
+-- whether such a number is among some
+abbrev has_more : List ℕ → Bool
+has_more numbers = list_any tells_more numbers
 
-untold : (numbers : List ℕ) → has_boundary numbers ≡ false → (n : ℕ) → Contains numbers n → n ≡ 106 → ⊥
-untold [] none n has is = has_none n has
-untold (m ∷ numbers) none n has is =
-    let both = or_false (m == 106) (has_boundary numbers) none in
+untold : (numbers : List ℕ) → has_more numbers ≡ false → (n : ℕ) → Contains numbers n → tells_more n ≡ false
+untold [] none n has = absurd (has_none n has)
+untold (m ∷ numbers) none n has =
+    let both = or_false (tells_more m) (has_more numbers) none in
     elim (has_cases m n numbers has) [
-      | inl first ↦ false≢true (sym both.0 ∙ eq-eqb m 106 (sym first ∙ is))
-      | inr rest ↦ untold numbers both.1 n rest is
+      | inl first ↦ subst (λ (k : ℕ). tells_more k ≡ false) (sym first) both.0
+      | inr rest ↦ untold numbers both.1 n rest
     ]
 
-read_untold : (front : List ℕ) (paths : List Parsed) → has_boundary (front ++ 8 ∷ on_a_walk) ≡ false → has_boundary (front ++ on_a_walk) ≡ false
-    → has_boundary (front ++ on_a_read paths) ≡ false
+read_untold : (front : List ℕ) (paths : List Parsed) → has_more (front ++ 8 ∷ on_a_walk) ≡ false → has_more (front ++ on_a_walk) ≡ false
+    → has_more (front ++ on_a_read paths) ≡ false
 read_untold front paths with_id without =
-    of_test (λ (l : List ℕ). has_boundary (front ++ l) ≡ false) (list_any has_id paths) (8 ∷ on_a_walk) on_a_walk with_id without
+    of_test (λ (l : List ℕ). has_more (front ++ l) ≡ false) (list_any has_id paths) (8 ∷ on_a_walk) on_a_walk with_id without
 
-file_untold : (end : ℕ) → has_boundary (on_a_file end) ≡ false
+file_untold : (end : ℕ) → has_more (on_a_file end) ≡ false
 file_untold end =
-    of_test (λ (l : List ℕ). has_boundary (4 ∷ 32 ∷ l) ≡ false) (nat_lt MOST_FILE_BYTES end) (10 ∷ on_a_change) (101 ∷ 20 ∷ on_a_change) refl refl
+    of_test (λ (l : List ℕ). has_more (4 ∷ 32 ∷ l) ≡ false) (nat_lt MOST_FILE_BYTES end) (10 ∷ on_a_change) (101 ∷ 20 ∷ on_a_change) refl refl
 
--- no call on names or on the bytes of files gives it
-possible_untold : (command : Command) (paths : List Parsed) → IsOnTrees command → has_boundary (possible command paths) ≡ false
+-- no call on names or on the bytes of files gives one
+possible_untold : (command : Command) (paths : List Parsed) → IsOnTrees command → has_more (possible command paths) ≡ false
 possible_untold (Mkdir path) paths of_trees = refl
 possible_untold (Touch path) paths of_trees = refl
 possible_untold (Symlink target path) paths of_trees = refl
@@ -120,15 +128,20 @@ possible_untold (Stat path) paths of_trees = read_untold (104 ∷ []) paths refl
 possible_untold (Readlink path) paths of_trees = read_untold (105 ∷ 31 ∷ []) paths refl refl
 possible_untold other paths of_trees = absurd of_trees
 
-pub no_boundary : (last : ℕ) (busy : Option ℕ) (command : Command) (paths : List Parsed) (reply : Reply) → IsOnTrees command
-    → ReadsWords command paths → MayReply last busy command reply → told_boundary reply ≡ None
-no_boundary last busy command paths reply of_trees reads may = by (first_refusal early) refl (may paths reads) where
+-- each reply that a call may have by its words is plain
+pub may_plain : (last : ℕ) (busy : Option ℕ) (command : Command) (paths : List Parsed) (reply : Reply) → IsOnTrees command
+    → ReadsWords command paths → MayReply last busy command reply → IsPlain reply
+may_plain last busy command paths reply of_trees reads may = by (first_refusal early) refl (may.listed paths reads) where
   early : List Check
   early = early_checks last busy command paths
 
-  by : (found : Check) → first_refusal early ≡ found → IsPossible found (possible command paths) reply → told_boundary reply ≡ None
+  by : (found : Check) → first_refusal early ≡ found → IsPossible found (possible command paths) reply → IsPlain reply
   by (Some refusal) is (inl same) =
-      ap told_boundary same
-      ∙ plain_tells_none refusal (subst (OfCheck IsPlain) is (first_of_all IsPlain early (early_plain last busy command paths of_trees)))
-  by (Some refusal) is (inr free) = tells_none reply (untold at_any_point refl (number_of reply) free)
-  by None is has = tells_none reply (untold (possible command paths) (possible_untold command paths of_trees) (number_of reply) has)
+      subst IsPlain (sym same) (subst (OfCheck IsPlain) is (first_of_all IsPlain early (early_plain last busy command paths of_trees)))
+  by (Some refusal) is (inr free) = plain_of reply may.own (untold at_any_point refl (number_of reply) free)
+  by None is has = plain_of reply may.own (untold (possible command paths) (possible_untold command paths of_trees) (number_of reply) has)
+
+pub no_boundary : (last : ℕ) (busy : Option ℕ) (command : Command) (paths : List Parsed) (reply : Reply) → IsOnTrees command
+    → ReadsWords command paths → MayReply last busy command reply → told_boundary reply ≡ None
+no_boundary last busy command paths reply of_trees reads may =
+    plain_tells_none reply (may_plain last busy command paths reply of_trees reads may)

@@ -3,17 +3,18 @@ use Rattle.std.proofs.Common.{◌+◌, Bool, true, false, List, length, refl, sy
 use Rattle.std.specs.Prelude.{Option, None, Some, if◌then◌else◌}
 use Rattle.std.specs.List.{Contains}
 use Rattle.std.specs.Option.{option_map_or}
-use Rattle.hm_model.specs.Caused.{IsFree, IsPossible, number_of, on_a_read, possible}
+use Rattle.hm_model.specs.Caused.{IsPossible, number_of, on_a_read, possible}
 use Rattle.hm_model.specs.Due.{Check, refuse_if}
 use Rattle.hm_model.specs.Sites.{Parsed}
 use Rattle.hm_model.specs.declared.command.Command.{Command}
 use Rattle.hm_model.specs.declared.command.Command.TheVariants.{Cat, Fill, Truncate, Write, Ln, Ls, Mkdir, Mv, Readlink, Rm, Rmdir, Snapshot, Stat, Symlink, Touch}
 use Rattle.hm_model.specs.declared.reply.Reply.{Reply}
-use Rattle.hm_model.specs.declared.reply.Reply.TheVariants.{Cut, Damaged, Media, Passed, StreamFault, Synced}
+use Rattle.hm_model.specs.declared.reply.Reply.TheVariants.{Cut, Damaged, Media, NoMemory, Passed, StreamFault, Synced}
 use Rattle.hm_model.proofs.DueLemmas.{of_option}
 use Rattle.hm_records.proofs.MemberLemmas.{has_tail}
 use Rattle.hm_calls.specs.Commands.{IsOnTrees}
 use Rattle.hm_calls.proofs.GivenLemmas.{behind_cat, behind_file, behind_link, in_read}
+use Rattle.hm_step.specs.Causes.{TellsFault}
 use Rattle.hm_step.specs.Step.{IsFailure}
 use Rattle.hm_step.proofs.PossibleLemmas.{OfCheck}
 
@@ -45,37 +46,66 @@ by_option P f o each = of_option (OfCheck P) f o None each tt
 
 -- ---- a device that failed, and memory that was refused
 
--- each call that is answered can give such a reply
-pub failure_given : (command : Command) (paths : List Parsed) → IsOnTrees command
-    → Contains (possible command paths) 21 × Contains (possible command paths) 23
-failure_given (Mkdir path) paths of_trees = ((7, omega arith, refl), (9, omega arith, refl))
-failure_given (Touch path) paths of_trees = ((7, omega arith, refl), (9, omega arith, refl))
-failure_given (Symlink target path) paths of_trees = ((7, omega arith, refl), (9, omega arith, refl))
-failure_given (Snapshot path) paths of_trees = ((7, omega arith, refl), (9, omega arith, refl))
-failure_given (Ln old new) paths of_trees = ((11, omega arith, refl), (13, omega arith, refl))
-failure_given (Mv old new) paths of_trees = ((9, omega arith, refl), (11, omega arith, refl))
-failure_given (Write path offset bytes) paths of_trees =
-    (behind_file (offset + length bytes) 21 (3, omega arith, refl), behind_file (offset + length bytes) 23 (5, omega arith, refl))
-failure_given (Fill path offset count byte) paths of_trees =
-    (behind_file (offset + count) 21 (3, omega arith, refl), behind_file (offset + count) 23 (5, omega arith, refl))
-failure_given (Truncate path size) paths of_trees = (behind_file size 21 (3, omega arith, refl), behind_file size 23 (5, omega arith, refl))
-failure_given (Rm path) paths of_trees = ((6, omega arith, refl), (8, omega arith, refl))
-failure_given (Rmdir path) paths of_trees = ((5, omega arith, refl), (7, omega arith, refl))
-failure_given (Ls path) paths of_trees =
-    (has_tail 102 21 (on_a_read paths) (in_read paths 21 (2, omega arith, refl)), has_tail 102 23 (on_a_read paths) (in_read paths 23 (4, omega arith, refl)))
-failure_given (Cat path offset count) paths of_trees =
-    (behind_cat paths 21 (in_read paths 21 (2, omega arith, refl)), behind_cat paths 23 (in_read paths 23 (4, omega arith, refl)))
-failure_given (Stat path) paths of_trees =
-    (has_tail 104 21 (on_a_read paths) (in_read paths 21 (2, omega arith, refl)), has_tail 104 23 (on_a_read paths) (in_read paths 23 (4, omega arith, refl)))
-failure_given (Readlink path) paths of_trees =
-    (behind_link paths 21 (in_read paths 21 (2, omega arith, refl)), behind_link paths 23 (in_read paths 23 (4, omega arith, refl)))
-failure_given other paths of_trees = absurd of_trees
+-- each call that is answered can give such a reply, and tell damage
+pub fault_given : (command : Command) (paths : List Parsed) → IsOnTrees command
+    → Contains (possible command paths) 21 × Contains (possible command paths) 22 × Contains (possible command paths) 23
+fault_given (Mkdir path) paths of_trees = ((7, omega arith, refl), (8, omega arith, refl), (9, omega arith, refl))
+fault_given (Touch path) paths of_trees = ((7, omega arith, refl), (8, omega arith, refl), (9, omega arith, refl))
+fault_given (Symlink target path) paths of_trees = ((7, omega arith, refl), (8, omega arith, refl), (9, omega arith, refl))
+fault_given (Snapshot path) paths of_trees = ((7, omega arith, refl), (8, omega arith, refl), (9, omega arith, refl))
+fault_given (Ln old new) paths of_trees = ((11, omega arith, refl), (12, omega arith, refl), (13, omega arith, refl))
+fault_given (Mv old new) paths of_trees = ((9, omega arith, refl), (10, omega arith, refl), (11, omega arith, refl))
+fault_given (Write path offset bytes) paths of_trees = (
+  behind_file (offset + length bytes) 21 (3, omega arith, refl),
+  behind_file (offset + length bytes) 22 (4, omega arith, refl),
+  behind_file (offset + length bytes) 23 (5, omega arith, refl),
+)
+fault_given (Fill path offset count byte) paths of_trees = (
+  behind_file (offset + count) 21 (3, omega arith, refl),
+  behind_file (offset + count) 22 (4, omega arith, refl),
+  behind_file (offset + count) 23 (5, omega arith, refl),
+)
+fault_given (Truncate path size) paths of_trees = (
+  behind_file size 21 (3, omega arith, refl),
+  behind_file size 22 (4, omega arith, refl),
+  behind_file size 23 (5, omega arith, refl),
+)
+fault_given (Rm path) paths of_trees = ((6, omega arith, refl), (7, omega arith, refl), (8, omega arith, refl))
+fault_given (Rmdir path) paths of_trees = ((5, omega arith, refl), (6, omega arith, refl), (7, omega arith, refl))
+fault_given (Ls path) paths of_trees = (
+  has_tail 102 21 (on_a_read paths) (in_read paths 21 (2, omega arith, refl)),
+  has_tail 102 22 (on_a_read paths) (in_read paths 22 (3, omega arith, refl)),
+  has_tail 102 23 (on_a_read paths) (in_read paths 23 (4, omega arith, refl)),
+)
+fault_given (Cat path offset count) paths of_trees = (
+  behind_cat paths 21 (in_read paths 21 (2, omega arith, refl)),
+  behind_cat paths 22 (in_read paths 22 (3, omega arith, refl)),
+  behind_cat paths 23 (in_read paths 23 (4, omega arith, refl)),
+)
+fault_given (Stat path) paths of_trees = (
+  has_tail 104 21 (on_a_read paths) (in_read paths 21 (2, omega arith, refl)),
+  has_tail 104 22 (on_a_read paths) (in_read paths 22 (3, omega arith, refl)),
+  has_tail 104 23 (on_a_read paths) (in_read paths 23 (4, omega arith, refl)),
+)
+fault_given (Readlink path) paths of_trees = (
+  behind_link paths 21 (in_read paths 21 (2, omega arith, refl)),
+  behind_link paths 22 (in_read paths 22 (3, omega arith, refl)),
+  behind_link paths 23 (in_read paths 23 (4, omega arith, refl)),
+)
+fault_given other paths of_trees = absurd of_trees
+
+pub fault_possible : (command : Command) (paths : List Parsed) (early : Check) (reply : Reply) → IsOnTrees command → TellsFault reply
+    → IsPossible early (possible command paths) reply
+fault_possible command paths (Some refusal) (Media before after) of_trees is = inr (0, omega arith, refl)
+fault_possible command paths (Some refusal) (Damaged at kind) of_trees is = inr (1, omega arith, refl)
+fault_possible command paths (Some refusal) NoMemory of_trees is = inr (2, omega arith, refl)
+fault_possible command paths None (Media before after) of_trees is = (fault_given command paths of_trees).0
+fault_possible command paths None (Damaged at kind) of_trees is = (fault_given command paths of_trees).1
+fault_possible command paths None NoMemory of_trees is = (fault_given command paths of_trees).2
+fault_possible command paths early other of_trees is = absurd is
 
 pub failure_possible : (command : Command) (paths : List Parsed) (early : Check) (reply : Reply) → IsOnTrees command → IsFailure reply
     → IsPossible early (possible command paths) reply
-failure_possible command paths (Some refusal) reply of_trees (inl (before, after, is)) = inr (subst IsFree (sym is) (0, omega arith, refl))
-failure_possible command paths (Some refusal) reply of_trees (inr is) = inr (subst IsFree (sym is) (2, omega arith, refl))
-failure_possible command paths None reply of_trees (inl (before, after, is)) =
-    subst (λ (r : Reply). Contains (possible command paths) (number_of r)) (sym is) (failure_given command paths of_trees).0
-failure_possible command paths None reply of_trees (inr is) =
-    subst (λ (r : Reply). Contains (possible command paths) (number_of r)) (sym is) (failure_given command paths of_trees).1
+failure_possible command paths early reply of_trees (inl (before, after, is)) =
+    fault_possible command paths early reply of_trees (subst TellsFault (sym is) tt)
+failure_possible command paths early reply of_trees (inr is) = fault_possible command paths early reply of_trees (subst TellsFault (sym is) tt)

@@ -28,7 +28,7 @@ use Rattle.hm_step.proofs.SeenLemmas.{shows_as}
 use Rattle.hm_step.proofs.StepLemmas.{stand_after}
 
 -- a plain reply tells no end id
-plain_tells : (reply : Reply) → IsPlain reply → passed_ids reply ≡ None
+pub plain_tells : (reply : Reply) → IsPlain reply → passed_ids reply ≡ None
 plain_tells (Passed begin end) is = absurd is
 plain_tells other is = refl
 

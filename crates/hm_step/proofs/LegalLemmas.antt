@@ -1,47 +1,28 @@
 -- A legal history goes on legally by a call that was served.
-use Rattle.std.proofs.Common.{◌≡◌, ℕ, ◌+◌, ◌<◌, ◌≤◌, Bool, true, false, List, refl, sym, ap, subst, ◌∙◌, inl, inr, arith}
+use Rattle.std.proofs.Common.{◌≡◌, ℕ, ◌+◌, Bool, true, false, List, refl, sym, ap, subst, ◌∙◌, inl, inr, arith}
 use Rattle.std.specs.Prelude.{Option, None, if◌then◌else◌}
 use Rattle.hm_types.specs.Elements.{FullElement}
-use Rattle.hm_types.specs.Faults.{IsMedia}
 use Rattle.hm_model.specs.After.{Event, opening_state}
 use Rattle.hm_model.specs.Call.{Call}
-use Rattle.hm_model.specs.Caused.{Counts, HasNumbers, IsCaused, IsCutAt, IsPossible, Known, ended_command, is_output, known_after, known_at, known_busy, possible, possible_for, stream_count, takes_stream}
-use Rattle.hm_model.specs.Due.{early_checks, first_refusal, none_open}
+use Rattle.hm_model.specs.Caused.{HasNumbers, IsCaused, IsPossible, Known, known_after, known_at, known_busy, possible, possible_for, takes_stream}
+use Rattle.hm_model.specs.Due.{early_checks, first_refusal}
 use Rattle.hm_model.specs.Legal.{IsUndamaged, MayFollow, Setting, call_after, state_after}
 use Rattle.hm_model.specs.Reply.{is_refusal}
 use Rattle.hm_model.specs.declared.command.Command.{Command}
 use Rattle.hm_model.specs.declared.command.Command.TheVariants.{Cat, Fill, Ln, Ls, MirrorWrite, Mkdir, Mv, Readlink, Rm, Rmdir, Snapshot, Stat, Symlink, Touch, Truncate, Write}
-use Rattle.hm_model.specs.declared.entry.Entry.{Entry}
 use Rattle.hm_model.specs.declared.reply.Reply.{Reply}
-use Rattle.hm_model.specs.declared.reply.Reply.TheVariants.{Cut, Damaged, Media, StreamFault, Synced}
+use Rattle.hm_model.specs.declared.reply.Reply.TheVariants.{Damaged}
 use Rattle.hm_model.proofs.MadeLemmas.{last_known}
 use Rattle.hm_calls.specs.Commands.{IsOnTrees}
 use Rattle.hm_step.specs.Served.{IsServed}
 use Rattle.hm_step.specs.Step.{IsFailure, IsNext}
 use Rattle.hm_step.proofs.GivenLemmas.{IsPlain, failure_possible}
+use Rattle.hm_step.proofs.CauseLemmas.{plain_numbers, served_mind_none}
 use Rattle.hm_step.proofs.CausedLemmas.{possible_is}
 use Rattle.hm_step.proofs.EventLemmas.{served_no_opening}
 use Rattle.hm_step.proofs.HistoryLemmas.{allowed, allowed_failed, failure_refuses, lands}
 
--- such a call minds no open pass, and takes no stream
-served_mind_none : (busy : Option ℕ) (command : Command) → IsOnTrees command → none_open busy command ≡ None
-served_mind_none busy (Mkdir path) of_trees = refl
-served_mind_none busy (Touch path) of_trees = refl
-served_mind_none busy (Symlink target path) of_trees = refl
-served_mind_none busy (Snapshot path) of_trees = refl
-served_mind_none busy (Ln old new) of_trees = refl
-served_mind_none busy (Mv old new) of_trees = refl
-served_mind_none busy (Write path offset bytes) of_trees = refl
-served_mind_none busy (Fill path offset count byte) of_trees = refl
-served_mind_none busy (Truncate path size) of_trees = refl
-served_mind_none busy (Rm path) of_trees = refl
-served_mind_none busy (Rmdir path) of_trees = refl
-served_mind_none busy (Ls path) of_trees = refl
-served_mind_none busy (Cat path offset count) of_trees = refl
-served_mind_none busy (Stat path) of_trees = refl
-served_mind_none busy (Readlink path) of_trees = refl
-served_mind_none busy other of_trees = absurd of_trees
-
+-- such a call takes no stream
 served_take_none : (event : Event) → IsOnTrees event.entry.call → takes_stream event.entry ≡ true → ⊥
 served_take_none event of_trees takes = by event.entry.call of_trees takes where
   by : (command : Command) → IsOnTrees command → (elim command as (λ c. Bool) [
@@ -64,24 +45,6 @@ served_take_none event of_trees takes = by event.entry.call of_trees takes where
   by (Stat path) of_trees is = cc
   by (Readlink path) of_trees is = cc
   by other of_trees is = of_trees
-
--- a plain reply has no numbers of its own
-plain_numbers : (now : Counts) (known : Known) (e : Entry) → IsPlain e.reply → HasNumbers now known e
-plain_numbers now known e plain = by e.reply plain where
-  by : (reply : Reply) → IsPlain reply → (elim reply as (λ r. Type 0) [
-    | Synced boundary ↦ (known.boundary ≤ boundary.0) × (boundary.0 < e.id.0)
-    | Media before after ↦ IsMedia known.counts.disk now.disk before after
-    | StreamFault before after ↦
-        let output : Bool = is_output known.opened e.call in
-        IsMedia (stream_count output known.counts) (stream_count output now) before after
-    | Cut items ↦ IsCutAt (ended_command known.opened e.call) items
-    | other ↦ Unit {0}
-  ])
-  by (Synced boundary) is = absurd is
-  by (Media before after) is = absurd is
-  by (StreamFault before after) is = absurd is
-  by (Cut items) is = absurd is
-  by other is = tt
 
 plain_undamaged : (reply : Reply) → IsPlain reply → IsUndamaged reply
 plain_undamaged (Damaged at kind) is = absurd is

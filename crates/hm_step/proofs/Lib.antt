@@ -13,5 +13,6 @@ pub mod NextCallLemmas
 pub mod PossibleLemmas
 pub mod GivenLemmas
 pub mod EarlyLemmas
+pub mod CauseLemmas
 pub mod CausedLemmas
 pub mod LegalLemmas

@@ -2,3 +2,4 @@ pub mod Seen
 pub mod Step
 pub mod Served
 pub mod Next
+pub mod Causes

@@ -5,9 +5,9 @@ ghost use Rattle.hm_types.specs.Elements.{FullElement};
 ghost use Rattle.hm_types.specs.declared.limits.TheConstants.{GREATEST_ID};
 ghost use Rattle.hm_cursor.specs.Told.{IsBroken, Lists, fulls};
 ghost use Rattle.hm_model.specs.After.{Event};
-ghost use Rattle.hm_model.specs.Caused.{HasNumbers, known_after, known_at};
+ghost use Rattle.hm_model.specs.Caused.{Counts, HasCause, HasNumbers, Known, counts_after, known_after, known_at};
 ghost use Rattle.hm_model.specs.Legal.{IsAllowed, MayFollow, Setting, call_after, state_after};
-ghost use Rattle.hm_model.specs.Reply.{told_boundary};
+ghost use Rattle.hm_model.specs.Reply.{passed_ids, told_boundary};
 ghost use Rattle.hm_model.specs.Sites.{Parsed, ReadsWords};
 ghost use Rattle.hm_model.specs.View.{Substitute, view_of};
 ghost use Rattle.hm_model.specs.Volume.{Volume};
@@ -18,6 +18,7 @@ ghost use Rattle.hm_volume.specs.Shown.{ShowsAs};
 ghost use Rattle.hm_calls.specs.Commands.{IsOnTrees};
 ghost use Rattle.hm_calls.specs.Known.{AreOlderOrSlaves};
 ghost use Rattle.hm_calls.specs.Possible.{MayReply};
+ghost use Rattle.hm_step.specs.Causes.{IsNextOf, TellsFault};
 ghost use Rattle.hm_step.specs.Seen.{AreGiven};
 ghost use Rattle.hm_step.specs.Served.{IsServed};
 ghost use Rattle.hm_image.specs.StandFor.{StandFor};
@@ -88,4 +89,22 @@ pub fn a_possible_reply_tells_no_boundary()
     ensures { (last : ℕ) (busy : Option ℕ) (command : Command) (paths : List Parsed) (reply : Reply) →
         IsOnTrees command → ReadsWords command paths → MayReply last busy command reply →
         told_boundary reply ≡ None }
+{}
+
+/// A reply that a call on names or on the bytes of files may have, by its words alone, has its cause
+/// by what is known before it, whatever the elements are. It tells no faults, and no ids of a pass.
+pub fn a_possible_reply_has_its_cause()
+    ensures caused { (now : Counts) (known : Known) (busy : Option ℕ) (event : Event) →
+        IsNextOf known event →
+        MayReply known.last busy event.entry.call event.entry.reply → HasCause now known event }
+    ensures told { (known : Known) (busy : Option ℕ) (event : Event) → IsNextOf known event →
+        MayReply known.last busy event.entry.call event.entry.reply →
+        (counts_after known event.entry ≡ known.counts) × (passed_ids event.entry.reply ≡ None) }
+{}
+
+/// So has one that tells a fault, if the counts that it tells have theirs.
+pub fn a_told_fault_has_its_cause()
+    ensures { (now : Counts) (known : Known) (event : Event) → IsNextOf known event →
+        TellsFault event.entry.reply → HasNumbers now known event.entry →
+        HasCause now known event }
 {}

@@ -1,3 +1,5 @@
+use Rattle.std.specs.Prelude.{option_map}
+use Rattle.hm_types.specs.declared.id.Id.{Id}
 use Rattle.hm_calls.proofs.AnswerLemmas.{refused_same, replies_accepted, replies_refused}
 use Rattle.hm_calls.specs.Commands.{reserves_for}
 use Rattle.hm_calls.proofs.KnownLemmas.{known_same}
@@ -30,3 +32,10 @@ returns-in-Err-Refused-clause-charges g c =
     (g.H.NameHash.hash_of c.args.hash.now) c.args.id.0 c.args.command.now c.args.busy c.args.store.now c.serve.new.store c.in-Err-Refused.reply
     (rw c.in-Err-Refused.field-0-is at c.in-Err-Refused.ensures.answers) in
     took_nothing g.T.HasRoom.room g.T.HasRoom.free (reserves_for c.args.command.now) c.args.store.now c.serve.new.store same.room same.free
+
+pub returns-in-Ok-clause-possible : goal.returns-in-Ok-clause-possible
+returns-in-Ok-clause-possible g c = c.in-Ok.ensures.gives (option_map (λ (i : Id). i.0) c.args.busy)
+
+pub returns-in-Err-Refused-clause-possible : goal.returns-in-Err-Refused-clause-possible
+returns-in-Err-Refused-clause-possible g c =
+    (rw c.in-Err-Refused.field-0-is at c.in-Err-Refused.ensures.gives) (option_map (λ (i : Id). i.0) c.args.busy)

@@ -21,9 +21,8 @@ use Rattle.hm_calls.proofs.SceneLemmas.{IsStoppedBy, answered, decided, scenes_r
 use Rattle.hm_calls.proofs.StageLemmas.{Wrote, acts_ended, drawn_now, master_passes, master_stopped, no_ids, of_refusal, past_stopped, refusal_so}
 use Rattle.hm_calls.proofs.StageLemmas.{space_before, told_before, told_then, untouched}
 use Rattle.hm_calls.proofs.TakeLemmas.{both_stay, takes_charged, took_admitted}
-use Rattle.hm_calls.proofs.GivenLemmas.{behind_file, edit_has, file_accepted, file_lacks, large_among, not_large}
+use Rattle.hm_calls.proofs.GivenLemmas.{behind_file, edit_has, edit_large, file_accepted, file_lacks, not_large}
 use Rattle.hm_calls.proofs.MayReplyLemmas.{asks_edit, end_gives, future_gives, later_gives, lost_gives, one_gives, past_gives, space_gives, word_gives}
-use Rattle.hm_model.specs.Caused.{number_of}
 use Rattle.std.proofs.lemmas.Bool.{false≢true}
 use Rattle.hm_calls.proofs.edits.edit_file.Goals as goal
 
@@ -449,7 +448,7 @@ returns-in_err-check_master-clause-gives g c =
     one_gives c.args.id.0 (command_for c.args.edit c.args.word.now) (Walks Follows) c.args.word.now (asks_edit c.args.edit c.args.word.now)
     c.course_before-course.result c.course_before-course.ensures.last c.parts-parts.result.now (subst (IsPath c.args.word.now) (sym
     c.parts-parts.ensures) c.in_ok-path.ensures.ok) (early_edit c.args.edit c.args.word.now c.course_before-course.result.last.0
-    c.parts-parts.result.now c.in_ok-check_future.ensures c.in_ok-check_present.ensures) ReadOnly (edit_has c.args.edit c.args.word.now (Parts
+    c.parts-parts.result.now c.in_ok-check_future.ensures c.in_ok-check_present.ensures) ReadOnly tt (edit_has c.args.edit c.args.word.now (Parts
     c.parts-parts.result.now ∷ []) 7 (behind_file (end_of c.args.edit) 7 (0, omega arith, refl))) c.from_residual-in_err-check_master.result
     c.in_err-check_master.field-0.0 (p.1 ∙ ap Err p.2) c.in_err-check_master.ensures.gives
 
@@ -459,7 +458,7 @@ returns-in_err-check_no_directory-clause-gives g c =
     one_gives c.args.id.0 (command_for c.args.edit c.args.word.now) (Walks Follows) c.args.word.now (asks_edit c.args.edit c.args.word.now)
     c.course_before-course.result c.course_before-course.ensures.last c.parts-parts.result.now (subst (IsPath c.args.word.now) (sym
     c.parts-parts.ensures) c.in_ok-path.ensures.ok) (early_edit c.args.edit c.args.word.now c.course_before-course.result.last.0
-    c.parts-parts.result.now c.in_ok-check_future.ensures c.in_ok-check_present.ensures) IsDir (edit_has c.args.edit c.args.word.now (Parts
+    c.parts-parts.result.now c.in_ok-check_future.ensures c.in_ok-check_present.ensures) IsDir tt (edit_has c.args.edit c.args.word.now (Parts
     c.parts-parts.result.now ∷ []) 4 (0, omega arith, refl)) c.from_residual-in_err-check_no_directory.result c.in_err-check_no_directory.field-0.0
     (p.1 ∙ ap Err p.2) c.in_err-check_no_directory.ensures.gives
 
@@ -469,7 +468,7 @@ returns-in_err-check_no_softlink-clause-gives g c =
     one_gives c.args.id.0 (command_for c.args.edit c.args.word.now) (Walks Follows) c.args.word.now (asks_edit c.args.edit c.args.word.now)
     c.course_before-course.result c.course_before-course.ensures.last c.parts-parts.result.now (subst (IsPath c.args.word.now) (sym
     c.parts-parts.ensures) c.in_ok-path.ensures.ok) (early_edit c.args.edit c.args.word.now c.course_before-course.result.last.0
-    c.parts-parts.result.now c.in_ok-check_future.ensures c.in_ok-check_present.ensures) NotFile (edit_has c.args.edit c.args.word.now (Parts
+    c.parts-parts.result.now c.in_ok-check_future.ensures c.in_ok-check_present.ensures) NotFile tt (edit_has c.args.edit c.args.word.now (Parts
     c.parts-parts.result.now ∷ []) 32 (1, omega arith, refl)) c.from_residual-in_err-check_no_softlink.result c.in_err-check_no_softlink.field-0.0
     (p.1 ∙ ap Err p.2) c.in_err-check_no_softlink.ensures.gives
 
@@ -479,10 +478,9 @@ returns-in_err-check_end-clause-gives g c =
     later_gives c.args.id.0 (command_for c.args.edit c.args.word.now) (Walks Follows) c.args.word.now (asks_edit c.args.edit c.args.word.now)
     c.course_before-course.result c.course_before-course.ensures.last c.parts-parts.result.now (subst (IsPath c.args.word.now) (sym
     c.parts-parts.ensures) c.in_ok-path.ensures.ok) (early_edit c.args.edit c.args.word.now c.course_before-course.result.last.0
-    c.parts-parts.result.now c.in_ok-check_future.ensures c.in_ok-check_present.ensures) (λ reply. fits_file (end_of c.args.edit) ≡ Some reply) (λ
-    reply is. edit_has c.args.edit c.args.word.now (Parts c.parts-parts.result.now ∷ []) (number_of reply) (large_among (end_of c.args.edit) reply
-    is)) c.from_residual-in_err-check_end.result c.in_err-check_end.field-0.0 (p.1 ∙ ap Err p.2) (decided (Unit {0}) (fits_file (end_of c.args.edit))
-    c.in_err-check_end.field-0.0 c.in_err-check_end.ensures.check)
+    c.parts-parts.result.now c.in_ok-check_future.ensures c.in_ok-check_present.ensures) (λ reply. fits_file (end_of c.args.edit) ≡ Some reply)
+    (edit_large c.args.edit c.args.word.now (Parts c.parts-parts.result.now ∷ [])) c.from_residual-in_err-check_end.result
+    c.in_err-check_end.field-0.0 (p.1 ∙ ap Err p.2) (decided (Unit {0}) (fits_file (end_of c.args.edit)) c.in_err-check_end.field-0.0 c.in_err-check_end.ensures.check)
 
 pub returns-in_err-admit_edit-clause-gives : goal.returns-in_err-admit_edit-clause-gives
 returns-in_err-admit_edit-clause-gives g c =
@@ -499,5 +497,5 @@ returns-clause-gives g c =
     end_gives c.args.id.0 (command_for c.args.edit c.args.word.now) (Walks Follows) c.args.word.now (asks_edit c.args.edit c.args.word.now)
     c.course_before-course.result c.course_before-course.ensures.last c.parts-parts.result.now (subst (IsPath c.args.word.now) (sym
     c.parts-parts.ensures) c.in_ok-path.ensures.ok) (early_edit c.args.edit c.args.word.now c.course_before-course.result.last.0
-    c.parts-parts.result.now c.in_ok-check_future.ensures c.in_ok-check_present.ensures) Done (edit_has c.args.edit c.args.word.now (Parts
+    c.parts-parts.result.now c.in_ok-check_future.ensures c.in_ok-check_present.ensures) Done tt (edit_has c.args.edit c.args.word.now (Parts
     c.parts-parts.result.now ∷ []) 101 (file_accepted (end_of c.args.edit) (not_large (end_of c.args.edit) c.in_ok-check_end.ensures.check)))

@@ -1353,7 +1353,7 @@ returns-in_err-check_master-clause-gives g c =
     c.course_before-course.result c.course_before-course.ensures.last c.parts-more.result.now (subst (IsPath c.args.new.now) (sym
     c.parts-more.ensures) c.in_ok-new.ensures.ok) (early_linked c.args.old.now c.args.new.now c.course_before-course.result.last.0
     c.parts-parts.result.now c.parts-more.result.now c.in_ok-front.name.now c.in_ok-front.ensures.name c.in_ok-check_future.ensures
-    c.in_ok-check_future-2.ensures c.in_ok-check_present.ensures c.in_ok-check_present-2.ensures) ReadOnly (8, omega arith, refl)
+    c.in_ok-check_future-2.ensures c.in_ok-check_present.ensures c.in_ok-check_present-2.ensures) ReadOnly tt (8, omega arith, refl)
     c.from_residual-in_err-check_master.result c.in_err-check_master.field-0.0 (p.1 ∙ ap Err p.2) c.in_err-check_master.ensures.gives
 
 pub returns-in_err-check_master-2-clause-gives : goal.returns-in_err-check_master-2-clause-gives
@@ -1364,7 +1364,7 @@ returns-in_err-check_master-2-clause-gives g c =
     c.course_before-course.result c.course_before-course.ensures.last c.parts-more.result.now (subst (IsPath c.args.new.now) (sym
     c.parts-more.ensures) c.in_ok-new.ensures.ok) (early_linked c.args.old.now c.args.new.now c.course_before-course.result.last.0
     c.parts-parts.result.now c.parts-more.result.now c.in_ok-front.name.now c.in_ok-front.ensures.name c.in_ok-check_future.ensures
-    c.in_ok-check_future-2.ensures c.in_ok-check_present.ensures c.in_ok-check_present-2.ensures) ReadOnly (8, omega arith, refl)
+    c.in_ok-check_future-2.ensures c.in_ok-check_present.ensures c.in_ok-check_present-2.ensures) ReadOnly tt (8, omega arith, refl)
     c.from_residual-in_err-check_master-2.result c.in_err-check_master-2.field-0.0 (p.1 ∙ ap Err p.2) c.in_err-check_master-2.ensures.gives
 
 pub returns-in_err-check_no_directory-clause-gives : goal.returns-in_err-check_no_directory-clause-gives
@@ -1375,7 +1375,7 @@ returns-in_err-check_no_directory-clause-gives g c =
     c.course_before-course.result c.course_before-course.ensures.last c.parts-more.result.now (subst (IsPath c.args.new.now) (sym
     c.parts-more.ensures) c.in_ok-new.ensures.ok) (early_linked c.args.old.now c.args.new.now c.course_before-course.result.last.0
     c.parts-parts.result.now c.parts-more.result.now c.in_ok-front.name.now c.in_ok-front.ensures.name c.in_ok-check_future.ensures
-    c.in_ok-check_future-2.ensures c.in_ok-check_present.ensures c.in_ok-check_present-2.ensures) IsDir (1, omega arith, refl)
+    c.in_ok-check_future-2.ensures c.in_ok-check_present.ensures c.in_ok-check_present-2.ensures) IsDir tt (1, omega arith, refl)
     c.from_residual-in_err-check_no_directory.result c.in_err-check_no_directory.field-0.0 (p.1 ∙ ap Err p.2)
     c.in_err-check_no_directory.ensures.gives
 
@@ -1387,7 +1387,7 @@ returns-in_err-check_no_softlink-clause-gives g c =
     c.course_before-course.result c.course_before-course.ensures.last c.parts-more.result.now (subst (IsPath c.args.new.now) (sym
     c.parts-more.ensures) c.in_ok-new.ensures.ok) (early_linked c.args.old.now c.args.new.now c.course_before-course.result.last.0
     c.parts-parts.result.now c.parts-more.result.now c.in_ok-front.name.now c.in_ok-front.ensures.name c.in_ok-check_future.ensures
-    c.in_ok-check_future-2.ensures c.in_ok-check_present.ensures c.in_ok-check_present-2.ensures) NotFile (2, omega arith, refl)
+    c.in_ok-check_future-2.ensures c.in_ok-check_present.ensures c.in_ok-check_present-2.ensures) NotFile tt (2, omega arith, refl)
     c.from_residual-in_err-check_no_softlink.result c.in_err-check_no_softlink.field-0.0 (p.1 ∙ ap Err p.2) c.in_err-check_no_softlink.ensures.gives
 
 pub returns-in_err-check_one_pfs-clause-gives : goal.returns-in_err-check_one_pfs-clause-gives
@@ -1398,7 +1398,7 @@ returns-in_err-check_one_pfs-clause-gives g c =
     c.course_before-course.result c.course_before-course.ensures.last c.parts-more.result.now (subst (IsPath c.args.new.now) (sym
     c.parts-more.ensures) c.in_ok-new.ensures.ok) (early_linked c.args.old.now c.args.new.now c.course_before-course.result.last.0
     c.parts-parts.result.now c.parts-more.result.now c.in_ok-front.name.now c.in_ok-front.ensures.name c.in_ok-check_future.ensures
-    c.in_ok-check_future-2.ensures c.in_ok-check_present.ensures c.in_ok-check_present-2.ensures) CrossPfs (3, omega arith, refl)
+    c.in_ok-check_future-2.ensures c.in_ok-check_present.ensures c.in_ok-check_present-2.ensures) CrossPfs tt (3, omega arith, refl)
     c.from_residual-in_err-check_one_pfs.result c.in_err-check_one_pfs.field-0.0 (p.1 ∙ ap Err p.2) (unless_told (Unit {0}) _ CrossPfs
     c.in_err-check_one_pfs.field-0.0 c.in_err-check_one_pfs.ensures)
 
@@ -1410,7 +1410,7 @@ returns-in_err-check_new-clause-gives g c =
     c.course_before-course.result c.course_before-course.ensures.last c.parts-more.result.now (subst (IsPath c.args.new.now) (sym
     c.parts-more.ensures) c.in_ok-new.ensures.ok) (early_linked c.args.old.now c.args.new.now c.course_before-course.result.last.0
     c.parts-parts.result.now c.parts-more.result.now c.in_ok-front.name.now c.in_ok-front.ensures.name c.in_ok-check_future.ensures
-    c.in_ok-check_future-2.ensures c.in_ok-check_present.ensures c.in_ok-check_present-2.ensures) Exists (5, omega arith, refl)
+    c.in_ok-check_future-2.ensures c.in_ok-check_present.ensures c.in_ok-check_present-2.ensures) Exists tt (5, omega arith, refl)
     c.from_residual-in_err-check_new.result c.in_err-check_new.field-0.0 (p.1 ∙ ap Err p.2) c.in_err-check_new.ensures.gives
 
 pub returns-in_err-check_links-clause-gives : goal.returns-in_err-check_links-clause-gives
@@ -1421,7 +1421,7 @@ returns-in_err-check_links-clause-gives g c =
     c.course_before-course.result c.course_before-course.ensures.last c.parts-more.result.now (subst (IsPath c.args.new.now) (sym
     c.parts-more.ensures) c.in_ok-new.ensures.ok) (early_linked c.args.old.now c.args.new.now c.course_before-course.result.last.0
     c.parts-parts.result.now c.parts-more.result.now c.in_ok-front.name.now c.in_ok-front.ensures.name c.in_ok-check_future.ensures
-    c.in_ok-check_future-2.ensures c.in_ok-check_present.ensures c.in_ok-check_present-2.ensures) TooBig (4, omega arith, refl)
+    c.in_ok-check_future-2.ensures c.in_ok-check_present.ensures c.in_ok-check_present-2.ensures) TooBig tt (4, omega arith, refl)
     c.from_residual-in_err-check_links.result c.in_err-check_links.field-0.0 (p.1 ∙ ap Err p.2) c.in_err-check_links.ensures.gives
 
 pub returns-in_err-spot-clause-gives : goal.returns-in_err-spot-clause-gives
@@ -1432,7 +1432,7 @@ returns-in_err-spot-clause-gives g c =
     c.course_before-course.result c.course_before-course.ensures.last c.parts-more.result.now (subst (IsPath c.args.new.now) (sym
     c.parts-more.ensures) c.in_ok-new.ensures.ok) (early_linked c.args.old.now c.args.new.now c.course_before-course.result.last.0
     c.parts-parts.result.now c.parts-more.result.now c.in_ok-front.name.now c.in_ok-front.ensures.name c.in_ok-check_future.ensures
-    c.in_ok-check_future-2.ensures c.in_ok-check_present.ensures c.in_ok-check_present-2.ensures) HashFull (6, omega arith, refl)
+    c.in_ok-check_future-2.ensures c.in_ok-check_present.ensures c.in_ok-check_present-2.ensures) HashFull tt (6, omega arith, refl)
     c.from_residual-in_err-spot.result c.in_err-spot.field-0.0 (p.1 ∙ ap Err p.2) c.in_err-spot.ensures.gives
 
 pub returns-in_err-admit_names-clause-gives : goal.returns-in_err-admit_names-clause-gives
@@ -1453,7 +1453,7 @@ returns-in_default-clause-gives g c =
     c.course_before-course.result c.course_before-course.ensures.last c.parts-more.result.now (subst (IsPath c.args.new.now) (sym
     c.parts-more.ensures) c.in_ok-new.ensures.ok) (early_linked c.args.old.now c.args.new.now c.course_before-course.result.last.0
     c.parts-parts.result.now c.parts-more.result.now c.in_ok-front.name.now c.in_ok-front.ensures.name c.in_ok-check_future.ensures
-    c.in_ok-check_future-2.ensures c.in_ok-check_present.ensures c.in_ok-check_present-2.ensures) Done (0, omega arith, refl)
+    c.in_ok-check_future-2.ensures c.in_ok-check_present.ensures c.in_ok-check_present-2.ensures) Done tt (0, omega arith, refl)
 
 pub returns-clause-gives : goal.returns-clause-gives
 returns-clause-gives g c =
@@ -1462,4 +1462,4 @@ returns-clause-gives g c =
     c.course_before-course.result c.course_before-course.ensures.last c.parts-more.result.now (subst (IsPath c.args.new.now) (sym
     c.parts-more.ensures) c.in_ok-new.ensures.ok) (early_linked c.args.old.now c.args.new.now c.course_before-course.result.last.0
     c.parts-parts.result.now c.parts-more.result.now c.in_ok-front.name.now c.in_ok-front.ensures.name c.in_ok-check_future.ensures
-    c.in_ok-check_future-2.ensures c.in_ok-check_present.ensures c.in_ok-check_present-2.ensures) Done (0, omega arith, refl)
+    c.in_ok-check_future-2.ensures c.in_ok-check_present.ensures c.in_ok-check_present-2.ensures) Done tt (0, omega arith, refl)

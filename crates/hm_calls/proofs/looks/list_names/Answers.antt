@@ -127,7 +127,7 @@ returns-in_err-check_directory-clause-gives g c =
       future = rw c.parts.ensures at
           c.in_ok-check_future.ensures;
       past = refl;
-    }) NotDir (has_tail 102 3 (on_a_read (Parts c.in_ok-path.path ∷ [])) (in_read (Parts c.in_ok-path.path
+    }) NotDir tt (has_tail 102 3 (on_a_read (Parts c.in_ok-path.path ∷ [])) (in_read (Parts c.in_ok-path.path
     ∷ []) 3 dir_in_walk)) c.from_residual-in_err-check_directory.result c.in_err-check_directory.field-0.0 (p.1 ∙ ap Err p.2)
     c.in_err-check_directory.ensures.gives
 
@@ -139,4 +139,4 @@ returns-clause-gives g c =
       future = rw c.parts.ensures at
           c.in_ok-check_future.ensures;
       past = refl;
-    }) (Listing c.in_ok-names.names) (0, omega arith, refl)
+    }) (Listing c.in_ok-names.names) tt (0, omega arith, refl)

@@ -235,7 +235,7 @@ returns-in_err-check_no_directory-clause-gives g c =
       good = refl;
       future = rw c.parts.ensures at c.in_ok-check_future.ensures;
       past = refl;
-    }) IsDir (1, omega arith, refl)
+    }) IsDir tt (1, omega arith, refl)
     c.from_residual-in_err-check_no_directory.result c.in_err-check_no_directory.field-0.0 (p.1 ∙ ap Err p.2)
     c.in_err-check_no_directory.ensures.gives
 
@@ -247,7 +247,7 @@ returns-in_err-check_no_softlink-clause-gives g c =
       good = refl;
       future = rw c.parts.ensures at c.in_ok-check_future.ensures;
       past = refl;
-    }) NotFile (2, omega arith, refl)
+    }) NotFile tt (2, omega arith, refl)
     c.from_residual-in_err-check_no_softlink.result c.in_err-check_no_softlink.field-0.0 (p.1 ∙ ap Err p.2) c.in_err-check_no_softlink.ensures.gives
 
 pub returns-in_default-clause-gives : goal.returns-in_default-clause-gives
@@ -257,7 +257,7 @@ returns-in_default-clause-gives g c =
       good = refl;
       future = rw c.parts.ensures at c.in_ok-check_future.ensures;
       past = refl;
-    }) NotFound (behind_cat (Parts c.in_ok-path.path ∷ []) 2 (in_read (Parts
+    }) NotFound tt (behind_cat (Parts c.in_ok-path.path ∷ []) 2 (in_read (Parts
     c.in_ok-path.path ∷ []) 2 lost_in_walk))
 
 pub returns-clause-gives : goal.returns-clause-gives
@@ -267,4 +267,4 @@ returns-clause-gives g c =
       good = refl;
       future = rw c.parts.ensures at c.in_ok-check_future.ensures;
       past = refl;
-    }) (Content c.in_ok-bytes.bytes) (0, omega arith, refl)
+    }) (Content c.in_ok-bytes.bytes) tt (0, omega arith, refl)

@@ -116,7 +116,7 @@ returns-in_default-clause-gives g c =
       future = rw c.parts.ensures at
           c.in_ok-check_future.ensures;
       past = refl;
-    }) NotFound (has_tail 104 2 (on_a_read (Parts c.in_ok-path.path ∷ [])) (in_read (Parts
+    }) NotFound tt (has_tail 104 2 (on_a_read (Parts c.in_ok-path.path ∷ [])) (in_read (Parts
     c.in_ok-path.path ∷ []) 2 lost_in_walk))
 
 pub returns-clause-gives : goal.returns-clause-gives
@@ -128,4 +128,4 @@ returns-clause-gives g c =
           c.in_ok-check_future.ensures;
       past = refl;
     }) (Status c.in-Some.inode.kind c.in_ok-object.object.at.object c.in_ok-size.size
-    c.in-Some.inode.links) (0, omega arith, refl)
+    c.in-Some.inode.links) tt (0, omega arith, refl)

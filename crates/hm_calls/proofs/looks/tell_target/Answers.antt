@@ -140,7 +140,7 @@ returns-in_err-check_link-clause-gives g c =
       future = rw c.parts.ensures at
           c.in_ok-check_future.ensures;
       past = refl;
-    }) NotLink (1, omega arith, refl) c.from_residual-in_err-check_link.result
+    }) NotLink tt (1, omega arith, refl) c.from_residual-in_err-check_link.result
     c.in_err-check_link.field-0.0 (p.1 ∙ ap Err p.2) c.in_err-check_link.ensures.gives
 
 pub returns-in_default-clause-gives : goal.returns-in_default-clause-gives
@@ -151,7 +151,7 @@ returns-in_default-clause-gives g c =
       future = rw c.parts.ensures at
           c.in_ok-check_future.ensures;
       past = refl;
-    }) NotLink (1, omega arith, refl)
+    }) NotLink tt (1, omega arith, refl)
 
 pub returns-clause-gives : goal.returns-clause-gives
 returns-clause-gives g c =
@@ -161,4 +161,4 @@ returns-clause-gives g c =
       future = rw c.parts.ensures at
           c.in_ok-check_future.ensures;
       past = refl;
-    }) (Target c.in_ok-text.text) (0, omega arith, refl)
+    }) (Target c.in_ok-text.text) tt (0, omega arith, refl)

@@ -387,7 +387,7 @@ returns-in_err-check_master-clause-gives g c =
     one_gives c.args.id.0 (command_by c.args.new c.args.word.now) MakesName c.args.word.now (asks_make c.args.new c.args.word.now)
     c.course_before-course.result c.course_before-course.ensures.last c.in_ok-path.path c.in_ok-path.ensures.ok (early_made c.args.new
     c.args.word.now c.course_before-course.result.last.0 c.in_ok-path.path c.in_ok-front.name.now (rw c.parts.ensures at c.in_ok-front.ensures.name)
-    (rw c.parts-2.ensures at c.in_ok-check_future.ensures) (rw c.parts-3.ensures at c.in_ok-check_present.ensures)) ReadOnly (made_has c.args.new
+    (rw c.parts-2.ensures at c.in_ok-check_future.ensures) (rw c.parts-3.ensures at c.in_ok-check_present.ensures)) ReadOnly tt (made_has c.args.new
     c.args.word.now (Parts c.in_ok-path.path ∷ []) 7 (4, omega arith, refl)) c.from_residual-in_err-check_master.result
     c.in_err-check_master.field-0.0 (p.1 ∙ ap Err p.2) c.in_err-check_master.ensures.gives
 
@@ -397,7 +397,7 @@ returns-in_err-check_new-clause-gives g c =
     one_gives c.args.id.0 (command_by c.args.new c.args.word.now) MakesName c.args.word.now (asks_make c.args.new c.args.word.now)
     c.course_before-course.result c.course_before-course.ensures.last c.in_ok-path.path c.in_ok-path.ensures.ok (early_made c.args.new
     c.args.word.now c.course_before-course.result.last.0 c.in_ok-path.path c.in_ok-front.name.now (rw c.parts.ensures at c.in_ok-front.ensures.name)
-    (rw c.parts-2.ensures at c.in_ok-check_future.ensures) (rw c.parts-3.ensures at c.in_ok-check_present.ensures)) Exists (made_has c.args.new
+    (rw c.parts-2.ensures at c.in_ok-check_future.ensures) (rw c.parts-3.ensures at c.in_ok-check_present.ensures)) Exists tt (made_has c.args.new
     c.args.word.now (Parts c.in_ok-path.path ∷ []) 1 (1, omega arith, refl)) c.from_residual-in_err-check_new.result c.in_err-check_new.field-0.0
     (p.1 ∙ ap Err p.2) c.in_err-check_new.ensures.gives
 
@@ -407,7 +407,7 @@ returns-in_err-spot-clause-gives g c =
     one_gives c.args.id.0 (command_by c.args.new c.args.word.now) MakesName c.args.word.now (asks_make c.args.new c.args.word.now)
     c.course_before-course.result c.course_before-course.ensures.last c.in_ok-path.path c.in_ok-path.ensures.ok (early_made c.args.new
     c.args.word.now c.course_before-course.result.last.0 c.in_ok-path.path c.in_ok-front.name.now (rw c.parts.ensures at c.in_ok-front.ensures.name)
-    (rw c.parts-2.ensures at c.in_ok-check_future.ensures) (rw c.parts-3.ensures at c.in_ok-check_present.ensures)) HashFull (made_has c.args.new
+    (rw c.parts-2.ensures at c.in_ok-check_future.ensures) (rw c.parts-3.ensures at c.in_ok-check_present.ensures)) HashFull tt (made_has c.args.new
     c.args.word.now (Parts c.in_ok-path.path ∷ []) 13 (2, omega arith, refl)) c.from_residual-in_err-spot.result c.in_err-spot.field-0.0 (p.1 ∙ ap
     Err p.2) c.in_err-spot.ensures.gives
 
@@ -426,5 +426,5 @@ returns-clause-gives g c =
     end_gives c.args.id.0 (command_by c.args.new c.args.word.now) MakesName c.args.word.now (asks_make c.args.new c.args.word.now)
     c.course_before-course.result c.course_before-course.ensures.last c.in_ok-path.path c.in_ok-path.ensures.ok (early_made c.args.new
     c.args.word.now c.course_before-course.result.last.0 c.in_ok-path.path c.in_ok-front.name.now (rw c.parts.ensures at c.in_ok-front.ensures.name)
-    (rw c.parts-2.ensures at c.in_ok-check_future.ensures) (rw c.parts-3.ensures at c.in_ok-check_present.ensures)) Done (made_has c.args.new
+    (rw c.parts-2.ensures at c.in_ok-check_future.ensures) (rw c.parts-3.ensures at c.in_ok-check_present.ensures)) Done tt (made_has c.args.new
     c.args.word.now (Parts c.in_ok-path.path ∷ []) 101 (0, omega arith, refl))

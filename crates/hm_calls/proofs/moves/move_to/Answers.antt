@@ -1167,7 +1167,7 @@ returns-in_err-check_master-clause-gives g c =
     c.parts-more.ensures) c.in_ok-new.ensures.ok) (early_moved c.args.old.now c.args.new.now c.course_before-course.result.last.0
     c.parts-parts.result.now c.parts-more.result.now c.in_ok-old_name.old_name.now c.in_ok-front.new_name.now c.in_ok-old_name.ensures.name
     c.in_ok-front.ensures.name c.in_ok-check_future.ensures c.in_ok-check_future-2.ensures c.in_ok-check_present.ensures
-    c.in_ok-check_present-2.ensures) ReadOnly (6, omega arith, refl) c.from_residual-in_err-check_master.result c.in_err-check_master.field-0.0 (p.1
+    c.in_ok-check_present-2.ensures) ReadOnly tt (6, omega arith, refl) c.from_residual-in_err-check_master.result c.in_err-check_master.field-0.0 (p.1
     ∙ ap Err p.2) c.in_err-check_master.ensures.gives
 
 pub returns-in_err-check_master-2-clause-gives : goal.returns-in_err-check_master-2-clause-gives
@@ -1179,7 +1179,7 @@ returns-in_err-check_master-2-clause-gives g c =
     c.parts-more.ensures) c.in_ok-new.ensures.ok) (early_moved c.args.old.now c.args.new.now c.course_before-course.result.last.0
     c.parts-parts.result.now c.parts-more.result.now c.in_ok-old_name.old_name.now c.in_ok-front.new_name.now c.in_ok-old_name.ensures.name
     c.in_ok-front.ensures.name c.in_ok-check_future.ensures c.in_ok-check_future-2.ensures c.in_ok-check_present.ensures
-    c.in_ok-check_present-2.ensures) ReadOnly (6, omega arith, refl) c.from_residual-in_err-check_master-2.result c.in_err-check_master-2.field-0.0
+    c.in_ok-check_present-2.ensures) ReadOnly tt (6, omega arith, refl) c.from_residual-in_err-check_master-2.result c.in_err-check_master-2.field-0.0
     (p.1 ∙ ap Err p.2) c.in_err-check_master-2.ensures.gives
 
 pub returns-in_err-check_one_pfs-clause-gives : goal.returns-in_err-check_one_pfs-clause-gives
@@ -1191,7 +1191,7 @@ returns-in_err-check_one_pfs-clause-gives g c =
     c.parts-more.ensures) c.in_ok-new.ensures.ok) (early_moved c.args.old.now c.args.new.now c.course_before-course.result.last.0
     c.parts-parts.result.now c.parts-more.result.now c.in_ok-old_name.old_name.now c.in_ok-front.new_name.now c.in_ok-old_name.ensures.name
     c.in_ok-front.ensures.name c.in_ok-check_future.ensures c.in_ok-check_future-2.ensures c.in_ok-check_present.ensures
-    c.in_ok-check_present-2.ensures) CrossPfs (1, omega arith, refl) c.from_residual-in_err-check_one_pfs.result c.in_err-check_one_pfs.field-0.0
+    c.in_ok-check_present-2.ensures) CrossPfs tt (1, omega arith, refl) c.from_residual-in_err-check_one_pfs.result c.in_err-check_one_pfs.field-0.0
     (p.1 ∙ ap Err p.2) (unless_told (Unit {0}) _ CrossPfs c.in_err-check_one_pfs.field-0.0 c.in_err-check_one_pfs.ensures)
 
 pub returns-then-to-clause-gives : goal.returns-then-to-clause-gives
@@ -1202,7 +1202,7 @@ returns-then-to-clause-gives g c =
     c.parts-more.ensures) c.in_ok-new.ensures.ok) (early_moved c.args.old.now c.args.new.now c.course_before-course.result.last.0
     c.parts-parts.result.now c.parts-more.result.now c.in_ok-old_name.old_name.now c.in_ok-front.new_name.now c.in_ok-old_name.ensures.name
     c.in_ok-front.ensures.name c.in_ok-check_future.ensures c.in_ok-check_future-2.ensures c.in_ok-check_present.ensures
-    c.in_ok-check_present-2.ensures) IntoItself (2, omega arith, refl) (Err (Refused IntoItself)) (Refused IntoItself) refl refl
+    c.in_ok-check_present-2.ensures) IntoItself tt (2, omega arith, refl) (Err (Refused IntoItself)) (Refused IntoItself) refl refl
 
 pub returns-in_default-clause-gives : goal.returns-in_default-clause-gives
 returns-in_default-clause-gives g c =
@@ -1212,7 +1212,7 @@ returns-in_default-clause-gives g c =
     c.parts-more.ensures) c.in_ok-new.ensures.ok) (early_moved c.args.old.now c.args.new.now c.course_before-course.result.last.0
     c.parts-parts.result.now c.parts-more.result.now c.in_ok-old_name.old_name.now c.in_ok-front.new_name.now c.in_ok-old_name.ensures.name
     c.in_ok-front.ensures.name c.in_ok-check_future.ensures c.in_ok-check_future-2.ensures c.in_ok-check_present.ensures
-    c.in_ok-check_present-2.ensures) NotFound (7, omega arith, refl) (Err (Refused NotFound)) (Refused NotFound) refl refl
+    c.in_ok-check_present-2.ensures) NotFound tt (7, omega arith, refl) (Err (Refused NotFound)) (Refused NotFound) refl refl
 
 pub returns-in_err-move_beside-clause-gives : goal.returns-in_err-move_beside-clause-gives
 returns-in_err-move_beside-clause-gives g c =
@@ -1235,7 +1235,7 @@ returns-in_default-2-clause-gives g c =
     c.parts-more.ensures) c.in_ok-new.ensures.ok) (early_moved c.args.old.now c.args.new.now c.course_before-course.result.last.0
     c.parts-parts.result.now c.parts-more.result.now c.in_ok-old_name.old_name.now c.in_ok-front.new_name.now c.in_ok-old_name.ensures.name
     c.in_ok-front.ensures.name c.in_ok-check_future.ensures c.in_ok-check_future-2.ensures c.in_ok-check_present.ensures
-    c.in_ok-check_present-2.ensures) Done (0, omega arith, refl)
+    c.in_ok-check_present-2.ensures) Done tt (0, omega arith, refl)
 
 pub returns-in_err-move_over-clause-gives : goal.returns-in_err-move_over-clause-gives
 returns-in_err-move_over-clause-gives g c =
@@ -1258,4 +1258,4 @@ returns-clause-gives g c =
     c.parts-more.ensures) c.in_ok-new.ensures.ok) (early_moved c.args.old.now c.args.new.now c.course_before-course.result.last.0
     c.parts-parts.result.now c.parts-more.result.now c.in_ok-old_name.old_name.now c.in_ok-front.new_name.now c.in_ok-old_name.ensures.name
     c.in_ok-front.ensures.name c.in_ok-check_future.ensures c.in_ok-check_future-2.ensures c.in_ok-check_present.ensures
-    c.in_ok-check_present-2.ensures) Done (0, omega arith, refl)
+    c.in_ok-check_present-2.ensures) Done tt (0, omega arith, refl)

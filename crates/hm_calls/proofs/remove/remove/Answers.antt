@@ -320,7 +320,7 @@ returns-in_err-check_master-clause-gives g c =
     one_gives c.args.id.0 (Rm c.args.word.now) TakesName c.args.word.now (asks_rm c.args.word.now) c.course_before-course.result
     c.course_before-course.ensures.last c.parts-parts.result.now (subst (IsPath c.args.word.now) (sym c.parts-parts.ensures) c.in_ok-path.ensures.ok)
     (early_named (Rm c.args.word.now) c.course_before-course.result.last.0 c.parts-parts.result.now c.in_ok-name.name.now refl
-    c.in_ok-name.ensures.name c.in_ok-check_future.ensures c.in_ok-check_present.ensures) ReadOnly (3, omega arith, refl)
+    c.in_ok-name.ensures.name c.in_ok-check_future.ensures c.in_ok-check_present.ensures) ReadOnly tt (3, omega arith, refl)
     c.from_residual-in_err-check_master.result c.in_err-check_master.field-0.0 (p.1 ∙ ap Err p.2) c.in_err-check_master.ensures.gives
 
 pub returns-in_err-check_no_directory-clause-gives : goal.returns-in_err-check_no_directory-clause-gives
@@ -329,7 +329,7 @@ returns-in_err-check_no_directory-clause-gives g c =
     one_gives c.args.id.0 (Rm c.args.word.now) TakesName c.args.word.now (asks_rm c.args.word.now) c.course_before-course.result
     c.course_before-course.ensures.last c.parts-parts.result.now (subst (IsPath c.args.word.now) (sym c.parts-parts.ensures) c.in_ok-path.ensures.ok)
     (early_named (Rm c.args.word.now) c.course_before-course.result.last.0 c.parts-parts.result.now c.in_ok-name.name.now refl
-    c.in_ok-name.ensures.name c.in_ok-check_future.ensures c.in_ok-check_present.ensures) IsDir (1, omega arith, refl)
+    c.in_ok-name.ensures.name c.in_ok-check_future.ensures c.in_ok-check_present.ensures) IsDir tt (1, omega arith, refl)
     c.from_residual-in_err-check_no_directory.result c.in_err-check_no_directory.field-0.0 (p.1 ∙ ap Err p.2)
     c.in_err-check_no_directory.ensures.gives
 
@@ -347,7 +347,7 @@ returns-in_default-clause-gives g c =
     one_gives c.args.id.0 (Rm c.args.word.now) TakesName c.args.word.now (asks_rm c.args.word.now) c.course_before-course.result
     c.course_before-course.ensures.last c.parts-parts.result.now (subst (IsPath c.args.word.now) (sym c.parts-parts.ensures) c.in_ok-path.ensures.ok)
     (early_named (Rm c.args.word.now) c.course_before-course.result.last.0 c.parts-parts.result.now c.in_ok-name.name.now refl
-    c.in_ok-name.ensures.name c.in_ok-check_future.ensures c.in_ok-check_present.ensures) NotFound (4, omega arith, refl) (Err (Refused NotFound))
+    c.in_ok-name.ensures.name c.in_ok-check_future.ensures c.in_ok-check_present.ensures) NotFound tt (4, omega arith, refl) (Err (Refused NotFound))
     (Refused NotFound) refl refl
 
 pub returns-clause-gives : goal.returns-clause-gives
@@ -355,4 +355,4 @@ returns-clause-gives g c =
     end_gives c.args.id.0 (Rm c.args.word.now) TakesName c.args.word.now (asks_rm c.args.word.now) c.course_before-course.result
     c.course_before-course.ensures.last c.parts-parts.result.now (subst (IsPath c.args.word.now) (sym c.parts-parts.ensures) c.in_ok-path.ensures.ok)
     (early_named (Rm c.args.word.now) c.course_before-course.result.last.0 c.parts-parts.result.now c.in_ok-name.name.now refl
-    c.in_ok-name.ensures.name c.in_ok-check_future.ensures c.in_ok-check_present.ensures) Done (0, omega arith, refl)
+    c.in_ok-name.ensures.name c.in_ok-check_future.ensures c.in_ok-check_present.ensures) Done tt (0, omega arith, refl)

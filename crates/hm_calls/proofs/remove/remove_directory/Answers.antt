@@ -335,7 +335,7 @@ returns-in_err-check_master-clause-gives g c =
     one_gives c.args.id.0 (Rmdir c.args.word.now) TakesName c.args.word.now (asks_rmdir c.args.word.now) c.course_before-course.result
     c.course_before-course.ensures.last c.parts-parts.result.now (subst (IsPath c.args.word.now) (sym c.parts-parts.ensures) c.in_ok-path.ensures.ok)
     (early_named (Rmdir c.args.word.now) c.course_before-course.result.last.0 c.parts-parts.result.now c.in_ok-name.name.now refl
-    c.in_ok-name.ensures.name c.in_ok-check_future.ensures c.in_ok-check_present.ensures) ReadOnly (2, omega arith, refl)
+    c.in_ok-name.ensures.name c.in_ok-check_future.ensures c.in_ok-check_present.ensures) ReadOnly tt (2, omega arith, refl)
     c.from_residual-in_err-check_master.result c.in_err-check_master.field-0.0 (p.1 ∙ ap Err p.2) c.in_err-check_master.ensures.gives
 
 pub returns-in_err-check_directory-clause-gives : goal.returns-in_err-check_directory-clause-gives
@@ -344,7 +344,7 @@ returns-in_err-check_directory-clause-gives g c =
     one_gives c.args.id.0 (Rmdir c.args.word.now) TakesName c.args.word.now (asks_rmdir c.args.word.now) c.course_before-course.result
     c.course_before-course.ensures.last c.parts-parts.result.now (subst (IsPath c.args.word.now) (sym c.parts-parts.ensures) c.in_ok-path.ensures.ok)
     (early_named (Rmdir c.args.word.now) c.course_before-course.result.last.0 c.parts-parts.result.now c.in_ok-name.name.now refl
-    c.in_ok-name.ensures.name c.in_ok-check_future.ensures c.in_ok-check_present.ensures) NotDir (4, omega arith, refl)
+    c.in_ok-name.ensures.name c.in_ok-check_future.ensures c.in_ok-check_present.ensures) NotDir tt (4, omega arith, refl)
     c.from_residual-in_err-check_directory.result c.in_err-check_directory.field-0.0 (p.1 ∙ ap Err p.2) c.in_err-check_directory.ensures.gives
 
 pub returns-in_err-check_empty-clause-gives : goal.returns-in_err-check_empty-clause-gives
@@ -353,7 +353,7 @@ returns-in_err-check_empty-clause-gives g c =
     one_gives c.args.id.0 (Rmdir c.args.word.now) TakesName c.args.word.now (asks_rmdir c.args.word.now) c.course_before-course.result
     c.course_before-course.ensures.last c.parts-parts.result.now (subst (IsPath c.args.word.now) (sym c.parts-parts.ensures) c.in_ok-path.ensures.ok)
     (early_named (Rmdir c.args.word.now) c.course_before-course.result.last.0 c.parts-parts.result.now c.in_ok-name.name.now refl
-    c.in_ok-name.ensures.name c.in_ok-check_future.ensures c.in_ok-check_present.ensures) NotEmpty (1, omega arith, refl)
+    c.in_ok-name.ensures.name c.in_ok-check_future.ensures c.in_ok-check_present.ensures) NotEmpty tt (1, omega arith, refl)
     c.from_residual-in_err-check_empty.result c.in_err-check_empty.field-0.0 (p.1 ∙ ap Err p.2) c.in_err-check_empty.ensures.gives
 
 pub returns-clause-gives : goal.returns-clause-gives
@@ -361,4 +361,4 @@ returns-clause-gives g c =
     end_gives c.args.id.0 (Rmdir c.args.word.now) TakesName c.args.word.now (asks_rmdir c.args.word.now) c.course_before-course.result
     c.course_before-course.ensures.last c.parts-parts.result.now (subst (IsPath c.args.word.now) (sym c.parts-parts.ensures) c.in_ok-path.ensures.ok)
     (early_named (Rmdir c.args.word.now) c.course_before-course.result.last.0 c.parts-parts.result.now c.in_ok-name.name.now refl
-    c.in_ok-name.ensures.name c.in_ok-check_future.ensures c.in_ok-check_present.ensures) Done (0, omega arith, refl)
+    c.in_ok-name.ensures.name c.in_ok-check_future.ensures c.in_ok-check_present.ensures) Done tt (0, omega arith, refl)

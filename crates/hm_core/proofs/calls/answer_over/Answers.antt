@@ -1,10 +1,12 @@
 -- A call is answered, and kept or dropped.
 use Rattle.std.proofs.Common.{◌∙◌, inr, refl, sym, ap, subst}
+use Rattle.std.specs.Prelude.{IfErr}
+use Rattle.hm_types.specs.Faults.{IsCaused}
+use Rattle.hm_types.specs.declared.fault.Fault.TheVariants.{NoMemory as no_memory}
 use Rattle.hm_pages.specs.Store.{contents}
 use Rattle.hm_stored.specs.Heap.{heap_of}
 use Rattle.hm_core.specs.Told.{TellsFailure}
-use Rattle.hm_model.specs.Reply.{told_boundary}
-use Rattle.hm_core.proofs.AnswerLemmas.{balanced_begun, begun_some, caused_over, dropped_answers, fault_silent, fault_told, kept_answers, known_begun}
+use Rattle.hm_core.proofs.AnswerLemmas.{balanced_begun, begun_some, caused_over, dropped_answers, fault_told, kept_answers, known_begun}
 use Rattle.hm_core.proofs.calls.answer_over.Goals as goal
 
 pub answer_next-requires-clause-balanced : goal.answer_next-requires-clause-balanced
@@ -94,7 +96,7 @@ returns-in-Ok-2 g c =
           c.answer_next.ensures.borrowed.1 c.requires.served.0 c.requires.left c.answer_next.result
           (caused_over _ _ _ _ (g.D.Disk.faults s.space.disk) (g.D.Disk.faults s3.space.disk) c.answer_next.result
           (ap g.D.Disk.faults c.begin.ensures.disk) (ap g.D.Disk.faults c.undo.ensures.disk) c.answer_next.ensures.cause)
-          c.undo.ensures.turn c.undo.ensures.root c.undo.ensures.held (λ volume holds. inr refl) refl;
+          c.undo.ensures.turn c.undo.ensures.root c.undo.ensures.held (λ volume holds. inr refl) no_memory refl tt;
     }
 
 pub returns-in-Err : goal.returns-in-Err
@@ -121,5 +123,6 @@ returns-in-Err g c =
           (heap_of (contents s3.space.pages.store) (g.D.Disk.told s3.space.disk) s3.space.books) s3.root c.args.command.now c.failure.result
           (g.D.Disk.faults s.space.disk) (g.D.Disk.faults s3.space.disk) c.requires.closed s.space.kept c.begin.ensures.turn c.begin.ensures.root
           c.answer_next.ensures.borrowed.1 c.requires.served.0 c.requires.left c.answer_next.result cause c.in-Err.fault c.in-Err.is volume holds))
-          (ap told_boundary c.failure.ensures ∙ fault_silent c.in-Err.fault);
+          c.in-Err.fault c.failure.ensures
+          (subst (λ r. IfErr r (IsCaused (g.D.Disk.faults s.space.disk) (g.D.Disk.faults s3.space.disk))) c.in-Err.is cause.counted.caused);
     }

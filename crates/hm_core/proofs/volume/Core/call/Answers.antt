@@ -5,6 +5,7 @@ use Rattle.std.proofs.Props.{props}
 use Rattle.hm_model.specs.declared.entry.Entry.{Entry}
 use Rattle.hm_pages.specs.Store.{contents}
 use Rattle.hm_stored.specs.Heap.{heap_of}
+use Rattle.hm_core.specs.Caused.{IsCausedFrom}
 use Rattle.hm_core.specs.History.{IsLegalOver}
 use Rattle.hm_core.specs.Inside.{IsInOrder}
 use Rattle.hm_core.proofs.StepLemmas.{entry_of, least_left, no_entry, ordered_next}
@@ -46,6 +47,10 @@ returns g c =
           spare = omega (arith, c.push_reserved.ensures.len, c.push_reserved.ensures.capacity);
           rest = record { header = refl; slot = refl; free = refl; start = refl; input = refl; output = refl };
           never_falls = answers.counted;
+          caused = λ so_far.
+              subst (λ (l : List Entry). IsCausedFrom s.header.last.0 s.start (g.D.Disk.faults t.space.disk) (s.last.0 + 1) l)
+              (sym c.push_reserved.ensures.items)
+              (answers.caused s.header.last.0 s.start s.history.items entry (record { call_is = refl; reply_is = refl; own = refl }) so_far);
           goes_on = λ opening foreigners stands. record {
             legal = subst (λ (l : List Entry). IsLegalOver s.free s.start (g.D.Disk.faults t.space.disk) l h' t.root (s.last.0 + 1) opening foreigners)
                 (sym c.push_reserved.ensures.items)

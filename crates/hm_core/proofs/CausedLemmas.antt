@@ -1,0 +1,162 @@
+-- One call more keeps that each reply of a history has its cause, whatever the disk holds.
+use Rattle.std.proofs.Common.{◌≡◌, ℕ, ◌+◌, ◌<◌, ◌≤◌, max, inl, inr, List, [], ◌∷◌, ◌++◌, refl, sym, ap, subst, ◌∙◌, arith}
+use Rattle.std.specs.Prelude.{None}
+use Rattle.std.specs.List.{Contains}
+use Rattle.std.proofs.lemmas.List.{map-append}
+use Rattle.hm_types.specs.Faults.{IsCaused as IsFaultCaused}
+use Rattle.hm_types.specs.declared.fault.Fault.{Fault}
+use Rattle.hm_types.specs.declared.fault.Fault.TheVariants.{Damaged as damage, Media as device, NoMemory as no_memory}
+use Rattle.hm_types.specs.declared.limits.TheConstants.{GREATEST_ID}
+use Rattle.hm_calls.specs.Commands.{IsOnTrees}
+use Rattle.hm_calls.specs.Possible.{MayReply}
+use Rattle.hm_model.specs.After.{Event, end_id}
+use Rattle.hm_model.specs.Caused.{AreCaused, Counts, HasCause, HasNumbers, IsCaused, Known, at_any_point, known_after, known_at, number_of}
+use Rattle.hm_model.specs.Reply.{passed_ids}
+use Rattle.hm_model.specs.declared.command.Command.{Command}
+use Rattle.hm_model.specs.declared.command.Command.TheVariants.{Df}
+use Rattle.hm_model.specs.declared.entry.Entry.{Entry}
+use Rattle.hm_model.specs.declared.reply.Reply.{Reply}
+use Rattle.hm_model.specs.declared.reply.Reply.TheVariants.{Space}
+use Rattle.hm_model.proofs.EventLemmas.{known_after-push}
+use Rattle.hm_model.proofs.HistoryLemmas.{last_or_before, nothing_in_none}
+use Rattle.hm_step.specs.Causes.{IsNextOf, TellsFault}
+use Rattle.hm_step.proofs.CauseLemmas.{fault_cause, may_cause, may_end}
+use Rattle.hm_core.specs.Caused.{IsCausedFrom}
+use Rattle.hm_core.specs.History.{disk_counts}
+use Rattle.hm_core.specs.Told.{reply_to}
+use Rattle.hm_core.proofs.CountLemmas.{AreLater, NumbersOf, cause_later, told_most}
+use Rattle.hm_core.proofs.SpaceLemmas.{same_entry}
+use Rattle.hm_core.proofs.WordLemmas.{words_are_read}
+
+AreCaused-goes_on : (last : ℕ) (start now : Counts) (events : List Event) (event : Event) → AreCaused last start now events
+    → IsCaused now (known_at last start) events event → AreCaused last start now (events ++ event ∷ [])
+AreCaused-goes_on last start now events event caused next before e rest is =
+    elim (last_or_before events event before e rest is) [
+      | inl both ↦
+          subst (λ (es : List Event). IsCaused now (known_at last start) es e) both.0
+          (subst (λ (x : Event). IsCaused now (known_at last start) events x) both.1 next)
+      | inr more ↦ caused before e more.0 more.1
+    ]
+
+-- a history with no entry
+pub caused_first : (first start now last : ℕ) (history : List Entry) → history ≡ [] → start ≤ now → last ≡ first
+    → IsCausedFrom first start now last history
+caused_first first start now last history none counted same = record {
+  events = [];
+  entries = sym none;
+  caused = λ before event rest is. absurd (nothing_in_none before event rest is);
+  counted = counted;
+  last_is = sym same;
+}
+
+-- a fault is told by no ids of a pass
+fault_ends : (fault : Fault) → passed_ids (reply_to fault) ≡ None
+fault_ends (device before after) = refl
+fault_ends (damage at kind) = refl
+fault_ends no_memory = refl
+
+fault_tells : (fault : Fault) → TellsFault (reply_to fault)
+fault_tells (device before after) = tt
+fault_tells (damage at kind) = tt
+fault_tells no_memory = tt
+
+fault_listed : (fault : Fault) → Contains (109 ∷ at_any_point) (number_of (reply_to fault))
+fault_listed (device before after) = (1, omega arith, refl)
+fault_listed (damage at kind) = (2, omega arith, refl)
+fault_listed no_memory = (3, omega arith, refl)
+
+module _ (first start faults faults' last : ℕ) (history : List Entry) (so_far : IsCausedFrom first start faults last history)
+    (counted : faults ≤ faults') where
+  abbrev known : Known
+  known = known_after (known_at first (disk_counts start)) so_far.events
+
+  still : AreCaused first (disk_counts start) (disk_counts faults') so_far.events
+  still before event rest is =
+      cause_later (disk_counts faults) (disk_counts faults') (known_after (known_at first (disk_counts start)) before) event
+      (record { disk = counted; input = omega arith; output = omega arith }) (so_far.caused before event rest is)
+
+  -- more faults are counted
+  pub caused_later : IsCausedFrom first start faults' last history
+  caused_later = record {
+    events = so_far.events;
+    entries = so_far.entries;
+    caused = still;
+    counted = (let told = so_far.counted in omega (arith, told, counted));
+    last_is = so_far.last_is;
+  }
+
+  -- the numbers of a reply that tells a fault have their cause
+  fault_numbers : (entry : Entry) (fault : Fault) → IsFaultCaused faults faults' fault
+      → NumbersOf (disk_counts faults') known entry (reply_to fault)
+  fault_numbers entry (device before after) caused =
+      (let told = so_far.counted in let begin = caused.begin in record { begin = omega (arith, told, begin); rose = caused.rose; end = caused.end })
+  fault_numbers entry (damage at kind) caused = tt
+  fault_numbers entry no_memory caused = tt
+
+  goes_on : (event : Event) → HasCause (disk_counts faults') known event → passed_ids event.entry.reply ≡ None → event.entry.id.0 ≡ last + 1
+      → IsCausedFrom first start faults' (last + 1) (history ++ event.entry ∷ [])
+  goes_on event cause ends own =
+      let push = known_after-push (known_at first (disk_counts start)) so_far.events event in
+      let none : end_id event.entry.reply ≡ 0 = rw ends refl in
+      record {
+        events = so_far.events ++ event ∷ [];
+        entries = map-append (λ (e : Event). e.entry) so_far.events (event ∷ []) ∙ ap (λ (es : List Entry). es ++ event.entry ∷ []) so_far.entries;
+        caused = AreCaused-goes_on first (disk_counts start) (disk_counts faults') so_far.events event still cause;
+        counted = subst (λ (k : Known). k.counts.disk ≤ faults') (sym push)
+            (told_most (disk_counts faults') known event.entry (let told = so_far.counted in omega (arith, told, counted)) cause.numbers);
+        last_is = ap (λ (k : Known). k.last) push ∙ omega (arith, own, none);
+      }
+
+  module _ (entry : Entry) (left : last < GREATEST_ID) (own : entry.id.0 ≡ last + 1) where
+    -- a call on names or on the bytes of files
+    module _ (served : IsOnTrees entry.call) where
+      abbrev event : Event
+      event = record { entry = entry; paths = (words_are_read entry.call).0; substitutes = [] }
+
+      next : IsNextOf known event
+      next = record {
+        served = served;
+        left = subst (λ (n : ℕ). n < GREATEST_ID) (sym so_far.last_is) left;
+        own = own ∙ ap (λ (n : ℕ). n + 1) (sym so_far.last_is);
+        reads = (words_are_read entry.call).1;
+      }
+
+      -- which was answered, and one that tells a fault
+      pub reply_goes_on : MayReply last None entry.call entry.reply → IsCausedFrom first start faults' (last + 1) (history ++ entry ∷ [])
+      reply_goes_on may =
+          let here : MayReply known.last None entry.call entry.reply =
+          subst (λ (n : ℕ). MayReply n None entry.call entry.reply) (sym so_far.last_is) may in
+          goes_on event (may_cause known event next None here (disk_counts faults')) (may_end known event next None here) own
+
+      pub fault_goes_on : (fault : Fault) → entry.reply ≡ reply_to fault → IsFaultCaused faults faults' fault
+          → IsCausedFrom first start faults' (last + 1) (history ++ entry ∷ [])
+      fault_goes_on fault is caused =
+          goes_on event
+          (fault_cause known event next (disk_counts faults') (subst TellsFault (sym is) (fault_tells fault))
+          (subst (λ (r : Reply). NumbersOf (disk_counts faults') known entry r) (sym is) (fault_numbers entry fault caused)))
+          (ap passed_ids is ∙ fault_ends fault) own
+
+    -- a `df`
+    module _ (call_is : entry.call ≡ Df) where
+      df_goes_on : (reply : Reply) → entry.reply ≡ reply → Contains (109 ∷ at_any_point) (number_of reply) → passed_ids reply ≡ None
+          → HasNumbers (disk_counts faults') known (record entry { call = Df; reply = reply })
+          → IsCausedFrom first start faults' (last + 1) (history ++ entry ∷ [])
+      df_goes_on reply reply_is listed ends numbers =
+          subst (λ (e : Entry). IsCausedFrom first start faults' (last + 1) (history ++ e ∷ [])) (same_entry entry Df reply call_is reply_is)
+          (goes_on (record { entry = record entry { call = Df; reply = reply }; paths = []; substitutes = [] }) (record {
+            id = own ∙ ap (λ (n : ℕ). n + 1) (sym so_far.last_is);
+            drawn = omega (arith, own, left);
+            read = tt;
+            possible = listed;
+            numbers = numbers;
+          }) ends own)
+
+      -- it tells the space, or a fault
+      pub space_goes_on : (pool spare : ℕ) → entry.reply ≡ Space pool spare → IsCausedFrom first start faults' (last + 1) (history ++ entry ∷ [])
+      space_goes_on pool spare is = df_goes_on (Space pool spare) is (0, omega arith, refl) refl tt
+
+      pub space_fault_goes_on : (fault : Fault) → entry.reply ≡ reply_to fault → IsFaultCaused faults faults' fault
+          → IsCausedFrom first start faults' (last + 1) (history ++ entry ∷ [])
+      space_fault_goes_on fault is caused =
+          df_goes_on (reply_to fault) is (fault_listed fault) (fault_ends fault)
+          (fault_numbers (record entry { call = Df; reply = reply_to fault }) fault caused)
