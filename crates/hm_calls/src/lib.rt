@@ -3,6 +3,8 @@
 #![tactic(auto)]
 
 #[cfg(test)]
+mod byte_script_tests;
+#[cfg(test)]
 mod byte_tests;
 mod bytes;
 mod calls;
