@@ -31,7 +31,6 @@ pub mod MoveEndLemmas
 pub mod MoveTailLemmas
 pub mod MoveOverLemmas
 pub mod KnownLemmas
-pub mod TestLemmas
 pub mod MoveBesideLemmas
 pub mod GivenLemmas
 pub mod MayReplyLemmas

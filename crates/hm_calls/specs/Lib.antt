@@ -13,4 +13,3 @@ pub mod Space
 pub mod Bytes
 pub mod Edits
 pub mod Moves
-pub mod Tests

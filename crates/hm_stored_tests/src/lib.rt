@@ -1,6 +1,7 @@
 //! Tests of `hm_stored`: a store over a volume as it is made, in memory and in a file.
 //!
-//! They stand in a crate of their own, so that the proofs of the store are not done once more with them.
+//! They stand in a crate of their own, so that the proofs of the store are not done once more with
+//! them.
 #![tactic(auto)]
 
 #[cfg(test)]

@@ -1,0 +1,8 @@
+use Rattle.std.proofs.Common.{Some}
+use Rattle.hm_key.specs.Memory.{extents_of}
+use Rattle.hm_calls_tests.specs.Tests.{IsReady}
+use Rattle.hm_calls_tests.proofs.random_tests.first_other_line.Given as goal
+
+-- the store is ready for the next call
+abbrev pub invariant-loop : goal.invariant-loop
+invariant-loop l = IsReady (Some l.volume.store.elements.list.items) (Some (extents_of l.volume.store.extents.list.items)) l.volume.next
