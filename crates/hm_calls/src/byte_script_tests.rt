@@ -25,22 +25,23 @@ const ENDS: [u64; 8] = [
     18_446_744_073_709_551_615,
 ];
 
+// What ends past the largest file comes first, while the file is small.
 const CALLS_AT_ENDS: [&str; 20] = [
     "touch /f",
     "write /f 0 61",
     "truncate /f 16384",
     "cat /f END 16384",
-    "write /f END 62",
-    "stat /f",
     "write /f END DIGITS",
     "cat /f END 16384",
     "write /f END DIGITS63",
     "cat /f 0 16384",
-    "fill /f END 1 64",
-    "stat /f",
-    "fill /f END 16384 65",
+    "fill /f END 16384 64",
     "cat /f END 16383",
     "cat /f 16383 2",
+    "write /f END 65",
+    "stat /f",
+    "fill /f END 1 66",
+    "cat /f END 16384",
     "truncate /f END",
     "stat /f",
     "cat /f END 1",
@@ -65,9 +66,9 @@ const COMMANDS: [&str; 16] = [
     "write FIRST OFFSET DIGITS",
     "fill FIRST OFFSET COUNT 61",
     "fill FIRST OFFSET COUNT 62",
-    "fill FIRST OFFSET COUNT 63",
     "truncate FIRST OFFSET",
     "truncate FIRST OFFSET",
+    "cat FIRST OFFSET COUNT",
     "cat FIRST OFFSET COUNT",
     "rm FIRST",
     "ln FIRST SECOND",
@@ -78,7 +79,7 @@ const COMMANDS: [&str; 16] = [
 
 const PLACES: [u64; 8] = [0, 0, 1, 10_000, 16_383, 16_384, 32_767, 40_000];
 
-const COUNTS: [u64; 8] = [1, 2, 100, 1_000, 5_000, 16_383, 16_384, 16_384];
+const COUNTS: [u64; 8] = [1, 2, 100, 1_000, 1_000, 5_000, 16_383, 16_384];
 
 // A line with values in place of its words.
 fn with_values(alloc: Global, form: &str, values: &[(&str, String)]) -> Result<String, Fail> {
