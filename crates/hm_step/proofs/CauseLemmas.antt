@@ -1,5 +1,5 @@
 -- A reply of a call on names or on the bytes of files has its cause, by what is known before it.
-use Rattle.std.proofs.Common.{◌≡◌, ℕ, ◌+◌, ◌<◌, ◌≤◌, max, Bool, refl, arith}
+use Rattle.std.proofs.Common.{◌≡◌, ℕ, ◌<◌, ◌≤◌, max, Bool, refl, arith}
 use Rattle.std.specs.Prelude.{Option, None}
 use Rattle.hm_types.specs.Faults.{IsMedia}
 use Rattle.hm_model.specs.After.{Event}

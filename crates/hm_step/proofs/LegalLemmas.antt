@@ -1,6 +1,6 @@
 -- A legal history goes on legally by a call that was served.
 use Rattle.std.proofs.Common.{◌≡◌, ℕ, ◌+◌, Bool, true, false, List, refl, sym, ap, subst, ◌∙◌, inl, inr, arith}
-use Rattle.std.specs.Prelude.{Option, None, if◌then◌else◌}
+use Rattle.std.specs.Prelude.{if◌then◌else◌}
 use Rattle.hm_types.specs.Elements.{FullElement}
 use Rattle.hm_model.specs.After.{Event, opening_state}
 use Rattle.hm_model.specs.Call.{Call}
