@@ -1,5 +1,5 @@
 -- One call more keeps that each reply of a history has its cause, whatever the disk holds.
-use Rattle.std.proofs.Common.{◌≡◌, ℕ, ◌+◌, ◌<◌, ◌≤◌, max, inl, inr, List, [], ◌∷◌, ◌++◌, refl, sym, ap, subst, ◌∙◌, arith}
+use Rattle.std.proofs.Common.{◌≡◌, ℕ, ◌+◌, ◌<◌, ◌≤◌, inl, inr, List, [], ◌∷◌, ◌++◌, refl, sym, ap, subst, ◌∙◌, arith}
 use Rattle.std.specs.Prelude.{None}
 use Rattle.std.specs.List.{Contains}
 use Rattle.std.proofs.lemmas.List.{map-append}
@@ -12,7 +12,6 @@ use Rattle.hm_calls.specs.Possible.{MayReply}
 use Rattle.hm_model.specs.After.{Event, end_id}
 use Rattle.hm_model.specs.Caused.{AreCaused, Counts, HasCause, HasNumbers, IsCaused, Known, at_any_point, known_after, known_at, number_of}
 use Rattle.hm_model.specs.Reply.{passed_ids}
-use Rattle.hm_model.specs.declared.command.Command.{Command}
 use Rattle.hm_model.specs.declared.command.Command.TheVariants.{Df}
 use Rattle.hm_model.specs.declared.entry.Entry.{Entry}
 use Rattle.hm_model.specs.declared.reply.Reply.{Reply}
@@ -24,7 +23,7 @@ use Rattle.hm_step.proofs.CauseLemmas.{fault_cause, may_cause, may_end}
 use Rattle.hm_core.specs.Caused.{IsCausedFrom}
 use Rattle.hm_core.specs.History.{disk_counts}
 use Rattle.hm_core.specs.Told.{reply_to}
-use Rattle.hm_core.proofs.CountLemmas.{AreLater, NumbersOf, cause_later, told_most}
+use Rattle.hm_core.proofs.CountLemmas.{NumbersOf, cause_later, told_most}
 use Rattle.hm_core.proofs.SpaceLemmas.{same_entry}
 use Rattle.hm_core.proofs.WordLemmas.{words_are_read}
 
