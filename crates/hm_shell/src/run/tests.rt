@@ -9,6 +9,7 @@ use std::test::Fail;
 mod contents;
 mod disks;
 mod failing;
+mod faults;
 mod files;
 mod gate;
 mod lines;
