@@ -2,12 +2,8 @@
 
 use super::*;
 
-const DONE: &str = "0x0000000000000003 ok\n";
-
-// What `ls /` prints on the volume as it was before the run that fails, and on the one after it.
+// What `ls /` prints on the volume as it was before the run that fails.
 const OLD: &str = "0x0000000000000003 ok 1 d:a\n";
-
-const NEW: &str = "0x0000000000000004 ok 2 d:a d:b\n";
 
 // A disk with the directory `a`.
 fn made<R: AllocGlobal + Threads + Wait + Sync>(rt: &R) -> Result<MemDisk, AllocError> {
@@ -51,32 +47,6 @@ fn ends_with(status: u8, wanted: u8, out: &MemSink, printed: &[&str]) -> bool {
     status == wanted && printed.iter().any(|text| out.bytes() == text.as_bytes())
 }
 
-// How a run ends that makes the directory `b`, where this call of the disk fails: within the call, which
-// then makes nothing, or outside it. After a status 0 the next run finds what was printed. Where writing
-// back fails it may find no volume.
-fn end_of_change<R: AllocGlobal + Threads + Wait + Sync>(
-    rt: &R,
-    disk: MemDisk,
-    call: u64,
-) -> Result<Option<End>, AllocError> {
-    let disk = disk.failing(vec![in rt.alloc(); call]?);
-    let script = b"mkdir /b\n".to_vec(rt.alloc())?;
-    let (status, out, disk) = parts(run_over(rt, &["v"], disk, script, &[], &[])?);
-    let completes = ends_with(status, 0, &out, &[DONE]);
-    let refuses = ends_with(status, 0, &out, &["0x0000000000000003 media 0 1\n"]);
-    let stops_early = ends_with(status, 4, &out, &["media 0 1\n"]);
-    let stops_late = ends_with(status, 4, &out, &["0x0000000000000003 ok\nmedia 0 1\n"]);
-    Ok(
-        match which(rt, disk, &[OLD, NEW, "0x0000000000000004 ok 1 d:a\n"])? {
-            Some(0) if stops_early => Some(End::Stopped),
-            Some(1) if completes => Some(End::Completed),
-            Some(2) if refuses => Some(End::Stopped),
-            _ if stops_late => Some(End::Stopped),
-            _ => None,
-        },
-    )
-}
-
 #[test]
 fn writes_nothing_where_a_call_of_opening_fails(rt: HostRuntime) -> Result<(), Fail> {
     let mut disk = made(&rt)?;
@@ -90,23 +60,6 @@ fn writes_nothing_where_a_call_of_opening_fails(rt: HostRuntime) -> Result<(), F
         assert_eq!(rt; back.changes(), before, "{call}");
         disk = back;
     }
-    Ok(())
-}
-
-#[test]
-fn keeps_what_was_printed_where_a_later_call_fails(rt: HostRuntime) -> Result<(), Fail> {
-    let disk = made(&rt)?;
-    let mut last = Some(End::Stopped);
-    for call in 131..=160 {
-        let end = end_of_change(&rt, disk.after_changes(disk.changes())?, call)?;
-        assert!(rt;
-            end.is_some() && (end == last || last == Some(End::Stopped)),
-            "{call}"
-        );
-        last = end;
-    }
-    // The run makes fewer calls than these.
-    assert_eq!(rt; last, Some(End::Completed));
     Ok(())
 }
 
