@@ -9,8 +9,8 @@ use Rattle.hm_records.proofs.ChangeLemmas.{below_later}
 use Rattle.hm_cursor.specs.Told.{fulls}
 use Rattle.hm_cursor.specs.Write.{IsFresh, Rewrites}
 use Rattle.hm_cursor.proofs.ViewsLemmas.{below_still}
-use Rattle.hm_calls.specs.Tests.{IsMade, IsReady}
-use Rattle.hm_calls.proofs.TestLemmas.{older_below}
+use Rattle.hm_calls_tests.specs.Tests.{IsMade, IsReady}
+use Rattle.hm_calls_tests.proofs.TestLemmas.{older_below}
 
 -- a store that tells the same
 pub made_same : {es es' : Option (List Element)} {xs xs' : Option (List Extent)} {i : ℕ} → es' ≡ es → xs' ≡ xs → IsMade es xs i → IsMade es' xs' i

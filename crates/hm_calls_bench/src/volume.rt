@@ -3,7 +3,7 @@ ghost use Rattle.std.specs.Prelude.{◌≡◌, ◌≤◌, ◌+◌, IfOk, OnOk};
 ghost use Rattle.hm_types.specs.declared.limits.TheConstants.{GREATEST_ID};
 ghost use Rattle.hm_model.specs.Forms.{IsInRange};
 ghost use Rattle.hm_calls.specs.Commands.{IsOnTrees};
-ghost use Rattle.hm_calls.specs.Tests.{IsMade, IsReady};
+ghost use Rattle.hm_calls_tests.specs.Tests.{IsMade, IsReady};
 
 use bitflags::Flags;
 use hm_calls::answer;

@@ -1,6 +1,6 @@
 // The calls of a job, and what they cost.
 ghost use Rattle.std.specs.Prelude.{OnOk};
-ghost use Rattle.hm_calls.specs.Tests.{IsMade, IsReady};
+ghost use Rattle.hm_calls_tests.specs.Tests.{IsMade, IsReady};
 
 use crate::costs::{Costs, Measured};
 use crate::operation::Operation;

@@ -1,1 +1,1 @@
-mod TestLemmas
+pub mod TestLemmas

@@ -7,12 +7,12 @@ ghost use Rattle.hm_pages.specs.Store.{contents};
 ghost use Rattle.hm_stored.specs.Heap.{frame_of, heap_of};
 ghost use Rattle.hm_stored.specs.Turn.{IsClosed};
 
-use hm_stored::{Books, Space, Stored};
 use hm_disk::{Disk, FileDisk, MemDisk};
 use hm_header::read_header;
 use hm_key::{Base, ELEMENT, Element, ElementStore, Extents, OTHER_PART, SNAPSHOT};
 use hm_load::load;
 use hm_newfs::write_volume;
+use hm_stored::{Books, Space, Stored};
 use hm_types::{Counted, Failed, Fault, HOff, Id, Obj, SpaceFault, Zones};
 use std::alloc::Global;
 use std::test::Fail;

@@ -1,4 +1,4 @@
-use Rattle.hm_calls.specs.Tests.{IsReady}
+use Rattle.hm_calls_tests.specs.Tests.{IsReady}
 use Rattle.hm_calls_bench.proofs.work.make_calls.Given as goal
 
 -- the store is ready for the next call

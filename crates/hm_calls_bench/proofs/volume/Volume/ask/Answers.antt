@@ -2,7 +2,7 @@ use Rattle.std.proofs.Common.{None}
 use Rattle.hm_types.specs.Hash.{name_hash}
 use Rattle.hm_calls.specs.Changes.{Changes}
 use Rattle.hm_calls.specs.Replies.{Asks, is_change}
-use Rattle.hm_calls.proofs.TestLemmas.{balanced_after}
+use Rattle.hm_calls_tests.proofs.TestLemmas.{balanced_after}
 use Rattle.hm_calls_bench.proofs.volume.Volume.ask.Goals as goal
 
 pub returns : goal.returns
