@@ -1,6 +1,8 @@
 // Runs over a disk that an earlier run wrote, and over disks without a volume that can be opened.
 
 use super::*;
+use hm_disk::Disk;
+use std::process::Abort;
 
 // The disk that a script on a new volume leaves.
 fn made<R: AllocGlobal + Threads + Wait + Sync>(
@@ -87,5 +89,68 @@ fn tells_a_disk_without_a_volume(rt: HostRuntime) -> Result<(), Fail> {
     assert!(rt; has_none(&rt, &["v"], 0, "not a volume\n")?);
     assert!(rt; has_none(&rt, &MAKES, 23, "bad header field 12\n")?);
     assert!(rt; has_none(&rt, &MAKES, 0, "bad header field 12\n")?);
+    Ok(())
+}
+
+// A disk on which some bytes were overwritten.
+fn patched(rt: &impl Abort, disk: MemDisk, place: u64, bytes: &[u8]) -> MemDisk {
+    let mut disk = disk;
+    assert!(rt; place <= 150_000_000);
+    assert!(rt; bytes.len() <= 4_096);
+    match disk.size() {
+        Ok(size) => assert!(rt; place + bytes.len() as u64 <= size),
+        Err(_) => panic!(rt; "no size"),
+    }
+    assert!(rt; disk.write_at(place, bytes).is_ok());
+    disk
+}
+
+// Whether a run over a volume with the directory `a`, of which one byte is another, ends so. Its header
+// is in the second slot, its root in the first big-block of the pool, and the payloads of its inodes and
+// names in the second.
+fn ends_over<R: AllocGlobal + Threads + Wait + Sync + Abort>(
+    rt: &R,
+    place: u64,
+    byte: u8,
+    status: u8,
+    printed: &str,
+) -> Result<bool, AllocError> {
+    let disk = patched(rt, made(rt, "mkdir /a\n")?, place, &[byte]);
+    let (is_so, _) = ends(rt, &["v"], disk, "mkdir /b\n", status, printed)?;
+    Ok(is_so)
+}
+
+#[test]
+fn tells_a_root_that_is_damaged(rt: HostRuntime) -> Result<(), Fail> {
+    // Its kind, its level, the number of its elements, and a part that is to be zero.
+    for (offset, byte, printed) in [
+        (0, 3, "damaged 0x8000000005800000 1\n"),
+        (1, 2, "damaged 0x8000000005800000 1\n"),
+        (2, 64, "damaged 0x8000000005800000 2\n"),
+        (4, 1, "damaged 0x8000000005800000 5\n"),
+    ] {
+        let is_so = ends_over(&rt, 0x580_0000 + offset, byte, 10, printed)?;
+        assert!(rt; is_so, "{offset}");
+    }
+    Ok(())
+}
+
+#[test]
+fn answers_up_to_the_greatest_id(rt: HostRuntime) -> Result<(), Fail> {
+    // The last id of the new volume's header is 9,223,372,036,854,775,806.
+    let last = [0xFE, 0xFF, 0xFF, 0xFF, 0xFF, 0xFF, 0xFF, 0x7F];
+    let disk = patched(&rt, made(&rt, "")?, 24, &last);
+    let printed = "0x7fffffffffffffff ok\n- ids spent\n- ids spent\n";
+    let (is_so, disk) = ends(
+        &rt,
+        &["v"],
+        disk,
+        "mkdir /a\nls /\n\nmkdir /b\n",
+        0,
+        printed,
+    )?;
+    assert!(rt; is_so);
+    let (is_so, _) = ends(&rt, &["v"], disk, "ls /\n", 0, "- ids spent\n")?;
+    assert!(rt; is_so);
     Ok(())
 }
