@@ -6,38 +6,9 @@
 // A file is a row of the table of files, and each of its blocks a row of the table of blocks: the file, which
 // block it is, the id of the call that wrote it, and its bytes. Making a file and filling it are a transaction
 // each, as they are a call each of hammer. Nothing is synced, and each reply is printed before the next call.
-#include <sqlite3.h>
-#include <stdio.h>
-#include <stdlib.h>
-#include <string.h>
+#include "sqlite.h"
 
 enum { BLOCK = 16384 };
-
-static sqlite3 *base;
-
-static void stop(const char *what) {
-    fprintf(stderr, "sqlite_blobs: %s: %s\n", what, sqlite3_errmsg(base));
-    exit(1);
-}
-
-static void run(const char *sql) {
-    if (sqlite3_exec(base, sql, NULL, NULL, NULL) != SQLITE_OK) stop(sql);
-}
-
-static sqlite3_stmt *prepare(const char *sql) {
-    sqlite3_stmt *statement;
-    if (sqlite3_prepare_v2(base, sql, -1, &statement, NULL) != SQLITE_OK) stop(sql);
-    return statement;
-}
-
-static void end_step(sqlite3_stmt *statement) {
-    if (sqlite3_step(statement) != SQLITE_DONE) stop("a step");
-    sqlite3_reset(statement);
-}
-
-static void answer(sqlite3_int64 id) {
-    printf("0x%016llx ok\n", (unsigned long long)id);
-}
 
 static void fill(long files, long bytes) {
     static char block[BLOCK];
@@ -81,14 +52,11 @@ static void fill(long files, long bytes) {
 
 int main(int argc, char **argv) {
     if (argc != 5 || strcmp(argv[2], "fill") != 0) return 2;
-    if (sqlite3_open(argv[1], &base) != SQLITE_OK) return 2;
-    setvbuf(stdout, NULL, _IOLBF, 4096);
-    run("PRAGMA journal_mode = WAL");
-    run("PRAGMA synchronous = OFF");
+    open_base(argv[1]);
     run("CREATE TABLE files (file INTEGER PRIMARY KEY, name TEXT UNIQUE, size INTEGER)");
     run("CREATE TABLE blocks (file INTEGER, block INTEGER, made INTEGER, bytes BLOB, "
         "PRIMARY KEY (file, block, made))");
     fill(atol(argv[3]), atol(argv[4]));
-    if (sqlite3_close(base) != SQLITE_OK) stop("closing");
+    close_base();
     return 0;
 }

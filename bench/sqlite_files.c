@@ -6,27 +6,7 @@
 //
 // A row has the object, its name, and the ids of the calls that made and removed it. Nothing is synced, and each
 // reply is printed before the next call, as hammer prints its own.
-#include <sqlite3.h>
-#include <stdio.h>
-#include <stdlib.h>
-#include <string.h>
-
-static sqlite3 *base;
-
-static void stop(const char *what) {
-    fprintf(stderr, "sqlite_files: %s: %s\n", what, sqlite3_errmsg(base));
-    exit(1);
-}
-
-static void run(const char *sql) {
-    if (sqlite3_exec(base, sql, NULL, NULL, NULL) != SQLITE_OK) stop(sql);
-}
-
-static sqlite3_stmt *prepare(const char *sql) {
-    sqlite3_stmt *statement;
-    if (sqlite3_prepare_v2(base, sql, -1, &statement, NULL) != SQLITE_OK) stop(sql);
-    return statement;
-}
+#include "sqlite.h"
 
 static sqlite3_int64 number(const char *sql) {
     sqlite3_stmt *statement = prepare(sql);
@@ -34,11 +14,6 @@ static sqlite3_int64 number(const char *sql) {
     sqlite3_int64 value = sqlite3_column_int64(statement, 0);
     sqlite3_finalize(statement);
     return value;
-}
-
-static void end_step(sqlite3_stmt *statement, int wanted) {
-    if (sqlite3_step(statement) != wanted) stop("a step");
-    sqlite3_reset(statement);
 }
 
 static void touch(long from, long count) {
@@ -50,15 +25,15 @@ static void touch(long from, long count) {
         char name[32];
         snprintf(name, sizeof name, "f%08ld", i);
         id++;
-        end_step(begin, SQLITE_DONE);
+        end_step(begin);
         sqlite3_bind_text(find, 1, name, -1, SQLITE_TRANSIENT);
-        end_step(find, SQLITE_DONE);
+        end_step(find);
         sqlite3_bind_int64(add, 1, id);
         sqlite3_bind_text(add, 2, name, -1, SQLITE_TRANSIENT);
         sqlite3_bind_int64(add, 3, id);
-        end_step(add, SQLITE_DONE);
-        end_step(commit, SQLITE_DONE);
-        printf("0x%016llx ok\n", (unsigned long long)id);
+        end_step(add);
+        end_step(commit);
+        answer(id);
     }
     sqlite3_finalize(begin);
     sqlite3_finalize(commit);
@@ -80,10 +55,8 @@ static void stat_each(long from, long count) {
 }
 
 int main(int argc, char **argv) {
-    if (argc < 3 || sqlite3_open(argv[1], &base) != SQLITE_OK) return 2;
-    setvbuf(stdout, NULL, _IOLBF, 4096);
-    run("PRAGMA journal_mode = WAL");
-    run("PRAGMA synchronous = OFF");
+    if (argc < 3) return 2;
+    open_base(argv[1]);
     run("CREATE TABLE IF NOT EXISTS files (object INTEGER, name TEXT, created INTEGER, deleted INTEGER)");
     run("CREATE INDEX IF NOT EXISTS names ON files (name)");
     if (strcmp(argv[2], "check") == 0) {
@@ -95,6 +68,6 @@ int main(int argc, char **argv) {
     } else {
         return 2;
     }
-    if (sqlite3_close(base) != SQLITE_OK) stop("closing");
+    close_base();
     return 0;
 }
