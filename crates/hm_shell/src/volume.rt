@@ -14,6 +14,7 @@ ghost use Rattle.hm_shell.specs.Serving.{StopsUsing, UsesAll};
 use crate::job::Job;
 use crate::serve::serve_script;
 use crate::stop::Stop;
+use hm_buffer::BufferedDisk;
 use hm_core::{Core, newfs};
 use hm_disk::Disk;
 use hm_model::Line;
@@ -30,8 +31,41 @@ pub(crate) struct Closed<D, I, O> {
 }
 
 /// Makes a volume where that is asked for, opens the volume of the disk, runs the script's lines,
-/// and writes the volume back.
+/// and writes the volume back. All reads and writes of the run go through one buffer.
 pub(crate) fn run_job<D: Disk, I, O, K: Sink>(
+    alloc: Global,
+    job: Job,
+    disk: D,
+    stream_in: I,
+    stream_out: O,
+    out: &mut K,
+) -> Closed<D, I, O>
+    requires due { IsDue job }
+    ensures ok { OnOk result.outcome (RunsAll job.newfs job.lines.items
+        (seen D.told D.faults disk) (seen D.told D.faults result.disk) (K.held out.old) (K.held out.new)) }
+    ensures err { IfErr result.outcome (StoppedRunning job.newfs job.lines.items
+        (seen D.told D.faults disk) (seen D.told D.faults result.disk)
+        (seen K.held K.faults out.old) (seen K.held K.faults out.new)) }
+    ensures streams { (result.stream_in ≡ stream_in) × (result.stream_out ≡ stream_out) }
+    ensures counts { (D.faults disk ≤ D.faults result.disk) × (K.faults out.old ≤ K.faults out.new) }
+{
+    let disk = BufferedDisk::new(alloc, disk);
+    let Closed {
+        disk,
+        stream_in,
+        stream_out,
+        outcome,
+    } = run_on(alloc, job, disk, stream_in, stream_out, out);
+    Closed {
+        disk: disk.into_inner(),
+        stream_in,
+        stream_out,
+        outcome,
+    }
+}
+
+// The same on this disk itself.
+fn run_on<D: Disk, I, O, K: Sink>(
     alloc: Global,
     job: Job,
     disk: D,

@@ -3,7 +3,7 @@ use Rattle.hm_core.specs.Seen.{seen as seen_core}
 use Rattle.hm_shell.specs.Seen.{seen}
 use Rattle.hm_shell.proofs.OpenLemmas.{StoppedOpening-mount, made_not_err}
 use Rattle.hm_shell.proofs.RunLemmas.{RunsAll-opened, StoppedRunning-opened}
-use Rattle.hm_shell.proofs.volume.run_job.Goals as goal
+use Rattle.hm_shell.proofs.volume.run_on.Goals as goal
 
 pub returns-in-Ok-clause-ok : goal.returns-in-Ok-clause-ok
 returns-in-Ok-clause-ok g c =
