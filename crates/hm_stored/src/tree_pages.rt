@@ -68,6 +68,14 @@ impl<D: Disk> NodePages for Space<D> {
     ghost kept_is_node = { λ at bytes spot kept. kept.node spot };
 
     ghost node_is_kept = { λ at bytes spot holds. record { node = λ _. holds } };
+
+    /// The node at `at`. None once a call has failed half-way, and where none stands.
+    fn look(&self, at: HOff) -> Option<&Page> {
+        if !self.books.whole {
+            return None;
+        }
+        self.pages.store.look(at)
+    }
 }
 
 impl<D: Disk> HasRoom for Space<D> {
