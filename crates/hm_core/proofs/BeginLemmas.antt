@@ -4,7 +4,7 @@ use Rattle.hm_model.specs.After.{Event}
 use Rattle.hm_model.specs.Foreign.{Foreigners}
 use Rattle.hm_model.specs.Volume.{Volume}
 use Rattle.hm_stored.specs.Heap.{Heap}
-use Rattle.hm_core.specs.History.{IsClear, IsLegalOver}
+use Rattle.hm_core.specs.History.{IsLegalOver}
 use Rattle.hm_state.specs.Volume.{HoldsVolume}
 
 -- no event is one of none
@@ -13,11 +13,11 @@ none_before [] event rest is = cc
 none_before (e ∷ es) event rest is = cc
 
 pub first : (free start faults : ℕ) (h : Heap) (root last : ℕ) (opening : Volume) (foreigners : Foreigners) → start ≤ faults
-    → HoldsVolume h root last opening → IsClear opening → IsLegalOver free start faults [] h root last opening foreigners
-first free start faults h root last opening foreigners counted holds clear = record {
+    → HoldsVolume h root last opening → IsLegalOver free start faults [] h root last opening foreigners
+first free start faults h root last opening foreigners counted holds = record {
   events = [];
   entries = refl;
   legal = λ before event rest is. absurd (none_before before event rest is);
   counted = counted;
-  held = record { holds = holds; clear = clear; opened = refl };
+  held = record { holds = holds; opened = refl };
 }

@@ -14,6 +14,7 @@ use Rattle.hm_model.specs.Caused.{HasNumbers, Known, known_after, known_at}
 use Rattle.hm_model.specs.Foreign.{Foreigners}
 use Rattle.hm_model.specs.Legal.{IsAllowed, IsLegal, MayFollow, Setting, call_after, floor_after, state_after}
 use Rattle.hm_model.specs.Needs.{floor}
+use Rattle.hm_model.specs.View.{Substitute}
 use Rattle.hm_model.specs.Volume.{Volume}
 use Rattle.hm_model.specs.declared.entry.Entry.{Entry}
 use Rattle.hm_model.specs.declared.reply.Reply.{Reply}
@@ -23,13 +24,14 @@ use Rattle.hm_image.specs.StandFor.{StandFor}
 use Rattle.hm_stored.specs.Heap.{Heap}
 use Rattle.hm_stored.specs.Standing.{Holds}
 use Rattle.hm_step.specs.Next.{GoesOn, IsEventOf, StandIfFit}
+use Rattle.hm_step.specs.Seen.{AreGiven}
 use Rattle.hm_step.specs.Step.{IsFailure, IsNext}
 use Rattle.hm_step.proofs.HistoryLemmas.{allowed_failed, stands_failed}
 use Rattle.hm_step.proofs.LegalLemmas.{may_follow_failed}
 use Rattle.hm_core.specs.Calls.{Fails, IsNextCall, Serves}
 use Rattle.hm_core.specs.History.{HoldsState, IsLegalOver, disk_counts, setting_of}
 use Rattle.hm_core.proofs.CountLemmas.{NumbersOf, legal_later, told_most}
-use Rattle.hm_core.proofs.StateLemmas.{holds_after, served_adds_none, served_state}
+use Rattle.hm_core.proofs.StateLemmas.{holds_after, served_state}
 use Rattle.hm_core.proofs.WordLemmas.{words_are_read}
 
 module _ (free start faults faults' : ℕ) (history : List Entry) (h : Heap) (root last : ℕ) (opening : Volume) (foreigners : Foreigners)
@@ -74,18 +76,22 @@ module _ (free start faults faults' : ℕ) (history : List Entry) (h : Heap) (ro
   -- ---- a call that is served
 
   module _ (entry : Entry) (is : IsNextCall last entry) where
+    abbrev es : List FullElement
+    es = so_far.held.holds.elements.0
+
+    -- the trees of each PFS whose own ones are not certain
+    given_trees : (substitutes : List Substitute) × AreGiven es state.volume substitutes
+    given_trees = trees_given es state.volume so_far.held.holds.elements.2
+
     -- the entry as an event
     abbrev pub event : Event
-    event = record { entry = entry; paths = (words_are_read entry.call).0; substitutes = [] }
+    event = record { entry = entry; paths = (words_are_read entry.call).0; substitutes = given_trees.0 }
 
     abbrev pub call : Call
     call = call_after run so_far.events event
 
     own : entry.id.0 ≡ state.volume.last + 1
     own = drawn_next entry.id.0 is.own
-
-    abbrev es : List FullElement
-    es = so_far.held.holds.elements.0
 
     next : (space : ℕ) → floor_after run so_far.events ≤ space → IsNext run so_far.events event space es
     next space enough = record {
@@ -94,7 +100,7 @@ module _ (free start faults faults' : ℕ) (history : List Entry) (h : Heap) (ro
       left = left_next is.left;
       reads = (words_are_read entry.call).1;
       stand = so_far.held.holds.elements.2;
-      given = λ pfs s found unclear. absurd (let clear : s.clear ≡ true = so_far.held.clear pfs s found in cc);
+      given = given_trees.1;
       least = enough;
     }
 
@@ -104,7 +110,7 @@ module _ (free start faults faults' : ℕ) (history : List Entry) (h : Heap) (ro
         → HoldsState h' root' (last + 1) (state_after run (so_far.events ++ event ∷ []))
     next_held h' root' now same holds stand allowed =
         holds_after h h' root root' last state (state_after run (so_far.events ++ event ∷ [])) (is_change entry.call entry.reply) call now
-        so_far.held refl (served_adds_none entry.call is.served) (served_state run so_far.events event is.served own allowed) same holds stand
+        so_far.held refl (served_state run so_far.events event is.served own allowed) same holds stand
 
     -- a store served it
     module _ {S : Type 0} (elements_of : S → Option (List Element)) (extents_of : S → Option (List Extent)) (free_of : S → ℕ)

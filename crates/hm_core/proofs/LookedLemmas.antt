@@ -75,7 +75,6 @@ module _ (old new : Heap) (looks : LooksSame old new) where
     counted = is.counted;
     held = record {
       holds = looked_held root last (state_after (setting_of free start faults opening foreigners) is.events).volume is.held.holds;
-      clear = is.held.clear;
       opened = is.held.opened;
     };
   }

@@ -34,7 +34,7 @@ use Rattle.hm_state.specs.Volume.{HoldsVolume}
 use Rattle.hm_state.proofs.BackedLemmas.{mounted_backed}
 use Rattle.hm_state.proofs.MountedLemmas.{mounted, mounted_free}
 use Rattle.hm_core.specs.Core.{StandsOver}
-use Rattle.hm_core.specs.History.{IsClear, IsLegalOver}
+use Rattle.hm_core.specs.History.{IsLegalOver}
 use Rattle.hm_core.specs.Inside.{IsInOrder}
 use Rattle.hm_core.specs.Ledger.{IsPaid}
 use Rattle.hm_core.specs.Mounting.{CountsFree, BacksWhatStands, HoldsWhatStands, IsHeaderOn, IsReadFrom}
@@ -174,10 +174,10 @@ ordered_first told header slot free h range low chosen read = record {
 module _ {D I O : Type 0} (core : CoreState D I O) (new : core.history ≡ []) (root : core.root ≡ core.header.root)
     (last : core.last ≡ core.header.last.0) (start : core.start ≡ core.faults) where
   stands_over : (told : Option Told) → core.heap.disk ≡ told → IfSome told (BacksWhatStands core.heap) → IfSome told (HoldsWhatStands core.heap core.header)
-      → IfSome told (λ t. (opening : Volume) (foreigners : Foreigners) → StandsFor t.bytes opening → IsClear opening
+      → IfSome told (λ t. (opening : Volume) (foreigners : Foreigners) → StandsFor t.bytes opening
       → StandsOver core opening foreigners)
   stands_over None disk backed holds = tt
-  stands_over (Some t) disk backed holds = λ opening foreigners stands clear.
+  stands_over (Some t) disk backed holds = λ opening foreigners stands.
       let held : HoldsVolume core.heap core.root core.last opening =
       subst (λ (n : ℕ). HoldsVolume core.heap n core.last opening) (sym root)
       (subst (λ (n : ℕ). HoldsVolume core.heap core.header.root n opening) (sym last) (holds opening stands)) in
@@ -185,7 +185,7 @@ module _ {D I O : Type 0} (core : CoreState D I O) (new : core.history ≡ []) (
         legal = subst
             (λ (l : List Entry). IsLegalOver core.free core.start core.faults l core.heap core.root core.last opening foreigners)
             (sym new)
-            (first core.free core.start core.faults core.heap core.root core.last opening foreigners (omega (arith, start)) held clear);
+            (first core.free core.start core.faults core.heap core.root core.last opening foreigners (omega (arith, start)) held);
         backed = backed opening stands;
         untouched = λ none. subst (λ (d : Option Told). IfSome d (λ t. StandsFor t.bytes opening)) (sym disk) stands;
       }

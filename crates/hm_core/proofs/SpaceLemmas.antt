@@ -110,7 +110,7 @@ module _ (free start faults faults' : ℕ) (history : List Entry) (h : Heap) (ro
     told_so =
         goes_on free start faults faults' history h root last opening foreigners so_far counted event h root follows
         (holds_after h h root root last state (state_after run (so_far.events ++ event ∷ [])) false (call_of entry) so_far.held.holds.elements.0
-        so_far.held refl refl after_is refl so_far.held.holds.elements.1 stands)
+        so_far.held refl after_is refl so_far.held.holds.elements.1 stands)
 
   -- it tells the pool, and a number of free big-blocks that is not below the least
   space_may : (some : Entry) (pool spare : ℕ) → some.id.0 ≡ last + 1 → pool ≡ h.bigblocks - first_pool h.bigblocks → floor free history ≤ spare

@@ -1,5 +1,4 @@
--- What a call that ends no other one leaves of a state: the size of its volume, that all trees are certain, and that no
--- call is open.
+-- What a call that ends no other one leaves of a state: the size of its volume, and that no call is open.
 use Rattle.std.proofs.Common.{◌≡◌, ℕ, ◌+◌, Bool, true, false, List, [], ◌∷◌, ◌++◌, refl, sym, ap, subst, ◌∙◌}
 use Rattle.hm_types.specs.Elements.{FullElement}
 use Rattle.hm_types.specs.Tree.{root_tree}
@@ -7,7 +6,6 @@ use Rattle.hm_model.specs.After.{Event, State, on_volume, opening_state}
 use Rattle.hm_model.specs.Call.{Call, own_id}
 use Rattle.hm_model.specs.Change.{change, new_slave, with_system}
 use Rattle.hm_model.specs.Due.{new_pfs}
-use Rattle.hm_model.specs.Laws.{adds_pfs}
 use Rattle.hm_model.specs.Legal.{IsAllowed, Setting, call_after, floor_after, state_after}
 use Rattle.hm_model.specs.Volume.{Volume, new_master}
 use Rattle.hm_model.specs.declared.command.Command.{Command}
@@ -21,15 +19,8 @@ use Rattle.hm_stored.specs.Heap.{Heap}
 use Rattle.hm_stored.specs.Standing.{Holds}
 use Rattle.hm_step.specs.Step.{after_call}
 use Rattle.hm_step.proofs.EventLemmas.{served_no_opening, state_after as after_is}
-use Rattle.hm_step.proofs.SystemLemmas.{on_each}
-use Rattle.hm_core.specs.History.{HoldsState, IsClear}
+use Rattle.hm_core.specs.History.{HoldsState}
 use Rattle.hm_core.proofs.ReplyLemmas.{reply_allowed, tells_no_pass}
-
--- a call that is served adds no PFS
-pub served_adds_none : (command : Command) → IsOnTrees command → adds_pfs command ≡ false
-served_adds_none (PfsMaster path shared) served = absurd served
-served_adds_none (PfsSlave path shared) served = absurd served
-served_adds_none other served = refl
 
 -- a call that changes a volume leaves its size
 changed_size : (call : Call) → (change call).bigblocks ≡ call.volume.bigblocks
@@ -47,12 +38,6 @@ pub size_after : (test : Bool) (call : Call) → (after_call test call).bigblock
 size_after true call = changed_size call
 size_after false call = refl
 
--- and that all trees are certain
-pub clear_after : (test : Bool) (call : Call) → adds_pfs call.command ≡ false → IsClear call.volume → IsClear (after_call test call)
-clear_after true call adds clear =
-    on_each call adds (λ pfs s. s.clear ≡ true) (λ pfs s differ is. clear pfs s is) (λ s is. clear _ s is)
-clear_after false call adds clear = clear
-
 -- the state after a call that is served, whatever it was answered
 pub served_state : (run : Setting) (before : List Event) (event : Event) → IsOnTrees event.entry.call
     → event.entry.id.0 ≡ own_id (call_after run before event) → IsAllowed run before event
@@ -66,16 +51,15 @@ served_state run before event served own allowed =
 
 -- a space holds the state after a call
 pub holds_after : (h h' : Heap) (root root' last : ℕ) (state after : State) (test : Bool) (call : Call) (es : List FullElement)
-    → HoldsState h root last state → call.volume ≡ state.volume → adds_pfs call.command ≡ false
+    → HoldsState h root last state → call.volume ≡ state.volume
     → after ≡ on_volume state (after_call test call) → h'.bigblocks ≡ h.bigblocks → Holds h' root' es → StandFor es after.volume
     → HoldsState h' root' (last + 1) after
-holds_after h h' root root' last state after test call es held of_state adds is same holds stand = record {
+holds_after h h' root root' last state after test call es held of_state is same holds stand = record {
   holds = record {
     bigblocks = same ∙ held.holds.bigblocks ∙ ap (λ (v : Volume). v.bigblocks) (sym of_state) ∙ sym (size_after test call)
         ∙ ap (λ (s : State). s.volume.bigblocks) (sym is);
     last_is = ap (λ (n : ℕ). n + 1) (held.holds.last_is ∙ ap (λ (v : Volume). v.last) (sym of_state)) ∙ ap (λ (s : State). s.volume.last) (sym is);
     elements = (es, holds, stand);
   };
-  clear = subst (λ (s : State). IsClear s.volume) (sym is) (clear_after test call adds (subst IsClear (sym of_state) held.clear));
   opened = ap (λ (s : State). s.opened) is ∙ held.opened;
 }

@@ -1,12 +1,11 @@
 -- A history over the volume on which it began, and the space that has come of it.
-use Rattle.std.specs.Prelude.{◌≡◌, ℕ, ◌≤◌, true, List, []}
+use Rattle.std.specs.Prelude.{◌≡◌, ℕ, ◌≤◌, List, []}
 use Rattle.hm_model.specs.After.{Event, State}
 use Rattle.hm_model.specs.Caused.{Counts, known_after, known_at}
 use Rattle.hm_model.specs.Foreign.{Foreigners}
 use Rattle.hm_model.specs.Legal.{IsLegal, Setting, entries_of, state_after}
 use Rattle.hm_model.specs.Volume.{Volume}
 use Rattle.hm_model.specs.declared.entry.Entry.{Entry}
-use Rattle.hm_image.specs.StandFor.{OnEach}
 use Rattle.hm_stored.specs.Heap.{Heap}
 use Rattle.hm_state.specs.Volume.{HoldsVolume}
 
@@ -25,14 +24,9 @@ setting_of free start now opening foreigners = record {
   now = disk_counts now;
 }
 
--- the trees of each PFS of a volume are certain
-abbrev pub IsClear : Volume → Type 0
-IsClear volume = OnEach volume (λ pfs s. s.clear ≡ true)
-
--- A space holds the volume of a state, in which the trees of each PFS are certain and no housekeeping call is open.
+-- a space holds the volume of a state, in which no housekeeping call is open
 pub record HoldsState (h : Heap) (root last : ℕ) (state : State) : Type 0 where
   pub holds : HoldsVolume h root last state.volume
-  pub clear : IsClear state.volume
   pub opened : state.opened ≡ []
 
 -- The entries of a history are those of events that are legal over an opening volume, with no more faults told than were

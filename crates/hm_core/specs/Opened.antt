@@ -15,7 +15,6 @@ use Rattle.hm_model.specs.Volume.{Volume, fresh}
 use Rattle.hm_stored.specs.Heap.{free_of}
 use Rattle.hm_core.specs.Core.{IsCausedRun, StandsOver}
 use Rattle.hm_core.specs.Mounting.{CountsFree}
-use Rattle.hm_core.specs.History.{IsClear}
 use Rattle.hm_core.specs.State.{CoreState}
 use Rattle.hm_core.specs.declared.fault.OpenFault.{OpenFault}
 use Rattle.hm_core.specs.declared.fault.OpenFault.TheVariants.{BadField, Fault as of_disk, NotVolume}
@@ -82,7 +81,7 @@ pub record IsMade (bigblocks : ℕ) (old new : Told) : Type 0 where
 
 module _ {D I O : Type 0} where
   -- A core as it is mounted over a disk that told this, whose faults were counted so far: nothing has happened yet, nothing
-  -- below the header is damaged, and whatever volume the disk stands for, in which all trees are certain, the core stands for it.
+  -- below the header is damaged, and whatever volume the disk stands for, the core stands for it.
   -- The free big-blocks are counted as the bytes of such a volume leave them.
   pub record IsMounted (old : Option Told) (faults : ℕ) (input : I) (output : O) (core : CoreState D I O) : Type 0 where
     pub history : core.history ≡ []
@@ -94,6 +93,6 @@ module _ {D I O : Type 0} where
     pub counted : IfSome old (CountsFree core.free core.header)
     pub counting : IfSome old (λ t. HasHeader t.bytes core.header core.slot)
     pub whole : IfSome old (λ t. IsWhole t.bytes core.header)
-    pub stands : IfSome old (λ t. (opening : Volume) (foreigners : Foreigners) → StandsFor t.bytes opening → IsClear opening
+    pub stands : IfSome old (λ t. (opening : Volume) (foreigners : Foreigners) → StandsFor t.bytes opening
         → StandsOver core opening foreigners)
     pub streams : (core.input ≡ input) × (core.output ≡ output)

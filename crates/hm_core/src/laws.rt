@@ -27,7 +27,7 @@ ghost use Rattle.hm_stored.specs.Known.{AreKnown, is_known};
 ghost use Rattle.hm_stored.specs.Standing.{Holds};
 ghost use Rattle.hm_stored.specs.Told.{elements_told};
 ghost use Rattle.hm_core.specs.Calls.{Fails, IsNextCall, Serves};
-ghost use Rattle.hm_core.specs.History.{IsClear, IsLegalOver, setting_of};
+ghost use Rattle.hm_core.specs.History.{IsLegalOver, setting_of};
 ghost use Rattle.hm_core.specs.Ledger.{IsPaid};
 ghost use Rattle.hm_core.specs.Told.{
   ArePages,
@@ -43,12 +43,11 @@ ghost use Rattle.hm_state.specs.Volume.{HoldsVolume};
 
 use hm_key::{ElementStore, Extents};
 
-/// A core begins with the empty history, over each volume that its space holds and of which all trees
-/// are certain, whatever foreign masters there are.
+/// A core begins with the empty history, over each volume that its space holds, whatever foreign
+/// masters there are.
 pub fn a_core_begins_with_no_history()
     ensures { (free start faults : ℕ) (h : Heap) (root last : ℕ) (opening : Volume)
         (foreigners : Foreigners) → start ≤ faults → HoldsVolume h root last opening →
-        IsClear opening →
         IsLegalOver free start faults [] h root last opening foreigners }
 {}
 

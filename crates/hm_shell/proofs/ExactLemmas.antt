@@ -4,7 +4,6 @@ use Rattle.std.specs.Prelude.{◌==◌, Contains, IfSome}
 use Rattle.std.specs.List.{AllByRecursion}
 use Rattle.std.proofs.lemmas.List.Elements.{Contains-append_left, recursion_from_All}
 use Rattle.hm_types.specs.Told.{BothTell}
-use Rattle.hm_types.specs.Tree.{root_tree}
 use Rattle.hm_types.specs.declared.fault.Fault.TheVariants.{Damaged as damage, Media as media, NoMemory as no_memory}
 use Rattle.hm_pipe.specs.Pipe.{Gives, IsAtEnd}
 use Rattle.hm_disk.specs.Crash.{Told}
@@ -19,8 +18,7 @@ use Rattle.hm_image.specs.Stands.{StandsFor}
 use Rattle.hm_model.specs.declared.line.Line.{Line}
 use Rattle.hm_model.specs.Lines.{texts_of}
 use Rattle.hm_model.specs.Script.{IsTooLong}
-use Rattle.hm_model.specs.Volume.{PseudoFileSystem, Volume, fresh, new_master}
-use Rattle.hm_core.specs.History.{IsClear}
+use Rattle.hm_model.specs.Volume.{Volume, fresh}
 use Rattle.hm_core.specs.Opened.{HasDamage, IsFailure, IsMade, IsNotMade, IsNotMounted, IsTooSmall}
 use Rattle.hm_core.specs.declared.fault.OpenFault.{OpenFault}
 use Rattle.hm_core.specs.declared.fault.OpenFault.TheVariants.{BadField as bad_field, Fault as of_disk, NotVolume as no_volume}
@@ -95,14 +93,6 @@ whole_has_none bytes at kind whole damaged =
     (chosen_is_one (first_slot bytes) (second_slot bytes) (length bytes) damaged.header whole.header damaged.slot whole.slot damaged.counts whole.counts).0 in
     whole_is_undamaged bytes whole.header at kind whole.whole (subst (λ h. IsDamage bytes h at kind) same damaged.damage)
 
--- the volume as it is made has certain trees
-only_clear : (size : ℕ) (found : Bool) (s : PseudoFileSystem) → (if found then Some (new_master 0 0 ((1, root_tree) ∷ [])) else None) ≡ Some s → s.clear ≡ true
-only_clear size true s is = (let same : new_master 0 0 ((1, root_tree) ∷ []) ≡ s = cc in sym (ap (λ (p : PseudoFileSystem). p.clear) same))
-only_clear size false s is = absurd (cc)
-
-fresh_is_clear : (size : ℕ) → IsClear (fresh size)
-fresh_is_clear size pfs s is = only_clear size (0 == pfs) s is
-
 -- the statuses that a whole disk brings are some of those that any disk with a header does
 wider : (status : ℕ) → Contains (0 ∷ 4 ∷ 5 ∷ 6 ∷ 7 ∷ []) status → Contains (0 ∷ 4 ∷ 5 ∷ 6 ∷ 7 ∷ 10 ∷ []) status
 wider status has = Contains-append_left (0 ∷ 4 ∷ 5 ∷ 6 ∷ 7 ∷ []) (10 ∷ []) status has
@@ -110,7 +100,7 @@ wider status has = Contains-append_left (0 ∷ 4 ∷ 5 ∷ 6 ∷ 7 ∷ []) (10 �
 -- a status that comes anyway
 any_disk : (newfs : Option ℕ) (t : Told) (status : ℕ) → Contains (3 ∷ 4 ∷ 5 ∷ 7 ∷ []) status → Contains (0 ∷ 4 ∷ 5 ∷ 6 ∷ 7 ∷ []) status
     → Contains (10 ∷ 4 ∷ 5 ∷ 7 ∷ []) status → DiskBrings newfs t status
-any_disk None t status three whole ten = record { none = λ _ _. three; damaged = λ _ _ _. ten; stands = λ _ _ _. whole; headed = λ _ _ _. wider status whole }
+any_disk None t status three whole ten = record { none = λ _ _. three; damaged = λ _ _ _. ten; stands = λ _ _. whole; headed = λ _ _ _. wider status whole }
 any_disk (Some size) t status three whole ten = record { small = λ _. three; made = λ _. whole }
 
 four_anyway : (newfs : Option ℕ) (o : Option Told) → IfSome o (λ t. DiskBrings newfs t 4)
@@ -128,7 +118,7 @@ opened_brings : (newfs : Option ℕ) (disk opened : Option Told) (status : ℕ) 
 opened_brings None disk opened status opens has = each_gives disk (λ t. HasWhole t.bytes) (λ t. OldBrings t status) (λ t whole. record {
   none = λ fault is. absurd (headed_has_none t.bytes whole.header whole.slot fault whole.counts is);
   damaged = λ at kind is. absurd (whole_has_none t.bytes at kind whole is);
-  stands = λ _ _ _. has;
+  stands = λ _ _. has;
   headed = λ _ _ _. wider status has;
 }) opens.1
 opened_brings (Some size) disk opened status opens has = both_gives disk opened (IsMade size) (λ t. NewBrings size t status) (λ s t made. record {
@@ -144,19 +134,19 @@ damaged_brings None (Some t) opened opens none =
     let stood : StandsForNone t = rw opens.0 at none in record {
       none = λ fault is. absurd (headed_has_none t.bytes opens.1.header opens.1.slot fault opens.1.counts is);
       damaged = λ at kind is. absurd (whole_has_none t.bytes at kind opens.1 is);
-      stands = λ volume stands clear. absurd (stood volume stands clear);
+      stands = λ volume stands. absurd (stood volume stands);
       headed = λ _ _ _. (5, lit< tt, refl);
     }
 damaged_brings (Some size) None opened opens none = tt
 damaged_brings (Some size) (Some s) None opens none = absurd opens
-damaged_brings (Some size) (Some s) (Some t) opens none = absurd (none (fresh size) opens.stands.stands (fresh_is_clear size))
+damaged_brings (Some size) (Some s) (Some t) opens none = absurd (none (fresh size) opens.stands.stands)
 
 -- with a disk that has no volume
 none_brings : (t : Told) (fault : HeaderFault) → HasFault t.bytes fault → ((volume : Volume) → StandsFor t.bytes volume → ⊥) → OldBrings t 3
 none_brings t fault is never = record {
   none = λ _ _. (0, lit< tt, refl);
   damaged = λ at kind damaged. absurd (headed_has_none t.bytes damaged.header damaged.slot fault damaged.counts is);
-  stands = λ volume stands _. absurd (never volume stands);
+  stands = λ volume stands. absurd (never volume stands);
   headed = λ header slot counts. absurd (headed_has_none t.bytes header slot fault counts is);
 }
 
@@ -165,7 +155,7 @@ ten_brings : (t : Told) (at kind : ℕ) → HasDamage t.bytes at kind → ((volu
 ten_brings t at kind damaged never = record {
   none = λ fault is. absurd (headed_has_none t.bytes damaged.header damaged.slot fault damaged.counts is);
   damaged = λ _ _ _. (0, lit< tt, refl);
-  stands = λ volume stands _. absurd (never volume stands);
+  stands = λ volume stands. absurd (never volume stands);
   headed = λ _ _ _. (5, lit< tt, refl);
 }
 

@@ -98,7 +98,7 @@ module _ {D I O : Type 0} where
     -- it stands for each volume that the disk stood for
     stands_now : OverEach begun.heap.disk (StandsOver core)
     stands_now = subst (λ (o : Option Told). OverEach o (StandsOver core)) (sym mounted.told)
-        (each_told told _ _ (λ t stands opening foreigners is clear. from.goes_on opening foreigners (stands opening foreigners is clear)) mounted.stands)
+        (each_told told _ _ (λ t stands opening foreigners is. from.goes_on opening foreigners (stands opening foreigners is)) mounted.stands)
 
     has_history : (opening : Volume) (foreigners : Foreigners) → StandsOver core opening foreigners → HasHistory (ran_of core) opening foreigners
     has_history opening foreigners stands = record {
@@ -109,7 +109,7 @@ module _ {D I O : Type 0} where
     }
 
     histories : OverEach begun.heap.disk (HasHistory (ran_of core))
-    histories = each_told begun.heap.disk _ _ (λ t stands opening foreigners is clear. has_history opening foreigners (stands opening foreigners is clear))
+    histories = each_told begun.heap.disk _ _ (λ t stands opening foreigners is. has_history opening foreigners (stands opening foreigners is))
         stands_now
 
     module _ (disk : Seen Told) (done : Unit {0}) (finished : IsFinished core disk.told disk.faults (Ok done)) where
@@ -130,13 +130,13 @@ module _ {D I O : Type 0} where
       is_kept = record {
         unwritten = λ none. (finished.nothing none).1 ∙ ap (λ h. h.disk) (from.idle none);
         settled = λ some. each_told disk.told _ _ (λ t next. next.settled) (on_told core.heap.disk disk.told _ (finished.header some));
-        volume = each_told begun.heap.disk _ _ (λ t stands opening foreigners is clear. leaves opening foreigners (stands opening foreigners is clear))
+        volume = each_told begun.heap.disk _ _ (λ t stands opening foreigners is. leaves opening foreigners (stands opening foreigners is))
             stands_now;
       }
 
     -- damage is told of what was no volume alone
     no_damage : (disk : Seen Told) (at kind : ℕ) → IsFinished core disk.told disk.faults (Err (damage at kind)) → IfSome begun.heap.disk StandsForNone
-    no_damage disk at kind finished = each_told begun.heap.disk _ _ (λ t stands volume is clear. none volume (stands volume no_foreigners is clear))
+    no_damage disk at kind finished = each_told begun.heap.disk _ _ (λ t stands volume is. none volume (stands volume no_foreigners is))
         stands_now where
           none : (volume : Volume) → StandsOver core volume no_foreigners → ⊥
           none volume stands = where_told core.heap.disk _ ⊥ stands.legal.held.holds.elements.1 (finished.whole volume no_foreigners stands)

@@ -7,7 +7,6 @@ use Rattle.hm_header.specs.declared.header.Header.{Header}
 use Rattle.hm_image.specs.Stands.{StandsFor}
 use Rattle.hm_model.specs.Script.{IsTooLong}
 use Rattle.hm_model.specs.Volume.{Volume}
-use Rattle.hm_core.specs.History.{IsClear}
 use Rattle.hm_core.specs.Opened.{HasDamage, IsTooSmall}
 use Rattle.hm_shell.specs.Devices.{Sight}
 use Rattle.hm_shell.specs.Lines.{IsFirstBad, IsGoodScript}
@@ -28,7 +27,7 @@ pub record NewBrings (size : ℕ) (t : Told) (status : ℕ) : Type 0 where
 pub record OldBrings (t : Told) (status : ℕ) : Type 0 where
   pub none : (fault : HeaderFault) → HasFault t.bytes fault → Contains (3 ∷ 4 ∷ 5 ∷ 7 ∷ []) status
   pub damaged : (at kind : ℕ) → HasDamage t.bytes at kind → Contains (10 ∷ 4 ∷ 5 ∷ 7 ∷ []) status
-  pub stands : (volume : Volume) → StandsFor t.bytes volume → IsClear volume → Contains (0 ∷ 4 ∷ 5 ∷ 6 ∷ 7 ∷ []) status
+  pub stands : (volume : Volume) → StandsFor t.bytes volume → Contains (0 ∷ 4 ∷ 5 ∷ 6 ∷ 7 ∷ []) status
   pub headed : (header : Header) (slot : ℕ) → HasHeader t.bytes header slot → Contains (0 ∷ 4 ∷ 5 ∷ 6 ∷ 7 ∷ 10 ∷ []) status
 
 abbrev pub DiskBrings : Option ℕ → Told → ℕ → Type 0

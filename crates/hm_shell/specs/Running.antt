@@ -15,7 +15,7 @@ use Rattle.hm_model.specs.Out.{IsOut}
 use Rattle.hm_model.specs.Volume.{Volume}
 use Rattle.hm_state.specs.Free.{free_in}
 use Rattle.hm_core.specs.Caused.{IsCausedFrom}
-use Rattle.hm_core.specs.History.{IsClear, setting_of}
+use Rattle.hm_core.specs.History.{setting_of}
 use Rattle.hm_shell.specs.declared.stop.Stop.{Stop}
 use Rattle.hm_shell.specs.declared.stop.Stop.TheVariants.{Usage, NotVolume, BadField, DiskFault, Damaged, ScriptFault, OutFault, NoMemory, BadLine, TooLong}
 use Rattle.hm_shell.specs.Alone.{alone, out_text}
@@ -82,9 +82,9 @@ pub record LeavesVolume (ran : Ran) (new : Option Told) (opening : Volume) (fore
   pub has : HasHistory ran opening foreigners
   pub stands : IsSomeAnd new (λ t. StandsFor t.bytes (after opening foreigners has.events).volume)
 
--- a fact of each volume that a disk stands for which tells this, if all trees in it are certain, and of all foreign masters
+-- a fact of each volume that a disk stands for which tells this, and of all foreign masters
 abbrev pub OverEach : Option Told → (Volume → Foreigners → Type 0) → Type 0
-OverEach opened P = IfSome opened (λ t. (opening : Volume) (foreigners : Foreigners) → StandsFor t.bytes opening → IsClear opening → P opening foreigners)
+OverEach opened P = IfSome opened (λ t. (opening : Volume) (foreigners : Foreigners) → StandsFor t.bytes opening → P opening foreigners)
 
 -- What came of a disk that told this as a volume was opened on it, and tells that: it stands for the volume after the
 -- history, over each that it stood for. Where the history has no entry nothing was written, and else all is settled.
@@ -125,9 +125,9 @@ pub record StopsAtLine (lines : List Line) (ran : Ran) (old_out new_out : Seen (
   pub gained : Gains old_out.told text new_out.told
   pub cause : IsOutCause old_out.faults new_out.faults stop
 
--- a disk that tells this stands for no volume in which all trees are certain
+-- a disk that tells this stands for no volume
 abbrev pub StandsForNone : Told → Type 0
-StandsForNone t = (volume : Volume) → StandsFor t.bytes volume → IsClear volume → ⊥
+StandsForNone t = (volume : Volume) → StandsFor t.bytes volume → ⊥
 
 -- what made the run stop as the volume was written back: the disk, memory, or damage of what was no volume as it was opened
 abbrev pub IsWriteCause : Option Told → ℕ → ℕ → Stop → Type 0

@@ -56,6 +56,18 @@ read_kept h at page whole kept is = record { node = λ spot. ∥∥₁_elim kept
       let there : nodes h.pages.current at ≡ Some page = node_is h.pages.current at spot.zone ∙ is in
       (subst (λ (o : Option (List ℕ)). IfSome o (λ bytes. (at < 2 ^ 64) × (IsNodeOffset at → HoldsNode bytes))) there (k.nodes whole at)).1 spot
 
+-- the same of a page that is looked at where it stands, if one does
+module _ {R : Type 0} (now : R → List ℕ) (h : Heap) (at : ℕ) where
+  pub looked_told : (found : Option R) → option_map now found ≡ h.pages.current at
+      → IfSome found (λ page. IfSome (pages_of h) (λ map. IfSome (map at) (λ bytes. now page ≡ bytes)))
+  looked_told None is = tt
+  looked_told (Some page) is = read_told h at (now page) (sym is)
+
+  pub looked_kept : (found : Option R) → option_map now found ≡ h.pages.current at → IsTrue h.whole → ∥ IsKept h ∥₁
+      → IfSome found (λ page. KeepsNodes at (now page))
+  looked_kept None is whole kept = tt
+  looked_kept (Some page) is whole kept = read_kept h at (now page) whole kept (sym is)
+
 -- pages with one more that is a node are nodes still
 pub nodes_more : (pages new : PageMap) (at : ℕ) (page : List ℕ) → AreNodes pages → new ≡ set_at at (Some page) pages → at < 2 ^ 64
     → (IsNodeOffset at → HoldsNode page)
