@@ -5,26 +5,25 @@ use Rattle.std.proofs.lemmas.Option.{IfSome_then, same_Some}
 use Rattle.hm_types.specs.Faults.{HasFaultCause, HasStoreCause}
 use Rattle.hm_types.specs.declared.fault.Fault.{Fault}
 use Rattle.hm_fields.specs.Pages.{PageMap}
-use Rattle.hm_node.specs.Node.{IsNode}
 use Rattle.hm_node.specs.declared.inner.Child.{Child}
 use Rattle.hm_node.specs.declared.inner.Inner.{Inner}
 use Rattle.hm_node.specs.declared.node.Node.{Node}
 use Rattle.hm_node.specs.declared.node.Node.TheVariants.{Inner as inner_node}
-use Rattle.hm_search.specs.Descent.{StandsHere}
-use Rattle.hm_search.specs.Place.{Fits, TellsDamage, TellsUnmet}
+use Rattle.hm_search.specs.Descent.{PassesHere}
+use Rattle.hm_search.specs.Place.{FitsLevel, TellsUnmet}
 use Rattle.hm_search.specs.Tree.{node_at, next_left, child_place, children_of, IsTree, IsStoredTree}
 use Rattle.hm_search.specs.declared.subtree.Subtree.{Subtree}
 use Rattle.hm_search.proofs.ChildLemmas.{place_is}
-use Rattle.hm_search.proofs.DamageLemmas.{tells_met, tells_undamaged, stored_here}
+use Rattle.hm_search.proofs.DamageLemmas.{tells_met}
 use Rattle.hm_btree.specs.Marking.{TakesOut}
 use Rattle.hm_btree.specs.Below.{Changed}
 use Rattle.hm_btree.specs.Edits.{inner_of}
+use Rattle.hm_btree.specs.Shape.{IsShaped}
 use Rattle.hm_btree.specs.Shrink.{loose, IsLevelBelow, IsChildNode, IsPairJoined, IsJoinedAt, IsShrunk}
 use Rattle.hm_btree.proofs.BesideLemmas.{upper_stays, lower_stays, upper_there}
 use Rattle.hm_btree.proofs.EditLemmas.{child_level}
 use Rattle.hm_btree.proofs.JoinAtLemmas.{split_pair, rest_pair}
 use Rattle.hm_btree.proofs.ShrinkLemmas.{upper_child, pair_rising, pair_stored}
-use Rattle.hm_btree.proofs.ShapeLemmas.{node_shaped}
 use Rattle.hm_btree.proofs.ToldLemmas.{IfSome_both}
 
 module _ (inner : Inner) (i : ℕ) (node : Node) (mid : PageMap) (shrunk : IsShrunk inner i node mid) where
@@ -110,24 +109,14 @@ module _ (inner : Inner) (i : ℕ) (node : Node) (mid : PageMap) (shrunk : IsShr
 pub before_last : (i count n : ℕ) → count ≤ i + 1 → count ≡ n → 2 ≤ n → i - 1 + 1 ≡ i
 before_last i count n last is many = omega arith
 
--- a node that was read below an inner node
-pub level_below : (inner : Inner) (i : ℕ) (s : Subtree) (child : Node) → slice_get (children_of inner) i ≡ Some s → IsNode child
-    → Fits s child → IsLevelBelow inner.level child
-level_below inner i s child at sound fits = (node_shaped child sound, child_level inner i s child at fits.level)
+-- a node that was visited below an inner node
+pub level_below : (inner : Inner) (i : ℕ) (s : Subtree) (child : Node) → slice_get (children_of inner) i ≡ Some s → IsShaped child
+    → FitsLevel s.parent child → IsLevelBelow inner.level child
+level_below inner i s child at shape fits = (shape, child_level inner i s child at fits)
 
 -- no damage is told of it
-pub stored_cause : {T : Type 0} (told : Option PageMap) (s : Subtree) (old new : ℕ) (fault : Fault) → IfSome told
-    (λ map. (height : ℕ) × IsStoredTree map height s) → HasFaultCause {T = Node} old new (Err fault) → IfSome told (λ map. TellsDamage s (map s.at) fault)
-    → HasStoreCause {T = T} told old new (Err fault)
-stored_cause told s old new fault stored counted damage = record {
-  counted = record { never_falls = counted.never_falls; caused = counted.caused };
-  undamaged = IfSome_both told stored damage (λ map stored damage.
-      tells_undamaged s (map s.at) (node_at map s.at) fault stored.1.there (stored_here map stored.0 s stored.1) damage);
-}
-
--- the same of one whose place alone was checked
-pub visited_cause : {T : Type 0} (told : Option PageMap) (s : Subtree) (old new : ℕ) (fault : Fault) → IfSome told
-    (λ map. (height : ℕ) × IsStoredTree map height s) → HasFaultCause {T = Unit {0}} old new (Err fault) → IfSome told (λ map. TellsUnmet s (map s.at) fault)
+pub visited_cause : {T A : Type 0} (told : Option PageMap) (s : Subtree) (old new : ℕ) (fault : Fault) → IfSome told
+    (λ map. (height : ℕ) × IsStoredTree map height s) → HasFaultCause {T = A} old new (Err fault) → IfSome told (λ map. TellsUnmet s (map s.at) fault)
     → HasStoreCause {T = T} told old new (Err fault)
 visited_cause told s old new fault stored counted damage = record {
   counted = record { never_falls = counted.never_falls; caused = counted.caused };
@@ -136,7 +125,7 @@ visited_cause told s old new fault stored counted damage = record {
 
 -- the node that was read is the child's
 pub read_child : (map : PageMap) (inner : Inner) (i : ℕ) (s : Subtree) (node : Node) → slice_get (children_of inner) i ≡ Some s
-    → IsSome (map s.at) → StandsHere map s node → IsChildNode inner i map node
+    → IsSome (map s.at) → PassesHere map s node → IsChildNode inner i map node
 read_child map inner i s node at page here c is =
     let there = place_is inner.level inner.right inner.places.items i s at in
     let same : c ≡ there.child = same_Some c there.child (sym is ∙ there.is) in
@@ -164,11 +153,11 @@ module _ (inner after : Inner) (i : ℕ) (child other : Node) (s : Subtree) (p0 
 
   -- the node that was read is the neighbour's
   read_told : (j : ℕ) → slice_get (children_of inner) j ≡ Some s → IfSome p0 (λ map. (height : ℕ) × IsStoredTree map height s)
-      → IfSome p0 (λ map. StandsHere map s other) → IfSome p0 (λ map. IsChildNode inner j map other)
+      → IfSome p0 (λ map. PassesHere map s other) → IfSome p0 (λ map. IsChildNode inner j map other)
   read_told j at stored here = IfSome_both p0 stored here (λ map stored here. read_child map inner j s other at stored.1.there here)
 
   pub right_joined : i + 1 < length inner.places.items → slice_get (children_of inner) (i + 1) ≡ Some s
-      → IfSome p0 (λ map. (height : ℕ) × IsStoredTree map height s) → IfSome p0 (λ map. StandsHere map s other)
+      → IfSome p0 (λ map. (height : ℕ) × IsStoredTree map height s) → IfSome p0 (λ map. PassesHere map s other)
       → IfSome p1 (λ old. IfSome p2 (λ new. IsPairJoined inner i child other old new after))
       → IfSome p0 (λ old. IfSome p2 (λ new. IsJoinedAt inner i child old new after))
   right_joined low at stored here joined =
@@ -177,7 +166,7 @@ module _ (inner after : Inner) (i : ℕ) (child other : Node) (s : Subtree) (p0 
       (λ old read joined. IfSome_then p2 joined (λ new joined. inl (low, other, read, joined)))
 
   pub left_joined : (j : ℕ) → j + 1 ≡ i → slice_get (children_of inner) j ≡ Some s → IfSome p0 (λ map. (height : ℕ)
-      × IsStoredTree map height s) → IfSome p0 (λ map. StandsHere map s other)
+      × IsStoredTree map height s) → IfSome p0 (λ map. PassesHere map s other)
       → IfSome p1 (λ old. IfSome p2 (λ new. IsPairJoined inner j other child old new after))
       → IfSome p0 (λ old. IfSome p2 (λ new. IsJoinedAt inner i child old new after))
   left_joined j next at stored here joined =

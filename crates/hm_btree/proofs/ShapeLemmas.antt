@@ -11,7 +11,7 @@ use Rattle.hm_key.specs.declared.base.Base.{Base}
 use Rattle.hm_key.specs.declared.element.Element.{Element}
 use Rattle.hm_node.specs.Inner.{IsBound, IsChild, IsNodeOffset}
 use Rattle.hm_node.specs.Leaf.{IsPlaced}
-use Rattle.hm_node.specs.Node.{HasLevel, IsNode, level_of}
+use Rattle.hm_node.specs.Node.{HasLevel, level_of}
 use Rattle.hm_node.specs.declared.inner.Child.{Child}
 use Rattle.hm_node.specs.declared.inner.Inner.{Inner}
 use Rattle.hm_node.specs.declared.leaf.Leaf.{Leaf}
@@ -30,10 +30,6 @@ use Rattle.hm_btree.specs.declared.change.Change.{Change}
 use Rattle.hm_btree.specs.declared.change.Change.TheVariants.{Close, Move}
 use Rattle.hm_btree.specs.declared.upper.Upper.{Upper}
 use Rattle.hm_node.proofs.EditLemmas.{placed_changed}
-
--- a sound node has its shape
-pub node_shaped : (node : Node) → IsNode node → IsShaped node
-node_shaped node sound = record { level = sound.level; count = sound.count; fields = sound.fields }
 
 -- a fact of each in a part of a list
 module _ {A : Type 0} (P : A → Type 0) where

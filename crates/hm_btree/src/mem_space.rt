@@ -121,6 +121,13 @@ impl NodePages for MemSpace {
     ghost kept_is_node = { λ at bytes spot node. node };
 
     ghost node_is_kept = { λ at bytes spot node. node };
+
+    fn look(&self, at: HOff) -> Option<&Page> {
+        match self.pages.get(&at) {
+            Some(page) => Some(&**page),
+            None => None,
+        }
+    }
 }
 
 impl NodeSpace for MemSpace {

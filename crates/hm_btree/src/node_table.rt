@@ -10,6 +10,7 @@ use hm_key::HasRoom;
 use hm_node::{NodePages, Rule};
 use hm_types::{BAD_LEVEL, Counted, Fault, HOff, TREE_ZONE};
 use std::alloc::Global;
+use std::cell::Cell;
 
 // How many bytes of room a table begins with: more than memory has.
 const ROOM: u64 = 1 << 42;
@@ -34,13 +35,14 @@ enum Slot {
 
 /// Nodes in a table in memory, each at its place, which tells nothing of them, as the space of a
 /// volume on a device. It is there for tests, and for tools that measure. It counts how many nodes
-/// are read and written. Its frame is the write from which on it refuses.
+/// are read, or looked at, and written. Its frame is the write from which on it refuses.
 #[derive(Drop)]
 pub struct NodeTable {
     alloc: Global,
     pages: Vec<Slot>,
     room: u64,
-    reads: u64,
+    // A page that is looked at in a space that is not changed counts too.
+    reads: Cell<u64>,
     writes: u64,
     refused: u64,
 }
@@ -57,15 +59,15 @@ impl NodeTable {
             alloc,
             pages: Vec::new(alloc),
             room: ROOM,
-            reads: 0,
+            reads: Cell::new(0),
             writes: 0,
             refused: u64::MAX,
         }
     }
 
-    /// How many nodes were read.
+    /// How many nodes were read, or looked at.
     pub fn reads(&self) -> u64 {
-        self.reads
+        self.reads.get()
     }
 
     /// How many nodes were written, new ones among them.
@@ -108,6 +110,11 @@ impl NodeTable {
         ensures { self.new.room ≡ self.old.room }
     {
         self.refused = write;
+    }
+
+    // Counts a read.
+    fn read(&self) {
+        self.reads.set(self.reads.get().saturating_add(1));
     }
 
     // Counts a write, unless it is refused.
@@ -170,7 +177,7 @@ impl Pages for NodeTable {
     ghost rest = { λ t. t.room };
 
     fn page(&mut self, at: HOff, into: &mut Page) -> Result<(), Fault> {
-        self.reads = self.reads.saturating_add(1);
+        self.read();
         match self.at(at) {
             Ok(page) => {
                 *into = *page;
@@ -202,6 +209,17 @@ impl NodePages for NodeTable {
     ghost kept_is_node = { λ at bytes spot node. node };
 
     ghost node_is_kept = { λ at bytes spot node. node };
+
+    // It counts as a read. None of a page that a read tells as damaged.
+    fn look(&self, at: HOff) -> Option<&Page> {
+        match self.at(at) {
+            Ok(page) => {
+                self.read();
+                Some(page)
+            }
+            Err(_) => None,
+        }
+    }
 }
 
 impl NodeSpace for NodeTable {

@@ -1,16 +1,19 @@
 // Removal of an element below a node.
-ghost use Rattle.std.specs.Prelude.{◌≡◌, ◌+◌, ◌<◌, IfSome, IsSome, IfOk, OnOk, Some, slice_get};
-ghost use Rattle.hm_types.specs.Faults.{HasStoreCause};
+ghost use Rattle.std.specs.Prelude.{◌≡◌, ◌+◌, ◌<◌, IfSome, IsSome, IfOk, IfErr, OnOk, Some, slice_get};
+ghost use Rattle.hm_types.specs.Faults.{HasFaultCause, HasStoreCause};
 ghost use Rattle.hm_key.specs.Key.{key_of};
 ghost use Rattle.hm_types.specs.Space.{nothing};
 ghost use Rattle.hm_node.specs.Edits.{IsLeafPage};
-ghost use Rattle.hm_node.specs.Inner.{inner_in};
+ghost use Rattle.hm_node.specs.Inner.{inner_in, IsNodeOffset};
 ghost use Rattle.hm_node.specs.Node.{node_in};
 ghost use Rattle.hm_node.specs.Shape.{HoldsNode};
 ghost use Rattle.hm_node.specs.declared.inner.Child.{Child as ChildOf};
+ghost use Rattle.hm_search.specs.Descent.{PassesHere, Reads};
+ghost use Rattle.hm_search.specs.Place.{FitsLevel, TellsUnmet};
 ghost use Rattle.hm_btree.specs.Calls.Remove.{HasPair, IsPair, JoinsChild, JoinsPair, MayRejoin};
 ghost use Rattle.hm_btree.specs.Calls.Remove.{RejoinsIn, RemovesBelow, RemovesInLeaf};
 ghost use Rattle.hm_btree.specs.Calls.Space.{StaysWithin};
+ghost use Rattle.hm_btree.specs.Shape.{IsShaped};
 ghost use Rattle.hm_btree.specs.Shrink.{HoldsElement, HasNeighbours, IsLevelBelow, IsShrunk};
 
 use crate::change::has_element_in;
@@ -21,7 +24,7 @@ use crate::space::NodeSpace;
 use hm_fields::Page;
 use hm_key::Base;
 use hm_node::{Head, Inner, LEAF, Node, node_of, remove_element, set_mirror};
-use hm_search::{Subtree, child_below, holder_place_in, leaf_place_in, read_node, visit};
+use hm_search::{Subtree, child_below, holder_place_in, leaf_place_in, visit};
 use hm_types::{Counted, Fault};
 
 /// Removes the element at the key of `at` below the node in a page, which is not written and may be left
@@ -106,12 +109,29 @@ fn rejoin<S: NodeSpace>(
 {
     let count = inner.places.len();
     if i + 1 < count {
-        let right = read_node(space, &Subtree::child(inner, i + 1))?;
+        let right = visited_node(space, &Subtree::child(inner, i + 1))?;
         join_at(space, inner, i, child, right)
     } else {
-        let left = read_node(space, &Subtree::child(inner, i - 1))?;
+        let left = visited_node(space, &Subtree::child(inner, i - 1))?;
         join_at(space, inner, i - 1, left, child)
     }
+}
+
+// The node at a place. That its page holds one is believed, as by a search, and the rules of the place
+// alone are checked.
+fn visited_node<S: NodeSpace>(space: &mut S, place: &Subtree) -> Result<Node, Fault>
+    requires { IsNodeOffset place.now.at }
+    ensures shape { IfOk result IsShaped }
+    ensures level { IfOk result (FitsLevel place.now.parent) }
+    ensures here { IfSome (S.pages space.old) (λ map. IfOk result (PassesHere map place.now)) }
+    ensures damage { IfSome (S.pages space.old) (λ map.
+        IfErr result (TellsUnmet place.now (map place.now.at))) }
+    ensures same { Reads S.name S.frame S.rest S.pages space.old space.new }
+    ensures cause { HasFaultCause (S.faults space.old) (S.faults space.new) result }
+{
+    let mut page = Page::zero();
+    visit(space, place, &mut page)?;
+    Ok(node_of(&page))
 }
 
 // Joins the child at a place with the one after it, of both of which the node is handed in.

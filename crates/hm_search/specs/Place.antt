@@ -136,6 +136,11 @@ pub record IsFirstUnmet (subtree : Subtree) (page : List ℕ) (rule : PlaceRule)
   pub broken : MeetsBy subtree (node_in page) rule → ⊥
   pub kept : (other : PlaceRule) → place_number other < place_number rule → MeetsBy subtree (node_in page) other
 
+-- damage of this place, with the number of the first rule of it that the node in a page breaks
+abbrev pub IsUnmet : Subtree → List ℕ → Fault → Type 0
+IsUnmet subtree page fault =
+    (rule : PlaceRule) × (fault ≡ Damaged subtree.at (place_number rule)) × IsFirstUnmet subtree page rule
+
 -- A fault that tells damage tells it of this place, and where a page is there, with the lowest number of a rule of the
 -- place that its node breaks. The page's own rules were checked where it came from.
 abbrev pub TellsUnmet : Subtree → Option (List ℕ) → Fault → Type 0

@@ -5,7 +5,6 @@
 mod laws;
 mod look;
 mod place_rule;
-mod places;
 mod read;
 mod search;
 mod subtree;
@@ -18,7 +17,6 @@ pub use laws::{
     what_is_not_reached_does_not_matter,
 };
 pub use place_rule::PlaceRule;
-pub use places::{holder_place, leaf_place};
 pub use read::read_node;
 pub use search::{Found, find, first_at_or_after, unchanged_until};
 pub use subtree::{Parent, Subtree};

@@ -11,11 +11,12 @@ ghost use Rattle.hm_node.specs.Places.{place as place_at};
 ghost use Rattle.hm_node.specs.Shape.{HoldsNode};
 ghost use Rattle.hm_search.specs.Descent.{Reads};
 ghost use Rattle.hm_search.specs.Look.{is_by, Glances, IsTurn, Shows, ShowsInner, ShowsLeaf};
-ghost use Rattle.hm_search.specs.Place.{TellsUnmet};
+ghost use Rattle.hm_search.specs.Place.{IsUnmet, MeetsBy, TellsUnmet};
 ghost use Rattle.hm_search.specs.Tree.{children_of};
+ghost use Rattle.hm_search.specs.declared.place_rule.PlaceRule.{PlaceRule};
 
+use crate::read::damage;
 use crate::subtree::{Parent, Subtree};
-use crate::visits::visit;
 use hm_fields::Page;
 use hm_key::{Base, Element};
 use hm_node::{Head, LEAF, NodePages, place, read_base, read_child, read_element};
@@ -50,14 +51,13 @@ pub(crate) enum Seen {
     Inner(SeenInner),
 }
 
-// What a search for the key of `at` sees in the node at a place. The shape of its page is believed, and
-// the rules of the place alone are checked: none of them at a cost that grows with the node. The page is
-// read into `page`, which a search has once.
+// What a search for the key of `at` sees in the node at a place: the page is looked at where it stands, and
+// read only where the space doesn't lend it. The shape of a page is believed, and the rules of the place
+// alone are checked: none of them at a cost that grows with the node.
 pub(crate) fn glance_at<P: NodePages>(
     pages: &mut P,
     subtree: &Subtree,
     at: &Base,
-    page: &mut Page,
 ) -> Result<Seen, Fault>
     requires { IsNodeOffset subtree.now.at }
     ensures sees { IfOk result (Glances subtree.now (P.pages pages.old) (key_of at.now)) }
@@ -66,8 +66,38 @@ pub(crate) fn glance_at<P: NodePages>(
     ensures same { Reads P.name P.frame P.rest P.pages pages.old pages.new }
     ensures cause { HasFaultCause (P.faults pages.old) (P.faults pages.new) result }
 {
-    visit(pages, subtree, page)?;
-    Ok(see(page, at))
+    match pages.look(subtree.at) {
+        Some(page) => glance(subtree, page, at),
+        None => read_and_glance(pages, subtree, at),
+    }
+}
+
+// The same of a page that has to be read.
+fn read_and_glance<P: NodePages>(pages: &mut P, subtree: &Subtree, at: &Base) -> Result<Seen, Fault>
+    requires { IsNodeOffset subtree.now.at }
+    ensures sees { IfOk result (Glances subtree.now (P.pages pages.old) (key_of at.now)) }
+    ensures damage { IfSome (P.pages pages.old) (λ map.
+        IfErr result (TellsUnmet subtree.now (map subtree.now.at))) }
+    ensures same { Reads P.name P.frame P.rest P.pages pages.old pages.new }
+    ensures cause { HasFaultCause (P.faults pages.old) (P.faults pages.new) result }
+{
+    let mut page = Page::zero();
+    pages.page(subtree.at, &mut page)?;
+    glance(subtree, &page, at)
+}
+
+// The same of the page in hand.
+fn glance(subtree: &Subtree, page: &Page, at: &Base) -> Result<Seen, Fault>
+    requires { HoldsNode page.now }
+    ensures meets { IfOk result (λ _. (rule : PlaceRule) →
+        MeetsBy subtree.now (node_in page.now) rule) }
+    ensures shows { IfOk result (Shows (key_of at.now) (node_in page.now)) }
+    ensures damage { IfErr result (IsUnmet subtree.now page.now) }
+{
+    match subtree.first_unmet(page) {
+        None => Ok(see(page, at)),
+        Some(rule) => Err(damage(subtree, rule.kind())),
+    }
 }
 
 // What is seen in the page of a node.

@@ -13,7 +13,6 @@ ghost use Rattle.hm_search.specs.Tree.{height_of, root_place, IsStoredTree, IsSo
 
 use crate::look::{Seen, glance_at};
 use crate::subtree::Subtree;
-use hm_fields::Page;
 use hm_key::{Base, Element};
 use hm_node::NodePages;
 use hm_types::{Counted, Fault, HOff, Id};
@@ -36,8 +35,7 @@ pub fn find<P: NodePages>(pages: &mut P, root: HOff, at: &Base) -> Result<Found,
     ensures cause { HasSearchCause (P.pages pages.old) (root_place root)
         (P.faults pages.old) (P.faults pages.new) result }
 {
-    let mut page = Page::zero();
-    find_below(pages, &Subtree::root(root), at, &mut page)
+    find_below(pages, &Subtree::root(root), at)
 }
 
 /// The first element at the key of `at` or after it, and None where no element is there. A node a
@@ -56,8 +54,7 @@ pub fn first_at_or_after<P: NodePages>(
     ensures cause { HasSearchCause (P.pages pages.old) (root_place root)
         (P.faults pages.old) (P.faults pages.new) result }
 {
-    let mut page = Page::zero();
-    first_below(pages, &Subtree::root(root), at, &mut page)
+    first_below(pages, &Subtree::root(root), at)
 }
 
 /// How far from the key of `at` on the marks are at most `since`: a boundary after that key,
@@ -78,17 +75,11 @@ pub fn unchanged_until<P: NodePages>(
     ensures cause { HasSearchCause (P.pages pages.old) (root_place root)
         (P.faults pages.old) (P.faults pages.new) result }
 {
-    let mut page = Page::zero();
-    quiet_below(pages, &Subtree::root(root), at, since, &mut page)
+    quiet_below(pages, &Subtree::root(root), at, since)
 }
 
 // The place of a key in the tree below a place.
-fn find_below<P: NodePages>(
-    pages: &mut P,
-    subtree: &Subtree,
-    at: &Base,
-    page: &mut Page,
-) -> Result<Found, Fault>
+fn find_below<P: NodePages>(pages: &mut P, subtree: &Subtree, at: &Base) -> Result<Found, Fault>
     requires { IsNodeOffset subtree.now.at }
     ensures ok { IfSome (P.pages pages.old) (λ map. (height : ℕ) →
         IsStoredTree map height subtree.now →
@@ -97,12 +88,12 @@ fn find_below<P: NodePages>(
     ensures cause { HasSearchCause (P.pages pages.old) subtree.now
         (P.faults pages.old) (P.faults pages.new) result }
 {
-    match glance_at(pages, subtree, at, page)? {
+    match glance_at(pages, subtree, at)? {
         Seen::Leaf(leaf) => Ok(Found {
             leaf: subtree.at,
             place: leaf.place,
         }),
-        Seen::Inner(inner) => find_below(pages, &inner.child, at, page),
+        Seen::Inner(inner) => find_below(pages, &inner.child, at),
     }
 }
 
@@ -111,7 +102,6 @@ fn first_below<P: NodePages>(
     pages: &mut P,
     subtree: &Subtree,
     at: &Base,
-    page: &mut Page,
 ) -> Result<Option<Element>, Fault>
     requires { IsNodeOffset subtree.now.at }
     ensures ok { IfSome (P.pages pages.old) (λ map. (height : ℕ) →
@@ -122,12 +112,12 @@ fn first_below<P: NodePages>(
     ensures cause { HasSearchCause (P.pages pages.old) subtree.now
         (P.faults pages.old) (P.faults pages.new) result }
 {
-    match glance_at(pages, subtree, at, page)? {
+    match glance_at(pages, subtree, at)? {
         Seen::Leaf(leaf) => Ok(leaf.first),
-        Seen::Inner(inner) => match first_below(pages, &inner.child, at, page)? {
+        Seen::Inner(inner) => match first_below(pages, &inner.child, at)? {
             Some(found) => Ok(Some(found)),
             None => match inner.next {
-                Some(next) => first_below(pages, &next, at, page),
+                Some(next) => first_below(pages, &next, at),
                 None => Ok(None),
             },
         },
@@ -140,7 +130,6 @@ fn quiet_below<P: NodePages>(
     subtree: &Subtree,
     at: &Base,
     since: Id,
-    page: &mut Page,
 ) -> Result<Option<Base>, Fault>
     requires { IsAsked (key_of at.now) subtree.now }
     ensures ok { IfSome (P.pages pages.old) (λ map. (height : ℕ) →
@@ -152,13 +141,13 @@ fn quiet_below<P: NodePages>(
     ensures cause { HasSearchCause (P.pages pages.old) subtree.now
         (P.faults pages.old) (P.faults pages.new) result }
 {
-    let seen = glance_at(pages, subtree, at, page)?;
+    let seen = glance_at(pages, subtree, at)?;
     if mirror(&seen) <= since.0 {
         return Ok(Some(subtree.right));
     }
     match seen {
         Seen::Leaf(_) => Ok(None),
-        Seen::Inner(inner) => quiet_below(pages, &inner.child, at, since, page),
+        Seen::Inner(inner) => quiet_below(pages, &inner.child, at, since),
     }
 }
 

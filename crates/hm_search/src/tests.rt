@@ -61,6 +61,11 @@ impl NodePages for CheckedPages {
     ghost kept_is_node = { λ at bytes spot node. node };
 
     ghost node_is_kept = { λ at bytes spot node. node };
+
+    fn look(&self, at: HOff) -> Option<&Page> {
+        let _read = at;
+        None
+    }
 }
 
 // The page with this number.

@@ -23,6 +23,7 @@ use hm_types::{Counted, Fault};
 
 /// Reads the page of the node at a place, as a search does: that it holds a node is believed, and the
 /// rules of the place alone are checked, none of them at a cost that grows with the node.
+#[inline]
 pub fn visit<P: NodePages>(pages: &mut P, subtree: &Subtree, page: &mut Page) -> Result<(), Fault>
     requires { IsNodeOffset subtree.now.at }
     ensures visits { OnOk result (Visits subtree.now (P.pages pages.old) page.new) }
