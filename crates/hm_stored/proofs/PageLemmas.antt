@@ -1,7 +1,7 @@
 -- The nodes of a space, read and changed.
 use Rattle.std.proofs.Common.{◌≡◌, Bool, true, false, ℕ, ◌^◌, ◌<◌, List, Option, Some, None, Err, refl, sym, ap, subst, ◌∙◌, arith, cond, nat_eq}
 use Rattle.std.proofs.Common.{eqb-true, eq-eqb}
-use Rattle.std.specs.Prelude.{IfSome, IsTrue}
+use Rattle.std.specs.Prelude.{IfSome, IsTrue, option_map}
 use Rattle.std.proofs.Math.Logic.{∥∥₁_elim}
 use Rattle.hm_types.specs.Offset.{zone_of}
 use Rattle.hm_types.specs.declared.fault.Fault.TheVariants.{Damaged}
