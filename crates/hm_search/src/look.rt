@@ -72,7 +72,8 @@ pub(crate) fn glance_at<P: NodePages>(
     }
 }
 
-// The same of a page that has to be read.
+// The same of a page that has to be read. A search that reads none has no buffer on its stack.
+#[inline(never)]
 fn read_and_glance<P: NodePages>(pages: &mut P, subtree: &Subtree, at: &Base) -> Result<Seen, Fault>
     requires { IsNodeOffset subtree.now.at }
     ensures sees { IfOk result (Glances subtree.now (P.pages pages.old) (key_of at.now)) }
