@@ -1,13 +1,15 @@
 // Inner nodes, and their children in a page.
 ghost use Rattle.std.specs.Prelude.{◌≡◌, ◌≤◌, ◌+◌, ◌↔◌, [], ℕ, List, length, All};
 ghost use Rattle.std.specs.Prelude.{IsTrue, IfSome, IfNone};
+ghost use Rattle.std.specs.List.Sorted.{IsStrictlySortedBy};
 ghost use Rattle.hm_types.specs.Offset.{IsOffset};
 ghost use Rattle.hm_types.specs.declared.limits.TheConstants.{PAGE_BYTES, MOST_INNER_CHILDREN, MOST_LEVELS};
 ghost use Rattle.hm_fields.specs.Fields.{Apart, get};
 ghost use Rattle.hm_key.specs.declared.base.Base.{Base};
+ghost use Rattle.hm_node.specs.Base.{base_in, base_cmp};
 ghost use Rattle.hm_node.specs.Edits.{IsInnerPage};
 ghost use Rattle.hm_node.specs.Head.{head_in};
-ghost use Rattle.hm_node.specs.Places.{place, IsZero, IsWritten};
+ghost use Rattle.hm_node.specs.Places.{place, bases_in, IsZero, IsWritten};
 ghost use Rattle.hm_node.specs.Inner.{child_in, first_children, inner_in};
 ghost use Rattle.hm_node.specs.Inner.{IsBound, IsNodeOffset, IsChild, IsChildPlace, AreChildPlaces};
 ghost use Rattle.hm_node.specs.Node.{Spells, SaysLevel, HasLevel, node_in};
@@ -15,9 +17,9 @@ ghost use Rattle.hm_node.specs.Damage.{Keeps, IsFirstBroken};
 ghost use Rattle.hm_node.specs.declared.head.TheConstants.{INNER};
 ghost use Rattle.hm_node.specs.declared.node.Node.TheVariants.{Inner as inner_node};
 
-use crate::base::{is_offset, read_base, read_offset, write_base};
+use crate::base::{read_base, read_offset, write_base};
 use crate::head::{Head, INNER};
-use crate::places::{are_rising, are_zero, is_zero_outside, place};
+use crate::places::{Found, are_zero, is_before, is_zero_outside, place};
 use crate::rule::Rule;
 use arrayvec::ArrayVec;
 use hm_fields::{Page, get_u64, put_u64};
@@ -63,19 +65,21 @@ impl Inner {
         if !is_inner_count(count) {
             return Some(Rule::Count);
         }
-        if !are_rising(page, count + 1) {
+        let Found {
+            rising,
+            placed,
+            within,
+        } = look_over(page, count, head.mirror);
+        if !rising {
             return Some(Rule::Order);
         }
-        if !is_bound(&read_base(page, place(count))) {
-            return Some(Rule::Fields);
-        }
-        if !are_children(page, count) {
+        if !placed {
             return Some(Rule::Fields);
         }
         if !is_zero_outside(page, place(count) + 40) {
             return Some(Rule::Fields);
         }
-        if !are_up_to(page, count, head.mirror) {
+        if !within {
             return Some(Rule::Mirror);
         }
         None
@@ -130,17 +134,36 @@ fn is_inner_count(count: usize) -> bool
     1 <= count && count <= MOST_INNER_CHILDREN
 }
 
-// Whether no child of so many places has a `mirror` above this one.
-fn are_up_to(page: &Page, count: usize, mirror: u64) -> bool
+// Looks once at so many places and at the right boundary behind them: whether their bases rise, whether
+// each place has a child that may stand in an inner node and 0 after it, and a boundary comes last, and
+// whether no child has a `mirror` above this one.
+fn look_over(page: &Page, count: usize, mirror: u64) -> Found
     requires { count ≤ 62 }
-    ensures { IsTrue result ↔ All (λ c. c.mirror ≤ mirror) (first_children page.now count) }
+    ensures rising { IsTrue result.rising ↔
+        IsStrictlySortedBy base_cmp (bases_in page.now (count + 1)) }
+    ensures placed { IsTrue result.placed ↔
+        (AreChildPlaces page.now count × IsBound (base_in page.now (place count))) }
+    ensures within { IsTrue result.within ↔
+        All (λ c. c.mirror ≤ mirror) (first_children page.now count) }
 {
+    let mut rising = true;
+    let mut placed = true;
+    let mut within = true;
+    let mut left = read_base(page, place(0));
     for i in 0..count {
-        if mirror < get_u64(page, place(i) + 48) {
-            return false;
-        }
+        let at = place(i);
+        let right = read_base(page, place(i + 1));
+        rising &= is_before(&left, &right);
+        placed &= is_child_place(&left, page, at);
+        within &= get_u64(page, at + 48) <= mirror;
+        left = right;
     }
-    true
+    placed &= is_bound(&left);
+    Found {
+        rising,
+        placed,
+        within,
+    }
 }
 
 // Whether a base may stand as a boundary.
@@ -157,28 +180,23 @@ pub fn is_node_offset(at: HOff) -> bool
     at.zone() == TREE_ZONE && at.byte() % PAGE_BYTES as u64 == 0
 }
 
-// Whether so many places have children that may stand in an inner node, and 0 after each.
-fn are_children(page: &Page, count: usize) -> bool
-    requires { count ≤ 62 }
-    ensures { IsTrue result ↔ AreChildPlaces page.now count }
-{
-    for i in 0..count {
-        if !is_child_place(page, place(i)) {
-            return false;
-        }
-    }
-    true
-}
-
-// Whether a place has a child that may stand in an inner node, and 0 after it.
-fn is_child_place(page: &Page, at: usize) -> bool
-    requires { at + 64 ≤ PAGE_BYTES }
+// Whether a place with this base has a child that may stand in an inner node, and 0 after it.
+fn is_child_place(left: &Base, page: &Page, at: usize) -> bool
+    requires within { at + 64 ≤ PAGE_BYTES }
+    requires left { left.now ≡ base_in page.now at }
     ensures { IsTrue result ↔ IsChildPlace page.now at }
 {
-    if !is_offset(page, at + 40) {
-        return false;
+    match HOff::from_raw(get_u64(page, at + 40)) {
+        Some(child) => {
+            let child = Child {
+                left: *left,
+                child,
+                mirror: get_u64(page, at + 48),
+            };
+            may_stand(&child, page, at)
+        }
+        None => false,
     }
-    may_stand(&read_child(page, at), page, at)
 }
 
 // Reads the children of so many places into an empty vector.

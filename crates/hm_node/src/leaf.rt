@@ -1,26 +1,28 @@
 // Leaves, and their elements in a page.
 ghost use Rattle.std.specs.Prelude.{◌≡◌, ◌≤◌, ◌+◌, ◌↔◌, [], ℕ, List, length, IsTrue, IfSome, IfNone, All};
+ghost use Rattle.std.specs.List.Sorted.{IsStrictlySortedBy};
 ghost use Rattle.hm_types.specs.Offset.{IsOffset};
 ghost use Rattle.hm_types.specs.declared.limits.TheConstants.{PAGE_BYTES};
 ghost use Rattle.hm_fields.specs.Fields.{Apart, get};
 ghost use Rattle.hm_key.specs.Element.{IsElement};
+ghost use Rattle.hm_node.specs.Base.{base_in, base_cmp};
 ghost use Rattle.hm_node.specs.Edits.{IsLeafPage};
 ghost use Rattle.hm_node.specs.Head.{head_in};
-ghost use Rattle.hm_node.specs.Places.{IsZero, IsWritten};
+ghost use Rattle.hm_node.specs.Places.{bases_in, IsZero, IsWritten};
 ghost use Rattle.hm_node.specs.Leaf.{element_in, first_elements, leaf_in, IsElementPlace, ArePlaces, IsUpTo};
 ghost use Rattle.hm_node.specs.Node.{Spells};
 ghost use Rattle.hm_node.specs.Damage.{Keeps, IsFirstBroken};
 ghost use Rattle.hm_node.specs.declared.head.TheConstants.{LEAF, LEAF_LEVEL};
 ghost use Rattle.hm_node.specs.declared.node.Node.TheVariants.{Leaf as leaf_node};
 
-use crate::base::{is_offset, read_base, read_offset, write_base};
+use crate::base::{read_base, read_offset, write_base};
 use crate::head::{Head, LEAF, LEAF_LEVEL};
-use crate::places::{are_rising, are_zero, is_zero_outside, is_zero_u32, place};
+use crate::places::{Found, are_zero, is_next, is_zero_outside, is_zero_u32, place};
 use crate::rule::Rule;
 use arrayvec::ArrayVec;
 use hm_fields::{Page, get_u32, get_u64, put_u32, put_u64};
-use hm_key::{Element, is_element};
-use hm_types::MOST_LEAF_ELEMENTS;
+use hm_key::{Base, Element, is_element};
+use hm_types::{HOff, MOST_LEAF_ELEMENTS};
 
 /// A leaf of the tree.
 #[derive(Debug, Drop, PartialEq, Eq)]
@@ -44,16 +46,21 @@ impl Leaf {
         if MOST_LEAF_ELEMENTS < count {
             return Some(Rule::Count);
         }
-        if !are_rising(page, count) {
+        let Found {
+            rising,
+            placed,
+            within,
+        } = look_over(page, count, head.mirror);
+        if !rising {
             return Some(Rule::Order);
         }
-        if !are_elements(page, count) {
+        if !placed {
             return Some(Rule::Fields);
         }
         if !is_zero_outside(page, place(count)) {
             return Some(Rule::Fields);
         }
-        if !are_up_to(page, count, head.mirror) {
+        if !within {
             return Some(Rule::Mirror);
         }
         None
@@ -89,50 +96,57 @@ impl Leaf {
     }
 }
 
-// Whether no element of so many places has an id above `mirror`.
-fn are_up_to(page: &Page, count: usize, mirror: u64) -> bool
+// Looks once at so many places: whether their bases rise, whether each has an element that may stand
+// in a leaf and 0 after it, and whether none has an id above `mirror`.
+fn look_over(page: &Page, count: usize, mirror: u64) -> Found
     requires { count ≤ 63 }
-    ensures { IsTrue result ↔ All (IsUpTo mirror) (first_elements page.now count) }
+    ensures rising { IsTrue result.rising ↔ IsStrictlySortedBy base_cmp (bases_in page.now count) }
+    ensures placed { IsTrue result.placed ↔ ArePlaces page.now count }
+    ensures within { IsTrue result.within ↔ All (IsUpTo mirror) (first_elements page.now count) }
 {
+    let mut rising = true;
+    let mut placed = true;
+    let mut within = true;
+    let mut before = read_base(page, place(0));
     for i in 0..count {
-        if !is_up_to(page, place(i), mirror) {
-            return false;
-        }
+        let at = place(i);
+        let base = read_base(page, at);
+        rising &= is_next(i, &before, &base);
+        placed &= is_element_place(&base, page, at);
+        within &= is_up_to(&base, mirror);
+        before = base;
     }
-    true
-}
-
-// Whether the element in a place has no id above `mirror`.
-#[tactic(auto, unfolding(crate::specs::Leaf::element_in, crate::specs::Base::base_in))]
-fn is_up_to(page: &Page, at: usize, mirror: u64) -> bool
-    requires { at + 64 ≤ PAGE_BYTES }
-    ensures { IsTrue result ↔ IsUpTo mirror (element_in page.now at) }
-{
-    get_u64(page, at + 16) <= mirror && get_u64(page, at + 24) <= mirror
-}
-
-// Whether so many places have elements that may stand in a leaf, and 0 after each.
-fn are_elements(page: &Page, count: usize) -> bool
-    requires { count ≤ 63 }
-    ensures { IsTrue result ↔ ArePlaces page.now count }
-{
-    for i in 0..count {
-        if !is_element_place(page, place(i)) {
-            return false;
-        }
+    Found {
+        rising,
+        placed,
+        within,
     }
-    true
 }
 
-// Whether a place has an element that may stand in a leaf, and 0 after it.
-fn is_element_place(page: &Page, at: usize) -> bool
-    requires { at + 64 ≤ PAGE_BYTES }
+// Whether a base has no id above `mirror`.
+fn is_up_to(base: &Base, mirror: u64) -> bool
+    ensures { IsTrue result ↔ ((base.now.create ≤ mirror) × (base.now.delete ≤ mirror)) }
+{
+    base.create <= mirror && base.delete <= mirror
+}
+
+// Whether a place with this base has an element that may stand in a leaf, and 0 after it.
+fn is_element_place(base: &Base, page: &Page, at: usize) -> bool
+    requires within { at + 64 ≤ PAGE_BYTES }
+    requires base { base.now ≡ base_in page.now at }
     ensures { IsTrue result ↔ IsElementPlace page.now at }
 {
-    if !is_offset(page, at + 40) {
-        return false;
+    match HOff::from_raw(get_u64(page, at + 40)) {
+        Some(payload) => {
+            let element = Element {
+                base: *base,
+                payload,
+                len: get_u32(page, at + 48),
+            };
+            may_stand(&element, page, at)
+        }
+        None => false,
     }
-    may_stand(&read_element(page, at), page, at)
 }
 
 // Reads the elements of so many places into an empty vector.

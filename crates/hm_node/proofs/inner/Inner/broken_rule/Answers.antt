@@ -1,6 +1,4 @@
-use Rattle.std.proofs.Common.{refl, ℕ, ◌+◌, ap, subst, sym, ◌∙◌}
-use Rattle.hm_node.specs.Base.{base_in}
-use Rattle.hm_node.specs.Inner.{IsBound}
+use Rattle.std.proofs.Common.{refl, ℕ, ◌+◌, subst, sym}
 use Rattle.hm_node.specs.Places.{IsZeroOutside}
 use Rattle.hm_node.proofs.BrokenLemmas.{refuted, broken_level, broken_count, broken_order, broken_fields, broken_mirror, kept_all}
 use Rattle.hm_node.proofs.InnerLemmas.{inner_head, inner_level, inner_count, inner_order, inner_fields, inner_mirror}
@@ -19,67 +17,54 @@ returns-then-not-is_inner_count-clause-some c =
     broken_count c.args.page.now level
     (refuted c.is_inner_count.result c.if-not-is_inner_count.true (λ kept. c.is_inner_count.ensures.1 ((inner_count h).1 kept)))
 
-pub returns-then-not-are_rising-clause-some : goal.returns-then-not-are_rising-clause-some
-returns-then-not-are_rising-clause-some c =
+pub returns-then-not-rising-clause-some : goal.returns-then-not-rising-clause-some
+returns-then-not-rising-clause-some c =
     let h = inner_head c.args.page.now c.args.head.now c.from-count.result c.requires.head c.requires.kind c.from-count.ensures in
     let level = (inner_level h).0 (c.is_inner_level.ensures.0 c.if-not-is_inner_level.false) in
     let some = (inner_count h).0 (c.is_inner_count.ensures.0 c.if-not-is_inner_count.false) in
     broken_order c.args.page.now level some
-    (refuted c.are_rising.result c.if-not-are_rising.true (λ kept. c.are_rising.ensures.1 ((inner_order h).1 kept)))
+    (refuted c.look_over-rising.result.rising c.if-not-rising.true (λ kept. c.look_over-rising.ensures.rising.1 ((inner_order h).1 kept)))
 
-pub returns-then-not-is_bound-clause-some : goal.returns-then-not-is_bound-clause-some
-returns-then-not-is_bound-clause-some c =
+pub returns-then-not-placed-clause-some : goal.returns-then-not-placed-clause-some
+returns-then-not-placed-clause-some c =
     let h = inner_head c.args.page.now c.args.head.now c.from-count.result c.requires.head c.requires.kind c.from-count.ensures in
     let level = (inner_level h).0 (c.is_inner_level.ensures.0 c.if-not-is_inner_level.false) in
     let some = (inner_count h).0 (c.is_inner_count.ensures.0 c.if-not-is_inner_count.false) in
-    let rising = (inner_order h).0 (c.are_rising.ensures.0 c.if-not-are_rising.false) in
-    let right = c.read_base.ensures ∙ ap (base_in c.args.page.now) c.place.ensures in
+    let rising = (inner_order h).0 (c.look_over-rising.ensures.rising.0 c.if-not-rising.false) in
     broken_fields c.args.page.now level some rising
-    (refuted c.is_bound.result c.if-not-is_bound.true (λ kept. c.is_bound.ensures.1 (subst IsBound (sym right) ((inner_fields h).1 kept).0)))
-
-pub returns-then-not-are_children-clause-some : goal.returns-then-not-are_children-clause-some
-returns-then-not-are_children-clause-some c =
-    let h = inner_head c.args.page.now c.args.head.now c.from-count.result c.requires.head c.requires.kind c.from-count.ensures in
-    let level = (inner_level h).0 (c.is_inner_level.ensures.0 c.if-not-is_inner_level.false) in
-    let some = (inner_count h).0 (c.is_inner_count.ensures.0 c.if-not-is_inner_count.false) in
-    let rising = (inner_order h).0 (c.are_rising.ensures.0 c.if-not-are_rising.false) in
-    broken_fields c.args.page.now level some rising
-    (refuted c.are_children.result c.if-not-are_children.true (λ kept. c.are_children.ensures.1 ((inner_fields h).1 kept).1))
+    (refuted c.look_over-rising.result.placed c.if-not-placed.true
+    (λ kept. let fields = (inner_fields h).1 kept in c.look_over-rising.ensures.placed.1 (fields.1, fields.0)))
 
 pub returns-then-not-is_zero_outside-clause-some : goal.returns-then-not-is_zero_outside-clause-some
 returns-then-not-is_zero_outside-clause-some c =
     let h = inner_head c.args.page.now c.args.head.now c.from-count.result c.requires.head c.requires.kind c.from-count.ensures in
     let level = (inner_level h).0 (c.is_inner_level.ensures.0 c.if-not-is_inner_level.false) in
     let some = (inner_count h).0 (c.is_inner_count.ensures.0 c.if-not-is_inner_count.false) in
-    let rising = (inner_order h).0 (c.are_rising.ensures.0 c.if-not-are_rising.false) in
+    let rising = (inner_order h).0 (c.look_over-rising.ensures.rising.0 c.if-not-rising.false) in
     broken_fields c.args.page.now level some rising
     (refuted c.is_zero_outside.result c.if-not-is_zero_outside.true
-    (λ kept. c.is_zero_outside.ensures.1 (subst (λ (n : ℕ). IsZeroOutside c.args.page.now (n + 40)) (sym c.place-2.ensures) ((inner_fields h).1 kept).2)))
+    (λ kept. c.is_zero_outside.ensures.1 (subst (λ (n : ℕ). IsZeroOutside c.args.page.now (n + 40)) (sym c.place.ensures) ((inner_fields h).1 kept).2)))
 
-pub returns-then-not-are_up_to-clause-some : goal.returns-then-not-are_up_to-clause-some
-returns-then-not-are_up_to-clause-some c =
+pub returns-then-not-within-clause-some : goal.returns-then-not-within-clause-some
+returns-then-not-within-clause-some c =
     let h = inner_head c.args.page.now c.args.head.now c.from-count.result c.requires.head c.requires.kind c.from-count.ensures in
     let level = (inner_level h).0 (c.is_inner_level.ensures.0 c.if-not-is_inner_level.false) in
     let some = (inner_count h).0 (c.is_inner_count.ensures.0 c.if-not-is_inner_count.false) in
-    let rising = (inner_order h).0 (c.are_rising.ensures.0 c.if-not-are_rising.false) in
-    let right = c.read_base.ensures ∙ ap (base_in c.args.page.now) c.place.ensures in
-    let bound = subst IsBound right (c.is_bound.ensures.0 c.if-not-is_bound.false) in
-    let children = c.are_children.ensures.0 c.if-not-are_children.false in
-    let outside = subst (λ (n : ℕ). IsZeroOutside c.args.page.now (n + 40)) c.place-2.ensures (c.is_zero_outside.ensures.0 c.if-not-is_zero_outside.false) in
-    let fields = (inner_fields h).0 (bound, children, outside) in
+    let rising = (inner_order h).0 (c.look_over-rising.ensures.rising.0 c.if-not-rising.false) in
+    let placed = c.look_over-rising.ensures.placed.0 c.if-not-placed.false in
+    let outside = subst (λ (n : ℕ). IsZeroOutside c.args.page.now (n + 40)) c.place.ensures (c.is_zero_outside.ensures.0 c.if-not-is_zero_outside.false) in
+    let fields = (inner_fields h).0 (placed.1, placed.0, outside) in
     broken_mirror c.args.page.now level some rising fields
-    (refuted c.are_up_to.result c.if-not-are_up_to.true (λ kept. c.are_up_to.ensures.1 ((inner_mirror h _ refl).1 kept)))
+    (refuted c.look_over-rising.result.within c.if-not-within.true (λ kept. c.look_over-rising.ensures.within.1 ((inner_mirror h _ refl).1 kept)))
 
 pub returns-clause-none : goal.returns-clause-none
 returns-clause-none c =
     let h = inner_head c.args.page.now c.args.head.now c.from-count.result c.requires.head c.requires.kind c.from-count.ensures in
     let level = (inner_level h).0 (c.is_inner_level.ensures.0 c.if-not-is_inner_level.false) in
     let some = (inner_count h).0 (c.is_inner_count.ensures.0 c.if-not-is_inner_count.false) in
-    let rising = (inner_order h).0 (c.are_rising.ensures.0 c.if-not-are_rising.false) in
-    let right = c.read_base.ensures ∙ ap (base_in c.args.page.now) c.place.ensures in
-    let bound = subst IsBound right (c.is_bound.ensures.0 c.if-not-is_bound.false) in
-    let children = c.are_children.ensures.0 c.if-not-are_children.false in
-    let outside = subst (λ (n : ℕ). IsZeroOutside c.args.page.now (n + 40)) c.place-2.ensures (c.is_zero_outside.ensures.0 c.if-not-is_zero_outside.false) in
-    let fields = (inner_fields h).0 (bound, children, outside) in
+    let rising = (inner_order h).0 (c.look_over-rising.ensures.rising.0 c.if-not-rising.false) in
+    let placed = c.look_over-rising.ensures.placed.0 c.if-not-placed.false in
+    let outside = subst (λ (n : ℕ). IsZeroOutside c.args.page.now (n + 40)) c.place.ensures (c.is_zero_outside.ensures.0 c.if-not-is_zero_outside.false) in
+    let fields = (inner_fields h).0 (placed.1, placed.0, outside) in
     kept_all c.args.page.now level some rising fields
-    ((inner_mirror h _ refl).0 (c.are_up_to.ensures.0 c.if-not-are_up_to.false))
+    ((inner_mirror h _ refl).0 (c.look_over-rising.ensures.within.0 c.if-not-within.false))
