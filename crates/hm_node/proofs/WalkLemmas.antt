@@ -1,31 +1,15 @@
--- What one more step of a walk over the places of a page finds.
-use Rattle.std.proofs.Common.{◌≡◌, Bool, true, false, ◌&&◌, ℕ, ◌+◌, ◌-◌, ◌<◌, ◌≤◌, List, refl, ◌∙◌, IsTrue, ◌↔◌, inl, inr, below_more, arith}
+-- What a walk over the places of a page looks at.
+use Rattle.std.proofs.Common.{◌≡◌, Bool, ℕ, ◌+◌, ◌-◌, ◌<◌, ◌≤◌, List, IsTrue, ◌↔◌, inl, inr, arith}
 use Rattle.std.specs.Cmp.{IsTotalOrder}
 use Rattle.std.specs.List.Sorted.{IsStrictlySortedBy}
 use Rattle.std.specs.declared.cmp.Ordering.{Ordering}
 use Rattle.std.specs.declared.cmp.Ordering.TheVariants.{Less}
-use Rattle.std.proofs.lemmas.Bool.{cases_lt, leb-true, le-leb}
-use Rattle.std.proofs.Math.Dec.{leb}
-use Rattle.hm_fields.specs.Fields.{get}
+use Rattle.std.proofs.lemmas.Bool.{cases_lt}
 use Rattle.hm_key.specs.declared.base.Base.{Base}
 use Rattle.hm_node.specs.Base.{base_in, base_cmp}
 use Rattle.hm_node.specs.Leaf.{element_in, IsUpTo}
-use Rattle.hm_node.specs.Inner.{child_in}
 use Rattle.hm_node.specs.Places.{first}
-use Rattle.hm_node.proofs.FieldLemmas.{child_mirror}
-use Rattle.hm_node.proofs.PlaceLemmas.{rising_more, rising_fewer, rising_next}
-
--- two tests pass exactly where what each of them says holds
-pub both_pass : {P Q R : Type 0} (a b : Bool) → IsTrue a ↔ P → IsTrue b ↔ Q → (P → Q → R) → (R → P × Q) → IsTrue (a && b) ↔ R
-both_pass true b first second join part = (λ is. join (first.0 refl) (second.0 is), λ r. second.1 (part r).1)
-both_pass false b first second join part = (λ is. absurd cc, λ r. absurd (false_is (first.1 (part r).0))) where
-  false_is : IsTrue false → ⊥
-  false_is is = cc
-
--- what is said of each place before one, and of that one
-pub each_next : (P : ℕ → Type 0) (i : ℕ) (a b : Bool) → IsTrue a ↔ ((k : ℕ) → k < i → P k) → IsTrue b ↔ P i → IsTrue (a && b) ↔ ((k : ℕ) → k < i + 1 → P k)
-each_next P i a b before here =
-    both_pass a b before here (λ each this. below_more P i each this) (λ each. (λ k low. each k (omega arith), each i (omega arith)))
+use Rattle.hm_node.proofs.PlaceLemmas.{rising_more, rising_next}
 
 -- tests of two bases are tests of what these are
 pub same_order : (b : Bool) (x y x' y' : Base) → x ≡ x' → y ≡ y' → IsTrue b ↔ (base_cmp x y ≡ Less) → IsTrue b ↔ (base_cmp x' y' ≡ Less)
@@ -47,13 +31,7 @@ same_ids page at mirror b base read test = (
   λ up. test.1 (rw read (up.create, up.delete)),
 )
 
--- the same for a child and its `mirror`
-pub same_mirror : (page : List ℕ) (at mirror up : ℕ) → up ≡ get page (at + 48) 8 → IsTrue (leb up mirror) ↔ ((child_in page at).mirror ≤ mirror)
-same_mirror page at mirror up read =
-    let is : up ≡ (child_in page at).mirror = read ∙ child_mirror page at in
-    (λ low. rw (← is) (leb-true up mirror low), λ low. le-leb up mirror (rw is low))
-
--- a value after one in order
+-- values in order
 module _ {A : Type 0} (cmp : A → A → Ordering) (total : IsTotalOrder cmp) (f : ℕ → A) where
   pub none_rises : IsStrictlySortedBy cmp (first f 0)
   unfolding IsStrictlySortedBy first
@@ -63,23 +41,17 @@ module _ {A : Type 0} (cmp : A → A → Ordering) (total : IsTotalOrder cmp) (f
   unfolding IsStrictlySortedBy first
   one_rises = (tt, tt)
 
-  -- the next value comes after the one before it, where there is one
-  pub rises_next : (i : ℕ) (a b : Bool) → IsTrue a ↔ IsStrictlySortedBy cmp (first f i) → IsTrue b ↔ (0 < i → cmp (f (i - 1)) (f i) ≡ Less)
-      → IsTrue (a && b) ↔ IsStrictlySortedBy cmp (first f (i + 1))
-  rises_next i a b before here = both_pass a b before here join part where
-    join : IsStrictlySortedBy cmp (first f i) → (0 < i → cmp (f (i - 1)) (f i) ≡ Less) → IsStrictlySortedBy cmp (first f (i + 1))
-    join sorted next =
-        elim (cases_lt 0 i) [
-          | inl some ↦ rising_more cmp total f i some sorted (next some)
-          | inr none ↦ let is : i + 1 ≡ 1 = omega arith in rw is one_rises
-        ]
+  -- one more value, which comes after the one before it, where there is one
+  pub rises_more : (i : ℕ) → IsStrictlySortedBy cmp (first f i) → (0 < i → cmp (f (i - 1)) (f i) ≡ Less) → IsStrictlySortedBy cmp (first f (i + 1))
+  rises_more i sorted next =
+      elim (cases_lt 0 i) [
+        | inl some ↦ rising_more cmp total f i some sorted (next some)
+        | inr none ↦ let is : i + 1 ≡ 1 = omega arith in rw is one_rises
+      ]
 
-    part : IsStrictlySortedBy cmp (first f (i + 1)) → IsStrictlySortedBy cmp (first f i) × (0 < i → cmp (f (i - 1)) (f i) ≡ Less)
-    part sorted = (rising_fewer cmp f i (i + 1) (omega arith) sorted, λ some. rising_next cmp f i (i + 1) some (omega arith) sorted)
+  -- the same, where a value is looked at with the next one
+  pub rises_after : (i : ℕ) → IsStrictlySortedBy cmp (first f (i + 1)) → cmp (f i) (f (i + 1)) ≡ Less → IsStrictlySortedBy cmp (first f (i + 1 + 1))
+  rises_after i sorted less = let back : i + 1 - 1 ≡ i = omega arith in rises_more (i + 1) sorted (λ some. rw back less)
 
-  -- the same, where each value is looked at with the next one
-  pub rises_after : (i : ℕ) (a b : Bool) → IsTrue a ↔ IsStrictlySortedBy cmp (first f (i + 1)) → IsTrue b ↔ (cmp (f i) (f (i + 1)) ≡ Less)
-      → IsTrue (a && b) ↔ IsStrictlySortedBy cmp (first f (i + 1 + 1))
-  rises_after i a b before here =
-      let back : i + 1 - 1 ≡ i = omega arith in
-      rises_next (i + 1) a b before (λ is some. rw back (here.0 is), λ less. here.1 (rw back at less (omega arith)))
+  pub after_rises : (i n : ℕ) → i < n → IsStrictlySortedBy cmp (first f (n + 1)) → cmp (f i) (f (i + 1)) ≡ Less
+  after_rises i n low sorted = let back : i + 1 - 1 ≡ i = omega arith in rw back at (rising_next cmp f (i + 1) (n + 1) (omega arith) (omega arith) sorted)

@@ -1,17 +1,16 @@
 // Inner nodes, and their children in a page.
-ghost use Rattle.std.specs.Prelude.{◌≡◌, ◌≤◌, ◌+◌, ◌↔◌, [], ℕ, List, length, All};
+ghost use Rattle.std.specs.Prelude.{◌≡◌, ◌≤◌, ◌+◌, ◌↔◌, [], ℕ, List, length};
 ghost use Rattle.std.specs.Prelude.{IsTrue, IfSome, IfNone};
-ghost use Rattle.std.specs.List.Sorted.{IsStrictlySortedBy};
 ghost use Rattle.hm_types.specs.Offset.{IsOffset};
 ghost use Rattle.hm_types.specs.declared.limits.TheConstants.{PAGE_BYTES, MOST_INNER_CHILDREN, MOST_LEVELS};
 ghost use Rattle.hm_fields.specs.Fields.{Apart, get};
 ghost use Rattle.hm_key.specs.declared.base.Base.{Base};
-ghost use Rattle.hm_node.specs.Base.{base_in, base_cmp};
+ghost use Rattle.hm_node.specs.Base.{base_in};
 ghost use Rattle.hm_node.specs.Edits.{IsInnerPage};
 ghost use Rattle.hm_node.specs.Head.{head_in};
-ghost use Rattle.hm_node.specs.Places.{place, bases_in, IsZero, IsWritten};
+ghost use Rattle.hm_node.specs.Places.{place, IsZero, IsWritten};
 ghost use Rattle.hm_node.specs.Inner.{child_in, first_children, inner_in};
-ghost use Rattle.hm_node.specs.Inner.{IsBound, IsNodeOffset, IsChild, IsChildPlace, AreChildPlaces};
+ghost use Rattle.hm_node.specs.Inner.{IsBound, IsNodeOffset, IsChild, IsChildPlace, AreChildPlaces, AreInnerPlaces};
 ghost use Rattle.hm_node.specs.Node.{Spells, SaysLevel, HasLevel, node_in};
 ghost use Rattle.hm_node.specs.Damage.{Keeps, IsFirstBroken};
 ghost use Rattle.hm_node.specs.declared.head.TheConstants.{INNER};
@@ -19,7 +18,7 @@ ghost use Rattle.hm_node.specs.declared.node.Node.TheVariants.{Inner as inner_no
 
 use crate::base::{read_base, read_offset, write_base};
 use crate::head::{Head, INNER};
-use crate::places::{Found, are_zero, is_before, is_zero_outside, place};
+use crate::places::{are_rising, are_zero, is_before, is_zero_outside, place};
 use crate::rule::Rule;
 use arrayvec::ArrayVec;
 use hm_fields::{Page, get_u64, put_u64};
@@ -65,24 +64,22 @@ impl Inner {
         if !is_inner_count(count) {
             return Some(Rule::Count);
         }
-        let Found {
-            rising,
-            placed,
-            within,
-        } = look_over(page, count, head.mirror);
-        if !rising {
+        if are_well(page, count, head.mirror) {
+            return None;
+        }
+        if !are_rising(page, count + 1) {
             return Some(Rule::Order);
         }
-        if !placed {
+        if !is_bound(&read_base(page, place(count))) {
+            return Some(Rule::Fields);
+        }
+        if !are_children(page, count) {
             return Some(Rule::Fields);
         }
         if !is_zero_outside(page, place(count) + 40) {
             return Some(Rule::Fields);
         }
-        if !within {
-            return Some(Rule::Mirror);
-        }
-        None
+        Some(Rule::Mirror)
     }
 
     /// The inner node in a page that holds one. Nothing is checked.
@@ -134,36 +131,31 @@ fn is_inner_count(count: usize) -> bool
     1 <= count && count <= MOST_INNER_CHILDREN
 }
 
-// Looks once at so many places and at the right boundary behind them: whether their bases rise, whether
-// each place has a child that may stand in an inner node and 0 after it, and a boundary comes last, and
-// whether no child has a `mirror` above this one.
-fn look_over(page: &Page, count: usize, mirror: u64) -> Found
+// Whether an inner node with so many children breaks none of the rules of its places, in one walk over
+// them. Each child's boundary is looked at with the one behind it.
+fn are_well(page: &Page, count: usize, mirror: u64) -> bool
     requires { count ≤ 62 }
-    ensures rising { IsTrue result.rising ↔
-        IsStrictlySortedBy base_cmp (bases_in page.now (count + 1)) }
-    ensures placed { IsTrue result.placed ↔
-        (AreChildPlaces page.now count × IsBound (base_in page.now (place count))) }
-    ensures within { IsTrue result.within ↔
-        All (λ c. c.mirror ≤ mirror) (first_children page.now count) }
+    ensures { IsTrue result ↔ AreInnerPlaces page.now count mirror }
 {
-    let mut rising = true;
-    let mut placed = true;
-    let mut within = true;
+    if !is_zero_outside(page, place(count) + 40) {
+        return false;
+    }
     let mut left = read_base(page, place(0));
     for i in 0..count {
         let at = place(i);
         let right = read_base(page, place(i + 1));
-        rising &= is_before(&left, &right);
-        placed &= is_child_place(&left, page, at);
-        within &= get_u64(page, at + 48) <= mirror;
+        if !is_before(&left, &right) {
+            return false;
+        }
+        if mirror < get_u64(page, at + 48) {
+            return false;
+        }
+        if !is_child_place(&left, page, at) {
+            return false;
+        }
         left = right;
     }
-    placed &= is_bound(&left);
-    Found {
-        rising,
-        placed,
-        within,
-    }
+    is_bound(&left)
 }
 
 // Whether a base may stand as a boundary.
@@ -178,6 +170,20 @@ pub fn is_node_offset(at: HOff) -> bool
     ensures { IsTrue result ↔ IsNodeOffset at }
 {
     at.zone() == TREE_ZONE && at.byte() % PAGE_BYTES as u64 == 0
+}
+
+// Whether so many places have children that may stand in an inner node, and 0 after each.
+fn are_children(page: &Page, count: usize) -> bool
+    requires { count ≤ 62 }
+    ensures { IsTrue result ↔ AreChildPlaces page.now count }
+{
+    for i in 0..count {
+        let at = place(i);
+        if !is_child_place(&read_base(page, at), page, at) {
+            return false;
+        }
+    }
+    true
 }
 
 // Whether a place with this base has a child that may stand in an inner node, and 0 after it.

@@ -1,15 +1,14 @@
 // Leaves, and their elements in a page.
-ghost use Rattle.std.specs.Prelude.{◌≡◌, ◌≤◌, ◌+◌, ◌↔◌, [], ℕ, List, length, IsTrue, IfSome, IfNone, All};
-ghost use Rattle.std.specs.List.Sorted.{IsStrictlySortedBy};
+ghost use Rattle.std.specs.Prelude.{◌≡◌, ◌≤◌, ◌+◌, ◌↔◌, [], ℕ, List, length, IsTrue, IfSome, IfNone};
 ghost use Rattle.hm_types.specs.Offset.{IsOffset};
 ghost use Rattle.hm_types.specs.declared.limits.TheConstants.{PAGE_BYTES};
 ghost use Rattle.hm_fields.specs.Fields.{Apart, get};
 ghost use Rattle.hm_key.specs.Element.{IsElement};
-ghost use Rattle.hm_node.specs.Base.{base_in, base_cmp};
+ghost use Rattle.hm_node.specs.Base.{base_in};
 ghost use Rattle.hm_node.specs.Edits.{IsLeafPage};
 ghost use Rattle.hm_node.specs.Head.{head_in};
-ghost use Rattle.hm_node.specs.Places.{bases_in, IsZero, IsWritten};
-ghost use Rattle.hm_node.specs.Leaf.{element_in, first_elements, leaf_in, IsElementPlace, ArePlaces, IsUpTo};
+ghost use Rattle.hm_node.specs.Places.{IsZero, IsWritten};
+ghost use Rattle.hm_node.specs.Leaf.{element_in, first_elements, leaf_in, IsElementPlace, ArePlaces, AreLeafPlaces};
 ghost use Rattle.hm_node.specs.Node.{Spells};
 ghost use Rattle.hm_node.specs.Damage.{Keeps, IsFirstBroken};
 ghost use Rattle.hm_node.specs.declared.head.TheConstants.{LEAF, LEAF_LEVEL};
@@ -17,7 +16,7 @@ ghost use Rattle.hm_node.specs.declared.node.Node.TheVariants.{Leaf as leaf_node
 
 use crate::base::{read_base, read_offset, write_base};
 use crate::head::{Head, LEAF, LEAF_LEVEL};
-use crate::places::{Found, are_zero, is_next, is_zero_outside, is_zero_u32, place};
+use crate::places::{are_rising, are_zero, is_next, is_zero_outside, is_zero_u32, place};
 use crate::rule::Rule;
 use arrayvec::ArrayVec;
 use hm_fields::{Page, get_u32, get_u64, put_u32, put_u64};
@@ -46,24 +45,19 @@ impl Leaf {
         if MOST_LEAF_ELEMENTS < count {
             return Some(Rule::Count);
         }
-        let Found {
-            rising,
-            placed,
-            within,
-        } = look_over(page, count, head.mirror);
-        if !rising {
+        if are_well(page, count, head.mirror) {
+            return None;
+        }
+        if !are_rising(page, count) {
             return Some(Rule::Order);
         }
-        if !placed {
+        if !are_elements(page, count) {
             return Some(Rule::Fields);
         }
         if !is_zero_outside(page, place(count)) {
             return Some(Rule::Fields);
         }
-        if !within {
-            return Some(Rule::Mirror);
-        }
-        None
+        Some(Rule::Mirror)
     }
 
     /// The leaf in a page that holds one. Nothing is checked.
@@ -96,31 +90,30 @@ impl Leaf {
     }
 }
 
-// Looks once at so many places: whether their bases rise, whether each has an element that may stand
-// in a leaf and 0 after it, and whether none has an id above `mirror`.
-fn look_over(page: &Page, count: usize, mirror: u64) -> Found
+// Whether a leaf with so many elements breaks none of the rules of its places, in one walk over them.
+fn are_well(page: &Page, count: usize, mirror: u64) -> bool
     requires { count ≤ 63 }
-    ensures rising { IsTrue result.rising ↔ IsStrictlySortedBy base_cmp (bases_in page.now count) }
-    ensures placed { IsTrue result.placed ↔ ArePlaces page.now count }
-    ensures within { IsTrue result.within ↔ All (IsUpTo mirror) (first_elements page.now count) }
+    ensures { IsTrue result ↔ AreLeafPlaces page.now count mirror }
 {
-    let mut rising = true;
-    let mut placed = true;
-    let mut within = true;
+    if !is_zero_outside(page, place(count)) {
+        return false;
+    }
     let mut before = read_base(page, place(0));
     for i in 0..count {
         let at = place(i);
         let base = read_base(page, at);
-        rising &= is_next(i, &before, &base);
-        placed &= is_element_place(&base, page, at);
-        within &= is_up_to(&base, mirror);
+        if !is_next(i, &before, &base) {
+            return false;
+        }
+        if !is_up_to(&base, mirror) {
+            return false;
+        }
+        if !is_element_place(&base, page, at) {
+            return false;
+        }
         before = base;
     }
-    Found {
-        rising,
-        placed,
-        within,
-    }
+    true
 }
 
 // Whether a base has no id above `mirror`.
@@ -128,6 +121,20 @@ fn is_up_to(base: &Base, mirror: u64) -> bool
     ensures { IsTrue result ↔ ((base.now.create ≤ mirror) × (base.now.delete ≤ mirror)) }
 {
     base.create <= mirror && base.delete <= mirror
+}
+
+// Whether so many places have elements that may stand in a leaf, and 0 after each.
+fn are_elements(page: &Page, count: usize) -> bool
+    requires { count ≤ 63 }
+    ensures { IsTrue result ↔ ArePlaces page.now count }
+{
+    for i in 0..count {
+        let at = place(i);
+        if !is_element_place(&read_base(page, at), page, at) {
+            return false;
+        }
+    }
+    true
 }
 
 // Whether a place with this base has an element that may stand in a leaf, and 0 after it.
