@@ -11,5 +11,6 @@ pub mod ReadLemmas
 pub mod ReadyLemmas
 pub mod SameLemmas
 pub mod SpellLemmas
+pub mod WalkLemmas
 pub mod WriteLemmas
 pub mod ZeroLemmas

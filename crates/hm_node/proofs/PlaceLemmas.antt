@@ -1,13 +1,11 @@
 -- Values that stand in the first places of a page, and their order.
-use Rattle.std.proofs.Common.{◌≡◌, Bool, true, false, not, ℕ, zero, suc, ◌+◌, ◌-◌, ◌<◌, ◌≤◌, inl, inr, List, [], ◌∷◌, ◌++◌, length, map, refl, sym, subst, ◌∙◌, arith, length-append}
+use Rattle.std.proofs.Common.{◌≡◌, ℕ, zero, suc, ◌+◌, ◌-◌, ◌<◌, ◌≤◌, inl, inr, List, [], ◌∷◌, ◌++◌, length, map, refl, sym, subst, ◌∙◌, arith, length-append}
 use Rattle.std.specs.Prelude.{All, slice_index_or}
 use Rattle.std.specs.List.{AllByRecursion}
 use Rattle.std.specs.List.Sorted.{IsStrictlySortedBy}
 use Rattle.std.specs.Cmp.{IsTotalOrder}
-use Rattle.std.specs.Bool.{◌==◌}
-use Rattle.std.specs.Ordering.{ordering_index}
 use Rattle.std.specs.declared.cmp.Ordering.{Ordering}
-use Rattle.std.specs.declared.cmp.Ordering.TheVariants.{Less, Equal, Greater}
+use Rattle.std.specs.declared.cmp.Ordering.TheVariants.{Less}
 use Rattle.std.proofs.lemmas.Bool.{cases_lt}
 use Rattle.std.proofs.lemmas.List.{map-append, get_or_append_left, get_or-append_right}
 use Rattle.std.proofs.lemmas.Cmp.{on_total}
@@ -15,17 +13,6 @@ use Rattle.hm_key.specs.Key.{key_of}
 use Rattle.hm_key.proofs.KeyLemmas.{key_total}
 use Rattle.hm_node.specs.Base.{base_cmp}
 use Rattle.hm_node.specs.Places.{first}
-
--- what a comparison with `Less` says
-pub is_less : (o : Ordering) (test : Bool) → test ≡ not (ordering_index o == 0) → test ≡ false → o ≡ Less
-is_less Less test is same = refl
-is_less Equal test is same = absurd cc
-is_less Greater test is same = absurd cc
-
-pub is_not_less : (o : Ordering) (test : Bool) → test ≡ not (ordering_index o == 0) → test ≡ true → o ≡ Less → ⊥
-is_not_less Less test is same less = cc
-is_not_less Equal test is same less = cc
-is_not_less Greater test is same less = cc
 
 module _ {A : Type 0} (f : ℕ → A) where
   pub first_length : (n : ℕ) → length (first f n) ≡ n

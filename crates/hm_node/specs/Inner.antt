@@ -10,7 +10,7 @@ use Rattle.hm_key.specs.declared.base.Base.{Base}
 use Rattle.hm_types.specs.declared.zone.TheConstants.{TREE_ZONE}
 use Rattle.hm_node.specs.Base.{base_in, base_cmp}
 use Rattle.hm_node.specs.Head.{head_in}
-use Rattle.hm_node.specs.Places.{place, first, IsZero}
+use Rattle.hm_node.specs.Places.{place, first, bases_in, IsZero, IsZeroOutside}
 use Rattle.hm_node.specs.declared.inner.Child.{Child}
 use Rattle.hm_node.specs.declared.inner.Inner.{Inner}
 
@@ -83,3 +83,11 @@ pub record IsChildPlace (page : List ℕ) (at : ℕ) : Type 0 where
 -- so many places are such places
 abbrev pub AreChildPlaces : List ℕ → ℕ → Type 0
 AreChildPlaces page count = (i : ℕ) → i < count → IsChildPlace page (place i)
+
+-- a page with so many places of an inner node and its right boundary, which keep their order, their fields and `mirror`
+pub record AreInnerPlaces (page : List ℕ) (count mirror : ℕ) : Type 0 where
+  pub rising : IsStrictlySortedBy base_cmp (bases_in page (count + 1))
+  pub right : IsBound (base_in page (place count))
+  pub places : AreChildPlaces page count
+  pub outside : IsZeroOutside page (place count + 40)
+  pub within : All (λ (c : Child). c.mirror ≤ mirror) (first_children page count)

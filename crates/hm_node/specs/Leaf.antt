@@ -8,9 +8,9 @@ use Rattle.hm_fields.specs.Fields.{get}
 use Rattle.hm_key.specs.Element.{IsElement}
 use Rattle.hm_key.specs.Elements.{element_cmp}
 use Rattle.hm_key.specs.declared.element.Element.{Element}
-use Rattle.hm_node.specs.Base.{base_in}
+use Rattle.hm_node.specs.Base.{base_in, base_cmp}
 use Rattle.hm_node.specs.Head.{head_in}
-use Rattle.hm_node.specs.Places.{place, first, IsZero}
+use Rattle.hm_node.specs.Places.{place, first, bases_in, IsZero, IsZeroOutside}
 use Rattle.hm_node.specs.declared.leaf.Leaf.{Leaf}
 
 -- the element in the place that begins at `at`
@@ -66,3 +66,10 @@ pub record IsElementPlace (page : List ℕ) (at : ℕ) : Type 0 where
 -- so many places are such places
 abbrev pub ArePlaces : List ℕ → ℕ → Type 0
 ArePlaces page count = (i : ℕ) → i < count → IsElementPlace page (place i)
+
+-- a page with so many places of a leaf, which keep their order, their fields and `mirror`
+pub record AreLeafPlaces (page : List ℕ) (count mirror : ℕ) : Type 0 where
+  pub rising : IsStrictlySortedBy base_cmp (bases_in page count)
+  pub places : ArePlaces page count
+  pub outside : IsZeroOutside page (place count)
+  pub within : All (IsUpTo mirror) (first_elements page count)

@@ -1,5 +1,5 @@
 // A base in a page, 40 bytes, and an offset, 8.
-ghost use Rattle.std.specs.Prelude.{◌≡◌, ◌≤◌, ◌+◌, ◌↔◌, ℕ, IsTrue, length};
+ghost use Rattle.std.specs.Prelude.{◌≡◌, ◌≤◌, ◌+◌, ℕ, length};
 ghost use Rattle.hm_types.specs.Offset.{IsOffset};
 ghost use Rattle.hm_types.specs.declared.limits.TheConstants.{PAGE_BYTES};
 ghost use Rattle.hm_fields.specs.Fields.{Apart, get};
@@ -25,14 +25,6 @@ pub fn read_base(page: &Page, at: usize) -> Base
         btype: get_u8(page, at + 35),
         localization: get_u32(page, at + 36),
     }
-}
-
-// Whether the 8 bytes from `at` on are an offset.
-pub(crate) fn is_offset(page: &Page, at: usize) -> bool
-    requires { at + 8 ≤ PAGE_BYTES }
-    ensures { IsTrue result ↔ IsOffset (get page.now at 8) }
-{
-    HOff::from_raw(get_u64(page, at)).is_some()
 }
 
 // The offset in the 8 bytes from `at` on.

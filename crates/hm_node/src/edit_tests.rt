@@ -5,7 +5,8 @@ ghost use Rattle.hm_node.specs.Edits.{IsLeafPage, IsInnerPage};
 
 use crate::tests::{FRESH_RECORD, fresh_root, offset, tall_root};
 use crate::{
-    Head, INNER, LEAF, Leaf, broken_rule, insert_element, put_payload, remove_element, set_mirror,
+    Head, INNER, LEAF, Leaf, broken_rule, insert_element, place, put_delete, put_payload,
+    read_element, remove_element, set_mirror,
 };
 use hm_fields::Page;
 use hm_key::{Element, is_element};
@@ -166,11 +167,35 @@ fn an_element_goes_and_the_others_move_up(rt: HostRuntime) -> Result<(), Fail> {
     Ok(())
 }
 
+// Gives the element at a place of a leaf another delete id.
+#[tactic(auto, using(crate::proofs::EditLemmas::leaf_few))]
+fn close(page: &mut Page, at: usize, delete: u64) -> Result<(), Fail> {
+    require_leaf(page)?;
+    if usize::from(Head::read(page).count) <= at {
+        return Err(Fail::from("no such element"));
+    }
+    let mut closed = read_element(page, place(at));
+    closed.base.delete = delete;
+    if !is_element(&closed) {
+        return Err(Fail::from("no such id"));
+    }
+    known_offset(closed.payload);
+    put_delete(page, at, delete);
+    Ok(())
+}
+
 #[test]
-fn an_offset_is_put_in_its_place(rt: HostRuntime) -> Result<(), Fail> {
+fn an_offset_and_a_delete_id_are_put_in_their_place(rt: HostRuntime) -> Result<(), Fail> {
     let mut page = fresh_root(&[])?;
     move_payload(&mut page, 1, offset(0xA000_0000_0700_0040)?)?;
     let moved = fresh_root(&[(168, &[0x40, 0, 0, 0x07, 0, 0, 0, 0xA0])])?;
     assert!(rt; page.bytes() == moved.bytes());
+    // The element, the delete id that it gets, where that stands, and `mirror` before and after.
+    for (at, delete, place, before, after) in [(0, 5u8, 88, 1u8, 5u8), (1, 5, 152, 9, 9)] {
+        let mut page = fresh_root(&[(8, &[before])])?;
+        close(&mut page, at, u64::from(delete))?;
+        let closed = fresh_root(&[(8, &[after]), (place, &[delete])])?;
+        assert!(rt; page.bytes() == closed.bytes(), "{at} {delete}");
+    }
     Ok(())
 }

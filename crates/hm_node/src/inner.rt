@@ -1,23 +1,24 @@
 // Inner nodes, and their children in a page.
-ghost use Rattle.std.specs.Prelude.{◌≡◌, ◌≤◌, ◌+◌, ◌↔◌, [], ℕ, List, length, All};
+ghost use Rattle.std.specs.Prelude.{◌≡◌, ◌≤◌, ◌+◌, ◌↔◌, [], ℕ, List, length};
 ghost use Rattle.std.specs.Prelude.{IsTrue, IfSome, IfNone};
 ghost use Rattle.hm_types.specs.Offset.{IsOffset};
 ghost use Rattle.hm_types.specs.declared.limits.TheConstants.{PAGE_BYTES, MOST_INNER_CHILDREN, MOST_LEVELS};
 ghost use Rattle.hm_fields.specs.Fields.{Apart, get};
 ghost use Rattle.hm_key.specs.declared.base.Base.{Base};
+ghost use Rattle.hm_node.specs.Base.{base_in};
 ghost use Rattle.hm_node.specs.Edits.{IsInnerPage};
 ghost use Rattle.hm_node.specs.Head.{head_in};
 ghost use Rattle.hm_node.specs.Places.{place, IsZero, IsWritten};
 ghost use Rattle.hm_node.specs.Inner.{child_in, first_children, inner_in};
-ghost use Rattle.hm_node.specs.Inner.{IsBound, IsNodeOffset, IsChild, IsChildPlace, AreChildPlaces};
+ghost use Rattle.hm_node.specs.Inner.{IsBound, IsNodeOffset, IsChild, IsChildPlace, AreChildPlaces, AreInnerPlaces};
 ghost use Rattle.hm_node.specs.Node.{Spells, SaysLevel, HasLevel, node_in};
 ghost use Rattle.hm_node.specs.Damage.{Keeps, IsFirstBroken};
 ghost use Rattle.hm_node.specs.declared.head.TheConstants.{INNER};
 ghost use Rattle.hm_node.specs.declared.node.Node.TheVariants.{Inner as inner_node};
 
-use crate::base::{is_offset, read_base, read_offset, write_base};
+use crate::base::{read_base, read_offset, write_base};
 use crate::head::{Head, INNER};
-use crate::places::{are_rising, are_zero, is_zero_outside, place};
+use crate::places::{are_rising, are_zero, is_before, is_zero_outside, place};
 use crate::rule::Rule;
 use arrayvec::ArrayVec;
 use hm_fields::{Page, get_u64, put_u64};
@@ -63,6 +64,9 @@ impl Inner {
         if !is_inner_count(count) {
             return Some(Rule::Count);
         }
+        if are_well(page, count, head.mirror) {
+            return None;
+        }
         if !are_rising(page, count + 1) {
             return Some(Rule::Order);
         }
@@ -75,10 +79,7 @@ impl Inner {
         if !is_zero_outside(page, place(count) + 40) {
             return Some(Rule::Fields);
         }
-        if !are_up_to(page, count, head.mirror) {
-            return Some(Rule::Mirror);
-        }
-        None
+        Some(Rule::Mirror)
     }
 
     /// The inner node in a page that holds one. Nothing is checked.
@@ -130,17 +131,31 @@ fn is_inner_count(count: usize) -> bool
     1 <= count && count <= MOST_INNER_CHILDREN
 }
 
-// Whether no child of so many places has a `mirror` above this one.
-fn are_up_to(page: &Page, count: usize, mirror: u64) -> bool
+// Whether an inner node with so many children breaks none of the rules of its places, in one walk over
+// them. Each child's boundary is looked at with the one behind it.
+fn are_well(page: &Page, count: usize, mirror: u64) -> bool
     requires { count ≤ 62 }
-    ensures { IsTrue result ↔ All (λ c. c.mirror ≤ mirror) (first_children page.now count) }
+    ensures { IsTrue result ↔ AreInnerPlaces page.now count mirror }
 {
+    if !is_zero_outside(page, place(count) + 40) {
+        return false;
+    }
+    let mut left = read_base(page, place(0));
     for i in 0..count {
-        if mirror < get_u64(page, place(i) + 48) {
+        let at = place(i);
+        let right = read_base(page, place(i + 1));
+        if !is_before(&left, &right) {
             return false;
         }
+        if mirror < get_u64(page, at + 48) {
+            return false;
+        }
+        if !is_child_place(&left, page, at) {
+            return false;
+        }
+        left = right;
     }
-    true
+    is_bound(&left)
 }
 
 // Whether a base may stand as a boundary.
@@ -163,22 +178,31 @@ fn are_children(page: &Page, count: usize) -> bool
     ensures { IsTrue result ↔ AreChildPlaces page.now count }
 {
     for i in 0..count {
-        if !is_child_place(page, place(i)) {
+        let at = place(i);
+        if !is_child_place(&read_base(page, at), page, at) {
             return false;
         }
     }
     true
 }
 
-// Whether a place has a child that may stand in an inner node, and 0 after it.
-fn is_child_place(page: &Page, at: usize) -> bool
-    requires { at + 64 ≤ PAGE_BYTES }
+// Whether a place with this base has a child that may stand in an inner node, and 0 after it.
+fn is_child_place(left: &Base, page: &Page, at: usize) -> bool
+    requires within { at + 64 ≤ PAGE_BYTES }
+    requires left { left.now ≡ base_in page.now at }
     ensures { IsTrue result ↔ IsChildPlace page.now at }
 {
-    if !is_offset(page, at + 40) {
-        return false;
+    match HOff::from_raw(get_u64(page, at + 40)) {
+        Some(child) => {
+            let child = Child {
+                left: *left,
+                child,
+                mirror: get_u64(page, at + 48),
+            };
+            may_stand(&child, page, at)
+        }
+        None => false,
     }
-    may_stand(&read_child(page, at), page, at)
 }
 
 // Reads the children of so many places into an empty vector.

@@ -1,26 +1,27 @@
 // Leaves, and their elements in a page.
-ghost use Rattle.std.specs.Prelude.{◌≡◌, ◌≤◌, ◌+◌, ◌↔◌, [], ℕ, List, length, IsTrue, IfSome, IfNone, All};
+ghost use Rattle.std.specs.Prelude.{◌≡◌, ◌≤◌, ◌+◌, ◌↔◌, [], ℕ, List, length, IsTrue, IfSome, IfNone};
 ghost use Rattle.hm_types.specs.Offset.{IsOffset};
 ghost use Rattle.hm_types.specs.declared.limits.TheConstants.{PAGE_BYTES};
 ghost use Rattle.hm_fields.specs.Fields.{Apart, get};
 ghost use Rattle.hm_key.specs.Element.{IsElement};
+ghost use Rattle.hm_node.specs.Base.{base_in};
 ghost use Rattle.hm_node.specs.Edits.{IsLeafPage};
 ghost use Rattle.hm_node.specs.Head.{head_in};
 ghost use Rattle.hm_node.specs.Places.{IsZero, IsWritten};
-ghost use Rattle.hm_node.specs.Leaf.{element_in, first_elements, leaf_in, IsElementPlace, ArePlaces, IsUpTo};
+ghost use Rattle.hm_node.specs.Leaf.{element_in, first_elements, leaf_in, IsElementPlace, ArePlaces, AreLeafPlaces};
 ghost use Rattle.hm_node.specs.Node.{Spells};
 ghost use Rattle.hm_node.specs.Damage.{Keeps, IsFirstBroken};
 ghost use Rattle.hm_node.specs.declared.head.TheConstants.{LEAF, LEAF_LEVEL};
 ghost use Rattle.hm_node.specs.declared.node.Node.TheVariants.{Leaf as leaf_node};
 
-use crate::base::{is_offset, read_base, read_offset, write_base};
+use crate::base::{read_base, read_offset, write_base};
 use crate::head::{Head, LEAF, LEAF_LEVEL};
-use crate::places::{are_rising, are_zero, is_zero_outside, is_zero_u32, place};
+use crate::places::{are_rising, are_zero, is_next, is_zero_outside, is_zero_u32, place};
 use crate::rule::Rule;
 use arrayvec::ArrayVec;
 use hm_fields::{Page, get_u32, get_u64, put_u32, put_u64};
-use hm_key::{Element, is_element};
-use hm_types::MOST_LEAF_ELEMENTS;
+use hm_key::{Base, Element, is_element};
+use hm_types::{HOff, MOST_LEAF_ELEMENTS};
 
 /// A leaf of the tree.
 #[derive(Debug, Drop, PartialEq, Eq)]
@@ -44,6 +45,9 @@ impl Leaf {
         if MOST_LEAF_ELEMENTS < count {
             return Some(Rule::Count);
         }
+        if are_well(page, count, head.mirror) {
+            return None;
+        }
         if !are_rising(page, count) {
             return Some(Rule::Order);
         }
@@ -53,10 +57,7 @@ impl Leaf {
         if !is_zero_outside(page, place(count)) {
             return Some(Rule::Fields);
         }
-        if !are_up_to(page, count, head.mirror) {
-            return Some(Rule::Mirror);
-        }
-        None
+        Some(Rule::Mirror)
     }
 
     /// The leaf in a page that holds one. Nothing is checked.
@@ -89,26 +90,37 @@ impl Leaf {
     }
 }
 
-// Whether no element of so many places has an id above `mirror`.
-fn are_up_to(page: &Page, count: usize, mirror: u64) -> bool
+// Whether a leaf with so many elements breaks none of the rules of its places, in one walk over them.
+fn are_well(page: &Page, count: usize, mirror: u64) -> bool
     requires { count ≤ 63 }
-    ensures { IsTrue result ↔ All (IsUpTo mirror) (first_elements page.now count) }
+    ensures { IsTrue result ↔ AreLeafPlaces page.now count mirror }
 {
+    if !is_zero_outside(page, place(count)) {
+        return false;
+    }
+    let mut before = read_base(page, place(0));
     for i in 0..count {
-        if !is_up_to(page, place(i), mirror) {
+        let at = place(i);
+        let base = read_base(page, at);
+        if !is_next(i, &before, &base) {
             return false;
         }
+        if !is_up_to(&base, mirror) {
+            return false;
+        }
+        if !is_element_place(&base, page, at) {
+            return false;
+        }
+        before = base;
     }
     true
 }
 
-// Whether the element in a place has no id above `mirror`.
-#[tactic(auto, unfolding(crate::specs::Leaf::element_in, crate::specs::Base::base_in))]
-fn is_up_to(page: &Page, at: usize, mirror: u64) -> bool
-    requires { at + 64 ≤ PAGE_BYTES }
-    ensures { IsTrue result ↔ IsUpTo mirror (element_in page.now at) }
+// Whether a base has no id above `mirror`.
+fn is_up_to(base: &Base, mirror: u64) -> bool
+    ensures { IsTrue result ↔ ((base.now.create ≤ mirror) × (base.now.delete ≤ mirror)) }
 {
-    get_u64(page, at + 16) <= mirror && get_u64(page, at + 24) <= mirror
+    base.create <= mirror && base.delete <= mirror
 }
 
 // Whether so many places have elements that may stand in a leaf, and 0 after each.
@@ -117,22 +129,31 @@ fn are_elements(page: &Page, count: usize) -> bool
     ensures { IsTrue result ↔ ArePlaces page.now count }
 {
     for i in 0..count {
-        if !is_element_place(page, place(i)) {
+        let at = place(i);
+        if !is_element_place(&read_base(page, at), page, at) {
             return false;
         }
     }
     true
 }
 
-// Whether a place has an element that may stand in a leaf, and 0 after it.
-fn is_element_place(page: &Page, at: usize) -> bool
-    requires { at + 64 ≤ PAGE_BYTES }
+// Whether a place with this base has an element that may stand in a leaf, and 0 after it.
+fn is_element_place(base: &Base, page: &Page, at: usize) -> bool
+    requires within { at + 64 ≤ PAGE_BYTES }
+    requires base { base.now ≡ base_in page.now at }
     ensures { IsTrue result ↔ IsElementPlace page.now at }
 {
-    if !is_offset(page, at + 40) {
-        return false;
+    match HOff::from_raw(get_u64(page, at + 40)) {
+        Some(payload) => {
+            let element = Element {
+                base: *base,
+                payload,
+                len: get_u32(page, at + 48),
+            };
+            may_stand(&element, page, at)
+        }
+        None => false,
     }
-    may_stand(&read_element(page, at), page, at)
 }
 
 // Reads the elements of so many places into an empty vector.

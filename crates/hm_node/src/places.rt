@@ -1,14 +1,15 @@
 // The places of a page, and the bytes of it that are 0.
-ghost use Rattle.std.specs.Prelude.{◌≡◌, ◌≤◌, ◌+◌, ◌*◌, ◌%◌, ◌↔◌, IsTrue};
+ghost use Rattle.std.specs.Prelude.{◌≡◌, ◌≤◌, ◌<◌, ◌+◌, ◌*◌, ◌%◌, ◌↔◌, IsTrue};
 ghost use Rattle.std.specs.List.Sorted.{IsStrictlySortedBy};
+ghost use Rattle.std.specs.declared.cmp.Ordering.TheVariants.{Less};
 ghost use Rattle.hm_types.specs.declared.limits.TheConstants.{PAGE_BYTES};
 ghost use Rattle.hm_node.specs.Base.{base_cmp};
 ghost use Rattle.hm_node.specs.Places.{place, bases_in, IsZero, IsZeroOutside};
 
 use crate::base::read_base;
 use hm_fields::{Page, get_u32, get_u64};
+use hm_key::Base;
 use hm_types::PAGE_BYTES;
-use std::cmp::Ordering;
 
 // The size of a place, and that of the head before the first one, in bytes.
 pub(crate) const PLACE_BYTES: usize = 64;
@@ -51,15 +52,41 @@ pub(crate) fn is_zero_outside(page: &Page, end: usize) -> bool
     is_zero_u32(page, 4) && are_zero(page, 16, 6) && are_zero(page, end, (PAGE_BYTES - end) / 8)
 }
 
+// Whether one base stands before another. The first field in which they differ ends the comparison.
+pub(crate) fn is_before(first: &Base, second: &Base) -> bool
+    ensures { IsTrue result ↔ (base_cmp first.now second.now ≡ Less) }
+{
+    if first.localization != second.localization {
+        return first.localization < second.localization;
+    }
+    if first.obj.0 != second.obj.0 {
+        return first.obj.0 < second.obj.0;
+    }
+    if first.rec_type != second.rec_type {
+        return first.rec_type < second.rec_type;
+    }
+    if first.key != second.key {
+        return first.key < second.key;
+    }
+    first.create < second.create
+}
+
+// Whether the base in this place stands after the one before it, if it is not the first.
+pub(crate) fn is_next(number: usize, before: &Base, base: &Base) -> bool
+    ensures { IsTrue result ↔ (0 < number → base_cmp before.now base.now ≡ Less) }
+{
+    number == 0 || is_before(before, base)
+}
+
 // Whether the bases of so many places are in strictly rising order.
 pub(crate) fn are_rising(page: &Page, count: usize) -> bool
     requires { count ≤ 63 }
     ensures { IsTrue result ↔ IsStrictlySortedBy base_cmp (bases_in page.now count) }
 {
     let mut before = read_base(page, place(0));
-    for i in 1..count {
+    for i in 0..count {
         let base = read_base(page, place(i));
-        if before.order(&base) != Ordering::Less {
+        if !is_next(i, &before, &base) {
             return false;
         }
         before = base;

@@ -1,4 +1,4 @@
-use Rattle.std.proofs.Common.{◌≡◌, ◌+◌, ◌≤◌, ◌<◌, ◌^◌, ℕ, ap, sym, subst, ◌∙◌, arith, max, refl, List}
+use Rattle.std.proofs.Common.{◌≡◌, ◌+◌, ℕ, ap, ◌∙◌, arith, max, refl}
 use Rattle.hm_fields.specs.Fields.{Apart, get, put}
 use Rattle.hm_fields.proofs.FieldLemmas.{get_put_apart_two}
 use Rattle.hm_key.specs.Elements.{closed_at}

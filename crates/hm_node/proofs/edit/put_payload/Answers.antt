@@ -1,4 +1,4 @@
-use Rattle.std.proofs.Common.{◌≡◌, ◌+◌, ◌≤◌, ◌<◌, ◌^◌, ℕ, ap, sym, subst, ◌∙◌, arith, inr, refl, List}
+use Rattle.std.proofs.Common.{◌≡◌, ◌+◌, ℕ, ◌∙◌, arith, inr, refl}
 use Rattle.hm_fields.specs.Fields.{Apart, get, put}
 use Rattle.hm_fields.proofs.FieldLemmas.{get_put_apart}
 use Rattle.hm_key.specs.Elements.{moved_to}

@@ -1,4 +1,4 @@
-use Rattle.std.proofs.Common.{◌≡◌, ◌+◌, ◌-◌, ◌≤◌, ◌<◌, ℕ, suc, ap, sym, subst, ◌∙◌, arith, refl, List}
+use Rattle.std.proofs.Common.{◌≡◌, ◌+◌, ◌-◌, ℕ, suc, ap, sym, subst, ◌∙◌, arith}
 use Rattle.hm_fields.specs.Fields.{Apart, get}
 use Rattle.hm_fields.specs.Moves.{HasCleared, HasMoved}
 use Rattle.hm_fields.proofs.FieldLemmas.{get_put_apart}

@@ -8,13 +8,13 @@ pub returns-then-not-is_element_place : goal.returns-then-not-is_element_place
 returns-then-not-is_element_place c = (
   λ is. absurd cc,
   λ all. absurd (refuted c.is_element_place.result c.if-not-is_element_place.true c.is_element_place.ensures.1
-      (subst (IsElementPlace c.args.page.now) (sym c.place.ensures) (all c.loop-i.i (omega arith)))),
+      (subst (IsElementPlace c.args.page.now) (sym c.place-at.ensures) (all c.loop-i.i (omega arith)))),
 )
 
 pub loop-i-preserved : goal.loop-i-preserved
 loop-i-preserved c =
     below_more (λ i. IsElementPlace c.args.page.now (place i)) c.loop-i.i c.loop-i.invariant
-    (subst (IsElementPlace c.args.page.now) c.place.ensures (c.is_element_place.ensures.0 c.if-not-is_element_place.false))
+    (subst (IsElementPlace c.args.page.now) c.place-at.ensures (c.is_element_place.ensures.0 c.if-not-is_element_place.false))
 
 pub returns : goal.returns
 returns c = (λ is. λ i low. c.loop-i.invariant i (omega arith), λ all. refl)

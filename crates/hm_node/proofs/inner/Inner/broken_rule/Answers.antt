@@ -56,30 +56,25 @@ returns-then-not-is_zero_outside-clause-some c =
     (refuted c.is_zero_outside.result c.if-not-is_zero_outside.true
     (λ kept. c.is_zero_outside.ensures.1 (subst (λ (n : ℕ). IsZeroOutside c.args.page.now (n + 40)) (sym c.place-2.ensures) ((inner_fields h).1 kept).2)))
 
-pub returns-then-not-are_up_to-clause-some : goal.returns-then-not-are_up_to-clause-some
-returns-then-not-are_up_to-clause-some c =
+pub returns-clause-some : goal.returns-clause-some
+returns-clause-some c =
     let h = inner_head c.args.page.now c.args.head.now c.from-count.result c.requires.head c.requires.kind c.from-count.ensures in
     let level = (inner_level h).0 (c.is_inner_level.ensures.0 c.if-not-is_inner_level.false) in
     let some = (inner_count h).0 (c.is_inner_count.ensures.0 c.if-not-is_inner_count.false) in
-    let rising = (inner_order h).0 (c.are_rising.ensures.0 c.if-not-are_rising.false) in
-    let right = c.read_base.ensures ∙ ap (base_in c.args.page.now) c.place.ensures in
-    let bound = subst IsBound right (c.is_bound.ensures.0 c.if-not-is_bound.false) in
-    let children = c.are_children.ensures.0 c.if-not-are_children.false in
+    let rising = c.are_rising.ensures.0 c.if-not-are_rising.false in
+    let last = c.read_base.ensures ∙ ap (base_in c.args.page.now) c.place.ensures in
+    let right = subst IsBound last (c.is_bound.ensures.0 c.if-not-is_bound.false) in
+    let places = c.are_children.ensures.0 c.if-not-are_children.false in
     let outside = subst (λ (n : ℕ). IsZeroOutside c.args.page.now (n + 40)) c.place-2.ensures (c.is_zero_outside.ensures.0 c.if-not-is_zero_outside.false) in
-    let fields = (inner_fields h).0 (bound, children, outside) in
-    broken_mirror c.args.page.now level some rising fields
-    (refuted c.are_up_to.result c.if-not-are_up_to.true (λ kept. c.are_up_to.ensures.1 ((inner_mirror h _ refl).1 kept)))
+    broken_mirror c.args.page.now level some ((inner_order h).0 rising) ((inner_fields h).0 (right, places, outside))
+    (λ kept. refuted c.are_well.result c.if-are_well.false c.are_well.ensures.1
+    (record { rising = rising; right = right; places = places; outside = outside; within = (inner_mirror h _ refl).1 kept }))
 
-pub returns-clause-none : goal.returns-clause-none
-returns-clause-none c =
+pub returns-then-are_well-clause-none : goal.returns-then-are_well-clause-none
+returns-then-are_well-clause-none c =
     let h = inner_head c.args.page.now c.args.head.now c.from-count.result c.requires.head c.requires.kind c.from-count.ensures in
     let level = (inner_level h).0 (c.is_inner_level.ensures.0 c.if-not-is_inner_level.false) in
     let some = (inner_count h).0 (c.is_inner_count.ensures.0 c.if-not-is_inner_count.false) in
-    let rising = (inner_order h).0 (c.are_rising.ensures.0 c.if-not-are_rising.false) in
-    let right = c.read_base.ensures ∙ ap (base_in c.args.page.now) c.place.ensures in
-    let bound = subst IsBound right (c.is_bound.ensures.0 c.if-not-is_bound.false) in
-    let children = c.are_children.ensures.0 c.if-not-are_children.false in
-    let outside = subst (λ (n : ℕ). IsZeroOutside c.args.page.now (n + 40)) c.place-2.ensures (c.is_zero_outside.ensures.0 c.if-not-is_zero_outside.false) in
-    let fields = (inner_fields h).0 (bound, children, outside) in
-    kept_all c.args.page.now level some rising fields
-    ((inner_mirror h _ refl).0 (c.are_up_to.ensures.0 c.if-not-are_up_to.false))
+    let all = c.are_well.ensures.0 c.if-are_well.true in
+    kept_all c.args.page.now level some ((inner_order h).0 all.rising) ((inner_fields h).0 (all.right, all.places, all.outside))
+    ((inner_mirror h _ refl).0 all.within)

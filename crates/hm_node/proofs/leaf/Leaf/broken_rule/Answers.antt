@@ -33,20 +33,21 @@ returns-then-not-is_zero_outside-clause-some c =
     (refuted c.is_zero_outside.result c.if-not-is_zero_outside.true
     (λ kept. c.is_zero_outside.ensures.1 (subst (IsZeroOutside c.args.page.now) (sym c.place.ensures) ((leaf_fields h).1 kept).1)))
 
-pub returns-then-not-are_up_to-clause-some : goal.returns-then-not-are_up_to-clause-some
-returns-then-not-are_up_to-clause-some c =
+pub returns-clause-some : goal.returns-clause-some
+returns-clause-some c =
     let h = leaf_head c.args.page.now c.args.head.now c.from-count.result c.requires.head c.requires.kind c.requires.level c.from-count.ensures in
     let few = (leaf_count h).0 (omega arith) in
-    let rising = (leaf_order h).0 (c.are_rising.ensures.0 c.if-not-are_rising.false) in
-    let fields = (leaf_fields h).0 (c.are_elements.ensures.0 c.if-not-are_elements.false, subst (IsZeroOutside c.args.page.now) c.place.ensures (c.is_zero_outside.ensures.0 c.if-not-is_zero_outside.false)) in
-    broken_mirror c.args.page.now (leaf_level h) few rising fields
-    (refuted c.are_up_to.result c.if-not-are_up_to.true (λ kept. c.are_up_to.ensures.1 ((leaf_mirror h _ refl).1 kept)))
+    let rising = c.are_rising.ensures.0 c.if-not-are_rising.false in
+    let places = c.are_elements.ensures.0 c.if-not-are_elements.false in
+    let outside = subst (IsZeroOutside c.args.page.now) c.place.ensures (c.is_zero_outside.ensures.0 c.if-not-is_zero_outside.false) in
+    broken_mirror c.args.page.now (leaf_level h) few ((leaf_order h).0 rising) ((leaf_fields h).0 (places, outside))
+    (λ kept. refuted c.are_well.result c.if-are_well.false c.are_well.ensures.1
+    (record { rising = rising; places = places; outside = outside; within = (leaf_mirror h _ refl).1 kept }))
 
-pub returns-clause-none : goal.returns-clause-none
-returns-clause-none c =
+pub returns-then-are_well-clause-none : goal.returns-then-are_well-clause-none
+returns-then-are_well-clause-none c =
     let h = leaf_head c.args.page.now c.args.head.now c.from-count.result c.requires.head c.requires.kind c.requires.level c.from-count.ensures in
     let few = (leaf_count h).0 (omega arith) in
-    let rising = (leaf_order h).0 (c.are_rising.ensures.0 c.if-not-are_rising.false) in
-    let fields = (leaf_fields h).0 (c.are_elements.ensures.0 c.if-not-are_elements.false, subst (IsZeroOutside c.args.page.now) c.place.ensures (c.is_zero_outside.ensures.0 c.if-not-is_zero_outside.false)) in
-    kept_all c.args.page.now (leaf_level h) few rising fields
-    ((leaf_mirror h _ refl).0 (c.are_up_to.ensures.0 c.if-not-are_up_to.false))
+    let all = c.are_well.ensures.0 c.if-are_well.true in
+    kept_all c.args.page.now (leaf_level h) few ((leaf_order h).0 all.rising) ((leaf_fields h).0 (all.places, all.outside))
+    ((leaf_mirror h _ refl).0 all.within)
