@@ -30,5 +30,5 @@ pub use laws::{
 pub use leaf::{Leaf, read_element};
 pub use node::{Node, broken_rule, decode, encode, node_of};
 pub use node_pages::NodePages;
-pub use places::place;
+pub use places::{is_before, place};
 pub use rule::Rule;

@@ -19,7 +19,7 @@ use crate::read::damage;
 use crate::subtree::{Parent, Subtree};
 use hm_fields::Page;
 use hm_key::{Base, Element};
-use hm_node::{Head, LEAF, NodePages, place, read_base, read_child, read_element};
+use hm_node::{Head, LEAF, NodePages, is_before, place, read_base, read_child, read_element};
 use hm_types::{Counted, Fault};
 
 /// What a search for a key sees in a leaf.
@@ -218,8 +218,8 @@ fn is_by(base: &Base, at: &Base, also_at: bool) -> bool
     ensures { result ≡ is_by also_at (key_of at.now) base.now }
 {
     if also_at {
-        !at.order(base).is_lt()
+        !is_before(at, base)
     } else {
-        base.order(at).is_lt()
+        is_before(base, at)
     }
 }
