@@ -84,10 +84,9 @@ pub record IsChildPlace (page : List ℕ) (at : ℕ) : Type 0 where
 abbrev pub AreChildPlaces : List ℕ → ℕ → Type 0
 AreChildPlaces page count = (i : ℕ) → i < count → IsChildPlace page (place i)
 
--- a page with so many places of an inner node and its right boundary, which keep their order, their fields and `mirror`
-pub record AreInnerPlaces (page : List ℕ) (count mirror : ℕ) : Type 0 where
+-- a page with so many places of an inner node and its right boundary, which keep their order and their fields
+pub record AreInnerPlaces (page : List ℕ) (count : ℕ) : Type 0 where
   pub rising : IsStrictlySortedBy base_cmp (bases_in page (count + 1))
   pub right : IsBound (base_in page (place count))
   pub places : AreChildPlaces page count
   pub outside : IsZeroOutside page (place count + 40)
-  pub within : All (λ (c : Child). c.mirror ≤ mirror) (first_children page count)

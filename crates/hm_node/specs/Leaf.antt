@@ -67,9 +67,8 @@ pub record IsElementPlace (page : List ℕ) (at : ℕ) : Type 0 where
 abbrev pub ArePlaces : List ℕ → ℕ → Type 0
 ArePlaces page count = (i : ℕ) → i < count → IsElementPlace page (place i)
 
--- a page with so many places of a leaf, which keep their order, their fields and `mirror`
-pub record AreLeafPlaces (page : List ℕ) (count mirror : ℕ) : Type 0 where
+-- a page with so many places of a leaf, which keep their order and their fields
+pub record AreLeafPlaces (page : List ℕ) (count : ℕ) : Type 0 where
   pub rising : IsStrictlySortedBy base_cmp (bases_in page count)
   pub places : ArePlaces page count
   pub outside : IsZeroOutside page (place count)
-  pub within : All (IsUpTo mirror) (first_elements page count)

@@ -1,5 +1,5 @@
 // Inner nodes, and their children in a page.
-ghost use Rattle.std.specs.Prelude.{◌≡◌, ◌≤◌, ◌+◌, ◌↔◌, [], ℕ, List, length};
+ghost use Rattle.std.specs.Prelude.{◌≡◌, ◌≤◌, ◌+◌, ◌↔◌, [], ℕ, List, length, All};
 ghost use Rattle.std.specs.Prelude.{IsTrue, IfSome, IfNone};
 ghost use Rattle.hm_types.specs.Offset.{IsOffset};
 ghost use Rattle.hm_types.specs.declared.limits.TheConstants.{PAGE_BYTES, MOST_INNER_CHILDREN, MOST_LEVELS};
@@ -64,22 +64,12 @@ impl Inner {
         if !is_inner_count(count) {
             return Some(Rule::Count);
         }
-        if are_well(page, count, head.mirror) {
-            return None;
+        match look_over(page, count, head.mirror) {
+            Some(true) => None,
+            Some(false) => Some(Rule::Mirror),
+            None if are_rising(page, count + 1) => Some(Rule::Fields),
+            None => Some(Rule::Order),
         }
-        if !are_rising(page, count + 1) {
-            return Some(Rule::Order);
-        }
-        if !is_bound(&read_base(page, place(count))) {
-            return Some(Rule::Fields);
-        }
-        if !are_children(page, count) {
-            return Some(Rule::Fields);
-        }
-        if !is_zero_outside(page, place(count) + 40) {
-            return Some(Rule::Fields);
-        }
-        Some(Rule::Mirror)
     }
 
     /// The inner node in a page that holds one. Nothing is checked.
@@ -131,31 +121,36 @@ fn is_inner_count(count: usize) -> bool
     1 <= count && count <= MOST_INNER_CHILDREN
 }
 
-// Whether an inner node with so many children breaks none of the rules of its places, in one walk over
-// them. Each child's boundary is looked at with the one behind it.
-fn are_well(page: &Page, count: usize, mirror: u64) -> bool
+// Goes once over so many places and the right boundary behind them: each boundary is looked at with the
+// next one. None where their order or a field is broken, and else whether no child has a `mirror` above
+// this one.
+fn look_over(page: &Page, count: usize, mirror: u64) -> Option<bool>
     requires { count ≤ 62 }
-    ensures { IsTrue result ↔ AreInnerPlaces page.now count mirror }
+    ensures none { IfNone result (AreInnerPlaces page.now count → ⊥) }
+    ensures some { IfSome result (λ within. AreInnerPlaces page.now count ×
+        (IsTrue within ↔ All (λ c. c.mirror ≤ mirror) (first_children page.now count))) }
 {
     if !is_zero_outside(page, place(count) + 40) {
-        return false;
+        return None;
     }
+    let mut within = true;
     let mut left = read_base(page, place(0));
     for i in 0..count {
         let at = place(i);
         let right = read_base(page, place(i + 1));
         if !is_before(&left, &right) {
-            return false;
-        }
-        if mirror < get_u64(page, at + 48) {
-            return false;
+            return None;
         }
         if !is_child_place(&left, page, at) {
-            return false;
+            return None;
         }
+        within &= get_u64(page, at + 48) <= mirror;
         left = right;
     }
-    is_bound(&left)
+    if !is_bound(&left) {
+        return None;
+    }
+    Some(within)
 }
 
 // Whether a base may stand as a boundary.
@@ -170,20 +165,6 @@ pub fn is_node_offset(at: HOff) -> bool
     ensures { IsTrue result ↔ IsNodeOffset at }
 {
     at.zone() == TREE_ZONE && at.byte() % PAGE_BYTES as u64 == 0
-}
-
-// Whether so many places have children that may stand in an inner node, and 0 after each.
-fn are_children(page: &Page, count: usize) -> bool
-    requires { count ≤ 62 }
-    ensures { IsTrue result ↔ AreChildPlaces page.now count }
-{
-    for i in 0..count {
-        let at = place(i);
-        if !is_child_place(&read_base(page, at), page, at) {
-            return false;
-        }
-    }
-    true
 }
 
 // Whether a place with this base has a child that may stand in an inner node, and 0 after it.

@@ -1,5 +1,5 @@
 // Leaves, and their elements in a page.
-ghost use Rattle.std.specs.Prelude.{◌≡◌, ◌≤◌, ◌+◌, ◌↔◌, [], ℕ, List, length, IsTrue, IfSome, IfNone};
+ghost use Rattle.std.specs.Prelude.{◌≡◌, ◌≤◌, ◌+◌, ◌↔◌, [], ℕ, List, length, IsTrue, IfSome, IfNone, All};
 ghost use Rattle.hm_types.specs.Offset.{IsOffset};
 ghost use Rattle.hm_types.specs.declared.limits.TheConstants.{PAGE_BYTES};
 ghost use Rattle.hm_fields.specs.Fields.{Apart, get};
@@ -8,7 +8,7 @@ ghost use Rattle.hm_node.specs.Base.{base_in};
 ghost use Rattle.hm_node.specs.Edits.{IsLeafPage};
 ghost use Rattle.hm_node.specs.Head.{head_in};
 ghost use Rattle.hm_node.specs.Places.{IsZero, IsWritten};
-ghost use Rattle.hm_node.specs.Leaf.{element_in, first_elements, leaf_in, IsElementPlace, ArePlaces, AreLeafPlaces};
+ghost use Rattle.hm_node.specs.Leaf.{element_in, first_elements, leaf_in, IsElementPlace, ArePlaces, AreLeafPlaces, IsUpTo};
 ghost use Rattle.hm_node.specs.Node.{Spells};
 ghost use Rattle.hm_node.specs.Damage.{Keeps, IsFirstBroken};
 ghost use Rattle.hm_node.specs.declared.head.TheConstants.{LEAF, LEAF_LEVEL};
@@ -45,19 +45,12 @@ impl Leaf {
         if MOST_LEAF_ELEMENTS < count {
             return Some(Rule::Count);
         }
-        if are_well(page, count, head.mirror) {
-            return None;
+        match look_over(page, count, head.mirror) {
+            Some(true) => None,
+            Some(false) => Some(Rule::Mirror),
+            None if are_rising(page, count) => Some(Rule::Fields),
+            None => Some(Rule::Order),
         }
-        if !are_rising(page, count) {
-            return Some(Rule::Order);
-        }
-        if !are_elements(page, count) {
-            return Some(Rule::Fields);
-        }
-        if !is_zero_outside(page, place(count)) {
-            return Some(Rule::Fields);
-        }
-        Some(Rule::Mirror)
     }
 
     /// The leaf in a page that holds one. Nothing is checked.
@@ -90,30 +83,32 @@ impl Leaf {
     }
 }
 
-// Whether a leaf with so many elements breaks none of the rules of its places, in one walk over them.
-fn are_well(page: &Page, count: usize, mirror: u64) -> bool
+// Goes once over so many places. None where their order or a field is broken, and else whether none has
+// an id above `mirror`.
+fn look_over(page: &Page, count: usize, mirror: u64) -> Option<bool>
     requires { count ≤ 63 }
-    ensures { IsTrue result ↔ AreLeafPlaces page.now count mirror }
+    ensures none { IfNone result (AreLeafPlaces page.now count → ⊥) }
+    ensures some { IfSome result (λ within. AreLeafPlaces page.now count ×
+        (IsTrue within ↔ All (IsUpTo mirror) (first_elements page.now count))) }
 {
     if !is_zero_outside(page, place(count)) {
-        return false;
+        return None;
     }
+    let mut within = true;
     let mut before = read_base(page, place(0));
     for i in 0..count {
         let at = place(i);
         let base = read_base(page, at);
         if !is_next(i, &before, &base) {
-            return false;
-        }
-        if !is_up_to(&base, mirror) {
-            return false;
+            return None;
         }
         if !is_element_place(&base, page, at) {
-            return false;
+            return None;
         }
+        within &= is_up_to(&base, mirror);
         before = base;
     }
-    true
+    Some(within)
 }
 
 // Whether a base has no id above `mirror`.
@@ -121,20 +116,6 @@ fn is_up_to(base: &Base, mirror: u64) -> bool
     ensures { IsTrue result ↔ ((base.now.create ≤ mirror) × (base.now.delete ≤ mirror)) }
 {
     base.create <= mirror && base.delete <= mirror
-}
-
-// Whether so many places have elements that may stand in a leaf, and 0 after each.
-fn are_elements(page: &Page, count: usize) -> bool
-    requires { count ≤ 63 }
-    ensures { IsTrue result ↔ ArePlaces page.now count }
-{
-    for i in 0..count {
-        let at = place(i);
-        if !is_element_place(&read_base(page, at), page, at) {
-            return false;
-        }
-    }
-    true
 }
 
 // Whether a place with this base has an element that may stand in a leaf, and 0 after it.

@@ -52,8 +52,8 @@ pub(crate) fn is_zero_outside(page: &Page, end: usize) -> bool
     is_zero_u32(page, 4) && are_zero(page, 16, 6) && are_zero(page, end, (PAGE_BYTES - end) / 8)
 }
 
-/// Whether one base stands before another in the tree, by their keys. The first field in which they differ
-/// ends the comparison.
+/// Whether one base stands before another in the tree, by their keys. Unlike `order`, it ends at the first
+/// field in which they differ.
 pub fn is_before(first: &Base, second: &Base) -> bool
     ensures { IsTrue result ↔ (base_cmp first.now second.now ≡ Less) }
 {
