@@ -28,6 +28,7 @@ use Rattle.hm_step.specs.Seen.{AreGiven}
 use Rattle.hm_step.specs.Step.{IsFailure, IsNext}
 use Rattle.hm_step.proofs.HistoryLemmas.{allowed_failed, stands_failed}
 use Rattle.hm_step.proofs.LegalLemmas.{may_follow_failed}
+use Rattle.hm_step.proofs.SubstituteLemmas.{trees_given}
 use Rattle.hm_core.specs.Calls.{Fails, IsNextCall, Serves}
 use Rattle.hm_core.specs.History.{HoldsState, IsLegalOver, disk_counts, setting_of}
 use Rattle.hm_core.proofs.CountLemmas.{NumbersOf, legal_later, told_most}

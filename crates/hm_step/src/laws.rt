@@ -32,6 +32,13 @@ pub fn elements_show_their_volume()
         ShowsAs es volume (view_of volume substitutes) }
 {}
 
+/// Elements that stand for a volume make a tree of each pseudo file system, now and as of each id
+/// that it keeps: so there are trees to look in also where those of the volume are not certain.
+pub fn elements_give_their_trees()
+    ensures { (es : List FullElement) (volume : Volume) → StandFor es volume →
+        (substitutes : List Substitute) × AreGiven es volume substitutes }
+{}
+
 /// Each pseudo file system of elements that stand for a volume is a slave by its record, or all ids
 /// of its elements are below the one that is drawn next.
 pub fn elements_are_older_or_slaves()
