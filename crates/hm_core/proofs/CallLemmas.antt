@@ -81,7 +81,7 @@ module _ (free start faults faults' : ℕ) (history : List Entry) (h : Heap) (ro
     es = so_far.held.holds.elements.0
 
     -- the trees of each PFS whose own ones are not certain
-    given_trees : (substitutes : List Substitute) × AreGiven es state.volume substitutes
+    pub given_trees : (substitutes : List Substitute) × AreGiven es state.volume substitutes
     given_trees = trees_given es state.volume so_far.held.holds.elements.2
 
     -- the entry as an event
