@@ -251,7 +251,8 @@ returns-in-Some-clause-done g t c =
     grows written added.added.told added.added.spot
     set.level set.mirror c.mirror_in.ensures refl set.items set.right added.splits.becomes in
     record {
-      grows = subst (λ (n : Node). Grows (inserted e) key (Writes (last_id e)) (λ x. IsNone x) told (g.S.Pages.pages c.add_beside.new.space) (node_in old) n above)
+      grows = subst (λ (n : Node). Grows (inserted e) key (Writes (last_id e)) (λ x. IsNone x) told
+          (g.S.Pages.pages c.add_beside.new.space) (node_in old) n above)
           (sym (inner_here new added.splits.held)) grown;
       holds = added.splits.held.holds;
       above = added.splits.above;
