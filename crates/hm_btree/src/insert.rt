@@ -1,5 +1,6 @@
 // Insertion of an element below a node.
 ghost use Rattle.std.specs.Prelude.{◌*◌, ◌-◌, ◌≤◌, max, insert, IfOk};
+ghost use Rattle.hm_types.specs.Faults.{HasStoreCause};
 ghost use Rattle.hm_key.specs.Elements.{last_id};
 ghost use Rattle.hm_types.specs.Space.{in_zone};
 ghost use Rattle.hm_node.specs.Edits.{IsLeafPage, IsInnerPage};
@@ -8,7 +9,8 @@ ghost use Rattle.hm_node.specs.Inner.{inner_in, IsChild};
 ghost use Rattle.hm_node.specs.Leaf.{leaf_in, IsPlaced};
 ghost use Rattle.hm_node.specs.Node.{level_of, node_in};
 ghost use Rattle.hm_node.specs.Shape.{HoldsNode};
-ghost use Rattle.hm_btree.specs.Calls.Insert.{InsertsBelow, InsertsInLeaf, SplitsLeaf, SplitsInner};
+ghost use Rattle.hm_btree.specs.Calls.Insert.{AddsBeside, InsertsBelow, InsertsInLeaf, IsUpperPage};
+ghost use Rattle.hm_btree.specs.Calls.Insert.{SplitsLeaf, SplitsInner};
 ghost use Rattle.hm_btree.specs.Calls.Space.{StaysWithin};
 ghost use Rattle.hm_btree.specs.Below.{HasPassCause};
 
@@ -61,19 +63,39 @@ pub fn insert_into<S: NodeSpace>(
             changed,
             left: None,
         }),
-        Some(left) => {
-            let at = add_page(space, upper)?;
-            let next = Child {
-                left,
-                child: at,
-                mirror: mirror_in(upper),
-            };
-            Ok(Grown {
-                changed: true,
-                left: insert_beside(page, upper, i + 1, next),
-            })
-        }
+        Some(left) => add_beside(space, page, upper, i + 1, left),
     }
+}
+
+// Gives the upper part of a child that became two a page of its own, and puts it in before a place of
+// the inner node in a page, which may become two for that.
+fn add_beside<S: NodeSpace>(
+    space: &mut S,
+    page: &mut Page,
+    upper: &mut Page,
+    at: usize,
+    left: Base,
+) -> Result<Grown, Fault>
+    requires inner { IsInnerPage page.old }
+    requires at { at ≤ (head_in page.old).count }
+    requires above { IsUpperPage upper.old left }
+    requires room { NODE_BYTES ≤ S.room space.old TREE_ZONE }
+    ensures done { IfOk result (AddsBeside S.pages S.extents at left
+        space.old space.new page.old page.new upper.old upper.new) }
+    ensures spent { StaysWithin S.HasRoom (in_zone TREE_ZONE NODE_BYTES) space.old space.new }
+    ensures cause { HasStoreCause (S.pages space.old)
+        (S.faults space.old) (S.faults space.new) result }
+{
+    let child = add_page(space, upper)?;
+    let next = Child {
+        left,
+        child,
+        mirror: mirror_in(upper),
+    };
+    Ok(Grown {
+        changed: true,
+        left: insert_beside(page, upper, at, next),
+    })
 }
 
 // Inserts an element into a leaf.

@@ -62,8 +62,8 @@ impl NodePages for CheckedPages {
 
     ghost node_is_kept = { λ at bytes spot node. node };
 
-    fn look(&self, at: HOff) -> Option<&Page> {
-        let _read = at;
+    // So that the tests read each page.
+    fn look(&self, _at: HOff) -> Option<&Page> {
         None
     }
 }

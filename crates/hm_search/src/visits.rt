@@ -63,6 +63,8 @@ pub fn holder_place_in(page: &Page, at: &Base) -> usize
 }
 
 /// What is below the child in a place of the inner node in a page.
+// Inlined, its writes would hide from the compiler that a page is filled before it is looked at.
+#[inline(never)]
 pub fn child_below(page: &Page, i: usize) -> Subtree
     requires inner { IsInnerPage page.now }
     requires within { i < (head_in page.now).count }

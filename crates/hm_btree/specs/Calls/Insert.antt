@@ -1,5 +1,5 @@
 -- What the calls do that insert an element.
-use Rattle.std.specs.Prelude.{◌≡◌, ℕ, false, max, List, Option, IfSome, IsNone}
+use Rattle.std.specs.Prelude.{◌≡◌, ℕ, true, false, max, List, insert, Option, IfSome, IsNone}
 use Rattle.hm_fields.specs.Pages.{PageMap}
 use Rattle.hm_key.specs.Elements.{element_at, inserted, last_id}
 use Rattle.hm_key.specs.Extents.{Extent}
@@ -12,10 +12,12 @@ use Rattle.hm_node.specs.Leaf.{leaf_in, HasLeafOrder}
 use Rattle.hm_node.specs.Node.{node_in}
 use Rattle.hm_node.specs.Shape.{HoldsNode}
 use Rattle.hm_node.specs.declared.inner.Child.{Child}
+use Rattle.hm_search.specs.Place.{mirror_of}
 use Rattle.hm_search.specs.declared.subtree.Subtree.{Subtree}
 use Rattle.hm_btree.specs.Calls.Space.{HasKept}
 use Rattle.hm_btree.specs.Grow.{Grows, LeafBecomes, InnerBecomes, upper_of}
 use Rattle.hm_btree.specs.Marking.{Writes}
+use Rattle.hm_btree.specs.Space.{AddsNode}
 use Rattle.hm_btree.specs.Tree.{ChangesTree}
 use Rattle.hm_btree.specs.declared.upper.Grown.{Grown}
 
@@ -46,6 +48,16 @@ pub record SplitsInner (level mirror : ℕ) (cs : List Child) (right : Base) (af
   pub held : IsInnerPage after
   pub becomes : InnerBecomes level mirror cs right (inner_in after) (upper_of left upper)
   pub above : IfSome left (IsUpperPage upper)
+
+-- the upper part of a child got a page of its own and was put in before a place of the inner node in a page, at this boundary
+pub record AddsBeside {S : Type 0} (pages_of : S → Option PageMap) (extents_of : S → Option (List Extent)) (i : ℕ) (left : Base)
+    (old new : S) (before after upper upper' : List ℕ) (grown : Grown) : Type 0 where
+  pub at : ℕ
+  pub added : AddsNode pages_of extents_of (node_in upper) old new at
+  pub splits : SplitsInner (inner_in before).level (max (inner_in before).mirror (mirror_of (node_in upper)))
+      (insert (inner_in before).places.items i (record { left = left; child = at; mirror = mirror_of (node_in upper) }))
+      (inner_in before).right after upper' grown.left
+  pub changed : grown.changed ≡ true
 
 -- an element was inserted into the leaf in a page, where the leaf was in order
 pub record InsertsInLeaf (element : Element) (before after upper : List ℕ) (left : Option Base) : Type 0 where

@@ -1,7 +1,7 @@
-use Rattle.std.proofs.Common.{◌+◌, ◌<◌, ◌≤◌, ◌*◌, ◌-◌, ℕ, ap, length, refl, sym, subst, true≢false, rules, Result, arith}
+use Rattle.std.proofs.Common.{◌+◌, ◌<◌, ◌≤◌, ◌*◌, ◌-◌, ℕ, ap, length, refl, sym, subst, ◌∙◌, true≢false, rules, Result, arith}
 use Rattle.std.specs.Prelude.{Option, IsNone}
 use Rattle.std.proofs.lemmas.Option.{IfSome_then}
-use Rattle.std.proofs.lemmas.Result.{err_from_is_err_and}
+use Rattle.std.proofs.lemmas.Result.{err_from_is_err_and, IfOk-weaker}
 use Rattle.hm_types.specs.declared.fault.Fault.{Fault}
 use Rattle.hm_types.specs.Faults.{HasFaultCause}
 use Rattle.hm_key.specs.Elements.{inserted, last_id}
@@ -16,9 +16,11 @@ use Rattle.hm_node.specs.Places.{place}
 use Rattle.hm_node.specs.declared.node.Node.{Node}
 use Rattle.hm_node.proofs.PlaceLemmas.{first_length}
 use Rattle.hm_node.proofs.ReadyLemmas.{leaf_there, inner_there, inner_here}
+use Rattle.hm_search.specs.Place.{mirror_of}
 use Rattle.hm_search.specs.declared.place_rule.PlaceRule.TheVariants.{Level}
 use Rattle.hm_btree.specs.Marking.{Writes}
 use Rattle.hm_btree.specs.Below.{HasPassCause, Works}
+use Rattle.hm_btree.specs.Calls.Insert.{AddsBeside, InsertsBelow}
 use Rattle.hm_btree.specs.Edits.{with_mirror}
 use Rattle.hm_btree.specs.Grow.{Grows, upper_at, upper_of}
 use Rattle.hm_btree.specs.Space.{HasAdded, IsUpdated}
@@ -135,8 +137,8 @@ returns-in_err-update_page-clause-spent g t c =
     (spends_none g.S.Counted g.S.HasRoom c.insert_into.new.space c.update_page.new.space 0 kept c.update_page.ensures.stays.name
     c.update_page.ensures.stays.frame)
 
-pub add_page-requires-clause-room : goal.add_page-requires-clause-room
-add_page-requires-clause-room g t c =
+pub add_beside-requires-clause-room : goal.add_beside-requires-clause-room
+add_beside-requires-clause-room g t c =
     let same = g.met.S.NodeSpace.rests c.args.space.now c.visit.new.pages c.visit.ensures.same.rest in
     let kept = g.met.S.NodeSpace.rests c.insert_into.new.space c.update_page.new.space c.update_page.ensures.rest in
     let smaller = child_level_lower (node_in c.args.page.now) (node_in c.visit.new.page) (inner_in c.args.page.now) c.holder_place_in-i.result
@@ -152,26 +154,8 @@ add_page-requires-clause-room g t c =
     (one_more (level_of (node_in c.visit.new.page)) (level_of (node_in c.args.page.now)) smaller
     (two_levels (node_in c.args.page.now) (inner_in c.args.page.now) c.requires.node.level (inner_there c.args.page.now c.read.result c.read.ensures.value c.if-read-eq-LEAF.false))) c.requires.room
 
-pub returns-in_err-at-in-Some-clause-spent : goal.returns-in_err-at-in-Some-clause-spent
-returns-in_err-at-in-Some-clause-spent g t c =
-    let same = g.met.S.NodeSpace.rests c.args.space.now c.visit.new.pages c.visit.ensures.same.rest in
-    let kept = g.met.S.NodeSpace.rests c.insert_into.new.space c.update_page.new.space c.update_page.ensures.rest in
-    let smaller = child_level_lower (node_in c.args.page.now) (node_in c.visit.new.page) (inner_in c.args.page.now) c.holder_place_in-i.result
-    c.child_below-place.result (inner_there c.args.page.now c.read.result c.read.ensures.value c.if-read-eq-LEAF.false) c.child_below-place.ensures (c.in_ok-visit.ensures.visits.meets Level) in
-    let below : ℕ = NODE_BYTES * (level_of (node_in c.visit.new.page) - 1) in
-    let first = spends_add g.S.Counted g.S.HasRoom c.args.space.now c.visit.new.pages c.insert_into.new.space 0 below below (omega arith)
-    (spends_none g.S.Counted g.S.HasRoom c.args.space.now c.visit.new.pages 0 same c.visit.ensures.same.name c.visit.ensures.same.frame)
-    c.insert_into.ensures.spent in
-    let second = spends_add g.S.Counted g.S.HasRoom c.args.space.now c.insert_into.new.space c.update_page.new.space below 0 below (omega arith) first
-    (spends_none g.S.Counted g.S.HasRoom c.insert_into.new.space c.update_page.new.space 0 kept c.update_page.ensures.stays.name
-    c.update_page.ensures.stays.frame) in
-    spends_add g.S.Counted g.S.HasRoom c.args.space.now c.update_page.new.space c.add_page.new.space below NODE_BYTES
-    (NODE_BYTES * (level_of (node_in c.args.page.now) - 1))
-    (one_more (level_of (node_in c.visit.new.page)) (level_of (node_in c.args.page.now)) smaller
-    (two_levels (node_in c.args.page.now) (inner_in c.args.page.now) c.requires.node.level (inner_there c.args.page.now c.read.result c.read.ensures.value c.if-read-eq-LEAF.false))) second c.add_page.ensures.spent
-
-pub insert_beside-requires-clause-at : goal.insert_beside-requires-clause-at
-insert_beside-requires-clause-at g t c =
+pub add_beside-requires-clause-at : goal.add_beside-requires-clause-at
+add_beside-requires-clause-at g t c =
     let old = c.args.page.now in
     let new = c.set_mirror-changed.new.page in
     let low : c.holder_place_in-i.result < length (inner_in old).places.items =
@@ -232,17 +216,16 @@ returns-in-None-clause-spent g t c =
     (spends_none g.S.Counted g.S.HasRoom c.insert_into.new.space c.update_page.new.space 0 kept c.update_page.ensures.stays.name
     c.update_page.ensures.stays.frame)
 
-pub returns-in_ok-at-in-Some-clause-done : goal.returns-in_ok-at-in-Some-clause-done
-returns-in_ok-at-in-Some-clause-done g t c =
+pub returns-in-Some-clause-done : goal.returns-in-Some-clause-done
+returns-in-Some-clause-done g t c =
     let e = c.args.element.now in
     let key = key_of e.base in
     let old = c.args.page.now in
     let mid = c.set_mirror-changed.new.page in
-    let new = c.insert_beside.new.page in
+    let new = c.add_beside.new.page in
     let before : Node = node_in c.visit.new.page in
     let after : Node = node_in c.insert_into.new.page in
     let upper : Upper = upper_at c.in-Some.left c.insert_into.new.upper in
-    let above : Option Upper = upper_of c.insert_beside.result c.insert_beside.new.upper in
     let told = g.S.Pages.pages c.args.space.now in
     let set = c.set_mirror-changed.ensures in
     let grows = subst (λ (o : Option Base). Grows (inserted e) key (Writes (last_id e)) (λ x. IsNone x)
@@ -252,20 +235,27 @@ returns-in_ok-at-in-Some-clause-done g t c =
     (g.S.Pages.pages c.insert_into.new.space) (g.S.Pages.pages c.update_page.new.space)
     (λ no. true≢false (subst (λ (o : Option Base). IsNone o) c.in-Some.is (c.in_ok-changed.ensures.done.same no).1))
     c.in_ok-update_page.ensures.ok in
+    IfOk-weaker c.add_beside.result
+    (AddsBeside (λ s. g.S.Pages.pages s) (λ s. g.S.HasRoom.extents s) (c.holder_place_in-i.result + 1) c.in-Some.left
+    c.update_page.new.space c.add_beside.new.space mid new c.insert_into.new.upper c.add_beside.new.upper)
+    (InsertsBelow (λ s. g.S.Pages.pages s) (λ s. g.S.HasRoom.extents s) e c.args.space.now c.add_beside.new.space old new c.add_beside.new.upper)
+    (λ more added.
+    let above : Option Upper = upper_of more.left c.add_beside.new.upper in
     let grown = inner_grows (inserted e) key (Writes (last_id e)) (λ x. IsNone x) (inserted_local e) (inner_in old) (inner_in mid) (inner_in new)
     c.holder_place_in-i.result c.child_below-place.result before after c.mirror_in.result
-    upper c.in_ok-at-in-Some.at c.mirror_in-in-Some.result above (node_in old)
+    upper added.at (mirror_of (node_in c.insert_into.new.upper)) above (node_in old)
     told (g.S.Pages.pages c.visit.new.pages) (g.S.Pages.pages c.insert_into.new.space)
-    (g.S.Pages.pages c.update_page.new.space) (g.S.Pages.pages c.add_page.new.space)
+    (g.S.Pages.pages c.update_page.new.space) (g.S.Pages.pages c.add_beside.new.space)
     (inner_there old c.read.result c.read.ensures.value c.if-read-eq-LEAF.false) c.holder_place_in-i.ensures.ordered c.child_below-place.ensures
     c.visit.ensures.same.pages (IfSome_then told c.in_ok-visit.ensures.visits.there (λ map here. here.spelled))
-    grows written c.in_ok-at-in-Some.ensures.ok.told c.in_ok-at-in-Some.ensures.ok.spot
-    set.level set.mirror c.mirror_in.ensures c.mirror_in-in-Some.ensures set.items set.right c.insert_beside.ensures.becomes in
+    grows written added.added.told added.added.spot
+    set.level set.mirror c.mirror_in.ensures refl set.items set.right added.splits.becomes in
     record {
-      grows = subst (λ (n : Node). Grows (inserted e) key (Writes (last_id e)) (λ x. IsNone x) told (g.S.Pages.pages c.add_page.new.space) (node_in old) n above)
-          (sym (inner_here new c.insert_beside.ensures.held)) grown;
-      holds = c.insert_beside.ensures.held.holds;
-      above = c.insert_beside.ensures.above;
+      grows = subst (λ (n : Node). Grows (inserted e) key (Writes (last_id e)) (λ x. IsNone x) told
+          (g.S.Pages.pages c.add_beside.new.space) (node_in old) n above)
+          (sym (inner_here new added.splits.held)) grown;
+      holds = added.splits.held.holds;
+      above = added.splits.above;
       kept = let same = g.met.S.NodeSpace.rests c.args.space.now c.visit.new.pages c.visit.ensures.same.rest in
           let kept = g.met.S.NodeSpace.rests c.insert_into.new.space c.update_page.new.space c.update_page.ensures.rest in
           let read = kept_read g.S.Pages g.S.HasRoom c.args.space.now c.visit.new.pages same.2 c.visit.ensures.same.pages in
@@ -274,14 +264,14 @@ returns-in_ok-at-in-Some-clause-done g t c =
           let put = kept_both g.S.Pages g.S.HasRoom c.args.space.now c.insert_into.new.space c.update_page.new.space below
           (kept_change g.S.Pages g.S.HasRoom c.insert_into.new.space c.update_page.new.space
           (IsUpdated c.in_ok-changed.field-0.changed c.child_below-place.result.at after) kept.2 c.in_ok-update_page.ensures.ok) in
-          kept_both g.S.Pages g.S.HasRoom c.args.space.now c.update_page.new.space c.add_page.new.space put
-          (kept_change g.S.Pages g.S.HasRoom c.update_page.new.space c.add_page.new.space
-          (HasAdded c.in_ok-at-in-Some.at upper.node) c.in_ok-at-in-Some.ensures.ok.extents c.in_ok-at-in-Some.ensures.ok.told);
-      same = λ no. absurd (true≢false no);
-    }
+          kept_both g.S.Pages g.S.HasRoom c.args.space.now c.update_page.new.space c.add_beside.new.space put
+          (kept_change g.S.Pages g.S.HasRoom c.update_page.new.space c.add_beside.new.space
+          (HasAdded added.at upper.node) added.added.extents added.added.told);
+      same = λ no. absurd (true≢false (sym added.changed ∙ no));
+    }) c.add_beside.ensures.done
 
-pub returns-in_ok-at-in-Some-clause-spent : goal.returns-in_ok-at-in-Some-clause-spent
-returns-in_ok-at-in-Some-clause-spent g t c =
+pub returns-in-Some-clause-spent : goal.returns-in-Some-clause-spent
+returns-in-Some-clause-spent g t c =
     let same = g.met.S.NodeSpace.rests c.args.space.now c.visit.new.pages c.visit.ensures.same.rest in
     let kept = g.met.S.NodeSpace.rests c.insert_into.new.space c.update_page.new.space c.update_page.ensures.rest in
     let smaller = child_level_lower (node_in c.args.page.now) (node_in c.visit.new.page) (inner_in c.args.page.now) c.holder_place_in-i.result
@@ -293,7 +283,7 @@ returns-in_ok-at-in-Some-clause-spent g t c =
     let second = spends_add g.S.Counted g.S.HasRoom c.args.space.now c.insert_into.new.space c.update_page.new.space below 0 below (omega arith) first
     (spends_none g.S.Counted g.S.HasRoom c.insert_into.new.space c.update_page.new.space 0 kept c.update_page.ensures.stays.name
     c.update_page.ensures.stays.frame) in
-    spends_add g.S.Counted g.S.HasRoom c.args.space.now c.update_page.new.space c.add_page.new.space below NODE_BYTES
+    spends_add g.S.Counted g.S.HasRoom c.args.space.now c.update_page.new.space c.add_beside.new.space below NODE_BYTES
     (NODE_BYTES * (level_of (node_in c.args.page.now) - 1))
     (one_more (level_of (node_in c.visit.new.page)) (level_of (node_in c.args.page.now)) smaller
-    (two_levels (node_in c.args.page.now) (inner_in c.args.page.now) c.requires.node.level (inner_there c.args.page.now c.read.result c.read.ensures.value c.if-read-eq-LEAF.false))) second c.add_page.ensures.spent
+    (two_levels (node_in c.args.page.now) (inner_in c.args.page.now) c.requires.node.level (inner_there c.args.page.now c.read.result c.read.ensures.value c.if-read-eq-LEAF.false))) second c.add_beside.ensures.spent
