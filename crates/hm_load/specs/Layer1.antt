@@ -5,6 +5,7 @@ use Rattle.hm_types.specs.Offset.{raw_of}
 use Rattle.hm_types.specs.declared.damage.TheConstants.{BAD_FREEMAP}
 use Rattle.hm_types.specs.declared.limits.TheConstants.{PAGE_BYTES}
 use Rattle.hm_types.specs.declared.zone.TheConstants.{FREEMAP_ZONE}
+use Rattle.hm_fields.specs.Fields.{get}
 use Rattle.hm_freemap.specs.Layer1.{layer1_bytes, layer1_of}
 use Rattle.hm_image.specs.Sound.{layer1_entries}
 use Rattle.hm_load.specs.Faults.{IsFirstBad}
@@ -13,6 +14,10 @@ use Rattle.hm_load.specs.declared.layer1.TheConstants.{ENTRIES_PER_PAGE}
 -- bytes have this entry of layer 1 at a place
 abbrev pub HasOffset : List ℕ → ℕ → ℕ → ℕ → Type 0
 HasOffset bytes at bigblocks i = slice_range bytes at (at + 32) ≡ layer1_bytes (layer1_of bigblocks i)
+
+-- bytes have three words of zeros from a place on
+abbrev pub HasZeros : List ℕ → ℕ → Type 0
+HasZeros bytes at = (get bytes at 8 ≡ 0) × (get bytes (at + 8) 8 ≡ 0) × (get bytes (at + 16) 8 ≡ 0)
 
 -- a volume has this entry of layer 1
 abbrev pub HasLayer1Entry : List ℕ → ℕ → ℕ → Type 0

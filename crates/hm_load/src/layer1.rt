@@ -5,13 +5,15 @@ ghost use Rattle.hm_types.specs.declared.damage.TheConstants.{BAD_FREEMAP};
 ghost use Rattle.hm_types.specs.declared.fault.Fault.TheVariants.{Damaged};
 ghost use Rattle.hm_types.specs.declared.limits.TheConstants.{LEAST_BIGBLOCKS, MOST_BIGBLOCKS};
 ghost use Rattle.hm_disk.specs.declared.limits.TheConstants.{MOST_CALL_BYTES};
+ghost use Rattle.hm_fields.specs.Fields.{get};
 ghost use Rattle.hm_image.specs.Sound.{HasLayer1};
 ghost use Rattle.hm_load.specs.Faults.{IsFirstBad, Tells};
-ghost use Rattle.hm_load.specs.Layer1.{HasOffset, IsInPiece, IsLayer1Damage, layer1_page};
+ghost use Rattle.hm_load.specs.Layer1.{HasOffset, HasZeros, IsInPiece, IsLayer1Damage, layer1_page};
 ghost use Rattle.hm_load.specs.Reading.{HasSpace};
 ghost use Rattle.hm_load.specs.declared.layer1.TheConstants.{ENTRIES_PER_PIECE};
 
 use crate::volume::Volume;
+use byteorder::{ByteOrder, LittleEndian};
 use hm_disk::{Disk, MOST_CALL_BYTES};
 use hm_freemap::layer1_offset;
 use hm_types::{BAD_FREEMAP, BIGBLOCK_BYTES, FREEMAP_ZONE, Fault, HOff, PAGE_BYTES};
@@ -73,16 +75,29 @@ fn first_wrong(bigblocks: u32, first: u32, bytes: &[u8]) -> Option<u32>
     None
 }
 
-// Whether the bytes from a place on are those of this entry.
-#[tactic(auto, unfolding(hm_freemap::specs::Layer1::layer1_bytes))]
+// Whether the bytes from a place on are those of this entry: its offset, and zeros.
 fn is_entry(bigblocks: u32, i: u32, bytes: &[u8], at: usize) -> bool
     requires size { bigblocks ≤ MOST_BIGBLOCKS }
     requires within { at + 32 ≤ length bytes.now }
     ensures { IsTrue result ↔ HasOffset bytes.now at bigblocks i }
 {
-    let mut entry = [0; ENTRY_BYTES];
-    entry[..8].copy_from_slice(&layer1_offset(bigblocks, i).raw().to_le_bytes());
-    &bytes[at..at + ENTRY_BYTES] == entry.as_slice()
+    word(bytes, at) == layer1_offset(bigblocks, i).raw() && are_zeros(bytes, at + 8)
+}
+
+// Whether the 24 bytes from a place on are 0.
+fn are_zeros(bytes: &[u8], at: usize) -> bool
+    requires { at + 24 ≤ length bytes.now }
+    ensures { IsTrue result ↔ HasZeros bytes.now at }
+{
+    word(bytes, at) == 0 && word(bytes, at + 8) == 0 && word(bytes, at + 16) == 0
+}
+
+// The number in the 8 bytes from a place on.
+fn word(bytes: &[u8], at: usize) -> u64
+    requires { at + 8 ≤ length bytes.now }
+    ensures { result ≡ get bytes.now at 8 }
+{
+    LittleEndian::read_u64(&bytes[at..at + 8])
 }
 
 // Damage of the page with this entry.
