@@ -1,20 +1,18 @@
 -- A node whose page comes into a store.
-use Rattle.std.proofs.Common.{◌≡◌, ℕ, ◌^◌, ◌<◌, ◌≤◌, false, true≢false, List, [], Option, Some, None, is_some, inl, inr, refl, ap, sym, subst, ◌∙◌}
+use Rattle.std.proofs.Common.{◌≡◌, ℕ, ◌^◌, ◌<◌, ◌≤◌, false, true≢false, List, Option, Some, None, is_some, inl, inr, refl, ap, sym, ◌∙◌}
 use Rattle.std.proofs.Common.{arith, replicate}
 use Rattle.std.proofs.lemmas.Bool.{cases_lt}
 use Rattle.hm_types.specs.Layout.{start_of}
 use Rattle.hm_types.specs.Offset.{byte_of}
 use Rattle.hm_types.specs.declared.limits.TheConstants.{MOST_BIGBLOCKS, PAGE_BYTES}
 use Rattle.hm_fields.specs.Fields.{get, zero_page}
-use Rattle.hm_fields.specs.Pages.{PageMap, page_in}
 use Rattle.hm_fields.proofs.FieldLemmas.{get_zero}
 use Rattle.hm_node.specs.Inner.{IsNodeOffset}
-use Rattle.hm_node.specs.Node.{IsNode, Spells, kind_of}
+use Rattle.hm_node.specs.Node.{Spells, kind_of}
 use Rattle.hm_node.specs.declared.node.Node.{Node}
 use Rattle.hm_node.specs.declared.node.Node.TheVariants.{Leaf as leaf_node, Inner as inner_node}
 use Rattle.hm_pages.specs.Store.{Store}
-use Rattle.hm_search.specs.Descent.{StandsHere}
-use Rattle.hm_search.specs.Place.{Fits}
+use Rattle.hm_search.specs.Place.{SpellsHere}
 use Rattle.hm_search.specs.declared.subtree.Subtree.{Subtree}
 use Rattle.hm_load.specs.Loaded.{IsPlain, Puts}
 use Rattle.hm_load.specs.Tree.{AddsNode}
@@ -31,39 +29,28 @@ zero_no_node page node zero spelled = by_kind node (sym spelled.says.kind ∙ (a
   by_kind (leaf_node leaf) is = omega (arith, is)
   by_kind (inner_node inner) is = omega (arith, is)
 
--- the bytes of a map that has one page everywhere
-one_of : Option PageMap → List ℕ
-one_of None = []
-one_of (Some map) = page_in (map 0)
-
-pub same_page : (p q : List ℕ) → ◌≡◌ {A = Option PageMap} (Some (λ at. Some p)) (Some (λ at. Some q)) → p ≡ q
-unfolding one_of
-same_page p q same = ap one_of same
-
 none_there : (o : Option (List ℕ)) → is_some o ≡ false → o ≡ None
 none_there None is = refl
 none_there (Some page) is = absurd (true≢false is)
 
-module _ (bigblocks : ℕ) (s : Subtree) (node : Node) (read kept : List ℕ) (old new : Store) (size : bigblocks ≤ MOST_BIGBLOCKS)
-    (offset : IsNodeOffset s.at) (sound : IsNode node) (fits : Fits s node) (stands : StandsHere (λ at. Some read) s node)
-    (same : ◌≡◌ {A = Option PageMap} (Some (λ at. Some kept)) (Some (λ at. Some read)))
-    (past : start_of bigblocks ≤ byte_of s.at → read ≡ replicate PAGE_BYTES 0) where
+module _ (bigblocks : ℕ) (s : Subtree) (node : Node) (page : List ℕ) (old new : Store) (size : bigblocks ≤ MOST_BIGBLOCKS)
+    (offset : IsNodeOffset s.at) (here : SpellsHere s page node) (past : start_of bigblocks ≤ byte_of s.at → page ≡ replicate PAGE_BYTES 0) where
   below : byte_of s.at < 2 ^ 43
   below = elim (cases_lt (byte_of s.at) (start_of bigblocks)) [
     | inl low ↦ omega arith
-    | inr high ↦ absurd (zero_no_node read node (past high) (stands.spelled refl))
+    | inr high ↦ absurd (zero_no_node page node (past high) here.spelled)
   ]
 
-  pub node_added : is_some (old.current s.at) ≡ false → Puts s.at kept old new → IsPlain new × AddsNode s node old.current new.current
+  pub node_added : is_some (old.current s.at) ≡ false → Puts s.at page old new → IsPlain new × AddsNode s node old.current new.current
   node_added none puts = (
     puts.plain,
     record {
-      page = kept;
+      page = page;
       free = none_there (old.current s.at) none;
       put = puts.put;
       spot = record { node = offset; below = below };
-      spelled = subst (λ (p : List ℕ). Spells p node) (sym (same_page kept read same)) (stands.spelled refl);
-      sound = sound;
-      fits = fits;
+      spelled = here.spelled;
+      sound = here.sound;
+      fits = here.fits;
     },
   )

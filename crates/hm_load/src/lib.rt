@@ -5,7 +5,6 @@
 mod laws;
 mod layer1;
 mod layer2;
-mod one_page;
 mod payload;
 mod put;
 mod reading;

@@ -11,14 +11,14 @@ ghost use Rattle.hm_load.specs.Loaded.{IsPlain};
 ghost use Rattle.hm_load.specs.Reading.{HasSpace};
 ghost use Rattle.hm_load.specs.Tree.{AddsNode, AddsTree};
 
-use crate::one_page::OnePage;
 use crate::payload::check_payloads;
 use crate::put::put;
 use crate::volume::Volume;
 use hm_disk::Disk;
+use hm_fields::Page;
 use hm_node::Node;
 use hm_pages::PageStore;
-use hm_search::{Subtree, read_node};
+use hm_search::{Subtree, checked_node};
 use hm_types::{BAD_BOUNDS, Fault};
 
 /// Loads the node at a place and all below it, from left to right, and checks the payloads of each
@@ -79,15 +79,15 @@ fn load_node<D: Disk>(
     ensures same { D.told disk.new ≡ D.told disk.old }
     ensures cause { HasFaultCause (D.faults disk.old) (D.faults disk.new) result }
 {
-    let mut found = OnePage::zero();
-    volume.page(disk, subtree.at, &mut found.page)?;
-    let node = read_node(&mut found, subtree)?;
+    let mut page = Page::zero();
+    volume.page(disk, subtree.at, &mut page)?;
+    let node = checked_node(&page, subtree)?;
     if store.has_page(subtree.at) {
         return Err(Fault::Damaged {
             at: subtree.at,
             kind: BAD_BOUNDS,
         });
     }
-    put(store, subtree.at, &found.page)?;
+    put(store, subtree.at, &page)?;
     Ok(node)
 }

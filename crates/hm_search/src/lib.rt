@@ -17,7 +17,7 @@ pub use laws::{
     what_is_not_reached_does_not_matter,
 };
 pub use place_rule::PlaceRule;
-pub use read::read_node;
+pub use read::{checked_node, read_node};
 pub use search::{Found, find, first_at_or_after, unchanged_until};
 pub use subtree::{Parent, Subtree};
 pub use visits::{child_below, holder_place_in, leaf_place_in, visit};

@@ -1,8 +1,7 @@
 // Reads nodes, and checks them where they stand.
-ghost use Rattle.std.specs.Prelude.{◌≡◌, IfSome, IfNone, IsSome, IfOk, IfErr};
-ghost use Rattle.hm_types.specs.Faults.{HasFaultCause};
+ghost use Rattle.std.specs.Prelude.{◌≡◌, ℕ, Some, IfSome, IfNone, IfOk, IfErr};
+ghost use Rattle.hm_types.specs.Faults.{HasFaultCause, IsCaused};
 ghost use Rattle.hm_types.specs.declared.fault.Fault.TheVariants.{Damaged};
-ghost use Rattle.hm_fields.specs.Pages.{page_in};
 ghost use Rattle.hm_node.specs.Node.{node_in, IsNode};
 ghost use Rattle.hm_search.specs.Descent.{Reads, StandsHere};
 ghost use Rattle.hm_search.specs.Place.{Fits, SpellsHere, IsLowestBroken, TellsDamage};
@@ -30,23 +29,20 @@ pub fn read_node<P: Pages>(pages: &mut P, subtree: &Subtree) -> Result<Node, Fau
     ensures cause { HasFaultCause (P.faults pages.old) (P.faults pages.new) result }
 {
     let mut page = Page::zero();
-    read_page(pages, subtree, &mut page)?;
-    Ok(node_of(&page))
+    pages.page(subtree.at, &mut page)?;
+    checked_node(&page, subtree)
 }
 
-// Reads the page of a node and checks it where it stands. It builds no node.
-fn read_page<P: Pages>(pages: &mut P, subtree: &Subtree, page: &mut Page) -> Result<(), Fault>
-    ensures sound { IfOk result (λ _. SpellsHere subtree.now page.new (node_in page.new)) }
-    ensures there { IfSome (P.pages pages.old) (λ map. IfOk result (λ _.
-        IsSome (map subtree.now.at) → page.new ≡ page_in (map subtree.now.at))) }
-    ensures damage { IfSome (P.pages pages.old) (λ map.
-        IfErr result (TellsDamage subtree.now (map subtree.now.at))) }
-    ensures same { Reads P.name P.frame P.rest P.pages pages.old pages.new }
-    ensures cause { HasFaultCause (P.faults pages.old) (P.faults pages.new) result }
+/// The node in a page that was read at a place, checked by the rules that it keeps by itself and by
+/// those of its place. The page is damaged where it breaks any of them: the fault tells the offset
+/// and the lowest number of a broken rule, and there is no other fault. No node is built then.
+pub fn checked_node(page: &Page, subtree: &Subtree) -> Result<Node, Fault>
+    ensures ok { IfOk result (SpellsHere subtree.now page.now) }
+    ensures damage { IfErr result (TellsDamage subtree.now (Some page.now)) }
+    ensures cause { (before after : ℕ) → IfErr result (IsCaused before after) }
 {
-    pages.page(subtree.at, page)?;
     match lowest_broken(subtree, page) {
-        None => Ok(()),
+        None => Ok(node_of(page)),
         Some(kind) => Err(damage(subtree, kind)),
     }
 }
