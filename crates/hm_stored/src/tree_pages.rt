@@ -35,6 +35,7 @@ impl<D: Disk> Pages for Space<D> {
     ghost rest = { λ s. rest_of (heap_of (contents s.pages.store) (D.told s.disk) s.books) };
 
     /// Reads the node at `at`. Where none stands, it tells damage.
+    #[inline]
     fn page(&mut self, at: HOff, into: &mut Page) -> Result<(), Fault> {
         if !self.books.whole {
             return Err(Fault::NoMemory);
