@@ -1,8 +1,9 @@
 // Insertion of an element below a node.
-ghost use Rattle.std.specs.Prelude.{◌*◌, ◌-◌, ◌≤◌, max, insert, IfOk};
+ghost use Rattle.std.specs.Prelude.{◌≡◌, ◌*◌, ◌-◌, ◌≤◌, max, insert, IfOk};
 ghost use Rattle.hm_types.specs.Faults.{HasStoreCause};
 ghost use Rattle.hm_key.specs.Elements.{last_id};
 ghost use Rattle.hm_types.specs.Space.{in_zone};
+ghost use Rattle.hm_fields.specs.Pages.{page_in};
 ghost use Rattle.hm_node.specs.Edits.{IsLeafPage, IsInnerPage};
 ghost use Rattle.hm_node.specs.Head.{head_in};
 ghost use Rattle.hm_node.specs.Inner.{inner_in, IsChild};
@@ -26,19 +27,19 @@ use hm_search::{child_below, holder_place_in, leaf_place_in, visit};
 use hm_types::{Counted, Fault, MOST_LEAF_ELEMENTS, TREE_ZONE};
 
 /// Inserts an element below the node in a page, which is not written. Where the node becomes two, the
-/// upper one is in the other page, which is not written either. Takes one node less of room than the
+/// upper one gets the other page, which is not written either. Takes one node less of room than the
 /// node has levels.
 pub fn insert_into<S: NodeSpace>(
     space: &mut S,
     page: &mut Page,
-    upper: &mut Page,
+    upper: &mut Option<Page>,
     element: &Element,
 ) -> Result<Grown, Fault>
     requires node { HoldsNode page.old }
     requires element { IsPlaced element.now }
     requires room { NODE_BYTES * (level_of (node_in page.old) - 1) ≤ S.room space.old TREE_ZONE }
     ensures done { IfOk result (InsertsBelow S.pages S.extents element.now
-        space.old space.new page.old page.new upper.new) }
+        space.old space.new page.old page.new (page_in upper.new)) }
     ensures spent { StaysWithin S.HasRoom
         (in_zone TREE_ZONE (NODE_BYTES * (level_of (node_in page.old) - 1))) space.old space.new }
     ensures cause { HasPassCause (S.pages space.old) (node_in page.old)
@@ -72,25 +73,26 @@ pub fn insert_into<S: NodeSpace>(
 fn add_beside<S: NodeSpace>(
     space: &mut S,
     page: &mut Page,
-    upper: &mut Page,
+    upper: &mut Option<Page>,
     at: usize,
     left: Base,
 ) -> Result<Grown, Fault>
     requires inner { IsInnerPage page.old }
     requires at { at ≤ (head_in page.old).count }
-    requires above { IsUpperPage upper.old left }
+    requires above { IsUpperPage (page_in upper.old) left }
     requires room { NODE_BYTES ≤ S.room space.old TREE_ZONE }
     ensures done { IfOk result (AddsBeside S.pages S.extents at left
-        space.old space.new page.old page.new upper.old upper.new) }
+        space.old space.new page.old page.new (page_in upper.old) (page_in upper.new)) }
     ensures spent { StaysWithin S.HasRoom (in_zone TREE_ZONE NODE_BYTES) space.old space.new }
     ensures cause { HasStoreCause (S.pages space.old)
         (S.faults space.old) (S.faults space.new) result }
 {
-    let child = add_page(space, upper)?;
+    let above = upper_page(upper);
+    let child = add_page(space, &above)?;
     let next = Child {
         left,
         child,
-        mirror: mirror_in(upper),
+        mirror: mirror_in(&above),
     };
     Ok(Grown {
         changed: true,
@@ -98,11 +100,22 @@ fn add_beside<S: NodeSpace>(
     })
 }
 
+/// The page of the upper part, where a node became two. It has none before: an insertion by which no node
+/// becomes two fills none.
+pub fn upper_page(upper: &Option<Page>) -> Page
+    ensures { result ≡ page_in upper.now }
+{
+    match upper {
+        Some(page) => *page,
+        None => Page::zero(),
+    }
+}
+
 // Inserts an element into a leaf.
-fn insert_in_leaf(page: &mut Page, upper: &mut Page, element: &Element) -> Option<Base>
+fn insert_in_leaf(page: &mut Page, upper: &mut Option<Page>, element: &Element) -> Option<Base>
     requires leaf { IsLeafPage page.old }
     requires element { IsPlaced element.now }
-    ensures { InsertsInLeaf element.now page.old page.new upper.new result }
+    ensures { InsertsInLeaf element.now page.old page.new (page_in upper.new) result }
 {
     let at = leaf_place_in(page, &element.base);
     if usize::from(Head::read(page).count) < MOST_LEAF_ELEMENTS {
@@ -114,12 +127,17 @@ fn insert_in_leaf(page: &mut Page, upper: &mut Page, element: &Element) -> Optio
 }
 
 // Puts an element in before a place of a leaf, which is built for that and becomes two where it is full.
-fn split_leaf(page: &mut Page, upper: &mut Page, at: usize, element: &Element) -> Option<Base>
+fn split_leaf(
+    page: &mut Page,
+    upper: &mut Option<Page>,
+    at: usize,
+    element: &Element,
+) -> Option<Base>
     requires leaf { IsLeafPage page.old }
     requires at { at ≤ (head_in page.old).count }
     requires element { IsPlaced element.now }
     ensures { SplitsLeaf (max (leaf_in page.old).mirror (last_id element.now))
-        (insert (leaf_in page.old).places.items at element.now) page.new upper.new result }
+        (insert (leaf_in page.old).places.items at element.now) page.new (page_in upper.new) result }
 {
     let mut leaf = Leaf::of(page);
     let more = insert_and_halve(&mut leaf, at, element);
@@ -127,7 +145,9 @@ fn split_leaf(page: &mut Page, upper: &mut Page, at: usize, element: &Element) -
     match more {
         None => None,
         Some(more) => {
-            more.write(upper);
+            let mut above = Page::zero();
+            more.write(&mut above);
+            *upper = Some(above);
             Some(more.places[0].base.boundary())
         }
     }
@@ -135,13 +155,13 @@ fn split_leaf(page: &mut Page, upper: &mut Page, at: usize, element: &Element) -
 
 // Puts a child in before a place of an inner node, which is built for that and becomes two where it is
 // full.
-fn insert_beside(page: &mut Page, upper: &mut Page, at: usize, child: Child) -> Option<Base>
+fn insert_beside(page: &mut Page, upper: &mut Option<Page>, at: usize, child: Child) -> Option<Base>
     requires inner { IsInnerPage page.old }
     requires at { at ≤ (head_in page.old).count }
     requires child { IsChild child }
     ensures { SplitsInner (inner_in page.old).level (max (inner_in page.old).mirror child.mirror)
         (insert (inner_in page.old).places.items at child) (inner_in page.old).right
-        page.new upper.new result }
+        page.new (page_in upper.new) result }
 {
     let mut inner = Inner::of(page);
     let more = insert_child(&mut inner, at, child);
@@ -149,7 +169,9 @@ fn insert_beside(page: &mut Page, upper: &mut Page, at: usize, child: Child) -> 
     match more {
         None => None,
         Some(more) => {
-            more.write(upper);
+            let mut above = Page::zero();
+            more.write(&mut above);
+            *upper = Some(above);
             Some(inner.right)
         }
     }

@@ -12,7 +12,7 @@ ghost use Rattle.hm_btree.specs.Calls.Insert.{CanTop, InsertsFrom};
 ghost use Rattle.hm_btree.specs.Calls.Space.{StaysWithin};
 ghost use Rattle.hm_btree.specs.Grow.{AddsTop, top_of, upper_at};
 
-use crate::insert::insert_into;
+use crate::insert::{insert_into, upper_page};
 use crate::node_edit::{add_node, add_page, level_in, mirror_in, update_page};
 use crate::space::{NODE_BYTES, NodeSpace};
 use crate::upper::Grown;
@@ -42,13 +42,13 @@ pub fn insert_from<S: NodeSpace>(
     known_range(element);
     let place = Subtree::root(root);
     let mut page = Page::zero();
-    let mut upper = Page::zero();
+    let mut upper = None;
     visit(space, &place, &mut page)?;
     let Grown { changed, left } = insert_into(space, &mut page, &mut upper, element)?;
     update_page(space, root, &page, changed)?;
     match left {
         None => Ok(root),
-        Some(left) => add_root(space, &place, &page, left, &upper),
+        Some(left) => add_root(space, &place, &page, left, &upper_page(&upper)),
     }
 }
 

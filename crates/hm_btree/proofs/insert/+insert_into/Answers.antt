@@ -2,6 +2,7 @@ use Rattle.std.proofs.Common.{◌+◌, ◌<◌, ◌≤◌, ◌*◌, ◌-◌, ℕ
 use Rattle.std.specs.Prelude.{Option, IsNone}
 use Rattle.std.proofs.lemmas.Option.{IfSome_then}
 use Rattle.std.proofs.lemmas.Result.{err_from_is_err_and, IfOk-weaker}
+use Rattle.hm_fields.specs.Pages.{page_in}
 use Rattle.hm_types.specs.declared.fault.Fault.{Fault}
 use Rattle.hm_types.specs.Faults.{HasFaultCause}
 use Rattle.hm_key.specs.Elements.{inserted, last_id}
@@ -46,7 +47,7 @@ returns-then-read-eq-LEAF-clause-done g t c =
     let held = c.insert_in_leaf-left.ensures.held in
     record {
       grows = leaf_grows c.args.element.now (node_in old) (node_in new) (leaf_in old) (leaf_in new) (g.S.Pages.pages c.args.space.now)
-          (upper_of c.insert_in_leaf-left.result c.insert_in_leaf-left.new.upper) (c.requires.element.element, c.requires.element.payload)
+          (upper_of c.insert_in_leaf-left.result (page_in c.insert_in_leaf-left.new.upper)) (c.requires.element.element, c.requires.element.payload)
           (leaf_there old c.read.result c.read.ensures.value c.if-read-eq-LEAF.true) (leaf_there new (head_in new) refl held.kind)
           c.insert_in_leaf-left.ensures.becomes;
       holds = held.holds;
@@ -176,7 +177,7 @@ returns-in-None-clause-done g t c =
     let told = g.S.Pages.pages c.args.space.now in
     let set = c.set_mirror-changed.ensures in
     let grows = subst (λ (o : Option Base). Grows (inserted e) key (Writes (last_id e)) (λ x. IsNone x)
-    (g.S.Pages.pages c.visit.new.pages) (g.S.Pages.pages c.insert_into.new.space) before after (upper_of o c.insert_into.new.upper))
+    (g.S.Pages.pages c.visit.new.pages) (g.S.Pages.pages c.insert_into.new.space) before after (upper_of o (page_in c.insert_into.new.upper)))
     c.in-None.is c.in_ok-changed.ensures.done.grows in
     let works = inner_works (inserted e) key (Writes (last_id e)) (λ x. IsNone x) (inserted_local e) (inner_in old) (inner_in new)
     c.holder_place_in-i.result c.child_below-place.result before after c.mirror_in.result
@@ -225,11 +226,11 @@ returns-in-Some-clause-done g t c =
     let new = c.add_beside.new.page in
     let before : Node = node_in c.visit.new.page in
     let after : Node = node_in c.insert_into.new.page in
-    let upper : Upper = upper_at c.in-Some.left c.insert_into.new.upper in
+    let upper : Upper = upper_at c.in-Some.left (page_in c.insert_into.new.upper) in
     let told = g.S.Pages.pages c.args.space.now in
     let set = c.set_mirror-changed.ensures in
     let grows = subst (λ (o : Option Base). Grows (inserted e) key (Writes (last_id e)) (λ x. IsNone x)
-    (g.S.Pages.pages c.visit.new.pages) (g.S.Pages.pages c.insert_into.new.space) before after (upper_of o c.insert_into.new.upper))
+    (g.S.Pages.pages c.visit.new.pages) (g.S.Pages.pages c.insert_into.new.space) before after (upper_of o (page_in c.insert_into.new.upper)))
     c.in-Some.is c.in_ok-changed.ensures.done.grows in
     let written = surely_written c.in_ok-changed.field-0.changed c.child_below-place.result.at after
     (g.S.Pages.pages c.insert_into.new.space) (g.S.Pages.pages c.update_page.new.space)
@@ -237,13 +238,13 @@ returns-in-Some-clause-done g t c =
     c.in_ok-update_page.ensures.ok in
     IfOk-weaker c.add_beside.result
     (AddsBeside (λ s. g.S.Pages.pages s) (λ s. g.S.HasRoom.extents s) (c.holder_place_in-i.result + 1) c.in-Some.left
-    c.update_page.new.space c.add_beside.new.space mid new c.insert_into.new.upper c.add_beside.new.upper)
-    (InsertsBelow (λ s. g.S.Pages.pages s) (λ s. g.S.HasRoom.extents s) e c.args.space.now c.add_beside.new.space old new c.add_beside.new.upper)
+    c.update_page.new.space c.add_beside.new.space mid new (page_in c.insert_into.new.upper) (page_in c.add_beside.new.upper))
+    (InsertsBelow (λ s. g.S.Pages.pages s) (λ s. g.S.HasRoom.extents s) e c.args.space.now c.add_beside.new.space old new (page_in c.add_beside.new.upper))
     (λ more added.
-    let above : Option Upper = upper_of more.left c.add_beside.new.upper in
+    let above : Option Upper = upper_of more.left (page_in c.add_beside.new.upper) in
     let grown = inner_grows (inserted e) key (Writes (last_id e)) (λ x. IsNone x) (inserted_local e) (inner_in old) (inner_in mid) (inner_in new)
     c.holder_place_in-i.result c.child_below-place.result before after c.mirror_in.result
-    upper added.at (mirror_of (node_in c.insert_into.new.upper)) above (node_in old)
+    upper added.at (mirror_of (node_in (page_in c.insert_into.new.upper))) above (node_in old)
     told (g.S.Pages.pages c.visit.new.pages) (g.S.Pages.pages c.insert_into.new.space)
     (g.S.Pages.pages c.update_page.new.space) (g.S.Pages.pages c.add_beside.new.space)
     (inner_there old c.read.result c.read.ensures.value c.if-read-eq-LEAF.false) c.holder_place_in-i.ensures.ordered c.child_below-place.ensures

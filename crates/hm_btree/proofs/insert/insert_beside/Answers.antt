@@ -1,5 +1,6 @@
 use Rattle.std.proofs.Common.{◌≡◌, ◌≤◌, Some, None, length, ap, subst, ◌∙◌, arith, max, refl}
 use Rattle.std.specs.Prelude.{insert}
+use Rattle.hm_fields.specs.Pages.{page_in}
 use Rattle.hm_node.specs.Head.{head_in}
 use Rattle.hm_node.specs.Inner.{child_in, inner_in}
 use Rattle.hm_node.specs.Node.{node_in}
@@ -26,7 +27,7 @@ returns-in-None c =
     let low : c.args.at ≤ length inner.places.items = omega (arith, c.requires.at, first_length (λ i. child_in page (place i)) (head_in page).count) in
     let grown = subst (λ (x : Inner). InnerGrown x.level (max x.mirror c.args.child.mirror) (insert x.places.items c.args.at c.args.child) x.right new None)
     c.of-inner.ensures c.in-None.ensures in
-    inner_split (max inner.mirror c.args.child.mirror) c.args.at c.args.child inner new c.write.new.page c.args.upper.now None
+    inner_split (max inner.mirror c.args.child.mirror) c.args.at c.args.child inner new c.write.new.page (page_in c.args.upper.now) None
     c.write.ensures shape c.requires.child low grown tt
 
 pub returns-in-Some : goal.returns-in-Some

@@ -1,4 +1,5 @@
 use Rattle.std.proofs.Common.{◌≡◌, List, None, ap, subst, arith, max, length}
+use Rattle.hm_fields.specs.Pages.{page_in}
 use Rattle.hm_key.specs.Elements.{last_id}
 use Rattle.hm_key.specs.declared.element.Element.{Element}
 use Rattle.hm_node.specs.Head.{head_in}
@@ -37,7 +38,7 @@ returns-else-from-lt-MOST_LEAF_ELEMENTS c =
     record {
       held = split.held;
       becomes = λ order.
-          subst (λ (l : List Element). LeafBecomes (max leaf.mirror (last_id e)) l (leaf_in c.split_leaf.new.page) (upper_of c.split_leaf.result c.split_leaf.new.upper))
+          subst (λ (l : List Element). LeafBecomes (max leaf.mirror (last_id e)) l (leaf_in c.split_leaf.new.page) (upper_of c.split_leaf.result (page_in c.split_leaf.new.upper)))
           (inserted_here e leaf.places.items c.leaf_place_in-at.result (c.leaf_place_in-at.ensures.ordered order)) split.becomes;
       above = split.above;
     }

@@ -1,5 +1,6 @@
 use Rattle.std.proofs.Common.{◌≡◌, Some, None, sym, subst, arith, max, refl}
 use Rattle.std.specs.Prelude.{insert}
+use Rattle.hm_fields.specs.Pages.{page_in}
 use Rattle.hm_key.specs.Elements.{last_id}
 use Rattle.hm_key.specs.Key.{key_of, IsBoundary}
 use Rattle.hm_key.specs.declared.element.Element.{Element}
@@ -35,7 +36,7 @@ returns-in-None c =
     let shape = subst IsShaped here (page_shaped page c.requires.leaf.holds) in
     let grown = subst (λ (l : Leaf). LeafGrown (max l.mirror (last_id e)) (insert l.places.items c.args.at e) c.insert_and_halve-more.new.leaf None)
     c.of-leaf.ensures c.in-None.ensures in
-    leaf_split (max leaf.mirror (last_id e)) (insert leaf.places.items c.args.at e) c.write.new.page c.args.upper.now c.insert_and_halve-more.new.leaf None
+    leaf_split (max leaf.mirror (last_id e)) (insert leaf.places.items c.args.at e) c.write.new.page (page_in c.args.upper.now) c.insert_and_halve-more.new.leaf None
     c.write.ensures (each_insert IsPlaced c.args.at e leaf.places.items c.requires.element (elements_each leaf shape)) grown tt
 
 pub returns-in-Some : goal.returns-in-Some

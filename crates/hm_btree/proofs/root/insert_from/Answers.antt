@@ -1,7 +1,8 @@
 use Rattle.std.proofs.Common.{◌*◌, ◌-◌, ℕ, ap, true≢false, subst, arith, Result, Err}
-use Rattle.std.specs.Prelude.{Option, IsNone, IfSome}
+use Rattle.std.specs.Prelude.{List, Option, IsNone, IfOk, IfSome}
 use Rattle.std.proofs.lemmas.Option.{IfSome_then}
 use Rattle.std.proofs.lemmas.Result.{err_from_is_err_and}
+use Rattle.hm_fields.specs.Pages.{page_in}
 use Rattle.hm_types.specs.Faults.{HasFaultCause}
 use Rattle.hm_types.specs.declared.fault.Fault.{Fault}
 use Rattle.hm_key.specs.declared.base.Base.{Base}
@@ -16,7 +17,7 @@ use Rattle.hm_search.specs.Descent.{HasSearchCause, PassesHere}
 use Rattle.hm_search.specs.declared.subtree.Subtree.{Subtree}
 use Rattle.hm_search.proofs.DescentLemmas.{cause_here}
 use Rattle.hm_btree.specs.Marking.{Writes}
-use Rattle.hm_btree.specs.Grow.{Grows, upper_at, upper_of}
+use Rattle.hm_btree.specs.Grow.{AddsTop, Grows, upper_at, upper_of}
 use Rattle.hm_btree.specs.declared.space.TheConstants.{NODE_BYTES}
 use Rattle.hm_btree.specs.declared.upper.Grown.{Grown}
 use Rattle.hm_btree.specs.declared.upper.Upper.{Upper}
@@ -81,7 +82,7 @@ returns-in-None-clause-done g c =
     let before : Node = node_in c.visit.new.page in
     let after : Node = node_in c.insert_into.new.page in
     let grows = subst (λ (o : Option Base). Grows (inserted e) key (Writes (last_id e)) (λ x. IsNone x)
-    (g.S.Pages.pages c.visit.new.pages) (g.S.Pages.pages c.insert_into.new.space) before after (upper_of o c.insert_into.new.upper))
+    (g.S.Pages.pages c.visit.new.pages) (g.S.Pages.pages c.insert_into.new.space) before after (upper_of o (page_in c.insert_into.new.upper)))
     c.in-None.is c.in_ok-changed.ensures.done.grows in
     record {
       tree = root_works (inserted e) key (Writes (last_id e)) c.args.root (λ o. IsNone o)
@@ -120,9 +121,9 @@ returns-in-Some-clause-done g c =
     let told = g.S.Pages.pages c.args.space.now in
     let before : Node = node_in c.visit.new.page in
     let after : Node = node_in c.insert_into.new.page in
-    let upper : Upper = upper_at c.in-Some.left c.insert_into.new.upper in
+    let upper : Upper = upper_at c.in-Some.left (page_in c.insert_into.new.upper) in
     let grows = subst (λ (o : Option Base). Grows (inserted e) key (Writes (last_id e)) (λ x. IsNone x)
-    (g.S.Pages.pages c.visit.new.pages) (g.S.Pages.pages c.insert_into.new.space) before after (upper_of o c.insert_into.new.upper))
+    (g.S.Pages.pages c.visit.new.pages) (g.S.Pages.pages c.insert_into.new.space) before after (upper_of o (page_in c.insert_into.new.upper)))
     c.in-Some.is c.in_ok-changed.ensures.done.grows in
     let same = g.met.S.NodeSpace.rests c.args.space.now c.visit.new.pages c.visit.ensures.same.rest in
     let kept = g.met.S.NodeSpace.rests c.insert_into.new.space c.update_page.new.space c.update_page.ensures.rest in
@@ -135,6 +136,9 @@ returns-in-Some-clause-done g c =
     (g.S.Pages.pages c.insert_into.new.space) (g.S.Pages.pages c.update_page.new.space)
     (λ no. true≢false (subst (λ (o : Option Base). IsNone o) c.in-Some.is (c.in_ok-changed.ensures.done.same no).1))
     c.in_ok-update_page.ensures.ok in
+    let added = subst (λ (page : List ℕ). IfOk c.add_root.result (AddsTop (λ s. g.S.Pages.pages s) (λ s. g.S.HasRoom.extents s)
+    c.root-place.result after (upper_at c.in-Some.left page) c.update_page.new.space c.add_root.new.space))
+    c.upper_page.ensures c.add_root.ensures.ok in
     inserts_from g.S.Pages g.S.HasRoom e c.args.space.now c.add_root.new.space c.args.root c.add_root.result
     (top_result g.S.Pages g.S.HasRoom (inserted e) key (Writes (last_id e)) c.args.root (λ o. IsNone o)
     told (g.S.Pages.pages c.visit.new.pages) (g.S.Pages.pages c.insert_into.new.space)
@@ -142,10 +146,10 @@ returns-in-Some-clause-done g c =
     (λ old tree needs. element_inside c.args.root e c.requires.element.element c.known_range.ensures) c.visit.ensures.same.pages
     (IfSome_then told (subst (λ (s : Subtree). IfSome told (λ map. PassesHere map s before)) c.root-place.ensures
     c.in_ok-visit.ensures.visits.there) (λ map here. here.spelled)) grows written
-    c.root-place.result c.add_root.result c.root-place.ensures c.add_root.ensures.ok)
+    c.root-place.result c.add_root.result c.root-place.ensures added)
     (kept_then g.S.Pages g.S.HasRoom c.args.space.now c.update_page.new.space c.add_root.new.space c.add_root.result put
     (top_kept g.S.Pages g.S.HasRoom c.update_page.new.space c.add_root.new.space c.root-place.result after
-    upper c.add_root.result c.add_root.ensures.ok))
+    upper c.add_root.result added))
 
 pub returns-in-Some-clause-spent : goal.returns-in-Some-clause-spent
 returns-in-Some-clause-spent g c =
