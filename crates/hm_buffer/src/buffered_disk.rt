@@ -15,8 +15,8 @@ use std::alloc::Global;
 /// tells.
 ///
 /// It holds at most 2,048 pages, 8 MiB, each in the slot of its number modulo 2,048, where it takes the
-/// place of the one before. Reads that are longer than a page, or cross the end of one, go to the disk
-/// below, and so does every write, after which no page is held that has a byte of its range. Where memory
+/// place of the one before. Reads that are not shorter than a page, or cross the end of one, go to the
+/// disk below, and so does every write, after which no page is held that has a byte of its range. Where memory
 /// is refused, pages are not held, and nothing fails.
 #[derive(Drop)]
 pub struct BufferedDisk<D: Disk> {
@@ -120,12 +120,12 @@ impl<D: Disk> Disk for BufferedDisk<D> {
         self.disk.size()
     }
 
-    /// Fills `buf`, which is no longer than a page and lies in one, from the page if it is held, and else
+    /// Fills `buf`, where it is shorter than a page and lies in one, from the page if it is held, and else
     /// holds the page first.
     fn read_at(&mut self, place: u64, buf: &mut [u8]) -> Result<(), Failed> {
         let number = place / PAGE_BYTES as u64;
         let from = (place % PAGE_BYTES as u64) as usize;
-        if buf.len() > PAGE_BYTES - from {
+        if buf.len() == PAGE_BYTES || buf.len() > PAGE_BYTES - from {
             return self.disk.read_at(place, buf);
         }
         let to = from + buf.len();

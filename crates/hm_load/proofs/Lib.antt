@@ -14,3 +14,4 @@ pub mod StoreLemmas
 pub mod TreeLemmas
 pub mod TwiceLemmas
 pub mod WholeLemmas
+pub mod PastLemmas

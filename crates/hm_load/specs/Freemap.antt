@@ -3,7 +3,7 @@ use Rattle.std.specs.Prelude.{◌≡◌, ℕ, ◌+◌, ◌*◌, ◌<◌, List, I
 use Rattle.hm_types.specs.Layout.{first_layer2, layer2_blocks, start_of}
 use Rattle.hm_types.specs.declared.damage.TheConstants.{BAD_FREEMAP}
 use Rattle.hm_types.specs.declared.limits.TheConstants.{PAGE_BYTES}
-use Rattle.hm_types.specs.declared.zone.TheConstants.{TREE_ZONE}
+use Rattle.hm_types.specs.declared.zone.TheConstants.{TREE_ZONE, UNAVAILABLE_ZONE}
 use Rattle.hm_fields.specs.Fields.{get}
 use Rattle.hm_fields.specs.Pages.{PageMap}
 use Rattle.hm_freemap.specs.Entry.{IsEntryOf, entry_in}
@@ -21,6 +21,13 @@ pub record HoldsEntryOf (header : Header) (block : ℕ) (page : List ℕ) : Type
   pub entry : IsEntryOf header.bigblocks block (entry_in page (place_of block))
   pub zero : get page (place_of block + 12) 4 ≡ 0
   pub appended : IsZoneOf header block (entry_in page (place_of block)).zone
+
+-- the entry in a place is that of a big-block past the end of the volume
+pub record IsPastEntry (page : List ℕ) (at : ℕ) : Type 0 where
+  pub zone : get page at 4 ≡ UNAVAILABLE_ZONE
+  pub append : get page (at + 4) 4 ≡ 0
+  pub free : get page (at + 8) 4 ≡ 0
+  pub zero : get page (at + 12) 4 ≡ 0
 
 -- each entry of the page of this number may be that of its big-block
 abbrev pub HoldsEntries : Header → ℕ → List ℕ → Type 0

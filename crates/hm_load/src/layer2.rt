@@ -1,12 +1,13 @@
 // Layer 2 of the freemap: what each big-block serves.
 ghost use Rattle.std.specs.Prelude.{◌≡◌, ◌≤◌, ◌<◌, ◌+◌, ◌↔◌, ℕ, IfErr, IfSome, IsTrue, OnOk, length};
 ghost use Rattle.hm_types.specs.Faults.{HasFaultCause};
+ghost use Rattle.hm_types.specs.declared.limits.TheConstants.{PAGE_BYTES};
 ghost use Rattle.hm_types.specs.declared.zone.TheConstants.{TREE_ZONE};
 ghost use Rattle.hm_disk.specs.declared.limits.TheConstants.{MOST_CALL_BYTES};
 ghost use Rattle.hm_header.specs.Range.{IsHeader};
 ghost use Rattle.hm_pages.specs.Store.{contents};
 ghost use Rattle.hm_load.specs.Faults.{IsNoMedia, Tells};
-ghost use Rattle.hm_load.specs.Freemap.{HoldsEntries, HoldsEntryOf, HoldsLayer2, IsZoneOf};
+ghost use Rattle.hm_load.specs.Freemap.{HoldsEntries, HoldsEntryOf, HoldsLayer2, IsPastEntry, IsZoneOf};
 ghost use Rattle.hm_load.specs.Freemap.{IsLayer2Damage, IsPageDamage, IsPieceDamage, layer2_page, layer2_pages};
 ghost use Rattle.hm_load.specs.Held.{HasFirstPages};
 ghost use Rattle.hm_load.specs.Loaded.{IsPlain, LoadsPage, LoadsPages};
@@ -15,11 +16,13 @@ ghost use Rattle.hm_load.specs.Reading.{HasSpace};
 use crate::put::put;
 use crate::volume::Volume;
 use hm_disk::{Disk, MOST_CALL_BYTES};
-use hm_fields::Page;
+use hm_fields::{Page, get_u32};
 use hm_freemap::{Entry, page_of, place_of};
 use hm_header::Header;
 use hm_pages::PageStore;
-use hm_types::{BAD_FREEMAP, BIGBLOCK_BYTES, Fault, PAGE_BYTES, TREE_ZONE, layer2_blocks};
+use hm_types::{
+    BAD_FREEMAP, BIGBLOCK_BYTES, Fault, PAGE_BYTES, TREE_ZONE, UNAVAILABLE_ZONE, layer2_blocks,
+};
 
 // Where layer 2 begins, in bytes from the start of the volume.
 const START: u64 = 2 * BIGBLOCK_BYTES;
@@ -138,10 +141,26 @@ fn is_entry(header: &Header, block: u32, page: &Page) -> bool
     requires header { IsHeader header.now }
     ensures { IsTrue result ↔ HoldsEntryOf header.now block page.now }
 {
-    match Entry::read(page, place_of(u64::from(block))) {
+    let at = place_of(u64::from(block));
+    if header.bigblocks <= block && is_past(page, at) {
+        return true;
+    }
+    match Entry::read(page, at) {
         None => false,
         Some(entry) => entry.is_of(header.bigblocks, block) && is_zone(header, block, entry.zone),
     }
+}
+
+// Whether a place has the entry of a big-block past the volume's end. Nearly all entries are such, so this
+// one is known by its numbers.
+fn is_past(page: &Page, at: usize) -> bool
+    requires { at + 16 ≤ PAGE_BYTES }
+    ensures { IsTrue result → IsPastEntry page.now at }
+{
+    get_u32(page, at) == u32::from(UNAVAILABLE_ZONE)
+        && get_u32(page, at + 4) == 0
+        && get_u32(page, at + 8) == 0
+        && get_u32(page, at + 12) == 0
 }
 
 // Whether a big-block may belong to a zone: where the header names it as the append big-block of one,

@@ -1,8 +1,7 @@
-use Rattle.std.proofs.Common.{◌<◌, ◌≤◌, IfSome, refl, sym, subst, ◌∙◌, arith, rules, length}
+use Rattle.std.proofs.Common.{◌<◌, ◌≤◌, IfSome, sym, subst, ◌∙◌, arith, rules, length}
 use Rattle.std.proofs.lemmas.Result.{IfErr-weaker, err_from_is_err_and}
 use Rattle.hm_node.specs.Inner.{IsNodeOffset}
 use Rattle.hm_node.specs.declared.node.Node.{Node}
-use Rattle.hm_node.specs.declared.node.Node.TheVariants.{Inner as inner_node}
 use Rattle.hm_pages.specs.Store.{contents}
 use Rattle.hm_search.specs.Descent.{levels_below}
 use Rattle.hm_search.proofs.DescentLemmas.{child_lower}
