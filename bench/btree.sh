@@ -5,6 +5,7 @@
 # A program that looks up or removes inserts first, so the time of its inserts is taken off.
 . "$(dirname "${BASH_SOURCE[0]}")/common.bash"
 
+rounds=5
 command -v rustc >/dev/null || stop "rustc is not there"
 crate=$top/crates/hm_bench
 tree=$crate/out/hm_bench

@@ -26,10 +26,10 @@ measure() {
     seconds=$(awk -v u="$user" -v s="$system" 'BEGIN { printf "%.3f", u + s }')
 }
 
-# The same, as the best of three runs.
+# The same, as the best of three runs, or of as many as $rounds says.
 measure_best() {
     local best= i
-    for i in 1 2 3; do
+    for ((i = 0; i < ${rounds:-3}; i++)); do
         measure "$@"
         if [ -z "$best" ] || awk -v a="$seconds" -v b="$best" 'BEGIN { exit !(a < b) }'; then
             best=$seconds
