@@ -247,6 +247,7 @@ impl Property for Any {
 
 #[test]
 fn laws_can_be_called() {
+    a_byte_is_outside_where_the_test_says_so();
     the_disk_as_it_reads_may_be_left();
     a_settled_disk_alone_is_left();
     left_since_now_is_what_a_crash_now_may_leave::<MemDisk>();
