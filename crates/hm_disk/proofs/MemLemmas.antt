@@ -5,8 +5,9 @@ use native.Mathlib.Decide.{dec_le}
 use Rattle.hm_disk.specs.Crash.{Told, MayLeave}
 use Rattle.hm_disk.specs.Disk.{overwritten, Written, Torn, Unchanged, Synced}
 use Rattle.hm_disk.specs.Moments.{CallElapses, Elapses, WriteElapses, SyncElapses, Each, SameLeft}
-use Rattle.hm_disk.specs.MemDisk.{DiskState, zeros, changed, told_after, told_of, left_after, left_of, written}
+use Rattle.hm_disk.specs.MemDisk.{DiskState, MemPast, zeros, changed, told_after, told_of, left_after, left_of, past_of, up_to_sync, written}
 use Rattle.hm_disk.specs.MemLaws.{changed-write, moment-replayed, replayed-append}
+use Rattle.hm_disk.specs.PastLaws.{past-write}
 use Rattle.hm_disk.specs.declared.change.Change.{Change}
 use Rattle.hm_disk.specs.declared.change.Change.TheVariants.{Write, Sync}
 use Rattle.hm_disk.proofs.OverwriteLemmas.{MayLeave-overwritten}
@@ -57,10 +58,20 @@ elapses_more size changes change Within sized within = record {
         inr (within image (subst (λ (told : Told). MayLeave told.bytes told.unsettled image)
         (all left.0 (omega (arith, gt, length-append changes (change ∷ [])))) left.3))
 
+past_is : (old new : DiskState) → new.size ≡ old.size → up_to_sync new.changes ≡ up_to_sync old.changes → past_of new ≡ past_of old
+past_is old new sizes over = ap (λ (size : ℕ). with_size size (up_to_sync new.changes)) sizes ∙ ap (with_size old.size) over
+  where
+    with_size : ℕ → List Change → MemPast
+    with_size size changes = record { size = size; changes = changes }
+
 module _ (old new : DiskState) (sizes : new.size ≡ old.size) where
   -- the same changes
   pub told-same : new.changes ≡ old.changes → told_of new ≡ told_of old
   told-same changes = ap (λ n. told_after n new.changes) sizes ∙ ap (told_after old.size) changes
+
+  -- the same is over
+  pub past-same : new.changes ≡ old.changes → past_of new ≡ past_of old
+  past-same changes = past_is old new sizes (ap up_to_sync changes)
 
   pub SameLeft-same : new.changes ≡ old.changes → SameLeft (left_of old) (left_of new)
   SameLeft-same changes =
@@ -107,6 +118,9 @@ module _ (old new : DiskState) (sizes : new.size ≡ old.size) where
 
     pub moment-written : (told_of new).moment ≡ (told_of old).moment
     moment-written = Torn-write.moment_is
+
+    pub past-written : past_of new ≡ past_of old
+    past-written = past_is old new sizes (ap up_to_sync changes ∙ past-write old.changes place count bytes)
 
     elapses_write : WriteElapses place count (left_of old) (left_of new) (told_of old) (told_of new)
     elapses_write =

@@ -5,6 +5,7 @@ pub mod MemDisk
 pub mod MemLaws
 pub mod Moments
 pub mod Pages
+pub mod PastLaws
 pub mod Sound
 pub mod Transfer
 pub mod WriteLaws

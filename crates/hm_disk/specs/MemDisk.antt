@@ -70,6 +70,29 @@ left_after size changes moment image =
 abbrev pub left_of : DiskState → ℕ → List ℕ → Type 0
 left_of d moment image = left_after d.size d.changes moment image
 
+-- a change before others, of which a write alone has no sync after it
+abbrev pub before_sync : Change → List Change → List Change
+before_sync change [] = []
+before_sync change (next ∷ changes) = change ∷ next ∷ changes
+
+-- changes up to the last sync among them
+unfoldable pub up_to_sync : List Change → List Change
+up_to_sync [] = []
+up_to_sync (Write place count bytes ∷ changes) = before_sync (Write place count bytes) (up_to_sync changes)
+up_to_sync (Sync ∷ changes) = Sync ∷ up_to_sync changes
+
+-- what of a disk is over: its size, and its changes up to the last sync
+pub record MemPast : Type 0 where
+  pub size : ℕ
+  pub changes : List Change
+
+abbrev pub past_of : DiskState → MemPast
+past_of d = record { size = d.size; changes = up_to_sync d.changes }
+
+-- what a crash since a moment may have left of a disk up to its last sync
+abbrev pub left_before : MemPast → ℕ → List ℕ → Type 0
+left_before past moment image = left_after past.size past.changes moment image
+
 -- a disk with one more change
 abbrev pub with_change : DiskState → Change → DiskState
 with_change d change =

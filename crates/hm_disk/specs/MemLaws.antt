@@ -40,7 +40,7 @@ stays_if true place count bytes told image fit left =
     MayLeave-added told.bytes _ image (place, count) told.unsettled (MayLeave-overwritten told.bytes place count bytes sure.1 sure.0) left
 stays_if false place count bytes told image fit left = left
 
-moment-write : (place count : ℕ) (bytes : List ℕ) (told : Told) → (changed (Write place count bytes) told).moment ≡ told.moment
+pub moment-write : (place count : ℕ) (bytes : List ℕ) (told : Told) → (changed (Write place count bytes) told).moment ≡ told.moment
 moment-write place count bytes told = moment_if (fits (length told.bytes) place count bytes) place count bytes told
 
 -- the moment never falls
@@ -64,7 +64,7 @@ pub told-all : (d : DiskState) (k : ℕ) → length d.changes ≤ k → told_aft
 told-all d k all = ap (told_after d.size) (take_all k d.changes all)
 
 -- and after the rest of them
-told-rest : (d : DiskState) (k : ℕ) → replayed (drop k d.changes) (told_after d.size (take k d.changes)) ≡ told_of d
+pub told-rest : (d : DiskState) (k : ℕ) → replayed (drop k d.changes) (told_after d.size (take k d.changes)) ≡ told_of d
 told-rest d k =
     sym (replayed-append (take k d.changes) (drop k d.changes) (record { bytes = zeros d.size; unsettled = []; moment = 0 }))
     ∙ ap (told_after d.size) (take-append-drop k d.changes)

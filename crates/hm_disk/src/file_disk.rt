@@ -208,9 +208,17 @@ impl<R: Files> Disk for FileDisk<R>
 where
     R::File: LockFile,
 {
+    ghost use Rattle.std.proofs.Common.{inl};
+
     ghost told = { λ _. None };
 
     ghost left_since = { λ _ _ _. Unit {0} };
+
+    ghost Past = { Unit {0} };
+
+    ghost past = { λ _. tt };
+
+    ghost left_before = { λ _ _ _. Unit {0} };
 
     ghost faults = { λ d. d.faults };
 
@@ -219,6 +227,10 @@ where
     ghost only_now = { λ d image. tt };
 
     ghost since_earlier = { λ d earlier moment image. tt };
+
+    ghost splits = { λ d moment image left. inl tt };
+
+    ghost joins = { λ d moment image left. tt };
 
     fn size(&mut self) -> Result<u64, Failed> {
         let answer = self.try_size();

@@ -6,7 +6,7 @@ ghost use Rattle.hm_types.specs.Calls.{no_calls};
 ghost use Rattle.hm_types.specs.Faults.{HasCause};
 ghost use Rattle.hm_disk.specs.Disk.{Written, MayBeTorn, Synced};
 ghost use Rattle.hm_disk.specs.Moments.{CallElapses, SyncElapses, SameLeft};
-ghost use Rattle.hm_disk.specs.MemDisk.{told_of, told_after, left_of, blank, after_first, with_change, with_calls};
+ghost use Rattle.hm_disk.specs.MemDisk.{told_of, told_after, left_of, past_of, blank, after_first, with_change, with_calls};
 ghost use Rattle.hm_disk.specs.MemDisk.{FitsIn, OnlyCounts, Writes, Syncs};
 ghost use Rattle.hm_disk.specs.declared.change.Change.TheVariants.{Write, Sync};
 
@@ -160,11 +160,19 @@ impl MemDisk {
 }
 
 impl Disk for MemDisk {
+    ghost use Rattle.hm_disk.specs.MemDisk.{MemPast, left_before};
     ghost use Rattle.hm_disk.specs.MemLaws.{counts, only, earlier};
+    ghost use Rattle.hm_disk.specs.PastLaws.{splits, joins};
 
     ghost told = { λ d. Some (told_of d) };
 
     ghost left_since = { left_of };
+
+    ghost Past = { MemPast };
+
+    ghost past = { past_of };
+
+    ghost left_before = { left_before };
 
     ghost faults = { λ d. d.calls.faults };
 
@@ -174,10 +182,15 @@ impl Disk for MemDisk {
 
     ghost since_earlier = { earlier };
 
+    ghost splits = { splits };
+
+    ghost joins = { joins };
+
     /// Takes no memory. It fails exactly at a listed call.
     fn size(&mut self) -> Result<u64, Failed>
         ensures ok { IfOk result (λ size. size ≡ length (told_of self.old).bytes) }
         ensures same { told_of self.new ≡ told_of self.old }
+        ensures past { past_of self.new ≡ past_of self.old }
         ensures any_moment { SameLeft (left_of self.old) (left_of self.new) }
         ensures cause { HasCause self.old.calls.faults self.new.calls.faults result }
         ensures change { OnlyCounts self.old self.new result }
@@ -193,6 +206,7 @@ impl Disk for MemDisk {
             (buf.new ≡ slice_range (told_of self.old).bytes place (place + length buf.old)) }
         ensures err { OnErr result (buf.new ≡ buf.old) }
         ensures same { told_of self.new ≡ told_of self.old }
+        ensures past { past_of self.new ≡ past_of self.old }
         ensures any_moment { SameLeft (left_of self.old) (left_of self.new) }
         ensures cause { HasCause self.old.calls.faults self.new.calls.faults result }
         ensures change { OnlyCounts self.old self.new result }
@@ -210,6 +224,7 @@ impl Disk for MemDisk {
         ensures err { OnErr result
             (MayBeTorn place (length bytes.now) (told_of self.old) (told_of self.new)) }
         ensures moment { (told_of self.new).moment ≡ (told_of self.old).moment }
+        ensures past { past_of self.new ≡ past_of self.old }
         ensures any_moment { CallElapses place (length bytes.now) (left_of self.old)
             (left_of self.new) (told_of self.old) (told_of self.new) }
         ensures cause { HasCause self.old.calls.faults self.new.calls.faults result }
@@ -230,6 +245,7 @@ impl Disk for MemDisk {
     fn sync(&mut self) -> Result<(), Failed>
         ensures ok { OnOk result (Synced (told_of self.old) (told_of self.new)) }
         ensures err { OnErr result (told_of self.new ≡ told_of self.old) }
+        ensures past { OnErr result (past_of self.new ≡ past_of self.old) }
         ensures any_moment { SyncElapses (left_of self.old) (left_of self.new) (told_of self.old)
             (told_of self.new) }
         ensures cause { HasCause self.old.calls.faults self.new.calls.faults result }
