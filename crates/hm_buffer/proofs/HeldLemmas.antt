@@ -10,14 +10,10 @@ use Rattle.hm_types.specs.declared.fault.Failed.{Failed}
 use Rattle.hm_disk.specs.Crash.{MayLeave, Told}
 use Rattle.hm_disk.specs.Disk.{MayBeTorn, Written}
 use Rattle.hm_disk.specs.WriteLaws.{MayLeave-overwritten}
+use Rattle.hm_disk.proofs.RangeLemmas.{part_of_part}
 use Rattle.hm_buffer.specs.Held.{AreHeld, ArePlaced, Empties, Forgets, GivesPage, Holds, IsApart, IsSizeOf, page_of}
 use Rattle.hm_buffer.specs.declared.held_page.HeldPage.{HeldPage}
 use Rattle.hm_buffer.specs.declared.held_page.TheConstants.{SLOTS}
-
--- a part of a part
-pub part_of_part : (xs : List ℕ) (p n a b : ℕ) → a ≤ b → b ≤ n → slice_range (slice_range xs p (p + n)) a b ≡ slice_range xs (p + a) (p + b)
-part_of_part xs p n a b rising within =
-    ext_get_or 0 (slice_range (slice_range xs p (p + n)) a b) (slice_range xs (p + a) (p + b)) (grind (arith, places)) (λ i below. grind (arith, places))
 
 -- a short range of a disk is the part of its page
 pub part_of_page : (xs : List ℕ) (place len : ℕ) → place % 4096 + len ≤ 4096

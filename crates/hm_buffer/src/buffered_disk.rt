@@ -58,6 +58,7 @@ impl<D: Disk> BufferedDisk<D> {
         ensures within { IfOk result (IsWithin number (D.told self.old.disk)) }
         ensures slots { self.new.slots ≡ self.old.slots }
         ensures same { D.told self.new.disk ≡ D.told self.old.disk }
+        ensures past { D.past self.new.disk ≡ D.past self.old.disk }
         ensures any_moment { SameLeft (D.left_since self.old.disk) (D.left_since self.new.disk) }
         ensures cause { HasCause (D.faults self.old.disk) (D.faults self.new.disk) result }
     {
@@ -78,6 +79,7 @@ impl<D: Disk> BufferedDisk<D> {
         requires within { IsWithin number (D.told self.old.disk) true }
         ensures ok { OnOk result (GivesPage number page.new (D.told self.old.disk)) }
         ensures same { D.told self.new.disk ≡ D.told self.old.disk }
+        ensures past { D.past self.new.disk ≡ D.past self.old.disk }
         ensures any_moment { SameLeft (D.left_since self.old.disk) (D.left_since self.new.disk) }
         ensures cause { HasCause (D.faults self.old.disk) (D.faults self.new.disk) result }
     {
@@ -108,6 +110,12 @@ impl<D: Disk> Disk for BufferedDisk<D> {
 
     ghost left_since = { λ b. D.left_since b.disk };
 
+    ghost Past = { D.Past };
+
+    ghost past = { λ b. D.past b.disk };
+
+    ghost left_before = { D.left_before };
+
     ghost faults = { λ b. D.faults b.disk };
 
     ghost counts_now = { λ b moment image. D.counts_now b.disk moment image };
@@ -115,6 +123,10 @@ impl<D: Disk> Disk for BufferedDisk<D> {
     ghost only_now = { λ b image. D.only_now b.disk image };
 
     ghost since_earlier = { λ b earlier moment image. D.since_earlier b.disk earlier moment image };
+
+    ghost splits = { λ b moment image. D.splits b.disk moment image };
+
+    ghost joins = { λ b moment image. D.joins b.disk moment image };
 
     fn size(&mut self) -> Result<u64, Failed> {
         self.disk.size()

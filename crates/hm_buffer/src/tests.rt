@@ -28,10 +28,17 @@ impl CountedDisk {
 
 impl Disk for CountedDisk {
     ghost use Rattle.std.specs.Prelude.{None};
+    ghost use Rattle.std.proofs.Common.{inl};
 
     ghost told = { λ _. None };
 
     ghost left_since = { λ _ _ _. Unit {0} };
+
+    ghost Past = { Unit {0} };
+
+    ghost past = { λ _. tt };
+
+    ghost left_before = { λ _ _ _. Unit {0} };
 
     ghost faults = { λ _. 0 };
 
@@ -40,6 +47,10 @@ impl Disk for CountedDisk {
     ghost only_now = { λ d image. tt };
 
     ghost since_earlier = { λ d earlier moment image. tt };
+
+    ghost splits = { λ d moment image left. inl tt };
+
+    ghost joins = { λ d moment image left. tt };
 
     fn size(&mut self) -> Result<u64, Failed> {
         self.count();

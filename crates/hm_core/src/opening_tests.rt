@@ -1,6 +1,6 @@
 // Volumes that are made and mounted, on disks in memory.
 use super::*;
-use hm_disk::MemDisk;
+use hm_disk_forms::MemDisk;
 use hm_types::{Fault, Id};
 use std::alloc::Global;
 use std::process::Abort;

@@ -3,7 +3,7 @@ ghost use Rattle.std.specs.Prelude.{IfOk};
 ghost use Rattle.hm_core.specs.Served.{IsAsked};
 
 use super::*;
-use hm_disk::MemDisk;
+use hm_disk_forms::MemDisk;
 use hm_model::{Command, Reply};
 use hm_types::{Bytes, Fault, Id, NoMemory, Text};
 use std::alloc::Global;

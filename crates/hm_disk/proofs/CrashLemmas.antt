@@ -1,10 +1,29 @@
 -- Which images a crash may leave.
-use Rattle.std.proofs.Common.{◌≡◌, inl, inr, ℕ, ◌+◌, ◌≤◌, List, [], ◌∷◌, refl, sym, ◌∙◌, subst, arith, length}
+use Rattle.std.proofs.Common.{◌≡◌, ◌⊎◌, inl, inr, ℕ, ◌+◌, ◌<◌, ◌≤◌, true, ◌||◌, List, [], ◌∷◌, refl, sym, ◌∙◌, subst, arith, length}
+use Rattle.std.specs.Prelude.{nat_le, nat_lt}
+use Rattle.std.proofs.lemmas.Bool.{and_from, and_parts, le-leb, leb-true, lt-ltb, ltb-true, or_cases, or_left, or_right}
 use Rattle.std.proofs.lemmas.List.{ext_get_or}
-use Rattle.hm_disk.specs.Crash.{Told, Outside, MayLeave}
+use Rattle.hm_disk.specs.Crash.{Told, Outside, MayLeave, is_outside}
 use Rattle.hm_disk.specs.Disk.{MayBeTorn, Written}
 use Rattle.hm_disk.specs.Moments.{Each}
 use Rattle.hm_disk.specs.WriteLaws.{MayLeave-added, MayLeave-overwritten}
+
+-- The test whether a byte lies outside is exact.
+pub is_outside-from : (ranges : List (ℕ × ℕ)) (byte : ℕ) → Outside ranges byte → is_outside ranges byte ≡ true
+is_outside-from [] byte outside = refl
+is_outside-from (range ∷ ranges) byte outside =
+    and_from _ _ (apart outside.0) (is_outside-from ranges byte outside.1) where
+      apart : (byte < range.0) ⊎ (range.0 + range.1 ≤ byte) → (nat_lt byte range.0 || nat_le (range.0 + range.1) byte) ≡ true
+      apart (inl low) = or_left _ _ (lt-ltb _ _ low)
+      apart (inr past) = or_right _ _ (le-leb _ _ past)
+
+pub is_outside-is : (ranges : List (ℕ × ℕ)) (byte : ℕ) → is_outside ranges byte ≡ true → Outside ranges byte
+is_outside-is [] byte outside = tt
+is_outside-is (range ∷ ranges) byte outside =
+    let both = and_parts _ _ outside in (apart (or_cases _ _ both.0), is_outside-is ranges byte both.1) where
+      apart : (nat_lt byte range.0 ≡ true) ⊎ (nat_le (range.0 + range.1) byte ≡ true) → (byte < range.0) ⊎ (range.0 + range.1 ≤ byte)
+      apart (inl low) = inl (ltb-true _ _ low)
+      apart (inr past) = inr (leb-true _ _ past)
 
 -- the bytes themselves
 pub MayLeave-same : (bytes : List ℕ) (unsettled : List (ℕ × ℕ)) → MayLeave bytes unsettled bytes

@@ -1,10 +1,5 @@
 pub mod Crash
 pub mod Disk
-pub mod FileDisk
-pub mod MemDisk
-pub mod MemLaws
 pub mod Moments
-pub mod Pages
-pub mod Sound
 pub mod Transfer
 pub mod WriteLaws

@@ -1,5 +1,6 @@
 // The disk under a volume.
-ghost use Rattle.std.specs.Prelude.{◌≡◌, ℕ, ◌≤◌, ◌+◌, List, Option, IfSome, IfOk, OnOk, OnErr, length, slice_range};
+ghost use Rattle.std.specs.Prelude.{◌≡◌, ◌⊎◌, ℕ, ◌≤◌, ◌+◌, List, Option};
+ghost use Rattle.std.specs.Prelude.{IfSome, IfOk, OnOk, OnErr, length, slice_range};
 ghost use Rattle.hm_types.specs.Faults.{HasCause};
 ghost use Rattle.hm_types.specs.Told.{BothTell};
 ghost use Rattle.hm_disk.specs.declared.limits.TheConstants.{MOST_CALL_BYTES};
@@ -24,6 +25,16 @@ pub trait Disk {
     /// says something only where the disk tells what it holds.
     ghost left_since: { Self → ℕ → List ℕ → Type 0 };
 
+    /// What is over of the disk, as data: it fixes what a crash up to the start of the present moment
+    /// may have left. So code that knows no more of a disk than that this is the same knows that too.
+    ghost Past: { Type 0 };
+
+    ghost past: { Self → Self.Past };
+
+    /// Which images a crash at that moment or at a later one, up to the start of the present one, may
+    /// have left.
+    ghost left_before: { Self.Past → ℕ → List ℕ → Type 0 };
+
     /// How many faults there were.
     ghost faults: { Self → ℕ };
 
@@ -31,6 +42,7 @@ pub trait Disk {
     fn size(&mut self) -> Result<u64, Failed>
         ensures ok { IfOk result (λ size. IfSome (told self.old) (λ t. size ≡ length t.bytes)) }
         ensures same { told self.new ≡ told self.old }
+        ensures past { past self.new ≡ past self.old }
         ensures any_moment { SameLeft (left_since self.old) (left_since self.new) }
         ensures cause { HasCause (faults self.old) (faults self.new) result };
 
@@ -42,6 +54,7 @@ pub trait Disk {
         ensures ok { OnOk result (IfSome (told self.old) (λ t.
             buf.new ≡ slice_range t.bytes place (place + length buf.old))) }
         ensures same { told self.new ≡ told self.old }
+        ensures past { past self.new ≡ past self.old }
         ensures any_moment { SameLeft (left_since self.old) (left_since self.new) }
         ensures cause { HasCause (faults self.old) (faults self.new) result };
 
@@ -56,6 +69,7 @@ pub trait Disk {
         ensures err { OnErr result
             (BothTell (told self.old) (told self.new) (MayBeTorn place (length bytes.now))) }
         ensures moment { moment_of (told self.new) ≡ moment_of (told self.old) }
+        ensures past { past self.new ≡ past self.old }
         ensures any_moment { BothTell (told self.old) (told self.new)
             (CallElapses place (length bytes.now) (left_since self.old) (left_since self.new)) }
         ensures cause { HasCause (faults self.old) (faults self.new) result };
@@ -65,6 +79,7 @@ pub trait Disk {
     fn sync(&mut self) -> Result<(), Failed>
         ensures ok { OnOk result (BothTell (told self.old) (told self.new) Synced) }
         ensures err { OnErr result (told self.new ≡ told self.old) }
+        ensures past { OnErr result (past self.new ≡ past self.old) }
         ensures any_moment { BothTell (told self.old) (told self.new)
             (SyncElapses (left_since self.old) (left_since self.new)) }
         ensures cause { HasCause (faults self.old) (faults self.new) result };
@@ -85,4 +100,14 @@ pub trait Disk {
     ghost since_earlier: { (disk : Self) (earlier moment : ℕ) (image : List ℕ) →
         IfSome (told disk) (λ t.
         earlier ≤ moment → left_since disk moment image → left_since disk earlier image) };
+
+    /// What was left since a moment was left by the start of the present one, or a crash now may leave
+    /// it.
+    ghost splits: { (disk : Self) (moment : ℕ) (image : List ℕ) → left_since disk moment image →
+        left_before (past disk) moment image
+        ⊎ IfSome (told disk) (λ t. MayLeave t.bytes t.unsettled image) };
+
+    /// What was left by the start of the present moment was left.
+    ghost joins: { (disk : Self) (moment : ℕ) (image : List ℕ) →
+        left_before (past disk) moment image → left_since disk moment image };
 }

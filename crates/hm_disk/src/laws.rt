@@ -1,6 +1,6 @@
 // What follows from the definitions alone: each function states one law, and does nothing.
-ghost use Rattle.std.specs.Prelude.{◌≡◌, ◌↔◌, ◌≤◌, ◌+◌, ◌∷◌, [], ℕ, List, IfSome, length};
-ghost use Rattle.hm_disk.specs.Crash.{Told, MayLeave};
+ghost use Rattle.std.specs.Prelude.{◌≡◌, ◌↔◌, ◌≤◌, ◌+◌, ◌∷◌, [], ℕ, List, IfSome, IsTrue, length};
+ghost use Rattle.hm_disk.specs.Crash.{Told, Outside, MayLeave, is_outside};
 ghost use Rattle.hm_disk.specs.Disk.{Written, MayBeTorn};
 ghost use Rattle.hm_disk.specs.Moments.{WriteElapses, SyncElapses, SameLeft, Each};
 
@@ -10,6 +10,11 @@ use crate::disk::Disk;
 pub trait Property {
     ghost has: { List ℕ → Type 0 };
 }
+
+/// The test whether a byte lies outside all of some ranges is exact.
+pub fn a_byte_is_outside_where_the_test_says_so()
+    ensures { (ranges : List (ℕ × ℕ)) (byte : ℕ) → IsTrue (is_outside ranges byte) ↔ Outside ranges byte }
+{}
 
 /// A crash may leave the disk as it reads.
 pub fn the_disk_as_it_reads_may_be_left()

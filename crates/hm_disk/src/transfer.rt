@@ -18,6 +18,7 @@ pub fn read_all_at<D: Disk>(disk: &mut D, place: u64, buf: &mut [u8]) -> Result<
     ensures ok { OnOk result (IfSome (D.told disk.old) (λ t.
         buf.new ≡ slice_range t.bytes place (place + length buf.old))) }
     ensures same { D.told disk.new ≡ D.told disk.old }
+    ensures past { D.past disk.new ≡ D.past disk.old }
     ensures any_moment { SameLeft (D.left_since disk.old) (D.left_since disk.new) }
     ensures cause { HasCause (D.faults disk.old) (D.faults disk.new) result }
 {
@@ -42,6 +43,7 @@ pub fn write_all_at<D: Disk>(disk: &mut D, place: u64, bytes: &[u8]) -> Result<(
     ensures err { OnErr result
         (BothTell (D.told disk.old) (D.told disk.new) (TornAll place (length bytes.now))) }
     ensures moment { moment_of (D.told disk.new) ≡ moment_of (D.told disk.old) }
+    ensures past { D.past disk.new ≡ D.past disk.old }
     ensures any_moment { BothTell (D.told disk.old) (D.told disk.new)
         (WriteElapses place (length bytes.now) (D.left_since disk.old) (D.left_since disk.new)) }
     ensures cause { HasCause (D.faults disk.old) (D.faults disk.new) result }
@@ -66,6 +68,7 @@ pub fn write_synced<D: Disk>(disk: &mut D, place: u64, bytes: &[u8]) -> Result<(
     ensures err { OnErr result
         (BothTell (D.told disk.old) (D.told disk.new) (TornAll place (length bytes.now))) }
     ensures moment { OnErr result (moment_of (D.told disk.new) ≡ moment_of (D.told disk.old)) }
+    ensures past { OnErr result (D.past disk.new ≡ D.past disk.old) }
     ensures any_moment { BothTell (D.told disk.old) (D.told disk.new)
         (WriteElapses place (length bytes.now) (D.left_since disk.old) (D.left_since disk.new)) }
     ensures cause { HasCause (D.faults disk.old) (D.faults disk.new) result }

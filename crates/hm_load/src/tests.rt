@@ -2,7 +2,8 @@
 // format.
 use super::*;
 use arrayvec::ArrayVec;
-use hm_disk::{Disk, MemDisk};
+use hm_disk::Disk;
+use hm_disk_forms::MemDisk;
 use hm_fields::{Page, Pages};
 use hm_header::read_header;
 use hm_key::{BOUNDARY, Base, DIRECTORY_ENTRY, ELEMENT, Element, INODE, PFS_RECORD};

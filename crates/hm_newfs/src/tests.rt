@@ -1,6 +1,7 @@
 // Volumes on disks in memory: their bytes, worked out by hand from the format, and disks that fail.
 use super::*;
-use hm_disk::{Disk, MemDisk};
+use hm_disk::Disk;
+use hm_disk_forms::MemDisk;
 use hm_types::Failed;
 use std::alloc::Global;
 use std::process::Abort;

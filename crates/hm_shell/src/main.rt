@@ -18,7 +18,7 @@ mod volume;
 mod words;
 
 use devices::{Devices, Ended};
-use hm_disk::FileDisk;
+use hm_disk_forms::FileDisk;
 use hm_pipe::{FileSink, FileSource, NoGate, StdSink, StdSource};
 use plan::{Plan, PlanFault};
 use print::print_last;

@@ -7,7 +7,8 @@ ghost use Rattle.hm_pages.specs.Store.{contents};
 ghost use Rattle.hm_stored.specs.Heap.{frame_of, heap_of};
 ghost use Rattle.hm_stored.specs.Turn.{IsClosed};
 
-use hm_disk::{Disk, FileDisk, MemDisk};
+use hm_disk::Disk;
+use hm_disk_forms::{FileDisk, MemDisk};
 use hm_header::read_header;
 use hm_key::{Base, ELEMENT, Element, ElementStore, Extents, OTHER_PART, SNAPSHOT};
 use hm_load::load;

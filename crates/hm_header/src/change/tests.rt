@@ -4,7 +4,8 @@ ghost use Rattle.std.specs.Prelude.{◌≤◌};
 ghost use Rattle.hm_types.specs.declared.limits.TheConstants.{GREATEST_ID};
 
 use crate::*;
-use hm_disk::{Disk, MemDisk, write_synced};
+use hm_disk::{Disk, write_synced};
+use hm_disk_forms::MemDisk;
 use hm_types::{Failed, HOff, Id};
 use std::alloc::Global;
 use std::process::Abort;

@@ -1,7 +1,7 @@
 // The top call over devices in memory and over files.
 
 use super::*;
-use hm_disk::MemDisk;
+use hm_disk_forms::MemDisk;
 use hm_pipe::{MemSink, MemSource, NoGate};
 use std::alloc::AllocError;
 use std::test::Fail;

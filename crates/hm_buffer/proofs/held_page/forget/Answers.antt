@@ -1,7 +1,7 @@
 -- The pages of a range, one after another.
-use Rattle.std.proofs.Common.{◌+◌, ◌/◌, ◌%◌, ℕ, subst}
+use Rattle.std.proofs.Common.{◌/◌, ℕ, subst}
 use Rattle.hm_buffer.specs.Held.{Empties}
-use Rattle.hm_buffer.proofs.HeldLemmas.{is_apart, one_more}
+use Rattle.hm_buffer.proofs.HeldLemmas.{one_more}
 use Rattle.hm_buffer.proofs.held_page.forget.Goals as goal
 
 pub loop-k-preserved : goal.loop-k-preserved

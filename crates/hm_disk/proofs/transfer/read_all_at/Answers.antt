@@ -26,6 +26,7 @@ loop-done-preserved g c =
       within = search (rules, places);
       filled = filled-more old place done count buf piece long within fits so_far.filled next;
       same = read.same ∙ so_far.same;
+      past = read.past ∙ so_far.past;
       any_moment = SameLeft-then _ _ _ so_far.any_moment read.any_moment;
       counted = omega (arith, read.cause.never_falls);
     }

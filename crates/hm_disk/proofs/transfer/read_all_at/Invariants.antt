@@ -10,6 +10,7 @@ invariant-loop-done g l = record {
   filled : IfSome (g.D.Disk.told l.fn.disk) (λ t. take l.done l.buf ≡ slice_range t.bytes l.place (l.place + l.done));
   same : g.D.Disk.told l.disk ≡ g.D.Disk.told l.fn.disk;
   any_moment : SameLeft (g.D.Disk.left_since l.fn.disk) (g.D.Disk.left_since l.disk);
+  past : g.D.Disk.past l.disk ≡ g.D.Disk.past l.fn.disk;
   counted : g.D.Disk.faults l.fn.disk ≤ g.D.Disk.faults l.disk;
 }
 

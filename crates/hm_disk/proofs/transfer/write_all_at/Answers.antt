@@ -30,5 +30,6 @@ loop-done-preserved g c =
           (λ s t u fits first then. WrittenSoFar-more place bytes past done count within middle since s t u fits first then.0 then.1)
           c.requires.within c.loop-done.invariant.told (BothTell-and told new _ _ c.in_ok-write_at.ensures.ok time);
       moment = c.in_ok-write_at.ensures.moment ∙ c.loop-done.invariant.moment;
+      past = c.in_ok-write_at.ensures.past ∙ c.loop-done.invariant.past;
       counted = omega (arith, c.in_ok-write_at.ensures.cause.never_falls);
     }

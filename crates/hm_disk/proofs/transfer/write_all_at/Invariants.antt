@@ -11,6 +11,7 @@ invariant-loop-done g l = record {
   told : BothTell (g.D.Disk.told l.fn.disk) (g.D.Disk.told l.disk)
       (WrittenSoFar l.place l.bytes l.done (g.D.Disk.left_since l.fn.disk) (g.D.Disk.left_since l.disk));
   moment : moment_of (g.D.Disk.told l.disk) ≡ moment_of (g.D.Disk.told l.fn.disk);
+  past : g.D.Disk.past l.disk ≡ g.D.Disk.past l.fn.disk;
   counted : g.D.Disk.faults l.fn.disk ≤ g.D.Disk.faults l.disk;
 }
 

@@ -1,7 +1,7 @@
 // Runs over files: the volume, the script and the replies.
 
 use super::*;
-use hm_disk::FileDisk;
+use hm_disk_forms::FileDisk;
 use hm_pipe::{FileSink, FileSource};
 use std::fs;
 

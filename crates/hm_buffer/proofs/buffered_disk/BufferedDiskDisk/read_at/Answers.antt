@@ -1,6 +1,5 @@
 -- A short read is a part of its page.
-use Rattle.std.proofs.Common.{◌≡◌, ◌/◌, ◌%◌, ◌+◌, Option, Some, arith, length, subst}
-use Rattle.std.specs.Prelude.{IfSome}
+use Rattle.std.proofs.Common.{◌/◌, arith, length, subst}
 use Rattle.hm_buffer.specs.Held.{GivesPage}
 use Rattle.hm_buffer.proofs.HeldLemmas.{read_held}
 use Rattle.hm_buffer.proofs.buffered_disk.BufferedDiskDisk.read_at.Goals as goal

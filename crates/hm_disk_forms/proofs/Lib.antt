@@ -1,0 +1,4 @@
+mod CrashedLemmas
+mod MemLemmas
+mod PageLemmas
+mod SoundLemmas
