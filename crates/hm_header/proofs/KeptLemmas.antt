@@ -1,12 +1,17 @@
 -- What keeps the two slots keeps what the stages of a header change ask for.
-use Rattle.std.proofs.Common.{◌≡◌, ◌⊎◌, inl, inr, ⊎_elim, ℕ, zero, suc, ◌+◌, ◌-◌, ◌*◌, ◌<◌, ◌≤◌, List, subst, sym, arith, length, get_or, Option, Some, None, IfSome}
-use Rattle.hm_disk.specs.Crash.{Told}
-use Rattle.hm_disk.specs.Disk.{Synced}
+use Rattle.std.proofs.Common.{◌≡◌, inl, inr, ⊎_elim, ℕ, zero, suc, ◌+◌, ◌-◌, ◌*◌, ◌<◌, ◌≤◌, List, ap, subst, sym, ◌∙◌, arith}
+use Rattle.std.proofs.Common.{length, length-take, take, get_or, Option, Some, None, IfSome}
+use Rattle.std.proofs.lemmas.Bool.{cases_lt}
+use Rattle.std.proofs.lemmas.List.{get_or-take}
+use Rattle.hm_disk.specs.Crash.{MayLeave, Outside, Told}
+use Rattle.hm_disk.specs.Disk.{Synced, overwritten}
+use Rattle.hm_disk.proofs.CrashLemmas.{is_outside-from, is_outside-is}
+use Rattle.hm_disk.proofs.OverwriteLemmas.{get_or-overwritten_in, get_or-overwritten_out, length-overwritten}
 use Rattle.hm_types.specs.Told.{BothTell}
 use Rattle.hm_disk.specs.Transfer.{TornAll}
 use Rattle.hm_header.specs.declared.header.Header.{Header}
 use Rattle.hm_header.specs.declared.header.TheConstants.{SLOT_BYTES}
-use Rattle.hm_header.specs.Change.{AnyCrash, AreSlotsSettled, HasNextBody, IsClosedBeside, IsCounting}
+use Rattle.hm_header.specs.Change.{AnyCrash, AreSlotsSettled, HasNextBody, HaveSameSlots, IsClosedBeside, IsCounting}
 use Rattle.hm_header.specs.OnDisk.{HasHeader, slot_in}
 use Rattle.hm_header.specs.Slots.{IsClosed, Spells}
 use Rattle.hm_header.proofs.ChangeLemmas.{settled-any}
@@ -94,6 +99,66 @@ pub past-next : (old new : Told) (place count : ℕ) (header next : Header) (slo
     → TornAll place count old new → AnyCrash (HasNextBody header slot next) old → AnyCrash (HasNextBody header slot next) new
 past-next old new place count header next slot past within torn safe =
     past-slots (HasNextBody header slot next) (next-hangs header next slot) old new place count past within torn safe
+
+-- what a crash of a disk leaves, another disk with the same slots may leave too, but for the bytes past these
+record LeftBeside (old : Told) (image : List ℕ) : Type 0 where
+  beside : List ℕ
+  left : MayLeave old.bytes old.unsettled beside
+  same : SameSlots beside image
+
+left-beside : (old new : Told) (image : List ℕ) → HaveSameSlots old new → MayLeave new.bytes new.unsettled image → LeftBeside old image
+left-beside old new image slots left = record {
+  beside = other;
+  left = record { size = sized; same = each };
+  same = same-slots other image (size ∙ sym sized) (λ byte below inside. sym (front byte below (omega (arith, inside, sized))));
+}
+  where
+    bytes : List ℕ
+    bytes = take 32768 image
+
+    other : List ℕ
+    other = overwritten old.bytes 0 bytes
+
+    size : length image ≡ length old.bytes
+    size = left.size ∙ slots.size
+
+    short : length bytes ≤ length old.bytes
+    short = omega (arith, length-take 32768 image, size)
+
+    sized : length other ≡ length old.bytes
+    sized = length-overwritten old.bytes 0 bytes (omega (arith, short))
+
+    front : (byte : ℕ) → byte < 2 * SLOT_BYTES → byte < length old.bytes → get_or other byte 0 ≡ get_or image byte 0
+    front byte below inside =
+        let at : byte - 0 ≡ byte = omega arith in
+        get_or-overwritten_in old.bytes 0 bytes byte (omega (arith, short)) (omega arith) (omega (arith, length-take 32768 image, size, below, inside))
+        ∙ (ap (λ (k : ℕ). get_or bytes k 0) at ∙ get_or-take 32768 image byte 0 below)
+
+    each : (byte : ℕ) → byte < length old.bytes → Outside old.unsettled byte → get_or other byte 0 ≡ get_or old.bytes byte 0
+    each byte inside outside =
+        ⊎_elim (λ below.
+        front byte below inside
+        ∙ (left.same byte (omega (arith, inside, slots.size))
+        (is_outside-is new.unsettled byte (slots.settled byte below ∙ is_outside-from old.unsettled byte outside))
+        ∙ slots.bytes byte below))
+        (λ past. get_or-overwritten_out old.bytes 0 bytes byte (omega (arith, short)) inside (inr (omega (arith, length-take 32768 image, past))))
+        (cases_lt byte (2 * SLOT_BYTES))
+
+same-left : (Has : List ℕ → Type 0) → HangsOnSlots Has → (old new : Told) → HaveSameSlots old new → AnyCrash Has old → AnyCrash Has new
+same-left Has hangs old new slots safe image left =
+    let b = left-beside old new image slots left in hangs b.beside image b.same (safe b.beside b.left)
+
+pub same-counting : (old new : Told) (header : Header) (slot : ℕ) → HaveSameSlots old new → AnyCrash (IsCounting header slot) old
+    → AnyCrash (IsCounting header slot) new
+same-counting old new header slot slots safe = same-left (IsCounting header slot) (counting-hangs header slot) old new slots safe
+
+pub same-beside : (old new : Told) (header : Header) (slot : ℕ) → HaveSameSlots old new → AnyCrash (IsClosedBeside header slot) old
+    → AnyCrash (IsClosedBeside header slot) new
+same-beside old new header slot slots safe = same-left (IsClosedBeside header slot) (beside-hangs header slot) old new slots safe
+
+pub same-next : (old new : Told) (header next : Header) (slot : ℕ) → HaveSameSlots old new → AnyCrash (HasNextBody header slot next) old
+    → AnyCrash (HasNextBody header slot next) new
+same-next old new header next slot slots safe = same-left (HasNextBody header slot next) (next-hangs header next slot) old new slots safe
 
 -- after a sync
 pub synced-counting : (old new told : Option Told) (header : Header) (slot : ℕ) → BothTell old new Synced → told ≡ new

@@ -1,7 +1,7 @@
 -- What a change of the header does, in three stages. A stage asks for a property of each image that a
 -- crash may leave. It keeps this property as long as it does not succeed, so that it may be done again.
-use Rattle.std.specs.Prelude.{◌≡◌, ◌⊎◌, ℕ, ◌+◌, ◌-◌, ◌*◌, ◌%◌, ◌^◌, ◌<◌, List, [], ◌∷◌, length}
-use Rattle.hm_disk.specs.Crash.{Told, MayLeave, Outside}
+use Rattle.std.specs.Prelude.{◌≡◌, ◌⊎◌, ℕ, ◌+◌, ◌-◌, ◌*◌, ◌%◌, ◌^◌, ◌<◌, List, [], ◌∷◌, length, slice_index}
+use Rattle.hm_disk.specs.Crash.{Told, MayLeave, Outside, is_outside}
 use Rattle.hm_disk.specs.Moments.{Each, Elapses, LeftSince}
 use Rattle.hm_disk.specs.Transfer.{TornAll}
 use Rattle.hm_header.specs.declared.header.Header.{Header}
@@ -18,6 +18,13 @@ pub record IsNext (header next : Header) : Type 0 where
 -- no unsettled range meets a slot
 abbrev pub AreSlotsSettled : Told → Type 0
 AreSlotsSettled t = (byte : ℕ) → byte < 2 * SLOT_BYTES → Outside t.unsettled byte
+
+-- Two disks of one size have the same slots: each byte of them reads the same, and is settled in both or in
+-- neither.
+pub record HaveSameSlots (old new : Told) : Type 0 where
+  pub size : length new.bytes ≡ length old.bytes
+  pub bytes : (byte : ℕ) → byte < 2 * SLOT_BYTES → slice_index new.bytes byte ≡ slice_index old.bytes byte
+  pub settled : (byte : ℕ) → byte < 2 * SLOT_BYTES → is_outside new.unsettled byte ≡ is_outside old.unsettled byte
 
 -- whatever a crash of a disk leaves has this property; so has what reads give
 abbrev pub AnyCrash : (List ℕ → Type 0) → Told → Type 0

@@ -6,7 +6,8 @@ ghost use Rattle.hm_header.specs.declared.fault.HeaderFault.{HeaderFault};
 ghost use Rattle.hm_header.specs.declared.fault.HeaderFault.TheVariants.{BadField};
 ghost use Rattle.hm_header.specs.declared.header.Header.{Header};
 ghost use Rattle.hm_header.specs.declared.header.TheConstants.{BODY_BYTES, GATE_OPEN, SLOT_BYTES};
-ghost use Rattle.hm_header.specs.Change.{AnyCrash, AreSlotsSettled, HasNextBody, IsClosedBeside, IsCounting};
+ghost use Rattle.hm_header.specs.Change.{AnyCrash, AreSlotsSettled, HaveSameSlots};
+ghost use Rattle.hm_header.specs.Change.{HasNextBody, IsClosedBeside, IsCounting};
 ghost use Rattle.hm_header.specs.Layout.{body_of, header_in};
 ghost use Rattle.hm_header.specs.Parts.{AreInRange, all_parts};
 ghost use Rattle.hm_header.specs.Range.{HasRoom, IsHeader};
@@ -131,5 +132,16 @@ pub fn writes_past_the_slots_leave_them()
         AnyCrash (IsClosedBeside header slot) old → AnyCrash (IsClosedBeside header slot) new }
     ensures third { (old new : Told) (place count : ℕ) (header next : Header) (slot : ℕ) →
         2 * SLOT_BYTES ≤ place → place + count ≤ length old.bytes → TornAll place count old new →
+        AnyCrash (HasNextBody header slot next) old → AnyCrash (HasNextBody header slot next) new }
+{}
+
+/// What a stage of a header change asks for hangs on the two slots alone: another disk of the same size has
+/// it too whose slots read the same and are settled in the same bytes.
+pub fn same_slots_keep_what_a_stage_asks_for()
+    ensures first { (old new : Told) (header : Header) (slot : ℕ) → HaveSameSlots old new →
+        AnyCrash (IsCounting header slot) old → AnyCrash (IsCounting header slot) new }
+    ensures second { (old new : Told) (header : Header) (slot : ℕ) → HaveSameSlots old new →
+        AnyCrash (IsClosedBeside header slot) old → AnyCrash (IsClosedBeside header slot) new }
+    ensures third { (old new : Told) (header next : Header) (slot : ℕ) → HaveSameSlots old new →
         AnyCrash (HasNextBody header slot next) old → AnyCrash (HasNextBody header slot next) new }
 {}

@@ -1,0 +1,5 @@
+pub mod EntryLemmas
+pub mod LogLemmas
+pub mod PutBackLemmas
+pub mod RangeLemmas
+pub mod RecoveredLemmas

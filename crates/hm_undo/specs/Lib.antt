@@ -1,0 +1,4 @@
+pub mod Entry
+pub mod Log
+pub mod Range
+pub mod Recovered
