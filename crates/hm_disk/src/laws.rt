@@ -1,5 +1,5 @@
 // What follows from the definitions alone: each function states one law, and does nothing.
-ghost use Rattle.std.specs.Prelude.{◌≡◌, ◌↔◌, ◌≤◌, ◌+◌, ◌∷◌, [], ℕ, List, IfSome, IsTrue, length};
+ghost use Rattle.std.specs.Prelude.{◌≡◌, ◌⊎◌, ◌↔◌, ◌≤◌, ◌+◌, ◌∷◌, [], ℕ, List, IfSome, IsTrue, length};
 ghost use Rattle.hm_disk.specs.Crash.{Told, Outside, MayLeave, is_outside};
 ghost use Rattle.hm_disk.specs.Disk.{Written, MayBeTorn};
 ghost use Rattle.hm_disk.specs.Moments.{WriteElapses, SyncElapses, SameLeft, Each};
@@ -30,6 +30,14 @@ pub fn a_settled_disk_alone_is_left()
 pub fn left_since_now_is_what_a_crash_now_may_leave<D: Disk>()
     ensures { (disk : D) (image : List ℕ) → IfSome (D.told disk) (λ t.
         D.left_since disk t.moment image ↔ MayLeave t.bytes t.unsettled image) }
+{}
+
+/// Over calls that keep what is over of a disk, whatever else is known of them, what may have been left
+/// since a moment was so before, or is what a crash now may leave.
+pub fn what_is_left_was_so_before_or_may_be_left_now<D: Disk>()
+    ensures { (before after : D) → D.past after ≡ D.past before → (moment : ℕ) (image : List ℕ) →
+        D.left_since after moment image → D.left_since before moment image
+        ⊎ IfSome (D.told after) (λ t. MayLeave t.bytes t.unsettled image) }
 {}
 
 /// A write only adds to what a crash may leave: what one just before it might have left, one after it

@@ -7,7 +7,8 @@ use hm_disk::{
     Disk, Property, a_byte_is_outside_where_the_test_says_so, a_property_holds_now,
     a_property_holds_over_a_read, a_property_holds_over_a_sync, a_property_holds_over_a_write,
     a_settled_disk_alone_is_left, a_write_only_adds, left_since_now_is_what_a_crash_now_may_leave,
-    read_all_at, the_disk_as_it_reads_may_be_left, write_synced,
+    read_all_at, the_disk_as_it_reads_may_be_left, what_is_left_was_so_before_or_may_be_left_now,
+    write_synced,
 };
 use hm_disk_forms::{Crash, MemDisk};
 use hm_types::{BIGBLOCK_BYTES, Failed};
@@ -302,6 +303,7 @@ fn laws_can_be_called() {
     the_disk_as_it_reads_may_be_left();
     a_settled_disk_alone_is_left();
     left_since_now_is_what_a_crash_now_may_leave::<MemDisk>();
+    what_is_left_was_so_before_or_may_be_left_now::<MemDisk>();
     a_write_only_adds();
     a_property_holds_now::<MemDisk, Any>();
     a_property_holds_over_a_write::<MemDisk, Any>();
