@@ -12,7 +12,7 @@ use Rattle.hm_header.specs.Slots.{Counts}
 use Rattle.hm_header.proofs.HeaderLemmas.{header-held, header-slots, held-kept, next-header}
 use Rattle.hm_header.proofs.KeptLemmas.{SameSlots, same-slots}
 use Rattle.hm_header.proofs.OnDiskLemmas.{other-slot-kept, slot-range}
-use Rattle.hm_header.proofs.SliceLemmas.{slice-overwritten}
+use Rattle.hm_header.proofs.SliceLemmas.{slice-kept, slice-overwritten}
 use Rattle.hm_header.proofs.SlotLemmas.{chosen_is_one, length-body}
 use Rattle.hm_undo.specs.Range.{Fit, HasRange, OldPage, places_of, put_back}
 use Rattle.hm_undo.specs.Recovered.{IsUndone, RecoversTo, recovered_header, with_slot}
@@ -96,10 +96,10 @@ module _ (image : List ℕ) (header : Header) (slot : ℕ) (counts : HasHeader i
   pub pages-fit : Fit (length image) olds
   pages-fit = range-fits image header olds counts.in_range.bigblocks counts.room (range-each image header olds range)
 
-  abbrev back : List ℕ
+  abbrev pub back : List ℕ
   back = put_back image olds
 
-  abbrev result : List ℕ
+  abbrev pub result : List ℕ
   result = with_slot back (1 - slot) (recovered_header header)
 
   back-leaves : MayLeave image (places_of olds) back
@@ -129,6 +129,10 @@ module _ (image : List ℕ) (header : Header) (slot : ℕ) (counts : HasHeader i
       either : (number : ℕ) → number ≤ 1 → slot_in back number ≡ slot_in image number
       either zero low = same.first
       either (suc number) low = same.second
+
+  -- what lies past the slots stands as it was put back
+  pub undone-past : (from to : ℕ) → 2 * SLOT_BYTES ≤ from → slice_range result from to ≡ slice_range back from to
+  undone-past from to past = slice-kept back result (slot_place (1 - slot)) SLOT_BYTES from to (inr (omega (arith, past))) slot-leaves
 
   -- the next header counts, in the other slot
   pub undone-counts : HasHeader result (recovered_header header) (1 - slot)

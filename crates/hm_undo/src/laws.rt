@@ -146,7 +146,7 @@ pub fn an_image_recovers_to_one_at_most()
 {}
 
 /// Where the range of the header that counts is undone, the next header counts, in the other slot. Each
-/// byte outside the pages and this slot is as before.
+/// byte outside the pages and this slot is as before, and past the slots all stands as it was put back.
 pub fn an_undone_range_leaves_the_rest()
     ensures header { (image : List ℕ) (header : Header) (slot : ℕ) (olds : List OldPage) →
         HasHeader image header slot → HasRange image header olds →
@@ -156,6 +156,11 @@ pub fn an_undone_range_leaves_the_rest()
         HasHeader image header slot → HasRange image header olds →
         MayLeave image ((slot_place (1 - slot), SLOT_BYTES) ∷ places_of olds)
         (with_slot (put_back image olds) (1 - slot) (recovered_header header)) }
+    ensures past_the_slots { (image : List ℕ) (header : Header) (slot : ℕ) (olds : List OldPage) →
+        HasHeader image header slot → HasRange image header olds →
+        (from to : ℕ) → 2 * SLOT_BYTES ≤ from →
+        slice_range (with_slot (put_back image olds) (1 - slot) (recovered_header header)) from to
+        ≡ slice_range (put_back image olds) from to }
 {}
 
 /// What an image recovers to recovers to itself.
