@@ -8,7 +8,7 @@ use Rattle.hm_types.specs.Offset.{byte_of, zone_of}
 use Rattle.hm_fields.specs.Fields.{Apart}
 use Rattle.hm_header.specs.declared.header.TheConstants.{SLOT_BYTES}
 use Rattle.hm_header.specs.Range.{IsCount, IsEntry, IsSize}
-use Rattle.hm_undo.specs.Entry.{IsPage, IsPageOf}
+use Rattle.hm_undo.specs.Entry.{IsUndoPage, IsUndoPageOf}
 use Rattle.hm_undo.specs.Log.{IsInEntry, IsUndo, entry_at, entry_place}
 
 pub entry-from : (bigblocks entry : ℕ) → start_of (first_undo bigblocks) ≤ entry_place bigblocks entry
@@ -49,20 +49,20 @@ range-apart bigblocks first count i j few below within =
     entries-apart bigblocks (entry_at first i) (entry_at first j) (entry_at-differ first count i j few below within)
 
 -- a page that an entry may name
-pub page-past_slots : (bigblocks at : ℕ) → IsPageOf bigblocks at → 2 * SLOT_BYTES ≤ byte_of at
+pub page-past_slots : (bigblocks at : ℕ) → IsUndoPageOf bigblocks at → 2 * SLOT_BYTES ≤ byte_of at
 page-past_slots bigblocks at page = ⊎_elim (λ pool. omega (arith, pool.1)) (λ layer. omega (arith, layer.1)) page.zone
 
-pub page-within : (bigblocks at : ℕ) → IsSize bigblocks → IsPageOf bigblocks at → byte_of at + PAGE_BYTES ≤ start_of bigblocks
+pub page-within : (bigblocks at : ℕ) → IsSize bigblocks → IsUndoPageOf bigblocks at → byte_of at + PAGE_BYTES ≤ start_of bigblocks
 page-within bigblocks at size page =
     ⊎_elim (λ pool. omega (arith, pool.1, page.page, size)) (λ layer. omega (arith, layer.1, page.page, size)) page.zone
 
-pub page-apart : (bigblocks at entry : ℕ) → IsEntry entry → IsPageOf bigblocks at
+pub page-apart : (bigblocks at entry : ℕ) → IsEntry entry → IsUndoPageOf bigblocks at
     → Apart (byte_of at) PAGE_BYTES (entry_place bigblocks entry) UNDO_ENTRY_BYTES
 page-apart bigblocks at entry is page =
     ⊎_elim (λ pool. inr (omega (arith, pool.1, is))) (λ layer. inl (omega (arith, layer.1, page.page, is))) page.zone
 
 -- a page of some volume
-pub page-some : (bigblocks at : ℕ) → IsSize bigblocks → IsPageOf bigblocks at → IsPage at
+pub page-some : (bigblocks at : ℕ) → IsSize bigblocks → IsUndoPageOf bigblocks at → IsUndoPage at
 page-some bigblocks at size page = record { volume = page.volume; page = page.page; zone = ⊎_elim (λ pool. inl pool.0) (λ layer. inr (other layer)) page.zone }
   where
     other : (zone_of at ≡ FREEMAP_ZONE) × IsLayer2 bigblocks (block_of (byte_of at))

@@ -7,7 +7,7 @@ use Rattle.hm_types.specs.Offset.{byte_of}
 use Rattle.hm_disk.specs.Crash.{MayLeave, Outside}
 use Rattle.hm_disk.proofs.OverwriteLemmas.{get_or-overwritten_in, get_or-overwritten_out, length-overwritten}
 use Rattle.hm_header.proofs.SliceLemmas.{length-slice, slice-byte}
-use Rattle.hm_undo.specs.Range.{Fit, OldPage, places_of, put_back}
+use Rattle.hm_undo.specs.Range.{Fit, OldPage, old_places_of, put_back}
 
 pub length-put_back : (image : List ℕ) (olds : List OldPage) → Fit (length image) olds → length (put_back image olds) ≡ length image
 length-put_back image [] fit = refl
@@ -17,20 +17,20 @@ length-put_back image (old ∷ olds) fit =
 
 -- each byte outside the pages is as before
 pub put_back-outside : (image : List ℕ) (olds : List OldPage) → Fit (length image) olds → (byte : ℕ) → byte < length image
-    → Outside (places_of olds) byte → get_or (put_back image olds) byte 0 ≡ get_or image byte 0
+    → Outside (old_places_of olds) byte → get_or (put_back image olds) byte 0 ≡ get_or image byte 0
 put_back-outside image [] fit byte below outside = refl
 put_back-outside image (old ∷ olds) fit byte below outside =
     let more = length-put_back image olds fit.1 in
     get_or-overwritten_out (put_back image olds) (byte_of old.at) old.bytes byte (omega (arith, fit.0, more)) (omega (arith, below, more)) outside.0
     ∙ put_back-outside image olds fit.1 byte below outside.1
 
-pub put_back-leaves : (image : List ℕ) (olds : List OldPage) → Fit (length image) olds → MayLeave image (places_of olds) (put_back image olds)
+pub put_back-leaves : (image : List ℕ) (olds : List OldPage) → Fit (length image) olds → MayLeave image (old_places_of olds) (put_back image olds)
 put_back-leaves image olds fit = record { size = length-put_back image olds fit; same = put_back-outside image olds fit }
 
 -- a byte of a page is that of the first page with it
 pub put_back-first : (image : List ℕ) (before : List OldPage) (old : OldPage) (after : List OldPage)
     → Fit (length image) (before ++ old ∷ after) → (byte : ℕ) → byte_of old.at ≤ byte → byte < byte_of old.at + length old.bytes
-    → Outside (places_of before) byte
+    → Outside (old_places_of before) byte
     → get_or (put_back image (before ++ old ∷ after)) byte 0 ≡ get_or old.bytes (byte - byte_of old.at) 0
 put_back-first image [] old after fit byte from to outside =
     let more = length-put_back image after fit.1 in
@@ -48,7 +48,7 @@ put_back-first image (one ∷ before) old after fit byte from to outside =
 -- so a page stands whole that no page before it meets
 pub put_back-page : (image : List ℕ) (before : List OldPage) (old : OldPage) (after : List OldPage)
     → Fit (length image) (before ++ old ∷ after)
-    → ((byte : ℕ) → byte_of old.at ≤ byte → byte < byte_of old.at + length old.bytes → Outside (places_of before) byte)
+    → ((byte : ℕ) → byte_of old.at ≤ byte → byte < byte_of old.at + length old.bytes → Outside (old_places_of before) byte)
     → slice_range (put_back image (before ++ old ∷ after)) (byte_of old.at) (byte_of old.at + length old.bytes) ≡ old.bytes
 put_back-page image before old after fit apart =
     ext_get_or 0 (slice_range back place (place + length old.bytes)) old.bytes sized (λ i below. each i (omega (arith, below, sized)))
@@ -76,7 +76,7 @@ put_back-page image before old after fit apart =
 
 -- What stands in the pages before they are put back changes nothing.
 same-byte : (a b : List ℕ) (olds : List OldPage) → length b ≡ length a → Fit (length a) olds → (byte : ℕ) → byte < length a
-    → (Outside (places_of olds) byte → get_or b byte 0 ≡ get_or a byte 0)
+    → (Outside (old_places_of olds) byte → get_or b byte 0 ≡ get_or a byte 0)
     → get_or (put_back b olds) byte 0 ≡ get_or (put_back a olds) byte 0
 same-byte a b [] size fit byte below same = same tt
 same-byte a b (old ∷ olds) size fit byte below same =
@@ -109,7 +109,7 @@ same-byte a b (old ∷ olds) size fit byte below same =
         get_or-overwritten_in (put_back b olds) (byte_of old.at) old.bytes byte (omega (arith, fit.0, right, size)) from to
         ∙ sym (get_or-overwritten_in (put_back a olds) (byte_of old.at) old.bytes byte (omega (arith, fit.0, left)) from to)
 
-pub put_back-hides : (a b : List ℕ) (olds : List OldPage) → Fit (length a) olds → MayLeave a (places_of olds) b → put_back b olds ≡ put_back a olds
+pub put_back-hides : (a b : List ℕ) (olds : List OldPage) → Fit (length a) olds → MayLeave a (old_places_of olds) b → put_back b olds ≡ put_back a olds
 put_back-hides a b olds fit change =
     ext_get_or 0 (put_back b olds) (put_back a olds) (right ∙ (change.size ∙ sym left))
     (λ byte below. let inside : byte < length a = omega (arith, below, right, change.size) in

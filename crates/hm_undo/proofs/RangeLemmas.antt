@@ -8,17 +8,17 @@ use Rattle.hm_disk.specs.Disk.{overwritten}
 use Rattle.hm_header.specs.declared.header.Header.{Header}
 use Rattle.hm_header.specs.Range.{HasRoom, IsEntry, IsSize}
 use Rattle.hm_header.proofs.SliceLemmas.{slice-overwritten, slice-same}
-use Rattle.hm_undo.specs.Entry.{IsPageOf, SpellsEntry, entry_of}
+use Rattle.hm_undo.specs.Entry.{IsUndoPageOf, SpellsUndoEntry, undo_entry_of}
 use Rattle.hm_undo.specs.Log.{IsInEntry, entry_at, entry_place}
-use Rattle.hm_undo.specs.Range.{Fit, HasEntry, HasRange, OldPage, entry_in}
+use Rattle.hm_undo.specs.Range.{Fit, HasUndoEntry, HasRange, OldPage, undo_entry_in}
 use Rattle.hm_undo.proofs.EntryLemmas.{entry-is-one, length-entry, spelled-written}
 use Rattle.hm_undo.proofs.LogLemmas.{entry-to, page-some, page-within, pool-within}
 
 -- a page of a range
 pub range-entry : (image : List ℕ) (header : Header) (olds : List OldPage) → HasRange image header olds → (i : ℕ) (d : OldPage)
-    → i < length olds → HasEntry image header (entry_at header.undo_first i) (get_or olds i d)
+    → i < length olds → HasUndoEntry image header (entry_at header.undo_first i) (get_or olds i d)
 range-entry image header olds range i d below =
-    let P : _ → Type 0 = λ o. IfSome o (HasEntry image header (entry_at header.undo_first i)) in
+    let P : _ → Type 0 = λ o. IfSome o (HasUndoEntry image header (entry_at header.undo_first i)) in
     subst P (slice_get-get_or olds i d below) (range.each i)
 
 same-old : (a b : OldPage) → a.at ≡ b.at → a.bytes ≡ b.bytes → a ≡ b
@@ -27,9 +27,9 @@ same-old a b at bytes =
     let all : make a.at a.bytes ≡ make b.at b.bytes = rw (at, bytes) refl in
     all
 
-entry-one : (image : List ℕ) (header : Header) (entry : ℕ) (a b : OldPage) → HasEntry image header entry a → HasEntry image header entry b → a ≡ b
+entry-one : (image : List ℕ) (header : Header) (entry : ℕ) (a b : OldPage) → HasUndoEntry image header entry a → HasUndoEntry image header entry b → a ≡ b
 entry-one image header entry a b is is' =
-    let same = entry-is-one (entry_in image header.bigblocks entry) a.at header.generation a.bytes b.at header.generation b.bytes is.spelled is'.spelled in
+    let same = entry-is-one (undo_entry_in image header.bigblocks entry) a.at header.generation a.bytes b.at header.generation b.bytes is.spelled is'.spelled in
     same-old a b same.0 same.2
 
 -- a header names one range of pages at most
@@ -45,13 +45,13 @@ range-is-one image header a b is is' =
 
 -- each of these pages stands in some entry
 abbrev pub HasEach : List ℕ → Header → List OldPage → Type 0
-HasEach image header olds = (i : ℕ) → IfSome (slice_get olds i) (λ old. (entry : ℕ) × HasEntry image header entry old)
+HasEach image header olds = (i : ℕ) → IfSome (slice_get olds i) (λ old. (entry : ℕ) × HasUndoEntry image header entry old)
 
 pub range-each : (image : List ℕ) (header : Header) (olds : List OldPage) → HasRange image header olds → HasEach image header olds
 range-each image header olds range i = some (slice_get olds i) (range.each i)
   where
-    some : (o : Option OldPage) → IfSome o (HasEntry image header (entry_at header.undo_first i))
-        → IfSome o (λ old. (entry : ℕ) × HasEntry image header entry old)
+    some : (o : Option OldPage) → IfSome o (HasUndoEntry image header (entry_at header.undo_first i))
+        → IfSome o (λ old. (entry : ℕ) × HasUndoEntry image header entry old)
     some None has = tt
     some (Some old) has = (entry_at header.undo_first i, has)
 
@@ -66,21 +66,21 @@ range-fits image header (old ∷ olds) size room each = (
 
 -- an entry stands where it was written
 pub entry-written : (image : List ℕ) (header : Header) (entry : ℕ) (old : OldPage) → IsSize header.bigblocks → HasRoom (length image) header.bigblocks
-    → IsEntry entry → header.generation < 2 ^ 64 → IsPageOf header.bigblocks old.at → length old.bytes ≡ PAGE_BYTES
-    → HasEntry (overwritten image (entry_place header.bigblocks entry) (entry_of old.at header.generation old.bytes)) header entry old
+    → IsEntry entry → header.generation < 2 ^ 64 → IsUndoPageOf header.bigblocks old.at → length old.bytes ≡ PAGE_BYTES
+    → HasUndoEntry (overwritten image (entry_place header.bigblocks entry) (undo_entry_of old.at header.generation old.bytes)) header entry old
 entry-written image header entry old size room is fits page sized = record {
-  spelled = subst (λ (bytes : List ℕ). SpellsEntry bytes old.at header.generation old.bytes) (sym here)
+  spelled = subst (λ (bytes : List ℕ). SpellsUndoEntry bytes old.at header.generation old.bytes) (sym here)
       (spelled-written old.at header.generation old.bytes (page-some header.bigblocks old.at size page) fits sized);
   page = page;
 }
   where
     bytes : List ℕ
-    bytes = entry_of old.at header.generation old.bytes
+    bytes = undo_entry_of old.at header.generation old.bytes
 
     long : length bytes ≡ UNDO_ENTRY_BYTES
     long = omega (arith, length-entry old.at header.generation old.bytes, sized)
 
-    here : entry_in (overwritten image (entry_place header.bigblocks entry) bytes) header.bigblocks entry ≡ bytes
+    here : undo_entry_in (overwritten image (entry_place header.bigblocks entry) bytes) header.bigblocks entry ≡ bytes
     here =
         ap (λ (n : ℕ). slice_range (overwritten image (entry_place header.bigblocks entry) bytes)
         (entry_place header.bigblocks entry) (entry_place header.bigblocks entry + n)) (sym long)
@@ -90,13 +90,13 @@ entry-written image header entry old size room is fits page sized = record {
 -- entries with the same bytes hold the same pages
 pub entry-same : (old new : List ℕ) (header : Header) (entry : ℕ) (page : OldPage) → length new ≡ length old
     → ((byte : ℕ) → IsInEntry header.bigblocks entry byte → byte < length old → get_or new byte 0 ≡ get_or old byte 0)
-    → HasEntry old header entry page → HasEntry new header entry page
+    → HasUndoEntry old header entry page → HasUndoEntry new header entry page
 entry-same old new header entry page size same has = record {
-  spelled = subst (λ (bytes : List ℕ). SpellsEntry bytes page.at header.generation page.bytes) (sym here) has.spelled;
+  spelled = subst (λ (bytes : List ℕ). SpellsUndoEntry bytes page.at header.generation page.bytes) (sym here) has.spelled;
   page = has.page;
 }
   where
-    here : entry_in new header.bigblocks entry ≡ entry_in old header.bigblocks entry
+    here : undo_entry_in new header.bigblocks entry ≡ undo_entry_in old header.bigblocks entry
     here = slice-same old new (entry_place header.bigblocks entry) (entry_place header.bigblocks entry + UNDO_ENTRY_BYTES) size
         (λ i below inside. same (entry_place header.bigblocks entry + i) (omega arith, omega (arith, below)) inside)
 
@@ -106,19 +106,19 @@ pub range-same : (old new : List ℕ) (header : Header) (olds : List OldPage) �
     → HasRange old header olds → HasRange new header olds
 range-same old new header olds size same range = record { count = range.count; each = λ i. more i (slice_get_cases olds i).1 }
   where
-    kept : (i : ℕ) (page : OldPage) → i < length olds → HasEntry old header (entry_at header.undo_first i) page
-        → HasEntry new header (entry_at header.undo_first i) page
+    kept : (i : ℕ) (page : OldPage) → i < length olds → HasUndoEntry old header (entry_at header.undo_first i) page
+        → HasUndoEntry new header (entry_at header.undo_first i) page
     kept i page below has =
         entry-same old new header (entry_at header.undo_first i) page size
         (λ byte inside within. same i byte (omega (arith, below, range.count)) inside within) has
 
     more : (i : ℕ) → ((page : OldPage) × (i < length olds) × (slice_get olds i ≡ Some page) × (get_or olds i page ≡ page))
         ⊎ ((length olds ≤ i) × (slice_get olds i ≡ None))
-        → IfSome (slice_get olds i) (HasEntry new header (entry_at header.undo_first i))
+        → IfSome (slice_get olds i) (HasUndoEntry new header (entry_at header.undo_first i))
     more i (inl some) =
-        let P : Option OldPage → Type 0 = λ o. IfSome o (HasEntry new header (entry_at header.undo_first i)) in
-        let Q : Option OldPage → Type 0 = λ o. IfSome o (HasEntry old header (entry_at header.undo_first i)) in
+        let P : Option OldPage → Type 0 = λ o. IfSome o (HasUndoEntry new header (entry_at header.undo_first i)) in
+        let Q : Option OldPage → Type 0 = λ o. IfSome o (HasUndoEntry old header (entry_at header.undo_first i)) in
         subst P (sym some.2) (kept i some.0 some.1 (subst Q some.2 (range.each i)))
     more i (inr none) =
-        let P : Option OldPage → Type 0 = λ o. IfSome o (HasEntry new header (entry_at header.undo_first i)) in
+        let P : Option OldPage → Type 0 = λ o. IfSome o (HasUndoEntry new header (entry_at header.undo_first i)) in
         subst P (sym none.1) tt

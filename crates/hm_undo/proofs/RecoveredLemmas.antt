@@ -14,15 +14,15 @@ use Rattle.hm_header.proofs.KeptLemmas.{SameSlots, same-slots}
 use Rattle.hm_header.proofs.OnDiskLemmas.{other-slot-kept, slot-range}
 use Rattle.hm_header.proofs.SliceLemmas.{slice-kept, slice-overwritten}
 use Rattle.hm_header.proofs.SlotLemmas.{chosen_is_one, length-body}
-use Rattle.hm_undo.specs.Range.{Fit, HasRange, OldPage, places_of, put_back}
-use Rattle.hm_undo.specs.Recovered.{IsUndone, RecoversTo, recovered_header, with_slot}
+use Rattle.hm_undo.specs.Range.{Fit, HasRange, OldPage, old_places_of, put_back}
+use Rattle.hm_undo.specs.Recovered.{IsRangeUndone, RecoversTo, recovered_header, with_slot}
 use Rattle.hm_undo.proofs.LogLemmas.{page-past_slots}
 use Rattle.hm_undo.proofs.PutBackLemmas.{put_back-leaves}
 use Rattle.hm_undo.proofs.RangeLemmas.{HasEach, range-each, range-fits, range-is-one}
 
 -- how an image recovers to another by the header of this slot
 abbrev How : List ℕ → List ℕ → Header → ℕ → Type 0
-How image result header slot = ((header.undo_count ≡ 0) × (result ≡ image)) ⊎ IsUndone image header slot result
+How image result header slot = ((header.undo_count ≡ 0) × (result ≡ image)) ⊎ IsRangeUndone image header slot result
 
 how-one : (image : List ℕ) (header : Header) (slot : ℕ) (a b : List ℕ) → How image a header slot → How image b header slot → a ≡ b
 how-one image header slot a b (inl same) (inl same') = same.1 ∙ sym same'.1
@@ -49,7 +49,7 @@ counts-small first second (suc (suc number)) counts = absurd counts
 
 -- the pages of a range lie past the slots
 past-slots : (image : List ℕ) (header : Header) (olds : List OldPage) → HasEach image header olds → (byte : ℕ) → byte < 2 * SLOT_BYTES
-    → Outside (places_of olds) byte
+    → Outside (old_places_of olds) byte
 past-slots image header [] each byte below = tt
 past-slots image header (old ∷ olds) each byte below = (
   inl (let here = page-past_slots header.bigblocks old.at (each 0).1.page in omega (arith, here, below)),
@@ -102,7 +102,7 @@ module _ (image : List ℕ) (header : Header) (slot : ℕ) (counts : HasHeader i
   abbrev pub result : List ℕ
   result = with_slot back (1 - slot) (recovered_header header)
 
-  back-leaves : MayLeave image (places_of olds) back
+  back-leaves : MayLeave image (old_places_of olds) back
   back-leaves = put_back-leaves image olds pages-fit
 
   slot-leaves : MayLeave back ((slot_place (1 - slot), SLOT_BYTES) ∷ []) result
@@ -111,7 +111,7 @@ module _ (image : List ℕ) (header : Header) (slot : ℕ) (counts : HasHeader i
       (omega (arith, length-with_gate (recovered_header header))) (omega (arith, back-leaves.size, both))
 
   -- each byte outside the pages and the slot that is written is as before
-  pub undone-leaves : MayLeave image ((slot_place (1 - slot), SLOT_BYTES) ∷ places_of olds) result
+  pub undone-leaves : MayLeave image ((slot_place (1 - slot), SLOT_BYTES) ∷ old_places_of olds) result
   undone-leaves = record {
     size = slot-leaves.size ∙ back-leaves.size;
     same = λ byte below outside. slot-leaves.same byte (omega (arith, below, back-leaves.size)) (outside.0, tt) ∙ back-leaves.same byte below outside.1;
@@ -153,7 +153,7 @@ recovered-again image result is = ⊎_elim itself undone is.how
       how = inl (same.0, refl);
     }
 
-    undone : IsUndone image is.header is.slot result → RecoversTo result result
+    undone : IsRangeUndone image is.header is.slot result → RecoversTo result result
     undone u = record {
       header = recovered_header is.header;
       slot = 1 - is.slot;

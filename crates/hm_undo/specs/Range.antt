@@ -5,7 +5,7 @@ use Rattle.hm_types.specs.declared.limits.TheConstants.{UNDO_ENTRY_BYTES}
 use Rattle.hm_types.specs.Offset.{byte_of}
 use Rattle.hm_disk.specs.Disk.{overwritten}
 use Rattle.hm_header.specs.declared.header.Header.{Header}
-use Rattle.hm_undo.specs.Entry.{IsPageOf, SpellsEntry}
+use Rattle.hm_undo.specs.Entry.{IsUndoPageOf, SpellsUndoEntry}
 use Rattle.hm_undo.specs.Log.{entry_at, entry_place}
 
 -- the old bytes of a page, and the raw offset where it stands
@@ -14,25 +14,25 @@ pub record OldPage : Type 0 where
   pub bytes : List ℕ
 
 -- the bytes of an entry in an image, on a volume of so many big-blocks
-abbrev pub entry_in : List ℕ → ℕ → ℕ → List ℕ
-entry_in image bigblocks entry =
+abbrev pub undo_entry_in : List ℕ → ℕ → ℕ → List ℕ
+undo_entry_in image bigblocks entry =
     slice_range image (entry_place bigblocks entry) (entry_place bigblocks entry + UNDO_ENTRY_BYTES)
 
 -- An image has this old page in this entry, for this header: the entry has the header's generation, and names a
 -- page of the header's volume.
-pub record HasEntry (image : List ℕ) (header : Header) (entry : ℕ) (old : OldPage) : Type 0 where
-  pub spelled : SpellsEntry (entry_in image header.bigblocks entry) old.at header.generation old.bytes
-  pub page : IsPageOf header.bigblocks old.at
+pub record HasUndoEntry (image : List ℕ) (header : Header) (entry : ℕ) (old : OldPage) : Type 0 where
+  pub spelled : SpellsUndoEntry (undo_entry_in image header.bigblocks entry) old.at header.generation old.bytes
+  pub page : IsUndoPageOf header.bigblocks old.at
 
 -- the entries that a header names have these old pages, in the order of the entries
 pub record HasRange (image : List ℕ) (header : Header) (olds : List OldPage) : Type 0 where
   pub count : length olds ≡ header.undo_count
-  pub each : (i : ℕ) → IfSome (slice_get olds i) (HasEntry image header (entry_at header.undo_first i))
+  pub each : (i : ℕ) → IfSome (slice_get olds i) (HasUndoEntry image header (entry_at header.undo_first i))
 
 -- the range of bytes of each page: its place, and how many they are
-abbrev pub places_of : List OldPage → List (ℕ × ℕ)
-places_of [] = []
-places_of (old ∷ olds) = (byte_of old.at, length old.bytes) ∷ places_of olds
+abbrev pub old_places_of : List OldPage → List (ℕ × ℕ)
+old_places_of [] = []
+old_places_of (old ∷ olds) = (byte_of old.at, length old.bytes) ∷ old_places_of olds
 
 -- each page lies inside an image of so many bytes
 abbrev pub Fit : ℕ → List OldPage → Type 0

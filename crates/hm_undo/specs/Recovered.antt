@@ -17,7 +17,7 @@ recovered_header header = record header { generation = (header.generation + 1) %
 
 -- The range that a header of this slot names is undone: the old pages are put back, and the next header stands in
 -- the other slot.
-pub record IsUndone (image : List ℕ) (header : Header) (slot : ℕ) (result : List ℕ) : Type 0 where
+pub record IsRangeUndone (image : List ℕ) (header : Header) (slot : ℕ) (result : List ℕ) : Type 0 where
   pub olds : List OldPage
   pub some : 0 < header.undo_count
   pub range : HasRange image header olds
@@ -29,4 +29,4 @@ pub record RecoversTo (image result : List ℕ) : Type 0 where
   pub header : Header
   pub slot : ℕ
   pub counts : HasHeader image header slot
-  pub how : ((header.undo_count ≡ 0) × (result ≡ image)) ⊎ IsUndone image header slot result
+  pub how : ((header.undo_count ≡ 0) × (result ≡ image)) ⊎ IsRangeUndone image header slot result

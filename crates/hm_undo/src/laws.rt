@@ -11,24 +11,24 @@ ghost use Rattle.hm_header.specs.declared.header.Header.{Header};
 ghost use Rattle.hm_header.specs.declared.header.TheConstants.{SLOT_BYTES};
 ghost use Rattle.hm_header.specs.OnDisk.{HasHeader, slot_place};
 ghost use Rattle.hm_header.specs.Range.{HasRoom, IsCount, IsEntry, IsSize};
-ghost use Rattle.hm_undo.specs.Entry.{IsBroken, IsPageOf, SpellsEntry, entry_of};
+ghost use Rattle.hm_undo.specs.Entry.{IsBrokenEntry, IsUndoPageOf, SpellsUndoEntry, undo_entry_of};
 ghost use Rattle.hm_undo.specs.Log.{IsInEntry, IsUndo, entry_at, entry_place};
-ghost use Rattle.hm_undo.specs.Range.{Fit, HasEntry, HasRange, OldPage, places_of, put_back};
+ghost use Rattle.hm_undo.specs.Range.{Fit, HasUndoEntry, HasRange, OldPage, old_places_of, put_back};
 ghost use Rattle.hm_undo.specs.Recovered.{RecoversTo, recovered_header, with_slot};
 
 /// Bytes are the entry of one offset, one generation and one page, at most.
 pub fn bytes_are_one_entry_at_most()
     ensures { (bytes : List ℕ) (at generation : ℕ) (page : List ℕ)
         (other other_generation : ℕ) (other_page : List ℕ) →
-        SpellsEntry bytes at generation page →
-        SpellsEntry bytes other other_generation other_page →
+        SpellsUndoEntry bytes at generation page →
+        SpellsUndoEntry bytes other other_generation other_page →
         (at ≡ other) × (generation ≡ other_generation) × (page ≡ other_page) }
 {}
 
 /// Bytes of which a part is broken are no entry. So `decode` answers None exactly for what is none.
 pub fn broken_bytes_are_no_entry()
     ensures { (bytes : List ℕ) (at generation : ℕ) (page : List ℕ) →
-        IsBroken bytes → ¬ SpellsEntry bytes at generation page }
+        IsBrokenEntry bytes → ¬ SpellsUndoEntry bytes at generation page }
 {}
 
 /// An entry lies in the UNDO big-blocks, inside the volume, and past the header slots.
@@ -65,11 +65,11 @@ pub fn entries_share_no_byte()
 /// A page that an entry may name lies past the header slots, inside the volume, and apart from all
 /// entries.
 pub fn a_page_lies_apart_from_slots_and_log()
-    ensures past_the_slots { (bigblocks at : ℕ) → IsPageOf bigblocks at →
+    ensures past_the_slots { (bigblocks at : ℕ) → IsUndoPageOf bigblocks at →
         2 * SLOT_BYTES ≤ byte_of at }
-    ensures within { (bigblocks at : ℕ) → IsSize bigblocks → IsPageOf bigblocks at →
+    ensures within { (bigblocks at : ℕ) → IsSize bigblocks → IsUndoPageOf bigblocks at →
         byte_of at + PAGE_BYTES ≤ bigblocks * BIGBLOCK_BYTES }
-    ensures log { (bigblocks at entry : ℕ) → IsEntry entry → IsPageOf bigblocks at →
+    ensures log { (bigblocks at entry : ℕ) → IsEntry entry → IsUndoPageOf bigblocks at →
         Apart (byte_of at) PAGE_BYTES (entry_place bigblocks entry) UNDO_ENTRY_BYTES }
 {}
 
@@ -77,10 +77,10 @@ pub fn a_page_lies_apart_from_slots_and_log()
 pub fn a_written_entry_stands()
     ensures { (image : List ℕ) (header : Header) (entry : ℕ) (old : OldPage) →
         IsSize header.bigblocks → HasRoom (length image) header.bigblocks → IsEntry entry →
-        header.generation < 2 ^ 64 → IsPageOf header.bigblocks old.at →
+        header.generation < 2 ^ 64 → IsUndoPageOf header.bigblocks old.at →
         length old.bytes ≡ PAGE_BYTES →
-        HasEntry (overwritten image (entry_place header.bigblocks entry)
-        (entry_of old.at header.generation old.bytes)) header entry old }
+        HasUndoEntry (overwritten image (entry_place header.bigblocks entry)
+        (undo_entry_of old.at header.generation old.bytes)) header entry old }
 {}
 
 /// An image has the entries that another one of its size has, where it has their bytes.
@@ -89,7 +89,7 @@ pub fn entries_hang_on_their_bytes()
         length new ≡ length old →
         ((byte : ℕ) → IsInEntry header.bigblocks entry byte → byte < length old →
         slice_index new byte ≡ slice_index old byte) →
-        HasEntry old header entry page → HasEntry new header entry page }
+        HasUndoEntry old header entry page → HasUndoEntry new header entry page }
     ensures range { (old new : List ℕ) (header : Header) (olds : List OldPage) →
         length new ≡ length old →
         ((i byte : ℕ) → i < header.undo_count →
@@ -113,7 +113,7 @@ pub fn pages_of_a_range_fit()
 /// Where pages are put back, each byte outside them is as before, and so is the size.
 pub fn pages_put_back_leave_the_rest()
     ensures { (image : List ℕ) (olds : List OldPage) → Fit (length image) olds →
-        MayLeave image (places_of olds) (put_back image olds) }
+        MayLeave image (old_places_of olds) (put_back image olds) }
 {}
 
 /// Where pages are put back, a byte is that of the first page that has it. So a page stands whole where
@@ -122,13 +122,13 @@ pub fn the_first_page_put_back_stands()
     ensures byte { (image : List ℕ) (before : List OldPage) (old : OldPage)
         (after : List OldPage) → Fit (length image) (before ++ old ∷ after) → (byte : ℕ) →
         byte_of old.at ≤ byte → byte < byte_of old.at + length old.bytes →
-        Outside (places_of before) byte →
+        Outside (old_places_of before) byte →
         slice_index (put_back image (before ++ old ∷ after)) byte
         ≡ slice_index old.bytes (byte - byte_of old.at) }
     ensures page { (image : List ℕ) (before : List OldPage) (old : OldPage)
         (after : List OldPage) → Fit (length image) (before ++ old ∷ after) →
         ((byte : ℕ) → byte_of old.at ≤ byte → byte < byte_of old.at + length old.bytes →
-        Outside (places_of before) byte) →
+        Outside (old_places_of before) byte) →
         slice_range (put_back image (before ++ old ∷ after)) (byte_of old.at)
         (byte_of old.at + length old.bytes) ≡ old.bytes }
 {}
@@ -136,7 +136,7 @@ pub fn the_first_page_put_back_stands()
 /// What stood in the pages before they are put back changes nothing of what stands afterwards.
 pub fn pages_put_back_hide_what_stood_there()
     ensures { (image other : List ℕ) (olds : List OldPage) → Fit (length image) olds →
-        MayLeave image (places_of olds) other → put_back other olds ≡ put_back image olds }
+        MayLeave image (old_places_of olds) other → put_back other olds ≡ put_back image olds }
 {}
 
 /// An image recovers to one image at most.
@@ -154,7 +154,7 @@ pub fn an_undone_range_leaves_the_rest()
         (recovered_header header) (1 - slot) }
     ensures others { (image : List ℕ) (header : Header) (slot : ℕ) (olds : List OldPage) →
         HasHeader image header slot → HasRange image header olds →
-        MayLeave image ((slot_place (1 - slot), SLOT_BYTES) ∷ places_of olds)
+        MayLeave image ((slot_place (1 - slot), SLOT_BYTES) ∷ old_places_of olds)
         (with_slot (put_back image olds) (1 - slot) (recovered_header header)) }
     ensures past_the_slots { (image : List ℕ) (header : Header) (slot : ℕ) (olds : List OldPage) →
         HasHeader image header slot → HasRange image header olds →
