@@ -1,6 +1,6 @@
 // Values from the rule for paths: each text with what it gives. A path's parts are shown between bars,
 // each as its name and, after `#`, its id in decimal; a bad one as its place.
-use super::{Path, PathFault, parse};
+use hm_path::{Path, PathFault, parse};
 use std::alloc::{AllocError, Global};
 use std::test::Fail;
 
@@ -71,6 +71,11 @@ fn texts_give_the_parts_or_the_place_of_the_rule(rt: HostRuntime) -> Result<(), 
         let answer = parse(rt.alloc(), text.as_bytes());
         assert_eq!(rt; shown(rt.alloc(), &answer)?.as_str(), want, "{text:?}");
     }
+    // A clone has the same parts.
+    let path = parse(rt.alloc(), b"/a@@0x0000000000000001/b")?;
+    let copy = path.clone()?;
+    assert_eq!(rt; copy.parts(), path.parts());
+    assert_eq!(rt; copy.parts().len(), 2);
     Ok(())
 }
 
@@ -132,14 +137,5 @@ fn a_name_has_255_bytes_at_most_and_a_path_1023(rt: HostRuntime) -> Result<(), F
     let long = "n".repeat(rt.alloc(), 1_024)?;
     let answer = parse(rt.alloc(), long.as_bytes());
     assert_eq!(rt; shown(rt.alloc(), &answer)?.as_str(), "bad at 1023");
-    Ok(())
-}
-
-#[test]
-fn a_clone_has_the_same_parts(rt: HostRuntime) -> Result<(), Fail> {
-    let path = parse(rt.alloc(), b"/a@@0x0000000000000001/b")?;
-    let copy = path.clone()?;
-    assert_eq!(rt; copy.parts(), path.parts());
-    assert_eq!(rt; copy.parts().len(), 2);
     Ok(())
 }

@@ -1,6 +1,5 @@
 // Tables from the rules: what lists are retentions, what they keep, and what cuts and joins leave.
-use crate::fault::RetainFault;
-use crate::retention::Retention;
+use hm_retain::{RetainFault, Retention};
 use hm_types::{Id, MOST_INTERVALS};
 use std::alloc::Global;
 use std::test::Fail;
@@ -47,14 +46,6 @@ fn even_pairs(alloc: Global, count: u32) -> Result<Vec<(Id, Id)>, Fail> {
 }
 
 #[test]
-fn begins_as_a_master(rt: HostRuntime) -> Result<(), Fail> {
-    let alloc = rt.alloc();
-    let expected = pairs_of(alloc, &[(1, OPEN)])?;
-    assert_eq!(rt; Retention::master(alloc)?.pairs(), expected.as_slice());
-    Ok(())
-}
-
-#[test]
 fn takes_rising_maximal_intervals_alone(rt: HostRuntime) -> Result<(), Fail> {
     let alloc = rt.alloc();
     let rows: [(&[(u64, u64)], bool); 12] = [
@@ -75,12 +66,10 @@ fn takes_rising_maximal_intervals_alone(rt: HostRuntime) -> Result<(), Fail> {
         let found = Retention::of(pairs_of(alloc, numbers)?);
         assert_eq!(rt; found.is_some(), is_retention, "at {numbers:?}");
     }
-    Ok(())
-}
-
-#[test]
-fn takes_4096_intervals_and_no_more(rt: HostRuntime) -> Result<(), Fail> {
-    let alloc = rt.alloc();
+    // A master begins with all ids from 1 on.
+    let expected = pairs_of(alloc, &[(1, OPEN)])?;
+    assert_eq!(rt; Retention::master(alloc)?.pairs(), expected.as_slice());
+    // 4,096 intervals are the most.
     assert!(rt; Retention::of(even_pairs(alloc, 4096)?).is_some());
     assert!(rt; Retention::of(even_pairs(alloc, 4097)?).is_none());
     Ok(())
@@ -142,12 +131,6 @@ fn cuts_to_listed_ids(rt: HostRuntime) -> Result<(), Fail> {
             "{ids:?} from {from}"
         );
     }
-    Ok(())
-}
-
-#[test]
-fn counts_the_intervals_of_a_cut(rt: HostRuntime) -> Result<(), Fail> {
-    let alloc = rt.alloc();
     let set = retention(alloc, &[(0, OPEN)])?;
     let most = set.cut_to(alloc, &even_ids(alloc, 4095)?, Id(8190))?;
     assert_eq!(rt; most.pairs().len(), MOST_INTERVALS);
@@ -188,12 +171,6 @@ fn joins_what_was_passed(rt: HostRuntime) -> Result<(), Fail> {
             "{begin} to {end}"
         );
     }
-    Ok(())
-}
-
-#[test]
-fn counts_the_intervals_of_a_join(rt: HostRuntime) -> Result<(), Fail> {
-    let alloc = rt.alloc();
     let set = Retention::of(even_pairs(alloc, 4096)?).ok_or("no retention")?;
     let other = Retention::master(alloc)?;
     let more = set.join_pass(alloc, &other, Id(8191), Id(9000));

@@ -1,8 +1,10 @@
 // Trees of short lists of elements, worked out by hand from what a view is.
-use super::*;
-use crate::{DIRECTORY, DirEntry, FILE, Inode, PFS_LINK, SOFTLINK, encode_entry, encode_inode};
 use hm_key::{
     Base, DIRECTORY_ENTRY, ELEMENT, FILE_BYTES, INODE, INODE_PART, OTHER_PART, SOFTLINK_TARGET,
+};
+use hm_records::{
+    DIRECTORY, DirEntry, FILE, FullElement, Inode, PFS_LINK, SOFTLINK, encode_entry, encode_inode,
+    have_own_keys, view_of,
 };
 use hm_types::{Content, Id, Name, Obj, Object, Pfs, Triple};
 use std::alloc::Global;

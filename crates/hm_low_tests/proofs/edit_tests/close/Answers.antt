@@ -3,7 +3,7 @@ use Rattle.hm_node.specs.Places.{place}
 use Rattle.hm_node.specs.declared.head.Head.{Head}
 use Rattle.hm_node.proofs.EditLemmas.{leaf_bytes}
 use Rattle.hm_node.proofs.ReadLemmas.{element_offset}
-use Rattle.hm_node.proofs.edit_tests.close.Goals as goal
+use Rattle.hm_low_tests.proofs.edit_tests.close.Goals as goal
 
 pub read_element-closed-requires-clause-offset : goal.read_element-closed-requires-clause-offset
 read_element-closed-requires-clause-offset c =

@@ -3,13 +3,13 @@ ghost use Rattle.std.specs.Prelude.{OnOk};
 ghost use Rattle.hm_types.specs.Offset.{IsOffset};
 ghost use Rattle.hm_node.specs.Edits.{IsLeafPage, IsInnerPage};
 
-use crate::tests::{FRESH_RECORD, fresh_root, offset, tall_root};
-use crate::{
+use crate::node_tests::{FRESH_RECORD, fresh_root, offset, tall_root};
+use hm_fields::Page;
+use hm_key::{Element, is_element};
+use hm_node::{
     Head, INNER, LEAF, Leaf, broken_rule, insert_element, place, put_delete, put_payload,
     read_element, remove_element, set_mirror,
 };
-use hm_fields::Page;
-use hm_key::{Element, is_element};
 use hm_types::HOff;
 use std::test::Fail;
 
@@ -168,7 +168,7 @@ fn an_element_goes_and_the_others_move_up(rt: HostRuntime) -> Result<(), Fail> {
 }
 
 // Gives the element at a place of a leaf another delete id.
-#[tactic(auto, using(crate::proofs::EditLemmas::leaf_few))]
+#[tactic(auto, using(hm_node::proofs::EditLemmas::leaf_few))]
 fn close(page: &mut Page, at: usize, delete: u64) -> Result<(), Fail> {
     require_leaf(page)?;
     if usize::from(Head::read(page).count) <= at {

@@ -1,5 +1,5 @@
 // Payloads that were written by hand from the rules, and what each damage of one is told as.
-use crate::{
+use hm_records::{
     DIRECTORY, DirEntry, FILE, Inode, PFS_LINK, PfsRecord, SOFTLINK, decode_entry, decode_inode,
     decode_pfs, decode_target, encode_entry, encode_inode, encode_pfs, encode_target,
 };
@@ -161,24 +161,15 @@ fn damage_of_an_inode_is_told_at_its_payload(rt: HostRuntime) -> Result<(), Fail
         let read = decode_inode(place(), &bytes);
         assert_eq!(rt; read.is_ok(), want, "{size}");
     }
-    Ok(())
-}
-
-#[test]
-fn zeros_of_an_inode_are_looked_at(rt: HostRuntime) -> Result<(), Fail> {
-    let alloc = rt.alloc();
+    // Zeros are looked at.
     for at in [1, 2, 3, 4, 5, 6, 7, 22, 23, 24, 25, 26, 27, 28, 29, 30, 31] {
         for byte in [0x01, 0x80] {
             let bytes = patched(alloc, &LINK_TO_PFS, at, &[byte])?;
             assert_eq!(rt; decode_inode(place(), &bytes), Err(damaged()), "{at}");
         }
     }
-    Ok(())
-}
-
-#[test]
-fn an_inode_of_another_length_is_damaged(rt: HostRuntime) -> Result<(), Fail> {
-    let bytes = patched(rt.alloc(), &[0; 64], 0, &BIG_FILE)?;
+    // Another length is damage.
+    let bytes = patched(alloc, &[0; 64], 0, &BIG_FILE)?;
     for len in [0, 1, 8, 16, 31, 33, 64] {
         let read = decode_inode(place(), front(&bytes, len)?);
         assert_eq!(rt; read, Err(damaged()), "{len}");
@@ -226,12 +217,7 @@ fn damage_of_an_entry_is_told_at_its_payload(rt: HostRuntime) -> Result<(), Fail
         let read = decode_entry(alloc, place(), &bytes);
         assert_eq!(rt; read, Err(damaged()), "{name:?}");
     }
-    Ok(())
-}
-
-#[test]
-fn an_entry_without_a_whole_object_number_is_damaged(rt: HostRuntime) -> Result<(), Fail> {
-    let alloc = rt.alloc();
+    // A part of an object's number.
     for len in [0, 1, 4, 7] {
         let bytes = repeated(alloc, b'n', len)?;
         let read = decode_entry(alloc, place(), &bytes);
@@ -389,12 +375,7 @@ fn damage_of_a_record_is_told_at_its_payload(rt: HostRuntime) -> Result<(), Fail
         let wanted = (!want).then_some(damaged());
         assert_eq!(rt; fault, wanted, "{kind} {sync_end} {count} {numbers:?}");
     }
-    Ok(())
-}
-
-#[test]
-fn zeros_of_a_record_are_looked_at(rt: HostRuntime) -> Result<(), Fail> {
-    let alloc = rt.alloc();
+    // Zeros are looked at.
     for at in [1, 2, 3, 4, 5, 6, 7, 28, 29, 30, 31] {
         for byte in [0x01, 0x80] {
             let bytes = patched(alloc, &FRESH_MASTER, at, &[byte])?;
@@ -402,23 +383,13 @@ fn zeros_of_a_record_are_looked_at(rt: HostRuntime) -> Result<(), Fail> {
             assert_eq!(rt; fault, Some(damaged()), "{at}");
         }
     }
-    Ok(())
-}
-
-#[test]
-fn a_record_of_another_length_is_damaged(rt: HostRuntime) -> Result<(), Fail> {
-    let alloc = rt.alloc();
+    // Another length is damage.
     let bytes = patched(alloc, &[0; 96], 0, &SLAVE_OF_TWO)?;
     for len in [0, 1, 16, 31, 32, 33, 48, 63, 65, 72, 80, 96] {
         let fault = decode_pfs(alloc, place(), front(&bytes, len)?).err();
         assert_eq!(rt; fault, Some(damaged()), "{len}");
     }
-    Ok(())
-}
-
-#[test]
-fn a_record_has_at_most_4096_intervals(rt: HostRuntime) -> Result<(), Fail> {
-    let alloc = rt.alloc();
+    // 4,096 intervals are the most.
     for (count, want) in [(4_096, None), (4_097, Some(damaged()))] {
         let pairs = even_pairs(alloc, count)?;
         let bytes = record_of(alloc, 2, 0, count, &pairs)?;

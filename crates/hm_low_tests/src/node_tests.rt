@@ -2,10 +2,10 @@
 ghost use Rattle.std.specs.Prelude.{◌≡◌, ◌≤◌, length};
 ghost use Rattle.hm_types.specs.declared.limits.TheConstants.{PAGE_BYTES};
 
-use crate::{Child, Head, Inner, Leaf, Node, decode, encode, read_base};
 use arrayvec::ArrayVec;
 use hm_fields::Page;
 use hm_key::{BOUNDARY, Base, DIRECTORY_ENTRY, ELEMENT, Element, INODE, PFS_RECORD};
+use hm_node::{Child, Head, Inner, Leaf, Node, decode, encode, read_base};
 use hm_types::{
     BAD_COUNT, BAD_FIELD, BAD_LEVEL, BAD_MIRROR, BAD_ORDER, Fault, HOff, MOST_INNER_CHILDREN,
     MOST_LEAF_ELEMENTS, Obj, PAGE_BYTES,
