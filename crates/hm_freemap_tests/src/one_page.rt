@@ -1,7 +1,6 @@
 // A small volume for tests: one page of layer 2, as committed, as frozen and as it is now.
-use crate::pages::FreemapPages;
-use crate::place::page_of;
 use hm_fields::{Page, Pages, State, States};
+use hm_freemap::{FreemapPages, page_of};
 use hm_types::{Counted, Fault, HOff};
 
 /// A page of layer 2 in the three states, of which nothing is told, with a count of reads and one of

@@ -2,9 +2,8 @@
 ghost use Rattle.std.specs.Prelude.{◌≤◌};
 ghost use Rattle.hm_types.specs.declared.limits.TheConstants.{BIGBLOCK_BYTES, LEAST_BIGBLOCKS, MOST_BIGBLOCKS};
 
-use crate::fresh::fresh_page;
-use crate::pages::FreemapPages;
 use hm_fields::{Page, Pages, State, States};
+use hm_freemap::{FreemapPages, fresh_page};
 use hm_types::{BIGBLOCK_BYTES, Counted, Fault, HOff, PAGE_BYTES};
 
 /// The pages of layer 2 of a volume of so many big-blocks, of which nothing is told, with a count of

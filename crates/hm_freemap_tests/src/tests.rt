@@ -3,11 +3,11 @@ ghost use Rattle.std.specs.Prelude.{◌≤◌, ◌<◌};
 
 use crate::made::Made;
 use crate::one_page::OnePage;
-use crate::{
-    Entry, Freemap, fresh_page, layer1_offset, page_of, place_of, read_layer1, write_layer1,
-};
 use bitflags::Flags;
 use hm_fields::{Page, State, put_u8, put_u64};
+use hm_freemap::{
+    Entry, Freemap, fresh_page, layer1_offset, page_of, place_of, read_layer1, write_layer1,
+};
 use hm_types::{Fault, HOff, SpaceFault, Zones, first_pool};
 use std::process::Abort;
 use std::test::Fail;
