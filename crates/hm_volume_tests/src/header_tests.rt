@@ -2,7 +2,7 @@
 ghost use Rattle.std.specs.Prelude.{◌+◌, ◌≤◌, length};
 ghost use Rattle.hm_header.specs.declared.header.TheConstants.{SLOT_BYTES};
 
-use crate::{
+use hm_header::{
     BODY_BYTES, GATE_OPEN, GATE_PLACE, Header, HeaderFault, SECOND_SLOT, SLOT_BYTES, VERSION,
     choose, encode,
 };
@@ -73,7 +73,7 @@ fn number_of(slot0: &[u8], slot1: &[u8]) -> Result<u8, HeaderFault> {
 }
 
 #[test]
-fn the_next_generation_counts_where_its_gate_is_open(rt: HostRuntime) {
+fn the_next_generation_counts_where_its_slot_is_whole(rt: HostRuntime) {
     for (first, first_gate, second, second_gate, want) in [
         (1, 0xA5, 2, 0xA4, Ok(0)),
         (1, 0xA5, 2, 0x00, Ok(0)),
@@ -99,10 +99,7 @@ fn the_next_generation_counts_where_its_gate_is_open(rt: HostRuntime) {
             "{first} {second} {second_gate:x}"
         );
     }
-}
-
-#[test]
-fn a_slot_without_the_signature_does_not_count(rt: HostRuntime) {
+    // One without the signature does not count.
     let whole = fresh_slot();
     for at in 0..8usize {
         let slot = patched(at, &[0x00]);
@@ -113,11 +110,7 @@ fn a_slot_without_the_signature_does_not_count(rt: HostRuntime) {
         );
         assert_eq!(rt; number_of(&slot, &whole), Ok(1), "{at}");
     }
-}
-
-#[test]
-fn a_disk_that_ends_early_has_zeros_there(rt: HostRuntime) {
-    let whole = fresh_slot();
+    // Where a disk ends early, zeros stand.
     let zeros = [0; SLOT_BYTES];
     let none = Err(HeaderFault::NotVolume);
     assert_eq!(rt; number_of(&zeros, &zeros), none);
@@ -129,7 +122,7 @@ fn a_disk_that_ends_early_has_zeros_there(rt: HostRuntime) {
 }
 
 #[test]
-fn a_number_out_of_range_is_told_by_its_place(rt: HostRuntime) {
+fn the_first_field_out_of_range_is_told_by_its_place(rt: HostRuntime) {
     for (at, value, want) in [
         (8, 0, 8),
         (8, 1, 8),
@@ -170,10 +163,7 @@ fn a_number_out_of_range_is_told_by_its_place(rt: HostRuntime) {
         let fault = Err(HeaderFault::BadField { place: want });
         assert_eq!(rt; choose(&slot, &[], DISK), fault, "{at} {value}");
     }
-}
-
-#[test]
-fn a_last_id_or_root_out_of_range_is_told_by_its_place(rt: HostRuntime) {
+    // The last id, and the root.
     for (at, value, want) in [
         (24, 0, 24),
         (24, 0x8000_0000_0000_0000, 24),
@@ -196,20 +186,14 @@ fn a_last_id_or_root_out_of_range_is_told_by_its_place(rt: HostRuntime) {
         let fault = Err(HeaderFault::BadField { place: want });
         assert_eq!(rt; choose(&slot, &[], DISK), fault, "{at} {value:x}");
     }
-}
-
-#[test]
-fn a_disk_of_less_than_its_big_blocks_is_told_at_12(rt: HostRuntime) {
+    // A disk of less than its big-blocks.
     let slot = fresh_slot();
     let fault = Err(HeaderFault::BadField { place: 12 });
     assert_eq!(rt; choose(&slot, &[], DISK - 1), fault);
     assert_eq!(rt; choose(&slot, &[], 0), fault);
     assert_eq!(rt; choose(&slot, &[], DISK), Ok((fresh(), 0)));
     assert_eq!(rt; choose(&slot, &[], u64::MAX), Ok((fresh(), 0)));
-}
-
-#[test]
-fn the_first_of_two_bad_fields_is_told(rt: HostRuntime) {
+    // The first of two bad fields.
     for (at, other, want) in [
         (8, 12, 8),
         (12, 24, 12),
@@ -228,16 +212,13 @@ fn the_first_of_two_bad_fields_is_told(rt: HostRuntime) {
 }
 
 #[test]
-fn a_header_is_written_as_laid_out(rt: HostRuntime) {
+fn a_header_is_written_as_laid_out_and_read_again(rt: HostRuntime) {
     let mut body = [0xFF; BODY_BYTES];
     encode(&fresh(), &mut body);
     assert!(rt; fresh_slot().starts_with(&body));
     assert_eq!(rt; SECOND_SLOT, 16_384);
     assert_eq!(rt; BODY_BYTES, GATE_PLACE);
-}
-
-#[test]
-fn a_header_at_the_ends_of_its_ranges_is_read_again(rt: HostRuntime) {
+    // Also one at the ends of its ranges.
     let low = fresh();
     let high = Header {
         generation: u64::MAX,

@@ -1,11 +1,11 @@
 // Volumes on disks in memory, whole and with a byte changed. Each damage was worked out by hand from the
 // format.
-use super::*;
 use arrayvec::ArrayVec;
 use hm_disk::{Disk, MemDisk};
 use hm_fields::{Page, Pages};
 use hm_header::read_header;
 use hm_key::{BOUNDARY, Base, DIRECTORY_ENTRY, ELEMENT, Element, INODE, PFS_RECORD};
+use hm_load::load;
 use hm_newfs::write_volume;
 use hm_node::{Child, Inner, Leaf, Node, encode};
 use hm_pages::PageStore;
@@ -174,9 +174,11 @@ fn grown(rt: &impl Abort, alloc: Global) -> Result<MemDisk, Failed> {
 }
 
 #[test]
-fn a_fresh_volume_is_loaded(rt: HostRuntime) -> Result<(), Fail> {
-    let mut disk = fresh(&rt, rt.alloc());
-    let mut store = found(rt.alloc(), &mut disk)??;
+fn whole_volumes_are_loaded(rt: HostRuntime) -> Result<(), Fail> {
+    let alloc = rt.alloc();
+    // As it was made.
+    let mut disk = fresh(&rt, alloc);
+    let mut store = found(alloc, &mut disk)??;
     let mut page = Page::zero();
     for (at, want) in [
         (offset(8, ROOT), [1, 1, 2, 0]),
@@ -194,23 +196,14 @@ fn a_fresh_volume_is_loaded(rt: HostRuntime) -> Result<(), Fail> {
     ] {
         assert_eq!(rt; store.has_page(at), want, "{at:?}");
     }
-    Ok(())
-}
-
-#[test]
-fn a_tree_of_two_leaves_is_loaded(rt: HostRuntime) -> Result<(), Fail> {
-    let mut disk = grown(&rt, rt.alloc())?;
-    let store = found(rt.alloc(), &mut disk)??;
+    // With a tree of two leaves.
+    let mut disk = grown(&rt, alloc)?;
+    let store = found(alloc, &mut disk)??;
     for place in [ROOT, FIRST, SECOND] {
         assert!(rt; store.has_page(offset(8, place)), "{place}");
     }
     assert!(rt; !store.has_page(offset(8, SECOND + 4_096)));
-    Ok(())
-}
-
-#[test]
-fn a_volume_of_two_big_blocks_of_layer_2_is_loaded(rt: HostRuntime) -> Result<(), Fail> {
-    let alloc = rt.alloc();
+    // With two big-blocks of layer 2.
     let mut disk = MemDisk::new(alloc, 524_289, Vec::new(alloc));
     assert_eq!(rt; write_volume(&mut disk, 524_289), Ok(()));
     let store = found(alloc, &mut disk)??;
@@ -265,119 +258,100 @@ fn damage_of_the_freemap_is_told(rt: HostRuntime) -> Result<(), Fail> {
 }
 
 #[test]
-fn damage_of_an_inner_node_is_told(rt: HostRuntime) -> Result<(), Fail> {
+fn damage_of_the_tree_is_told(rt: HostRuntime) -> Result<(), Fail> {
     let mut disk = grown(&rt, rt.alloc())?;
     for (place, byte, at, kind) in [
-        (0u32, 3, 0x8000_0000_0580_0000, 1),
-        (1, 10, 0x8000_0000_0580_0000, 1),
-        (1, 3, 0x8000_0000_0580_1000, 1),
-        (2, 0, 0x8000_0000_0580_0000, 2),
-        (2, 63, 0x8000_0000_0580_0000, 2),
-        (4, 1, 0x8000_0000_0580_0000, 5),
-        (8, 6, 0x8000_0000_0580_0000, 9),
-        (8, 8, 0, 0),
-        (16, 1, 0x8000_0000_0580_0000, 5),
-        (63, 1, 0x8000_0000_0580_0000, 5),
+        // An inner node.
+        (ROOT, 3, 0x8000_0000_0580_0000, 1),
+        (ROOT + 1, 10, 0x8000_0000_0580_0000, 1),
+        (ROOT + 1, 3, 0x8000_0000_0580_1000, 1),
+        (ROOT + 2, 0, 0x8000_0000_0580_0000, 2),
+        (ROOT + 2, 63, 0x8000_0000_0580_0000, 2),
+        (ROOT + 4, 1, 0x8000_0000_0580_0000, 5),
+        (ROOT + 8, 6, 0x8000_0000_0580_0000, 9),
+        (ROOT + 8, 8, 0, 0),
+        (ROOT + 16, 1, 0x8000_0000_0580_0000, 5),
+        (ROOT + 63, 1, 0x8000_0000_0580_0000, 5),
         // The first child.
-        (64 + 24, 1, 0x8000_0000_0580_0000, 5),
-        (64 + 34, 1, 0x8000_0000_0580_0000, 5),
-        (64 + 35, 1, 0x8000_0000_0580_0000, 5),
-        (64 + 36, 1, 0x8000_0000_0580_0000, 4),
-        (64 + 36, 3, 0x8000_0000_0580_0000, 3),
-        (64 + 40, 1, 0x8000_0000_0580_0000, 5),
-        (64 + 41, 0x20, 0x8000_0000_0580_2000, 4),
-        (64 + 41, 0x30, 0x8000_0000_0580_3000, 1),
-        (64 + 41, 0x00, 0x8000_0000_0580_0000, 1),
-        (64 + 44, 1, 0x8000_0001_0580_1000, 1),
-        (64 + 46, 0x10, 0x8000_0000_0580_0000, 5),
-        (64 + 47, 0x90, 0x8000_0000_0580_0000, 5),
-        (64 + 48, 4, 0x8000_0000_0580_1000, 9),
-        (64 + 56, 1, 0x8000_0000_0580_0000, 5),
+        (ROOT + 64 + 24, 1, 0x8000_0000_0580_0000, 5),
+        (ROOT + 64 + 34, 1, 0x8000_0000_0580_0000, 5),
+        (ROOT + 64 + 35, 1, 0x8000_0000_0580_0000, 5),
+        (ROOT + 64 + 36, 1, 0x8000_0000_0580_0000, 4),
+        (ROOT + 64 + 36, 3, 0x8000_0000_0580_0000, 3),
+        (ROOT + 64 + 40, 1, 0x8000_0000_0580_0000, 5),
+        (ROOT + 64 + 41, 0x20, 0x8000_0000_0580_2000, 4),
+        (ROOT + 64 + 41, 0x30, 0x8000_0000_0580_3000, 1),
+        (ROOT + 64 + 41, 0x00, 0x8000_0000_0580_0000, 1),
+        (ROOT + 64 + 44, 1, 0x8000_0001_0580_1000, 1),
+        (ROOT + 64 + 46, 0x10, 0x8000_0000_0580_0000, 5),
+        (ROOT + 64 + 47, 0x90, 0x8000_0000_0580_0000, 5),
+        (ROOT + 64 + 48, 4, 0x8000_0000_0580_1000, 9),
+        (ROOT + 64 + 56, 1, 0x8000_0000_0580_0000, 5),
         // The second one.
-        (128, 2, 0x8000_0000_0580_2000, 4),
-        (128 + 8, 1, 0, 0),
-        (128 + 36, 0, 0x8000_0000_0580_0000, 3),
-        (128 + 41, 0x10, 0x8000_0000_0580_1000, 4),
+        (ROOT + 128, 2, 0x8000_0000_0580_2000, 4),
+        (ROOT + 128 + 8, 1, 0, 0),
+        (ROOT + 128 + 36, 0, 0x8000_0000_0580_0000, 3),
+        (ROOT + 128 + 41, 0x10, 0x8000_0000_0580_1000, 4),
         // The right boundary, and what follows it.
-        (192, 1, 0x8000_0000_0580_0000, 4),
-        (192 + 35, 1, 0x8000_0000_0580_0000, 5),
-        (192 + 40, 1, 0x8000_0000_0580_0000, 5),
-        (256, 1, 0x8000_0000_0580_0000, 5),
-        (4_095, 1, 0x8000_0000_0580_0000, 5),
-    ] {
-        let damage = damage_by(rt.alloc(), &mut disk, ROOT + u64::from(place), byte)?;
-        assert_eq!(rt; damage, want(at, kind), "{place} {byte}");
-    }
-    Ok(())
-}
-
-#[test]
-fn damage_of_a_leaf_is_told(rt: HostRuntime) -> Result<(), Fail> {
-    let mut disk = grown(&rt, rt.alloc())?;
-    for (place, byte, at, kind) in [
-        (0u32, 2, 0x8000_0000_0580_1000, 1),
-        (1, 2, 0x8000_0000_0580_1000, 1),
-        (2, 0, 0x8000_0000_0580_1000, 2),
-        (2, 64, 0x8000_0000_0580_1000, 2),
-        (2, 1, 0x8000_0000_0580_1000, 5),
-        (7, 1, 0x8000_0000_0580_1000, 5),
-        (8, 4, 0x8000_0000_0580_1000, 9),
-        (8, 6, 0x8000_0000_0580_1000, 9),
-        (64, 3, 0x8000_0000_0580_1000, 3),
-        (64 + 8, 1, 0x8000_0000_0580_1000, 5),
-        (64 + 16, 0, 0x8000_0000_0580_1000, 5),
-        (64 + 24, 1, 0x8000_0000_0580_1000, 5),
-        (64 + 24, 6, 0x8000_0000_0580_1000, 9),
-        (64 + 24, 2, 0, 0),
-        (64 + 32, 2, 0x8000_0000_0580_1000, 5),
-        (64 + 34, 5, 0x8000_0000_0580_1000, 5),
-        (64 + 34, 4, 0, 0),
-        (64 + 35, 2, 0x8000_0000_0580_1000, 5),
-        (64 + 36, 0, 0x8000_0000_0580_1000, 5),
-        (64 + 47, 0x50, 0x8000_0000_0580_1000, 5),
-        (64 + 48, 31, 0x9000_0000_0600_0000, 6),
-        (64 + 48, 33, 0x9000_0000_0600_0000, 6),
-        (64 + 51, 1, 0x9000_0000_0600_0000, 6),
-        (64 + 52, 1, 0x8000_0000_0580_1000, 5),
-        (128 + 36, 2, 0x8000_0000_0580_1000, 4),
-        (192, 1, 0x8000_0000_0580_1000, 5),
+        (ROOT + 192, 1, 0x8000_0000_0580_0000, 4),
+        (ROOT + 192 + 35, 1, 0x8000_0000_0580_0000, 5),
+        (ROOT + 192 + 40, 1, 0x8000_0000_0580_0000, 5),
+        (ROOT + 256, 1, 0x8000_0000_0580_0000, 5),
+        (ROOT + 4_095, 1, 0x8000_0000_0580_0000, 5),
+        // A leaf.
+        (FIRST, 2, 0x8000_0000_0580_1000, 1),
+        (FIRST + 1, 2, 0x8000_0000_0580_1000, 1),
+        (FIRST + 2, 0, 0x8000_0000_0580_1000, 2),
+        (FIRST + 2, 64, 0x8000_0000_0580_1000, 2),
+        (FIRST + 2, 1, 0x8000_0000_0580_1000, 5),
+        (FIRST + 7, 1, 0x8000_0000_0580_1000, 5),
+        (FIRST + 8, 4, 0x8000_0000_0580_1000, 9),
+        (FIRST + 8, 6, 0x8000_0000_0580_1000, 9),
+        (FIRST + 64, 3, 0x8000_0000_0580_1000, 3),
+        (FIRST + 64 + 8, 1, 0x8000_0000_0580_1000, 5),
+        (FIRST + 64 + 16, 0, 0x8000_0000_0580_1000, 5),
+        (FIRST + 64 + 24, 1, 0x8000_0000_0580_1000, 5),
+        (FIRST + 64 + 24, 6, 0x8000_0000_0580_1000, 9),
+        (FIRST + 64 + 24, 2, 0, 0),
+        (FIRST + 64 + 32, 2, 0x8000_0000_0580_1000, 5),
+        (FIRST + 64 + 34, 5, 0x8000_0000_0580_1000, 5),
+        (FIRST + 64 + 34, 4, 0, 0),
+        (FIRST + 64 + 35, 2, 0x8000_0000_0580_1000, 5),
+        (FIRST + 64 + 36, 0, 0x8000_0000_0580_1000, 5),
+        (FIRST + 64 + 47, 0x50, 0x8000_0000_0580_1000, 5),
+        (FIRST + 64 + 48, 31, 0x9000_0000_0600_0000, 6),
+        (FIRST + 64 + 48, 33, 0x9000_0000_0600_0000, 6),
+        (FIRST + 64 + 51, 1, 0x9000_0000_0600_0000, 6),
+        (FIRST + 64 + 52, 1, 0x8000_0000_0580_1000, 5),
+        (FIRST + 128 + 36, 2, 0x8000_0000_0580_1000, 4),
+        (FIRST + 192, 1, 0x8000_0000_0580_1000, 5),
         // The second leaf: the key of the entry fits its name but in its lowest 16 bits.
-        (4_096 + 64 + 8, 1, 0, 0),
-        (4_096 + 64 + 9, 1, 0, 0),
-        (4_096 + 64 + 10, 1, 0x9000_0000_0600_0070, 6),
-        (4_096 + 64 + 15, 0x58, 0x9000_0000_0600_0070, 6),
-        (4_096 + 64 + 36, 1, 0x8000_0000_0580_2000, 4),
+        (FIRST + 4_096 + 64 + 8, 1, 0, 0),
+        (FIRST + 4_096 + 64 + 9, 1, 0, 0),
+        (FIRST + 4_096 + 64 + 10, 1, 0x9000_0000_0600_0070, 6),
+        (FIRST + 4_096 + 64 + 15, 0x58, 0x9000_0000_0600_0070, 6),
+        (FIRST + 4_096 + 64 + 36, 1, 0x8000_0000_0580_2000, 4),
         // A snapshot has no payload that may be.
-        (4_096 + 128 + 32, 0x16, 0x9000_0000_0600_0020, 6),
+        (FIRST + 4_096 + 128 + 32, 0x16, 0x9000_0000_0600_0020, 6),
+        // Payloads.
+        (PAYLOADS, 5, 0x9000_0000_0600_0000, 6),
+        (PAYLOADS + 1, 1, 0x9000_0000_0600_0000, 6),
+        (PAYLOADS + 8, 1, 0x9000_0000_0600_0000, 6),
+        (PAYLOADS + 20, 1, 0x9000_0000_0600_0000, 6),
+        (PAYLOADS + 31, 1, 0x9000_0000_0600_0000, 6),
+        (PAYLOADS + 16, 9, 0, 0),
+        (PAYLOADS + 32, 3, 0x9000_0000_0600_0020, 6),
+        (PAYLOADS + 32 + 16, 1, 0x9000_0000_0600_0020, 6),
+        (PAYLOADS + 32 + 24, 2, 0x9000_0000_0600_0020, 6),
+        (PAYLOADS + 32 + 40, 0, 0x9000_0000_0600_0020, 6),
+        (PAYLOADS + 80 + 1, 1, 0x9000_0000_0600_0050, 6),
+        (PAYLOADS + 80 + 8, 1, 0, 0),
+        (PAYLOADS + 112 + 8, b'b', 0x9000_0000_0600_0070, 6),
+        (PAYLOADS + 112 + 8, b'/', 0x9000_0000_0600_0070, 6),
+        (PAYLOADS + 112, 3, 0, 0),
+        (PAYLOADS + 121, 1, 0, 0),
     ] {
-        let damage = damage_by(rt.alloc(), &mut disk, FIRST + u64::from(place), byte)?;
-        assert_eq!(rt; damage, want(at, kind), "{place} {byte}");
-    }
-    Ok(())
-}
-
-#[test]
-fn damage_of_a_payload_is_told(rt: HostRuntime) -> Result<(), Fail> {
-    let mut disk = grown(&rt, rt.alloc())?;
-    for (place, byte, at, kind) in [
-        (0u32, 5, 0x9000_0000_0600_0000, 6),
-        (1, 1, 0x9000_0000_0600_0000, 6),
-        (8, 1, 0x9000_0000_0600_0000, 6),
-        (20, 1, 0x9000_0000_0600_0000, 6),
-        (31, 1, 0x9000_0000_0600_0000, 6),
-        (16, 9, 0, 0),
-        (32, 3, 0x9000_0000_0600_0020, 6),
-        (32 + 16, 1, 0x9000_0000_0600_0020, 6),
-        (32 + 24, 2, 0x9000_0000_0600_0020, 6),
-        (32 + 40, 0, 0x9000_0000_0600_0020, 6),
-        (80 + 1, 1, 0x9000_0000_0600_0050, 6),
-        (80 + 8, 1, 0, 0),
-        (112 + 8, b'b', 0x9000_0000_0600_0070, 6),
-        (112 + 8, b'/', 0x9000_0000_0600_0070, 6),
-        (112, 3, 0, 0),
-        (121, 1, 0, 0),
-    ] {
-        let damage = damage_by(rt.alloc(), &mut disk, PAYLOADS + u64::from(place), byte)?;
+        let damage = damage_by(rt.alloc(), &mut disk, place, byte)?;
         assert_eq!(rt; damage, want(at, kind), "{place} {byte}");
     }
     Ok(())

@@ -3,8 +3,11 @@
 ghost use Rattle.std.specs.Prelude.{◌≤◌};
 ghost use Rattle.hm_types.specs.declared.limits.TheConstants.{GREATEST_ID};
 
-use crate::*;
 use hm_disk::{Disk, MemDisk, write_synced};
+use hm_header::{
+    BODY_BYTES, GATE_OPEN, Header, SLOT_BYTES, VERSION, change_header, encode, read_header,
+    slot_place,
+};
 use hm_types::{Failed, HOff, Id};
 use std::alloc::Global;
 use std::process::Abort;
@@ -153,11 +156,8 @@ fn a_call_that_fails_leaves_the_old_header_or_the_next_one(rt: HostRuntime) -> R
         assert_eq!(rt; change(&mut disk, 7), Ok(()));
         assert_eq!(rt; counting(&rt, &mut disk).0, 7, "{call}");
     }
-    Ok(())
-}
-
-#[test]
-fn a_generation_goes_on_at_0(rt: HostRuntime) {
+    // A generation goes on at 0.
     assert_eq!(rt; header(8, 5).next_generation(), 9);
     assert_eq!(rt; header(u64::MAX, 5).next_generation(), 0);
+    Ok(())
 }

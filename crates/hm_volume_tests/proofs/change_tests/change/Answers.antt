@@ -1,6 +1,6 @@
 use Rattle.std.proofs.Common.{rules}
 use Rattle.hm_header.proofs.KeptLemmas.{synced-counting}
-use Rattle.hm_header.proofs.change.tests.change.Goals as goal
+use Rattle.hm_volume_tests.proofs.change_tests.change.Goals as goal
 
 pub change_header-requires-clause-before : goal.change_header-requires-clause-before
 change_header-requires-clause-before g c =
