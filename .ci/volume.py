@@ -41,6 +41,18 @@ def run(script, *words):
     return ended.returncode, ended.stdout.decode('latin-1')
 
 
+def has_room(size):
+    """Whether the file system has files of this size."""
+    try:
+        with open('room', 'wb') as file:
+            file.truncate(size)
+        return True
+    except OSError:
+        return False
+    finally:
+        os.remove('room')
+
+
 def damage(kind, place):
     """How a run ends on damage of a kind, or on none where the kind is 0."""
     return (10, f'damaged 0x{place:016x} {kind}\n') if kind else (0, '')

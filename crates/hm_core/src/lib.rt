@@ -9,15 +9,11 @@ mod fault;
 mod laws;
 mod mounting;
 mod opening;
-#[cfg(test)]
-mod opening_tests;
 mod served;
 mod slots;
 mod space;
 mod step;
 mod steps;
-#[cfg(test)]
-mod tests;
 mod volume;
 mod write;
 mod write_back;

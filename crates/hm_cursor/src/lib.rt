@@ -2,19 +2,11 @@
 //! a subject, its payload, the names of a directory, and new versions in place of old ones.
 #![tactic(auto)]
 
-#[cfg(test)]
-mod counting;
 mod cursor;
 mod find;
-#[cfg(test)]
-mod find_tests;
 mod names;
-#[cfg(test)]
-mod names_tests;
 mod payload;
 mod subject;
-#[cfg(test)]
-mod tests;
 mod version;
 mod write;
 

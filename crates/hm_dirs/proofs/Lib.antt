@@ -11,4 +11,3 @@ pub mod WalkLemmas
 pub mod WalkOutcomeLemmas
 pub mod WalkLoopLemmas
 pub mod WalkToldLemmas
-pub mod TestLemmas

@@ -4,20 +4,14 @@
 
 mod add;
 mod close;
-#[cfg(test)]
-mod counting;
 mod entry;
 mod hash;
 mod lookup;
 mod position;
 mod spot;
-#[cfg(test)]
-mod tests;
 mod walk_laws;
 mod walk_parts;
 mod walk_roots;
-#[cfg(test)]
-mod walk_tests;
 mod walks;
 
 pub use add::add_name;

@@ -12,4 +12,3 @@ pub mod TellLemmas
 mod CutToldLemmas
 mod WriteLemmas
 mod MergeLemmas
-mod TestLemmas

@@ -4,16 +4,8 @@
 mod block;
 mod close;
 mod cut;
-#[cfg(test)]
-mod cut_tests;
-#[cfg(test)]
-mod limited;
 mod put;
-#[cfg(test)]
-mod random_tests;
 mod read;
-#[cfg(test)]
-mod read_tests;
 mod source;
 mod write;
 

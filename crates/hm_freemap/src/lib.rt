@@ -9,17 +9,11 @@ mod freemap;
 mod fresh;
 mod laws;
 mod layer1;
-#[cfg(test)]
-mod made;
-#[cfg(test)]
-mod one_page;
 mod pages;
 mod place;
 mod pool_entry;
 mod scan;
 mod sheets;
-#[cfg(test)]
-mod tests;
 
 pub use entry::{Entry, UNUSED};
 pub use freemap::Freemap;

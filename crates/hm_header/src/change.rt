@@ -115,6 +115,3 @@ pub fn open_gate<D: Disk>(
 {
     write_synced(disk, gate_place(1 - slot), &[GATE_OPEN])
 }
-
-#[cfg(test)]
-mod tests;

@@ -11,8 +11,6 @@ mod place;
 mod read;
 mod slot;
 mod slots;
-#[cfg(test)]
-mod tests;
 
 pub use body::encode;
 pub use change::{change_header, close_gate, open_gate, write_body};

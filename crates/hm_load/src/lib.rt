@@ -8,8 +8,6 @@ mod layer2;
 mod payload;
 mod put;
 mod reading;
-#[cfg(test)]
-mod tests;
 mod tree;
 mod volume;
 

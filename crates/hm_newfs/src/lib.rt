@@ -3,8 +3,6 @@
 
 mod header;
 mod layer;
-#[cfg(test)]
-mod tests;
 mod tree;
 mod volume;
 

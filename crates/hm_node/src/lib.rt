@@ -6,8 +6,6 @@
 
 mod base;
 mod edit;
-#[cfg(test)]
-mod edit_tests;
 mod head;
 mod inner;
 mod laws;
@@ -16,8 +14,6 @@ mod node;
 mod node_pages;
 mod places;
 mod rule;
-#[cfg(test)]
-mod tests;
 
 pub use base::read_base;
 pub use edit::{insert_element, put_delete, put_payload, remove_element, set_mirror};

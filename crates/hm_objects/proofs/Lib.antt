@@ -1,6 +1,5 @@
 pub mod NewLemmas
 pub mod ShownLemmas
 pub mod SpaceLemmas
-pub mod TestLemmas
 pub mod VersionLemmas
 pub mod SizeLemmas

@@ -6,8 +6,6 @@ mod add;
 mod links;
 mod remove;
 mod sizes;
-#[cfg(test)]
-mod tests;
 
 pub use add::{add_directory, add_file, add_softlink};
 pub use links::set_links;

@@ -7,8 +7,6 @@ mod id;
 mod laws;
 mod part;
 mod path;
-#[cfg(test)]
-mod tests;
 
 pub use fault::PathFault;
 pub use id::read_id;

@@ -10,8 +10,6 @@ mod laws;
 mod pfs_record;
 mod plain;
 mod target;
-#[cfg(test)]
-mod tests;
 mod views;
 
 pub use entry::{DirEntry, decode_entry, encode_entry, entry_parts};

@@ -6,8 +6,6 @@ mod element;
 mod names;
 mod objects;
 mod subject;
-#[cfg(test)]
-mod tests;
 mod tree;
 
 pub use element::{FullElement, have_own_keys};

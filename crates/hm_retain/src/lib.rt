@@ -6,8 +6,6 @@ mod intervals;
 mod laws;
 mod retention;
 mod sets;
-#[cfg(test)]
-mod tests;
 
 pub use fault::RetainFault;
 pub use laws::{no_cut_is_both, no_join_is_both, one_list_for_each_set};

@@ -13,10 +13,6 @@ mod path_form;
 mod pfs_forms;
 mod reading;
 mod script;
-#[cfg(test)]
-mod script_tests;
-#[cfg(test)]
-mod tests;
 mod words;
 
 pub use fault::ScriptFault;

@@ -53,26 +53,3 @@ fn count_lines(script: &[u8]) -> usize
     }
     count
 }
-
-#[cfg(test)]
-mod tests {
-    use super::*;
-
-    #[test]
-    fn gives_the_bytes_of_the_first_lines(rt: HostRuntime) {
-        for (script, count, want) in [
-            (b"".as_slice(), 0, b"".as_slice()),
-            (b"", 2, b""),
-            (b"a\nb\nc", 0, b""),
-            (b"a\nb\nc", 1, b"a\n"),
-            (b"a\nb\nc", 2, b"a\nb\n"),
-            (b"a\nb\nc", 3, b"a\nb\nc"),
-            (b"a\nb\nc", 4, b"a\nb\nc"),
-            (b"a\nb\n", 2, b"a\nb\n"),
-            (b"\n\nb", 2, b"\n\n"),
-            (b"ab", 1, b"ab"),
-        ] {
-            assert!(rt; first_lines(script, count) == want, "{count} of {script:?}");
-        }
-    }
-}

@@ -40,29 +40,3 @@ pub const BAD_FREE_BYTES: u8 = 12;
 
 /// An extent with more references than one may have.
 pub const BAD_REFERENCES: u8 = 13;
-
-#[cfg(test)]
-mod tests {
-    use super::*;
-
-    #[test]
-    fn kinds_are_numbered_from_1_to_13(rt: HostRuntime) {
-        for (kind, want) in [
-            (BAD_LEVEL, 1),
-            (BAD_COUNT, 2),
-            (BAD_ORDER, 3),
-            (BAD_BOUNDS, 4),
-            (BAD_FIELD, 5),
-            (BAD_PAYLOAD, 6),
-            (BAD_FREEMAP, 7),
-            (BAD_UNDO, 8),
-            (BAD_MIRROR, 9),
-            (BAD_EXTENT, 10),
-            (BAD_OVERLAP, 11),
-            (BAD_FREE_BYTES, 12),
-            (BAD_REFERENCES, 13),
-        ] {
-            assert_eq!(rt; kind, want);
-        }
-    }
-}

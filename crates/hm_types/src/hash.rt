@@ -17,19 +17,3 @@ pub fn name_hash(name: &[u8]) -> u64
     }
     hash
 }
-
-#[cfg(test)]
-mod tests {
-    use super::*;
-
-    #[test]
-    fn hashes_are_the_known_ones(rt: HostRuntime) {
-        for (name, want) in [
-            ("", 0xcbf2_9ce4_8422_2325),
-            ("a", 0xaf63_dc4c_8601_ec8c),
-            ("foobar", 0x8594_4171_f739_67e8),
-        ] {
-            assert_eq!(rt; name_hash(name.as_bytes()), want, "{name}");
-        }
-    }
-}

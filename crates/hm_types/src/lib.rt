@@ -17,8 +17,6 @@ mod names;
 mod object;
 mod offset;
 mod space;
-#[cfg(test)]
-mod tests;
 mod text;
 mod zone;
 mod zones;

@@ -140,33 +140,3 @@ impl Ord for Name {
         self.bytes.as_slice().cmp(other.bytes.as_slice())
     }
 }
-
-#[cfg(test)]
-mod tests {
-    use super::*;
-
-    #[test]
-    fn tells_names_from_other_words(rt: HostRuntime) {
-        let longest = [b'a'; 255];
-        let too_long = [b'a'; 256];
-        assert!(rt; is_name(&longest));
-        assert!(rt; !is_name(&too_long));
-        for (word, want) in [
-            ("a", true),
-            ("...", true),
-            ("a@b@", true),
-            ("\u{e9}", true),
-            ("", false),
-            (".", false),
-            ("..", false),
-            ("a@@b", false),
-            ("@@", false),
-            ("a/b", false),
-            ("a b", false),
-            ("a\t", false),
-            ("\u{7f}", false),
-        ] {
-            assert_eq!(rt; is_name(word.as_bytes()), want, "{word:?}");
-        }
-    }
-}

@@ -24,22 +24,3 @@ pub fn rounded(len: u64) -> u64
 {
     (len + (EXTENT_UNIT - 1)) / EXTENT_UNIT * EXTENT_UNIT
 }
-
-#[cfg(test)]
-mod tests {
-    use super::*;
-
-    #[test]
-    fn rounds_lengths_up_to_extents(rt: HostRuntime) {
-        for (len, want) in [
-            (0, 0),
-            (1, 16),
-            (16, 16),
-            (17, 32),
-            (16_384, 16_384),
-            (65_568, 65_568),
-        ] {
-            assert_eq!(rt; rounded(len), want, "{len}");
-        }
-    }
-}

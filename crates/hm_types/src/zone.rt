@@ -26,25 +26,3 @@ pub const SMALL_ZONE: u8 = 11;
 
 /// What lies past the end of the volume.
 pub const UNAVAILABLE_ZONE: u8 = 15;
-
-#[cfg(test)]
-mod tests {
-    use super::*;
-
-    #[test]
-    fn zones_have_hammer_s_numbers(rt: HostRuntime) {
-        for (zone, want) in [
-            (VOLUME_ZONE, 1),
-            (RAW_ZONE, 2),
-            (UNDO_ZONE, 3),
-            (FREEMAP_ZONE, 4),
-            (TREE_ZONE, 8),
-            (META_ZONE, 9),
-            (LARGE_ZONE, 10),
-            (SMALL_ZONE, 11),
-            (UNAVAILABLE_ZONE, 15),
-        ] {
-            assert_eq!(rt; zone, want);
-        }
-    }
-}

@@ -46,28 +46,3 @@ impl Flags for Zones {
         Zones(bits)
     }
 }
-
-#[cfg(test)]
-mod tests {
-    use super::*;
-
-    #[test]
-    fn joins_sets_and_looks_into_them(rt: HostRuntime) {
-        let records = Zones::TREE.union(Zones::META);
-        let all = records.union(Zones::LARGE).union(Zones::SMALL);
-        for (zones, tree, meta, large, small) in [
-            (Zones::TREE, true, false, false, false),
-            (Zones::META, false, true, false, false),
-            (Zones::LARGE, false, false, true, false),
-            (Zones::SMALL, false, false, false, true),
-            (records, true, true, false, false),
-            (all, true, true, true, true),
-        ] {
-            assert_eq!(rt; zones.contains(Zones::TREE), tree);
-            assert_eq!(rt; zones.contains(Zones::META), meta);
-            assert_eq!(rt; zones.contains(Zones::LARGE), large);
-            assert_eq!(rt; zones.contains(Zones::SMALL), small);
-        }
-        assert_eq!(rt; all.bits(), 15);
-    }
-}

@@ -1,14 +1,10 @@
 //! What `ls`, `stat` and `readlink` answer of an object of a tree, as of an id.
 #![tactic(auto)]
 
-#[cfg(test)]
-mod limited;
 mod links;
 mod listing;
 mod pass;
 mod sizes;
-#[cfg(test)]
-mod tests;
 
 pub use links::target;
 pub use listing::list;

@@ -6,15 +6,11 @@ use hm_pipe::{MemSink, MemSource, NoGate};
 use std::alloc::AllocError;
 use std::test::Fail;
 
-mod contents;
 mod disks;
 mod failing;
 mod faults;
 mod files;
 mod gate;
-mod lines;
-mod names;
-mod words;
 
 type Memory = Ended<MemDisk, MemSource, MemSink, MemSource, MemSink>;
 
@@ -91,55 +87,4 @@ fn ends<R: AllocGlobal + Threads + Wait + Sync>(
     let (told, out, disk) = parts(run_over(rt, words, disk, script, &[], &[])?);
     let is_so = told == status && out.bytes() == printed.as_bytes();
     Ok((is_so, disk))
-}
-
-// Runs lines over a disk, of which the first draws this id. Gives the first of them whose reply is another
-// one, and the disk.
-fn first_other<R: AllocGlobal + Threads + Wait + Sync>(
-    rt: &R,
-    words: &[&str],
-    disk: MemDisk,
-    first: u64,
-    lines: &[(&str, &str)],
-) -> Result<(Option<usize>, MemDisk), AllocError> {
-    let alloc = rt.alloc();
-    let mut script = Vec::new(alloc);
-    for (line, _) in lines {
-        script.extend_from_slice(line.as_bytes())?;
-        script.push(b'\n')?;
-    }
-    let (status, out, disk) = parts(run_over(rt, words, disk, script, &[], &[])?);
-    let mut wanted = String::new(alloc);
-    for (number, (_, reply)) in lines.iter().enumerate() {
-        let id = first.wrapping_add(number as u64);
-        wanted.push_str(format!(in alloc; "0x{id:016x} {reply}\n")?.as_str())?;
-        if !out.bytes().starts_with(wanted.as_bytes()) {
-            return Ok((Some(number), disk));
-        }
-    }
-    let is_whole = status == 0 && out.bytes() == wanted.as_bytes();
-    Ok((if is_whole { None } else { Some(lines.len()) }, disk))
-}
-
-// The same on a new volume.
-fn first_other_on_new<R: AllocGlobal + Threads + Wait + Sync>(
-    rt: &R,
-    lines: &[(&str, &str)],
-) -> Result<Option<usize>, AllocError> {
-    let (other, _) = first_other(rt, &MAKES, blank(rt), 2, lines)?;
-    Ok(other)
-}
-
-// The first of these scripts that on a new volume does not end with its status and its text.
-fn first_wrong<R: AllocGlobal + Threads + Wait + Sync>(
-    rt: &R,
-    cases: &[(&str, u8, &str)],
-) -> Result<Option<usize>, AllocError> {
-    for (number, (script, status, printed)) in cases.iter().enumerate() {
-        let (is_so, _) = ends(rt, &MAKES, blank(rt), script, *status, printed)?;
-        if !is_so {
-            return Ok(Some(number));
-        }
-    }
-    Ok(None)
 }

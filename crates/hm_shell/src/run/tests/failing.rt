@@ -156,11 +156,6 @@ fn runs_nothing_where_a_call_of_the_source_fails(rt: HostRuntime) -> Result<(), 
         let script = b"mkdir /a\n".to_vec(rt.alloc())?;
         assert_eq!(rt; end_of_reading(&rt, script, call)?, Some(want), "{call}");
     }
-    Ok(())
-}
-
-#[test]
-fn runs_nothing_where_a_late_call_of_the_source_fails(rt: HostRuntime) -> Result<(), Fail> {
     // The script comes in two pieces, and the third call finds its end.
     for (call, want) in [(2, End::Stopped), (3, End::Stopped), (4, End::Completed)] {
         let mut script = b"mkdir /a\n#".to_vec(rt.alloc())?;

@@ -29,17 +29,12 @@ fn ends_on_file<R: AllocGlobal + Threads + Wait + Sync>(
 }
 
 #[test]
-fn keeps_a_volume_in_a_file(rt: HostRuntime) -> Result<(), Fail> {
+fn a_volume_is_kept_in_a_file_or_is_a_fault_of_the_disk(rt: HostRuntime) -> Result<(), Fail> {
     let done = "0x0000000000000002 ok\n";
     assert!(rt; ends_on_file(&rt, rt, "volume", Some(24), "mkdir /a\n", 0, done)?);
     let listed = "0x0000000000000003 ok 1 d:a\n";
     assert!(rt; ends_on_file(&rt, rt, "volume", None, "ls /\n", 0, listed)?);
     fs::remove_file(&rt, "volume")?;
-    Ok(())
-}
-
-#[test]
-fn a_volume_that_cannot_be_opened_is_a_fault_of_the_disk(rt: HostRuntime) -> Result<(), Fail> {
     // No file, a folder that is not there, no name, and a folder in place of a file.
     fs::create_dir(&rt, "volumes")?;
     for name in ["no_volume", "no/volume", "", "volumes"] {
@@ -75,17 +70,12 @@ fn ends_from_file<R: AllocGlobal + Threads + Wait + Sync>(
 }
 
 #[test]
-fn reads_a_script_from_a_file(rt: HostRuntime) -> Result<(), Fail> {
+fn a_script_is_read_from_a_file_or_is_a_fault_of_the_source(rt: HostRuntime) -> Result<(), Fail> {
     fs::write(&rt, "script", b"mkdir /a\nls /\n")?;
     let printed = "0x0000000000000002 ok\n0x0000000000000003 ok 1 d:a\n";
     assert!(rt; ends_from_file(&rt, rt, Some("script"), 0, printed)?);
     fs::remove_file(&rt, "script")?;
     assert!(rt; ends_from_file(&rt, rt, None, 0, "")?);
-    Ok(())
-}
-
-#[test]
-fn a_script_that_cannot_be_read_is_a_fault_of_the_source(rt: HostRuntime) -> Result<(), Fail> {
     fs::create_dir(&rt, "scripts")?;
     for name in ["no_script", "no/script", "", "scripts"] {
         let is_so = ends_from_file(&rt, rt, Some(name), 5, "script fault 0 1\n")?;
@@ -119,7 +109,7 @@ fn status_to_file<R: AllocGlobal + Threads + Wait + Sync>(
 }
 
 #[test]
-fn prints_to_a_file(rt: HostRuntime) -> Result<(), Fail> {
+fn replies_are_printed_to_a_file_or_are_a_fault_of_the_sink(rt: HostRuntime) -> Result<(), Fail> {
     fs::write(&rt, "printed", b"what was there before")?;
     assert_eq!(rt;
         status_to_file(&rt, rt, Some("printed"), "mkdir /a\nls /\n")?,
@@ -129,11 +119,6 @@ fn prints_to_a_file(rt: HostRuntime) -> Result<(), Fail> {
     let want = b"0x0000000000000002 ok\n0x0000000000000003 ok 1 d:a\n".as_slice();
     assert_eq!(rt; printed.as_slice(), want);
     fs::remove_file(&rt, "printed")?;
-    Ok(())
-}
-
-#[test]
-fn a_file_that_cannot_be_printed_to_is_a_fault_of_the_sink(rt: HostRuntime) -> Result<(), Fail> {
     fs::create_dir(&rt, "prints")?;
     for name in [None, Some(""), Some("no/file"), Some("prints")] {
         assert_eq!(rt; status_to_file(&rt, rt, name, "mkdir /a\n")?, 6, "{name:?}");

@@ -1,8 +1,0 @@
-use Rattle.std.proofs.Common.{Some}
-use Rattle.hm_key.specs.Memory.{extents_of}
-use Rattle.hm_objects.specs.Tests.{IsReady}
-use Rattle.hm_objects.proofs.tests.store_after.Given as goal
-
--- the store is ready for the next id
-abbrev pub invariant-loop-step : goal.invariant-loop-step
-invariant-loop-step l = IsReady (Some l.store.elements.list.items) (Some (extents_of l.store.extents.list.items)) l.next

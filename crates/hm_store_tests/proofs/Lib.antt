@@ -1,0 +1,2 @@
+mod OlderLemmas
+mod TestLemmas

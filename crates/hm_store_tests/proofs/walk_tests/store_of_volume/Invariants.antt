@@ -1,0 +1,7 @@
+use Rattle.hm_key.specs.Balance.{IsBalanced}
+use Rattle.hm_key.specs.Memory.{extents_of}
+use Rattle.hm_store_tests.proofs.walk_tests.store_of_volume.Given as goal
+
+-- the store is balanced
+abbrev pub invariant-loop-item : goal.invariant-loop-item
+invariant-loop-item l = IsBalanced l.store.elements.list.items (extents_of l.store.extents.list.items)

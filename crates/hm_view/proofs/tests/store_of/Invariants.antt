@@ -1,7 +1,0 @@
-use Rattle.hm_key.specs.Balance.{IsBalanced}
-use Rattle.hm_key.specs.Memory.{extents_of}
-use Rattle.hm_view.proofs.tests.store_of.Given as goal
-
--- the store is balanced
-abbrev pub invariant-loop-item : goal.invariant-loop-item
-invariant-loop-item l = IsBalanced l.store.elements.list.items (extents_of l.store.extents.list.items)
