@@ -43,6 +43,11 @@ impl<T: ElementStore> ElementStore for Counting<T> {
         self.store.first_at_or_after(at)
     }
 
+    fn last_at_or_before(&mut self, at: &Base) -> Result<Option<Element>, Fault> {
+        self.searches = self.searches.saturating_add(1);
+        self.store.last_at_or_before(at)
+    }
+
     fn insert(&mut self, e: &Element) -> Result<(), Fault> {
         self.store.insert(e)
     }
