@@ -6,7 +6,6 @@ use Rattle.std.proofs.Props.{props}
 use Rattle.hm_types.specs.Elements.{Key}
 use Rattle.hm_types.specs.declared.fault.Fault.{Fault}
 use Rattle.hm_fields.specs.Pages.{PageMap}
-use Rattle.hm_key.specs.Elements.{first_from}
 use Rattle.hm_key.specs.Marks.{IsQuiet}
 use Rattle.hm_types.specs.Faults.{HasStoreCause}
 use Rattle.hm_key.specs.declared.base.Base.{Base}
@@ -17,13 +16,14 @@ use Rattle.hm_btree.specs.Tree.{IsIntact, told_elements, told_mark}
 use Rattle.hm_btree.proofs.IntactLemmas.{told_intact}
 use Rattle.hm_btree.proofs.StoreLemmas.{caused_in_store}
 
--- the first element from a key on
-pub first_in_store : (intact : Bool) (told : Option PageMap) (root : ℕ) (key : Key) (r : Result (Option Element) Fault) → ∥ IsIntact intact told root ∥₁
-    → IfSome told (λ pages. IsSoundTree pages root → IfOk r (λ found. found ≡ first_from key (elements_of pages root)))
-    → IfSome (told_elements intact told root) (λ es. IfOk r (λ found. found ≡ first_from key es))
-first_in_store intact told root key r sound found =
-    told_intact (λ _ es. IfOk r (λ f. f ≡ first_from key es)) intact told root (λ pages. by_result (elements_of pages root) r) sound found where
-      by_result : (es : List Element) (q : Result (Option Element) Fault) → IsProp (IfOk q (λ f. f ≡ first_from key es))
+-- the element that a search picks among all
+pub picked_in_store : (pick : List Element → Option Element) (intact : Bool) (told : Option PageMap) (root : ℕ)
+    (r : Result (Option Element) Fault) → ∥ IsIntact intact told root ∥₁
+    → IfSome told (λ pages. IsSoundTree pages root → IfOk r (λ found. found ≡ pick (elements_of pages root)))
+    → IfSome (told_elements intact told root) (λ es. IfOk r (λ found. found ≡ pick es))
+picked_in_store pick intact told root r sound found =
+    told_intact (λ _ es. IfOk r (λ f. f ≡ pick es)) intact told root (λ pages. by_result (elements_of pages root) r) sound found where
+      by_result : (es : List Element) (q : Result (Option Element) Fault) → IsProp (IfOk q (λ f. f ≡ pick es))
       by_result es (Ok f) = hlevel props
       by_result es (Err fault) = hlevel props
 

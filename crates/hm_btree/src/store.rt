@@ -7,7 +7,7 @@ use crate::space::NodeSpace;
 use crate::top::remove_from;
 use crate::tree::{BTree, known_offset};
 use hm_key::{Base, Element, ElementStore};
-use hm_search::{first_at_or_after, unchanged_until};
+use hm_search::{first_at_or_after, last_at_or_before, unchanged_until};
 use hm_types::{Fault, HOff, Id};
 
 impl<S: NodeSpace> ElementStore for BTree<S> {
@@ -19,6 +19,12 @@ impl<S: NodeSpace> ElementStore for BTree<S> {
         self.require_intact()?;
         self.require_root()?;
         first_at_or_after(&mut self.space, self.root, at)
+    }
+
+    fn last_at_or_before(&mut self, at: &Base) -> Result<Option<Element>, Fault> {
+        self.require_intact()?;
+        self.require_root()?;
+        last_at_or_before(&mut self.space, self.root, at)
     }
 
     fn insert(&mut self, e: &Element) -> Result<(), Fault> {

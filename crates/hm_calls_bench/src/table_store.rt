@@ -91,6 +91,10 @@ impl ElementStore for TableStore {
         self.tree.first_at_or_after(at)
     }
 
+    fn last_at_or_before(&mut self, at: &Base) -> Result<Option<Element>, Fault> {
+        self.tree.last_at_or_before(at)
+    }
+
     fn insert(&mut self, e: &Element) -> Result<(), Fault> {
         self.tree.insert(e)
     }

@@ -113,6 +113,19 @@ impl<T: ElementStore> ElementStore for Metered<T> {
         }
     }
 
+    fn last_at_or_before(&mut self, at: &Base) -> Result<Option<Element>, Fault> {
+        self.counts.searches = self.counts.searches.saturating_add(1);
+        match self.turn() {
+            None => {}
+            Some(Fault::Media { before, after }) => return Err(Fault::Media { before, after }),
+            Some(_) => return Err(Fault::NoMemory),
+        }
+        match self.store.last_at_or_before(at) {
+            Ok(found) => Ok(found),
+            Err(_) => Err(Fault::NoMemory),
+        }
+    }
+
     fn insert(&mut self, e: &Element) -> Result<(), Fault> {
         self.counts.writes = self.counts.writes.saturating_add(1);
         match self.turn() {

@@ -4,6 +4,7 @@ pub mod ElementLemmas
 pub mod ExtentLemmas
 pub mod HeldLemmas
 pub mod KeyLemmas
+pub mod LastLemmas
 pub mod LogLemmas
 pub mod MarkLemmas
 pub mod MemoryLemmas

@@ -1,6 +1,7 @@
 -- Lists of elements in the order of their keys: what stands at a key, and what a call makes of a list.
 use Rattle.std.specs.Prelude.{ℕ, max, Bool, if◌then◌else◌, List, [], ◌∷◌, Option, None, Some, All}
 use Rattle.std.specs.declared.cmp.Ordering.{Ordering}
+use Rattle.std.specs.Option.{option_or}
 use Rattle.std.specs.Ordering.{is_lt, is_eq, on}
 use Rattle.std.specs.List.Sorted.{IsStrictlySortedBy}
 use Rattle.hm_types.specs.Elements.{Key, key_cmp}
@@ -20,6 +21,10 @@ stands_at at e = is_eq (key_cmp (element_key e) at)
 abbrev pub stands_before : Key → Element → Bool
 stands_before at e = is_lt (key_cmp (element_key e) at)
 
+-- the element stands after the key
+abbrev pub stands_after : Key → Element → Bool
+stands_after at e = is_lt (key_cmp at (element_key e))
+
 -- how one element stands to another
 abbrev pub element_cmp : Element → Element → Ordering
 element_cmp = on element_key key_cmp
@@ -38,6 +43,11 @@ element_at at (e ∷ es) = if stands_at at e then Some e else element_at at es
 abbrev pub first_from : Key → List Element → Option Element
 first_from at [] = None
 first_from at (e ∷ es) = if stands_before at e then first_from at es else Some e
+
+-- the last element that does not stand after the key, if there is one
+abbrev pub last_to : Key → List Element → Option Element
+last_to at [] = None
+last_to at (e ∷ es) = option_or (last_to at es) (if stands_after at e then None else Some e)
 
 -- with a new element, after all that stand before it
 abbrev pub inserted : Element → List Element → List Element

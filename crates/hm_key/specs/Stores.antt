@@ -46,6 +46,11 @@ pub record IsFound (at : Key) (e : Element) : Type 0 where
   pub element : IsElement e
   pub place : IsFrom at (element_key e)
 
+-- an element that a search up to the key may give
+pub record IsFoundTo (at : Key) (e : Element) : Type 0 where
+  pub element : IsElement e
+  pub place : IsFrom (element_key e) at
+
 -- a boundary after the key
 pub record IsEnd (at : Key) (end : Base) : Type 0 where
   pub boundary : IsBoundary end (key_of end)

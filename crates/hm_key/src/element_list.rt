@@ -19,7 +19,7 @@ impl ElementList {
     ghost use Rattle.std.specs.Prelude.{◌≡◌, ◌⊎◌, ◌<◌, [], IsSome, IsNone, OnOk, OnErr};
     ghost use Rattle.hm_key.specs.Key.{key_of};
     ghost use Rattle.hm_key.specs.Element.{IsElement};
-    ghost use Rattle.hm_key.specs.Elements.{element_at, first_from, inserted, removed, with_delete, with_payload};
+    ghost use Rattle.hm_key.specs.Elements.{element_at, first_from, last_to, inserted, removed, with_delete, with_payload};
     ghost use Rattle.hm_key.specs.Places.{IsPlace, leading};
 
     /// Takes no memory.
@@ -36,6 +36,19 @@ impl ElementList {
         ensures { result ≡ first_from (key_of at.now) self.now.list.items }
     {
         self.list.get(self.leading(at)).copied()
+    }
+
+    /// The last element at the key of `at` or before it.
+    pub fn last_to(&self, at: &Base) -> Option<Element>
+        ensures { result ≡ last_to (key_of at.now) self.now.list.items }
+    {
+        let mut last = None;
+        for element in &self.list {
+            if element.base.order(at) != Ordering::Greater {
+                last = Some(*element);
+            }
+        }
+        last
     }
 
     /// Adds an element, at whose key there is none. After an error the list is as before.

@@ -141,6 +141,11 @@ impl<D: Disk> ElementStore for LogStore<D> {
         Ok(None)
     }
 
+    fn last_at_or_before(&mut self, _at: &Base) -> Result<Option<Element>, Fault> {
+        let _last = self.last()?;
+        Ok(None)
+    }
+
     fn insert(&mut self, _e: &Element) -> Result<(), Fault> {
         self.append(b'i')
     }

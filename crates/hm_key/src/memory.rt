@@ -133,6 +133,10 @@ impl ElementStore for MemStore {
         Ok(self.elements.first_from(at))
     }
 
+    fn last_at_or_before(&mut self, at: &Base) -> Result<Option<Element>, Fault> {
+        Ok(self.elements.last_to(at))
+    }
+
     fn insert(&mut self, e: &Element) -> Result<(), Fault> {
         self.marks.raise(&e.base, e.base.create.max(e.base.delete))?;
         self.elements.insert(e)?;

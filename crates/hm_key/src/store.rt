@@ -5,9 +5,9 @@ ghost use Rattle.hm_types.specs.Faults.{HasStoreCause};
 ghost use Rattle.hm_types.specs.Space.{Spends, nothing, in_zone};
 ghost use Rattle.hm_key.specs.Key.{key_of, greatest_key, IsBefore};
 ghost use Rattle.hm_key.specs.Element.{IsElement};
-ghost use Rattle.hm_key.specs.Elements.{IsContent, element_at, first_from, inserted, removed, with_delete, with_payload, last_id};
+ghost use Rattle.hm_key.specs.Elements.{IsContent, element_at, first_from, last_to, inserted, removed, with_delete, with_payload, last_id};
 ghost use Rattle.hm_key.specs.Marks.{Marks, MarksJoin, MarksStay, IsQuiet, IsMarked};
-ghost use Rattle.hm_key.specs.Stores.{Keeps, Same, ElementsChange, IsFound, IsEnd};
+ghost use Rattle.hm_key.specs.Stores.{Keeps, Same, ElementsChange, IsFound, IsFoundTo, IsEnd};
 ghost use Rattle.hm_key.specs.declared.element.Element.{Element};
 
 use crate::base::Base;
@@ -46,6 +46,18 @@ pub trait ElementStore: HasElements {
         ensures ok { IfSome (Self.elements self.old) (λ es.
             IfOk result (λ found. found ≡ first_from (key_of at.now) es)) }
         ensures found { IfOk result (λ found. IfSome found (IsFound (key_of at.now))) }
+        ensures keeps { Same Self.elements Self.mark Self.extents Self.room Self.free
+            self.old self.new }
+        ensures name { Self.name self.new ≡ Self.name self.old }
+        ensures frame { Self.frame self.new ≡ Self.frame self.old }
+        ensures cause { HasStoreCause (Self.elements self.old)
+            (Self.faults self.old) (Self.faults self.new) result };
+
+    /// The last element at the key of `at` or before it, and None where no element is there.
+    fn last_at_or_before(&mut self, at: &Base) -> Result<Option<Element>, Fault>
+        ensures ok { IfSome (Self.elements self.old) (λ es.
+            IfOk result (λ found. found ≡ last_to (key_of at.now) es)) }
+        ensures found { IfOk result (λ found. IfSome found (IsFoundTo (key_of at.now))) }
         ensures keeps { Same Self.elements Self.mark Self.extents Self.room Self.free
             self.old self.new }
         ensures name { Self.name self.new ≡ Self.name self.old }
@@ -139,6 +151,10 @@ impl<T: ElementStore> ElementStore for &mut T {
 
     fn first_at_or_after(&mut self, at: &Base) -> Result<Option<Element>, Fault> {
         (**self).first_at_or_after(at)
+    }
+
+    fn last_at_or_before(&mut self, at: &Base) -> Result<Option<Element>, Fault> {
+        (**self).last_at_or_before(at)
     }
 
     fn insert(&mut self, e: &Element) -> Result<(), Fault> {

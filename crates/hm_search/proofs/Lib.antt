@@ -4,12 +4,15 @@ pub mod DamageLemmas
 pub mod DescentLemmas
 pub mod FirstLemmas
 pub mod FrameLemmas
+pub mod LastLemmas
 pub mod LawLemmas
 pub mod HeldLemmas
 pub mod ListLemmas
 pub mod LookLemmas
+pub mod LookToLemmas
 pub mod MarkLemmas
 pub mod OrderLemmas
 pub mod PageLemmas
 pub mod ReachLemmas
 pub mod SearchLemmas
+pub mod SearchToLemmas

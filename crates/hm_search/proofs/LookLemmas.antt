@@ -292,14 +292,14 @@ pub record GlancesInner (s : Subtree) (told : Option PageMap) (key : Key) (seen 
   pub there : IfSome told (λ map. PassesHere map s (inner_node inner))
   pub view : ShowsInner key inner seen
 
-pub glances_leaf : (s : Subtree) (told : Option PageMap) (key : Key) (seen : Seen) (leaf : SeenLeaf) → seen ≡ leaf_seen leaf → Glances s told key seen
+pub glances_leaf : (s : Subtree) (told : Option PageMap) (key : Key) (seen : Seen) (leaf : SeenLeaf) → seen ≡ leaf_seen leaf → Glances Shows s told key seen
     → GlancesLeaf s told key leaf
 glances_leaf s told key seen leaf is glances = by_kind glances.node glances.there (subst (Shows key glances.node) is glances.view) where
   by_kind : (node : Node) → IfSome told (λ map. PassesHere map s node) → Shows key node (leaf_seen leaf) → GlancesLeaf s told key leaf
   by_kind (leaf_node l) there view = record { leaf = l; there = there; view = view }
   by_kind (inner_node inner) there view = absurd view
 
-pub glances_inner : (s : Subtree) (told : Option PageMap) (key : Key) (seen : Seen) (inner : SeenInner) → seen ≡ inner_seen inner → Glances s told key seen
+pub glances_inner : (s : Subtree) (told : Option PageMap) (key : Key) (seen : Seen) (inner : SeenInner) → seen ≡ inner_seen inner → Glances Shows s told key seen
     → GlancesInner s told key inner
 glances_inner s told key seen inner is glances =
     by_kind glances.node glances.level glances.fields glances.meets glances.there (subst (Shows key glances.node) is glances.view) where

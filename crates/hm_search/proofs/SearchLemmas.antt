@@ -83,10 +83,10 @@ place_up map height lower s child inner key place found up is at get below = rec
 }
 
 -- a node of a stored tree is in order
-order_of : (map : PageMap) (height : ℕ) (s : Subtree) (inner : Inner) → IsStoredTree map height s → node_at map s.at ≡ inner_node inner → HasInnerOrder inner
+pub order_of : (map : PageMap) (height : ℕ) (s : Subtree) (inner : Inner) → IsStoredTree map height s → node_at map s.at ≡ inner_node inner → HasInnerOrder inner
 order_of map height s inner stored read = (subst IsNode read stored.tree.sound).order
 
-leaf_order_of : (map : PageMap) (height : ℕ) (s : Subtree) (leaf : Leaf) → IsStoredTree map height s → node_at map s.at ≡ leaf_node leaf → HasLeafOrder leaf
+pub leaf_order_of : (map : PageMap) (height : ℕ) (s : Subtree) (leaf : Leaf) → IsStoredTree map height s → node_at map s.at ≡ leaf_node leaf → HasLeafOrder leaf
 leaf_order_of map height s leaf stored read = (subst IsNode read stored.tree.sound).order
 
 leaf_offset : (map : PageMap) (height at : ℕ) (leaf : Leaf) (key : Key) → leaf_offset_in map height at (leaf_node leaf) key ≡ at

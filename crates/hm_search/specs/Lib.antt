@@ -1,5 +1,6 @@
 pub mod Descent
 pub mod Look
+pub mod LookTo
 pub mod Place
 pub mod Props
 pub mod Reach

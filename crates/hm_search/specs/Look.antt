@@ -86,7 +86,7 @@ Shows key (leaf_node leaf) (inner_seen seen) = ⊥
 Shows key (inner_node inner) (leaf_seen seen) = ⊥
 
 -- it is seen in a node that may stand there, and stands so in its page where the pages are told
-pub record Glances (s : Subtree) (told : Option PageMap) (key : Key) (seen : Seen) : Type 0 where
+pub record Glances {L : Type 0} (Shows : Key → Node → L → Type 0) (s : Subtree) (told : Option PageMap) (key : Key) (seen : L) : Type 0 where
   pub node : Node
   pub level : HasLevel node
   pub fields : HasFields node

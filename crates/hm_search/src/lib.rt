@@ -4,6 +4,7 @@
 
 mod laws;
 mod look;
+mod look_to;
 mod place_rule;
 mod read;
 mod search;
@@ -18,6 +19,6 @@ pub use laws::{
 };
 pub use place_rule::PlaceRule;
 pub use read::{checked_node, read_node};
-pub use search::{Found, find, first_at_or_after, unchanged_until};
+pub use search::{Found, find, first_at_or_after, last_at_or_before, unchanged_until};
 pub use subtree::{Parent, Subtree};
 pub use visits::{child_below, holder_place_in, leaf_place_in, visit};

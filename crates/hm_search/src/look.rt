@@ -1,6 +1,7 @@
 // What a search for a key sees in the node of a place, read from its page: no node is built.
 ghost use Rattle.std.specs.Prelude.{◌≡◌, ◌≤◌, ◌<◌, ℕ, Some, IfSome, IfOk, IfErr, slice_get};
 ghost use Rattle.hm_types.specs.Faults.{HasFaultCause};
+ghost use Rattle.hm_types.specs.Elements.{Key};
 ghost use Rattle.hm_key.specs.Key.{key_of};
 ghost use Rattle.hm_node.specs.Base.{base_in};
 ghost use Rattle.hm_node.specs.Head.{head_in};
@@ -9,6 +10,7 @@ ghost use Rattle.hm_node.specs.Leaf.{leaf_in, first_elements, ArePlaces};
 ghost use Rattle.hm_node.specs.Node.{node_in};
 ghost use Rattle.hm_node.specs.Places.{place as place_at};
 ghost use Rattle.hm_node.specs.Shape.{HoldsNode};
+ghost use Rattle.hm_node.specs.declared.node.Node.{Node};
 ghost use Rattle.hm_search.specs.Descent.{Reads};
 ghost use Rattle.hm_search.specs.Look.{is_by, Glances, IsTurn, Shows, ShowsInner, ShowsLeaf};
 ghost use Rattle.hm_search.specs.Place.{IsUnmet, MeetsBy, TellsUnmet};
@@ -51,16 +53,27 @@ pub(crate) enum Seen {
     Inner(SeenInner),
 }
 
+/// What a search for a key takes from the page of a node, of which it believes the shape.
+pub(crate) trait Look {
+    /// What it then is of the node, whose order is not known.
+    ghost shows: { Key → Node → Self → Type 0 };
+
+    /// Takes it from the page of a node.
+    fn see(page: &Page, at: &Base) -> Self
+        requires { HoldsNode page.now }
+        ensures { Self.shows (key_of at.now) (node_in page.now) result };
+}
+
 // What a search for the key of `at` sees in the node at a place: the page is looked at where it stands, and
 // read only where the space doesn't lend it. The shape of a page is believed, and the rules of the place
 // alone are checked: none of them at a cost that grows with the node.
-pub(crate) fn glance_at<P: NodePages>(
+pub(crate) fn glance_at<P: NodePages, L: Look>(
     pages: &mut P,
     subtree: &Subtree,
     at: &Base,
-) -> Result<Seen, Fault>
+) -> Result<L, Fault>
     requires { IsNodeOffset subtree.now.at }
-    ensures sees { IfOk result (Glances subtree.now (P.pages pages.old) (key_of at.now)) }
+    ensures sees { IfOk result (Glances L.shows subtree.now (P.pages pages.old) (key_of at.now)) }
     ensures damage { IfSome (P.pages pages.old) (λ map.
         IfErr result (TellsUnmet subtree.now (map subtree.now.at))) }
     ensures same { Reads P.name P.frame P.rest P.pages pages.old pages.new }
@@ -74,9 +87,13 @@ pub(crate) fn glance_at<P: NodePages>(
 
 // The same of a page that has to be read. A search that reads none has no buffer on its stack.
 #[inline(never)]
-fn read_and_glance<P: NodePages>(pages: &mut P, subtree: &Subtree, at: &Base) -> Result<Seen, Fault>
+fn read_and_glance<P: NodePages, L: Look>(
+    pages: &mut P,
+    subtree: &Subtree,
+    at: &Base,
+) -> Result<L, Fault>
     requires { IsNodeOffset subtree.now.at }
-    ensures sees { IfOk result (Glances subtree.now (P.pages pages.old) (key_of at.now)) }
+    ensures sees { IfOk result (Glances L.shows subtree.now (P.pages pages.old) (key_of at.now)) }
     ensures damage { IfSome (P.pages pages.old) (λ map.
         IfErr result (TellsUnmet subtree.now (map subtree.now.at))) }
     ensures same { Reads P.name P.frame P.rest P.pages pages.old pages.new }
@@ -88,29 +105,29 @@ fn read_and_glance<P: NodePages>(pages: &mut P, subtree: &Subtree, at: &Base) ->
 }
 
 // The same of the page in hand.
-fn glance(subtree: &Subtree, page: &Page, at: &Base) -> Result<Seen, Fault>
+fn glance<L: Look>(subtree: &Subtree, page: &Page, at: &Base) -> Result<L, Fault>
     requires { HoldsNode page.now }
     ensures meets { IfOk result (λ _. (rule : PlaceRule) →
         MeetsBy subtree.now (node_in page.now) rule) }
-    ensures shows { IfOk result (Shows (key_of at.now) (node_in page.now)) }
+    ensures shows { IfOk result (L.shows (key_of at.now) (node_in page.now)) }
     ensures damage { IfErr result (IsUnmet subtree.now page.now) }
 {
     match subtree.first_unmet(page) {
-        None => Ok(see(page, at)),
+        None => Ok(L::see(page, at)),
         Some(rule) => Err(damage(subtree, rule.kind())),
     }
 }
 
-// What is seen in the page of a node.
-fn see(page: &Page, at: &Base) -> Seen
-    requires { HoldsNode page.now }
-    ensures { Shows (key_of at.now) (node_in page.now) result }
-{
-    let head = Head::read(page);
-    if head.kind == LEAF {
-        Seen::Leaf(see_leaf(page, &head, at))
-    } else {
-        Seen::Inner(see_inner(page, &head, at))
+impl Look for Seen {
+    ghost shows = { Shows };
+
+    fn see(page: &Page, at: &Base) -> Seen {
+        let head = Head::read(page);
+        if head.kind == LEAF {
+            Seen::Leaf(see_leaf(page, &head, at))
+        } else {
+            Seen::Inner(see_inner(page, &head, at))
+        }
     }
 }
 

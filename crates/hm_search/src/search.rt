@@ -1,9 +1,9 @@
 // Searches from the root of the tree down.
 ghost use Rattle.std.specs.Prelude.{◌≡◌, ℕ, IfSome, IfOk};
-ghost use Rattle.hm_key.specs.Elements.{first_from};
+ghost use Rattle.hm_key.specs.Elements.{first_from, last_to};
 ghost use Rattle.hm_key.specs.Key.{key_of, greatest_key, IsBefore};
 ghost use Rattle.hm_key.specs.Marks.{IsQuiet};
-ghost use Rattle.hm_key.specs.Stores.{IsFound, IsEnd};
+ghost use Rattle.hm_key.specs.Stores.{IsFound, IsFoundTo, IsEnd};
 ghost use Rattle.hm_node.specs.Inner.{IsNodeOffset};
 ghost use Rattle.hm_search.specs.Descent.{HasSearchCause, Reads};
 ghost use Rattle.hm_search.specs.Look.{seen_mirror};
@@ -12,6 +12,7 @@ ghost use Rattle.hm_search.specs.Tree.{node_at, elements_in, elements_of, mark_i
 ghost use Rattle.hm_search.specs.Tree.{height_of, root_place, IsStoredTree, IsSoundTree};
 
 use crate::look::{Seen, glance_at};
+use crate::look_to::SeenTo;
 use crate::subtree::Subtree;
 use hm_key::{Base, Element};
 use hm_node::NodePages;
@@ -57,6 +58,25 @@ pub fn first_at_or_after<P: NodePages>(
     first_below(pages, &Subtree::root(root), at)
 }
 
+/// The last element at the key of `at` or before it, and None where no element is there. A node a
+/// level is read, and where the leaf of the key has nothing up to it, the rightmost nodes of the next
+/// subtree to the left. No node is read twice, and nothing changes.
+pub fn last_at_or_before<P: NodePages>(
+    pages: &mut P,
+    root: HOff,
+    at: &Base,
+) -> Result<Option<Element>, Fault>
+    requires { IsNodeOffset root }
+    ensures ok { IfSome (P.pages pages.old) (λ map. IsSoundTree map root →
+        IfOk result (λ found. found ≡ last_to (key_of at.now) (elements_of map root))) }
+    ensures found { IfOk result (λ found. IfSome found (IsFoundTo (key_of at.now))) }
+    ensures same { Reads P.name P.frame P.rest P.pages pages.old pages.new }
+    ensures cause { HasSearchCause (P.pages pages.old) (root_place root)
+        (P.faults pages.old) (P.faults pages.new) result }
+{
+    last_below(pages, &Subtree::root(root), at)
+}
+
 /// How far from the key of `at` on the marks are at most `since`: a boundary after that key,
 /// before which they all are, or None exactly where the key's own mark is above `since`. The search
 /// ends at the first node whose `mirror` is at most `since`, and nothing changes.
@@ -88,7 +108,7 @@ fn find_below<P: NodePages>(pages: &mut P, subtree: &Subtree, at: &Base) -> Resu
     ensures cause { HasSearchCause (P.pages pages.old) subtree.now
         (P.faults pages.old) (P.faults pages.new) result }
 {
-    match glance_at(pages, subtree, at)? {
+    match glance_at::<P, Seen>(pages, subtree, at)? {
         Seen::Leaf(leaf) => Ok(Found {
             leaf: subtree.at,
             place: leaf.place,
@@ -112,12 +132,39 @@ fn first_below<P: NodePages>(
     ensures cause { HasSearchCause (P.pages pages.old) subtree.now
         (P.faults pages.old) (P.faults pages.new) result }
 {
-    match glance_at(pages, subtree, at)? {
+    match glance_at::<P, Seen>(pages, subtree, at)? {
         Seen::Leaf(leaf) => Ok(leaf.first),
         Seen::Inner(inner) => match first_below(pages, &inner.child, at)? {
             Some(found) => Ok(Some(found)),
             None => match inner.next {
                 Some(next) => first_below(pages, &next, at),
+                None => Ok(None),
+            },
+        },
+    }
+}
+
+// The last element up to a key in the tree below a place.
+fn last_below<P: NodePages>(
+    pages: &mut P,
+    subtree: &Subtree,
+    at: &Base,
+) -> Result<Option<Element>, Fault>
+    requires { IsNodeOffset subtree.now.at }
+    ensures ok { IfSome (P.pages pages.old) (λ map. (height : ℕ) →
+        IsStoredTree map height subtree.now → IfOk result (λ found.
+        found ≡ last_to (key_of at.now) (elements_in map height (node_at map subtree.now.at)))) }
+    ensures found { IfOk result (λ found. IfSome found (IsFoundTo (key_of at.now))) }
+    ensures same { Reads P.name P.frame P.rest P.pages pages.old pages.new }
+    ensures cause { HasSearchCause (P.pages pages.old) subtree.now
+        (P.faults pages.old) (P.faults pages.new) result }
+{
+    match glance_at::<P, SeenTo>(pages, subtree, at)? {
+        SeenTo::Leaf(last) => Ok(last),
+        SeenTo::Inner(inner) => match last_below(pages, &inner.child, at)? {
+            Some(found) => Ok(Some(found)),
+            None => match inner.before {
+                Some(before) => last_below(pages, &before, at),
                 None => Ok(None),
             },
         },
@@ -141,7 +188,7 @@ fn quiet_below<P: NodePages>(
     ensures cause { HasSearchCause (P.pages pages.old) subtree.now
         (P.faults pages.old) (P.faults pages.new) result }
 {
-    let seen = glance_at(pages, subtree, at)?;
+    let seen = glance_at::<P, Seen>(pages, subtree, at)?;
     if mirror(&seen) <= since.0 {
         return Ok(Some(subtree.right));
     }

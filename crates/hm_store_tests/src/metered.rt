@@ -70,6 +70,15 @@ impl<T: ElementStore> ElementStore for Metered<T> {
         self.store.first_at_or_after(at)
     }
 
+    fn last_at_or_before(&mut self, at: &Base) -> Result<Option<Element>, Fault> {
+        if self.left == 0 {
+            return Err(Fault::NoMemory);
+        }
+        self.left -= 1;
+        self.searches = self.searches.saturating_add(1);
+        self.store.last_at_or_before(at)
+    }
+
     fn insert(&mut self, e: &Element) -> Result<(), Fault> {
         self.store.insert(e)
     }

@@ -24,6 +24,12 @@ impl<D: Disk> ElementStore for Stored<D> {
         found
     }
 
+    fn last_at_or_before(&mut self, at: &Base) -> Result<Option<Element>, Fault> {
+        let (root, found) = tree_calls::last_at_or_before(&mut self.space, self.root, at);
+        self.root = root;
+        found
+    }
+
     fn insert(&mut self, e: &Element) -> Result<(), Fault> {
         let (root, answer) = tree_calls::insert(&mut self.space, self.root, e);
         self.root = root;

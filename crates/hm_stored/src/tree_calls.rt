@@ -4,10 +4,10 @@ ghost use Rattle.hm_types.specs.Faults.{HasStoreCause};
 ghost use Rattle.hm_types.specs.Space.{in_zone, nothing};
 ghost use Rattle.hm_btree.specs.Tree.{HoldsTree};
 ghost use Rattle.hm_key.specs.Element.{IsElement};
-ghost use Rattle.hm_key.specs.Elements.{element_at, first_from, inserted, last_id, removed, with_delete, with_payload};
+ghost use Rattle.hm_key.specs.Elements.{element_at, first_from, inserted, last_id, last_to, removed, with_delete, with_payload};
 ghost use Rattle.hm_key.specs.Key.{IsBefore, greatest_key, key_of};
 ghost use Rattle.hm_key.specs.Marks.{IsQuiet, Marks, MarksJoin, MarksStay};
-ghost use Rattle.hm_key.specs.Stores.{IsEnd, IsFound};
+ghost use Rattle.hm_key.specs.Stores.{IsEnd, IsFound, IsFoundTo};
 ghost use Rattle.hm_pages.specs.Store.{contents};
 ghost use Rattle.hm_stored.specs.Heap.{heap_of, pages_of, room_of};
 ghost use Rattle.hm_stored.specs.Told.{ReadsTree, WritesTree, elements_told, mark_told};
@@ -138,6 +138,30 @@ pub(crate) fn first_at_or_after<D: Disk>(
 {
     let mut tree = BTree::over(space, root);
     let answer = tree.first_at_or_after(at);
+    let (space, root) = tree.into_parts();
+    let _there = space;
+    (root, answer)
+}
+
+/// The last element at the key of `at` or before it.
+pub(crate) fn last_at_or_before<D: Disk>(
+    space: &mut Space<D>,
+    root: HOff,
+    at: &Base,
+) -> (HOff, Result<Option<Element>, Fault>)
+    requires tree { HoldsTree (pages_of (heap_of (contents space.old.pages.store) (D.told space.old.disk) space.old.books)) root }
+    ensures ok { IfSome (elements_told (heap_of (contents space.old.pages.store) (D.told space.old.disk) space.old.books) root)
+        (λ es. IfOk result.1 (λ found. found ≡ last_to (key_of at.now) es)) }
+    ensures found { IfOk result.1 (λ found. IfSome found (IsFoundTo (key_of at.now))) }
+    ensures reads { ReadsTree
+        (heap_of (contents space.old.pages.store) (D.told space.old.disk) space.old.books)
+        (heap_of (contents space.new.pages.store) (D.told space.new.disk) space.new.books) root result.0 }
+    ensures cause { HasStoreCause (elements_told
+        (heap_of (contents space.old.pages.store) (D.told space.old.disk) space.old.books) root)
+        (D.faults space.old.disk) (D.faults space.new.disk) result.1 }
+{
+    let mut tree = BTree::over(space, root);
+    let answer = tree.last_at_or_before(at);
     let (space, root) = tree.into_parts();
     let _there = space;
     (root, answer)

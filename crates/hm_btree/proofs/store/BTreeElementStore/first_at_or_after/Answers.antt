@@ -1,14 +1,15 @@
 use Rattle.std.proofs.Common.{ap}
 use Rattle.std.specs.Prelude.{Option}
 use Rattle.hm_fields.specs.Pages.{PageMap}
+use Rattle.hm_key.specs.Elements.{first_from}
 use Rattle.hm_key.specs.Key.{key_of}
 use Rattle.hm_btree.specs.Tree.{told_elements, told_mark}
-use Rattle.hm_btree.proofs.ReadingLemmas.{first_in_store, cause_in_store}
+use Rattle.hm_btree.proofs.ReadingLemmas.{picked_in_store, cause_in_store}
 use Rattle.hm_btree.proofs.store.BTreeElementStore.first_at_or_after.Goals as goal
 
 pub returns-clause-ok : goal.returns-clause-ok
-returns-clause-ok g c = first_in_store c.args.self.now.intact (g.S.Pages.pages c.args.self.now.space) c.args.self.now.root
-    (key_of c.args.at.now) c.first_at_or_after.result c.args.self.now.sound c.first_at_or_after.ensures.ok
+returns-clause-ok g c = picked_in_store (first_from (key_of c.args.at.now)) c.args.self.now.intact (g.S.Pages.pages c.args.self.now.space)
+    c.args.self.now.root c.first_at_or_after.result c.args.self.now.sound c.first_at_or_after.ensures.ok
 
 pub returns-clause-keeps : goal.returns-clause-keeps
 returns-clause-keeps g c =

@@ -1,6 +1,6 @@
 use Rattle.hm_search.proofs.HeldLemmas.{leaf_held, inner_held}
 use Rattle.hm_search.proofs.LookLemmas.{inner_some}
-use Rattle.hm_search.proofs.look.see.Goals as goal
+use Rattle.hm_search.proofs.look_to.SeenToLook.see.Goals as goal
 
 pub see_leaf-requires-clause-few : goal.see_leaf-requires-clause-few
 see_leaf-requires-clause-few c = (leaf_held c.args.page.now c.read-head.result c.read-head.ensures.value c.if-head-eq-LEAF.true c.requires).0
