@@ -5,26 +5,25 @@ use Rattle.std.proofs.lemmas.Nat.{mul-add-lt}
 use Rattle.std.specs.List.{Contains}
 use Rattle.hm_types.specs.Elements.{Key}
 use Rattle.hm_key.specs.Elements.{element_key, first_from}
-use Rattle.hm_key.specs.Key.{IsBefore, IsFrom, key_of}
+use Rattle.hm_key.specs.Key.{IsBefore, IsFrom, IsKeyAfter, IsWide, key_of}
 use Rattle.hm_key.specs.declared.base.Base.{Base}
 use Rattle.hm_key.specs.declared.element.Element.{Element}
 use Rattle.hm_key.proofs.KeyLemmas.{key_before_from, key_from_before, key_not_before}
-use Rattle.hm_cursor.specs.Shown.{IsAfter, IsNext, IsNextOf, IsShown, IsToCome, IsWide}
+use Rattle.hm_key.proofs.RiseLemmas.{before_rises, before_unless, from_rises, wide_to_greatest}
+use Rattle.hm_cursor.specs.Shown.{IsAfter, IsNext, IsNextOf, IsShown, IsToCome}
 use Rattle.hm_cursor.specs.declared.cursor.Cursor.{Cursor}
-use Rattle.hm_cursor.proofs.KeyLemmas.{before_rises, before_unless, from_rises}
 use Rattle.hm_cursor.proofs.SearchLemmas.{IsFirstFrom, found_none}
 use Rattle.hm_cursor.proofs.VersionLemmas.{first_before}
 
--- a key comes next after another one where none stands between them
-next_is : (a b : Key) → IsBefore a b → ((key : Key) → IsWide key → IsBefore a key → IsBefore key b → ⊥) → (key : Key) → IsWide key
-    → IsFrom b key ↔ IsBefore a key
-next_is a b up none key wide = (key_before_from a b key up, λ before less. none key wide before less)
+-- what is to come from the key after that of a base is what stands after it
+pub after_is : (base : Base) (from : Option Base) → IsKeyAfter (key_of base) from → IsAfter base from
+after_is base None last key wide = (λ none. absurd none, λ before. wide_to_greatest key wide (subst (λ (k : Key). IsBefore k key) last before))
+after_is base (Some next) after key wide = (key_before_from (key_of base) (key_of next) key after.1.after, after.1.first key wide)
 
--- the next id
-pub after_create : (a : Key) (key : Key) → IsWide key → IsFrom (record a { create = a.create + 1 }) key ↔ IsBefore a key
-after_create a = let b = record a { create = a.create + 1 } in
-    next_is a b (before_unless a b (λ from. let down = from_rises b a from in omega arith))
-    (λ key wide first second. let up = before_rises a key first in let on = before_rises key b second in omega arith)
+-- it is a key of a base
+pub next_wide : (at : Key) (from : Option Base) → IsKeyAfter at from → IfSome from (λ next. IsWide (key_of next))
+next_wide at None last = tt
+next_wide at (Some next) after = after.1.wide
 
 -- what a cursor shows and has to come, comes from here on
 abbrev pub NonePassed : List Element → Cursor → Option Base → Type 0

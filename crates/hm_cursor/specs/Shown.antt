@@ -3,18 +3,10 @@ use Rattle.std.specs.Prelude.{◌≡◌, ◌↔◌, ℕ, ◌^◌, ◌<◌, List,
 use Rattle.std.specs.List.{Contains}
 use Rattle.hm_types.specs.Elements.{Key, Sees}
 use Rattle.hm_key.specs.Elements.{element_key}
-use Rattle.hm_key.specs.Key.{key_of, IsBefore, IsFrom}
+use Rattle.hm_key.specs.Key.{key_of, IsBefore, IsFrom, IsWide}
 use Rattle.hm_key.specs.declared.base.Base.{Base}
 use Rattle.hm_key.specs.declared.element.Element.{Element}
 use Rattle.hm_cursor.specs.declared.cursor.Cursor.{Cursor}
-
--- a key whose fields are as wide as those of a base: any that a store can answer has it
-pub record IsWide (key : Key) : Type 0 where
-  pub localization : key.localization < 2 ^ 32
-  pub obj : key.obj < 2 ^ 64
-  pub rec_type : key.rec_type < 2 ^ 16
-  pub number : key.key < 2 ^ 64
-  pub create : key.create < 2 ^ 64
 
 -- an element is of a localization, and seen as of `t`
 pub record IsShown (localization t : ℕ) (e : Element) : Type 0 where

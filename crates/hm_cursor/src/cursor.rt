@@ -4,10 +4,10 @@ ghost use Rattle.hm_types.specs.Elements.{Sees};
 ghost use Rattle.hm_types.specs.Faults.{HasStoreCause};
 ghost use Rattle.hm_key.specs.Key.{key_of, least_key};
 ghost use Rattle.hm_key.specs.Stores.{Same};
-ghost use Rattle.hm_cursor.specs.Shown.{IsAfter, IsNext, IsWide, Passes, StandsAt};
+ghost use Rattle.hm_cursor.specs.Shown.{IsNext, Passes, StandsAt};
 
 use hm_key::{Base, Element, ElementStore};
-use hm_types::{Counted, Fault, Id, Obj};
+use hm_types::{Counted, Fault, Id};
 
 /// Goes through the elements of one localization that are seen as of an id, in the order of their
 /// keys, each once. It keeps no place in the store but the key that it came to, so the store may
@@ -77,7 +77,7 @@ impl Cursor {
             if element.base.localization > self.localization {
                 return Ok(None);
             }
-            from = after(&element.base);
+            from = element.base.key_after();
             if element.base.localization == self.localization
                 && is_seen(&element.base, self.as_of)
             {
@@ -95,68 +95,4 @@ pub(crate) fn is_seen(base: &Base, as_of: Id) -> bool
     ensures { IsTrue result ↔ Sees base.now.create base.now.delete as_of.0 }
 {
     base.create <= as_of.0 && (base.delete == 0 || as_of.0 < base.delete)
-}
-
-// The key just after that of a base, and None where that is the greatest one.
-fn after(base: &Base) -> Option<Base>
-    ensures after { IsAfter base.now result }
-    ensures wide { IfSome result (λ at. IsWide (key_of at)) }
-{
-    if base.create < u64::MAX {
-        return Some(Base {
-            create: base.create + 1,
-            ..*base
-        });
-    }
-    next_number(base)
-}
-
-// The first key about the next number of the same type, or else of the next type.
-fn next_number(base: &Base) -> Option<Base>
-    requires { base.now.create ≡ u64.MAX }
-    ensures after { IsAfter base.now result }
-    ensures wide { IfSome result (λ at. IsWide (key_of at)) }
-{
-    if base.key < u64::MAX {
-        return Some(Base {
-            key: base.key + 1,
-            create: 0,
-            ..*base
-        });
-    }
-    if base.rec_type < u16::MAX {
-        return Some(Base {
-            rec_type: base.rec_type + 1,
-            key: 0,
-            create: 0,
-            ..*base
-        });
-    }
-    next_object(base)
-}
-
-// The first key of the next object, or else of the next localization.
-fn next_object(base: &Base) -> Option<Base>
-    requires create { base.now.create ≡ u64.MAX }
-    requires number { base.now.key ≡ u64.MAX }
-    requires rec_type { base.now.rec_type ≡ u16.MAX }
-    ensures after { IsAfter base.now result }
-    ensures wide { IfSome result (λ at. IsWide (key_of at)) }
-{
-    if base.obj.0 < u64::MAX {
-        return Some(Base {
-            obj: Obj(base.obj.0 + 1),
-            rec_type: 0,
-            key: 0,
-            create: 0,
-            ..*base
-        });
-    }
-    if base.localization < u32::MAX {
-        return Some(Base {
-            localization: base.localization + 1,
-            ..Base::least()
-        });
-    }
-    None
 }

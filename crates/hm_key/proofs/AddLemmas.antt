@@ -14,7 +14,7 @@ use Rattle.hm_key.proofs.ElementLemmas.{each_inserted}
 use Rattle.hm_key.proofs.BalanceLemmas.{refer_to, refers, refer_to-cons, extent_each, all_elsewhere}
 
 -- an extent elsewhere stays when a new one comes
-extent_at-others : (at : ℕ) (new : Extent) (xs : List Extent) → nat_eq new.at at ≡ false → extent_at at (with_extent new xs) ≡ extent_at at xs
+pub extent_at-others : (at : ℕ) (new : Extent) (xs : List Extent) → nat_eq new.at at ≡ false → extent_at at (with_extent new xs) ≡ extent_at at xs
 extent_at-others at new [] apart = rw apart refl
 extent_at-others at new (x ∷ xs) apart = by_test (nat_lt (byte_of x.at) (byte_of new.at)) (extent_at-others at new xs apart) where
   by_test : (b : Bool) → extent_at at (with_extent new xs) ≡ extent_at at xs → extent_at at (if b then x ∷ with_extent new xs else new ∷ x ∷ xs) ≡ extent_at at (x ∷ xs)
@@ -22,7 +22,7 @@ extent_at-others at new (x ∷ xs) apart = by_test (nat_lt (byte_of x.at) (byte_
   by_test false more = rw apart refl
 
 -- a new extent is the one at its place, where there was none
-extent_at-new : (new : Extent) (xs : List Extent) → AllByRecursion (λ x. nat_eq x.at new.at ≡ false) xs → extent_at new.at (with_extent new xs) ≡ Some new
+pub extent_at-new : (new : Extent) (xs : List Extent) → AllByRecursion (λ x. nat_eq x.at new.at ≡ false) xs → extent_at new.at (with_extent new xs) ≡ Some new
 extent_at-new new [] apart = rw (eq-eqb new.at new.at refl) refl
 extent_at-new new (x ∷ xs) apart = by_test (nat_lt (byte_of x.at) (byte_of new.at)) (extent_at-new new xs apart.1) where
   by_test : (b : Bool) → extent_at new.at (with_extent new xs) ≡ Some new → extent_at new.at (if b then x ∷ with_extent new xs else new ∷ x ∷ xs) ≡ Some new
@@ -30,7 +30,7 @@ extent_at-new new (x ∷ xs) apart = by_test (nat_lt (byte_of x.at) (byte_of new
   by_test false more = rw (eq-eqb new.at new.at refl) refl
 
 -- a new extent that is apart from the others stands elsewhere
-new_elsewhere : (low : ℕ) (new : Extent) (xs : List Extent) → 1 ≤ new.len → AreApart low (with_extent new xs) → AllByRecursion (λ x. nat_eq x.at new.at ≡ false) xs
+pub new_elsewhere : (low : ℕ) (new : Extent) (xs : List Extent) → 1 ≤ new.len → AreApart low (with_extent new xs) → AllByRecursion (λ x. nat_eq x.at new.at ≡ false) xs
 new_elsewhere low new [] some apart = tt
 new_elsewhere low new (x ∷ xs) some apart = by_test (nat_lt (byte_of x.at) (byte_of new.at)) refl apart (new_elsewhere (byte_of x.at + x.len) new xs some) where
   by_test : (b : Bool) → nat_lt (byte_of x.at) (byte_of new.at) ≡ b → AreApart low (if b then x ∷ with_extent new xs else new ∷ x ∷ xs) → (AreApart (byte_of x.at + x.len) (with_extent new xs) → AllByRecursion (λ y. nat_eq y.at new.at ≡ false) xs) → AllByRecursion (λ y. nat_eq y.at new.at ≡ false) (x ∷ xs)
@@ -55,7 +55,7 @@ refer_to-inserted at e (y ∷ es) = by_test (stands_before (element_key e) y) (r
   by_test false more = refer_to-cons at e (y ∷ es)
 
 -- no element refers to an offset
-refer_to-none : (at : ℕ) (es : List Element) → AllByRecursion (λ e. nat_eq e.payload at ≡ false) es → refer_to at es ≡ 0
+pub refer_to-none : (at : ℕ) (es : List Element) → AllByRecursion (λ e. nat_eq e.payload at ≡ false) es → refer_to at es ≡ 0
 refer_to-none at [] each = refl
 refer_to-none at (e ∷ es) each =
     let none : refers at e ≡ 0 = rw each.0 refl in

@@ -53,7 +53,7 @@ not_there : (here at other : ℕ) → nat_eq here at ≡ true → nat_eq other a
 not_there here at other is apart = ne_eqb here other (λ same. eqb-false other at apart (sym same ∙ eqb-true here at is))
 
 -- an extent elsewhere stays when a reference is given back
-extent_at-elsewhere : (at other : ℕ) (xs : List Extent) → nat_eq other at ≡ false → extent_at other (given_back_at at xs) ≡ extent_at other xs
+pub extent_at-elsewhere : (at other : ℕ) (xs : List Extent) → nat_eq other at ≡ false → extent_at other (given_back_at at xs) ≡ extent_at other xs
 extent_at-elsewhere at other [] apart = refl
 extent_at-elsewhere at other (x ∷ xs) apart = by_test (nat_eq x.at at) refl (nat_eq x.refs 1) (extent_at-elsewhere at other xs apart) where
   by_test : (b : Bool) → nat_eq x.at at ≡ b → (last : Bool) → extent_at other (given_back_at at xs) ≡ extent_at other xs → extent_at other (if b then (if last then xs else record x { refs = x.refs - 1 } ∷ xs) else x ∷ given_back_at at xs) ≡ extent_at other (x ∷ xs)
@@ -136,7 +136,7 @@ first_same len (Some x) None same = absurd (cc)
 first_same len (Some x) (Some y) same = let shapes : shape_of y ≡ shape_of x = cc in ap (λ (s : ℕ × List ℕ). take len s.1) shapes
 
 -- two functions that give the same of each element of a list
-map_same : {A B : Type 0} (f g : A → B) (list : List A) → All (λ a. f a ≡ g a) list → map f list ≡ map g list
+pub map_same : {A B : Type 0} (f g : A → B) (list : List A) → All (λ a. f a ≡ g a) list → map f list ≡ map g list
 map_same f g [] same = refl
 map_same f g (a ∷ list) same = λ i. All-head (λ a. f a ≡ g a) a list same i ∷ map_same f g list (All-tail (λ a. f a ≡ g a) a list same) i
 

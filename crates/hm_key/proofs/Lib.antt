@@ -8,8 +8,10 @@ pub mod LastLemmas
 pub mod LogLemmas
 pub mod MarkLemmas
 pub mod MemoryLemmas
+pub mod MoveLemmas
 pub mod PlaceLemmas
 pub mod RaiseLemmas
+pub mod RiseLemmas
 pub mod SearchLemmas
 pub mod SweepLemmas
 pub mod ChargeLemmas

@@ -14,8 +14,13 @@ use Rattle.hm_key.specs.Extents.{Extent, AreExtents, extent_at, given_back_at}
 use Rattle.hm_key.specs.Balance.{IsHeld, IsBalanced, Balanced, content_of, full_of, full_elements, MayGo, Works}
 use Rattle.hm_key.specs.Marks.{MarksJoin, NoneFall}
 use Rattle.hm_key.specs.Stores.{ElementsChange, ExtentsChange, IsFound}
-use Rattle.hm_key.specs.Sweep.{Clears, keeps_one, IsOver}
+use Rattle.hm_key.specs.Job.{ComesFurther}
+use Rattle.hm_key.specs.Key.{IsFrom, IsKeyAfter, key_of}
+use Rattle.hm_key.specs.Sweep.{Clears, keeps_one, place_from, IsOver, NoneFrom}
+use Rattle.hm_key.specs.declared.base.Base.{Base}
 use Rattle.hm_key.specs.declared.element.Element.{Element}
+use Rattle.hm_key.proofs.KeyLemmas.{key_before_from}
+use Rattle.hm_key.proofs.RiseLemmas.{before_unless}
 use Rattle.hm_key.proofs.RaiseLemmas.{join_never_falls}
 use Rattle.hm_key.proofs.SearchLemmas.{first_from-at}
 use Rattle.hm_key.proofs.BalanceLemmas.{balanced_removed, full_removed, LosesDead-refl, LosesDead-removed}
@@ -115,3 +120,15 @@ cleared elements_of mark_of extents_of over e old mid new (Ok value) is first se
   extents = given_back e.payload (extents_of mid) (extents_of new) second.extents ∙ ap (option_map (given_back_at e.payload)) first.extents;
   marks = subst (λ (mark : Key → ℕ). OnSome (elements_of old) (NoneFall (mark_of old) mark)) (sym second.mark) (joined_marks (element_key e) (elements_of old) (mark_of old) (mark_of mid) first.mark);
 })
+
+-- the walk goes on after what a search found
+pub comes_further : (at : Base) (e : Element) (next : Option Base) → IsFrom (key_of at) (element_key e) → IsKeyAfter (element_key e) next → ComesFurther (place_from (Some at)) (place_from next)
+comes_further at e None onward after = inl (omega arith)
+comes_further at e (Some next) onward after = inr (refl, before_unless (key_of at) (key_of next) (λ back. onward (key_before_from (element_key e) (key_of next) (key_of at) after.1.after back)))
+
+-- so where the job went on from a key
+pub goes_further : (from : Option Base) (at : Base) (e : Element) (found : Option Element) (next : Option Base) → from ≡ Some at → found ≡ Some e → IfSome found (IsFound (key_of at)) → IsKeyAfter (element_key e) next
+    → ComesFurther (place_from from) (place_from next)
+goes_further from at e found next start is sound after =
+    let fact : IfSome (Some e) (IsFound (key_of at)) = subst (λ (o : Option Element). IfSome o (IsFound (key_of at))) is sound in
+    subst (λ (o : Option Base). ComesFurther (place_from o) (place_from next)) (sym start) (comes_further at e next fact.place after)

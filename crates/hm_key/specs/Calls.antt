@@ -9,6 +9,7 @@ use Rattle.hm_types.specs.declared.fault.SpaceFault.{SpaceFault}
 use Rattle.hm_types.specs.declared.zones.Zones.{Zones}
 use Rattle.hm_key.specs.Balance.{IsBalanced, Works, content_of}
 use Rattle.hm_key.specs.Extents.{Extent, PlacesAt}
+use Rattle.hm_key.specs.Job.{Place}
 use Rattle.hm_key.specs.Marks.{NoneFall}
 use Rattle.hm_key.specs.Stores.{ExtentsChange, Keeps, Same, SameContent}
 use Rattle.hm_key.specs.declared.element.Element.{Element}
@@ -45,8 +46,10 @@ pub record UnitDone {S : Type 0} (elements_of : S → Option (List Element)) (ma
   pub room : IsFalse places → (zone : ℕ) → room_of old zone ≤ room_of new zone
 
 -- A unit leaves what a job tells of itself. After an error the job is at the start of that unit: it fits each store that
--- it fitted.
-pub record KeepsJob {J S : Type 0} (Fits : J → S → Type 0) (kept_of : J → ℕ → Option (List (ℕ × ℕ))) (places_of : J → Bool) (old new : J) {A : Type 0} (result : Result A Fault) : Type 0 where
+-- it fitted, and came no further.
+pub record KeepsJob {J S : Type 0} (Fits : J → S → Type 0) (kept_of : J → ℕ → Option (List (ℕ × ℕ))) (places_of : J → Bool)
+    (place_of : J → Place) (old new : J) {A : Type 0} (result : Result A Fault) : Type 0 where
   pub err : OnErr result ((store : S) → Fits old store → Fits new store)
+  pub place : OnErr result (place_of new ≡ place_of old)
   pub kept : kept_of new ≡ kept_of old
   pub places : places_of new ≡ places_of old

@@ -6,6 +6,7 @@ pub mod Extents
 pub mod Job
 pub mod Key
 pub mod Memory
+pub mod Moves
 pub mod Places
 pub mod Props
 pub mod Marks

@@ -1,6 +1,6 @@
 // What an element or a boundary stands by: its key, and the id that closed it.
 ghost use Rattle.hm_types.specs.Elements.{key_cmp};
-ghost use Rattle.hm_key.specs.Key.{key_of, least_key, greatest_key, IsBoundary};
+ghost use Rattle.hm_key.specs.Key.{key_of, least_key, greatest_key, IsBoundary, IsKeyAfter};
 
 use hm_types::Obj;
 use std::cmp::Ordering;
@@ -90,6 +90,71 @@ impl Base {
         }
     }
 
+    /// The boundary at the key that comes next after that of this base. None exactly where this is
+    /// the greatest key.
+    pub fn key_after(&self) -> Option<Base>
+        ensures { IsKeyAfter (key_of self.now) result }
+    {
+        let at = self.boundary();
+        if at.create < u64::MAX {
+            return Some(Base {
+                create: at.create + 1,
+                ..at
+            });
+        }
+        at.next_number()
+    }
+
+    // The first key about the next number of the same type, or else of the next type.
+    fn next_number(self) -> Option<Base>
+        requires create { self.create ≡ u64.MAX }
+        requires boundary { IsBoundary self (key_of self) }
+        ensures { IsKeyAfter (key_of self) result }
+    {
+        if self.key < u64::MAX {
+            return Some(Base {
+                key: self.key + 1,
+                create: 0,
+                ..self
+            });
+        }
+        if self.rec_type < u16::MAX {
+            return Some(Base {
+                rec_type: self.rec_type + 1,
+                key: 0,
+                create: 0,
+                ..self
+            });
+        }
+        self.next_object()
+    }
+
+    // The first key of the next object, or else of the next localization.
+    fn next_object(self) -> Option<Base>
+        requires create { self.create ≡ u64.MAX }
+        requires number { self.key ≡ u64.MAX }
+        requires rec_type { self.rec_type ≡ u16.MAX }
+        requires boundary { IsBoundary self (key_of self) }
+        ensures { IsKeyAfter (key_of self) result }
+    {
+        if self.obj.0 < u64::MAX {
+            return Some(Base {
+                obj: Obj(self.obj.0 + 1),
+                rec_type: 0,
+                key: 0,
+                create: 0,
+                ..self
+            });
+        }
+        if self.localization < u32::MAX {
+            return Some(Base {
+                localization: self.localization + 1,
+                ..Base::least()
+            });
+        }
+        None
+    }
+
     /// How this base stands to the other in the tree. Bases with one key are equal here, whatever
     /// their other fields are.
     pub fn order(&self, other: &Base) -> Ordering
@@ -139,6 +204,27 @@ mod tests {
         ] {
             assert_eq!(rt; middle.order(&other), wanted, "{other:?}");
         }
+    }
+
+    #[test]
+    fn goes_to_the_next_key(rt: HostRuntime) {
+        const LONG: u64 = u64::MAX;
+        const SHORT: u16 = u16::MAX;
+        for (at, next) in [
+            (of(5, 5, 5, 5, 5), of(5, 5, 5, 5, 6)),
+            (of(5, 5, 5, 5, LONG - 1), of(5, 5, 5, 5, LONG)),
+            (of(5, 5, 5, 5, LONG), of(5, 5, 5, 6, 0)),
+            (of(5, 5, 5, LONG, LONG), of(5, 5, 6, 0, 0)),
+            (of(5, 5, SHORT, LONG, LONG), of(5, 6, 0, 0, 0)),
+            (of(5, LONG, SHORT, LONG, LONG), of(6, 0, 0, 0, 0)),
+        ] {
+            assert_eq!(rt; at.key_after(), Some(next), "{at:?}");
+        }
+        let mut element = of(5, 5, 5, 5, 5);
+        element.delete = 9;
+        element.btype = ELEMENT;
+        assert_eq!(rt; element.key_after(), Some(of(5, 5, 5, 5, 6)));
+        assert_eq!(rt; Base::greatest().key_after(), None);
     }
 
     #[test]

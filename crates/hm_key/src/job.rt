@@ -3,7 +3,7 @@ ghost use Rattle.std.specs.Prelude.{◌≡◌, ℕ, Bool, List, Option, IfOk};
 ghost use Rattle.hm_types.specs.Faults.{HasStoreCause};
 ghost use Rattle.hm_key.specs.Balance.{content_of};
 ghost use Rattle.hm_key.specs.Calls.{KeepsJob, UnitDone};
-ghost use Rattle.hm_key.specs.Job.{IfProgress};
+ghost use Rattle.hm_key.specs.Job.{HasMoreCause, IfProgress, Place, TellSame};
 
 use crate::extents::Extents;
 use crate::store::ElementStore;
@@ -37,17 +37,27 @@ pub trait Job<T: ElementStore + Extents> {
     /// Whether it places extents. If not, a unit lowers no room.
     ghost places: { Self → Bool };
 
+    /// How far it came: a unit may answer More where it came further, or where it removed or moved
+    /// an element.
+    ghost place: { Self → Place };
+
     /// One unit of the work. After an error, which is one of the store's, the job is at the start
     /// of that unit, and nothing is known of the store's content, also not whether it is told.
     fn unit(&mut self, store: &mut T) -> Result<Progress, Fault>
         requires fits { fits self.old store.old }
         ensures progress { IfOk result
             (IfProgress (goes self.new store.new) (ends self.new store.new)) }
-        ensures job { KeepsJob fits kept places self.old self.new result }
+        ensures more { IfOk result (HasMoreCause (place self.old) (place self.new)
+            (T.elements store.old) (T.elements store.new)) }
+        ensures job { KeepsJob fits kept places place self.old self.new result }
         ensures store { UnitDone T.elements T.mark T.extents T.room T.free (kept self.old)
             (places self.old) store.old store.new result }
         ensures name { T.name store.new ≡ T.name store.old }
         ensures frame { T.frame store.new ≡ T.frame store.old }
         ensures cause { HasStoreCause (content_of (T.elements store.old) (T.extents store.old))
             (T.faults store.old) (T.faults store.new) result };
+
+    /// What it says of a store goes by what that tells of its content, and by its room.
+    ghost looks: { (j : Self) (s t : T) → TellSame T.elements T.mark T.extents T.room s t →
+        (fits j s → fits j t) × (goes j s → goes j t) × (ends j s → ends j t) };
 }

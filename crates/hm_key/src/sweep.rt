@@ -3,10 +3,10 @@ ghost use Rattle.std.specs.Prelude.{◌≡◌, ◌↔◌, IfSome, IfOk, OnOk, Is
 ghost use Rattle.hm_types.specs.Faults.{HasStoreCause};
 ghost use Rattle.hm_types.specs.Space.{Spends, nothing};
 ghost use Rattle.hm_key.specs.Balance.{Balanced, content_of};
-ghost use Rattle.hm_key.specs.Elements.{element_at, first_from};
+ghost use Rattle.hm_key.specs.Elements.{element_at};
 ghost use Rattle.hm_key.specs.Key.{key_of};
 ghost use Rattle.hm_key.specs.Stores.{Keeps};
-ghost use Rattle.hm_key.specs.Sweep.{keeps_one, IsOver, Clears};
+ghost use Rattle.hm_key.specs.Sweep.{carried, keeps_one, place_from, IsOver, Clears, NoneFrom};
 
 use crate::base::{Base, ELEMENT};
 use crate::element::{Element, is_element};
@@ -20,13 +20,14 @@ use hm_types::{Counted, Fault, HOff, INSERT_ROOM, META_ZONE, Obj, TREE_ZONE};
 use std::alloc::Global;
 use std::test::Fail;
 
-/// Removes the elements of one pseudo file system that were closed by an id, from the key of `at`
-/// on. A unit looks at one element.
+/// Removes the elements of one pseudo file system that were closed by an id. A unit looks at one
+/// element.
 #[derive(Drop)]
 pub struct Sweep {
     pub pfs: u16,
     pub id: u64,
-    pub at: Base,
+    /// The key from which on it looks, and None where it has come to the end.
+    pub from: Option<Base>,
 }
 
 impl Sweep {
@@ -44,21 +45,26 @@ impl<T: ElementStore + Extents> Job<T> for Sweep {
 
     ghost goes = { λ _ s. Balanced (T.elements s) (T.extents s) };
 
-    ghost ends = { λ j s. IfSome (T.elements s) (λ es. first_from (key_of j.at) es ≡ None) };
+    ghost ends = { λ j s. IfSome (T.elements s) (NoneFrom j.from) };
 
     ghost kept = { λ j. keeps_one j.pfs j.id };
 
     ghost places = { λ _. false };
 
+    ghost place = { λ j. place_from j.from };
+
+    ghost looks = { λ j s t same. carried j.from (T.elements s) (T.elements t) (T.extents s)
+        (T.extents t) same.elements same.extents };
+
     fn unit(&mut self, store: &mut T) -> Result<Progress, Fault> {
-        let Some(element) = store.first_at_or_after(&self.at)? else {
+        let Some(from) = self.from else {
+            return Ok(Progress::Done);
+        };
+        let Some(element) = store.first_at_or_after(&from)? else {
             return Ok(Progress::Done);
         };
         clear(store, &element, self.is_over(&element.base))?;
-        self.at = Base {
-            create: element.base.create.saturating_add(1),
-            ..element.base
-        };
+        self.from = element.base.key_after();
         Ok(Progress::More)
     }
 }
@@ -163,7 +169,7 @@ fn a_job_removes_what_was_closed_by_an_id(rt: HostRuntime) -> Result<(), Fail> {
     let mut sweep = Sweep {
         pfs: 0,
         id: 10,
-        at: Base::least(),
+        from: Some(Base::least()),
     };
     assert!(rt; sweep_all(&mut sweep, &mut store, 4)?);
     assert_eq!(rt; store.elements(), [first, third].as_slice());
@@ -183,7 +189,7 @@ fn a_job_of_another_pseudo_file_system_removes_nothing(rt: HostRuntime) -> Resul
     let mut sweep = Sweep {
         pfs: 1,
         id: 20,
-        at: Base::least(),
+        from: Some(Base::least()),
     };
     assert!(rt; !sweep_all(&mut sweep, &mut store, 3)?);
     assert!(rt; sweep_all(&mut sweep, &mut store, 1)?);

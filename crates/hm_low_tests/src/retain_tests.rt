@@ -102,6 +102,36 @@ fn keeps_what_its_intervals_hold(rt: HostRuntime) -> Result<(), Fail> {
 }
 
 #[test]
+fn finds_the_least_id_from_one_on(rt: HostRuntime) -> Result<(), Fail> {
+    let alloc = rt.alloc();
+    let set = retention(alloc, &[(0, 0), (4, 4), (7, 9), (20, 30), (OPEN, OPEN)])?;
+    let rows = [
+        (0, 0),
+        (1, 4),
+        (3, 4),
+        (4, 4),
+        (5, 7),
+        (7, 7),
+        (8, 8),
+        (9, 9),
+        (10, 20),
+        (25, 25),
+        (30, 30),
+        (31, OPEN),
+        (OPEN, OPEN),
+    ];
+    for (id, least) in rows {
+        assert_eq!(rt; set.first_kept(Id(id)), Some(Id(least)), "from {id}");
+    }
+    let ended = retention(alloc, &[(4, 4), (7, 9)])?;
+    assert_eq!(rt; ended.first_kept(Id(9)), Some(Id(9)));
+    assert_eq!(rt; ended.first_kept(Id(10)), None);
+    assert_eq!(rt; ended.first_kept(Id(OPEN)), None);
+    assert_eq!(rt; retention(alloc, &[])?.first_kept(Id(0)), None);
+    Ok(())
+}
+
+#[test]
 fn cuts_to_listed_ids(rt: HostRuntime) -> Result<(), Fail> {
     let alloc = rt.alloc();
     let rows: [(&[(u64, u64)], &[u64], u64, &[(u64, u64)]); 11] = [
@@ -135,6 +165,9 @@ fn cuts_to_listed_ids(rt: HostRuntime) -> Result<(), Fail> {
     let most = set.cut_to(alloc, &even_ids(alloc, 4095)?, Id(8190))?;
     assert_eq!(rt; most.pairs().len(), MOST_INTERVALS);
     let more = set.cut_to(alloc, &even_ids(alloc, 4097)?, Id(8194));
+    assert_eq!(rt; more.err(), Some(RetainFault::TooMany { count: 4098 }));
+    let master = Retention::master(alloc)?;
+    let more = master.cut_to(alloc, &even_ids(alloc, 4098)?, Id(8196));
     assert_eq!(rt; more.err(), Some(RetainFault::TooMany { count: 4098 }));
     Ok(())
 }

@@ -1,4 +1,5 @@
 pub mod CutLemmas
+mod FirstKeptLemmas
 pub mod GrowthLemmas
 pub mod ListedLemmas
 pub mod SameLemmas

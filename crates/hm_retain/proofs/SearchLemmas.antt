@@ -21,7 +21,7 @@ RiseFrom-back least [] x back rise = rise.1
 RiseFrom-back least (y ∷ ys) x back rise = RiseFrom-back (y.1 + 2) ys x back rise.1
 
 -- the interval stands in a rising list
-is_interval_at : (least : ℕ) (front : List (ℕ × ℕ)) (x : ℕ × ℕ) (back : List (ℕ × ℕ)) → RiseFrom least (front ++ x ∷ back) → IsInterval least x
+pub is_interval_at : (least : ℕ) (front : List (ℕ × ℕ)) (x : ℕ × ℕ) (back : List (ℕ × ℕ)) → RiseFrom least (front ++ x ∷ back) → IsInterval least x
 is_interval_at least [] x back rise = rise.0
 is_interval_at least (y ∷ ys) x back rise =
     let later : IsInterval (y.1 + 2) x = is_interval_at (y.1 + 2) ys x back rise.1 in
@@ -77,7 +77,7 @@ IsSearched-all list id part is retention = record {
 }
 
 -- a list about one of its pairs
-numbers_about : (part : List (Id × Id)) (m : ℕ) (d : Id × Id) → m < length part → numbers_of part ≡ numbers_of (take m part) ++ number_pair (get_or part m d) ∷ numbers_of (drop (m + 1) part)
+pub numbers_about : (part : List (Id × Id)) (m : ℕ) (d : Id × Id) → m < length part → numbers_of part ≡ numbers_of (take m part) ++ number_pair (get_or part m d) ∷ numbers_of (drop (m + 1) part)
 numbers_about part m d within =
     let whole : take m part ++ drop m part ≡ part = take-append-drop m part in
     let rest : drop m part ≡ get_or part m d ∷ drop (m + 1) part = rw add-one (drop-cons part m d within) in

@@ -1,5 +1,5 @@
 -- Retentions, and what is cut from them or joined to them, as sets of ids.
-use Rattle.std.specs.Prelude.{◌≡◌, ◌⊎◌, ℕ, ◌-◌, ◌^◌, ◌<◌, ◌≤◌, List, length, min}
+use Rattle.std.specs.Prelude.{◌≡◌, ◌⊎◌, ℕ, ◌-◌, ◌^◌, ◌<◌, ◌≤◌, List, length, min, Option, None, Some}
 use Rattle.std.specs.List.{Contains}
 use Rattle.hm_types.specs.declared.id.Id.{Id}
 use Rattle.hm_types.specs.declared.limits.TheConstants.{MOST_INTERVALS}
@@ -12,6 +12,17 @@ use Rattle.hm_retain.specs.Intervals.{KeepsExactly, IsIntervals}
 pub record IsRetention (list : List (ℕ × ℕ)) : Type 0 where
   pub intervals : IsIntervals list
   pub few : length list ≤ MOST_INTERVALS
+
+-- an id is kept, and none from a number on that is kept is less
+pub record IsLeastKept (list : List (ℕ × ℕ)) (from id : ℕ) : Type 0 where
+  pub onward : from ≤ id
+  pub kept : Keeps list id
+  pub least : (other : ℕ) → Keeps list other → from ≤ other → id ≤ other
+
+-- the least id that is kept from a number on, if there is one
+abbrev pub IsFirstKept : List (ℕ × ℕ) → ℕ → Option Id → Type 0
+IsFirstKept list from None = (other : ℕ) → Keeps list other → other < from
+IsFirstKept list from (Some id) = IsLeastKept list from id.0
 
 -- the id is one of these
 abbrev pub IsListed : List Id → ℕ → Type 0

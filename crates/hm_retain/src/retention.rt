@@ -33,7 +33,7 @@ impl Retention {
     ghost use Rattle.std.specs.Prelude.{IfOk, IsOk, IfErr, IfSome, IsSome, IsTrue};
     ghost use Rattle.hm_types.specs.Intervals.{Keeps};
     ghost use Rattle.hm_retain.specs.Intervals.{numbers_of};
-    ghost use Rattle.hm_retain.specs.Retention.{IsRetention, IsCut, IsJoin, TellsOf};
+    ghost use Rattle.hm_retain.specs.Retention.{IsRetention, IsFirstKept, IsCut, IsJoin, TellsOf};
 
     /// What a new master keeps: every id from 1 on.
     pub fn master(alloc: Global) -> Result<Retention, NoMemory>
@@ -82,6 +82,28 @@ impl Retention {
             }
         }
         false
+    }
+
+    /// The least id of the set from `id` on, and None where the set has none there. Searches by
+    /// halves, and takes no memory.
+    pub fn first_kept(&self, id: Id) -> Option<Id>
+        ensures { IsFirstKept self.now id.0 result }
+    {
+        let mut part = self.list.as_slice();
+        let mut next = None;
+        while !part.is_empty() {
+            let middle = part.len() / 2;
+            let (first, last) = part[middle];
+            if id < first {
+                next = Some(first);
+                part = &part[..middle];
+            } else if last < id {
+                part = &part[middle + 1..];
+            } else {
+                return Some(id);
+            }
+        }
+        next
     }
 
     /// Keeps of the set the listed ids, and all from `from` on. Takes time and memory in proportion

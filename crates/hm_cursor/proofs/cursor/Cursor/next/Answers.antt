@@ -2,14 +2,14 @@ use Rattle.std.proofs.Common.{◌≡◌, ◌<◌, Some, Option, subst, sym, ap, 
 use Rattle.std.specs.Prelude.{IfSome}
 use Rattle.hm_types.specs.Elements.{Key, Sees}
 use Rattle.hm_key.specs.Elements.{element_key, first_from}
-use Rattle.hm_key.specs.Key.{key_of}
+use Rattle.hm_key.specs.Key.{key_of, IsWide}
 use Rattle.hm_key.specs.Stores.{IsFound}
 use Rattle.hm_key.specs.declared.base.Base.{Base}
 use Rattle.hm_key.specs.declared.element.Element.{Element}
-use Rattle.hm_cursor.specs.Shown.{IsShown, IsToCome, IsWide}
+use Rattle.hm_cursor.specs.Shown.{IsAfter, IsShown, IsToCome}
 use Rattle.hm_cursor.specs.declared.cursor.Cursor.{Cursor}
 use Rattle.hm_cursor.proofs.StoreLemmas.{told_both, told_still, told_first, same_both}
-use Rattle.hm_cursor.proofs.ShownLemmas.{NonePassed, next_empty, next_found, next_beyond, passed_after, passes, keys_left, fewer_keys}
+use Rattle.hm_cursor.proofs.ShownLemmas.{NonePassed, next_empty, next_found, next_beyond, after_is, next_wide, passed_after, passes, keys_left, fewer_keys}
 use Rattle.hm_cursor.proofs.cursor.Cursor.next.Goals as goal
 use Rattle.hm_cursor.proofs.cursor.Cursor.next.Goals.{else-element-self-2-via-then-element-self-2+else-is_seen, else-element-self-2-via-else-element-self-2}
 
@@ -79,7 +79,7 @@ returns-then-is_seen-clause-passes g c =
       came = onward (element_key e) wide found.place;
       localization = ap (λ (x : Cursor). x.localization) same;
       as_of = ap (λ (x : Cursor). x.as_of) same;
-      rest = c.after-from.ensures.after;
+      rest = after_is e.base c.key_after-from.result c.key_after-from.ensures;
     }
 
 pub loop-from-smaller : goal.loop-from-smaller
@@ -95,8 +95,8 @@ loop-from-smaller g c =
     } in
     let found : IfSome (Some e) (IsFound (key_of at)) =
     subst (λ (o : Option Element). IfSome o (IsFound (key_of at))) c.in-Some-2.is c.in_ok-element.ensures.found in
-    subst (λ (o : Option Base). keys_left c.after-from.result < keys_left o) (sym c.in-Some.is)
-    (fewer_keys at e.base c.after-from.result wide c.after-from.ensures.wide found.place c.after-from.ensures.after)
+    subst (λ (o : Option Base). keys_left c.key_after-from.result < keys_left o) (sym c.in-Some.is)
+    (fewer_keys at e.base c.key_after-from.result wide (next_wide (key_of e.base) c.key_after-from.result c.key_after-from.ensures) found.place (after_is e.base c.key_after-from.result c.key_after-from.ensures))
 
 pub loop-from-preserved : goal.loop-from-preserved
 loop-from-preserved g c =
@@ -114,6 +114,7 @@ loop-from-preserved g c =
     subst (λ (o : Option Element). IfSome o (IsFound (key_of at))) c.in-Some-2.is c.in_ok-element.ensures.found in
     let onward = subst (λ (o : Option Base). (key : Key) → IsWide key → IsToCome o key → IsToCome cursor.from key) c.in-Some.is invariant.onward in
     let same : c.loop-from.self ≡ cursor = invariant.self in
+    let after : IsAfter e.base c.key_after-from.result = after_is e.base c.key_after-from.result c.key_after-from.ensures in
     let unshown : IsShown cursor.localization cursor.as_of.0 e → ⊥ =
     (λ shown. elim c.else-element-self-2.branch [
       | else-element-self-2-via-then-element-self-2+else-is_seen w ↦
@@ -123,8 +124,8 @@ loop-from-preserved g c =
     ]) in
     record {
       self = same;
-      passed = told_both was (λ es search none. passed_after es cursor at e search none c.after-from.result c.after-from.ensures.after unshown) found passed;
-      onward = λ key wide come. onward key wide (passes (key_of at) (element_key e) key place.place ((c.after-from.ensures.after key wide).0 come));
+      passed = told_both was (λ es search none. passed_after es cursor at e search none c.key_after-from.result after unshown) found passed;
+      onward = λ key wide come. onward key wide (passes (key_of at) (element_key e) key place.place ((after key wide).0 come));
       keeps = search (rules, same_both);
       name = search rules;
       frame = search rules;

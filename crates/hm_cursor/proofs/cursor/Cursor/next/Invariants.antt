@@ -2,7 +2,8 @@ use Rattle.std.proofs.Common.{◌≡◌, ◌≤◌}
 use Rattle.std.specs.Prelude.{IfSome}
 use Rattle.hm_types.specs.Elements.{Key}
 use Rattle.hm_key.specs.Stores.{Same}
-use Rattle.hm_cursor.specs.Shown.{IsToCome, IsWide}
+use Rattle.hm_key.specs.Key.{IsWide}
+use Rattle.hm_cursor.specs.Shown.{IsToCome}
 use Rattle.hm_cursor.proofs.ShownLemmas.{NonePassed, keys_left}
 use Rattle.hm_cursor.proofs.cursor.Cursor.next.Given as goal
 
