@@ -132,29 +132,6 @@ fn lays_volumes_out(rt: HostRuntime) {
         assert_eq!(rt; first_undo(bigblocks), undo, "{bigblocks}");
         assert_eq!(rt; first_pool(bigblocks), pool, "{bigblocks}");
     }
-    // Which blocks are of layer 2, and which of the pool.
-    for (bigblocks, block, of_layer2, of_pool) in [
-        (24, 1, false, false),
-        (24, 2, true, false),
-        (24, 3, false, false),
-        (524_288, 3, false, false),
-        (524_289, 3, true, false),
-        (1_048_576, 3, true, false),
-        (1_048_576, 4, false, false),
-        (24, 10, false, false),
-        (24, 11, false, true),
-        (24, 23, false, true),
-        (24, 24, false, false),
-        (524_289, 11, false, false),
-        (524_289, 12, false, true),
-    ] {
-        assert_eq!(rt;
-            is_layer2(bigblocks, block),
-            of_layer2,
-            "{bigblocks} {block}"
-        );
-        assert_eq!(rt; is_pool(bigblocks, block), of_pool, "{bigblocks} {block}");
-    }
     // Lengths are rounded up to extents.
     for (len, want) in [
         (0, 0),
@@ -165,6 +142,35 @@ fn lays_volumes_out(rt: HostRuntime) {
         (65_568, 65_568),
     ] {
         assert_eq!(rt; rounded(len), want, "{len}");
+    }
+}
+
+#[test]
+fn tells_layer_2(rt: HostRuntime) {
+    for (bigblocks, block, want) in [
+        (24, 1, false),
+        (24, 2, true),
+        (24, 3, false),
+        (524_288, 3, false),
+        (524_289, 3, true),
+        (1_048_576, 3, true),
+        (1_048_576, 4, false),
+    ] {
+        assert_eq!(rt; is_layer2(bigblocks, block), want, "{bigblocks} {block}");
+    }
+}
+
+#[test]
+fn tells_the_pool(rt: HostRuntime) {
+    for (bigblocks, block, want) in [
+        (24, 10, false),
+        (24, 11, true),
+        (24, 23, true),
+        (24, 24, false),
+        (524_289, 11, false),
+        (524_289, 12, true),
+    ] {
+        assert_eq!(rt; is_pool(bigblocks, block), want, "{bigblocks} {block}");
     }
 }
 
