@@ -75,7 +75,7 @@ put_back-page image before old after fit apart =
         ∙ ap (λ (k : ℕ). get_or old.bytes k 0) at)
 
 -- What stands in the pages before they are put back changes nothing.
-same-byte : (a b : List ℕ) (olds : List OldPage) → length b ≡ length a → Fit (length a) olds → (byte : ℕ) → byte < length a
+pub same-byte : (a b : List ℕ) (olds : List OldPage) → length b ≡ length a → Fit (length a) olds → (byte : ℕ) → byte < length a
     → (Outside (old_places_of olds) byte → get_or b byte 0 ≡ get_or a byte 0)
     → get_or (put_back b olds) byte 0 ≡ get_or (put_back a olds) byte 0
 same-byte a b [] size fit byte below same = same tt

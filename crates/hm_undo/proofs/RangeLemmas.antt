@@ -27,7 +27,7 @@ same-old a b at bytes =
     let all : make a.at a.bytes ≡ make b.at b.bytes = rw (at, bytes) refl in
     all
 
-entry-one : (image : List ℕ) (header : Header) (entry : ℕ) (a b : OldPage) → HasUndoEntry image header entry a → HasUndoEntry image header entry b → a ≡ b
+pub entry-one : (image : List ℕ) (header : Header) (entry : ℕ) (a b : OldPage) → HasUndoEntry image header entry a → HasUndoEntry image header entry b → a ≡ b
 entry-one image header entry a b is is' =
     let same = entry-is-one (undo_entry_in image header.bigblocks entry) a.at header.generation a.bytes b.at header.generation b.bytes is.spelled is'.spelled in
     same-old a b same.0 same.2

@@ -48,7 +48,7 @@ counts-small first second (suc zero) counts = omega arith
 counts-small first second (suc (suc number)) counts = absurd counts
 
 -- the pages of a range lie past the slots
-past-slots : (image : List ℕ) (header : Header) (olds : List OldPage) → HasEach image header olds → (byte : ℕ) → byte < 2 * SLOT_BYTES
+pub past-slots : (image : List ℕ) (header : Header) (olds : List OldPage) → HasEach image header olds → (byte : ℕ) → byte < 2 * SLOT_BYTES
     → Outside (old_places_of olds) byte
 past-slots image header [] each byte below = tt
 past-slots image header (old ∷ olds) each byte below = (
