@@ -4,6 +4,7 @@ pub mod CutLemmas
 pub mod EditLemmas
 pub mod EmptyLemmas
 pub mod EndLemmas
+pub mod ExchangeLemmas
 pub mod FindLemmas
 pub mod GrowLemmas
 pub mod GrowsLemmas
@@ -21,6 +22,7 @@ pub mod ListLemmas
 pub mod LocalLemmas
 pub mod LowestLemmas
 pub mod MarkLemmas
+pub mod MoveLemmas
 pub mod NeighbourLemmas
 pub mod NodeLemmas
 pub mod OrderLemmas

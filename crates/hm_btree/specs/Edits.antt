@@ -52,3 +52,7 @@ with_mirror mirror c = record c { mirror = mirror }
 -- a child with another left boundary
 abbrev pub with_left : Base → Child → Child
 with_left left c = record c { left = left }
+
+-- a child that stands elsewhere
+abbrev pub with_child : ℕ → Child → Child
+with_child at c = record c { child = at }

@@ -1,11 +1,17 @@
 // Edits of inner nodes.
 ghost use Rattle.std.specs.Prelude.{◌≡◌, ◌+◌, ◌/◌, ◌≤◌, ◌<◌, ◌++◌, if◌then◌else◌, false, max, take, drop, insert, remove, nat_lt};
 ghost use Rattle.arrayvec.specs.ArrayVec.{array_vec_len};
-ghost use Rattle.hm_btree.specs.Edits.{inner_of, left_of, with_mirror, with_left, InnerGrown, ChildChange};
+ghost use Rattle.hm_btree.specs.Edits.{inner_of, left_of, with_child, with_mirror, with_left, InnerGrown, ChildChange};
+ghost use Rattle.hm_node.specs.Edits.{IsInnerPage};
+ghost use Rattle.hm_node.specs.Head.{head_in};
+ghost use Rattle.hm_node.specs.Inner.{IsNodeOffset};
+ghost use Rattle.hm_btree.specs.Calls.Move.{SetsChild};
 
 use crate::places::{append, insert_and_split, share_out};
+use hm_fields::Page;
 use hm_key::Base;
 use hm_node::{Child, Inner};
+use hm_types::HOff;
 
 /// Gives the child at a place this `mirror`, to which the node's own is raised. Answers whether that
 /// changed the node.
@@ -40,6 +46,32 @@ pub fn set_left(inner: &mut Inner, at: usize, left: Base)
     if let Some(child) = inner.places.get_mut(at) {
         child.left = left;
     }
+}
+
+/// Lets the child at a place stand elsewhere.
+pub fn set_child(inner: &mut Inner, at: usize, to: HOff)
+    requires { at < array_vec_len inner.old.places }
+    ensures level { inner.new.level ≡ inner.old.level }
+    ensures mirror { inner.new.mirror ≡ inner.old.mirror }
+    ensures items { ChildChange (with_child to)
+        inner.old.places.items at inner.new.places.items }
+    ensures right { inner.new.right ≡ inner.old.right }
+{
+    if let Some(child) = inner.places.get_mut(at) {
+        child.child = to;
+    }
+}
+
+/// Lets the child at a place of the inner node in a page stand elsewhere.
+pub fn set_child_in(page: &mut Page, at: usize, to: HOff)
+    requires inner { IsInnerPage page.old }
+    requires within { at < (head_in page.old).count }
+    requires to { IsNodeOffset to }
+    ensures { SetsChild at to page.old page.new }
+{
+    let mut inner = Inner::of(page);
+    set_child(&mut inner, at, to);
+    inner.write(page);
 }
 
 /// Puts a child in before the place `at`, and raises the node's `mirror` to the child's. A node

@@ -8,6 +8,7 @@ mod insert;
 mod join;
 mod leaf_edit;
 mod mem_space;
+mod move_node;
 mod node_edit;
 mod node_table;
 mod places;

@@ -4,7 +4,7 @@ ghost use Rattle.hm_key.specs.Element.{IsElement};
 ghost use Rattle.hm_key.specs.Elements.{element_at};
 ghost use Rattle.hm_key.specs.Key.{key_of};
 
-use hm_btree::{BTree, MemSpace, NodeTable};
+use hm_btree::{BTree, MemSpace, NODE_BYTES, NodeTable};
 use hm_fields::{Page, Pages};
 use hm_key::{Base, ELEMENT, Element, ElementStore, HasElements, HasRoom, OTHER_PART, SNAPSHOT};
 use hm_node::{Node, broken_rule, encode};
@@ -123,6 +123,75 @@ fn a_tree_is_the_sorted_list_of_its_elements(rt: HostRuntime) -> Result<(), Fail
     fill(&rt, &mut tree, &mut map, 10_000)?;
     drain(&rt, &mut tree, &mut map, 9_900)?;
     assert_eq!(rt; map.len(), 100);
+    Ok(())
+}
+
+// Where a node stands so many levels below the root, or a leaf on the way: at each level it is below
+// the child that a number picks.
+fn node_below(space: &mut NodeTable, root: HOff, levels: u32, pick: usize) -> Result<HOff, Fault> {
+    let mut place = Subtree::root(root);
+    for _ in 0..levels {
+        let Node::Inner(inner) = read_node(space, &place)? else {
+            return Ok(place.at);
+        };
+        let count = inner.places.len();
+        if count == 0 {
+            return Ok(place.at);
+        }
+        place = Subtree::child(&inner, pick % count);
+    }
+    Ok(place.at)
+}
+
+// Moves such a node, and sees that it stands elsewhere, that no node came or went, and that the root
+// is another one exactly where it was moved.
+fn move_one(
+    rt: &impl Abort,
+    tree: BTree<NodeTable>,
+    levels: u32,
+    pick: usize,
+) -> Result<BTree<NodeTable>, Fail> {
+    let (mut space, root) = tree.into_parts();
+    let at = node_below(&mut space, root, levels, pick)?;
+    let nodes = space.len();
+    if space.room() < u64::from(NODE_BYTES) {
+        return Err(Fail::from("no room for a node"));
+    }
+    let mut tree = BTree::over(space, root);
+    let to = tree.move_node(at)?;
+    assert!(rt; to != at);
+    assert_eq!(rt; tree.space().len(), nodes);
+    assert_eq!(rt; tree.root(), if at == root { to } else { root });
+    Ok(tree)
+}
+
+#[test]
+fn a_tree_whose_nodes_move_is_the_same_list(rt: HostRuntime) -> Result<(), Fail> {
+    let mut tree = empty(rt.alloc())?;
+    let mut map = BTreeMap::new(rt.alloc());
+    for i in 0..10_000u64 {
+        let e = element(key(i), 1);
+        insert(&mut tree, &e)?;
+        map.insert(e.base.key, e)?;
+        if i % 10 == 9 {
+            tree = move_one(&rt, tree, (i / 10 % 3) as u32, (i % 1_009) as usize)?;
+        }
+        if i % 500 == 499 {
+            assert!(rt; is_same(&mut tree, &map)?, "after {i} inserts");
+        }
+    }
+    for i in 0..9_900u64 {
+        let e = element(key(i), 1);
+        tree.remove(&e.base)?;
+        map.remove(&e.base.key);
+        if i % 10 == 9 {
+            tree = move_one(&rt, tree, (i / 10 % 3) as u32, (i % 1_009) as usize)?;
+        }
+        if i % 500 == 499 {
+            assert!(rt; is_same(&mut tree, &map)?, "after {i} removals");
+        }
+    }
+    assert!(rt; is_same(&mut tree, &map)?);
     Ok(())
 }
 
