@@ -1,89 +1,74 @@
--- Versions of a subject that are closed one after another.
-use Rattle.std.proofs.Common.{◌≡◌, ◌≢◌, ℕ, ◌+◌, ◌<◌, ◌≤◌, List, true, false, Bool, Option, Some, None, refl, ap, sym, subst, ◌∙◌, inl, inr, arith, nat_lt}
-use Rattle.std.specs.Prelude.{◌⊎◌, ◌==◌, if◌then◌else◌, IfSome, IsSomeAnd, option_map}
+-- The newest version of a subject is closed, and nothing counts from then on.
+use Rattle.std.proofs.Common.{◌≡◌, ◌≢◌, ℕ, ◌<◌, ◌≤◌, List, true, false, Bool, Option, Some, None, refl, ap, sym, subst, ◌∙◌, inl, inr, arith}
+use Rattle.std.specs.Prelude.{◌==◌, if◌then◌else◌, Err, IfSome, IsSomeAnd, Ok, OnOk, Result, option_map}
 use Rattle.std.specs.List.{Contains}
-use Rattle.std.proofs.lemmas.Bool.{eqb-true, eqb-false, ltb-true, ltb-false}
+use Rattle.std.proofs.lemmas.Bool.{eqb-true, eqb-false}
 use Rattle.hm_types.specs.Elements.{FullElement, Key}
-use Rattle.hm_key.specs.Balance.{IsBalanced, content_of, full_of}
+use Rattle.hm_key.specs.Balance.{full_of}
 use Rattle.hm_key.specs.Counts.{Subject, subject_of}
 use Rattle.hm_key.specs.Elements.{IsContent, closed_at, element_at, element_key, with_delete}
 use Rattle.hm_key.specs.Extents.{Extent}
 use Rattle.hm_key.specs.declared.element.Element.{Element}
-use Rattle.hm_records.proofs.MemberLemmas.{map_has}
+use Rattle.hm_records.proofs.MemberLemmas.{has_map, map_has}
 use Rattle.hm_cursor.specs.Told.{fulls}
-use Rattle.hm_cursor.specs.Version.{IsFirstMade, IsMadeIn}
+use Rattle.hm_cursor.specs.Version.{IsFirstMade, IsMadeIn, IsNewestMade}
 use Rattle.hm_cursor.specs.Write.{IsFresh, Rewrites}
-use Rattle.hm_cursor.proofs.RewriteLemmas.{Shuts, rewrites_shut, shuts_made, shuts_twice}
-use Rattle.hm_cursor.proofs.FullLemmas.{closed_has, element_at-changed, has-element_at}
+use Rattle.hm_cursor.proofs.RewriteLemmas.{IsLatest, Shuts, rewrites_shut, shuts_made}
+use Rattle.hm_cursor.proofs.FullLemmas.{closed_has, element_at-changed, element_at-has, has-element_at}
+use Rattle.hm_cursor.proofs.StoreLemmas.{told_both}
 use Rattle.hm_cursor.proofs.WriteLemmas.{Became, became_closed, became_none}
 
--- ---- what is left to close
+-- ---- the newest version is closed
 
--- no version of a subject is open that was made before an id
-abbrev pub AreShutBelow : Subject → ℕ → List Element → Type 0
-AreShutBelow s from es = (x : Element) → Contains es x → subject_of (element_key x) ≡ s → x.base.create < from → x.base.delete ≢ 0
+-- no version of a subject was made after this one
+abbrev IsLast : List Element → Subject → Element → Type 0
+IsLast es s y = (other : Element) → Contains es other → subject_of (element_key other) ≡ s → other.base.create ≤ y.base.create
 
--- no version of a subject is open before the one that comes next, and before an id where none does
-abbrev pub AreShutUpTo : Subject → ℕ → Option Element → List Element → Type 0
-AreShutUpTo s i None es = AreShutBelow s i es
-AreShutUpTo s i (Some next) es = Contains es next × AreShutBelow s next.base.create es
+-- all versions of a subject were made below an id
+abbrev AreMadeBelow : List Element → Subject → ℕ → Type 0
+AreMadeBelow es s i = (x : Element) → Contains es x → subject_of (element_key x) ≡ s → x.base.create < i
 
--- one number is below another, or not
-below_or : (a b : ℕ) → (a < b) ⊎ (b ≤ a)
-below_or a b = by_test (nat_lt a b) refl where
-  by_test : (test : Bool) → nat_lt a b ≡ test → (a < b) ⊎ (b ≤ a)
-  by_test true is = inl (ltb-true a b is)
-  by_test false is = inr (ltb-false a b is)
+-- the newest version of a subject is closed, where all were made below an id
+abbrev pub IsShut : Subject → ℕ → List Element → Type 0
+IsShut s i es = AreMadeBelow es s i → (y : Element) → Contains es y → subject_of (element_key y) ≡ s → IsLast es s y → y.base.delete ≢ 0
 
--- a search for the version that comes next
-next_list : (s : Subject) (from i : ℕ) (found : Option Element) (es : List Element) → AreShutBelow s from es → IsFirstMade es s from i found
-    → AreShutUpTo s i found es
-next_list s from i None es shut none = left where
-  left : AreShutBelow s i es
-  left x has about below = elim (below_or x.base.create from) [
-    | inl before ↦ shut x has about before
-    | inr later ↦ absurd (none x has about later (omega (arith, below)))
-  ]
-next_list s from i (Some e) es shut first = (first.there, left) where
-  left : AreShutBelow s e.base.create es
-  left x has about below = elim (below_or x.base.create from) [
-    | inl before ↦ shut x has about before
-    | inr later ↦ absurd (omega (arith, first.first x has about later, below))
-  ]
+-- where none was made by an id there is none
+pub shut_none : (s : Subject) (i : ℕ) (found : Option Element) (es es' : Option (List Element)) → es' ≡ es → found ≡ None
+    → IfSome es (λ list. IsFirstMade list s 0 i found) → IfSome es' (IsShut s i)
+shut_none s i found es es' same is none = rw same (by_told es (subst (λ (o : Option Element). IfSome es (λ list. IsFirstMade list s 0 i o)) is none)) where
+  by_told : (told : Option (List Element)) → IfSome told (λ list. IsFirstMade list s 0 i None) → IfSome told (IsShut s i)
+  by_told None none = tt
+  by_told (Some list) none = λ made y has about last. absurd (none y has about (omega arith) (omega (arith, made y has about)))
 
-pub shut_next : (s : Subject) (from i : ℕ) (found : Option Element) (es es' : Option (List Element)) → es' ≡ es → IfSome es (AreShutBelow s from)
-    → IfSome es (λ list. IsFirstMade list s from i found) → IfSome es' (AreShutUpTo s i found)
-shut_next s from i found None es' same shut first = rw same tt
-shut_next s from i found (Some es) es' same shut first = rw same (next_list s from i found es shut first)
+-- one that was made at an id or later was not made below it
+pub shut_late : (s : Subject) (i : ℕ) (this : Element) (es es' : Option (List Element)) → es' ≡ es → subject_of (element_key this) ≡ s → i ≤ this.base.create
+    → IfSome es (λ list. IsNewestMade list s i this) → IfSome es' (IsShut s i)
+shut_late s i this es es' same about late newest = rw same (by_told es newest) where
+  by_told : (told : Option (List Element)) → IfSome told (λ list. IsNewestMade list s i this) → IfSome told (IsShut s i)
+  by_told None newest = tt
+  by_told (Some list) newest = λ made y has about' last. absurd (omega (arith, late, made this newest.there about))
 
--- a version that is found is about the subject
-pub next_about : (s about : Subject) (from i : ℕ) (found : Option Element) → about ≡ s → IfSome found (IsMadeIn about from i)
-    → IfSome found (λ e. subject_of (element_key e) ≡ s)
-next_about s about from i None same made = tt
-next_about s about from i (Some e) same made = made.about ∙ same
+module _ (s : Subject) (i : ℕ) (found : Option Element) (oldest newest : Element) (is : found ≡ Some oldest) (made : IfSome found (IsMadeIn s 0 i)) where
+  -- the oldest version that a search found, and the newest one, are about the subject
+  about_oldest : subject_of (element_key oldest) ≡ s
+  about_oldest = (subst (λ (o : Option Element). IfSome o (IsMadeIn s 0 i)) is made).about
 
-pub first_about : (s about : Subject) (from i : ℕ) (found : Option Element) (es : Option (List Element)) → about ≡ s
-    → IfSome es (λ list. IsFirstMade list about from i found) → IfSome es (λ list. IsFirstMade list s from i found)
-first_about s about from i found es same first = subst (λ (z : Subject). IfSome es (λ list. IsFirstMade list z from i found)) same first
+  pub about_newest : IsMadeIn (subject_of (element_key oldest)) 0 i newest → subject_of (element_key newest) ≡ s
+  about_newest here = here.about ∙ about_oldest
 
--- no version was made before the first id
-pub shut_none : (s : Subject) (es : Option (List Element)) → IfSome es (AreShutBelow s 0)
-shut_none s None = tt
-shut_none s (Some es) = λ x has about below. absurd (omega (arith, below))
+  pub newest_told : (es : Option (List Element)) → IfSome es (λ list. IsNewestMade list (subject_of (element_key oldest)) i newest)
+      → IfSome es (λ list. IsNewestMade list s i newest)
+  newest_told es = subst (λ (u : Subject). IfSome es (λ list. IsNewestMade list u i newest)) about_oldest
 
--- where the next version was made at the last id or later, none is left
-pub shut_over : (s : Subject) (i : ℕ) (this : Element) (es : Option (List Element)) → i ≤ this.base.create → IfSome es (AreShutUpTo s i (Some this))
-    → IfSome es (AreShutUpTo s i None)
-shut_over s i this None late shut = tt
-shut_over s i this (Some es) late shut = λ x has about below. shut.1 x has about (omega (arith, below, late))
+-- the newest version stands at its key
+pub newest_stands : (s : Subject) (i : ℕ) (newest : Element) (es : Option (List Element)) → IfSome es IsContent
+    → IfSome es (λ list. IsNewestMade list s i newest) → IfSome es (λ list. element_at (element_key newest) list ≡ Some newest)
+newest_stands s i newest es = told_both es (λ list content is. has-element_at newest list content.rising is.there)
 
--- ---- one version is closed
-
--- the next version stands at its key
-pub next_stands : (s : Subject) (i : ℕ) (this : Element) (es : Option (List Element)) → IfSome es IsContent → IfSome es (AreShutUpTo s i (Some this))
-    → IfSome es (λ list. element_at (element_key this) list ≡ Some this)
-next_stands s i this None content shut = tt
-next_stands s i this (Some es) content shut = has-element_at this es content.rising shut.0
+-- what follows of a call that succeeded
+pub where_ok : {A E P Q : Type 0} (result : Result A E) → (P → Q) → OnOk result P → OnOk result Q
+where_ok (Ok a) step known = step known
+where_ok (Err e) step known = tt
 
 -- versions of one subject that one id made have one key
 pub same_key : (a b : Key) → subject_of a ≡ subject_of b → a.create ≡ b.create → a ≡ b
@@ -111,42 +96,38 @@ module _ (s : Subject) (i : ℕ) (this : Element) (about_this : subject_of (elem
         some_same : (a b : Element) → Some a ≡ Some b → a ≡ b
         some_same a b is = cc
 
-  shut_more : (es : List Element) → this.base.create < i → IsContent es → IsContent (if_closed this i es) → Contains es this
-      → AreShutBelow s this.base.create es → AreShutBelow s (this.base.create + 1) (if_closed this i es)
-  shut_more es later content content' there shut = by_test (this.base.delete == 0) refl content' where
+  shut_newest : (es : List Element) → this.base.create < i → IsContent es → IsContent (if_closed this i es) → IsNewestMade es s i this
+      → IsShut s i (if_closed this i es)
+  shut_newest es later content content' newest = by_test (this.base.delete == 0) refl content' where
     found : element_at (element_key this) es ≡ Some this
-    found = has-element_at this es content.rising there
-
-    by_age : (a b : ℕ) → a < b + 1 → (a ≡ b) ⊎ (a < b)
-    by_age a b below = elim (below_or a b) [
-      | inl before ↦ inr before
-      | inr later ↦ inl (omega arith)
-    ]
+    found = has-element_at this es content.rising newest.there
 
     by_test : (b : Bool) → (this.base.delete == 0) ≡ b → IsContent (if b then with_delete (element_key this) i es else es)
-        → AreShutBelow s (this.base.create + 1) (if b then with_delete (element_key this) i es else es)
-    by_test true is content' x has about below = elim (by_age x.base.create this.base.create below) [
-      | inl same ↦ shut_this (with_delete (element_key this) i es) (closed_at i this) x content'
-          (element_at-changed (element_key this) (closed_at i) this es (λ e. refl) found) (λ zero'. omega (arith, zero', later)) has about same
-      | inr before ↦ elim (closed_has (element_key this) i this x es found has) [
-        | inl old ↦ shut x old about before
-        | inr now ↦ λ gone. omega (arith, gone, later, ap (λ (z : Element). z.base.delete) now)
-      ]
-    ]
-    by_test false is content' x has about below = elim (by_age x.base.create this.base.create below) [
-      | inl same ↦ shut_this es this x content found (λ gone. eqb-false this.base.delete 0 is gone) has about same
-      | inr before ↦ shut x has about before
-    ]
+        → IsShut s i (if b then with_delete (element_key this) i es else es)
+    by_test true is content' made y has about last =
+        let list = with_delete (element_key this) i es in
+        let now = closed_at i this in
+        let stands : element_at (element_key this) list ≡ Some now = element_at-changed (element_key this) (closed_at i) this es (λ e. refl) found in
+        let there = element_at-has (element_key this) now list stands in
+        let up : this.base.create ≤ y.base.create = last now there.0 about_this in
+        let down : y.base.create ≤ this.base.create = elim (closed_has (element_key this) i this y es found has) [
+          | inl old ↦ newest.newest y old about (omega (arith, made y has about))
+          | inr is' ↦ omega (arith, ap (λ (z : Element). z.base.create) is')
+        ] in
+        shut_this list now y content' stands (λ zero'. omega (arith, zero', later)) has about (omega (arith, up, down))
+    by_test false is content' made y has about last =
+        let up : this.base.create ≤ y.base.create = last this newest.there about_this in
+        let down : y.base.create ≤ this.base.create = newest.newest y has about (omega (arith, made y has about)) in
+        shut_this es this y content found (λ gone. eqb-false this.base.delete 0 is gone) has about (omega (arith, up, down))
 
   pub shut_closed : (es es' : Option (List Element)) → this.base.create < i → IfSome es IsContent → IfSome es' IsContent
-      → es' ≡ option_map (if_closed this i) es
-      → IfSome es (AreShutUpTo s i (Some this)) → IfSome es' (AreShutBelow s (this.base.create + 1))
-  shut_closed None es' later content content' list shut = rw list tt
-  shut_closed (Some es) es' later content content' list shut = rw list (shut_more es later content (rw list at content') shut.0 shut.1)
+      → es' ≡ option_map (if_closed this i) es → IfSome es (λ list. IsNewestMade list s i this) → IfSome es' (IsShut s i)
+  shut_closed None es' later content content' list newest = rw list tt
+  shut_closed (Some es) es' later content content' list newest = rw list (shut_newest es later content (rw list at content') newest)
 
   -- ---- what became of the store
 
-  became_if_closed : (es es' : Option (List Element)) (xs xs' : Option (List Extent)) → es' ≡ option_map (if_closed this i) es → xs' ≡ xs
+  pub became_if_closed : (es es' : Option (List Element)) (xs xs' : Option (List Extent)) → es' ≡ option_map (if_closed this i) es → xs' ≡ xs
       → IfSome es (λ list. element_at (element_key this) list ≡ Some this) → Became (Shuts s i) es xs es' xs'
   became_if_closed es es' xs xs' list others there = by_test (this.base.delete == 0) refl list where
     open-at : (o : Option (List Element)) → this.base.delete ≡ 0 → IfSome o (λ list. element_at (element_key this) list ≡ Some this)
@@ -165,48 +146,34 @@ module _ (s : Subject) (i : ℕ) (this : Element) (about_this : subject_of (elem
         (became_closed (element_key this) i es es' xs xs' list others (open-at es (eqb-true this.base.delete 0 is) there))
     by_test false is list = rw (stay es es' list, others) (became_none s i es xs)
 
-became_twice : (s : Subject) (i : ℕ) (es mid_es new_es : Option (List Element)) (xs mid_xs new_xs : Option (List Extent))
-    → Became (Shuts s i) es xs mid_es mid_xs
-    → Became (Shuts s i) mid_es mid_xs new_es new_xs → Became (Shuts s i) es xs new_es new_xs
-became_twice s i None mid_es new_es xs mid_xs new_xs first second = tt
-became_twice s i (Some es) mid_es new_es None mid_xs new_xs first second = tt
-became_twice s i (Some es) mid_es new_es (Some xs) mid_xs new_xs first second =
-    λ balanced. by_content (content_of mid_es mid_xs) (content_of new_es new_xs) (first balanced) second where
-      by_content : (mid new : Option (List Element × List Extent)) → IsSomeAnd mid (λ now. IsBalanced now.0 now.1 × Shuts s i (fulls (es, xs)) (fulls now))
-          → IfSome mid (λ was. IsBalanced was.0 was.1 → IsSomeAnd new (λ now. IsBalanced now.0 now.1 × Shuts s i (fulls was) (fulls now)))
-          → IsSomeAnd new (λ now. IsBalanced now.0 now.1 × Shuts s i (fulls (es, xs)) (fulls now))
-      by_content None new first second = absurd first
-      by_content (Some mid) None first second = absurd (second first.0)
-      by_content (Some mid) (Some now) first second =
-          let done = second first.0 in
-          (done.0, shuts_twice s i (fulls (es, xs)) (fulls mid) (fulls now) first.1 done.1)
-
--- a step of the loop: a version is closed, if it is open, and the next one is searched for
-pub became_more : (s : Subject) (i : ℕ) (this : Element) (es mid_es next_es new_es : Option (List Element)) (xs mid_xs next_xs new_xs : Option (List Extent))
-    → subject_of (element_key this) ≡ s → Became (Shuts s i) es xs mid_es mid_xs → next_es ≡ option_map (if_closed this i) mid_es → next_xs ≡ mid_xs
-    → IfSome mid_es (λ list. element_at (element_key this) list ≡ Some this) → new_es ≡ next_es → new_xs ≡ next_xs → Became (Shuts s i) es xs new_es new_xs
-became_more s i this es mid_es next_es new_es xs mid_xs next_xs new_xs about first list others there same same' =
-    let second = became_if_closed s i this about mid_es next_es mid_xs next_xs list others there in
-    rw (same, same') (became_twice s i es mid_es next_es xs mid_xs next_xs first second)
-
--- before the first step
-pub became_searched : (s : Subject) (i : ℕ) (es es' : Option (List Element)) (xs xs' : Option (List Extent)) → es' ≡ es → xs' ≡ xs
+-- where the store stayed
+pub became_same : (s : Subject) (i : ℕ) (es es' : Option (List Element)) (xs xs' : Option (List Extent)) → es' ≡ es → xs' ≡ xs
     → Became (Shuts s i) es xs es' xs'
-became_searched s i es es' xs xs' same same' = rw (same, same') (became_none s i es xs)
+became_same s i es es' xs xs' same same' = rw (same, same') (became_none s i es xs)
 
--- ---- when none is left
+-- what became of a store that had stayed
+pub became_since : (s : Subject) (i : ℕ) (was here now : Option (List Element)) (was_xs here_xs now_xs : Option (List Extent)) → here ≡ was
+    → here_xs ≡ was_xs → Became (Shuts s i) here here_xs now now_xs → Became (Shuts s i) was was_xs now now_xs
+became_since s i was here now was_xs here_xs now_xs same same' became =
+    subst (λ (o : Option (List Element)). Became (Shuts s i) o was_xs now now_xs) same
+    (subst (λ (o : Option (List Extent)). Became (Shuts s i) here o now now_xs) same' became)
+
+-- ---- and nothing counts
 
 all_shut : (s : Subject) (i : ℕ) (was : List FullElement) (es : List Element) (xs : List Extent) → Shuts s i was (fulls (es, xs))
-    → ((x : FullElement) → Contains was x → subject_of x.key ≡ s → x.key.create < i) → AreShutBelow s i es
-    → (y : FullElement) → Contains (fulls (es, xs)) y → subject_of y.key ≡ s → y.delete ≢ 0
-all_shut s i was es xs shuts made shut y has about =
+    → ((x : FullElement) → Contains was x → subject_of x.key ≡ s → x.key.create < i) → IsShut s i es
+    → (y : FullElement) → Contains (fulls (es, xs)) y → subject_of y.key ≡ s → IsLatest (fulls (es, xs)) s y → y.delete ≢ 0
+all_shut s i was es xs shuts made shut y has about latest =
     let (x, there, is) = map_has (full_of xs) es y has in
-    let before = shuts_made s i was (fulls (es, xs)) shuts made y has about in
-    let gone = shut x there (ap (λ (z : FullElement). subject_of z.key) is ∙ about) (omega (arith, before, ap (λ (z : FullElement). z.key.create) is)) in
+    let below : AreMadeBelow es s i = λ z has' about'.
+    shuts_made s i was (fulls (es, xs)) shuts made (full_of xs z) (has_map (full_of xs) es z has') about' in
+    let last : IsLast es s x = λ z has' about'.
+    subst (λ (f : FullElement). z.base.create ≤ f.key.create) (sym is) (latest (full_of xs z) (has_map (full_of xs) es z has') about') in
+    let gone = shut below x there (ap (λ (z : FullElement). subject_of z.key) is ∙ about) last in
     λ open'. gone (ap (λ (z : FullElement). z.delete) is ∙ open')
 
 pub all_closed : (s : Subject) (i : ℕ) (es es' : Option (List Element)) (xs xs' : Option (List Extent)) → IsFresh es xs s i → Became (Shuts s i) es xs es' xs'
-    → IfSome es' (AreShutBelow s i) → Became (Rewrites s None i) es xs es' xs'
+    → IfSome es' (IsShut s i) → Became (Rewrites s None i) es xs es' xs'
 all_closed s i None es' xs xs' fresh became shut = tt
 all_closed s i (Some es) es' None xs' fresh became shut = tt
 all_closed s i (Some es) None (Some xs) xs' fresh became shut = λ balanced. absurd (became balanced)

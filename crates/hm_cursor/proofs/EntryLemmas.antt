@@ -1,28 +1,26 @@
 -- The entries of a directory under a span of keys, by what a search for the first one of them answers.
 use Rattle.std.proofs.Common.{◌≡◌, ℕ, ◌<◌, ◌≤◌, List, Option, Err, None, Some, length, ap, sym, subst, ◌∙◌, true≢false, arith}
 use Rattle.std.specs.Prelude.{IfSome, is_some}
-use Rattle.std.specs.List.{Contains}
 use Rattle.std.proofs.lemmas.List.Elements.{All-contains}
-use Rattle.hm_types.specs.Elements.{FullElement, Key, Sees}
+use Rattle.hm_types.specs.Elements.{Key}
 use Rattle.hm_types.specs.Faults.{IsCaused}
 use Rattle.hm_types.specs.declared.fault.Fault.{Fault}
 use Rattle.hm_types.specs.declared.fault.Fault.TheVariants.{Media, Damaged, NoMemory}
 use Rattle.hm_types.specs.declared.id.Obj.{Obj}
-use Rattle.hm_key.specs.Balance.{Balanced, IsHeld, full_elements, full_of, payload_of}
-use Rattle.hm_key.specs.Counts.{Counts, IsSeen, Subject, entry_subject, subject_of}
+use Rattle.hm_key.specs.Balance.{Balanced, IsHeld, full_elements, payload_of}
+use Rattle.hm_key.specs.Counts.{Counts, Subject, entry_subject, subject_of}
 use Rattle.hm_key.specs.Elements.{element_key}
 use Rattle.hm_key.specs.Extents.{AreExtents, Extent}
 use Rattle.hm_key.specs.declared.element.Element.{Element}
 use Rattle.hm_records.specs.Changes.{CountsNothing}
 use Rattle.hm_records.specs.Payload.{SpellsEntry}
 use Rattle.hm_records.proofs.EntryLemmas.{length-entry}
-use Rattle.hm_records.proofs.MemberLemmas.{map_has}
 use Rattle.hm_cursor.specs.Names.{IsNoEntry}
 use Rattle.hm_cursor.specs.Read.{IsTooLong}
 use Rattle.hm_cursor.specs.Told.{HasReadingCause, IsPayloadDamage, OnBalanced}
-use Rattle.hm_cursor.specs.Version.{IsFirst, IsFirstIn, IsFoundIn, IsInSpan, IsNewestOf, IsSeenIn}
+use Rattle.hm_cursor.specs.Version.{IsCountedIn, IsFirst, IsFirstIn, IsFoundIn, IsInSpan, IsNewestOf}
 use Rattle.hm_cursor.proofs.PayloadLemmas.{length-payload}
-use Rattle.hm_cursor.proofs.ToldLemmas.{counts_newest}
+use Rattle.hm_cursor.proofs.ToldLemmas.{counts_newest, newest_counted}
 
 -- an element that a search found has a number in the span, whatever the store tells
 pub found_between : (at : Key) (pfs : ℕ) (directory : Obj) (key last t : ℕ) (found : Option Element) (e : Element)
@@ -46,18 +44,16 @@ module _ (es : List Element) (xs : List Extent) (at : Key) (pfs : ℕ) (director
   pub from_key : (e : Element) → IsInSpan at last (element_key e) → key ≤ e.base.key
   from_key e place = omega (arith, place.from, ap (λ (s : Subject). s.key) here)
 
-  -- what counts under a key of the span is seen there
-  seen_in : (k : ℕ) → key ≤ k → k ≤ last → (bytes : List ℕ) → Counts (full_elements es xs) t (entry_subject pfs directory.0 k) bytes
-      → (e : Element) × Contains es e × IsSeenIn at last t e × (e.base.key ≡ k)
-  seen_in k from to bytes counts =
-      let x = map_has (full_of xs) es counts.element counts.there in
-      let about : subject_of (element_key x.0) ≡ entry_subject pfs directory.0 k =
-      subst (λ (f : FullElement). subject_of f.key ≡ entry_subject pfs directory.0 k) (sym x.2) counts.about in
-      let seen : Sees x.0.base.create x.0.base.delete t = subst (λ (f : FullElement). IsSeen t f) (sym x.2) counts.seen in
-      let number : x.0.base.key ≡ k = ap (λ (s : Subject). s.key) about in (
-        x.0,
-        x.1,
+  -- what counts under a key of the span is an element's there
+  counted_in : (k : ℕ) → key ≤ k → k ≤ last → (bytes : List ℕ) → Counts (full_elements es xs) t (entry_subject pfs directory.0 k) bytes
+      → (e : Element) × IsCountedIn es at last t e × (e.base.key ≡ k)
+  counted_in k from to bytes counts =
+      let (e, newest, same) = newest_counted es xs (entry_subject pfs directory.0 k) t bytes counts in
+      let about : subject_of (element_key e) ≡ entry_subject pfs directory.0 k = newest.version.about in
+      let number : e.base.key ≡ k = ap (λ (s : Subject). s.key) about in (
+        e,
         record {
+          counts = subst (λ (s : Subject). IsNewestOf es s t e) (sym about) newest;
           place = record {
             localization = ap (λ (s : Subject). s.localization) about ∙ sym (ap (λ (s : Subject). s.localization) here);
             obj = ap (λ (s : Subject). s.obj) about ∙ sym (ap (λ (s : Subject). s.obj) here);
@@ -65,7 +61,6 @@ module _ (es : List Element) (xs : List Extent) (at : Key) (pfs : ℕ) (director
             from = omega (arith, number, from, ap (λ (s : Subject). s.key) here);
             to = omega (arith, number, to);
           };
-          seen = seen;
         },
         number,
       )
@@ -73,14 +68,14 @@ module _ (es : List Element) (xs : List Extent) (at : Key) (pfs : ℕ) (director
   -- where no element is found, none counts in the span
   pub none_in : IsFirst es at last t None → (k : ℕ) → key ≤ k → k ≤ last
       → CountsNothing (Counts (full_elements es xs) t) (entry_subject pfs directory.0 k)
-  none_in none k from to bytes counts = let s = seen_in k from to bytes counts in none s.0 s.1 s.2
+  none_in none k from to bytes counts = let s = counted_in k from to bytes counts in none s.0 s.1
 
   -- none counts before the first one
   pub none_before : (e : Element) → IsFirstIn es at last t e → (k : ℕ) → key ≤ k → k < e.base.key
       → CountsNothing (Counts (full_elements es xs) t) (entry_subject pfs directory.0 k)
   none_before e is k from before bytes counts =
-      let s = seen_in k from (omega (arith, is.place.to, before)) bytes counts in
-      absurd (omega (arith, is.first s.0 s.1 s.2, s.3, before))
+      let s = counted_in k from (omega (arith, is.place.to, before)) bytes counts in
+      absurd (omega (arith, is.first s.0 s.1, s.2, before))
 
   -- and the payload of that one counts
   pub first_counts : (e : Element) → IsFirstIn es at last t e

@@ -1,36 +1,13 @@
 -- What counts after some open versions of a subject were closed, and after a new one was added.
-use Rattle.std.proofs.Common.{◌≡◌, ◌≢◌, ℕ, ◌+◌, ◌<◌, ◌≤◌, List, refl, sym, ap, subst, ◌∙◌, inl, inr, arith}
+use Rattle.std.proofs.Common.{◌≡◌, ◌≢◌, ℕ, ◌<◌, ◌≤◌, List, refl, sym, ap, subst, ◌∙◌, inl, inr, arith}
 use Rattle.std.specs.Prelude.{◌↔◌, ◌⊎◌, Option, Some, None}
 use Rattle.std.specs.List.{Contains}
 use Rattle.hm_types.specs.Elements.{FullElement, Key}
 use Rattle.hm_key.specs.Counts.{Counts, IsSeen, Subject, subject_of}
 use Rattle.hm_key.specs.Versions.{Adds}
 use Rattle.hm_records.specs.Changes.{CountSame, Overrides}
+use Rattle.hm_records.proofs.ChangeLemmas.{Shows, StandsFor, itself, shown}
 use Rattle.hm_cursor.specs.Write.{AreUpTo, CameFrom, IsFreshFor, Rewrites}
-
--- ---- what lists show
-
--- what one list shows about a subject as of an id, another shows too
-abbrev Shows : Subject → ℕ → List FullElement → List FullElement → Type 0
-Shows s t es fs =
-    (x : FullElement) → Contains es x → subject_of x.key ≡ s → IsSeen t x
-    → (y : FullElement) × Contains fs y × IsSeen t y × (y.key ≡ x.key) × (y.bytes ≡ x.bytes)
-
--- and if the other shows no more, the same counts
-shown : (s : Subject) (es fs : List FullElement) (t : ℕ) (bytes : List ℕ) → Shows s t es fs → Shows s t fs es → Counts es t s bytes → Counts fs t s bytes
-shown s es fs t bytes to from counts =
-    let (y, there, seen, key, same) = to counts.element counts.there counts.about counts.seen in
-    record {
-      element = y;
-      there = there;
-      about = ap subject_of key ∙ counts.about;
-      holds = same ∙ counts.holds;
-      seen = seen;
-      newest = λ other has about' seen'.
-          let (z, there', seen'', key', same') = from other has about' seen' in
-          let newest = counts.newest z there' (ap subject_of key' ∙ about') seen'' in
-          omega (arith, newest, ap (λ (k : Key). k.create) key, ap (λ (k : Key). k.create) key');
-    }
 
 -- ---- closing
 
@@ -91,40 +68,50 @@ seen_was : (s : Subject) (i t : ℕ) (e f : FullElement) → Shut s i e f → Is
 seen_was s i t e _ (closed about open') seen = (seen.0, inl open')
 seen_was s i t e _ stays seen = seen
 
+-- an element stands in place of another one that is like it
+in_place : (t : ℕ) (fs : List FullElement) (x y : FullElement) → Contains fs y → x.key.create ≤ t → y.key ≡ x.key → y.bytes ≡ x.bytes
+    → (IsSeen t x → IsSeen t y) → StandsFor t fs t x y
+in_place t fs x y there made key bytes seen = record {
+  there = there;
+  made = omega (arith, made, ap (λ (k : Key). k.create) key);
+  key = key;
+  bytes = bytes;
+  seen = seen;
+}
+
 module _ (s : Subject) (i : ℕ) (es es' : List FullElement) (shuts : Shuts s i es es') where
   -- as of an id below, the same counts
   shuts_past : (t : ℕ) → t < i → CountSame (Counts es t) (Counts es' t)
-  shuts_past t below s' bytes = (shown s' es' es t bytes back on, shown s' es es' t bytes on back) where
-    on : Shows s' t es es'
-    on x has about seen =
+  shuts_past t below s' bytes = (shown s' es' es t t bytes back on, shown s' es es' t t bytes on back) where
+    on : Shows s' es t es' t
+    on x has about made =
         let (y, there, step) = shuts.on x has in
         let alike = like s i x y step in
-        (y, there, seen_stays s i t x y below step seen, alike.key, alike.bytes)
+        (y, in_place t es' x y there made alike.key alike.bytes (seen_stays s i t x y below step))
 
-    back : Shows s' t es' es
-    back y has about seen =
+    back : Shows s' es' t es t
+    back y has about made =
         let (x, there, step) = shuts.back y has in
         let alike = like s i x y step in
-        (x, there, seen_was s i t x y step seen, sym alike.key, sym alike.bytes)
+        (x, in_place t es y x there made (sym alike.key) (sym alike.bytes) (seen_was s i t x y step))
 
   -- for other subjects the same counts
   shuts_elsewhere : (t : ℕ) (other : Subject) (bytes : List ℕ) → other ≢ s
       → (Counts es' t other bytes → Counts es t other bytes) × (Counts es t other bytes → Counts es' t other bytes)
-  shuts_elsewhere t other bytes not = (shown other es' es t bytes back on, shown other es es' t bytes on back) where
-    on : Shows other t es es'
-    on x has about seen =
+  shuts_elsewhere t other bytes not = (shown other es' es t t bytes back on, shown other es es' t t bytes on back) where
+    on : Shows other es t es' t
+    on x has about made =
         let (y, there, step) = shuts.on x has in
         let same : y ≡ x = elsewhere_stays s i x y step (λ is. not (sym about ∙ is)) in
-        let alike = like s i x y step in
-        (y, there, subst (λ (z : FullElement). IsSeen t z) (sym same) seen, alike.key, alike.bytes)
+        (x, itself t es' x (subst (Contains es') same there) made)
 
-    back : Shows other t es' es
-    back y has about seen =
+    back : Shows other es' t es t
+    back y has about made =
         let (x, there, step) = shuts.back y has in
         let alike = like s i x y step in
         let about' : subject_of x.key ≡ other = ap subject_of (sym alike.key) ∙ about in
         let same : y ≡ x = elsewhere_stays s i x y step (λ is. not (sym about' ∙ is)) in
-        (x, there, subst (λ (z : FullElement). IsSeen t z) same seen, sym alike.key, sym alike.bytes)
+        (y, itself t es y (subst (Contains es) (sym same) there) made)
 
   -- versions were made when they were made
   pub shuts_made : ((x : FullElement) → Contains es x → subject_of x.key ≡ s → x.key.create < i)
@@ -201,9 +188,13 @@ module _ (s : Subject) (i : ℕ) (es es' : List FullElement) (shuts : Shuts s i 
 none_some : (b : List ℕ) → None ≡ Some b → ⊥
 none_some b is = cc
 
--- where no open version is left, nothing counts from the id on
+-- of the versions of a subject none was made after this one
+abbrev pub IsLatest : List FullElement → Subject → FullElement → Type 0
+IsLatest es s y = (other : FullElement) → Contains es other → subject_of other.key ≡ s → other.key.create ≤ y.key.create
+
+-- where the newest version is closed, nothing counts from the id on
 pub rewrites_shut : (s : Subject) (i : ℕ) (es es' : List FullElement) → Shuts s i es es' → IsFreshFor s i es
-    → ((y : FullElement) → Contains es' y → subject_of y.key ≡ s → y.delete ≢ 0) → Rewrites s None i es es'
+    → ((y : FullElement) → Contains es' y → subject_of y.key ≡ s → IsLatest es' s y → y.delete ≢ 0) → Rewrites s None i es es'
 rewrites_shut s i es es' shuts fresh gone = record {
   past = shuts_past s i es es' shuts;
   present = λ t late. record {
@@ -216,7 +207,10 @@ rewrites_shut s i es es' shuts fresh gone = record {
   came = shuts_came s i es es' shuts None;
 } where
   none : (t : ℕ) → i ≤ t → (bytes : List ℕ) → Counts es' t s bytes → ⊥
-  none t late bytes c = shut_unseen s i es es' shuts fresh t late c.element c.there c.about (gone c.element c.there c.about) c.seen
+  none t late bytes c =
+      let latest : IsLatest es' s c.element = λ other has about.
+      c.newest other has about (let made = shuts_made s i es es' shuts fresh.made other has about in omega (arith, made, late)) in
+      shut_unseen s i es es' shuts fresh t late c.element c.there c.about (gone c.element c.there c.about latest) c.seen
 
 -- ---- adding
 
@@ -228,14 +222,14 @@ same_some a b is = cc
 
 module _ (e : FullElement) (es es' : List FullElement) (adds : Adds e es es') where
   adds_past : (t : ℕ) → t < e.key.create → CountSame (Counts es t) (Counts es' t)
-  adds_past t below s bytes = (shown s es' es t bytes back on, shown s es es' t bytes on back) where
-    on : Shows s t es es'
-    on x has about seen = (x, (adds x).1 (inr has), seen, refl, refl)
+  adds_past t below s bytes = (shown s es' es t t bytes back on, shown s es es' t t bytes on back) where
+    on : Shows s es t es' t
+    on x has about made = (x, itself t es' x ((adds x).1 (inr has)) made)
 
-    back : Shows s t es' es
-    back x has about seen = elim ((adds x).0 has) [
-      | inl new ↦ let made : e.key.create ≤ t = subst (λ (z : FullElement). z.key.create ≤ t) new seen.0 in absurd (omega (arith, made))
-      | inr old ↦ (x, old, seen, refl, refl)
+    back : Shows s es' t es t
+    back x has about made = elim ((adds x).0 has) [
+      | inl new ↦ let made' : e.key.create ≤ t = subst (λ (z : FullElement). z.key.create ≤ t) new made in absurd (omega (arith, made'))
+      | inr old ↦ (x, itself t es x old made)
     ]
 
   -- from its id on the new version counts, if it is the newest one of its subject
@@ -244,21 +238,21 @@ module _ (e : FullElement) (es es' : List FullElement) (adds : Adds e es es') wh
       → Overrides (subject_of e.key) (Some e.bytes) (Counts es t) (Counts es' t)
   adds_present t open' late older = record {
     about = λ bytes. (only bytes, λ is. counts bytes (same_some e.bytes bytes is));
-    elsewhere = λ other bytes not. (shown other es' es t bytes (back other not) (on other), shown other es es' t bytes (on other) (back other not));
+    elsewhere = λ other bytes not. (shown other es' es t t bytes (back other not) (on other), shown other es es' t t bytes (on other) (back other not));
   } where
-    on : (other : Subject) → Shows other t es es'
-    on other x has about seen = (x, (adds x).1 (inr has), seen, refl, refl)
+    on : (other : Subject) → Shows other es t es' t
+    on other x has about made = (x, itself t es' x ((adds x).1 (inr has)) made)
 
-    back : (other : Subject) → other ≢ subject_of e.key → Shows other t es' es
-    back other not x has about seen = elim ((adds x).0 has) [
+    back : (other : Subject) → other ≢ subject_of e.key → Shows other es' t es t
+    back other not x has about made = elim ((adds x).0 has) [
       | inl new ↦ absurd (not (sym about ∙ ap (λ (z : FullElement). subject_of z.key) new))
-      | inr old ↦ (x, old, seen, refl, refl)
+      | inr old ↦ (x, itself t es x old made)
     ]
 
     only : (bytes : List ℕ) → Counts es' t (subject_of e.key) bytes → Some e.bytes ≡ Some bytes
     only bytes c = elim ((adds c.element).0 c.there) [
       | inl new ↦ ap Some (ap (λ (z : FullElement). z.bytes) (sym new) ∙ c.holds)
-      | inr old ↦ absurd (omega (arith, older c.element old c.about, c.newest e ((adds e).1 (inl refl)) refl (late, inl open')))
+      | inr old ↦ absurd (omega (arith, older c.element old c.about, c.newest e ((adds e).1 (inl refl)) refl late))
     ]
 
     counts : (bytes : List ℕ) → e.bytes ≡ bytes → Counts es' t (subject_of e.key) bytes
@@ -268,7 +262,7 @@ module _ (e : FullElement) (es es' : List FullElement) (adds : Adds e es es') wh
       about = refl;
       holds = is;
       seen = (late, inl open');
-      newest = λ other has about seen. elim ((adds other).0 has) [
+      newest = λ other has about made. elim ((adds other).0 has) [
         | inl new ↦ omega (arith, ap (λ (z : FullElement). z.key.create) new)
         | inr old ↦ omega (arith, older other old about)
       ];

@@ -1,7 +1,6 @@
 -- Spans of keys of one object and type, by searches in a list in order.
 use Rattle.std.proofs.Common.{◌≡◌, ℕ, ◌+◌, ◌≤◌, ◌<◌, List, None, ap, sym, ◌∙◌, subst, arith, inl, inr}
 use Rattle.std.specs.Prelude.{◌⊎◌}
-use Rattle.std.specs.List.{Contains}
 use Rattle.hm_types.specs.Elements.{Key}
 use Rattle.hm_key.specs.Counts.{Subject, subject_of}
 use Rattle.hm_key.specs.Elements.{element_key, first_from}
@@ -9,7 +8,7 @@ use Rattle.hm_key.specs.Key.{IsFrom}
 use Rattle.hm_key.specs.declared.element.Element.{Element}
 use Rattle.hm_key.proofs.KeyLemmas.{key_from_fields}
 use Rattle.hm_retain.proofs.SetLemmas.{less_or_not}
-use Rattle.hm_cursor.specs.Version.{AreOfOneKind, IsFirst, IsFirstIn, IsFirstMadeOf, IsInSpan, IsNewestOf, IsSeenIn, IsVersion}
+use Rattle.hm_cursor.specs.Version.{AreOfOneKind, IsCountedIn, IsFirst, IsFirstIn, IsFirstMadeOf, IsInSpan, IsNewestOf, IsVersion}
 use Rattle.hm_cursor.proofs.KeyLemmas.{create_rises, key_rises, kind_between, kind_same, subject_same}
 use Rattle.hm_cursor.proofs.SearchLemmas.{IsFirstFrom, found_none}
 use Rattle.hm_cursor.proofs.VersionLemmas.{first_before}
@@ -18,9 +17,9 @@ use Rattle.hm_cursor.proofs.VersionLemmas.{first_before}
 abbrev pub span_start : Key → ℕ → Key
 span_start at key = record at { key = key; create = 0 }
 
--- what is seen in a span has at least this number
+-- what counts in a span has at least this number
 abbrev pub NoneBelow : List Element → Key → ℕ → ℕ → ℕ → Type 0
-NoneBelow es at last t key = (e : Element) → Contains es e → IsSeenIn at last t e → key ≤ e.base.key
+NoneBelow es at last t key = (e : Element) → IsCountedIn es at last t e → key ≤ e.base.key
 
 -- a key in a span is from the start of the numbers on that are not above its own
 start_from : (at : Key) (last key : ℕ) (k : Key) → IsInSpan at last k → key ≤ k.key → IsFrom (span_start at key) k
@@ -31,26 +30,27 @@ start_from at last key k place up =
 pub number_from : (at : Key) (key : ℕ) (k : Key) → AreOfOneKind k at → IsFrom (span_start at key) k → key ≤ k.key
 number_from at key k kind = key_rises (span_start at key) k (record { localization = sym kind.localization; obj = sym kind.obj; rec_type = sym kind.rec_type })
 
--- nothing is seen in a span that is passed
+-- nothing counts in a span that is passed
 pub span_over : (es : List Element) (at : Key) (last t key : ℕ) → last < key → NoneBelow es at last t key → IsFirst es at last t None
-span_over es at last t key past below e has seen = let up = below e has seen in let to = seen.place.to in absurd (omega arith)
+span_over es at last t key past below e is = let up = below e is in let to = is.place.to in absurd (omega arith)
 
--- nothing is seen in a span from which on there is nothing
+-- nothing counts in a span from which on there is nothing
 pub span_empty : (es : List Element) (at : Key) (last t key : ℕ) → first_from (span_start at key) es ≡ None → NoneBelow es at last t key
     → IsFirst es at last t None
-span_empty es at last t key found below e has seen = start_from at last key (element_key e) seen.place (below e has seen)
-    (found_none (span_start at key) es found e has)
+span_empty es at last t key found below e is = start_from at last key (element_key e) is.place (below e is)
+    (found_none (span_start at key) es found e is.counts.there)
 
 module _ (es : List Element) (at : Key) (last t key : ℕ) (oldest : Element) (search : IsFirstFrom es (span_start at key) oldest) where
-  -- what is seen in the span is not before the first element of it
-  after_first : NoneBelow es at last t key → (e : Element) → Contains es e → IsSeenIn at last t e → IsFrom (element_key oldest) (element_key e)
-  after_first below e has seen = first_before es (span_start at key) oldest e search has (start_from at last key (element_key e) seen.place (below e has seen))
+  -- what counts in the span is not before the first element of it
+  after_first : NoneBelow es at last t key → (e : Element) → IsCountedIn es at last t e → IsFrom (element_key oldest) (element_key e)
+  after_first below e is =
+      first_before es (span_start at key) oldest e search is.counts.there (start_from at last key (element_key e) is.place (below e is))
 
-  -- nothing is seen in a span where what a search finds is outside of it
+  -- nothing counts in a span where what a search finds is outside of it
   pub span_outside : ((AreOfOneKind (element_key oldest) at → ⊥) ⊎ (last < oldest.base.key)) → NoneBelow es at last t key → IsFirst es at last t None
-  span_outside outside below e has seen =
-      let after = after_first below e has seen in
-      let place = seen.place in
+  span_outside outside below e is =
+      let after = after_first below e is in
+      let place = is.place in
       let kind : AreOfOneKind (span_start at key) (element_key e) =
       record { localization = sym place.localization; obj = sym place.obj; rec_type = sym place.rec_type } in
       let between = kind_between (span_start at key) (element_key oldest) (element_key e) kind search.from after in
@@ -83,33 +83,32 @@ module _ (es : List Element) (at : Key) (last t key : ℕ) (oldest : Element) (s
     }
 
     -- numbers do not fall from it on
-    up_from : NoneBelow es at last t key → (e : Element) → Contains es e → IsSeenIn at last t e → oldest.base.key ≤ e.base.key
-    up_from below e has seen =
-        let place = seen.place in
+    up_from : NoneBelow es at last t key → (e : Element) → IsCountedIn es at last t e → oldest.base.key ≤ e.base.key
+    up_from below e is =
+        let place = is.place in
         let alike : AreOfOneKind (element_key oldest) (element_key e) = record {
           localization = kind.localization ∙ sym place.localization;
           obj = kind.obj ∙ sym place.obj;
           rec_type = kind.rec_type ∙ sym place.rec_type;
         } in
-        key_rises (element_key oldest) (element_key e) alike (after_first below e has seen)
+        key_rises (element_key oldest) (element_key e) alike (after_first below e is)
 
-    -- where none of its versions is seen, what is seen has a greater number
+    -- where none of its versions counts, what counts has a greater number
     pub span_passed : IsVersion es (subject_of (element_key oldest)) t None → NoneBelow es at last t key → NoneBelow es at last t (oldest.base.key + 1)
-    span_passed none below e has seen = elim (less_or_not oldest.base.key e.base.key) [
+    span_passed none below e is = elim (less_or_not oldest.base.key e.base.key) [
       | inl above ↦ omega arith
       | inr here ↦
-          let up = up_from below e has seen in
-          let place = seen.place in
-          absurd (none e has (record {
-            about = subject_same (element_key e) (element_key oldest)
-                (record {
-                  localization = place.localization ∙ sym kind.localization;
-                  obj = place.obj ∙ sym kind.obj;
-                  rec_type = place.rec_type ∙ sym kind.rec_type;
-                })
-                (omega arith);
-            seen = seen.seen;
-          }))
+          let up = up_from below e is in
+          let place = is.place in
+          let about : subject_of (element_key e) ≡ subject_of (element_key oldest) =
+          subject_same (element_key e) (element_key oldest)
+          (record {
+            localization = place.localization ∙ sym kind.localization;
+            obj = place.obj ∙ sym kind.obj;
+            rec_type = place.rec_type ∙ sym kind.rec_type;
+          })
+          (omega arith) in
+          absurd (none e (subst (λ (s : Subject). IsNewestOf es s t e) about is.counts))
     ]
 
     -- a version of what it is about stands in the span
@@ -136,5 +135,5 @@ module _ (es : List Element) (at : Key) (last t key : ℕ) (oldest : Element) (s
         record {
           counts = subst (λ (s : Subject). IsNewestOf es s t e) (sym about) counts;
           place = place_of low high e about;
-          first = λ other has seen. let up = up_from below other has seen in omega arith;
+          first = λ other is. let up = up_from below other is in omega arith;
         }

@@ -1,5 +1,5 @@
 -- What counts over elements with their payloads, and which payloads are broken.
-use Rattle.std.proofs.Common.{◌≡◌, ℕ, ◌≤◌, List, Option, Some, None, refl, sym, subst, take}
+use Rattle.std.proofs.Common.{◌≡◌, ◌∙◌, ℕ, ◌≤◌, List, Option, Some, None, ap, refl, sym, subst, take}
 use Rattle.std.specs.Prelude.{IfSome}
 use Rattle.hm_types.specs.Elements.{FullElement}
 use Rattle.hm_key.specs.Balance.{full_elements, full_of, payload_of}
@@ -24,18 +24,33 @@ module _ (es : List Element) (xs : List Extent) (s : Subject) (t : ℕ) where
     holds = refl;
     seen = is.version.seen;
     newest = λ other has. let x = map_has (full_of xs) es other has in
-        subst (λ (f : FullElement). subject_of f.key ≡ s → IsSeen t f → f.key.create ≤ e.base.create) x.2
-        (λ about seen. is.newest x.0 x.1 (record { about = about; seen = seen }));
+        subst (λ (f : FullElement). subject_of f.key ≡ s → f.key.create ≤ t → f.key.create ≤ e.base.create) x.2
+        (λ about made. is.newest x.0 x.1 about made);
   }
 
-  -- where no version is seen, nothing counts
-  pub counts_none : IsVersion es s t None → CountsNothing (Counts (full_elements es xs) t) s
-  counts_none none bytes counts =
-      let x = map_has (full_of xs) es counts.element counts.there in
-      subst (λ (f : FullElement). subject_of f.key ≡ s → IsSeen t f → ⊥) x.2
-      (λ about seen. none x.0 x.1 (record { about = about; seen = seen })) counts.about counts.seen
+  -- what counts is the payload of a newest version
+  pub newest_counted : (bytes : List ℕ) → Counts (full_elements es xs) t s bytes → (e : Element) × IsNewestOf es s t e × (payload_of xs e ≡ bytes)
+  newest_counted bytes counts =
+      let x = map_has (full_of xs) es counts.element counts.there in (
+        x.0,
+        record {
+          there = x.1;
+          version = record {
+            about = subst (λ (f : FullElement). subject_of f.key ≡ s) (sym x.2) counts.about;
+            seen = subst (λ (f : FullElement). IsSeen t f) (sym x.2) counts.seen;
+          };
+          newest = λ other has about made.
+              subst (λ (f : FullElement). other.base.create ≤ f.key.create) (sym x.2)
+              (counts.newest (full_of xs other) (has_map (full_of xs) es other has) about made);
+        },
+        ap (λ (f : FullElement). f.bytes) x.2 ∙ counts.holds,
+      )
 
--- what a search for a payload answers where nothing is seen
+  -- where no version counts, nothing does
+  pub counts_none : IsVersion es s t None → CountsNothing (Counts (full_elements es xs) t) s
+  counts_none none bytes counts = let (e, newest, same) = newest_counted bytes counts in none e newest
+
+-- what a search for a payload answers where nothing counts
 pub searched_none : (es : Option (List Element)) (xs : Option (List Extent)) (s : Subject) (t : ℕ) (buffer : List ℕ) (found : Option Element)
     → found ≡ None → IfSome es (λ list. IsVersion list s t found) → OnBalanced es xs (λ lists. CountsBytes lists t s buffer None)
 searched_none None xs s t buffer found is told = tt

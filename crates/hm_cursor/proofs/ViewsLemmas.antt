@@ -70,7 +70,7 @@ records_stay pfs i s now es es' within rewrites other bytes = (
     about = is.about;
     holds = is.holds;
     unclosed = is.unclosed;
-    newest = λ x has about open'. is.newest x (from x about has) about open';
+    newest = λ x has about. is.newest x (from x about has) about;
   }
 
 -- and so what counts for them does, as of any id
@@ -92,7 +92,7 @@ records_counted pfs i s now es es' within rewrites t other bytes = (
     about = counts.about;
     holds = counts.holds;
     seen = counts.seen;
-    newest = λ x has about seen. counts.newest x (from x about has) about seen;
+    newest = λ x has about made. counts.newest x (from x about has) about made;
   }
 
 -- Writing about a subject within a pseudo file system is writing in it.
@@ -235,7 +235,7 @@ fresh_later s i t es bytes fresh late = (counted t i late (omega arith), counted
     about = counts.about;
     holds = counts.holds;
     seen = seen_then t u late later counts.element counts.there counts.about counts.seen;
-    newest = λ other has about seen. counts.newest other has about (seen_then u t later late other has about seen);
+    newest = λ other has about _. counts.newest other has about (let made = fresh.made other has about in omega (arith, made, late));
   }
 
 -- ---- the keys of entries

@@ -12,15 +12,16 @@ pub record IsSeenAbout (s : Subject) (t : ℕ) (e : Element) : Type 0 where
   pub about : subject_of (element_key e) ≡ s
   pub seen : Sees e.base.create e.base.delete t
 
--- of the versions of a subject that are seen this is the newest
+-- of the versions of a subject that were made by `t` this is the newest, and it is seen
 pub record IsNewestOf (es : List Element) (s : Subject) (t : ℕ) (e : Element) : Type 0 where
   pub there : Contains es e
   pub version : IsSeenAbout s t e
-  pub newest : (other : Element) → Contains es other → IsSeenAbout s t other → other.base.create ≤ e.base.create
+  pub newest : (other : Element) → Contains es other → subject_of (element_key other) ≡ s → other.base.create ≤ t
+      → other.base.create ≤ e.base.create
 
--- the version that counts: the newest one that is seen, and none exactly where none is seen
+-- the version that counts: the newest one that was made by then, where that is seen, and none exactly where it is not
 abbrev pub IsVersion : List Element → Subject → ℕ → Option Element → Type 0
-IsVersion es s t None = (e : Element) → Contains es e → IsSeenAbout s t e → ⊥
+IsVersion es s t None = (e : Element) → IsNewestOf es s t e → ⊥
 IsVersion es s t (Some e) = IsNewestOf es s t e
 
 -- an element that may be answered as the version that counts, over any store
@@ -41,15 +42,20 @@ pub record IsSeenIn (at : Key) (last t : ℕ) (e : Element) : Type 0 where
   pub place : IsInSpan at last (element_key e)
   pub seen : Sees e.base.create e.base.delete t
 
--- of the elements in a span that count this is the first
+-- an element in such a span counts
+pub record IsCountedIn (es : List Element) (at : Key) (last t : ℕ) (e : Element) : Type 0 where
+  pub counts : IsNewestOf es (subject_of (element_key e)) t e
+  pub place : IsInSpan at last (element_key e)
+
+-- of those this is the first
 pub record IsFirstIn (es : List Element) (at : Key) (last t : ℕ) (e : Element) : Type 0 where
   pub counts : IsNewestOf es (subject_of (element_key e)) t e
   pub place : IsInSpan at last (element_key e)
-  pub first : (other : Element) → Contains es other → IsSeenIn at last t other → e.base.key ≤ other.base.key
+  pub first : (other : Element) → IsCountedIn es at last t other → e.base.key ≤ other.base.key
 
--- the first element in a span that counts, and none exactly where none is seen there
+-- the first element in a span that counts, and none exactly where none counts there
 abbrev pub IsFirst : List Element → Key → ℕ → ℕ → Option Element → Type 0
-IsFirst es at last t None = (e : Element) → Contains es e → IsSeenIn at last t e → ⊥
+IsFirst es at last t None = (e : Element) → IsCountedIn es at last t e → ⊥
 IsFirst es at last t (Some e) = IsFirstIn es at last t e
 
 -- an element that may be answered as the first one in a span, over any store

@@ -1,5 +1,5 @@
 -- What writing by an id does to the trees of pseudo file systems.
-use Rattle.std.specs.Prelude.{◌≡◌, ◌≢◌, ◌↔◌, ◌⊎◌, ℕ, ◌+◌, ◌<◌, ◌≤◌, List}
+use Rattle.std.specs.Prelude.{◌≡◌, ◌≢◌, ◌↔◌, ◌⊎◌, ℕ, ◌<◌, ◌≤◌, List}
 use Rattle.std.specs.List.{Contains}
 use Rattle.hm_types.specs.Elements.{FullElement}
 use Rattle.hm_types.specs.Tree.{FileTree}

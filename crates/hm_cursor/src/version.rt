@@ -1,4 +1,5 @@
-// The element that counts about a subject as of an id: the newest of its versions that are seen.
+// The element that counts about a subject as of an id: the newest of its versions that were made by
+// then, where it is seen.
 ghost use Rattle.std.specs.Prelude.{◌≡◌, ◌↔◌, ◌+◌, IfSome, IfOk, IsTrue};
 ghost use Rattle.hm_types.specs.Faults.{HasStoreCause};
 ghost use Rattle.hm_key.specs.Counts.{subject_of};
@@ -23,12 +24,11 @@ use hm_key::{Base, Element, ElementStore};
 use hm_types::{Counted, Fault, Id};
 
 /// The element that counts about what `at` is about, as of an id: of those with its localization,
-/// object, type and key, whatever their create ids, the newest one that is seen. None exactly where
-/// none is seen.
+/// object, type and key, whatever their create ids, the newest one that was made by then, where it
+/// is seen. None exactly where that one is closed, whatever the older ones are, or none was made.
 ///
 /// It takes two searches where there is one version. Where there are many it halves create ids, at
-/// most as many times as an id has bits, to find the newest one made by then; where that one is not
-/// seen, all older ones are looked at. The faults are those of the store.
+/// most as many times as an id has bits. The faults are those of the store.
 pub fn version_at<T: ElementStore>(
     store: &mut T,
     at: &Base,
@@ -51,7 +51,7 @@ pub fn version_at<T: ElementStore>(
 }
 
 /// The first element that counts as of an id among those about the object and of the type of `at`
-/// with a key from its own to `last`. None exactly where none of them is seen. It takes the
+/// with a key from its own to `last`. None exactly where none of them counts. It takes the
 /// searches of `version_at` for each key in the span up to the one that is found. The faults are
 /// those of the store.
 pub fn first_version<T: ElementStore>(
@@ -118,12 +118,12 @@ fn seen_from<T: ElementStore>(
     if is_seen(&newest.base, as_of) {
         return Ok(Some(newest));
     }
-    older_seen(store, oldest, as_of)
+    Ok(None)
 }
 
 // The newest version made by an id. Most subjects have one version, so the next one is asked for
 // before create ids are halved.
-fn newest_made<T: ElementStore>(
+pub(crate) fn newest_made<T: ElementStore>(
     store: &mut T,
     oldest: &Element,
     as_of: Id,
@@ -168,34 +168,6 @@ fn halve<T: ElementStore>(store: &mut T, known: &Element, as_of: Id) -> Result<E
         }
     }
     Ok(newest)
-}
-
-// The newest version that is seen, by a look at each from the oldest one on.
-fn older_seen<T: ElementStore>(
-    store: &mut T,
-    oldest: &Element,
-    as_of: Id,
-) -> Result<Option<Element>, Fault>
-    requires { IsOldestBy (T.elements store.old) as_of.0 oldest.now }
-    ensures ok { IfSome (T.elements store.old) (λ es.
-        IfOk result (IsVersion es (subject_of (key_of oldest.now.base)) as_of.0)) }
-    ensures found { IfOk result (λ found.
-        IfSome found (IsFoundAbout (subject_of (key_of oldest.now.base)) as_of.0)) }
-    ensures keeps { Same T.elements T.mark T.extents T.room T.free store.old store.new }
-    ensures borrowed { (T.name store.new ≡ T.name store.old)
-        × (T.frame store.new ≡ T.frame store.old) }
-    ensures cause { HasStoreCause (T.elements store.old)
-        (T.faults store.old) (T.faults store.new) result }
-{
-    let mut seen = None;
-    let mut version = Some(*oldest);
-    while let Some(this) = version {
-        if is_seen(&this.base, as_of) {
-            seen = Some(this);
-        }
-        version = version_after(store, &this.base, as_of)?;
-    }
-    Ok(seen)
 }
 
 // The next version of what `at` is about, of those made by an id.

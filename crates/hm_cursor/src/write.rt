@@ -22,7 +22,7 @@ ghost use Rattle.hm_cursor.specs.Write.{
   taken,
 };
 
-use crate::version::version_from;
+use crate::version::{newest_made, version_from};
 use hm_key::{Base, Element, ElementStore, Extents, HasElements, HasRoom};
 use hm_types::{Counted, Fault, Id};
 
@@ -87,10 +87,10 @@ pub fn renew_version<T: ElementStore + Extents>(
     insert_with_payload(store, base, zone, bytes)
 }
 
-/// Closes each open version of what `at` is about at an id above theirs, whatever the create id of
-/// `at`. From that id on nothing counts about it, and each payload stays where it stands. It takes a
-/// search for each version. The faults are those of the store; after one nothing is known of the
-/// content.
+/// Closes the newest version of what `at` is about at an id above those of all, whatever the create
+/// id of `at`, if it is open. From that id on nothing counts about it, and each payload stays where it
+/// stands. It takes the searches of `version_at`. The faults are those of the store; after one nothing
+/// is known of the content.
 pub fn close_versions<T: ElementStore + Extents>(
     store: &mut T,
     at: &Base,
@@ -109,16 +109,14 @@ pub fn close_versions<T: ElementStore + Extents>(
     ensures cause { HasStoreCause (content_of (T.elements store.old) (T.extents store.old))
         (T.faults store.old) (T.faults store.new) result }
 {
-    let mut version = version_from(store, at, 0, id)?;
-    while let Some(this) = version {
-        version = if this.base.create < id.0 {
-            close_if_open(store, &this, id)?;
-            version_from(store, &this.base, this.base.create + 1, id)?
-        } else {
-            None
-        };
+    let Some(oldest) = version_from(store, at, 0, id)? else {
+        return Ok(());
+    };
+    let newest = newest_made(store, &oldest, id)?;
+    if newest.base.create >= id.0 {
+        return Ok(());
     }
-    Ok(())
+    close_if_open(store, &newest, id)
 }
 
 // Puts bytes into a new extent of a zone, and adds an element that refers to it. No element stands

@@ -16,11 +16,12 @@ use Rattle.hm_records.proofs.MemberLemmas.{map_has}
 use Rattle.hm_records.proofs.ObjectChangeLemmas.{object_same_view}
 use Rattle.hm_records.proofs.SubjectLemmas.{same_subject}
 use Rattle.hm_cursor.specs.Told.{Lists, fulls}
-use Rattle.hm_cursor.specs.Version.{IsFirst, IsSeenIn}
+use Rattle.hm_cursor.specs.Version.{IsCountedIn, IsFirst}
 use Rattle.hm_cursor.specs.Write.{IsFreshFor, KeepPlaces, Rewrites}
+use Rattle.hm_cursor.proofs.ToldLemmas.{newest_counted}
 use Rattle.hm_cursor.proofs.ViewsLemmas.{IsWithin, fresh_later, nothing_written, writes_again, writes_within}
 use Rattle.hm_files.specs.Close.{AreOlder, ClosesBytes, IsApart, IsNothing, RemovesBytes}
-use Rattle.hm_files.proofs.PieceLemmas.{in_span, span_about}
+use Rattle.hm_files.proofs.PieceLemmas.{counted_in, span_about}
 
 -- bytes are of their pseudo file system, and no record
 pub bytes_within : (pfs obj n : ℕ) → IsWithin pfs (bytes_subject pfs obj n)
@@ -60,23 +61,13 @@ placed_both was mid now first second = record {
 }
 
 module _ (at : Key) (pfs obj key last i : ℕ) (here : subject_of at ≡ bytes_subject pfs obj key) where
-  -- where what is seen ends at `limit` or later, no bytes count that end before it
-  pub nothing_between : (lists : Lists) (limit : ℕ) → limit ≤ last + 1 → ((y : Element) → Contains lists.0 y → IsSeenIn at last i y → limit ≤ y.base.key)
+  -- where what counts in the span ends at `limit` or later, no bytes count that end before it
+  pub nothing_between : (lists : Lists) (limit : ℕ) → limit ≤ last + 1 → ((y : Element) → IsCountedIn lists.0 at last i y → limit ≤ y.base.key)
       → (n : ℕ) → key ≤ n → n < limit → CountsNothing (Counts (fulls lists) i) (bytes_subject pfs obj n)
   nothing_between lists limit within least n from below bytes counts =
-      by_element counts.element counts.about counts.seen (map_has (full_of lists.1) lists.0 counts.element counts.there) where
-        by_element : (f : FullElement) → subject_of f.key ≡ bytes_subject pfs obj n → IsSeen i f
-            → (y : Element) × Contains lists.0 y × (full_of lists.1 y ≡ f) → ⊥
-        by_element f about seen (y, has, is) =
-            let about' : subject_of (element_key y) ≡ bytes_subject pfs obj n
-            = subst (λ (z : FullElement). subject_of z.key ≡ bytes_subject pfs obj n) (sym is) about in
-            let number : y.base.key ≡ n = ap (λ (s : Subject). s.key) about' in
-            let up = least y has (record {
-              place = in_span at last pfs obj key y here (about' ∙ ap (bytes_subject pfs obj) (sym number)) (omega (arith, from, number))
-                  (omega (arith, below, within, number));
-              seen = subst (λ (z : FullElement). IsSeen i z) (sym is) seen;
-            }) in
-            absurd (omega (arith, up, number, below))
+      let (y, newest, same) = newest_counted lists.0 lists.1 (bytes_subject pfs obj n) i bytes counts in
+      let up = least y (counted_in lists.0 at last i pfs obj key n y here newest from (omega (arith, below, within))) in
+      absurd (omega (arith, up, ap (λ (s : Subject). s.key) newest.version.about, below))
 
   module _ (first : ℕ) (was mid : Lists) (older : AreOlder pfs obj i first (fulls was)) (gone : HaveClosed pfs obj i first key was mid) where
     -- what is not closed yet is older still
@@ -85,7 +76,7 @@ module _ (at : Key) (pfs obj key last i : ℕ) (here : subject_of at ≡ bytes_s
 
     -- and does not count later either
     nothing_later : (limit : ℕ) → limit ≤ last + 1 → first ≤ key
-        → ((y : Element) → Contains mid.0 y → IsSeenIn at last i y → limit ≤ y.base.key)
+        → ((y : Element) → IsCountedIn mid.0 at last i y → limit ≤ y.base.key)
         → (t n : ℕ) → i ≤ t → key ≤ n → n < limit → CountsNothing (Counts (fulls mid) t) (bytes_subject pfs obj n)
     nothing_later limit within low least t n late from below bytes counts =
         nothing_between mid limit within least n from below bytes
@@ -129,7 +120,7 @@ module _ (at : Key) (pfs obj key last i : ℕ) (here : subject_of at ≡ bytes_s
           stays t n late (λ is. absurd (omega (arith, before, up, is))) (gone.closes.gone t n late from before)
       by_place t n late from (inr not) (inl less) below =
           stays t n late (λ is. absurd (omega (arith, less, is)))
-          (nothing_later e.base.key (omega (arith, found.place.to)) low (λ y has seen. found.first y has seen) t n late not less)
+          (nothing_later e.base.key (omega (arith, found.place.to)) low found.first t n late not less)
       by_place t n late from (inr not) (inr there) below =
           let same : n ≡ e.base.key = omega (arith, there, below) in
           λ bytes counts. none_some bytes (((wrote.present t late).about bytes).0
@@ -160,7 +151,7 @@ module _ (at : Key) (pfs obj key last i : ℕ) (here : subject_of at ≡ bytes_s
       by_place : (t n : ℕ) → i ≤ t → first ≤ n → (n < key) ⊎ (key ≤ n) → n < last + 1 → CountsNothing (Counts (fulls mid) t) (bytes_subject pfs obj n)
       by_place t n late from (inl before) below = gone.closes.gone t n late from before
       by_place t n late from (inr not) below =
-          nothing_later (last + 1) (omega arith) low (λ y has seen. absurd (none y has seen)) t n late not below
+          nothing_later (last + 1) (omega arith) low (λ y is. absurd (none y is)) t n late not below
 
 -- ---- an object without an inode
 

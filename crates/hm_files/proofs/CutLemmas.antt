@@ -11,13 +11,13 @@ use Rattle.hm_key.specs.Element.{IsInBlock}
 use Rattle.hm_key.specs.declared.rec_type.TheConstants.{FILE_BYTES}
 use Rattle.hm_records.specs.Changes.{CountsNothing, IsSettled}
 use Rattle.hm_records.specs.View.{AreFileBytes, IsFileByte, IsFirstAfter, covered, hole, past}
+use Rattle.hm_records.proofs.SearchLemmas.{first_or_none}
 use Rattle.hm_cursor.specs.Views.{CameAs, WritesIn}
 use Rattle.hm_cursor.proofs.ViewsLemmas.{fresh_later, writes_again}
 use Rattle.hm_files.specs.Bytes.{AreBytesFrom}
 use Rattle.hm_files.specs.Close.{AreOlder, ClosesBytes}
 use Rattle.hm_files.specs.Put.{CutsBytes, IsBytesOf, KeepOthers, PutsBlock, ResizesBytes, resized}
 use Rattle.hm_files.proofs.ByteLemmas.{byte_one}
-use Rattle.hm_files.proofs.FirstLemmas.{first_counts, first_or_none, none_counts}
 use Rattle.hm_files.proofs.PutLemmas.{byte_alike, byte_earlier, byte_put, closes_writes, steady}
 
 -- the bytes of files lie in blocks
@@ -45,11 +45,9 @@ blocks_still pfs obj i es es' writes blocks x has type = by_origin (writes.came 
 -- where all that ends after a byte begins after it, the byte is zero
 pub byte_zero : (es : List FullElement) (t pfs obj x : ℕ)
     → ((n : ℕ) (bytes : List ℕ) → Counts es t (bytes_subject pfs obj n) bytes → x < n → x + length bytes < n) → IsFileByte (Counts es t) pfs obj x 0
-byte_zero es t pfs obj x short = elim (first_or_none t pfs obj x es) [
-  | inl none ↦ past (none_counts t pfs obj x es none) refl
-  | inr one ↦
-      let first = first_counts t pfs obj x es one.0 one.1 in
-      hole one.0.key.key one.0.bytes first (short one.0.key.key one.0.bytes first.there first.after) refl
+byte_zero es t pfs obj x short = elim (first_or_none es t pfs obj x) [
+  | inl none ↦ past none refl
+  | inr (end, bytes, first) ↦ hole end bytes first (short end bytes first.there first.after) refl
 ]
 
 module _ (pfs obj i end : ℕ) (es mid : List FullElement) (aligned : end % BLOCK_BYTES ≡ 0) (blocks : AreBlocks es)

@@ -32,7 +32,7 @@ module _ (pfs obj i end : ℕ) (aligned : end % BLOCK_BYTES ≡ 0) (was mid : Li
   cut_unseen at keep here within none =
       cut_closed pfs obj i end (fulls was) (fulls mid) aligned known.0 closes keep within
       (λ t n late above low bytes counts.
-      nothing_between at pfs obj (keep + 1) end i here mid (end + 1) (omega arith) (λ y has seen. absurd (none y has seen)) n (omega (arith, above))
+      nothing_between at pfs obj (keep + 1) end i here mid (end + 1) (omega arith) (λ y is. absurd (none y is)) n (omega (arith, above))
       (omega (arith, low)) bytes ((fresh_later (bytes_subject pfs obj n) i t (fulls mid) bytes (older_mid n) late).0 counts))
 
   -- where its block is put with what was read of it

@@ -1,5 +1,4 @@
 pub mod ByteLemmas
-pub mod FirstLemmas
 mod PieceLemmas
 mod ReadLemmas
 pub mod SpanLemmas

@@ -14,11 +14,11 @@ use Rattle.hm_key.specs.Extents.{AreExtents, Extent}
 use Rattle.hm_key.specs.declared.element.Element.{Element}
 use Rattle.hm_records.specs.View.{IsFileByte, IsFirstAfter, covered, hole, past}
 use Rattle.hm_records.proofs.MemberLemmas.{map_has}
-use Rattle.hm_cursor.specs.Version.{IsFirst, IsFirstIn, IsInSpan}
+use Rattle.hm_records.proofs.SearchLemmas.{first_or_none}
+use Rattle.hm_cursor.specs.Version.{IsCountedIn, IsFirst, IsFirstIn, IsInSpan, IsNewestOf}
 use Rattle.hm_cursor.proofs.PayloadLemmas.{length-payload}
-use Rattle.hm_cursor.proofs.ToldLemmas.{counts_newest}
+use Rattle.hm_cursor.proofs.ToldLemmas.{counts_newest, newest_counted}
 use Rattle.hm_files.specs.Bytes.{AreBytesFrom, AreOf, IsReached, IsShownBy, before, block_end, inside}
-use Rattle.hm_files.proofs.FirstLemmas.{IsAfter, IsFirstOne, first_counts, first_or_none, none_counts}
 
 -- the payload of each element of a balanced store has as many bytes as the element says
 pub length-held : (es : List Element) (xs : List Extent) (e : Element) → AreExtents xs → IsBalanced es xs → Contains es e → length (payload_of xs e) ≡ e.len
@@ -51,6 +51,17 @@ pub in_block : (es : List Element) (pfs obj : ℕ) (e : Element) → IsContent e
 in_block es pfs obj e content has about =
     (All-contains IsElement es e content.each has).fits.file_bytes (ap (λ (s : Subject). s.rec_type) about)
 
+-- bytes of a file that count, and end in such a span, count there
+pub counted_in : (es : List Element) (at : Key) (last t pfs obj start end : ℕ) (y : Element) → subject_of at ≡ bytes_subject pfs obj start
+    → IsNewestOf es (bytes_subject pfs obj end) t y → start ≤ end → end ≤ last → IsCountedIn es at last t y
+counted_in es at last t pfs obj start end y at_is newest from to =
+    let about = newest.version.about in
+    let key : y.base.key ≡ end = ap (λ (s : Subject). s.key) about in
+    record {
+      counts = subst (λ (s : Subject). IsNewestOf es s t y) (sym about) newest;
+      place = in_span at last pfs obj start y at_is (about ∙ ap (bytes_subject pfs obj) (sym key)) (omega (arith, from, key)) (omega (arith, to, key));
+    }
+
 module _ (es : List Element) (xs : List Extent) (at : Key) (pfs obj offset last t : ℕ) (at_is : subject_of at ≡ bytes_subject pfs obj (offset + 1)) where
   -- the bytes that a search from an offset on finds are the first that end after each byte before their end
   found_after : (e : Element) → IsFirstIn es at last t e → (x : ℕ) → offset ≤ x → x < e.base.key
@@ -59,24 +70,17 @@ module _ (es : List Element) (xs : List Extent) (at : Key) (pfs obj offset last 
     there = subst (λ (s : Subject). Counts (full_elements es xs) t s (payload_of xs e)) (span_about at last pfs obj (offset + 1) e at_is found.place)
         (counts_newest es xs (subject_of (element_key e)) t e found.counts);
     after = to;
-    first = λ end bytes counts after. by_end end after counts.element counts.about counts.seen (map_has (full_of xs) es counts.element counts.there);
+    first = λ end bytes counts after. by_end end after (newest_counted es xs (bytes_subject pfs obj end) t bytes counts);
   } where
-    by_end : (end : ℕ) → x < end → (f : FullElement) → subject_of f.key ≡ bytes_subject pfs obj end → IsSeen t f
-        → (y : Element) × Contains es y × (full_of xs y ≡ f) → e.base.key ≤ end
-    by_end end after f about seen (y, has, is) =
-        let about' : subject_of (element_key y) ≡ bytes_subject pfs obj end
-        = subst (λ (z : FullElement). subject_of z.key ≡ bytes_subject pfs obj end) (sym is) about in
-        let key : y.base.key ≡ end = ap (λ (s : Subject). s.key) about' in
-        elim (cases_lt last end) [
-          | inl past' ↦ omega (arith, past', found.place.to)
-          | inr within ↦
-              let least = found.first y has (record {
-                place = in_span at last pfs obj (offset + 1) y at_is (about' ∙ ap (bytes_subject pfs obj) (sym key))
-                    (omega (arith, after, from, key)) (omega (arith, within, key));
-                seen = subst (λ (z : FullElement). IsSeen t z) (sym is) seen;
-              }) in
-              omega (arith, least, key)
-        ]
+    by_end : (end : ℕ) → x < end → {bytes : List ℕ} → (y : Element) × IsNewestOf es (bytes_subject pfs obj end) t y × (payload_of xs y ≡ bytes)
+        → e.base.key ≤ end
+    by_end end after (y, newest, same) = elim (cases_lt last end) [
+      | inl past' ↦ omega (arith, past', found.place.to)
+      | inr within ↦
+          let here = counted_in es at last t pfs obj (offset + 1) end y at_is newest (omega (arith, after, from)) within in
+          let least = found.first y here in
+          omega (arith, least, ap (λ (s : Subject). s.key) newest.version.about)
+    ]
 
   -- so what they show is the file's
   pub found_bytes : (e : Element) (bytes : List ℕ) → IsFirstIn es at last t e → AreExtents xs → IsBalanced es xs
@@ -103,44 +107,42 @@ module _ (es : List Element) (xs : List Extent) (at : Key) (pfs obj offset last 
     each = λ i below. at_byte i (let sized : length (replicate {A = ℕ} n 0) ≡ n = length-replicate {A = ℕ} n 0 in omega (arith, below, sized));
   } where
     by_first : (x : ℕ) → offset ≤ x → x < offset + n
-        → (((f : FullElement) → Contains (full_elements es xs) f → IsAfter t pfs obj x f → ⊥)
-        ⊎ ((f : FullElement) × IsFirstOne t pfs obj x (full_elements es xs) f))
+        → ((end : ℕ) (bytes : List ℕ) → Counts (full_elements es xs) t (bytes_subject pfs obj end) bytes → x < end → ⊥)
+        ⊎ ((end : ℕ) × (bytes : List ℕ) × IsFirstAfter (Counts (full_elements es xs) t) pfs obj x end bytes)
         → IsFileByte (Counts (full_elements es xs) t) pfs obj x 0
-    by_first x from to (inl nothing) = past (none_counts t pfs obj x (full_elements es xs) nothing) refl
-    by_first x from to (inr (f, first)) = later (map_has (full_of xs) es f first.there) where
-      later : (y : Element) × Contains es y × (full_of xs y ≡ f) → IsFileByte (Counts (full_elements es xs) t) pfs obj x 0
-      later (y, has, is) = hole f.key.key f.bytes (first_counts t pfs obj x (full_elements es xs) f first) short refl where
+    by_first x from to (inl nothing) = past nothing refl
+    by_first x from to (inr (end, bytes, first)) = later (newest_counted es xs (bytes_subject pfs obj end) t bytes first.there) where
+      later : (y : Element) × IsNewestOf es (bytes_subject pfs obj end) t y × (payload_of xs y ≡ bytes)
+          → IsFileByte (Counts (full_elements es xs) t) pfs obj x 0
+      later (y, newest, same) = hole end bytes first short refl where
+        key : y.base.key ≡ end
+        key = ap (λ (s : Subject). s.key) newest.version.about
+
         about : subject_of (element_key y) ≡ bytes_subject pfs obj y.base.key
-        about = subst (λ (z : FullElement). subject_of z.key ≡ bytes_subject pfs obj z.key.key) (sym is) first.is.about
+        about = newest.version.about ∙ ap (bytes_subject pfs obj) (sym key)
 
-        key : y.base.key ≡ f.key.key
-        key = ap (λ (z : FullElement). z.key.key) is
-
-        len : y.len ≡ length f.bytes
-        len = sym (length-held es xs y live balanced has) ∙ ap (λ (z : FullElement). length z.bytes) is
+        len : y.len ≡ length bytes
+        len = sym (length-held es xs y live balanced newest.there) ∙ ap (λ (z : List ℕ). length z) same
 
         beyond : last < y.base.key
-        beyond = elim (cases_lt last y.base.key) [
-          | inl past' ↦ past'
-          | inr within ↦ absurd (none y has (record {
-            place = in_span at last pfs obj (offset + 1) y at_is about (omega (arith, first.is.after, from, key)) within;
-            seen = subst (λ (z : FullElement). IsSeen t z) (sym is) first.is.seen;
-          }))
+        beyond = elim (cases_lt last end) [
+          | inl past' ↦ omega (arith, past', key)
+          | inr within ↦ absurd (none y (counted_in es at last t pfs obj (offset + 1) end y at_is newest (omega (arith, first.after, from)) within))
         ]
 
         block : IsInBlock y.base.key y.len
-        block = in_block es pfs obj y content has about
+        block = in_block es pfs obj y content newest.there about
 
         past_block : block_end (offset + (n - 1)) < y.base.key
         past_block = elim reached [
           | inl near ↦ omega (arith, near, beyond, last_is, some)
-          | inr all ↦ let small = all y has in omega (arith, small, beyond, last_is)
+          | inr all ↦ let small = all y newest.there in omega (arith, small, beyond, last_is)
         ]
 
-        short : x + length f.bytes < f.key.key
+        short : x + length bytes < end
         short = omega (arith, block.few, block.within, block.aligned, past_block, to, some, len, key)
 
     at_byte : (i : ℕ) → i < n → IsFileByte (Counts (full_elements es xs) t) pfs obj (offset + i) (slice_index (replicate n 0) i)
     at_byte i below =
         subst (λ (b : ℕ). IsFileByte (Counts (full_elements es xs) t) pfs obj (offset + i) b) (sym (get_or-replicate n i 0 0 below))
-        (by_first (offset + i) (omega arith) (omega (arith, below)) (first_or_none t pfs obj (offset + i) (full_elements es xs)))
+        (by_first (offset + i) (omega arith) (omega (arith, below)) (first_or_none (full_elements es xs) t pfs obj (offset + i)))

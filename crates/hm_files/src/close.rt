@@ -12,9 +12,9 @@ use hm_cursor::{close_versions, first_version};
 use hm_key::{ElementStore, Extents, HasElements, HasRoom};
 use hm_types::{Counted, Fault, Id, Obj, Pfs};
 
-/// Closes all bytes of an object that is removed, at an id above theirs: each that is seen then. It
-/// takes a search for each version of them. No payload moves, and no space is taken. The faults are
-/// those of the store; after one nothing is known of the content.
+/// Closes all bytes of an object that is removed, at an id above theirs: each that counts then. It
+/// takes the searches of `version_at` twice for each of them. No payload moves, and no space is
+/// taken. The faults are those of the store; after one nothing is known of the content.
 pub fn remove_bytes<T: ElementStore + Extents>(
     store: &mut T,
     pfs: Pfs,

@@ -52,24 +52,24 @@ IsSeen t e = Sees e.key.create e.delete t
 abbrev pub Content : Type 1
 Content = Subject → List ℕ → Type 0
 
--- These bytes count for a subject as of `t`: they are those of its newest version that is seen then. Where versions
--- follow one another, one alone is seen. Where a forged stream left two that are, the newest counts.
+-- These bytes count for a subject as of `t`: of its versions that were made by then the newest decides, and it is seen
+-- then. So where that one is closed nothing counts, whatever is open among the older ones.
 pub record Counts (es : List FullElement) (t : ℕ) (subject : Subject) (bytes : List ℕ) : Type 0 where
   pub element : FullElement
   pub there : Contains es element
   pub about : subject_of element.key ≡ subject
   pub holds : element.bytes ≡ bytes
   pub seen : IsSeen t element
-  pub newest : (other : FullElement) → Contains es other → subject_of other.key ≡ subject → IsSeen t other
+  pub newest : (other : FullElement) → Contains es other → subject_of other.key ≡ subject → other.key.create ≤ t
       → other.key.create ≤ element.key.create
 
--- The record of a pseudo file system: records have no past, so that it is the newest one that is open, and one that
--- was closed is none.
+-- The record of a pseudo file system: records have no past, so that the newest one decides, and where that one was
+-- closed there is none.
 pub record IsRecordOf (es : List FullElement) (pfs : ℕ) (bytes : List ℕ) : Type 0 where
   pub element : FullElement
   pub there : Contains es element
   pub about : subject_of element.key ≡ record_subject pfs
   pub holds : element.bytes ≡ bytes
   pub unclosed : element.delete ≡ 0
-  pub newest : (other : FullElement) → Contains es other → subject_of other.key ≡ record_subject pfs → other.delete ≡ 0
+  pub newest : (other : FullElement) → Contains es other → subject_of other.key ≡ record_subject pfs
       → other.key.create ≤ element.key.create

@@ -183,21 +183,27 @@ fn versions_follow_one_another(rt: HostRuntime) -> Result<(), Fail> {
     Ok(())
 }
 
+// Lists that no call of ours writes: an older version is open, or was closed after a newer was made.
 #[test]
-fn of_two_open_versions_the_newest_counts(rt: HostRuntime) -> Result<(), Fail> {
+fn of_several_versions_the_newest_decides(rt: HostRuntime) -> Result<(), Fail> {
     let alloc = rt.alloc();
     let elements = vec![in alloc;
         inode(alloc, 5, (5, 0), FILE, 0, 1)?,
         inode(alloc, 5, (7, 9), FILE, 0, 2)?,
         entry(alloc, 1, 65536, (5, 0), "a", 5)?,
         entry(alloc, 1, 65536, (6, 0), "b", 5)?,
+        inode(alloc, 6, (5, 9), FILE, 0, 3)?,
+        inode(alloc, 6, (6, 7), FILE, 0, 4)?,
     ]?;
     for (id, wanted) in [
-        (5u64, "5f1<> 1/a=5 "),
-        (6, "5f1<> 1/b=5 "),
+        (5u64, "5f1<> 6f3<> 1/a=5 "),
+        (6, "5f1<> 6f4<> 1/b=5 "),
+        // the newer inode of 6 is closed, and the older one, which is seen, counts no more
+        (7, "5f2<> 1/b=5 "),
         (8, "5f2<> 1/b=5 "),
-        // the newer one is closed, and the older one, still open, is seen again
-        (9, "5f1<> 1/b=5 "),
+        // that of 5 too, of which the older one is open
+        (9, "1/b=5 "),
+        (20, "1/b=5 "),
     ] {
         assert_eq!(rt; shown(alloc, &elements, id)?.as_str(), wanted, "{id}");
     }

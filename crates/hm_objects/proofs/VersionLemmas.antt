@@ -59,8 +59,8 @@ closed_as : (lists : Lists) (pfs obj i : ℕ) (made : Id) (inode : Inode) (at : 
     → IsInodeClosed lists pfs obj i told
 closed_as lists pfs obj i made inode at told is about create closed = λ e newest.
     let (one, counts, by) = is.1 in
-    let not_older = newest.newest one counts.there counts.version in
-    let not_newer = counts.newest e newest.there newest.version in
+    let not_older = newest.newest one counts.there counts.version.about counts.version.seen.0 in
+    let not_newer = counts.newest e newest.there newest.version.about newest.version.seen.0 in
     let here : element_key e ≡ at = same_key (element_key e) at (newest.version.about ∙ sym about) (omega (arith, not_older, not_newer, by, create)) in
     subst (λ (key : Key). IsClosedIn told key i) (sym here) closed
 

@@ -58,7 +58,7 @@ pub record IsOlder (pfs obj i : ℕ) (es : List FullElement) : Type 0 where
 abbrev pub IsOlderIn : Option (List Element) → Option (List Extent) → ℕ → ℕ → ℕ → Type 0
 IsOlderIn es xs pfs obj i = IfSome (content_of es xs) (λ lists. IsOlder pfs obj i (fulls lists))
 
--- the inode of an object as of an id, and the id that made it: its newest version that is seen, or it has none
+-- the inode of an object as of an id, and the id that made it: its version that counts, or it has none
 abbrev pub IsInodeMade : Lists → ℕ → ℕ → ℕ → Option (Id × Inode) → Type 0
 IsInodeMade lists t pfs obj None = CountsNothing (Counts (fulls lists) t) (inode_subject pfs obj)
 IsInodeMade lists t pfs obj (Some found) =

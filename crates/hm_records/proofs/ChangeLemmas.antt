@@ -2,33 +2,45 @@
 use Rattle.std.proofs.Common.{◌≡◌, ◌≢◌, ℕ, ◌+◌, ◌<◌, ◌≤◌, Bool, true, false, List, refl, sym, ap, subst, ◌∙◌, inl, inr, arith}
 use Rattle.std.specs.Prelude.{◌⊎◌, ◌==◌, ◌&&◌, if◌then◌else◌, Option, Some, None}
 use Rattle.std.specs.List.{Contains}
-use Rattle.std.proofs.lemmas.Bool.{false≢true, eqb-true, eq-eqb, and_parts}
+use Rattle.std.proofs.lemmas.Bool.{false≢true, cases_lt, eqb-true, eq-eqb, and_parts}
 use Rattle.hm_types.specs.Elements.{FullElement, Key}
 use Rattle.hm_key.specs.Counts.{Content, Counts, IsSeen, Subject, subject_of}
 use Rattle.hm_key.specs.Versions.{Adds, Closes, HaveOwnKeys, IsBelow, TakesOut, closed_for, is_about}
 use Rattle.hm_records.specs.Changes.{CountSame, Overrides}
+use Rattle.hm_records.specs.Follows.{IsClosedBy, VersionsFollow}
 use Rattle.hm_records.proofs.CountsLemmas.{open-seen, seen-open}
 
--- what one list shows about a subject as of an id, another shows as of another id
-abbrev Shows : Subject → List FullElement → ℕ → List FullElement → ℕ → Type 0
+-- an element stands in a list in place of another one: it has its key and its bytes, and is seen where that one is
+pub record StandsFor (t : ℕ) (fs : List FullElement) (u : ℕ) (x y : FullElement) : Type 0 where
+  pub there : Contains fs y
+  pub made : y.key.create ≤ u
+  pub key : y.key ≡ x.key
+  pub bytes : y.bytes ≡ x.bytes
+  pub seen : IsSeen t x → IsSeen u y
+
+-- what one list has about a subject by an id, another has by another id
+abbrev pub Shows : Subject → List FullElement → ℕ → List FullElement → ℕ → Type 0
 Shows s es t fs u =
-    (x : FullElement) → Contains es x → subject_of x.key ≡ s → IsSeen t x
-    → (y : FullElement) × Contains fs y × IsSeen u y × (y.key ≡ x.key) × (y.bytes ≡ x.bytes)
+    (x : FullElement) → Contains es x → subject_of x.key ≡ s → x.key.create ≤ t → (y : FullElement) × StandsFor t fs u x y
+
+-- an element stands for itself
+pub itself : (t : ℕ) (fs : List FullElement) (x : FullElement) → Contains fs x → x.key.create ≤ t → StandsFor t fs t x x
+itself t fs x has made = record { there = has; made = made; key = refl; bytes = refl; seen = λ seen. seen }
 
 -- and if the other shows no more, the same counts
-shown : (s : Subject) (es fs : List FullElement) (t u : ℕ) (bytes : List ℕ) → Shows s es t fs u → Shows s fs u es t → Counts es t s bytes → Counts fs u s bytes
+pub shown : (s : Subject) (es fs : List FullElement) (t u : ℕ) (bytes : List ℕ) → Shows s es t fs u → Shows s fs u es t → Counts es t s bytes → Counts fs u s bytes
 shown s es fs t u bytes to from counts =
-    let (y, there, seen, key, same) = to counts.element counts.there counts.about counts.seen in
+    let (y, here) = to counts.element counts.there counts.about counts.seen.0 in
     record {
       element = y;
-      there = there;
-      about = ap subject_of key ∙ counts.about;
-      holds = same ∙ counts.holds;
-      seen = seen;
-      newest = λ other has about' seen'.
-          let (z, there', seen'', key', same') = from other has about' seen' in
-          let newest = counts.newest z there' (ap subject_of key' ∙ about') seen'' in
-          omega (arith, newest, ap (λ (k : Key). k.create) key, ap (λ (k : Key). k.create) key');
+      there = here.there;
+      about = ap subject_of here.key ∙ counts.about;
+      holds = here.bytes ∙ counts.holds;
+      seen = here.seen counts.seen;
+      newest = λ other has about' made.
+          let (z, back) = from other has about' made in
+          let newest = counts.newest z back.there (ap subject_of back.key ∙ about') back.made in
+          omega (arith, newest, ap (λ (k : Key). k.create) here.key, ap (λ (k : Key). k.create) back.key);
     }
 
 -- ---- before the change
@@ -36,21 +48,57 @@ shown s es fs t u bytes to from counts =
 pub adds_below : (e : FullElement) (es es' : List FullElement) (t : ℕ) → Adds e es es' → t < e.key.create → CountSame (Counts es t) (Counts es' t)
 adds_below e es es' t adds below s bytes = (shown s es' es t t bytes back on, shown s es es' t t bytes on back) where
   on : Shows s es t es' t
-  on x has about seen = (x, (adds x).1 (inr has), seen, refl, refl)
+  on x has about made = (x, itself t es' x ((adds x).1 (inr has)) made)
 
   back : Shows s es' t es t
-  back x has about seen = elim ((adds x).0 has) [
-    | inl new ↦ let made : e.key.create ≤ t = subst (λ (z : FullElement). z.key.create ≤ t) new seen.0 in absurd (omega (arith, made))
-    | inr old ↦ (x, old, seen, refl, refl)
+  back x has about made = elim ((adds x).0 has) [
+    | inl new ↦ let made' : e.key.create ≤ t = subst (λ (z : FullElement). z.key.create ≤ t) new made in absurd (omega (arith, made'))
+    | inr old ↦ (x, itself t es x old made)
   ]
 
-pub takes_out_unseen : (e : FullElement) (es es' : List FullElement) (t : ℕ) → TakesOut e es es' → (IsSeen t e → ⊥) → CountSame (Counts es t) (Counts es' t)
-takes_out_unseen e es es' t takes unseen s bytes = (shown s es' es t t bytes back on, shown s es es' t t bytes on back) where
-  on : Shows s es t es' t
-  on x has about seen = (x, (takes x).1 (has, λ same. unseen (subst (λ (z : FullElement). IsSeen t z) same seen)), seen, refl, refl)
+-- where an element is seen, no later version that was made by then closed it
+pub not_closed : (t i : ℕ) (e : FullElement) → i ≤ t → IsSeen t e → IsClosedBy i e → ⊥
+not_closed t i e late seen closed = elim seen.1 [
+  | inl open' ↦ closed.closed open'
+  | inr before ↦ absurd (omega (arith, before, late, closed.early))
+]
 
-  back : Shows s es' t es t
-  back x has about seen = (x, ((takes x).0 has).0, seen, refl, refl)
+pub takes_out_unseen : (e : FullElement) (es es' : List FullElement) (t : ℕ) → VersionsFollow (subject_of e.key) t es → TakesOut e es es'
+    → (IsSeen t e → ⊥) → CountSame (Counts es t) (Counts es' t)
+takes_out_unseen e es es' t follow takes unseen s bytes = (was, stays) where
+  stays : Counts es t s bytes → Counts es' t s bytes
+  stays c = record {
+    element = c.element;
+    there = (takes c.element).1 (c.there, λ same. unseen (subst (λ (z : FullElement). IsSeen t z) same c.seen));
+    about = c.about;
+    holds = c.holds;
+    seen = c.seen;
+    newest = λ other has about made. c.newest other ((takes other).0 has).0 about made;
+  }
+
+  -- a newer version than the one that is seen is not the one that went
+  newer : (c : Counts es' t s bytes) (other : FullElement) → Contains es other → subject_of other.key ≡ s → other.key.create ≤ t
+      → c.element.key.create < other.key.create → ⊥
+  newer c other has about made later =
+      let apart : other ≢ e = λ same.
+      not_closed t other.key.create c.element made c.seen
+      (subst (λ (u : Subject). VersionsFollow u t es) (ap (λ (z : FullElement). subject_of z.key) (sym same) ∙ about) follow
+      c.element other ((takes c.element).0 c.there).0 has c.about about later made) in
+      let newest = c.newest other ((takes other).1 (has, apart)) about made in
+      absurd (omega (arith, newest, later))
+
+  was : Counts es' t s bytes → Counts es t s bytes
+  was c = record {
+    element = c.element;
+    there = ((takes c.element).0 c.there).0;
+    about = c.about;
+    holds = c.holds;
+    seen = c.seen;
+    newest = λ other has about made. elim (cases_lt c.element.key.create other.key.create) [
+      | inl later ↦ absurd (newer c other has about made later)
+      | inr from ↦ from
+    ];
+  }
 
 -- ---- closing
 
@@ -114,21 +162,33 @@ closed_unseen s i t e _ made gone late (same not) about seen = elim seen.1 [
 pub closes_below : (s : Subject) (i : ℕ) (es es' : List FullElement) (t : ℕ) → Closes s i es es' → t < i → CountSame (Counts es t) (Counts es' t)
 closes_below s i es es' t closes below s' bytes = (shown s' es' es t t bytes back on, shown s' es es' t t bytes on back) where
   on : Shows s' es t es' t
-  on x has about seen =
-      let step = closing s i x in (
+  on x has about made =
+      let step = closing s i x in
+      let kept = key_stays s i x (closed_for s i x) step in (
         closed_for s i x,
-        (closes (closed_for s i x)).1 (x, has, refl),
-        seen_stays s i t x (closed_for s i x) below step seen,
-        (key_stays s i x (closed_for s i x) step).0,
-        (key_stays s i x (closed_for s i x) step).1,
+        record {
+          there = (closes (closed_for s i x)).1 (x, has, refl);
+          made = omega (arith, made, ap (λ (k : Key). k.create) kept.0);
+          key = kept.0;
+          bytes = kept.1;
+          seen = seen_stays s i t x (closed_for s i x) below step;
+        },
       )
 
   back : Shows s' es' t es t
-  back y has about seen =
+  back y has about made =
       let (x, there, is) = (closes y).0 has in
       let step : Closing s i x y = subst (λ (f : FullElement). Closing s i x f) is (closing s i x) in
-      let kept = key_stays s i x y step in
-      (x, there, seen_was s i t x y step seen (omega arith), sym kept.0, sym kept.1)
+      let kept = key_stays s i x y step in (
+        x,
+        record {
+          there = there;
+          made = omega (arith, made, ap (λ (k : Key). k.create) kept.0);
+          key = sym kept.0;
+          bytes = sym kept.1;
+          seen = λ seen. seen_was s i t x y step seen (omega arith);
+        },
+      )
 
 -- ---- from the change on
 
@@ -145,18 +205,18 @@ adds_from e es es' t adds open' late older = record {
   elsewhere = λ other bytes not. (shown other es' es t t bytes (back other not) (on other), shown other es es' t t bytes (on other) (back other not));
 } where
   on : (other : Subject) → Shows other es t es' t
-  on other x has about seen = (x, (adds x).1 (inr has), seen, refl, refl)
+  on other x has about made = (x, itself t es' x ((adds x).1 (inr has)) made)
 
   back : (other : Subject) → other ≢ subject_of e.key → Shows other es' t es t
-  back other not x has about seen = elim ((adds x).0 has) [
+  back other not x has about made = elim ((adds x).0 has) [
     | inl new ↦ absurd (not (sym about ∙ ap (λ (z : FullElement). subject_of z.key) new))
-    | inr old ↦ (x, old, seen, refl, refl)
+    | inr old ↦ (x, itself t es x old made)
   ]
 
   only : (bytes : List ℕ) → Counts es' t (subject_of e.key) bytes → Some e.bytes ≡ Some bytes
   only bytes c = elim ((adds c.element).0 c.there) [
     | inl new ↦ ap Some (ap (λ (z : FullElement). z.bytes) (sym new) ∙ c.holds)
-    | inr old ↦ absurd (omega (arith, older c.element old, c.newest e ((adds e).1 (inl refl)) refl (late, inl open')))
+    | inr old ↦ absurd (omega (arith, older c.element old, c.newest e ((adds e).1 (inl refl)) refl late))
   ]
 
   counts : (bytes : List ℕ) → e.bytes ≡ bytes → Counts es' t (subject_of e.key) bytes
@@ -166,7 +226,7 @@ adds_from e es es' t adds open' late older = record {
     about = refl;
     holds = is;
     seen = (late, inl open');
-    newest = λ other has about seen. elim ((adds other).0 has) [
+    newest = λ other has about made. elim ((adds other).0 has) [
       | inl new ↦ omega (arith, ap (λ (z : FullElement). z.key.create) new)
       | inr old ↦ omega (arith, older other old)
     ];
@@ -190,15 +250,15 @@ closes_from s i es es' t closes below late = record {
       (ap subject_of (sym (key_stays s i x c.element step).0) ∙ c.about) c.seen
 
   on : (other : Subject) → other ≢ s → Shows other es t es' t
-  on other not x has about seen =
+  on other not x has about made =
       let stays : closed_for s i x ≡ x = elsewhere_stays s i x (closed_for s i x) (closing s i x) (λ is. not (sym about ∙ is)) in
-      (x, (closes x).1 (x, has, stays), seen, refl, refl)
+      (x, itself t es' x ((closes x).1 (x, has, stays)) made)
 
   back : (other : Subject) → other ≢ s → Shows other es' t es t
-  back other not y has about seen =
+  back other not y has about made =
       let (x, there, step) = from_old y has in
       let stays : y ≡ x = elsewhere_stays s i x y step (λ is. not (sym about ∙ ap subject_of (key_stays s i x y step).0 ∙ is)) in
-      (x, there, subst (λ (z : FullElement). IsSeen t z) stays seen, ap (λ (z : FullElement). z.key) (sym stays), ap (λ (z : FullElement). z.bytes) (sym stays))
+      (y, itself t es y (subst (λ (z : FullElement). Contains es z) (sym stays) there) made)
 
 -- what was closed keeps the ids that made it
 closes_older : (s : Subject) (i : ℕ) (es es' : List FullElement) → Closes s i es es' → IsBelow i es → (y : FullElement) → Contains es' y → y.key.create < i
@@ -229,7 +289,16 @@ replaces_from e es mid es' t below closes adds open' late =
 pub counts_from : (es : List FullElement) (t u : ℕ) → IsBelow (t + 1) es → IsBelow (u + 1) es → CountSame (Counts es t) (Counts es u)
 counts_from es t u up up' s bytes = (shown s es es u t bytes (on u t up' up) (on t u up up'), shown s es es t u bytes (on t u up up') (on u t up' up)) where
   on : (t u : ℕ) → IsBelow (t + 1) es → IsBelow (u + 1) es → Shows s es t es u
-  on t u up up' x has about seen = (x, has, open-seen es (u + 1) u x up' (omega arith) has (seen-open es (t + 1) t x up (omega arith) has seen), refl, refl)
+  on t u up up' x has about made = (
+    x,
+    record {
+      there = has;
+      made = omega (arith, up'.made x has);
+      key = refl;
+      bytes = refl;
+      seen = λ seen. open-seen es (u + 1) u x up' (omega arith) has (seen-open es (t + 1) t x up (omega arith) has seen);
+    },
+  )
 
 -- ---- ids and keys
 

@@ -34,7 +34,7 @@ own_keys-sorted (e ∷ es) sorted x y has has' same =
       by_place (inr later) (inr later') rest = rest later later' same
 
 -- versions of one subject that one id made have one key
-same_key : (a b : Key) → subject_of a ≡ subject_of b → a.create ≡ b.create → a ≡ b
+pub same_key : (a b : Key) → subject_of a ≡ subject_of b → a.create ≡ b.create → a ≡ b
 same_key a b subject create = λ i. record {
   localization = (subject i).localization;
   obj = (subject i).obj;
@@ -47,8 +47,8 @@ pub settled : (es : List FullElement) (t : ℕ) → HaveOwnKeys es → IsSettled
 settled es t own s a b counts counts' =
     let one : counts.element.key.create ≡ counts'.element.key.create = omega (
       arith,
-      counts.newest counts'.element counts'.there counts'.about counts'.seen,
-      counts'.newest counts.element counts.there counts.about counts.seen,
+      counts.newest counts'.element counts'.there counts'.about counts'.seen.0,
+      counts'.newest counts.element counts.there counts.about counts.seen.0,
     ) in
     let key : counts.element.key ≡ counts'.element.key =
     same_key counts.element.key counts'.element.key (counts.about ∙ sym counts'.about) one in
@@ -58,8 +58,8 @@ pub record_one : (es : List FullElement) (pfs : ℕ) (a b : List ℕ) → HaveOw
 record_one es pfs a b own is is' =
     let one : is.element.key.create ≡ is'.element.key.create = omega (
       arith,
-      is.newest is'.element is'.there is'.about is'.unclosed,
-      is'.newest is.element is.there is.about is.unclosed,
+      is.newest is'.element is'.there is'.about,
+      is'.newest is.element is.there is.about,
     ) in
     let key : is.element.key ≡ is'.element.key = same_key is.element.key is'.element.key (is.about ∙ sym is'.about) one in
     sym is.holds ∙ ap (λ (z : FullElement). z.bytes) (own is.element is'.element is.there is'.there key) ∙ is'.holds
@@ -84,7 +84,7 @@ record_counts es pfs i t bytes below late = (
     about = is.about;
     holds = is.holds;
     seen = open-seen es i t is.element below late is.there is.unclosed;
-    newest = λ other has about seen. is.newest other has about (seen-open es i t other below late has seen);
+    newest = λ other has about made. is.newest other has about;
   },
   λ counts. record {
     element = counts.element;
@@ -92,7 +92,7 @@ record_counts es pfs i t bytes below late = (
     about = counts.about;
     holds = counts.holds;
     unclosed = seen-open es i t counts.element below late counts.there counts.seen;
-    newest = λ other has about open'. counts.newest other has about (open-seen es i t other below late has open');
+    newest = λ other has about. counts.newest other has about (omega (arith, below.made other has, late));
   },
 )
 

@@ -19,3 +19,4 @@ pub mod MadeLemmas
 pub mod LookupLemmas
 pub mod PlainLemmas
 pub mod PlainTreeLemmas
+pub mod SearchLemmas

@@ -9,17 +9,19 @@ use Rattle.std.proofs.lemmas.Bool.{cases_lt}
 use Rattle.std.proofs.lemmas.List.{get_or_append_left, get_or_push, take_more}
 use Rattle.std.proofs.lemmas.List.Elements.{Contains-append_cases, Contains-append_left, Contains-append_right}
 use Rattle.hm_types.specs.Elements.{FullElement, Key, key_cmp}
-use Rattle.hm_key.specs.Counts.{Counts, IsSeen, Subject, bytes_subject, inode_subject, subject_of}
+use Rattle.hm_key.specs.Counts.{Content, Counts, IsSeen, Subject, bytes_subject, inode_subject, subject_of}
 use Rattle.hm_types.specs.declared.id.Obj.{Obj}
 use Rattle.hm_types.specs.declared.object.Kind.{Kind}
 use Rattle.hm_types.specs.declared.object.Content.{Content as Held}
 use Rattle.hm_records.specs.declared.inode.Inode.{Inode}
 use Rattle.hm_records.specs.Inode.{IsInode, inode_bytes}
 use Rattle.hm_key.specs.Versions.{HaveOwnKeys}
+use Rattle.hm_records.specs.Changes.{CountsNothing}
 use Rattle.hm_records.specs.Laws.{made_of}
 use Rattle.hm_records.specs.View.{AreFileBytes, IsFileByte, covered, hole, past, IsFirstAfter, IsObject}
-use Rattle.hm_records.specs.PlainView.{is_at_key, IsEarlierEnd, IsHeldAs, IsObjectAt, IsLeastEnd, IsNewerVersion, IsNewestOf, IsNewestSince, IsNextEnd, IsUnseen}
-use Rattle.hm_records.proofs.CountsLemmas.{settled}
+use Rattle.hm_records.specs.PlainView.{is_at_key, HasBytes, IsEarlierEnd, IsHeldAs, IsLess, IsObjectAt, IsLeastEnd, IsNewerVersion, IsNewestOf}
+use Rattle.hm_records.specs.PlainView.{IsNewestSince, IsNextEnd, IsUnmade}
+use Rattle.hm_records.proofs.CountsLemmas.{same_key, settled}
 use Rattle.hm_records.proofs.MadeLemmas.{object_made}
 use Rattle.hm_records.proofs.MemberLemmas.{has_cases, has_head, has_none}
 
@@ -56,9 +58,9 @@ module _ (es : List FullElement) (i t : ℕ) (s : Subject) (x : FullElement) (be
     newest = record {
       there = more_new es i x below is;
       about = newer.about;
-      seen = newer.seen;
-      newest = λ other has about seen. elim (more_cases es i x below is other has) [
-        | inl old ↦ absurd (held.newest other old about seen)
+      made = newer.made;
+      newest = λ other has about made. elim (more_cases es i x below is other has) [
+        | inl old ↦ absurd (held.newest other old about made)
         | inr e ↦ omega (arith, ap (λ (z : FullElement). z.key.create) e)
       ];
     };
@@ -68,11 +70,11 @@ module _ (es : List FullElement) (i t : ℕ) (s : Subject) (x : FullElement) (be
     newest = record {
       there = more_new es i x below is;
       about = newer.about;
-      seen = newer.seen;
-      newest = λ other has about seen. elim (more_cases es i x below is other has) [
+      made = newer.made;
+      newest = λ other has about made. elim (more_cases es i x below is other has) [
         | inl old ↦
             let low : f.key.create ≤ x.key.create = rw held.since_is at newer.newer in
-            omega (arith, low, held.newest.newest other old about seen)
+            omega (arith, low, held.newest.newest other old about made)
         | inr e ↦ omega (arith, ap (λ (z : FullElement). z.key.create) e)
       ];
     };
@@ -82,11 +84,11 @@ module _ (es : List FullElement) (i t : ℕ) (s : Subject) (x : FullElement) (be
   pub newest_passed : (e : Option FullElement) (since : Option ℕ) → IsNewestSince (take i es) t s e since → (IsNewerVersion t s since x → ⊥)
       → IsNewestSince (take (i + 1) es) t s e since
   newest_passed None since held not = record {
-    newest = λ other has about seen. elim (more_cases es i x below is other has) [
-      | inl old ↦ held.newest other old about seen
+    newest = λ other has about made. elim (more_cases es i x below is other has) [
+      | inl old ↦ held.newest other old about made
       | inr e ↦ not (record {
         about = subst (λ (z : FullElement). subject_of z.key ≡ s) e about;
-        seen = subst (λ (z : FullElement). IsSeen t z) e seen;
+        made = subst (λ (z : FullElement). z.key.create ≤ t) e made;
         newer = rw held.since_is tt;
       })
     ];
@@ -96,13 +98,13 @@ module _ (es : List FullElement) (i t : ℕ) (s : Subject) (x : FullElement) (be
     newest = record {
       there = more_old es i x below is f held.newest.there;
       about = held.newest.about;
-      seen = held.newest.seen;
-      newest = λ other has about seen. elim (more_cases es i x below is other has) [
-        | inl old ↦ held.newest.newest other old about seen
+      made = held.newest.made;
+      newest = λ other has about made. elim (more_cases es i x below is other has) [
+        | inl old ↦ held.newest.newest other old about made
         | inr e ↦ elim (cases_lt f.key.create x.key.create) [
           | inl less ↦ absurd (not (record {
             about = subst (λ (z : FullElement). subject_of z.key ≡ s) e about;
-            seen = subst (λ (z : FullElement). IsSeen t z) e seen;
+            made = subst (λ (z : FullElement). z.key.create ≤ t) e made;
             newer = rw held.since_is (omega (arith, less));
           }))
           | inr le ↦ omega (arith, le, ap (λ (z : FullElement). z.key.create) e)
@@ -113,119 +115,127 @@ module _ (es : List FullElement) (i t : ℕ) (s : Subject) (x : FullElement) (be
   }
 
 pub newest_none : (t : ℕ) (s : Subject) → IsNewestSince [] t s None None
-newest_none t s = record { newest = λ other has about seen. has_none other has; since_is = refl }
+newest_none t s = record { newest = λ other has about made. has_none other has; since_is = refl }
 
--- what counts is the newest version
-pub newest_counts : (es : List FullElement) (t : ℕ) (s : Subject) (e : FullElement) → IsNewestOf es t s e → Counts es t s e.bytes
-newest_counts es t s e is = record {
+-- what counts is the newest version, where it is seen
+pub newest_counts : (es : List FullElement) (t : ℕ) (s : Subject) (e : FullElement) → IsNewestOf es t s e → IsSeen t e → Counts es t s e.bytes
+newest_counts es t s e is seen = record {
   element = e;
   there = is.there;
   about = is.about;
   holds = refl;
-  seen = is.seen;
+  seen = seen;
   newest = is.newest;
 }
 
-pub unseen_none : (es : List FullElement) (t : ℕ) (s : Subject) → IsUnseen es t s → (bytes : List ℕ) → Counts es t s bytes → ⊥
-unseen_none es t s none bytes counts = none counts.element counts.there counts.about counts.seen
+-- where it is not, nothing does
+pub newest_unseen : (es : List FullElement) (t : ℕ) (s : Subject) (e : FullElement) → HaveOwnKeys es → IsNewestOf es t s e → (IsSeen t e → ⊥)
+    → CountsNothing (Counts es t) s
+newest_unseen es t s e own is unseen bytes counts =
+    let create : counts.element.key.create ≡ e.key.create =
+    omega (arith, counts.newest e is.there is.about is.made, is.newest counts.element counts.there counts.about counts.seen.0) in
+    let key : counts.element.key ≡ e.key = same_key counts.element.key e.key (counts.about ∙ sym is.about) create in
+    unseen (subst (λ (z : FullElement). IsSeen t z) (own counts.element e counts.there is.there key) counts.seen)
+
+pub unmade_none : (es : List FullElement) (t : ℕ) (s : Subject) → IsUnmade es t s → CountsNothing (Counts es t) s
+unmade_none es t s none bytes counts = none counts.element counts.there counts.about counts.seen.0
 
 -- ---- the bytes that end first
 
-module _ (es : List FullElement) (i t pfs obj place : ℕ) (x : FullElement) (below : i < length es) (is : x ≡ get_or es i x) where
-  pub end_taken : (next : Option ℕ) → IsNextEnd (take i es) t pfs obj place next → IsEarlierEnd t pfs obj place next x
-      → IsNextEnd (take (i + 1) es) t pfs obj place (Some x.key.key)
+module _ (C : Content) (es : List FullElement) (i pfs obj place : ℕ) (x : FullElement) (below : i < length es) (is : x ≡ get_or es i x) where
+  pub end_taken : (next : Option ℕ) → IsNextEnd C pfs obj place (take i es) next → IsEarlierEnd C pfs obj place next x
+      → IsNextEnd C pfs obj place (take (i + 1) es) (Some x.key.key)
   end_taken None held earlier = record {
-    version = x;
-    there = more_new es i x below is;
-    about = earlier.about;
-    seen = earlier.seen;
+    there = earlier.there;
     after = earlier.after;
-    least = λ other e has about seen after. elim (more_cases es i x below is e has) [
-      | inl old ↦ absurd (held other e old about seen after)
-      | inr same ↦ omega (arith, ap (λ (z : FullElement). z.key.key) same, ap (λ (z : Subject). z.key) about)
+    least = λ e has about there after. elim (more_cases es i x below is e has) [
+      | inl old ↦ absurd (held e old about there after)
+      | inr same ↦ omega (arith, ap (λ (z : FullElement). z.key.key) same)
     ];
   }
   end_taken (Some end) held earlier = record {
-    version = x;
-    there = more_new es i x below is;
-    about = earlier.about;
-    seen = earlier.seen;
+    there = earlier.there;
     after = earlier.after;
-    least = λ other e has about seen after. elim (more_cases es i x below is e has) [
-      | inl old ↦ omega (arith, held.least other e old about seen after, earlier.before)
-      | inr same ↦ omega (arith, ap (λ (z : FullElement). z.key.key) same, ap (λ (z : Subject). z.key) about)
+    least = λ e has about there after. elim (more_cases es i x below is e has) [
+      | inl old ↦ omega (arith, held.least e old about there after, earlier.before)
+      | inr same ↦ omega (arith, ap (λ (z : FullElement). z.key.key) same)
     ];
   }
 
-  -- the element, as one that ends at `other`
-  ends_at : (other : ℕ) (e : FullElement) → e ≡ x → subject_of e.key ≡ bytes_subject pfs obj other → x.key.key ≡ other
-  ends_at other e same about = ap (λ (z : FullElement). z.key.key) (sym same) ∙ ap (λ (z : Subject). z.key) about
+  -- the element, as one that ends before another end
+  earlier_is : (next : Option ℕ) (e : FullElement) → e ≡ x → subject_of e.key ≡ bytes_subject pfs obj e.key.key → HasBytes C pfs obj e.key.key
+      → place < e.key.key → IsLess e.key.key next → IsEarlierEnd C pfs obj place next x
+  earlier_is next e same about there after before = subst (λ (z : FullElement). IsEarlierEnd C pfs obj place next z) same (record {
+    after = after;
+    about = about;
+    before = before;
+    there = there;
+  })
 
-  about_own : (other : ℕ) (e : FullElement) → e ≡ x → subject_of e.key ≡ bytes_subject pfs obj other → subject_of x.key ≡ bytes_subject pfs obj x.key.key
-  about_own other e same about =
-      ap (λ (z : FullElement). subject_of z.key) (sym same) ∙ about ∙ ap (bytes_subject pfs obj) (sym (ends_at other e same about))
-
-  pub end_passed : (next : Option ℕ) → IsNextEnd (take i es) t pfs obj place next → (IsEarlierEnd t pfs obj place next x → ⊥)
-      → IsNextEnd (take (i + 1) es) t pfs obj place next
-  end_passed None held not = λ other e has about seen after. elim (more_cases es i x below is e has) [
-    | inl old ↦ held other e old about seen after
-    | inr same ↦ not (record {
-      after = omega (arith, after, ends_at other e same about);
-      about = about_own other e same about;
-      seen = subst (λ (z : FullElement). IsSeen t z) same seen;
-      before = tt;
-    })
+  pub end_passed : (next : Option ℕ) → IsNextEnd C pfs obj place (take i es) next → (IsEarlierEnd C pfs obj place next x → ⊥)
+      → IsNextEnd C pfs obj place (take (i + 1) es) next
+  end_passed None held not = λ e has about there after. elim (more_cases es i x below is e has) [
+    | inl old ↦ held e old about there after
+    | inr same ↦ not (earlier_is None e same about there after tt)
   ]
   end_passed (Some end) held not = record {
-    version = held.version;
-    there = more_old es i x below is held.version held.there;
-    about = held.about;
-    seen = held.seen;
+    there = held.there;
     after = held.after;
-    least = λ other e has about seen after. elim (more_cases es i x below is e has) [
-      | inl old ↦ held.least other e old about seen after
-      | inr same ↦ elim (cases_lt x.key.key end) [
-        | inl less ↦ absurd (not (record {
-          after = omega (arith, after, ends_at other e same about);
-          about = about_own other e same about;
-          seen = subst (λ (z : FullElement). IsSeen t z) same seen;
-          before = less;
-        }))
-        | inr le ↦ omega (arith, le, ends_at other e same about)
+    least = λ e has about there after. elim (more_cases es i x below is e has) [
+      | inl old ↦ held.least e old about there after
+      | inr same ↦ elim (cases_lt e.key.key end) [
+        | inl less ↦ absurd (not (earlier_is (Some end) e same about there after less))
+        | inr le ↦ le
       ]
     ];
   }
 
 -- ---- bytes
 
-pub first_of : (es : List FullElement) (t pfs obj place end : ℕ) (bytes : List ℕ) → IsLeastEnd es t pfs obj place end
-    → Counts es t (bytes_subject pfs obj end) bytes → IsFirstAfter (Counts es t) pfs obj place end bytes
-first_of es t pfs obj place end bytes least counts = record {
-  there = counts;
-  after = least.after;
-  first = λ other others there after. least.least other there.element there.there there.about there.seen after;
-}
+module _ (es : List FullElement) (t pfs obj place : ℕ) where
+  -- what counts there is an element's
+  counted_end : (P : Type 0) (other : ℕ) (bytes : List ℕ) → Counts es t (bytes_subject pfs obj other) bytes
+      → ((e : FullElement) → Contains es e → subject_of e.key ≡ bytes_subject pfs obj e.key.key → HasBytes (Counts es t) pfs obj e.key.key
+      → e.key.key ≡ other → P) → P
+  counted_end P other bytes counts on =
+      let key : counts.element.key.key ≡ other = ap (λ (s : Subject). s.key) counts.about in
+      on counts.element counts.there (counts.about ∙ ap (bytes_subject pfs obj) (sym key))
+      (bytes, subst (λ (n : ℕ). Counts es t (bytes_subject pfs obj n) bytes) (sym key) counts) key
 
-pub byte_covered : (es : List FullElement) (t pfs obj place end : ℕ) (bytes : List ℕ) → IsLeastEnd es t pfs obj place end
-    → Counts es t (bytes_subject pfs obj end) bytes → end - place ≤ length bytes
-    → IsFileByte (Counts es t) pfs obj place (slice_index bytes (length bytes - (end - place)))
-byte_covered es t pfs obj place end bytes least counts enough =
-    let after = least.after in
-    let same : length bytes - (end - place) ≡ place + length bytes - end = omega (arith, after, enough) in
-    covered end bytes (first_of es t pfs obj place end bytes least counts) (omega (arith, after, enough)) (ap (slice_index bytes) same)
+  pub first_of : (end : ℕ) (bytes : List ℕ) → IsLeastEnd (Counts es t) pfs obj place es end
+      → Counts es t (bytes_subject pfs obj end) bytes → IsFirstAfter (Counts es t) pfs obj place end bytes
+  first_of end bytes least counts = record {
+    there = counts;
+    after = least.after;
+    first = λ other others there after.
+        counted_end (end ≤ other) other others there (λ e has about there' key.
+        omega (arith, key, least.least e has about there' (omega (arith, after, key))));
+  }
 
-pub byte_in_hole : (es : List FullElement) (t pfs obj place end : ℕ) (bytes : List ℕ) → IsLeastEnd es t pfs obj place end
-    → Counts es t (bytes_subject pfs obj end) bytes → length bytes < end - place → IsFileByte (Counts es t) pfs obj place 0
-byte_in_hole es t pfs obj place end bytes least counts short =
-    hole end bytes (first_of es t pfs obj place end bytes least counts) (omega (arith, short)) refl
+  pub byte_covered : (end : ℕ) (bytes : List ℕ) → IsLeastEnd (Counts es t) pfs obj place es end
+      → Counts es t (bytes_subject pfs obj end) bytes → end - place ≤ length bytes
+      → IsFileByte (Counts es t) pfs obj place (slice_index bytes (length bytes - (end - place)))
+  byte_covered end bytes least counts enough =
+      let after = least.after in
+      let same : length bytes - (end - place) ≡ place + length bytes - end = omega (arith, after, enough) in
+      covered end bytes (first_of end bytes least counts) (omega (arith, after, enough)) (ap (slice_index bytes) same)
 
-pub byte_past : (es : List FullElement) (t pfs obj place : ℕ) → IsNextEnd es t pfs obj place None → IsFileByte (Counts es t) pfs obj place 0
-byte_past es t pfs obj place none = past (λ end bytes there after. none end there.element there.there there.about there.seen after) refl
+  pub byte_in_hole : (end : ℕ) (bytes : List ℕ) → IsLeastEnd (Counts es t) pfs obj place es end
+      → Counts es t (bytes_subject pfs obj end) bytes → length bytes < end - place → IsFileByte (Counts es t) pfs obj place 0
+  byte_in_hole end bytes least counts short = hole end bytes (first_of end bytes least counts) (omega (arith, short)) refl
 
--- where bytes end, some are seen
-pub end_seen : (es : List FullElement) (t pfs obj place end : ℕ) → IsLeastEnd es t pfs obj place end
-    → IsUnseen es t (bytes_subject pfs obj end) → ⊥
-end_seen es t pfs obj place end least none = none least.version least.there least.about least.seen
+  -- where there is no next end, nothing counts that ends after the place
+  pub none_after : IsNextEnd (Counts es t) pfs obj place es None → (end : ℕ) (bytes : List ℕ) → Counts es t (bytes_subject pfs obj end) bytes
+      → place < end → ⊥
+  none_after none end bytes there after =
+      counted_end ⊥ end bytes there (λ e has about there' key. none e has about there' (omega (arith, after, key)))
+
+  pub byte_past : IsNextEnd (Counts es t) pfs obj place es None → IsFileByte (Counts es t) pfs obj place 0
+  byte_past none = past (none_after none) refl
+
+  -- where bytes end, some count
+  pub end_counts : (end : ℕ) → IsLeastEnd (Counts es t) pfs obj place es end → CountsNothing (Counts es t) (bytes_subject pfs obj end) → ⊥
+  end_counts end least none = none least.there.0 least.there.1
 
 -- one byte more
 pub bytes_more : (es : List FullElement) (t pfs obj n b : ℕ) (xs : List ℕ) → AreFileBytes (Counts es t) pfs obj n xs
@@ -246,9 +256,9 @@ bytes_more es t pfs obj n b xs are byte = record {
 
 -- ---- objects
 
-pub no_object_at : (es : List FullElement) (t pfs number : ℕ) → IsUnseen es t (inode_subject pfs number) → IsObjectAt (Counts es t) pfs number None
+pub no_object_at : (es : List FullElement) (t pfs number : ℕ) → CountsNothing (Counts es t) (inode_subject pfs number) → IsObjectAt (Counts es t) pfs number None
 no_object_at es t pfs number none o is same =
-    unseen_none es t (inode_subject pfs number) none (inode_bytes is.inode)
+    none (inode_bytes is.inode)
     (subst (λ (n : ℕ). Counts es t (inode_subject pfs n) (inode_bytes is.inode)) same is.there)
 
 -- bytes that spell no inode make no object

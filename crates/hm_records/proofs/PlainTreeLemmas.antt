@@ -14,16 +14,16 @@ use Rattle.hm_records.specs.declared.entry.DirEntry.{DirEntry}
 use Rattle.hm_records.specs.Entry.{IsEntry, entry_bytes}
 use Rattle.hm_key.specs.Counts.{Content, Counts, Subject, entry_subject, inode_subject, subject_of}
 use Rattle.hm_key.specs.Versions.{HaveOwnKeys}
-use Rattle.hm_records.specs.Changes.{IsSettled, LacksName}
+use Rattle.hm_records.specs.Changes.{CountsNothing, IsSettled, LacksName}
 use Rattle.hm_records.specs.Laws.{triple_of}
 use Rattle.hm_records.specs.View.{HasEntry, IsObject, IsTriple, IsView}
-use Rattle.hm_records.specs.PlainView.{HasName, HasNumber, HasTriple, HoldsObjects, HoldsTriples, IsAddedObject, IsAddedTriple, IsEarlierEntry, IsEntryAt, IsEntryOf, IsFirstKey, IsInodeOf, IsLeastKey, IsLess, IsNewObject, IsNewTriple, IsObjectAt, IsUnseen}
+use Rattle.hm_records.specs.PlainView.{HasName, HasNumber, HasTriple, HoldsObjects, HoldsTriples, IsAddedObject, IsAddedTriple, IsEarlierEntry, IsEntryAt, IsEntryOf, IsFirstKey, IsInodeOf, IsLeastKey, IsLess, IsNewObject, IsNewTriple, IsObjectAt}
 use Rattle.hm_records.proofs.CountsLemmas.{settled}
 use Rattle.hm_records.proofs.MemberLemmas.{has_insert, has_none, insert_has, order_insert}
 use Rattle.hm_records.proofs.NameLemmas.{entry_one, same_obj, triple_one}
 use Rattle.hm_records.proofs.ObjectLemmas.{object_one}
 use Rattle.hm_records.proofs.OrderLemmas.{object_apart, object_trans, triple_apart, triple_trans}
-use Rattle.hm_records.proofs.PlainLemmas.{more_cases, unseen_none}
+use Rattle.hm_records.proofs.PlainLemmas.{more_cases}
 
 pub ok_weaker : {A E : Type 0} (r : Result A E) (P Q : A → Type 0) → ((a : A) → P a → Q a) → IfOk r P → IfOk r Q
 ok_weaker (Ok a) P Q more is = more a is
@@ -77,10 +77,10 @@ objects_none C pfs = record { rise = tt; sound = λ o has. absurd (has_none o ha
 
 -- ---- entries
 
-pub no_entry_at : (es : List FullElement) (t pfs : ℕ) (directory : Obj) (key : ℕ) → IsUnseen es t (entry_subject pfs directory.0 key)
+pub no_entry_at : (es : List FullElement) (t pfs : ℕ) (directory : Obj) (key : ℕ) → CountsNothing (Counts es t) (entry_subject pfs directory.0 key)
     → IsEntryAt (Counts es t) pfs directory key None
 no_entry_at es t pfs directory key none name object has =
-    unseen_none es t (entry_subject pfs directory.0 key) none (entry_bytes (record { obj = object; name = name })) has.there
+    none (entry_bytes (record { obj = object; name = name })) has.there
 
 pub no_bytes_at : (es : List FullElement) (t pfs : ℕ) (directory : Obj) (key : ℕ) (bytes : List ℕ) → HaveOwnKeys es
     → Counts es t (entry_subject pfs directory.0 key) bytes → ((entry : DirEntry) → IsEntry entry → bytes ≡ entry_bytes entry → ⊥)

@@ -1,6 +1,7 @@
 pub mod Changes
 pub mod Entry
 pub mod Faults
+pub mod Follows
 pub mod Inode
 pub mod KeysFit
 pub mod Laws

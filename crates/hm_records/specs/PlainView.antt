@@ -9,12 +9,12 @@ use Rattle.hm_types.specs.declared.object.Content.{Content as Held}
 use Rattle.hm_key.specs.Key.{key_of}
 use Rattle.hm_key.specs.declared.base.Base.{Base}
 use Rattle.hm_records.specs.declared.inode.Inode.{Inode}
-use Rattle.hm_key.specs.Counts.{Content, Counts, IsSeen, Subject, bytes_subject, entry_subject, inode_subject, subject_of}
+use Rattle.hm_key.specs.Counts.{Content, Counts, Subject, bytes_subject, entry_subject, inode_subject, subject_of}
 use Rattle.hm_types.specs.declared.id.Obj.{Obj}
 use Rattle.hm_types.specs.declared.object.Triple.{Triple}
 use Rattle.hm_types.specs.Tree.{FileTree, is_object_before, is_triple_before}
 use Rattle.hm_records.specs.declared.entry.DirEntry.{DirEntry}
-use Rattle.hm_records.specs.Changes.{LacksName}
+use Rattle.hm_records.specs.Changes.{CountsNothing, LacksName}
 use Rattle.hm_records.specs.Laws.{triple_of}
 use Rattle.hm_records.specs.View.{AreInOrder, HasEntry, IsHeld, IsObject, IsTriple, kind_number}
 
@@ -36,40 +36,46 @@ abbrev pub IsLess : ℕ → Option ℕ → Type 0
 IsLess n None = Unit {0}
 IsLess n (Some other) = n < other
 
--- an element is the newest version of a subject that is seen
+-- an element is the newest version of a subject that was made by `t`
 pub record IsNewestOf (es : List FullElement) (t : ℕ) (s : Subject) (e : FullElement) : Type 0 where
   pub there : Contains es e
   pub about : subject_of e.key ≡ s
-  pub seen : IsSeen t e
-  pub newest : (other : FullElement) → Contains es other → subject_of other.key ≡ s → IsSeen t other → other.key.create ≤ e.key.create
+  pub made : e.key.create ≤ t
+  pub newest : (other : FullElement) → Contains es other → subject_of other.key ≡ s → other.key.create ≤ t → other.key.create ≤ e.key.create
 
--- none is seen
-abbrev pub IsUnseen : List FullElement → ℕ → Subject → Type 0
-IsUnseen es t s = (x : FullElement) → Contains es x → subject_of x.key ≡ s → IsSeen t x → ⊥
+-- none was made by then
+abbrev pub IsUnmade : List FullElement → ℕ → Subject → Type 0
+IsUnmade es t s = (x : FullElement) → Contains es x → subject_of x.key ≡ s → x.key.create ≤ t → ⊥
 
 abbrev pub IsNewest : List FullElement → ℕ → Subject → Option FullElement → Type 0
-IsNewest es t s None = IsUnseen es t s
+IsNewest es t s None = IsUnmade es t s
 IsNewest es t s (Some e) = IsNewestOf es t s e
 
--- these bytes count for a subject, or none of its versions is seen
+-- these bytes count for a subject, or nothing does
 abbrev pub IsCounted : List FullElement → ℕ → Subject → Option (List ℕ) → Type 0
-IsCounted es t s None = IsUnseen es t s
+IsCounted es t s None = CountsNothing (Counts es t) s
 IsCounted es t s (Some bytes) = Counts es t s bytes
 
--- some bytes of a file that end after byte `x` end at `end`, and none before
-pub record IsLeastEnd (es : List FullElement) (t pfs obj x end : ℕ) : Type 0 where
-  pub version : FullElement
-  pub there : Contains es version
-  pub about : subject_of version.key ≡ bytes_subject pfs obj end
-  pub seen : IsSeen t version
-  pub after : x < end
-  pub least : (other : ℕ) (e : FullElement) → Contains es e → subject_of e.key ≡ bytes_subject pfs obj other → IsSeen t e
-      → x < other → end ≤ other
+-- some bytes count for a subject
+abbrev pub HasSome : Content → Subject → Type 0
+HasSome counts s = (bytes : List ℕ) × counts s bytes
 
-abbrev pub IsNextEnd : List FullElement → ℕ → ℕ → ℕ → ℕ → Option ℕ → Type 0
-IsNextEnd es t pfs obj x None =
-    (other : ℕ) (e : FullElement) → Contains es e → subject_of e.key ≡ bytes_subject pfs obj other → IsSeen t e → x < other → ⊥
-IsNextEnd es t pfs obj x (Some end) = IsLeastEnd es t pfs obj x end
+-- some bytes of a file that end there count
+abbrev pub HasBytes : Content → ℕ → ℕ → ℕ → Type 0
+HasBytes counts pfs obj end = HasSome counts (bytes_subject pfs obj end)
+
+-- of the bytes of a file that some elements are about and that count, the first that end after byte `x` end at `end`
+pub record IsLeastEnd (counts : Content) (pfs obj x : ℕ) (es : List FullElement) (end : ℕ) : Type 0 where
+  pub there : HasBytes counts pfs obj end
+  pub after : x < end
+  pub least : (e : FullElement) → Contains es e → subject_of e.key ≡ bytes_subject pfs obj e.key.key → HasBytes counts pfs obj e.key.key
+      → x < e.key.key → end ≤ e.key.key
+
+abbrev pub IsNextEnd : Content → ℕ → ℕ → ℕ → List FullElement → Option ℕ → Type 0
+IsNextEnd counts pfs obj x es None =
+    (e : FullElement) → Contains es e → subject_of e.key ≡ bytes_subject pfs obj e.key.key → HasBytes counts pfs obj e.key.key
+    → x < e.key.key → ⊥
+IsNextEnd counts pfs obj x es (Some end) = IsLeastEnd counts pfs obj x es end
 
 -- an object of this inode has this kind and holds this
 pub record IsHeldAs (counts : Content) (pfs obj : ℕ) (inode : Inode) (kind : Kind) (content : Held) : Type 0 where
@@ -86,18 +92,18 @@ pub record IsNewestSince (es : List FullElement) (t : ℕ) (s : Subject) (e : Op
   pub newest : IsNewest es t s e
   pub since_is : since ≡ option_map (λ (x : FullElement). x.key.create) e
 
--- an element is a version of the subject that is seen, and at least as new as an id
+-- an element is a version of the subject that was made by `t`, and at least as new as an id
 pub record IsNewerVersion (t : ℕ) (s : Subject) (since : Option ℕ) (e : FullElement) : Type 0 where
   pub about : subject_of e.key ≡ s
-  pub seen : IsSeen t e
+  pub made : e.key.create ≤ t
   pub newer : IsAtLeast e.key.create since
 
--- an element has bytes of a file that are seen, and that end after byte `x` and before an end
-pub record IsEarlierEnd (t pfs obj x : ℕ) (next : Option ℕ) (e : FullElement) : Type 0 where
+-- an element is about bytes of a file that count, and that end after byte `x` and before an end
+pub record IsEarlierEnd (counts : Content) (pfs obj x : ℕ) (next : Option ℕ) (e : FullElement) : Type 0 where
   pub after : x < e.key.key
   pub about : subject_of e.key ≡ bytes_subject pfs obj e.key.key
-  pub seen : IsSeen t e
   pub before : IsLess e.key.key next
+  pub there : HasBytes counts pfs obj e.key.key
 
 -- ---- objects
 

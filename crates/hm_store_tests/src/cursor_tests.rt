@@ -1,10 +1,10 @@
 // What counts and what is shown over a store in memory, on tables worked out by hand.
 use crate::metered::Metered;
-use hm_cursor::{Cursor, first_version, version_at};
+use hm_cursor::{Cursor, first_version, inode_base, target_base, version_at};
 use hm_key::{
     Base, DIRECTORY_ENTRY, ELEMENT, Element, ElementStore, MemStore, OTHER_PART, is_element,
 };
-use hm_types::{HOff, INSERT_ROOM, Id, Obj, TREE_ZONE};
+use hm_types::{HOff, INSERT_ROOM, Id, Obj, Pfs, TREE_ZONE};
 use std::alloc::Global;
 use std::test::Fail;
 
@@ -105,7 +105,7 @@ fn two_localizations(alloc: Global) -> Result<MemStore, Fail> {
 }
 
 #[test]
-fn the_newest_version_that_is_seen_counts(rt: HostRuntime) -> Result<(), Fail> {
+fn the_newest_version_made_by_then_decides(rt: HostRuntime) -> Result<(), Fail> {
     for (versions, wanted) in [
         ([].as_slice(), [0, 0, 0, 0, 0, 0, 0, 0]),
         ([(5, 0)].as_slice(), [0, 5, 5, 5, 5, 5, 5, 5]),
@@ -116,10 +116,12 @@ fn the_newest_version_that_is_seen_counts(rt: HostRuntime) -> Result<(), Fail> {
         ),
         ([(5, 6), (9, 0)].as_slice(), [0, 5, 0, 0, 0, 9, 9, 9]),
         ([(5, 0), (8, 0)].as_slice(), [0, 5, 5, 5, 8, 8, 8, 8]),
-        ([(5, 0), (7, 9)].as_slice(), [0, 5, 5, 7, 7, 5, 5, 5]),
+        // where the newest is closed nothing counts, though an older one is open, or closed later
+        ([(5, 0), (7, 9)].as_slice(), [0, 5, 5, 7, 7, 0, 0, 0]),
+        ([(5, 11), (7, 9)].as_slice(), [0, 5, 5, 7, 7, 0, 0, 0]),
         (
             [(5, 0), (6, 0), (8, 9), (9, 10)].as_slice(),
-            [0, 5, 6, 6, 8, 9, 6, 6],
+            [0, 5, 6, 6, 8, 9, 0, 0],
         ),
     ] {
         let mut store = versions_of(rt.alloc(), versions)?;
@@ -257,6 +259,51 @@ fn one_version_takes_two_searches_and_a_thousand_sixteen(rt: HostRuntime) -> Res
         let mut store = Metered::new(&mut inner);
         assert_eq!(rt; made_by(version_at(&mut store, &at, Id(as_of))?), wanted);
         assert!(rt; store.searches <= 16, "{as_of}");
+    }
+    Ok(())
+}
+
+// A store with a subject that came and went so many times, each time for one id, from id 10 on.
+fn came_and_went(alloc: Global, about: &Base, times: u64) -> Result<MemStore, Fail> {
+    let mut store = MemStore::new(alloc, 0);
+    let mut id: u64 = 10;
+    for _ in 0..times {
+        let base = Base {
+            create: id,
+            delete: id.saturating_add(1),
+            ..*about
+        };
+        let element = Element {
+            base,
+            payload: HOff::default(),
+            len: 32,
+        };
+        put(&mut store, &element)?;
+        id = id.saturating_add(2);
+    }
+    Ok(store)
+}
+
+#[test]
+fn what_came_and_went_2000_times_takes_17_searches(rt: HostRuntime) -> Result<(), Fail> {
+    for about in [
+        entry(OTHER_PART, 2, 20, 0, 0).base,
+        inode_base(Pfs(0), Obj(2)),
+        target_base(Pfs(0), Obj(2)),
+    ] {
+        let mut inner = came_and_went(rt.alloc(), &about, 2_000)?;
+        for (as_of, wanted) in [
+            (9, 0),
+            (10, 10),
+            (11, 0),
+            (2_010, 2_010),
+            (2_011, 0),
+            (9_999, 0),
+        ] {
+            let mut store = Metered::new(&mut inner);
+            assert_eq!(rt; made_by(version_at(&mut store, &about, Id(as_of))?), wanted);
+            assert!(rt; store.searches <= 17, "{as_of}");
+        }
     }
     Ok(())
 }

@@ -16,8 +16,8 @@ use Rattle.hm_key.specs.Versions.{HaveOwnKeys, is_about}
 use Rattle.hm_records.specs.Changes.{CountsNothing, HasInode}
 use Rattle.hm_records.specs.Inode.{inode_bytes}
 use Rattle.hm_records.specs.Laws.{HasView, made_of}
-use Rattle.hm_records.specs.PlainView.{IsAtLeast, IsEarlierEnd, IsLess, IsNewerVersion, IsNewest, IsNewestSince, IsNextEnd}
-use Rattle.hm_records.specs.View.{AreFileBytes, IsFileByte, IsObject, IsTargetOf, IsViewOf, held as stands, missing}
+use Rattle.hm_records.specs.PlainView.{IsCounted}
+use Rattle.hm_records.specs.View.{AreFileBytes, IsFileByte, IsObject, IsTargetOf, IsViewOf, covered, held as stands, hole, missing, past}
 use Rattle.hm_records.specs.declared.inode.Inode.{Inode}
 use Rattle.hm_records.specs.declared.kind.TheConstants.{DIRECTORY, FILE, SOFTLINK}
 use Rattle.hm_records.proofs.ChangeLemmas.{about_is, is_about_of}
@@ -26,153 +26,37 @@ use Rattle.hm_records.proofs.LookupLemmas.{found_is_object, object_is_found}
 use Rattle.hm_records.proofs.MadeLemmas.{directory_made, file_made, no_bytes, pfs_link_made, softlink_made}
 use Rattle.hm_records.proofs.MemberLemmas.{has_none}
 use Rattle.hm_records.proofs.ObjectLemmas.{inode_one}
-use Rattle.hm_records.proofs.PlainLemmas.{byte_covered, byte_in_hole, byte_past, bytes_more, end_passed, end_seen, end_taken, newest_counts, newest_none, newest_passed, newest_taken, unseen_none}
+use Rattle.hm_records.proofs.PlainLemmas.{bytes_more}
+use Rattle.hm_records.proofs.SearchLemmas.{counted_of, first_or_none}
 use Rattle.hm_volume.specs.Found.{IsMadeBy}
 
--- a statement holds, or it does not
-abbrev Either : Type 0 → Type 0
-Either P = P ⊎ (P → ⊥)
-
-both : {P Q : Type 0} → Either P → Either Q → Either (P × Q)
-both (inl p) (inl q) = inl (p, q)
-both (inl p) (inr not) = inr (λ held. not held.1)
-both (inr not) q = inr (λ held. not held.0)
-
-is_below : (a b : ℕ) → Either (a < b)
-is_below a b = elim (cases_lt a b) [ inl less ↦ inl less | inr from ↦ inr (λ less. absurd (omega arith)) ]
-
-is_at_most : (a b : ℕ) → Either (a ≤ b)
-is_at_most a b = elim (cases_lt b a) [ inl less ↦ inr (λ le. absurd (omega arith)) | inr le ↦ inl le ]
-
-is_of : (s : Subject) (e : FullElement) → Either (subject_of e.key ≡ s)
-is_of s e = by_test (is_about s e.key) refl where
-  by_test : (b : Bool) → is_about s e.key ≡ b → Either (subject_of e.key ≡ s)
-  by_test true is = inl (about_is s e.key is)
-  by_test false is = inr (λ about. false≢true (sym is ∙ is_about_of s e.key about))
-
-is_seen : (t : ℕ) (e : FullElement) → Either (IsSeen t e)
-is_seen t e = both (is_at_most e.key.create t) (elim (cases_eq e.delete 0) [
-  | inl unclosed ↦ inl (inl unclosed)
-  | inr closed ↦ elim (is_below t e.delete) [
-    | inl later ↦ inl (inr later)
-    | inr not ↦ inr (λ seen. elim seen [ inl unclosed ↦ closed unclosed | inr later ↦ not later ])
-  ]
-])
-
--- ---- the newest version of a subject
-
-is_from : (n : ℕ) (since : Option ℕ) → Either (IsAtLeast n since)
-is_from n None = inl tt
-is_from n (Some other) = is_at_most other n
-
-is_newer : (t : ℕ) (s : Subject) (since : Option ℕ) (e : FullElement) → Either (IsNewerVersion t s since e)
-is_newer t s since e = elim (both (is_of s e) (both (is_seen t e) (is_from e.key.create since))) [
-  | inl held ↦ inl (record { about = held.0; seen = held.1.0; newer = held.1.1 })
-  | inr not ↦ inr (λ newer. not (newer.about, (newer.seen, newer.newer)))
-]
-
--- some element, where a list has none at a place
-no_element : FullElement
-no_element = record {
-  key = record { localization = 0; obj = 0; rec_type = 0; key = 0; create = 0 };
-  delete = 0;
-  obj_type = 0;
-  bytes = [];
-}
-
-next : (i : ℕ) → i + 1 ≡ suc i
-next i = omega arith
-
 module _ (es : List FullElement) (t : ℕ) where
-  abbrev Newest : Subject → ℕ → Type 0
-  Newest s i = (e : Option FullElement) × (since : Option ℕ) × IsNewestSince (take i es) t s e since
-
-  newest_to : (s : Subject) (i : ℕ) → i ≤ length es → Newest s i
-  newest_to s zero within = (None, None, newest_none t s)
-  newest_to s (suc i) within =
-      let below : i < length es = omega arith in
-      let x : FullElement = get_or es i no_element in
-      let is : x ≡ get_or es i x = get_or_default es i no_element x below in
-      let (e, since, held) = newest_to s i (omega arith) in
-      subst (λ (k : ℕ). Newest s k) (next i) (elim (is_newer t s since x) [
-        | inl newer ↦ (Some x, Some x.key.create, newest_taken es i t s x below is e since held newer)
-        | inr not ↦ (e, since, newest_passed es i t s x below is e since held not)
-      ])
-
-  newest : (s : Subject) → (e : Option FullElement) × IsNewest es t s e
-  newest s =
-      let (e, since, held) = newest_to s (length es) (omega arith) in
-      (e, subst (λ (list : List FullElement). IsNewest list t s e) (take_all (length es) es (omega arith)) held.newest)
-
   -- ---- the bytes of a file
 
   module _ (pfs obj : ℕ) where
-    is_less : (n : ℕ) (other : Option ℕ) → Either (IsLess n other)
-    is_less n None = inl tt
-    is_less n (Some other) = is_below n other
-
-    is_earlier : (place : ℕ) (end : Option ℕ) (e : FullElement) → Either (IsEarlierEnd t pfs obj place end e)
-    is_earlier place end e =
-        elim (both (is_below place e.key.key) (both (is_of (bytes_subject pfs obj e.key.key) e) (both (is_seen t e) (is_less e.key.key end)))) [
-          | inl held ↦ inl (record { after = held.0; about = held.1.0; seen = held.1.1.0; before = held.1.1.1 })
-          | inr not ↦ inr (λ earlier. not (earlier.after, (earlier.about, (earlier.seen, earlier.before))))
-        ]
-
-    abbrev NextEnd : ℕ → ℕ → Type 0
-    NextEnd place i = (end : Option ℕ) × IsNextEnd (take i es) t pfs obj place end
-
-    end_to : (place i : ℕ) → i ≤ length es → NextEnd place i
-    end_to place zero within = (None, λ other e has about seen after. has_none e has)
-    end_to place (suc i) within =
-        let below : i < length es = omega arith in
-        let x : FullElement = get_or es i no_element in
-        let is : x ≡ get_or es i x = get_or_default es i no_element x below in
-        let (end, held) = end_to place i (omega arith) in
-        subst (λ (k : ℕ). NextEnd place k) (next i) (elim (is_earlier place end x) [
-          | inl earlier ↦ (Some x.key.key, end_taken es i t pfs obj place x below is end held earlier)
-          | inr not ↦ (end, end_passed es i t pfs obj place x below is end held not)
-        ])
-
-    next_end : (place : ℕ) → (end : Option ℕ) × IsNextEnd es t pfs obj place end
-    next_end place =
-        let (end, held) = end_to place (length es) (omega arith) in
-        (end, subst (λ (list : List FullElement). IsNextEnd list t pfs obj place end) (take_all (length es) es (omega arith)) held)
-
     byte : (place : ℕ) → (b : ℕ) × IsFileByte (Counts es t) pfs obj place b
-    byte place = by_end (next_end place).0 (next_end place).1 where
-      by_bytes : (end : ℕ) → IsNextEnd es t pfs obj place (Some end) → (e : Option FullElement) → IsNewest es t (bytes_subject pfs obj end) e
-          → (b : ℕ) × IsFileByte (Counts es t) pfs obj place b
-      by_bytes end least None none = absurd (end_seen es t pfs obj place end least none)
-      by_bytes end least (Some e) is =
-          let counts = newest_counts es t (bytes_subject pfs obj end) e is in
-          elim (is_at_most (end - place) (length e.bytes)) [
-            | inl enough ↦ (slice_index e.bytes (length e.bytes - (end - place)), byte_covered es t pfs obj place end e.bytes least counts enough)
-            | inr short ↦ (
-              0,
-              byte_in_hole es t pfs obj place end e.bytes least counts (elim (cases_lt (length e.bytes) (end - place)) [
-                | inl less ↦ less
-                | inr le ↦ absurd (short le)
-              ]),
-            )
-          ]
-
-      by_end : (end : Option ℕ) → IsNextEnd es t pfs obj place end → (b : ℕ) × IsFileByte (Counts es t) pfs obj place b
-      by_end None none = (0, byte_past es t pfs obj place none)
-      by_end (Some end) least = let (e, is) = newest (bytes_subject pfs obj end) in by_bytes end least e is
+    byte place = elim (first_or_none es t pfs obj place) [
+      | inl none ↦ (0, past none refl)
+      | inr (end, bytes, first) ↦ elim (cases_lt (place + length bytes) end) [
+        | inl short ↦ (0, hole end bytes first short refl)
+        | inr enough ↦ (slice_index bytes (place + length bytes - end), covered end bytes first enough refl)
+      ]
+    ]
 
     file_bytes : (size : ℕ) → (bytes : List ℕ) × AreFileBytes (Counts es t) pfs obj size bytes
     file_bytes zero = ([], no_bytes pfs obj 0 (Counts es t) refl)
     file_bytes (suc n) =
         let (bytes, are) = file_bytes n in
         let (b, is) = byte n in
-        subst (λ (size : ℕ). (bytes : List ℕ) × AreFileBytes (Counts es t) pfs obj size bytes) (next n)
+        let next : n + 1 ≡ suc n = omega arith in
+        subst (λ (size : ℕ). (bytes : List ℕ) × AreFileBytes (Counts es t) pfs obj size bytes) next
         (bytes ++ b ∷ [], bytes_more es t pfs obj n b bytes are is)
 
     target : (text : List ℕ) × IsTargetOf (Counts es t) pfs obj text
-    target = by_newest (newest (target_subject pfs obj)).0 (newest (target_subject pfs obj)).1 where
-      by_newest : (e : Option FullElement) → IsNewest es t (target_subject pfs obj) e → (text : List ℕ) × IsTargetOf (Counts es t) pfs obj text
-      by_newest None none = ([], missing (unseen_none es t (target_subject pfs obj) none) refl)
-      by_newest (Some e) is = (e.bytes, stands (newest_counts es t (target_subject pfs obj) e is))
+    target = by_counted (counted_of es t (target_subject pfs obj)).0 (counted_of es t (target_subject pfs obj)).1 where
+      by_counted : (bytes : Option (List ℕ)) → IsCounted es t (target_subject pfs obj) bytes → (text : List ℕ) × IsTargetOf (Counts es t) pfs obj text
+      by_counted None none = ([], missing none refl)
+      by_counted (Some bytes) counts = (bytes, stands counts)
 
   -- ---- objects
 

@@ -49,7 +49,8 @@ fn held_by(
     inode: &Inode,
     id: u64,
 ) -> Result<(Kind, Content), NoMemory>
-    requires { IsInode inode.now }
+    requires inode { IsInode inode.now }
+    requires own { HaveOwnKeys elements.now }
     ensures { IfOk result (λ held.
         IsHeldAs (Counts elements.now id) pfs.0 number.0 inode.now held.0 held.1) }
 {
@@ -75,6 +76,7 @@ fn target(
     number: Obj,
     id: u64,
 ) -> Result<Text, NoMemory>
+    requires { HaveOwnKeys elements.now }
     ensures { IfOk result (IsTargetOf (Counts elements.now id) pfs.0 number.0) }
 {
     match counted(elements, &target_of(pfs, number), id) {

@@ -116,7 +116,7 @@ fn has_key(elements: &[FullElement], element: &FullElement) -> bool
     elements.iter().any(|e| e.is_at(element))
 }
 
-/// The newest version of a subject that is seen as of an id, if one is.
+/// The newest version of a subject that was made by an id, if one was.
 fn newest<'a>(elements: &'a [FullElement], subject: &Subject, id: u64) -> Option<&'a FullElement>
     ensures { IsNewest elements.now id subject.now (option_copied result) }
 {
@@ -131,11 +131,12 @@ fn newest<'a>(elements: &'a [FullElement], subject: &Subject, id: u64) -> Option
     newest
 }
 
-// Whether an element is a version of the subject that is seen, and at least as new as an id.
+// Whether an element is a version of the subject that was made by an id, and at least as new as
+// another one.
 fn is_newer_version(element: &FullElement, subject: &Subject, id: u64, since: Option<u64>) -> bool
     ensures { IsTrue result ↔ IsNewerVersion id subject.now since element.now }
 {
-    element.is_about(subject) && element.is_seen(id) && is_from(element.create(), since)
+    element.is_about(subject) && element.create() <= id && is_from(element.create(), since)
 }
 
 // Whether a number is at least another one, or there is no other.
@@ -148,16 +149,21 @@ fn is_from(number: u64, other: Option<u64>) -> bool
     }
 }
 
-/// The bytes that count for a subject as of an id, if any do.
+/// The bytes that count for a subject as of an id, if any do: those of its newest version that was
+/// made by then, where it is seen then.
 pub(crate) fn counted<'a>(
     elements: &'a [FullElement],
     subject: &Subject,
     id: u64,
 ) -> Option<&'a [u8]>
+    requires { HaveOwnKeys elements.now }
     ensures { IsCounted elements.now id subject.now (option_copied result) }
 {
-    match newest(elements, subject, id) {
-        Some(element) => Some(element.bytes()),
-        None => None,
+    let Some(element) = newest(elements, subject, id) else {
+        return None;
+    };
+    if !element.is_seen(id) {
+        return None;
     }
+    Some(element.bytes())
 }

@@ -5,18 +5,21 @@ ghost use Rattle.hm_types.specs.Elements.{FullElement};
 ghost use Rattle.hm_key.specs.Counts.{Counts, IsSeen, Subject, subject_of};
 ghost use Rattle.hm_key.specs.Versions.{Adds, Closes, HaveOwnKeys, IsBelow, TakesOut, Replaces};
 ghost use Rattle.hm_records.specs.Changes.{CountSame, Overrides};
+ghost use Rattle.hm_records.specs.Follows.{VersionsFollow};
 ghost use Rattle.hm_records.specs.Laws.{IsUpTo};
 
 /// As of an id below that of a change the same counts as before: below the one that made an added
 /// element, and below the one at which elements were closed. As of an id that did not see it, an
-/// element that is taken out is not missed.
+/// element that is taken out is not missed, where the versions of what it is about follow one
+/// another.
 pub fn changes_leave_the_past()
     ensures adds { (e : FullElement) (es es' : List FullElement) (t : ℕ) → Adds e es es' →
         t < e.key.create → CountSame (Counts es t) (Counts es' t) }
     ensures closes { (s : Subject) (i : ℕ) (es es' : List FullElement) (t : ℕ) →
         Closes s i es es' → t < i → CountSame (Counts es t) (Counts es' t) }
     ensures takes_out { (e : FullElement) (es es' : List FullElement) (t : ℕ) →
-        TakesOut e es es' → (IsSeen t e → ⊥) → CountSame (Counts es t) (Counts es' t) }
+        VersionsFollow (subject_of e.key) t es → TakesOut e es es' →
+        (IsSeen t e → ⊥) → CountSame (Counts es t) (Counts es' t) }
 {}
 
 /// From its id on an open element that is newer than all others counts for what it is about, and

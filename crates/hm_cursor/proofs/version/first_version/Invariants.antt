@@ -5,7 +5,7 @@ use Rattle.hm_key.specs.Stores.{Same}
 use Rattle.hm_cursor.proofs.SpanLemmas.{NoneBelow}
 use Rattle.hm_cursor.proofs.version.first_version.Given as goal
 
--- nothing is seen in the span below `key`
+-- nothing counts in the span below `key`
 abbrev pub invariant-loop-key : goal.invariant-loop-key
 invariant-loop-key g l = record {
   low : l.fn.at.key ≤ l.key;

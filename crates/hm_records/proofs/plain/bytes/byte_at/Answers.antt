@@ -1,7 +1,7 @@
 use Rattle.std.proofs.Common.{subst}
 use Rattle.hm_key.specs.Counts.{Counts, Subject}
-use Rattle.hm_records.specs.PlainView.{IsUnseen}
-use Rattle.hm_records.proofs.PlainLemmas.{byte_covered, byte_in_hole, byte_past, end_seen}
+use Rattle.hm_records.specs.Changes.{CountsNothing}
+use Rattle.hm_records.proofs.PlainLemmas.{byte_covered, byte_in_hole, byte_past, end_counts}
 use Rattle.hm_records.proofs.plain.bytes.byte_at.Goals as goal
 
 pub returns-in_default : goal.returns-in_default
@@ -9,8 +9,8 @@ returns-in_default c = byte_past c.args.elements.now c.args.id c.args.pfs.0 c.ar
 
 pub returns-in_default-counted : goal.returns-in_default-counted
 returns-in_default-counted c =
-    absurd (end_seen c.args.elements.now c.args.id c.args.pfs.0 c.args.obj.0 c.args.place c.in-Some.end c.in-Some.ensures
-    (subst (λ (s : Subject). IsUnseen c.args.elements.now c.args.id s) c.bytes_before.ensures c.in_default-counted.ensures))
+    absurd (end_counts c.args.elements.now c.args.id c.args.pfs.0 c.args.obj.0 c.args.place c.in-Some.end c.in-Some.ensures
+    (subst (λ (s : Subject). CountsNothing (Counts c.args.elements.now c.args.id) s) c.bytes_before.ensures c.in_default-counted.ensures))
 
 pub returns-then-left-bytes : goal.returns-then-left-bytes
 returns-then-left-bytes c =

@@ -2,6 +2,7 @@ use Rattle.std.proofs.Common.{List, sym, subst, ◌∙◌}
 use Rattle.std.proofs.lemmas.Bool.{false≢true}
 use Rattle.std.proofs.lemmas.List.{take_all}
 use Rattle.hm_types.specs.Elements.{FullElement}
+use Rattle.hm_key.specs.Counts.{Counts}
 use Rattle.hm_records.specs.PlainView.{IsNextEnd}
 use Rattle.hm_records.proofs.PlainLemmas.{end_passed, end_taken}
 use Rattle.hm_records.proofs.plain.bytes.next_end.Goals as goal
@@ -11,16 +12,16 @@ pub loop-element-preserved : goal.loop-element-preserved
 loop-element-preserved c = elim c.if-is_earlier_end.branch [
   | then-is_earlier_end w ↦
       rw (w.next-is, w.key.ensures)
-      (end_taken c.args.elements.now c.loop-element.element-index c.args.id c.args.pfs.0 c.args.obj.0 c.args.place c.element-item.result c.loop-element-test.true c.element-item.is
+      (end_taken (Counts c.args.elements.now c.args.id) c.args.elements.now c.loop-element.element-index c.args.pfs.0 c.args.obj.0 c.args.place c.element-item.result c.loop-element-test.true c.element-item.is
       c.loop-element.next c.loop-element.invariant (c.is_earlier_end.ensures.0 w.if-is_earlier_end.true))
   | else-is_earlier_end w ↦
       rw w.next-is
-      (end_passed c.args.elements.now c.loop-element.element-index c.args.id c.args.pfs.0 c.args.obj.0 c.args.place c.element-item.result c.loop-element-test.true c.element-item.is
+      (end_passed (Counts c.args.elements.now c.args.id) c.args.elements.now c.loop-element.element-index c.args.pfs.0 c.args.obj.0 c.args.place c.element-item.result c.loop-element-test.true c.element-item.is
       c.loop-element.next c.loop-element.invariant
       (λ held. false≢true (sym w.if-is_earlier_end.false ∙ c.is_earlier_end.ensures.1 held)))
 ]
 
 pub returns : goal.returns
 returns c =
-    subst (λ (es : List FullElement). IsNextEnd es c.args.id c.args.pfs.0 c.args.obj.0 c.args.place c.loop-element.next)
+    subst (λ (es : List FullElement). IsNextEnd (Counts c.args.elements.now c.args.id) c.args.pfs.0 c.args.obj.0 c.args.place es c.loop-element.next)
     (take_all c.loop-element.element-index c.args.elements.now c.loop-element-test.false) c.loop-element.invariant

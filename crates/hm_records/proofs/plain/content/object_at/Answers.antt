@@ -1,13 +1,13 @@
 use Rattle.std.proofs.Common.{subst}
 use Rattle.hm_key.specs.Counts.{Counts, Subject}
-use Rattle.hm_records.specs.PlainView.{IsUnseen}
+use Rattle.hm_records.specs.Changes.{CountsNothing}
 use Rattle.hm_records.proofs.PlainLemmas.{no_inode_at, no_object_at}
 use Rattle.hm_records.proofs.plain.content.object_at.Goals as goal
 
 pub returns-in_default : goal.returns-in_default
 returns-in_default c =
     no_object_at c.args.elements.now c.args.id c.args.pfs.0 c.args.number.0
-    (subst (λ (s : Subject). IsUnseen c.args.elements.now c.args.id s) c.inode_of.ensures c.in_default.ensures)
+    (subst (λ (s : Subject). CountsNothing (Counts c.args.elements.now c.args.id) s) c.inode_of.ensures c.in_default.ensures)
 
 pub returns-in_default-decode_inode : goal.returns-in_default-decode_inode
 returns-in_default-decode_inode c =

@@ -4,10 +4,16 @@ use Rattle.hm_types.specs.declared.fault.Fault.{Fault}
 use Rattle.hm_types.specs.declared.fault.Fault.TheVariants.{NoMemory}
 use Rattle.hm_records.specs.declared.entry.DirEntry.{DirEntry}
 use Rattle.hm_key.specs.Counts.{Counts, Subject}
+use Rattle.hm_records.specs.Changes.{CountsNothing}
 use Rattle.hm_records.specs.Faults.{Reads}
 use Rattle.hm_records.specs.PlainView.{IsEntryAt}
-use Rattle.hm_records.proofs.PlainTreeLemmas.{no_bytes_at, ok_weaker}
+use Rattle.hm_records.proofs.PlainTreeLemmas.{no_bytes_at, no_entry_at, ok_weaker}
 use Rattle.hm_records.proofs.plain.names.entry_at.Goals as goal
+
+pub returns-in_default : goal.returns-in_default
+returns-in_default c =
+    no_entry_at c.args.elements.now c.args.id c.args.pfs.0 c.args.directory c.args.key
+    (subst (λ (s : Subject). CountsNothing (Counts c.args.elements.now c.args.id) s) c.entry_of.ensures c.in_default.ensures)
 
 pub returns-in-Err : goal.returns-in-Err
 returns-in-Err c =
