@@ -8,6 +8,8 @@
 #[cfg(test)]
 mod damage_tests;
 #[cfg(test)]
+mod deep_tests;
+#[cfg(test)]
 mod last_tests;
 #[cfg(test)]
 mod tests;
