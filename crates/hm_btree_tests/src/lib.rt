@@ -1,5 +1,5 @@
-//! Tests of `hm_btree`: the tree beside an ordered map, what its calls read and write, and bad
-//! pages.
+//! Tests of `hm_btree`: the tree beside an ordered map, what its calls read and write, the last
+//! element up to each key, and bad pages.
 //!
 //! They stand in a crate of their own, so that the proofs of the tree are not done once more with
 //! them.
@@ -7,5 +7,9 @@
 
 #[cfg(test)]
 mod damage_tests;
+#[cfg(test)]
+mod deep_tests;
+#[cfg(test)]
+mod last_tests;
 #[cfg(test)]
 mod tests;

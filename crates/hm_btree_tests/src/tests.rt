@@ -414,6 +414,7 @@ fn a_child_that_is_its_parent_is_damage(rt: HostRuntime) -> Result<(), Fail> {
     let at = e.base;
     let mut tree = looped(alloc)?;
     assert_eq!(rt; tree.first_at_or_after(&at), Err(damage(&tree)));
+    assert_eq!(rt; tree.last_at_or_before(&at), Err(damage(&tree)));
     assert_eq!(rt; tree.unchanged_until(&at, Id(0)), Err(damage(&tree)));
     assert_eq!(rt; insert(&mut tree, &e), Err(damage(&tree)));
     let mut tree = looped(alloc)?;
@@ -456,6 +457,7 @@ fn a_tree_whose_change_failed_is_changed_no_more(rt: HostRuntime) -> Result<(), 
             Err(Fault::NoMemory)
         );
         assert_eq!(rt; tree.first_at_or_after(&e.base), Err(Fault::NoMemory));
+        assert_eq!(rt; tree.last_at_or_before(&e.base), Err(Fault::NoMemory));
         assert_eq!(rt; tree.unchanged_until(&e.base, Id(1)), Err(Fault::NoMemory));
     }
     Ok(())
@@ -478,6 +480,7 @@ fn a_root_that_no_node_can_be_is_neither_changed_nor_searched(rt: HostRuntime) -
         Err(Fault::NoMemory)
     );
     assert_eq!(rt; tree.first_at_or_after(&e.base), Err(Fault::NoMemory));
+    assert_eq!(rt; tree.last_at_or_before(&e.base), Err(Fault::NoMemory));
     assert_eq!(rt; tree.unchanged_until(&e.base, Id(1)), Err(Fault::NoMemory));
     Ok(())
 }

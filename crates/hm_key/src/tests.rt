@@ -92,18 +92,25 @@ fn keeps_elements_in_the_order_of_their_keys(rt: HostRuntime) -> Result<(), Fail
 }
 
 #[test]
-fn finds_the_first_element_from_a_key_on(rt: HostRuntime) -> Result<(), Fail> {
+fn finds_the_first_element_from_a_key_on_and_the_last_up_to_it(
+    rt: HostRuntime,
+) -> Result<(), Fail> {
     let mut store = store_of(rt.alloc(), 0, &[10, 20, 30])?;
-    for (at, wanted) in [
-        (Base::least(), Some(entry(2, 10, 5))),
-        (entry(2, 10, 5).base, Some(entry(2, 10, 5))),
-        (entry(2, 10, 6).base, Some(entry(2, 20, 6))),
-        (entry(2, 21, 0).base, Some(entry(2, 30, 7))),
-        (entry(2, 30, 8).base, None),
-        (entry(3, 0, 0).base, None),
-        (Base::greatest(), None),
+    let (ten, twenty, thirty) = (entry(2, 10, 5), entry(2, 20, 6), entry(2, 30, 7));
+    for (at, first, last) in [
+        (Base::least(), Some(ten), None),
+        (entry(2, 10, 4).base, Some(ten), None),
+        (ten.base, Some(ten), Some(ten)),
+        (entry(2, 10, 6).base, Some(twenty), Some(ten)),
+        (twenty.base, Some(twenty), Some(twenty)),
+        (entry(2, 21, 0).base, Some(thirty), Some(twenty)),
+        (thirty.base, Some(thirty), Some(thirty)),
+        (entry(2, 30, 8).base, None, Some(thirty)),
+        (entry(3, 0, 0).base, None, Some(thirty)),
+        (Base::greatest(), None, Some(thirty)),
     ] {
-        assert_eq!(rt; store.first_at_or_after(&at)?, wanted, "{at:?}");
+        assert_eq!(rt; store.first_at_or_after(&at)?, first, "{at:?}");
+        assert_eq!(rt; store.last_at_or_before(&at)?, last, "{at:?}");
     }
     Ok(())
 }

@@ -14,7 +14,7 @@ use Rattle.hm_node.specs.declared.node.Node.TheVariants.{Inner as inner_node}
 use Rattle.hm_search.specs.Descent.{StandsHere, levels_under, levels_below, LeadsTo, Descends, IsFaultBelow}
 use Rattle.hm_search.specs.Descent.{PassesHere, GoesTo, Goes, IsUnmetBelow, HasSearchCause}
 use Rattle.hm_search.specs.Place.{Fits, FitsLevel, MeetsBy, TellsDamage, TellsUnmet}
-use Rattle.hm_search.specs.Tree.{node_at, children_of, IsTree, IsStoredTree}
+use Rattle.hm_search.specs.Tree.{node_at, children_of, root_place, IsTree, IsStoredTree}
 use Rattle.hm_search.specs.declared.place_rule.PlaceRule.{PlaceRule}
 use Rattle.hm_search.specs.declared.place_rule.PlaceRule.TheVariants.{Level}
 use Rattle.hm_search.specs.declared.subtree.Parent.{Parent}
@@ -87,6 +87,15 @@ goes_lower s inner i child level meets is = by_parent s.parent (meets Level) whe
   by_parent : (p : Option Parent) → FitsLevel p (inner_node inner) → levels_below child < levels_under p
   by_parent None fits = omega (arith, child_parent inner i child is, level.1)
   by_parent (Some p) fits = omega (arith, child_parent inner i child is, fits)
+
+-- and it has two at least, as its parent's level is
+pub child_levels : (inner : Inner) (i : ℕ) (child : Subtree) → HasLevel (inner_node inner) → slice_get (children_of inner) i ≡ Some child
+    → 2 ≤ levels_below child
+child_levels inner i child level is = omega (arith, child_parent inner i child is, level.0)
+
+-- the levels of a root, with one more
+pub root_levels : (s : Subtree) (root : ℕ) → s ≡ root_place root → levels_below s ≡ 10
+root_levels s root is = ap levels_below is
 
 -- a fault at the place itself, and one further down
 pub unmet_here : (map : PageMap) (s : Subtree) (fault : Fault) → TellsUnmet s (map s.at) fault → IsUnmetBelow map s fault

@@ -1,5 +1,6 @@
 -- The last element up to a key, among those of several children.
-use Rattle.std.proofs.Common.{◌≡◌, Bool, true, false, true≢false, ℕ, zero, suc, ◌≤◌, List, [], ◌∷◌, ◌++◌, length, take, drop, refl, sym, ap, subst, ◌∙◌, arith, if◌then◌else◌}
+use Rattle.std.proofs.Common.{◌≡◌, Bool, true, false, true≢false, ℕ, zero, suc, ◌≤◌, List, [], ◌∷◌, ◌++◌, length}
+use Rattle.std.proofs.Common.{take, refl, sym, ap, subst, ◌∙◌, arith, if◌then◌else◌}
 use Rattle.std.specs.Prelude.{Option, Some, None, slice_get}
 use Rattle.std.specs.List.{AllByRecursion}
 use Rattle.std.specs.List.Sorted.{IsStrictlySortedBy}
@@ -66,7 +67,8 @@ before_some xs zero x is = absurd cc
 before_some xs (suc k) x is = (k, refl, is)
 
 -- the child that holds a key begins by it, unless it is the first
-pub holder_begins : (key : Key) (cs : List Child) (d : Child) → slice_get cs (holder_place key cs) ≡ Some d → 1 ≤ holder_place key cs → IsFrom (key_of d.left) key
+pub holder_begins : (key : Key) (cs : List Child) (d : Child) → slice_get cs (holder_place key cs) ≡ Some d → 1 ≤ holder_place key cs
+    → IsFrom (key_of d.left) key
 holder_begins key [] d get some = absurd cc
 holder_begins key (c ∷ cs) d get some = begins c cs d get some where
   begins : (c : Child) (cs : List Child) (d : Child) → slice_get (c ∷ cs) (begun key cs) ≡ Some d → 1 ≤ begun key cs → IsFrom (key_of d.left) key
@@ -102,7 +104,8 @@ module _ (els : ℕ → List Element) (level : ℕ) (right : Base) where
       ≡ option_or (last_to key (els d.child)) (last_to key (all_of els level right (take (begun key cs) (c ∷ cs))))
   left_out key c [] d sorted inside get = let same : c ≡ d = cc in
       ap (λ (x : Child). last_to key (els x.child ++ [])) same ∙ last_append key (els d.child) [] ∙ sym (or_none (last_to key (els d.child)))
-  left_out key c (e ∷ cs) d sorted inside get = by_test (starts_after key e) refl get (left_out key e cs d (later_sorted right c (e ∷ cs) sorted) inside.1) where
+  left_out key c (e ∷ cs) d sorted inside get =
+      by_test (starts_after key e) refl get (left_out key e cs d (later_sorted right c (e ∷ cs) sorted) inside.1) where
     by_test : (b : Bool) → starts_after key e ≡ b → slice_get (c ∷ e ∷ cs) (if b then 0 else suc (begun key cs)) ≡ Some d
         → (slice_get (e ∷ cs) (begun key cs) ≡ Some d → last_to key (all_of els level right (e ∷ cs))
         ≡ option_or (last_to key (els d.child)) (last_to key (all_of els level right (take (begun key cs) (e ∷ cs)))))

@@ -1,5 +1,6 @@
 -- What is seen in a page by a search for the last element up to a key is what its node has.
-use Rattle.std.proofs.Common.{◌≡◌, Bool, true, false, not, true≢false, ℕ, zero, suc, ◌+◌, ◌-◌, ◌<◌, ◌≤◌, inl, inr, List, [], ◌∷◌, length, refl, sym, ap, subst, ◌∙◌, arith}
+use Rattle.std.proofs.Common.{◌≡◌, Bool, true, false, not, true≢false, ℕ, zero, suc, ◌+◌, ◌-◌, ◌<◌, ◌≤◌, inl, inr}
+use Rattle.std.proofs.Common.{List, [], ◌∷◌, length, refl, sym, ap, subst, ◌∙◌, arith}
 use Rattle.std.specs.Prelude.{Option, Some, None, IfSome, slice_get, slice_index_or, if◌then◌else◌}
 use Rattle.std.specs.List.{AllWithin}
 use Rattle.std.specs.List.Sorted.{IsStrictlySortedBy, IsPartitionedBy}
@@ -46,14 +47,16 @@ last_point key [] zero low passes fails = refl
 last_point key [] (suc i) low passes fails = absurd (omega arith)
 last_point key (e ∷ es) zero low passes fails =
     let here : stands_after key e ≡ true = turned (stands_after key e) (fails 0 e (omega arith) (omega arith)) in
-    let rest : last_to key es ≡ None = last_point key es 0 (omega arith) (λ k d a b. absurd (omega arith)) (λ k d a b. fails (suc k) d (omega arith) (omega arith)) in
+    let rest : last_to key es ≡ None = last_point key es 0 (omega arith)
+    (λ k d a b. absurd (omega arith)) (λ k d a b. fails (suc k) d (omega arith) (omega arith)) in
     rw (here, rest) refl where
       turned : (b : Bool) → not b ≡ false → b ≡ true
       turned true is = refl
       turned false is = absurd (true≢false is)
 last_point key (e ∷ es) (suc i) low passes fails =
     let here : stands_after key e ≡ false = turned (stands_after key e) (passes 0 e (omega arith) (omega arith)) in
-    let rest = last_point key es i (omega arith) (λ k d a b. passes (suc k) d (omega arith) (omega arith)) (λ k d a b. fails (suc k) d (omega arith) (omega arith)) in
+    let rest = last_point key es i (omega arith)
+    (λ k d a b. passes (suc k) d (omega arith) (omega arith)) (λ k d a b. fails (suc k) d (omega arith) (omega arith)) in
     rw (here, rest) (at_place e es i (omega arith)) where
       turned : (b : Bool) → not b ≡ true → b ≡ false
       turned true is = absurd (true≢false (sym is))

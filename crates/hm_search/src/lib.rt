@@ -8,6 +8,7 @@ mod look_to;
 mod place_rule;
 mod read;
 mod search;
+mod steps;
 mod subtree;
 #[cfg(test)]
 mod tests;
@@ -20,5 +21,6 @@ pub use laws::{
 pub use place_rule::PlaceRule;
 pub use read::{checked_node, read_node};
 pub use search::{Found, find, first_at_or_after, last_at_or_before, unchanged_until};
+pub use steps::Steps;
 pub use subtree::{Parent, Subtree};
 pub use visits::{child_below, holder_place_in, leaf_place_in, visit};

@@ -1,5 +1,5 @@
 // What a search for a key sees in the node of a place, read from its page: no node is built.
-ghost use Rattle.std.specs.Prelude.{◌≡◌, ◌≤◌, ◌<◌, ℕ, Some, IfSome, IfOk, IfErr, slice_get};
+ghost use Rattle.std.specs.Prelude.{◌≡◌, ◌≤◌, ◌<◌, ◌+◌, ℕ, Some, IfSome, IfOk, IfErr, slice_get};
 ghost use Rattle.hm_types.specs.Faults.{HasFaultCause};
 ghost use Rattle.hm_types.specs.Elements.{Key};
 ghost use Rattle.hm_key.specs.Key.{key_of};
@@ -18,11 +18,13 @@ ghost use Rattle.hm_search.specs.Tree.{children_of};
 ghost use Rattle.hm_search.specs.declared.place_rule.PlaceRule.{PlaceRule};
 
 use crate::read::damage;
+use crate::steps::Steps;
 use crate::subtree::{Parent, Subtree};
 use hm_fields::Page;
 use hm_key::{Base, Element};
 use hm_node::{Head, LEAF, NodePages, is_before, place, read_base, read_child, read_element};
 use hm_types::{Counted, Fault};
+use std::sync::ledger::Ledger;
 
 /// What a search for a key sees in a leaf.
 #[derive(Clone, Copy)]
@@ -67,13 +69,13 @@ pub(crate) trait Look {
 // What a search for the key of `at` sees in the node at a place: the page is looked at where it stands, and
 // read only where the space doesn't lend it. The shape of a page is believed, and the rules of the place
 // alone are checked: none of them at a cost that grows with the node.
-pub(crate) fn glance_at<P: NodePages, L: Look>(
+pub(crate) fn glance_at<P: NodePages, V: Look>(
     pages: &mut P,
     subtree: &Subtree,
     at: &Base,
-) -> Result<L, Fault>
+) -> Result<V, Fault>
     requires { IsNodeOffset subtree.now.at }
-    ensures sees { IfOk result (Glances L.shows subtree.now (P.pages pages.old) (key_of at.now)) }
+    ensures sees { IfOk result (Glances V.shows subtree.now (P.pages pages.old) (key_of at.now)) }
     ensures damage { IfSome (P.pages pages.old) (λ map.
         IfErr result (TellsUnmet subtree.now (map subtree.now.at))) }
     ensures same { Reads P.name P.frame P.rest P.pages pages.old pages.new }
@@ -85,15 +87,34 @@ pub(crate) fn glance_at<P: NodePages, L: Look>(
     }
 }
 
-// The same of a page that has to be read. A search that reads none has no buffer on its stack.
-#[inline(never)]
-fn read_and_glance<P: NodePages, L: Look>(
+// The same, with a step for the page.
+pub(crate) fn step_to<P: NodePages, L: Ledger>(
     pages: &mut P,
     subtree: &Subtree,
     at: &Base,
-) -> Result<L, Fault>
+    steps: &mut Steps<L>,
+) -> Result<Seen, Fault>
     requires { IsNodeOffset subtree.now.at }
-    ensures sees { IfOk result (Glances L.shows subtree.now (P.pages pages.old) (key_of at.now)) }
+    ensures sees { IfOk result (Glances Shows subtree.now (P.pages pages.old) (key_of at.now)) }
+    ensures step { steps.new ≡ steps.old + 1 }
+    ensures damage { IfSome (P.pages pages.old) (λ map.
+        IfErr result (TellsUnmet subtree.now (map subtree.now.at))) }
+    ensures same { Reads P.name P.frame P.rest P.pages pages.old pages.new }
+    ensures cause { HasFaultCause (P.faults pages.old) (P.faults pages.new) result }
+{
+    steps.tick();
+    glance_at::<P, Seen>(pages, subtree, at)
+}
+
+// The same of a page that has to be read. A search that reads none has no buffer on its stack.
+#[inline(never)]
+fn read_and_glance<P: NodePages, V: Look>(
+    pages: &mut P,
+    subtree: &Subtree,
+    at: &Base,
+) -> Result<V, Fault>
+    requires { IsNodeOffset subtree.now.at }
+    ensures sees { IfOk result (Glances V.shows subtree.now (P.pages pages.old) (key_of at.now)) }
     ensures damage { IfSome (P.pages pages.old) (λ map.
         IfErr result (TellsUnmet subtree.now (map subtree.now.at))) }
     ensures same { Reads P.name P.frame P.rest P.pages pages.old pages.new }
@@ -105,15 +126,15 @@ fn read_and_glance<P: NodePages, L: Look>(
 }
 
 // The same of the page in hand.
-fn glance<L: Look>(subtree: &Subtree, page: &Page, at: &Base) -> Result<L, Fault>
+fn glance<V: Look>(subtree: &Subtree, page: &Page, at: &Base) -> Result<V, Fault>
     requires { HoldsNode page.now }
     ensures meets { IfOk result (λ _. (rule : PlaceRule) →
         MeetsBy subtree.now (node_in page.now) rule) }
-    ensures shows { IfOk result (L.shows (key_of at.now) (node_in page.now)) }
+    ensures shows { IfOk result (V.shows (key_of at.now) (node_in page.now)) }
     ensures damage { IfErr result (IsUnmet subtree.now page.now) }
 {
     match subtree.first_unmet(page) {
-        None => Ok(L::see(page, at)),
+        None => Ok(V::see(page, at)),
         Some(rule) => Err(damage(subtree, rule.kind())),
     }
 }

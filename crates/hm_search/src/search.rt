@@ -1,22 +1,24 @@
 // Searches from the root of the tree down.
-ghost use Rattle.std.specs.Prelude.{◌≡◌, ℕ, IfSome, IfOk};
+ghost use Rattle.std.specs.Prelude.{◌≡◌, ◌+◌, ◌≤◌, ℕ, IfSome, IfOk};
 ghost use Rattle.hm_key.specs.Elements.{first_from, last_to};
 ghost use Rattle.hm_key.specs.Key.{key_of, greatest_key, IsBefore};
 ghost use Rattle.hm_key.specs.Marks.{IsQuiet};
 ghost use Rattle.hm_key.specs.Stores.{IsFound, IsFoundTo, IsEnd};
 ghost use Rattle.hm_node.specs.Inner.{IsNodeOffset};
-ghost use Rattle.hm_search.specs.Descent.{HasSearchCause, Reads};
+ghost use Rattle.hm_search.specs.Descent.{HasSearchCause, Reads, levels_below};
 ghost use Rattle.hm_search.specs.Look.{seen_mirror};
 ghost use Rattle.hm_search.specs.Search.{IsAsked, IsPlaceOf, IsQuietBy};
 ghost use Rattle.hm_search.specs.Tree.{node_at, elements_in, elements_of, mark_in, mark_of};
 ghost use Rattle.hm_search.specs.Tree.{height_of, root_place, IsStoredTree, IsSoundTree};
 
-use crate::look::{Seen, glance_at};
+use crate::look::{Seen, glance_at, step_to};
 use crate::look_to::SeenTo;
+use crate::steps::Steps;
 use crate::subtree::Subtree;
 use hm_key::{Base, Element};
 use hm_node::NodePages;
 use hm_types::{Counted, Fault, HOff, Id};
+use std::sync::ledger::Ledger;
 
 /// The place of a key: its leaf, and how many elements of the leaf stand before it.
 #[derive(Clone, Copy, Debug, PartialEq, Eq)]
@@ -27,16 +29,22 @@ pub struct Found {
 
 /// The leaf whose boundaries hold the key of `at`, and how many of its elements stand before the
 /// key. One node a level is read, and nothing changes.
-pub fn find<P: NodePages>(pages: &mut P, root: HOff, at: &Base) -> Result<Found, Fault>
+pub fn find<P: NodePages, L: Ledger>(
+    pages: &mut P,
+    root: HOff,
+    at: &Base,
+    steps: &mut Steps<L>,
+) -> Result<Found, Fault>
     requires { IsNodeOffset root }
     ensures ok { IfSome (P.pages pages.old) (λ map. IsSoundTree map root →
         IfOk result (IsPlaceOf map (height_of (node_at map root)) (root_place root)
         (key_of at.now))) }
+    ensures steps { steps.new ≤ steps.old + 9 }
     ensures same { Reads P.name P.frame P.rest P.pages pages.old pages.new }
     ensures cause { HasSearchCause (P.pages pages.old) (root_place root)
         (P.faults pages.old) (P.faults pages.new) result }
 {
-    find_below(pages, &Subtree::root(root), at)
+    find_below(pages, &Subtree::root(root), at, steps)
 }
 
 /// The first element at the key of `at` or after it, and None where no element is there. A node a
@@ -80,40 +88,49 @@ pub fn last_at_or_before<P: NodePages>(
 /// How far from the key of `at` on the marks are at most `since`: a boundary after that key,
 /// before which they all are, or None exactly where the key's own mark is above `since`. The search
 /// ends at the first node whose `mirror` is at most `since`, and nothing changes.
-pub fn unchanged_until<P: NodePages>(
+pub fn unchanged_until<P: NodePages, L: Ledger>(
     pages: &mut P,
     root: HOff,
     at: &Base,
     since: Id,
+    steps: &mut Steps<L>,
 ) -> Result<Option<Base>, Fault>
     requires root { IsNodeOffset root }
     requires before { IsBefore (key_of at.now) greatest_key }
     ensures ok { IfSome (P.pages pages.old) (λ map. IsSoundTree map root →
         IfOk result (IsQuiet (mark_of map root) (key_of at.now) since.0)) }
     ensures found { IfOk result (λ end. IfSome end (IsEnd (key_of at.now))) }
+    ensures steps { steps.new ≤ steps.old + 9 }
     ensures same { Reads P.name P.frame P.rest P.pages pages.old pages.new }
     ensures cause { HasSearchCause (P.pages pages.old) (root_place root)
         (P.faults pages.old) (P.faults pages.new) result }
 {
-    quiet_below(pages, &Subtree::root(root), at, since)
+    quiet_below(pages, &Subtree::root(root), at, since, steps)
 }
 
 // The place of a key in the tree below a place.
-fn find_below<P: NodePages>(pages: &mut P, subtree: &Subtree, at: &Base) -> Result<Found, Fault>
-    requires { IsNodeOffset subtree.now.at }
+fn find_below<P: NodePages, L: Ledger>(
+    pages: &mut P,
+    subtree: &Subtree,
+    at: &Base,
+    steps: &mut Steps<L>,
+) -> Result<Found, Fault>
+    requires spot { IsNodeOffset subtree.now.at }
+    requires levels { 2 ≤ levels_below subtree.now }
     ensures ok { IfSome (P.pages pages.old) (λ map. (height : ℕ) →
         IsStoredTree map height subtree.now →
         IfOk result (IsPlaceOf map height subtree.now (key_of at.now))) }
+    ensures steps { steps.new + 1 ≤ steps.old + levels_below subtree.now }
     ensures same { Reads P.name P.frame P.rest P.pages pages.old pages.new }
     ensures cause { HasSearchCause (P.pages pages.old) subtree.now
         (P.faults pages.old) (P.faults pages.new) result }
 {
-    match glance_at::<P, Seen>(pages, subtree, at)? {
+    match step_to(pages, subtree, at, steps)? {
         Seen::Leaf(leaf) => Ok(Found {
             leaf: subtree.at,
             place: leaf.place,
         }),
-        Seen::Inner(inner) => find_below(pages, &inner.child, at),
+        Seen::Inner(inner) => find_below(pages, &inner.child, at, steps),
     }
 }
 
@@ -172,29 +189,32 @@ fn last_below<P: NodePages>(
 }
 
 // How far from a key on the marks below a place are at most `since`.
-fn quiet_below<P: NodePages>(
+fn quiet_below<P: NodePages, L: Ledger>(
     pages: &mut P,
     subtree: &Subtree,
     at: &Base,
     since: Id,
+    steps: &mut Steps<L>,
 ) -> Result<Option<Base>, Fault>
-    requires { IsAsked (key_of at.now) subtree.now }
+    requires asked { IsAsked (key_of at.now) subtree.now }
+    requires levels { 2 ≤ levels_below subtree.now }
     ensures ok { IfSome (P.pages pages.old) (λ map. (height : ℕ) →
         IsStoredTree map height subtree.now → IfOk result
         (IsQuietBy (mark_in map height (node_at map subtree.now.at)) (key_of at.now) since.0
         subtree.now.right)) }
     ensures found { IfOk result (λ end. IfSome end (IsEnd (key_of at.now))) }
+    ensures steps { steps.new + 1 ≤ steps.old + levels_below subtree.now }
     ensures same { Reads P.name P.frame P.rest P.pages pages.old pages.new }
     ensures cause { HasSearchCause (P.pages pages.old) subtree.now
         (P.faults pages.old) (P.faults pages.new) result }
 {
-    let seen = glance_at::<P, Seen>(pages, subtree, at)?;
+    let seen = step_to(pages, subtree, at, steps)?;
     if mirror(&seen) <= since.0 {
         return Ok(Some(subtree.right));
     }
     match seen {
         Seen::Leaf(_) => Ok(None),
-        Seen::Inner(inner) => quiet_below(pages, &inner.child, at, since),
+        Seen::Inner(inner) => quiet_below(pages, &inner.child, at, since, steps),
     }
 }
 

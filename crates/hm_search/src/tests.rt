@@ -1,11 +1,14 @@
 // Searches in a tree of three levels that is written by hand, and what each damage below its root
 // is told as.
-ghost use Rattle.std.specs.Prelude.{◌<◌, IfOk};
+ghost use Rattle.std.specs.Prelude.{◌≡◌, ◌<◌, IfOk};
 ghost use Rattle.hm_key.specs.Key.{key_of, greatest_key, IsBefore};
 ghost use Rattle.hm_node.specs.Inner.{IsNodeOffset};
 ghost use Rattle.hm_node.specs.Shape.{HoldsNode};
 
-use crate::{Found, Parent, Subtree, find, first_at_or_after, read_node, unchanged_until};
+use crate::{
+    Found, Parent, Steps, Subtree, find, first_at_or_after, last_at_or_before, read_node,
+    unchanged_until,
+};
 use arrayvec::ArrayVec;
 use hm_fields::{MemPages, Page, Pages, put_u8, put_u64};
 use hm_key::{Base, DIRECTORY_ENTRY, ELEMENT, Element};
@@ -15,6 +18,8 @@ use hm_types::{
     Obj, TREE_ZONE,
 };
 use std::alloc::Global;
+use std::marker::Brand;
+use std::sync::ledger::{Blank, Ledger};
 use std::test::Fail;
 
 // Pages of which each is checked by itself as it is read. A page of a space over a device is checked
@@ -197,6 +202,70 @@ fn wanted_from(obj: u16) -> Option<u16>
     if next < 320 { Some(next) } else { None }
 }
 
+// The last entry up to a directory, likewise.
+fn wanted_to(obj: u16) -> Option<u16>
+    requires { obj < 400 }
+{
+    let last = match obj % 10 {
+        0..=2 => (obj / 10 * 10).checked_sub(4)?,
+        3..=5 => obj / 10 * 10 + 3,
+        _ => obj / 10 * 10 + 6,
+    };
+    Some(last.min(316))
+}
+
+// The place of a key, by a search whose steps are counted in a ledger.
+fn found_in<L: Ledger>(
+    pages: &mut CheckedPages,
+    root: HOff,
+    at: &Base,
+    blank: Blank,
+) -> Result<Found, Fault>
+    requires root { IsNodeOffset root }
+    requires name { blank.name ≡ L.name }
+    requires parts { blank.parts ≡ L.parts }
+    requires some { 0 < blank.parts }
+{
+    let mut steps = Steps::<L>::begin(blank);
+    find(pages, root, at, &mut steps)
+}
+
+fn found_at(pages: &mut CheckedPages, root: HOff, at: &Base) -> Result<Found, Fault>
+    requires { IsNodeOffset root }
+{
+    found_in::<Brand>(pages, root, at, Blank::new(1))
+}
+
+// How far nothing was written, likewise.
+fn quiet_in<L: Ledger>(
+    pages: &mut CheckedPages,
+    root: HOff,
+    at: &Base,
+    since: Id,
+    blank: Blank,
+) -> Result<Option<Base>, Fault>
+    requires root { IsNodeOffset root }
+    requires before { IsBefore (key_of at.now) greatest_key }
+    requires name { blank.name ≡ L.name }
+    requires parts { blank.parts ≡ L.parts }
+    requires some { 0 < blank.parts }
+{
+    let mut steps = Steps::<L>::begin(blank);
+    unchanged_until(pages, root, at, since, &mut steps)
+}
+
+fn quiet_from(
+    pages: &mut CheckedPages,
+    root: HOff,
+    at: &Base,
+    since: Id,
+) -> Result<Option<Base>, Fault>
+    requires root { IsNodeOffset root }
+    requires before { IsBefore (key_of at.now) greatest_key }
+{
+    quiet_in::<Brand>(pages, root, at, since, Blank::new(1))
+}
+
 #[test]
 fn a_search_finds_the_first_element_from_each_key_on(rt: HostRuntime) -> Result<(), Fail> {
     let mut pages = tree(rt.alloc())?;
@@ -213,13 +282,31 @@ fn a_search_finds_the_first_element_from_each_key_on(rt: HostRuntime) -> Result<
 }
 
 #[test]
+fn a_search_finds_the_last_element_up_to_each_key(rt: HostRuntime) -> Result<(), Fail> {
+    let mut pages = tree(rt.alloc())?;
+    for obj in 0u16..330 {
+        let found = last_at_or_before(&mut pages, offset(1)?, &entry(obj).base)?;
+        let wanted = wanted_to(obj).map(entry);
+        assert_eq!(rt; found, wanted, "{obj}");
+    }
+    let found = last_at_or_before(&mut pages, offset(1)?, &Base::least())?;
+    assert_eq!(rt; found, None);
+    let found = last_at_or_before(&mut pages, offset(1)?, &Base::greatest())?;
+    assert_eq!(rt; found, Some(entry(316)));
+    Ok(())
+}
+
+#[test]
 fn each_key_has_its_place(rt: HostRuntime) -> Result<(), Fail> {
     let mut pages = tree(rt.alloc())?;
     for number in 0u8..32 {
         for (digit, place) in [(0, 0), (3, 0), (4, 1), (6, 1), (7, 2), (9, 2)] {
             let at = entry(u16::from(number) * 10 + digit).base;
             let leaf = offset(number.saturating_add(10))?;
-            assert_eq!(rt; find(&mut pages, offset(1)?, &at)?, Found { leaf, place });
+            assert_eq!(rt;
+                found_at(&mut pages, offset(1)?, &at)?,
+                Found { leaf, place }
+            );
         }
     }
     Ok(())
@@ -244,7 +331,7 @@ fn what_did_not_change_goes_as_far_as_marks_say(rt: HostRuntime) -> Result<(), F
         (0, 41, Some(boundary(32))),
         (319, 41, Some(boundary(32))),
     ] {
-        let end = unchanged_until(&mut pages, offset(1)?, &entry(obj).base, Id(since))?;
+        let end = quiet_from(&mut pages, offset(1)?, &entry(obj).base, Id(since))?;
         assert_eq!(rt; end, wanted, "{obj} {since}");
     }
     Ok(())
@@ -430,10 +517,14 @@ fn a_search_tells_which_rule_of_its_place_a_node_breaks(rt: HostRuntime) -> Resu
         let at = offset(number)?;
         let base = entry(15).base;
         let told = Some(Fault::Damaged { at, kind });
-        assert_eq!(rt; find(&mut pages, offset(1)?, &base).err(), told, "{damage}");
+        assert_eq!(rt;
+            found_at(&mut pages, offset(1)?, &base).err(),
+            told,
+            "{damage}"
+        );
         let found = first_at_or_after(&mut pages, offset(1)?, &base);
         assert_eq!(rt; found.err(), told, "{damage}");
-        let end = unchanged_until(&mut pages, offset(1)?, &base, Id(9));
+        let end = quiet_from(&mut pages, offset(1)?, &base, Id(9));
         assert_eq!(rt; end.err(), told, "{damage}");
     }
     Ok(())
@@ -452,13 +543,13 @@ fn a_child_that_is_its_own_parent_is_damage(rt: HostRuntime) -> Result<(), Fail>
         kind: BAD_LEVEL,
     };
     let base = entry(15).base;
-    assert_eq!(rt; find(&mut pages, at, &base).err(), Some(damage));
+    assert_eq!(rt; found_at(&mut pages, at, &base).err(), Some(damage));
     assert_eq!(rt;
         first_at_or_after(&mut pages, at, &base).err(),
         Some(damage)
     );
     assert_eq!(rt;
-        unchanged_until(&mut pages, at, &base, Id(9)).err(),
+        quiet_from(&mut pages, at, &base, Id(9)).err(),
         Some(damage)
     );
     Ok(())
@@ -472,11 +563,14 @@ fn a_root_may_be_a_leaf_without_elements(rt: HostRuntime) -> Result<(), Fail> {
     put(&mut pages, 1, &leaf_of(5, &[])?)?;
     let at = offset(1)?;
     let base = entry(15).base;
-    assert_eq!(rt; find(&mut pages, at, &base)?, Found { leaf: at, place: 0 });
-    assert_eq!(rt; first_at_or_after(&mut pages, at, &base)?, None);
-    assert_eq!(rt; unchanged_until(&mut pages, at, &base, Id(4))?, None);
     assert_eq!(rt;
-        unchanged_until(&mut pages, at, &base, Id(5))?,
+        found_at(&mut pages, at, &base)?,
+        Found { leaf: at, place: 0 }
+    );
+    assert_eq!(rt; first_at_or_after(&mut pages, at, &base)?, None);
+    assert_eq!(rt; quiet_from(&mut pages, at, &base, Id(4))?, None);
+    assert_eq!(rt;
+        quiet_from(&mut pages, at, &base, Id(5))?,
         Some(Base::greatest())
     );
     Ok(())

@@ -11,6 +11,7 @@ loop-element-preserved c =
     let es = c.args.self.now.list.items in
     let e = c.element-item.result in
     let within : c.loop-element.element-index < length es = omega arith in
-    last_step key es c.loop-element.element-index e c.loop-element.last c.if-ne.last within (rw c.deref-element-items.ensures.value at c.element-item.is) c.loop-element.invariant
+    last_step key es c.loop-element.element-index e c.loop-element.last c.if-ne.last within
+    (rw c.deref-element-items.ensures.value at c.element-item.is) c.loop-element.invariant
     (last_after key e c.order.result c.ne.result c.loop-element.last c.if-ne.last c.order.ensures c.ne.ensures
     (elim c.if-ne.branch [ then-ne w ↦ rw w.if-ne.true w.last-is | else-ne w ↦ rw w.if-ne.false w.last-is ]))
