@@ -1,5 +1,5 @@
 -- A balanced store in which an element moves to another extent with the same bytes.
-use Rattle.std.proofs.Common.{◌≡◌, ℕ, ◌+◌, ◌-◌, ◌<◌, ◌≤◌, List, [], ◌∷◌, true, false, Bool, Option, Some, None, refl, ap, sym, ◌∙◌, subst, arith, nat_eq, length, map, take, inl, inr}
+use Rattle.std.proofs.Common.{◌≡◌, ℕ, zero, suc, ◌+◌, ◌-◌, ◌<◌, ◌≤◌, List, [], ◌∷◌, true, false, Bool, Option, Some, None, refl, ap, sym, ◌∙◌, subst, arith, nat_eq, length, map, take, inl, inr}
 use Rattle.std.specs.Prelude.{if◌then◌else◌, IfSome, IsSomeAnd}
 use Rattle.std.specs.List.{AllByRecursion}
 use Rattle.std.proofs.lemmas.Bool.{eq-eqb, ne_eqb, eqb-true, eqb-false}
@@ -223,3 +223,61 @@ module _ (key : Key) (e : Element) (to : ℕ) (es : List Element) (xs ys : List 
       map_instead (full_of (given_back_at e.payload ys)) (full_of xs) key e (moved_to to) es found one
       (rest_full (removed key es) (recursion_from_All (IsHeld (given_back_at e.payload xs)) (removed key es) rest_balanced.held)
       (each_mapped (full_of (given_back_at e.payload xs)) (full_of xs) (removed key es) (full_removed key e es xs found was balanced)))
+
+-- a part of the front of a list
+take_front : (m n : ℕ) (list : List ℕ) → m ≤ n → take m (take n list) ≡ take m list
+take_front zero n list le = refl
+take_front (suc m) zero list le = absurd (omega arith)
+take_front (suc m) (suc n) [] le = refl
+take_front (suc m) (suc n) (x ∷ list) le = ap (λ (l : List ℕ). x ∷ l) (take_front m n list (omega arith))
+
+-- a new extent with these bytes has a reference to give
+pub placed_gains : (to len : ℕ) (given bytes : List ℕ) (xs ys : List Extent) → PlacesAt to given xs ys → 1 ≤ length given → rounded len ≡ rounded (length given) → len ≤ length given
+    → take len given ≡ bytes → AreExtents ys → GainsReference to len bytes xs ys
+placed_gains to len given bytes xs ys placed some long fits begins live =
+    let new : Extent = placed.extent in
+    let apart : AllByRecursion (λ x. nat_eq x.at new.at ≡ false) xs =
+    new_elsewhere 0 new xs (omega (arith, some, placed.size)) (subst (AreApart 0) placed.list live.apart) in
+    let none : extent_at to xs ≡ None = subst (λ (a : ℕ). extent_at a xs ≡ None) placed.place (none_at new.at xs apart) in
+    record {
+      extent = new;
+      there = subst (λ (a : ℕ). extent_at a ys ≡ Some new) placed.place
+          (subst (λ (l : List Extent). extent_at new.at l ≡ Some new) (sym placed.list) (extent_at-new new xs apart));
+      size = placed.size ∙ sym long;
+      begin = sym (take_front len (length given) new.bytes fits) ∙ ap (take len) placed.begin ∙ begins;
+      more = placed.one ∙ ap (λ (o : Option Extent). refs_of o + 1) (sym none);
+      same = rw none tt;
+      others = λ other elsewhere. ap (extent_at other) placed.list
+          ∙ extent_at-others other new xs (ne_eqb new.at other (λ same. eqb-false other to elsewhere (sym same ∙ placed.place)));
+    }
+
+-- the extent that gets a reference more, and the others
+shared_there : (at : ℕ) (x : Extent) (xs : List Extent) → extent_at at xs ≡ Some x → extent_at at (shared_at at xs) ≡ Some (record x { refs = x.refs + 1 })
+shared_there at x [] found = absurd (cc)
+shared_there at x (y ∷ xs) found = by_test (nat_eq y.at at) refl found (shared_there at x xs) where
+  by_test : (b : Bool) → nat_eq y.at at ≡ b → (if b then Some y else extent_at at xs) ≡ Some x → (extent_at at xs ≡ Some x → extent_at at (shared_at at xs) ≡ Some (record x { refs = x.refs + 1 }))
+      → extent_at at (if b then record y { refs = y.refs + 1 } ∷ xs else y ∷ shared_at at xs) ≡ Some (record x { refs = x.refs + 1 })
+  by_test true is found more = let same : y ≡ x = cc in rw is (ap (λ (z : Extent). Some (record z { refs = z.refs + 1 })) same)
+  by_test false is found more = rw is (more found)
+
+shared_others : (at other : ℕ) (xs : List Extent) → nat_eq other at ≡ false → extent_at other (shared_at at xs) ≡ extent_at other xs
+shared_others at other [] apart = refl
+shared_others at other (x ∷ xs) apart = by_test (nat_eq x.at at) refl (shared_others at other xs apart) where
+  by_test : (b : Bool) → nat_eq x.at at ≡ b → extent_at other (shared_at at xs) ≡ extent_at other xs
+      → extent_at other (if b then record x { refs = x.refs + 1 } ∷ xs else x ∷ shared_at at xs) ≡ extent_at other (x ∷ xs)
+  by_test true is more =
+      let elsewhere : nat_eq x.at other ≡ false = ne_eqb x.at other (λ same. eqb-false other at apart (sym same ∙ eqb-true x.at at is)) in
+      rw elsewhere refl
+  by_test false is more = ap (λ (o : Option Extent). if nat_eq x.at other then Some x else o) more
+
+-- an extent with these bytes that is shared has one to give, too
+pub shared_gains : (to len : ℕ) (bytes : List ℕ) (x : Extent) (xs : List Extent) → extent_at to xs ≡ Some x → x.len ≡ rounded len → take len x.bytes ≡ bytes → GainsReference to len bytes xs (shared_at to xs)
+shared_gains to len bytes x xs found size begins = record {
+  extent = record x { refs = x.refs + 1 };
+  there = shared_there to x xs found;
+  size = size;
+  begin = begins;
+  more = ap (λ (o : Option Extent). refs_of o + 1) (sym found);
+  same = rw found (refl, refl);
+  others = λ other elsewhere. shared_others to other xs elsewhere;
+}

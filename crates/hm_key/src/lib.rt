@@ -32,7 +32,9 @@ pub use base::{BOUNDARY, Base, ELEMENT};
 pub use element::{Element, is_element};
 pub use extents::Extents;
 pub use job::{Job, Progress};
-pub use laws::{keys_are_between_the_boundaries, keys_are_in_total_order};
+pub use laws::{
+    keys_are_between_the_boundaries, keys_are_in_total_order, moved_elements_leave_balance,
+};
 pub use memory::MemStore;
 pub use rec_type::{
     DIRECTORY_ENTRY, FILE_BYTES, INODE, INODE_PART, OTHER_PART, PFS_RECORD, SNAPSHOT,
