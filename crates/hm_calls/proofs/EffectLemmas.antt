@@ -62,7 +62,7 @@ module _ (pfs i : ℕ) (es : List FullElement) (below : AreBelow pfs i es) where
     about = counts.about;
     holds = counts.holds;
     seen = seen_then i t u counts.element (older counts.element counts.there counts.about) from to counts.seen;
-    newest = λ other has about seen. counts.newest other has about (seen_then i u t other (older other has about) to from seen);
+    newest = λ other has about _. counts.newest other has about (let made = (older other has about).made in omega (arith, made, from));
   } where
     older : (x : FullElement) → Contains es x → subject_of x.key ≡ s → IsOlderThan i x
     older x has about = below x has (ap (λ (z : Subject). pfs_of z.localization) about ∙ within)

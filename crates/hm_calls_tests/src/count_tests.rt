@@ -91,6 +91,30 @@ fn a_name_of_1000_versions_takes_at_most_40_searches_more(rt: HostRuntime) -> Re
     Ok(())
 }
 
+// The counts of a call after a name came and went so many times.
+fn counts_of_gone(alloc: Global, times: u64, line: &str) -> Result<Counts, Fail> {
+    let mut volume = volume_of(alloc, &Fnv, &FRESH)?;
+    for _ in 0..times {
+        ask(alloc, &mut volume, &Fnv, "touch /a")?;
+        ask(alloc, &mut volume, &Fnv, "rm /a")?;
+    }
+    let (_, counts) = counts_of(alloc, volume, line)?;
+    Ok(counts)
+}
+
+// Each look at the name halves create ids, of which there are 4,000.
+#[test]
+fn a_name_that_came_and_went_2000_times_takes_at_most_100_searches_more(
+    rt: HostRuntime,
+) -> Result<(), Fail> {
+    for line in ["stat /a", "touch /a", "mkdir /a"] {
+        let few = counts_of_gone(rt.alloc(), 1, line)?;
+        let many = counts_of_gone(rt.alloc(), 2_000, line)?;
+        assert!(rt; many.searches <= few.searches.saturating_add(100), "{line}");
+    }
+    Ok(())
+}
+
 // The counts of `ls` of a directory with as many names.
 fn counts_of_listing(alloc: Global, names: u64) -> Result<Counts, Fail> {
     let mut volume = volume_of(alloc, &Fnv, &FRESH)?;

@@ -37,7 +37,7 @@ record_there = record {
     about = refl;
     holds = refl;
     unclosed = refl;
-    newest = λ other there about unclosed. omega (arith, made_at_one other there);
+    newest = λ other there about. omega (arith, made_at_one other there);
   };
 }
 

@@ -55,7 +55,7 @@ root_counts = record {
   about = refl;
   holds = refl;
   seen = (omega arith, inl refl);
-  newest = λ other there about seen. omega (arith, made_at_one other there);
+  newest = λ other there about made. omega (arith, made_at_one other there);
 }
 
 root_object : IsObject (Counts full_elements 1) 0 (directory_of root_number)

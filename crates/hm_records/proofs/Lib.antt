@@ -20,3 +20,4 @@ pub mod LookupLemmas
 pub mod PlainLemmas
 pub mod PlainTreeLemmas
 pub mod SearchLemmas
+pub mod FollowLemmas

@@ -16,7 +16,6 @@ pub mod EarlyLemmas
 pub mod CauseLemmas
 pub mod CausedLemmas
 pub mod LegalLemmas
-pub mod SearchValueLemmas
 pub mod ObjectValueLemmas
 pub mod TreeValueLemmas
 pub mod SubstituteLemmas

@@ -23,23 +23,23 @@ use Rattle.hm_records.specs.declared.inode.Inode.{Inode}
 use Rattle.hm_records.specs.declared.kind.TheConstants.{DIRECTORY, FILE, SOFTLINK, PFS_LINK}
 use Rattle.hm_records.proofs.CountsLemmas.{settled}
 use Rattle.hm_records.proofs.MemberLemmas.{has_cases, has_head, has_none, has_tail}
-use Rattle.hm_records.proofs.PlainLemmas.{byte_covered, byte_in_hole, byte_past, bytes_more, end_seen, no_object_at, object_at_is, unseen_none}
+use Rattle.hm_records.proofs.PlainLemmas.{byte_covered, byte_in_hole, byte_past, bytes_more, end_counts, no_object_at, object_at_is}
 use Rattle.hm_records.proofs.PlainTreeLemmas.{object_new, objects_added, objects_none, objects_passed}
 use Rattle.hm_records.proofs.SubjectLemmas.{same_subject}
-use Rattle.hm_step.proofs.SearchValueLemmas.{Decided, counted_of, next_end_of, walked}
+use Rattle.hm_records.proofs.SearchLemmas.{Decided, counted_of, next_end_of, walked}
 
 -- ---- bytes
 
 module _ (es : List FullElement) (t pfs obj : ℕ) where
-  byte_before : (place end : ℕ) → IsLeastEnd es t pfs obj place end → (bytes : Option (List ℕ)) → IsCounted es t (bytes_subject pfs obj end) bytes
+  byte_before : (place end : ℕ) → IsLeastEnd (Counts es t) pfs obj place es end → (bytes : Option (List ℕ)) → IsCounted es t (bytes_subject pfs obj end) bytes
       → (byte : ℕ) × IsFileByte (Counts es t) pfs obj place byte
-  byte_before place end least None none = absurd (end_seen es t pfs obj place end least none)
+  byte_before place end least None none = absurd (end_counts es t pfs obj place end least none)
   byte_before place end least (Some bytes) counts = elim (cases_lt (length bytes) (end - place)) [
     | inl short ↦ (0, byte_in_hole es t pfs obj place end bytes least counts short)
     | inr enough ↦ (slice_index bytes (length bytes - (end - place)), byte_covered es t pfs obj place end bytes least counts enough)
   ]
 
-  byte_by : (place : ℕ) (next : Option ℕ) → IsNextEnd es t pfs obj place next → (byte : ℕ) × IsFileByte (Counts es t) pfs obj place byte
+  byte_by : (place : ℕ) (next : Option ℕ) → IsNextEnd (Counts es t) pfs obj place es next → (byte : ℕ) × IsFileByte (Counts es t) pfs obj place byte
   byte_by place None none = (0, byte_past es t pfs obj place none)
   byte_by place (Some end) least = let (bytes, counts) = counted_of es t (bytes_subject pfs obj end) in byte_before place end least bytes counts
 
@@ -56,7 +56,7 @@ module _ (es : List FullElement) (t pfs obj : ℕ) where
       (bytes ++ byte ∷ [], subst (λ (n : ℕ). AreFileBytes (Counts es t) pfs obj n (bytes ++ byte ∷ [])) one (bytes_more es t pfs obj size byte bytes are is))
 
   target_by : (bytes : Option (List ℕ)) → IsCounted es t (target_subject pfs obj) bytes → (text : List ℕ) × IsTargetOf (Counts es t) pfs obj text
-  target_by None none = ([], missing (unseen_none es t (target_subject pfs obj) none) refl)
+  target_by None none = ([], missing none refl)
   target_by (Some bytes) counts = (bytes, held counts)
 
   -- the target of a softlink

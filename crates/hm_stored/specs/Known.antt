@@ -133,9 +133,9 @@ abbrev pub IsOfSlave : List FullElement → ℕ → Type 0
 IsOfSlave es pfs =
     (r : PfsRecord) × IsPfsRecord r × Counts es open_end (record_subject pfs) (pfs_bytes r) × IsFalse r.master
 
--- where another element is about the subject and seen now, it is not newer than this one
+-- where another element is about the subject, and was made by now, it is not newer than this one
 abbrev pub IsNotPassedBy : Subject → FullElement → FullElement → Type 0
-IsNotPassedBy subject x other = subject_of other.key ≡ subject → IsSeen open_end other → other.key.create ≤ x.key.create
+IsNotPassedBy subject x other = subject_of other.key ≡ subject → other.key.create ≤ open_end → other.key.create ≤ x.key.create
 
 -- The ids of elements are known: each pseudo file system is a slave, or its elements were made and closed by then.
 abbrev pub AreKnown : ℕ → List FullElement → Type 0
@@ -165,7 +165,7 @@ dec_seen t x = dec_and (dec_le x.key.create t) (dec_or (ℕ_discrete x.delete 0)
 dec_not_passed_by : (subject : Subject) (x other : FullElement) → Dec (IsNotPassedBy subject x other)
 dec_not_passed_by subject x other =
     dec_if (dec_subject (subject_of other.key) subject)
-    (dec_if (dec_seen open_end other) (dec_le other.key.create x.key.create))
+    (dec_if (dec_le other.key.create open_end) (dec_le other.key.create x.key.create))
 
 dec_tells_slave : (es : List FullElement) (pfs : ℕ) (x : FullElement) → Dec (TellsSlave es pfs x)
 dec_tells_slave es pfs x =
