@@ -106,23 +106,23 @@ module _ (els : ℕ → List Element) (level : ℕ) (right : Base) where
       ap (λ (x : Child). last_to key (els x.child ++ [])) same ∙ last_append key (els d.child) [] ∙ sym (or_none (last_to key (els d.child)))
   left_out key c (e ∷ cs) d sorted inside get =
       by_test (starts_after key e) refl get (left_out key e cs d (later_sorted right c (e ∷ cs) sorted) inside.1) where
-    by_test : (b : Bool) → starts_after key e ≡ b → slice_get (c ∷ e ∷ cs) (if b then 0 else suc (begun key cs)) ≡ Some d
-        → (slice_get (e ∷ cs) (begun key cs) ≡ Some d → last_to key (all_of els level right (e ∷ cs))
-        ≡ option_or (last_to key (els d.child)) (last_to key (all_of els level right (take (begun key cs) (e ∷ cs)))))
-        → last_to key (all_of els level right (c ∷ e ∷ cs))
-        ≡ option_or (last_to key (els d.child)) (last_to key (all_of els level right (take (if b then 0 else suc (begun key cs)) (c ∷ e ∷ cs))))
-    by_test true is get more =
-        let same : c ≡ d = cc in
-        let after = each_so (λ x. IsInside e.left right (element_key x)) (λ x. stands_after key x ≡ true) (all_of els level right (e ∷ cs))
-        (λ x within. ap is_lt (key_before_from key (key_of e.left) (element_key x) (before_is key (key_of e.left) is) within.from))
-        (from_next_on els level right (e ∷ cs) (later_sorted right c (e ∷ cs) sorted) inside.1) in
-        last_append key (els c.child) (all_of els level right (e ∷ cs))
-        ∙ rw (last_after_all key (all_of els level right (e ∷ cs)) after, same) (sym (or_none (last_to key (els d.child))))
-    by_test false is get more =
-        last_append key (els c.child) (all_of els level right (e ∷ cs))
-        ∙ ap (λ (o : Option Element). option_or o (last_to key (els c.child))) (more get)
-        ∙ or_again (last_to key (els d.child)) (last_to key (all_of els level right (take (begun key cs) (e ∷ cs)))) (last_to key (els c.child))
-        ∙ ap (option_or (last_to key (els d.child))) (sym (last_append key (els c.child) (all_of els level right (take (begun key cs) (e ∷ cs)))))
+        by_test : (b : Bool) → starts_after key e ≡ b → slice_get (c ∷ e ∷ cs) (if b then 0 else suc (begun key cs)) ≡ Some d
+            → (slice_get (e ∷ cs) (begun key cs) ≡ Some d → last_to key (all_of els level right (e ∷ cs))
+            ≡ option_or (last_to key (els d.child)) (last_to key (all_of els level right (take (begun key cs) (e ∷ cs)))))
+            → last_to key (all_of els level right (c ∷ e ∷ cs))
+            ≡ option_or (last_to key (els d.child)) (last_to key (all_of els level right (take (if b then 0 else suc (begun key cs)) (c ∷ e ∷ cs))))
+        by_test true is get more =
+            let same : c ≡ d = cc in
+            let after = each_so (λ x. IsInside e.left right (element_key x)) (λ x. stands_after key x ≡ true) (all_of els level right (e ∷ cs))
+            (λ x within. ap is_lt (key_before_from key (key_of e.left) (element_key x) (before_is key (key_of e.left) is) within.from))
+            (from_next_on els level right (e ∷ cs) (later_sorted right c (e ∷ cs) sorted) inside.1) in
+            last_append key (els c.child) (all_of els level right (e ∷ cs))
+            ∙ rw (last_after_all key (all_of els level right (e ∷ cs)) after, same) (sym (or_none (last_to key (els d.child))))
+        by_test false is get more =
+            last_append key (els c.child) (all_of els level right (e ∷ cs))
+            ∙ ap (λ (o : Option Element). option_or o (last_to key (els c.child))) (more get)
+            ∙ or_again (last_to key (els d.child)) (last_to key (all_of els level right (take (begun key cs) (e ∷ cs)))) (last_to key (els c.child))
+            ∙ ap (option_or (last_to key (els d.child))) (sym (last_append key (els c.child) (all_of els level right (take (begun key cs) (e ∷ cs)))))
 
   -- a search ends at the child that holds the key, or at those before it
   pub last_to_holder : (key : Key) (cs : List Child) (d : Child) → IsStrictlySortedBy base_cmp (bounds right cs)
