@@ -1,0 +1,5 @@
+pub mod AnswerLemmas
+pub mod DamageLemmas
+pub mod PageLemmas
+pub mod PutLemmas
+pub mod RecoverLemmas

@@ -1,0 +1,5 @@
+use Rattle.hm_recover.proofs.DamageLemmas.{recovers-faultless}
+use Rattle.hm_recover.proofs.laws.an_image_that_recovers_has_no_fault.Goals as goal
+
+pub returns : goal.returns
+returns c = recovers-faultless

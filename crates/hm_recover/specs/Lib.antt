@@ -1,0 +1,4 @@
+pub mod Damage
+pub mod Put
+pub mod Recovery
+pub mod Stop
