@@ -4,7 +4,7 @@ use Rattle.hm_types.specs.Told.{BothTell}
 use Rattle.hm_disk.specs.Crash.{Told}
 use Rattle.hm_header.specs.declared.header.Header.{Header}
 use Rattle.hm_undo.specs.Range.{HasUndoEntry}
-use Rattle.hm_recover.specs.Damage.{IsWhole, old_page}
+use Rattle.hm_recover.specs.Damage.{IsWholeEntry, old_page}
 
 -- what holds of the disk before a call, by what it is known to have been then and what is known after it
 pub IfSome-back : (old new : Option Told) (Fits Holds Gives : Told → Type 0) (P : Told → Told → Type 0)
@@ -15,7 +15,7 @@ IfSome-back (Some s) None Fits Holds Gives P step fits both holds = absurd both
 
 -- what was read of an entry is its page
 pub read-whole : (read : Option (ℕ × List ℕ)) (told : Option Told) (header : Header) (entry : ℕ) → is_some read ≡ true
-    → IfSome read (λ old. IfSome told (λ t. HasUndoEntry t.bytes header entry (old_page old.0 old.1))) → IfSome told (λ t. IsWhole t.bytes header entry)
+    → IfSome read (λ old. IfSome told (λ t. HasUndoEntry t.bytes header entry (old_page old.0 old.1))) → IfSome told (λ t. IsWholeEntry t.bytes header entry)
 read-whole None told header entry some has = absurd cc
 read-whole (Some old) None header entry some has = tt
 read-whole (Some old) (Some t) header entry some has = (old_page old.0 old.1, has)

@@ -12,15 +12,15 @@ use Rattle.hm_undo.specs.Range.{HasUndoEntry, HasRange, OldPage}
 use Rattle.hm_undo.specs.Recovered.{RecoversTo}
 use Rattle.hm_undo.proofs.EntryLemmas.{broken-is-none, entry-is-one}
 use Rattle.hm_undo.proofs.RangeLemmas.{range-entry}
-use Rattle.hm_recover.specs.Damage.{HasRangeDamage, HoldsPage, IsRangeDamage, IsWhole, entry_offset}
+use Rattle.hm_recover.specs.Damage.{HasRangeDamage, SpellsOldPage, IsRangeDamage, IsWholeEntry, entry_offset}
 
 -- broken bytes hold no page
-pub broken-holds-none : (bytes : List ℕ) (header : Header) → IsBrokenEntry bytes → (old : OldPage) → HoldsPage bytes header old → ⊥
+pub broken-holds-none : (bytes : List ℕ) (header : Header) → IsBrokenEntry bytes → (old : OldPage) → SpellsOldPage bytes header old → ⊥
 broken-holds-none bytes header broken old holds = broken-is-none bytes old.at header.generation old.bytes broken holds.spelled
 
 -- nor do those of another header, or of a page of no such volume
 pub other-holds-none : (bytes : List ℕ) (header : Header) (at generation : ℕ) (page : List ℕ) → SpellsUndoEntry bytes at generation page
-    → (generation ≡ header.generation → IsUndoPageOf header.bigblocks at → ⊥) → (old : OldPage) → HoldsPage bytes header old → ⊥
+    → (generation ≡ header.generation → IsUndoPageOf header.bigblocks at → ⊥) → (old : OldPage) → SpellsOldPage bytes header old → ⊥
 other-holds-none bytes header at generation page spelled other old holds =
     let same = entry-is-one bytes at generation page old.at header.generation old.bytes spelled holds.spelled in
     other same.1 (subst (λ (n : ℕ). IsUndoPageOf header.bigblocks n) (sym same.0) holds.page)
@@ -32,21 +32,21 @@ module _ (image : List ℕ) (header : Header) where
     count : length olds ≡ n
     each : (i : ℕ) → IfSome (slice_get olds i) (HasUndoEntry image header (entry_at header.undo_first (k + i)))
 
-  from : (n k : ℕ) → ((j : ℕ) → k ≤ j → j < k + n → IsWhole image header (entry_at header.undo_first j)) → From n k
+  from : (n k : ℕ) → ((j : ℕ) → k ≤ j → j < k + n → IsWholeEntry image header (entry_at header.undo_first j)) → From n k
   from zero k whole = record { olds = []; count = refl; each = λ i. tt }
   from (suc n) k whole =
       let first = whole k (omega arith) (omega arith) in
       let more = from n (suc k) (λ j from to. whole j (omega (arith, from)) (omega (arith, to))) in
       record { olds = first.0 ∷ more.olds; count = ap (λ (m : ℕ). suc m) more.count; each = λ i. at first more i }
     where
-      at : (first : IsWhole image header (entry_at header.undo_first k)) (more : From n (suc k)) (i : ℕ)
+      at : (first : IsWholeEntry image header (entry_at header.undo_first k)) (more : From n (suc k)) (i : ℕ)
           → IfSome (slice_get (first.0 ∷ more.olds) i) (HasUndoEntry image header (entry_at header.undo_first (k + i)))
       at first more zero = let here : k ≡ k + 0 = omega arith in
           subst (λ (j : ℕ). HasUndoEntry image header (entry_at header.undo_first j) first.0) here first.1
       at first more (suc i) = let next : suc k + i ≡ k + suc i = omega arith in
           subst (λ (j : ℕ). IfSome (slice_get more.olds i) (HasUndoEntry image header (entry_at header.undo_first j))) next (more.each i)
 
-  pub range-of-wholes : ((j : ℕ) → 0 ≤ j → j < header.undo_count → IsWhole image header (entry_at header.undo_first j))
+  pub range-of-wholes : ((j : ℕ) → 0 ≤ j → j < header.undo_count → IsWholeEntry image header (entry_at header.undo_first j))
       → (olds : List OldPage) × HasRange image header olds
   range-of-wholes whole =
       let all = from header.undo_count 0 (λ j low below. whole j low (omega (arith, below))) in (
@@ -58,7 +58,7 @@ module _ (image : List ℕ) (header : Header) where
         },
       )
 
-  pub range-whole : (olds : List OldPage) → HasRange image header olds → (i : ℕ) → i < header.undo_count → IsWhole image header (entry_at header.undo_first i)
+  pub range-whole : (olds : List OldPage) → HasRange image header olds → (i : ℕ) → i < header.undo_count → IsWholeEntry image header (entry_at header.undo_first i)
   range-whole olds range i below =
       (get_or olds i none, range-entry image header olds range i none (omega (arith, below, range.count)))
     where
@@ -66,13 +66,13 @@ module _ (image : List ℕ) (header : Header) where
       none = record { at = 0; bytes = [] }
 
   -- one entry more is whole
-  pub wholes-more : (i : ℕ) → ((j : ℕ) → i + 1 ≤ j → j < header.undo_count → IsWhole image header (entry_at header.undo_first j))
-      → IsWhole image header (entry_at header.undo_first i)
-      → (j : ℕ) → i ≤ j → j < header.undo_count → IsWhole image header (entry_at header.undo_first j)
+  pub wholes-more : (i : ℕ) → ((j : ℕ) → i + 1 ≤ j → j < header.undo_count → IsWholeEntry image header (entry_at header.undo_first j))
+      → IsWholeEntry image header (entry_at header.undo_first i)
+      → (j : ℕ) → i ≤ j → j < header.undo_count → IsWholeEntry image header (entry_at header.undo_first j)
   wholes-more i later here j from to =
       ⊎_elim (λ (above : i < j). later j (omega (arith, above)) to)
       (λ (low : j ≤ i). let same : i ≡ j = omega (arith, from, low) in
-      subst (λ (k : ℕ). IsWhole image header (entry_at header.undo_first k)) same here) (cases_lt i j)
+      subst (λ (k : ℕ). IsWholeEntry image header (entry_at header.undo_first k)) same here) (cases_lt i j)
 
 -- two damages of a range are one
 damage-one : (image : List ℕ) (header : Header) (one other : ℕ) → IsRangeDamage image header one → IsRangeDamage image header other → one ≡ other

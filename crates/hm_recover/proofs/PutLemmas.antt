@@ -16,8 +16,8 @@ use Rattle.hm_undo.specs.Range.{HasUndoEntry, HasRange, OldPage, old_places_of, 
 use Rattle.hm_undo.proofs.RangeLemmas.{entry-one, entry-same, range-entry}
 use Rattle.hm_types.specs.Told.{BothTell}
 use Rattle.hm_disk.proofs.DiskLemmas.{BothTell-and, BothTell-map}
-use Rattle.hm_recover.specs.Damage.{IsWhole, old_page}
-use Rattle.hm_recover.specs.Put.{HasPut, MayPut, MayPutPage, MayPutPages}
+use Rattle.hm_recover.specs.Damage.{IsWholeEntry, old_page}
+use Rattle.hm_recover.specs.Put.{HasPutPage, MayPut, MayPutPage, MayPutPages}
 use Rattle.hm_recover.proofs.PageLemmas.{entry-small, outside-page, range-out}
 
 -- a page that was written, or not, or in part
@@ -107,7 +107,7 @@ module _ (header : Header) (olds : List OldPage) (s : Told) (range : HasRange s.
   may-more put =
       pages-more olds page-here past middle since s t u (outside-page olds i none-old inside) first.rest (put page-here still-entry)
 
-  pub so-far-more : HasPut header (entry_at header.undo_first i) t u → MayPut header (entry_at header.undo_first i) middle since t u
+  pub so-far-more : HasPutPage header (entry_at header.undo_first i) t u → MayPut header (entry_at header.undo_first i) middle since t u
       → PutSoFar olds i past since s u
   so-far-more has put = record {
     bytes_are =
@@ -118,16 +118,16 @@ module _ (header : Header) (olds : List OldPage) (s : Told) (range : HasRange s.
   }
 
 pub still-whole : (header : Header) (olds : List OldPage) (s : Told) → HasRange s.bytes header olds → (past middle : LeftSince) (t : Told) (i : ℕ)
-    → i < header.undo_count → PutSoFar olds (i + 1) past middle s t → IsWhole t.bytes header (entry_at header.undo_first i)
+    → i < header.undo_count → PutSoFar olds (i + 1) past middle s t → IsWholeEntry t.bytes header (entry_at header.undo_first i)
 still-whole header olds s range past middle t i below first =
     (get_or olds i none-old, still-entry header olds s range past middle middle t t i below first)
 
 -- the page that was read is the one that the entry has
 pub page-put : (old new : Option Told) (header : Header) (entry at : ℕ) (bytes : List ℕ)
     → IfSome old (λ t. HasUndoEntry t.bytes header entry (old_page at bytes)) → BothTell old new (Written (byte_of at) bytes)
-    → BothTell old new (HasPut header entry)
+    → BothTell old new (HasPutPage header entry)
 page-put old new header entry at bytes has written =
-    BothTell-map old new (λ t. HasUndoEntry t.bytes header entry (old_page at bytes)) (Written (byte_of at) bytes) (HasPut header entry)
+    BothTell-map old new (λ t. HasUndoEntry t.bytes header entry (old_page at bytes)) (Written (byte_of at) bytes) (HasPutPage header entry)
     (λ s t here put page there. subst (λ (o : OldPage). Written (byte_of o.at) o.bytes s t)
     (entry-one s.bytes header entry (old_page at bytes) page here there) put) has written
 

@@ -29,7 +29,7 @@ use Rattle.hm_undo.proofs.PutBackLemmas.{length-put_back, put_back-leaves, same-
 use Rattle.hm_undo.proofs.RangeLemmas.{range-same}
 use Rattle.hm_undo.proofs.RecoveredLemmas.{pages-fit, recovered-again, recovery-is-one}
 use Rattle.hm_recover.specs.Put.{HasPutAll, MayPutAll}
-use Rattle.hm_recover.specs.Recovery.{IsReady, IsRecovered, IsUntouched, KeepsRecovery, StillRecovers}
+use Rattle.hm_recover.specs.Recovery.{IsRangeReady, IsRecovered, IsUntouched, KeepsRecovery, StillRecovers}
 use Rattle.hm_recover.specs.declared.opened.Opened.{Opened}
 use Rattle.hm_recover.proofs.PutLemmas.{elapses-after-read}
 use Rattle.hm_recover.proofs.PageLemmas.{entry-small, header-stays, range-out}
@@ -228,7 +228,7 @@ untouched-keeps past since s t same =
           (Elapses-read _ past past since s s (Elapses-none _ past s) same.left);
     }
 
-module _ (header : Header) (slot : ℕ) (small : slot ≤ 1) (past : LeftSince) (s : Told) (ready : IsReady header slot s) where
+module _ (header : Header) (slot : ℕ) (small : slot ≤ 1) (past : LeftSince) (s : Told) (ready : IsRangeReady header slot s) where
   abbrev at-last : List ℕ
   at-last = result s.bytes header slot small ready.counts ready.some ready.olds ready.range
 
@@ -298,11 +298,11 @@ pub record AfterPut (header : Header) (past since : LeftSince) (old new : Told) 
   pub keeps : KeepsRecovery past since old new
 
 module _ (header : Header) (slot : ℕ) (small : slot ≤ 1) where
-  pub after-sync : (past middle since : LeftSince) (old told new : Option Told) → IfSome old (IsReady header slot)
+  pub after-sync : (past middle since : LeftSince) (old told new : Option Told) → IfSome old (IsRangeReady header slot)
       → BothTell old told (HasPutAll header) → BothTell old told (MayPutAll header past middle) → BothTell told new Synced
       → BothTell told new (SyncElapses middle since) → BothTell old new (AfterPut header past since)
   after-sync past middle since old told new ready put may synced time =
-      BothTell-then old told new (IsReady header slot) (λ s t. HasPutAll header s t × MayPutAll header past middle s t)
+      BothTell-then old told new (IsRangeReady header slot) (λ s t. HasPutAll header s t × MayPutAll header past middle s t)
       (λ t u. Synced t u × SyncElapses middle since t u) (AfterPut header past since)
       (λ s t u is first then. record {
         put = λ olds range. then.0.bytes_are ∙ first.0 olds range;
@@ -311,20 +311,20 @@ module _ (header : Header) (slot : ℕ) (small : slot ≤ 1) where
       }) ready (BothTell-and old told _ _ put may) (BothTell-and told new _ _ synced time)
 
   -- the header counts still, whatever a crash leaves
-  pub after-counts : (past since : LeftSince) (old new : Option Told) → IfSome old (IsReady header slot) → BothTell old new (AfterPut header past since)
+  pub after-counts : (past since : LeftSince) (old new : Option Told) → IfSome old (IsRangeReady header slot) → BothTell old new (AfterPut header past since)
       → IfSome new (AnyCrash (IsCounting header slot))
   after-counts past since old new ready after =
-      IfSome-then old new (IsReady header slot) (AnyCrash (IsCounting header slot)) (AfterPut header past since)
+      IfSome-then old new (IsRangeReady header slot) (AnyCrash (IsCounting header slot)) (AfterPut header past since)
       (λ s u is put. settled-any (IsCounting header slot) u put.settled
       (header-stays s.bytes u.bytes header slot is.olds is.counts is.range
       (subst (λ (bytes : List ℕ). MayLeave s.bytes (old_places_of is.olds) bytes) (sym (put.put is.olds is.range))
       (put_back-leaves s.bytes is.olds (pages-fit s.bytes header slot is.counts is.olds is.range))))) ready after
 
-  pub after-change : (past middle since : LeftSince) (old told new : Option Told) → IfSome old (IsReady header slot)
+  pub after-change : (past middle since : LeftSince) (old told new : Option Told) → IfSome old (IsRangeReady header slot)
       → BothTell old told (AfterPut header past middle) → BothTell told new (λ u v. MayChange header slot (recovered_header header) u.bytes [] v.bytes)
       → BothTell told new (ChangeElapses header slot (recovered_header header) middle since) → BothTell old new (KeepsRecovery past since)
   after-change past middle since old told new ready after may time =
-      BothTell-then old told new (IsReady header slot) (AfterPut header past middle)
+      BothTell-then old told new (IsRangeReady header slot) (AfterPut header past middle)
       (λ u v. MayChange header slot (recovered_header header) u.bytes [] v.bytes × ChangeElapses header slot (recovered_header header) middle since u v)
       (KeepsRecovery past since)
       (λ s u v is first then. change-keeps header slot small past s is middle since u v first.put first.settled first.keeps then.0 then.1)
@@ -338,10 +338,10 @@ module _ (header : Header) (slot : ℕ) (small : slot ≤ 1) where
   changes-made (Some u) None changes = absurd changes
 
   pub after-changed : (past middle since : LeftSince) (opened : Opened) (old told new : Option Told) → opened.header ≡ recovered_header header
-      → opened.slot ≡ 1 - slot → IfSome old (IsReady header slot) → BothTell old told (AfterPut header past middle)
+      → opened.slot ≡ 1 - slot → IfSome old (IsRangeReady header slot) → BothTell old told (AfterPut header past middle)
       → BothTell told new (Changes (recovered_header header) (1 - slot)) → BothTell old new (IsRecovered opened past since)
   after-changed past middle since opened old told new header_is slot_is ready after changes =
-      BothTell-then old told new (IsReady header slot) (AfterPut header past middle) (Changes (recovered_header header) (1 - slot)) (IsRecovered opened past since)
+      BothTell-then old told new (IsRangeReady header slot) (AfterPut header past middle) (Changes (recovered_header header) (1 - slot)) (IsRecovered opened past since)
       (λ s u v is first then. is-recovered header slot small past s is since u v opened header_is slot_is first.put then) ready after changes
 
 -- nothing was written

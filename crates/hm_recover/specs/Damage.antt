@@ -14,13 +14,13 @@ abbrev pub old_page : ℕ → List ℕ → OldPage
 old_page at bytes = record { at = at; bytes = bytes }
 
 -- these bytes are the entry of this old page, for this header
-pub record HoldsPage (bytes : List ℕ) (header : Header) (old : OldPage) : Type 0 where
+pub record SpellsOldPage (bytes : List ℕ) (header : Header) (old : OldPage) : Type 0 where
   pub spelled : SpellsUndoEntry bytes old.at header.generation old.bytes
   pub page : IsUndoPageOf header.bigblocks old.at
 
 -- an entry holds some old page for this header
-abbrev pub IsWhole : List ℕ → Header → ℕ → Type 0
-IsWhole image header entry = (old : OldPage) × HasUndoEntry image header entry old
+abbrev pub IsWholeEntry : List ℕ → Header → ℕ → Type 0
+IsWholeEntry image header entry = (old : OldPage) × HasUndoEntry image header entry old
 
 -- the offset of an entry
 abbrev pub entry_offset : ℕ → ℕ → ℕ
@@ -32,8 +32,8 @@ pub record IsRangeDamage (image : List ℕ) (header : Header) (at : ℕ) : Type 
   pub i : ℕ
   pub within : i < header.undo_count
   pub place : at ≡ entry_offset header.bigblocks (entry_at header.undo_first i)
-  pub damaged : IsWhole image header (entry_at header.undo_first i) → ⊥
-  pub later : (j : ℕ) → i < j → j < header.undo_count → IsWhole image header (entry_at header.undo_first j)
+  pub damaged : IsWholeEntry image header (entry_at header.undo_first i) → ⊥
+  pub later : (j : ℕ) → i < j → j < header.undo_count → IsWholeEntry image header (entry_at header.undo_first j)
 
 -- this is the damage of the range that the header that counts names
 pub record HasRangeDamage (image : List ℕ) (at kind : ℕ) : Type 0 where

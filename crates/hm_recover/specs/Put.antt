@@ -9,8 +9,8 @@ use Rattle.hm_header.specs.declared.header.Header.{Header}
 use Rattle.hm_undo.specs.Range.{HasUndoEntry, HasRange, OldPage, old_places_of, put_back}
 
 -- the old page of an entry stands in its place
-abbrev pub HasPut : Header → ℕ → Told → Told → Type 0
-HasPut header entry old new =
+abbrev pub HasPutPage : Header → ℕ → Told → Told → Type 0
+HasPutPage header entry old new =
     (page : OldPage) → HasUndoEntry old.bytes header entry page → Written (byte_of page.at) page.bytes old new
 
 -- a page was put back, or not, or in part

@@ -17,8 +17,8 @@ use Rattle.hm_recover.specs.declared.fault.OpenFault.TheVariants.{BadField, Faul
 use Rattle.hm_recover.specs.declared.opened.Opened.{Opened}
 
 -- a disk that tells this has room for so many big-blocks
-abbrev pub HasSpace : ℕ → Told → Type 0
-HasSpace bigblocks t = HasRoom (length t.bytes) bigblocks
+abbrev pub HasSpaceFor : ℕ → Told → Type 0
+HasSpaceFor bigblocks t = HasRoom (length t.bytes) bigblocks
 
 -- the header that counts names a range of entries
 pub record NamesRange (image : List ℕ) : Type 0 where
@@ -28,14 +28,14 @@ pub record NamesRange (image : List ℕ) : Type 0 where
   pub some : 0 < header.undo_count
 
 -- the header of this slot counts, and names a range in which each entry is whole
-pub record IsReady (header : Header) (slot : ℕ) (t : Told) : Type 0 where
+pub record IsRangeReady (header : Header) (slot : ℕ) (t : Told) : Type 0 where
   pub counts : HasHeader t.bytes header slot
   pub some : 0 < header.undo_count
   pub olds : List OldPage
   pub range : HasRange t.bytes header olds
 
 -- a header in range that names no entry, and the number of a slot
-pub record IsOpened (opened : Opened) : Type 0 where
+pub record IsOpenedHeader (opened : Opened) : Type 0 where
   pub header : IsHeader opened.header
   pub slot : opened.slot ≤ 1
   pub none : opened.header.undo_count ≡ 0
@@ -54,12 +54,12 @@ pub record IsRecovered (opened : Opened) (past since : LeftSince) (old new : Tol
       ⊎ (NamesRange old.bytes × (new.unsettled ≡ []))
 
 -- A disk was not recovered: it failed, or nothing was written, and this is why. No memory is taken.
-abbrev pub IsRefused : OpenFault → LeftSince → LeftSince → Told → Told → Type 0
-IsRefused NotVolume past since old new = IsUntouched past since old new × HasFault old.bytes no_volume
-IsRefused (BadField place) past since old new = IsUntouched past since old new × HasFault old.bytes (bad_field place)
-IsRefused (of_disk (Media before after)) past since old new = Unit {0}
-IsRefused (of_disk (Damaged at kind)) past since old new = IsUntouched past since old new × HasRangeDamage old.bytes at kind
-IsRefused (of_disk NoMemory) past since old new = ⊥
+abbrev pub IsRecoveryRefused : OpenFault → LeftSince → LeftSince → Told → Told → Type 0
+IsRecoveryRefused NotVolume past since old new = IsUntouched past since old new × HasFault old.bytes no_volume
+IsRecoveryRefused (BadField place) past since old new = IsUntouched past since old new × HasFault old.bytes (bad_field place)
+IsRecoveryRefused (of_disk (Media before after)) past since old new = Unit {0}
+IsRecoveryRefused (of_disk (Damaged at kind)) past since old new = IsUntouched past since old new × HasRangeDamage old.bytes at kind
+IsRecoveryRefused (of_disk NoMemory) past since old new = ⊥
 
 -- The disk recovers to this image. Where nothing was unsettled as the call began, so does each image that a crash within it
 -- may leave.

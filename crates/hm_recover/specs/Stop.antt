@@ -9,8 +9,8 @@ use Rattle.hm_header.specs.declared.fault.HeaderFault.{HeaderFault}
 use Rattle.hm_header.specs.declared.fault.HeaderFault.TheVariants.{BadField as bad_field, NotVolume as no_volume}
 use Rattle.hm_header.specs.declared.header.Header.{Header}
 use Rattle.hm_undo.specs.Range.{HasRange, OldPage}
-use Rattle.hm_recover.specs.Damage.{IsRangeDamage, IsWhole}
-use Rattle.hm_recover.specs.Recovery.{IsRefused}
+use Rattle.hm_recover.specs.Damage.{IsRangeDamage, IsWholeEntry}
+use Rattle.hm_recover.specs.Recovery.{IsRecoveryRefused}
 use Rattle.hm_recover.specs.declared.fault.OpenFault.{OpenFault}
 use Rattle.hm_recover.specs.declared.fault.OpenFault.TheVariants.{BadField, Fault as of_disk, NotVolume}
 use Rattle.hm_recover.specs.declared.stop.Stop.{Stop}
@@ -40,26 +40,26 @@ IsStopCaused old new Failed = Rose old new
 IsStopCaused old new (Refused fault) = IsRefusal fault
 
 -- a call kept or raised the count, and failed only where it rose
-pub record HasStopCause {T : Type 0} (old new : ℕ) (result : Result T Stop) : Type 0 where
+pub record IsStopCaused {T : Type 0} (old new : ℕ) (result : Result T Stop) : Type 0 where
   pub never_falls : old ≤ new
   pub caused : IfErr result (IsStopCaused old new)
 
 -- a fault tells the damage of a range that comes first
-abbrev pub TellsDamage : List ℕ → Header → OpenFault → Type 0
-TellsDamage image header NotVolume = ⊥
-TellsDamage image header (BadField place) = ⊥
-TellsDamage image header (of_disk (Media before after)) = ⊥
-TellsDamage image header (of_disk (Damaged at kind)) = (kind ≡ BAD_UNDO) × IsRangeDamage image header at
-TellsDamage image header (of_disk NoMemory) = ⊥
+abbrev pub TellsRangeDamage : List ℕ → Header → OpenFault → Type 0
+TellsRangeDamage image header NotVolume = ⊥
+TellsRangeDamage image header (BadField place) = ⊥
+TellsRangeDamage image header (of_disk (Media before after)) = ⊥
+TellsRangeDamage image header (of_disk (Damaged at kind)) = (kind ≡ BAD_UNDO) × IsRangeDamage image header at
+TellsRangeDamage image header (of_disk NoMemory) = ⊥
 
 -- the check of a range ended: the disk failed, or this is the damage that comes first
 abbrev pub IsRangeStop : List ℕ → Header → Stop → Type 0
 IsRangeStop image header Failed = Unit {0}
-IsRangeStop image header (Refused fault) = TellsDamage image header fault
+IsRangeStop image header (Refused fault) = TellsRangeDamage image header fault
 
 -- an entry with an old page stops nothing but by a failure of the disk
 abbrev pub IsNoDamage : Header → ℕ → Stop → Told → Type 0
-IsNoDamage header entry stop t = IsWhole t.bytes header entry → IsFailed stop
+IsNoDamage header entry stop t = IsWholeEntry t.bytes header entry → IsFailed stop
 
 -- so does a range of such entries
 abbrev pub IsNoRange : Header → Stop → Told → Type 0
@@ -68,4 +68,4 @@ IsNoRange header stop t = (olds : List OldPage) → HasRange t.bytes header olds
 -- a recovery ended early: the disk failed, or nothing was written, and this is why
 abbrev pub IsStopped : Stop → LeftSince → LeftSince → Told → Told → Type 0
 IsStopped Failed past since old new = Unit {0}
-IsStopped (Refused fault) past since old new = IsRefused fault past since old new
+IsStopped (Refused fault) past since old new = IsRecoveryRefused fault past since old new

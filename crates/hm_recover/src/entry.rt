@@ -6,8 +6,8 @@ ghost use Rattle.hm_disk.specs.Moments.{SameLeft};
 ghost use Rattle.hm_header.specs.Range.{IsHeader};
 ghost use Rattle.hm_undo.specs.Entry.{IsUndoPage, IsUndoPageOf};
 ghost use Rattle.hm_undo.specs.Range.{HasUndoEntry, OldPage};
-ghost use Rattle.hm_recover.specs.Damage.{HoldsPage, IsWhole, entry_offset, old_page};
-ghost use Rattle.hm_recover.specs.Recovery.{HasSpace};
+ghost use Rattle.hm_recover.specs.Damage.{SpellsOldPage, IsWholeEntry, entry_offset, old_page};
+ghost use Rattle.hm_recover.specs.Recovery.{HasSpaceFor};
 ghost use Rattle.hm_types.specs.declared.damage.TheConstants.{BAD_UNDO};
 ghost use Rattle.hm_types.specs.declared.fault.Fault.TheVariants.{Damaged};
 ghost use Rattle.hm_recover.specs.declared.fault.OpenFault.TheVariants.{Fault as of_disk};
@@ -32,12 +32,12 @@ pub(crate) fn read_entry<D: Disk>(
 ) -> Result<Option<(HOff, Page)>, Failed>
     requires header { IsHeader header.now }
     requires entry { entry < UNDO_ENTRIES }
-    requires space { IfSome (D.told disk.old) (HasSpace header.now.bigblocks) }
+    requires space { IfSome (D.told disk.old) (HasSpaceFor header.now.bigblocks) }
     ensures page { IfOk result (λ read. IfSome read (λ old. IsUndoPageOf header.now.bigblocks old.0)) }
     ensures some { IfOk result (λ read. IfSome read (λ old. IfSome (D.told disk.old) (λ t.
         HasUndoEntry t.bytes header.now entry (old_page old.0 old.1)))) }
     ensures none { IfOk result (λ read. IfNone read (IfSome (D.told disk.old) (λ t.
-        IsWhole t.bytes header.now entry → ⊥))) }
+        IsWholeEntry t.bytes header.now entry → ⊥))) }
     ensures same { D.told disk.new ≡ D.told disk.old }
     ensures past { D.past disk.new ≡ D.past disk.old }
     ensures any_moment { SameLeft (D.left_since disk.old) (D.left_since disk.new) }
@@ -51,8 +51,8 @@ pub(crate) fn read_entry<D: Disk>(
 /// The old page that the bytes of an entry have for a header.
 fn page_of(header: &Header, bytes: &[u8; UNDO_ENTRY_BYTES]) -> Option<(HOff, Page)>
     requires { header.now.bigblocks ≤ MOST_BIGBLOCKS }
-    ensures some { IfSome result (λ old. HoldsPage bytes.now header.now (old_page old.0 old.1)) }
-    ensures none { IfNone result ((old : OldPage) → HoldsPage bytes.now header.now old → ⊥) }
+    ensures some { IfSome result (λ old. SpellsOldPage bytes.now header.now (old_page old.0 old.1)) }
+    ensures none { IfNone result ((old : OldPage) → SpellsOldPage bytes.now header.now old → ⊥) }
 {
     let (at, generation, page) = decode(bytes)?;
     if generation == header.generation && is_page_of(header.bigblocks, at) {

@@ -9,9 +9,9 @@ ghost use Rattle.hm_recover.specs.Damage.{old_page};
 ghost use Rattle.hm_disk.specs.Moments.{SameLeft};
 ghost use Rattle.hm_header.specs.Range.{IsHeader};
 ghost use Rattle.hm_undo.specs.Range.{HasRange, OldPage};
-ghost use Rattle.hm_recover.specs.Recovery.{HasSpace};
-ghost use Rattle.hm_recover.specs.Put.{HasPut, HasPutAll, MayPut, MayPutAll, MayPutPage};
-ghost use Rattle.hm_recover.specs.Stop.{HasStopCause, IsNoDamage, IsNoRange, IsRangeStop};
+ghost use Rattle.hm_recover.specs.Recovery.{HasSpaceFor};
+ghost use Rattle.hm_recover.specs.Put.{HasPutPage, HasPutAll, MayPut, MayPutAll, MayPutPage};
+ghost use Rattle.hm_recover.specs.Stop.{IsStopCaused, IsNoDamage, IsNoRange, IsRangeStop};
 
 use crate::entry::{damage, read_entry};
 use crate::stop::Stop;
@@ -25,7 +25,7 @@ use hm_undo::entry_at;
 /// of the disk an entry. It changes nothing on the disk.
 pub(crate) fn check_range<D: Disk>(disk: &mut D, header: &Header) -> Result<(), Stop>
     requires header { IsHeader header.now }
-    requires space { IfSome (D.told disk.old) (HasSpace header.now.bigblocks) }
+    requires space { IfSome (D.told disk.old) (HasSpaceFor header.now.bigblocks) }
     ensures ok { OnOk result (IfSome (D.told disk.old) (λ t.
         (olds : List OldPage) × HasRange t.bytes header.now olds)) }
     ensures err { IfErr result (λ stop. IfSome (D.told disk.old) (λ t.
@@ -33,7 +33,7 @@ pub(crate) fn check_range<D: Disk>(disk: &mut D, header: &Header) -> Result<(), 
     ensures same { D.told disk.new ≡ D.told disk.old }
     ensures past { D.past disk.new ≡ D.past disk.old }
     ensures any_moment { SameLeft (D.left_since disk.old) (D.left_since disk.new) }
-    ensures cause { HasStopCause (D.faults disk.old) (D.faults disk.new) result }
+    ensures cause { IsStopCaused (D.faults disk.old) (D.faults disk.new) result }
 {
     for i in (0..header.undo_count).rev() {
         let entry = entry_at(header.undo_first, i);
@@ -48,12 +48,12 @@ pub(crate) fn check_range<D: Disk>(disk: &mut D, header: &Header) -> Result<(), 
 /// After an error some of the pages are put back, and some may be torn.
 pub(crate) fn put_back<D: Disk>(disk: &mut D, header: &Header) -> Result<(), Stop>
     requires header { IsHeader header.now }
-    requires space { IfSome (D.told disk.old) (HasSpace header.now.bigblocks) }
+    requires space { IfSome (D.told disk.old) (HasSpaceFor header.now.bigblocks) }
     ensures ok { OnOk result (BothTell (D.told disk.old) (D.told disk.new) (HasPutAll header.now)) }
     ensures err { IfErr result (λ stop. IfSome (D.told disk.old) (IsNoRange header.now stop)) }
     ensures any_moment { BothTell (D.told disk.old) (D.told disk.new) (MayPutAll header.now
         (D.left_since disk.old) (D.left_since disk.new)) }
-    ensures cause { HasStopCause (D.faults disk.old) (D.faults disk.new) result }
+    ensures cause { IsStopCaused (D.faults disk.old) (D.faults disk.new) result }
 {
     for i in (0..header.undo_count).rev() {
         put_page(disk, header, entry_at(header.undo_first, i))?;
@@ -65,15 +65,15 @@ pub(crate) fn put_back<D: Disk>(disk: &mut D, header: &Header) -> Result<(), Sto
 fn put_page<D: Disk>(disk: &mut D, header: &Header, entry: u32) -> Result<(), Stop>
     requires header { IsHeader header.now }
     requires entry { entry < UNDO_ENTRIES }
-    requires space { IfSome (D.told disk.old) (HasSpace header.now.bigblocks) }
+    requires space { IfSome (D.told disk.old) (HasSpaceFor header.now.bigblocks) }
     ensures ok { OnOk result (BothTell (D.told disk.old) (D.told disk.new)
-        (HasPut header.now entry)) }
+        (HasPutPage header.now entry)) }
     ensures err { IfErr result (λ stop. IfSome (D.told disk.old)
         (IsNoDamage header.now entry stop)) }
     ensures any_moment { BothTell (D.told disk.old) (D.told disk.new) (MayPut header.now entry
         (D.left_since disk.old) (D.left_since disk.new)) }
-    ensures space { IfSome (D.told disk.new) (HasSpace header.now.bigblocks) }
-    ensures cause { HasStopCause (D.faults disk.old) (D.faults disk.new) result }
+    ensures space { IfSome (D.told disk.new) (HasSpaceFor header.now.bigblocks) }
+    ensures cause { IsStopCaused (D.faults disk.old) (D.faults disk.new) result }
 {
     match read_entry(disk, header, entry)? {
         Some(old) => Ok(write_page(disk, &old)?),

@@ -2,8 +2,8 @@
 ghost use Rattle.std.specs.Prelude.{◌≡◌, ◌≤◌, ◌<◌, IfErr, IfOk, IfSome};
 ghost use Rattle.hm_types.specs.Told.{BothTell};
 ghost use Rattle.hm_header.specs.Range.{IsHeader};
-ghost use Rattle.hm_recover.specs.Recovery.{HasRecoveryCause, IsOpened, IsReady, IsRecovered, IsRefused, KeepsRecovery};
-ghost use Rattle.hm_recover.specs.Stop.{HasStopCause, IsFailed, IsOfHeader, IsStopped};
+ghost use Rattle.hm_recover.specs.Recovery.{HasRecoveryCause, IsOpenedHeader, IsRangeReady, IsRecovered, IsRecoveryRefused, KeepsRecovery};
+ghost use Rattle.hm_recover.specs.Stop.{IsStopCaused, IsFailed, IsOfHeader, IsStopped};
 
 use crate::fault::OpenFault;
 use crate::opened::Opened;
@@ -24,11 +24,11 @@ use hm_types::Fault;
 ///
 /// It takes no memory. Each pass reads an entry in one call of 4,128 bytes.
 pub fn recover<D: Disk>(disk: &mut D) -> Result<Opened, OpenFault>
-    ensures opened { IfOk result IsOpened }
+    ensures opened { IfOk result IsOpenedHeader }
     ensures ok { IfOk result (λ opened. BothTell (D.told disk.old) (D.told disk.new)
         (IsRecovered opened (D.left_since disk.old) (D.left_since disk.new))) }
     ensures err { IfErr result (λ fault. BothTell (D.told disk.old) (D.told disk.new)
-        (IsRefused fault (D.left_since disk.old) (D.left_since disk.new))) }
+        (IsRecoveryRefused fault (D.left_since disk.old) (D.left_since disk.new))) }
     ensures any_moment { BothTell (D.told disk.old) (D.told disk.new)
         (KeepsRecovery (D.left_since disk.old) (D.left_since disk.new)) }
     ensures cause { HasRecoveryCause (D.faults disk.old) (D.faults disk.new) result }
@@ -46,14 +46,14 @@ pub fn recover<D: Disk>(disk: &mut D) -> Result<Opened, OpenFault>
 
 /// The same, with its errors as they are met.
 fn try_recover<D: Disk>(disk: &mut D) -> Result<Opened, Stop>
-    ensures opened { IfOk result IsOpened }
+    ensures opened { IfOk result IsOpenedHeader }
     ensures ok { IfOk result (λ opened. BothTell (D.told disk.old) (D.told disk.new)
         (IsRecovered opened (D.left_since disk.old) (D.left_since disk.new))) }
     ensures err { IfErr result (λ stop. BothTell (D.told disk.old) (D.told disk.new)
         (IsStopped stop (D.left_since disk.old) (D.left_since disk.new))) }
     ensures any_moment { BothTell (D.told disk.old) (D.told disk.new)
         (KeepsRecovery (D.left_since disk.old) (D.left_since disk.new)) }
-    ensures cause { HasStopCause (D.faults disk.old) (D.faults disk.new) result }
+    ensures cause { IsStopCaused (D.faults disk.old) (D.faults disk.new) result }
 {
     let (header, slot) = match hm_header::read_header(disk)? {
         Ok(answer) => answer,
@@ -80,14 +80,14 @@ fn of_header(fault: HeaderFault) -> OpenFault
 fn undo_range<D: Disk>(disk: &mut D, header: &Header, slot: u8) -> Result<Opened, Stop>
     requires header { IsHeader header.now }
     requires slot { slot ≤ 1 }
-    requires ready { IfSome (D.told disk.old) (IsReady header.now slot) }
-    ensures opened { IfOk result IsOpened }
+    requires ready { IfSome (D.told disk.old) (IsRangeReady header.now slot) }
+    ensures opened { IfOk result IsOpenedHeader }
     ensures ok { IfOk result (λ opened. BothTell (D.told disk.old) (D.told disk.new)
         (IsRecovered opened (D.left_since disk.old) (D.left_since disk.new))) }
     ensures err { IfErr result (λ stop. IfSome (D.told disk.old) (λ _. IsFailed stop)) }
     ensures any_moment { BothTell (D.told disk.old) (D.told disk.new)
         (KeepsRecovery (D.left_since disk.old) (D.left_since disk.new)) }
-    ensures cause { HasStopCause (D.faults disk.old) (D.faults disk.new) result }
+    ensures cause { IsStopCaused (D.faults disk.old) (D.faults disk.new) result }
 {
     put_back(disk, header)?;
     disk.sync()?;

@@ -2,7 +2,7 @@ use Rattle.std.proofs.Common.{ℕ, ◌-◌, subst, ◌∙◌, arith, Option, IfS
 use Rattle.hm_disk.specs.Crash.{Told}
 use Rattle.hm_disk.proofs.MomentLemmas.{SameLeft-then}
 use Rattle.hm_undo.specs.Log.{entry_at}
-use Rattle.hm_recover.specs.Damage.{IsWhole}
+use Rattle.hm_recover.specs.Damage.{IsWholeEntry}
 use Rattle.hm_header.proofs.AnswerLemmas.{IfSome-map}
 use Rattle.hm_recover.proofs.AnswerLemmas.{IfSome-two, read-whole}
 use Rattle.hm_recover.proofs.DamageLemmas.{range-of-wholes, wholes-more}
@@ -15,9 +15,9 @@ loop-i-preserved g c =
     let read = c.in_ok-read_entry.ensures in
     let i = c.loop-i.i in
     let old = g.D.Disk.told c.args.disk.now in
-    let here : IfSome old (λ t. IsWhole t.bytes header (entry_at header.undo_first (i - 1))) =
-    subst (λ (n : ℕ). IfSome old (λ t. IsWhole t.bytes header n)) c.entry_at-entry.ensures.value
-    (subst (λ (o : Option Told). IfSome o (λ t. IsWhole t.bytes header c.entry_at-entry.result)) was.told
+    let here : IfSome old (λ t. IsWholeEntry t.bytes header (entry_at header.undo_first (i - 1))) =
+    subst (λ (n : ℕ). IfSome old (λ t. IsWholeEntry t.bytes header n)) c.entry_at-entry.ensures.value
+    (subst (λ (o : Option Told). IfSome o (λ t. IsWholeEntry t.bytes header c.entry_at-entry.result)) was.told
     (read-whole c.in_ok-read_entry.field-0 (g.D.Disk.told c.loop-i.disk) header c.entry_at-entry.result c.if-is_none.ensures read.some)) in
     record {
       told = read.same ∙ was.told;

@@ -4,8 +4,8 @@ use Rattle.hm_types.specs.Told.{BothTell}
 use Rattle.hm_disk.specs.Crash.{Told}
 use Rattle.hm_disk.proofs.DiskLemmas.{BothTell-and, BothTell-then}
 use Rattle.hm_undo.specs.Log.{entry_at}
-use Rattle.hm_recover.specs.Put.{HasPut, MayPut}
-use Rattle.hm_recover.specs.Recovery.{HasSpace}
+use Rattle.hm_recover.specs.Put.{HasPutPage, MayPut}
+use Rattle.hm_recover.specs.Recovery.{HasSpaceFor}
 use Rattle.hm_recover.specs.Stop.{IsNoDamage, IsNoRange}
 use Rattle.hm_recover.proofs.AnswerLemmas.{IfSome-back}
 use Rattle.hm_recover.proofs.PutLemmas.{PutSoFar, may-more, so-far-more, still-whole}
@@ -25,11 +25,11 @@ loop-i-preserved g c =
     let since = g.D.Disk.left_since c.put_page.new.disk in
     let next : i ≡ i - 1 + 1 = omega (arith, c.loop-i-test.true) in
     let below : i - 1 < header.undo_count = omega (arith, c.loop-i-test.true, c.loop-i.auto.i) in
-    let Both : ℕ → Told → Told → Type 0 = λ n t u. HasPut header n t u × MayPut header n middle since t u in
+    let Both : ℕ → Told → Told → Type 0 = λ n t u. HasPutPage header n t u × MayPut header n middle since t u in
     let both : BothTell told new (Both (entry_at header.undo_first (i - 1))) =
     subst (λ (n : ℕ). BothTell told new (Both n)) c.entry_at.ensures.value (BothTell-and told new _ _ put.ok put.any_moment) in
     record {
-      told = BothTell-then old told new (HasSpace header.bigblocks) _ (Both (entry_at header.undo_first (i - 1))) _
+      told = BothTell-then old told new (HasSpaceFor header.bigblocks) _ (Both (entry_at header.undo_first (i - 1))) _
           (λ s t u fits first then olds range. so-far-more header olds s range past middle since t u (i - 1) below
           (subst (λ (n : ℕ). PutSoFar olds n past middle s t) next (first olds range)) then.0 then.1)
           c.requires.space was.told both;
@@ -51,7 +51,7 @@ returns-in_err-put_page-clause-any_moment g c =
     let since = g.D.Disk.left_since c.put_page.new.disk in
     let next : i ≡ i - 1 + 1 = omega (arith, c.loop-i-test.true) in
     let below : i - 1 < header.undo_count = omega (arith, c.loop-i-test.true, c.loop-i.auto.i) in
-    BothTell-then old told new (HasSpace header.bigblocks) _ (MayPut header (entry_at header.undo_first (i - 1)) middle since) _
+    BothTell-then old told new (HasSpaceFor header.bigblocks) _ (MayPut header (entry_at header.undo_first (i - 1)) middle since) _
     (λ s t u fits first then olds range. may-more header olds s range past middle since t u (i - 1) below
     (subst (λ (n : ℕ). PutSoFar olds n past middle s t) next (first olds range)) then)
     c.requires.space was.told (subst (λ (n : ℕ). BothTell told new (MayPut header n middle since)) c.entry_at.ensures.value put.any_moment)
@@ -69,7 +69,7 @@ returns-in_err-put_page-clause-err g c =
     let next : i ≡ i - 1 + 1 = omega (arith, c.loop-i-test.true) in
     let below : i - 1 < header.undo_count = omega (arith, c.loop-i-test.true, c.loop-i.auto.i) in
     let p = err_from_is_err_and c.from_residual.result c.from_residual.ensures.1 in
-    rw (p.1, p.2) (IfSome-back old told (HasSpace header.bigblocks) (IsNoDamage header (entry_at header.undo_first (i - 1)) stop) (IsNoRange header stop) _
+    rw (p.1, p.2) (IfSome-back old told (HasSpaceFor header.bigblocks) (IsNoDamage header (entry_at header.undo_first (i - 1)) stop) (IsNoRange header stop) _
     (λ s t fits first holds olds range. holds (still-whole header olds s range past middle t (i - 1) below
     (subst (λ (n : ℕ). PutSoFar olds n past middle s t) next (first olds range))))
     c.requires.space was.told

@@ -6,7 +6,7 @@ use Rattle.hm_disk.proofs.DiskLemmas.{BothTell-and, BothTell-map, BothTell-then}
 use Rattle.hm_header.specs.Change.{ChangeElapses, Changes, ChangeFailed}
 use Rattle.hm_undo.specs.Recovered.{recovered_header}
 use Rattle.hm_recover.specs.Put.{MayPutAll}
-use Rattle.hm_recover.specs.Recovery.{IsReady, KeepsRecovery}
+use Rattle.hm_recover.specs.Recovery.{IsRangeReady, KeepsRecovery}
 use Rattle.hm_recover.proofs.AnswerLemmas.{IfSome-unit, told-bytes}
 use Rattle.hm_recover.proofs.RecoverLemmas.{after-change, after-changed, after-counts, after-sync, changes-made, put-keeps, sync-keeps}
 use Rattle.hm_recover.proofs.recovery.undo_range.Goals as goal
@@ -15,7 +15,7 @@ pub returns-in_err-put_back-clause-any_moment : goal.returns-in_err-put_back-cla
 returns-in_err-put_back-clause-any_moment g c =
     let past = g.D.Disk.left_since c.args.disk.now in
     let since = g.D.Disk.left_since c.put_back.new.disk in
-    BothTell-map (g.D.Disk.told c.args.disk.now) (g.D.Disk.told c.put_back.new.disk) (IsReady c.args.header.now c.args.slot)
+    BothTell-map (g.D.Disk.told c.args.disk.now) (g.D.Disk.told c.put_back.new.disk) (IsRangeReady c.args.header.now c.args.slot)
     (MayPutAll c.args.header.now past since) (KeepsRecovery past since)
     (λ s t ready put. put-keeps c.args.header.now c.args.slot c.requires.slot past s ready since t put) c.requires.ready c.in_err-put_back.ensures.any_moment
 
@@ -26,7 +26,7 @@ returns-in_err-sync-clause-any_moment g c =
     let since = g.D.Disk.left_since c.sync.new.self in
     let told = g.D.Disk.told c.put_back.new.disk in
     let new = g.D.Disk.told c.sync.new.self in
-    BothTell-then (g.D.Disk.told c.args.disk.now) told new (IsReady c.args.header.now c.args.slot) (MayPutAll c.args.header.now past middle)
+    BothTell-then (g.D.Disk.told c.args.disk.now) told new (IsRangeReady c.args.header.now c.args.slot) (MayPutAll c.args.header.now past middle)
     (λ t u. (u.bytes ≡ t.bytes) × SyncElapses middle since t u) (KeepsRecovery past since)
     (λ s t u ready put then. sync-keeps c.args.header.now c.args.slot c.requires.slot past s ready middle since t u put then.0 then.1)
     c.requires.ready c.in_ok-put_back.ensures.any_moment
