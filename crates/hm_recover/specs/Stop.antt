@@ -40,7 +40,7 @@ IsStopCaused old new Failed = Rose old new
 IsStopCaused old new (Refused fault) = IsRefusal fault
 
 -- a call kept or raised the count, and failed only where it rose
-pub record IsStopCaused {T : Type 0} (old new : ℕ) (result : Result T Stop) : Type 0 where
+pub record HasEndCause {T : Type 0} (old new : ℕ) (result : Result T Stop) : Type 0 where
   pub never_falls : old ≤ new
   pub caused : IfErr result (IsStopCaused old new)
 

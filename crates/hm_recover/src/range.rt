@@ -11,7 +11,7 @@ ghost use Rattle.hm_header.specs.Range.{IsHeader};
 ghost use Rattle.hm_undo.specs.Range.{HasRange, OldPage};
 ghost use Rattle.hm_recover.specs.Recovery.{HasSpaceFor};
 ghost use Rattle.hm_recover.specs.Put.{HasPutPage, HasPutAll, MayPut, MayPutAll, MayPutPage};
-ghost use Rattle.hm_recover.specs.Stop.{IsStopCaused, IsNoDamage, IsNoRange, IsRangeStop};
+ghost use Rattle.hm_recover.specs.Stop.{HasEndCause, IsNoDamage, IsNoRange, IsRangeStop};
 
 use crate::entry::{damage, read_entry};
 use crate::stop::Stop;
@@ -33,7 +33,7 @@ pub(crate) fn check_range<D: Disk>(disk: &mut D, header: &Header) -> Result<(), 
     ensures same { D.told disk.new ≡ D.told disk.old }
     ensures past { D.past disk.new ≡ D.past disk.old }
     ensures any_moment { SameLeft (D.left_since disk.old) (D.left_since disk.new) }
-    ensures cause { IsStopCaused (D.faults disk.old) (D.faults disk.new) result }
+    ensures cause { HasEndCause (D.faults disk.old) (D.faults disk.new) result }
 {
     for i in (0..header.undo_count).rev() {
         let entry = entry_at(header.undo_first, i);
@@ -53,7 +53,7 @@ pub(crate) fn put_back<D: Disk>(disk: &mut D, header: &Header) -> Result<(), Sto
     ensures err { IfErr result (λ stop. IfSome (D.told disk.old) (IsNoRange header.now stop)) }
     ensures any_moment { BothTell (D.told disk.old) (D.told disk.new) (MayPutAll header.now
         (D.left_since disk.old) (D.left_since disk.new)) }
-    ensures cause { IsStopCaused (D.faults disk.old) (D.faults disk.new) result }
+    ensures cause { HasEndCause (D.faults disk.old) (D.faults disk.new) result }
 {
     for i in (0..header.undo_count).rev() {
         put_page(disk, header, entry_at(header.undo_first, i))?;
@@ -73,7 +73,7 @@ fn put_page<D: Disk>(disk: &mut D, header: &Header, entry: u32) -> Result<(), St
     ensures any_moment { BothTell (D.told disk.old) (D.told disk.new) (MayPut header.now entry
         (D.left_since disk.old) (D.left_since disk.new)) }
     ensures space { IfSome (D.told disk.new) (HasSpaceFor header.now.bigblocks) }
-    ensures cause { IsStopCaused (D.faults disk.old) (D.faults disk.new) result }
+    ensures cause { HasEndCause (D.faults disk.old) (D.faults disk.new) result }
 {
     match read_entry(disk, header, entry)? {
         Some(old) => Ok(write_page(disk, &old)?),

@@ -3,7 +3,7 @@ ghost use Rattle.std.specs.Prelude.{◌≡◌, ◌≤◌, ◌<◌, IfErr, IfOk, 
 ghost use Rattle.hm_types.specs.Told.{BothTell};
 ghost use Rattle.hm_header.specs.Range.{IsHeader};
 ghost use Rattle.hm_recover.specs.Recovery.{HasRecoveryCause, IsOpenedHeader, IsRangeReady, IsRecovered, IsRecoveryRefused, KeepsRecovery};
-ghost use Rattle.hm_recover.specs.Stop.{IsStopCaused, IsFailed, IsOfHeader, IsStopped};
+ghost use Rattle.hm_recover.specs.Stop.{HasEndCause, IsFailed, IsOfHeader, IsStopped};
 
 use crate::fault::OpenFault;
 use crate::opened::Opened;
@@ -53,7 +53,7 @@ fn try_recover<D: Disk>(disk: &mut D) -> Result<Opened, Stop>
         (IsStopped stop (D.left_since disk.old) (D.left_since disk.new))) }
     ensures any_moment { BothTell (D.told disk.old) (D.told disk.new)
         (KeepsRecovery (D.left_since disk.old) (D.left_since disk.new)) }
-    ensures cause { IsStopCaused (D.faults disk.old) (D.faults disk.new) result }
+    ensures cause { HasEndCause (D.faults disk.old) (D.faults disk.new) result }
 {
     let (header, slot) = match hm_header::read_header(disk)? {
         Ok(answer) => answer,
@@ -87,7 +87,7 @@ fn undo_range<D: Disk>(disk: &mut D, header: &Header, slot: u8) -> Result<Opened
     ensures err { IfErr result (λ stop. IfSome (D.told disk.old) (λ _. IsFailed stop)) }
     ensures any_moment { BothTell (D.told disk.old) (D.told disk.new)
         (KeepsRecovery (D.left_since disk.old) (D.left_since disk.new)) }
-    ensures cause { IsStopCaused (D.faults disk.old) (D.faults disk.new) result }
+    ensures cause { HasEndCause (D.faults disk.old) (D.faults disk.new) result }
 {
     put_back(disk, header)?;
     disk.sync()?;
