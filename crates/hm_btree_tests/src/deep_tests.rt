@@ -23,29 +23,30 @@ fn add(space: &mut NodeTable, node: &Node) -> Result<HOff, Fail> {
 
 // The first node of a level: 16 children, of which the first is the node below, and no search comes to
 // the others. The boundaries of a level are before those of the levels above.
-fn first_of(level: u8, below: HOff) -> Node {
+fn first_of(level: u8, below: HOff) -> Result<Node, Fail> {
     let mut places = ArrayVec::new();
     for i in 0..16u64 {
         let left = match i {
             0 => Base::least(),
             _ => boundary(u64::from(level) * 16 + i),
         };
-        places.push(Child {
+        let child = Child {
             left,
             child: below,
             mirror: 1,
-        });
+        };
+        places.try_push(child).ok().ok_or("no room")?;
     }
     let right = match level {
         9 => Base::greatest(),
         _ => boundary(u64::from(level) * 16 + 17),
     };
-    Node::Inner(Inner {
+    Ok(Node::Inner(Inner {
         level,
         mirror: 1,
         places,
         right,
-    })
+    }))
 }
 
 // A tree whose first leaf, below eight inner nodes, has the keys 3 and 6.
@@ -56,7 +57,7 @@ fn deep(alloc: Global) -> Result<BTree<NodeTable>, Fail> {
     places.push(element(6, 1));
     let mut top = add(&mut space, &Node::Leaf(Leaf { mirror: 1, places }))?;
     for level in 2..10u8 {
-        top = add(&mut space, &first_of(level, top))?;
+        top = add(&mut space, &first_of(level, top)?)?;
     }
     Ok(BTree::over(space, top))
 }
