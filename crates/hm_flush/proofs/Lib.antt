@@ -4,3 +4,4 @@ pub mod MoveLemmas
 pub mod MakeLemmas
 pub mod StandLemmas
 pub mod StageLemmas
+pub mod KeptLemmas

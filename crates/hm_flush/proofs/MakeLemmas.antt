@@ -23,12 +23,12 @@ use Rattle.hm_flush.specs.declared.flush.Position.{Position}
 use Rattle.hm_flush.specs.declared.flush.Position.TheVariants.{Idle, Undoing, Arming, Placing, Committing}
 use Rattle.hm_flush.specs.declared.stage.Stage.{Stage}
 use Rattle.hm_flush.specs.declared.stage.Stage.TheVariants.{Freeze, Undo, UndoSync, Arm, Place, PlaceSync, Commit}
-use Rattle.hm_flush.specs.Calls.{HeaderStands, Stands}
+use Rattle.hm_flush.specs.Calls.{HeaderStands, FlushStands}
 use Rattle.hm_flush.specs.Change.{change_asks, change_range}
-use Rattle.hm_flush.specs.Device.{IsPlaced, IsSaved}
-use Rattle.hm_flush.specs.Flush.{change_of, next_generation, next_header_at}
+use Rattle.hm_flush.specs.Device.{IsPageWritten, IsSaved}
+use Rattle.hm_flush.specs.Flush.{due_change, next_generation, header_to_write_at}
 use Rattle.hm_flush.specs.Group.{Group, next_live}
-use Rattle.hm_flush.specs.Stages.{IsChangeMade, MakesStage, asks_at, due_at, place_range, undo_range}
+use Rattle.hm_flush.specs.Stages.{IsChangeMade, MakesStage, asks_at, due_stage_at, place_range, undo_range}
 
 -- a write that succeeded
 written-torn : (place : ℕ) (bytes : List ℕ) (s t : Told) → place + length bytes ≤ length s.bytes → Written place bytes s t
@@ -56,7 +56,7 @@ saved-torn place generation at s t room inside written = torn-sized place UNDO_E
     sized : length (undo_entry_of at generation page) ≡ 4128
     sized = omega (arith, length-entry at generation page, length-slice s.bytes (byte_of at) (byte_of at + PAGE_BYTES) inside)
 
-pub placed-torn : (g : Group) (i : ℕ) (s t : Told) → byte_of (slice_index g.places i) + PAGE_BYTES ≤ length s.bytes → IsPlaced g i s t
+pub placed-torn : (g : Group) (i : ℕ) (s t : Told) → byte_of (slice_index g.places i) + PAGE_BYTES ≤ length s.bytes → IsPageWritten g i s t
     → TornAll (byte_of (slice_index g.places i)) PAGE_BYTES s t
 placed-torn g i s t inside placed = torn-sized (byte_of (slice_index g.places i)) PAGE_BYTES placed.page s t placed.sized inside placed.written
 
@@ -68,7 +68,7 @@ made-undo f g i s t room inside written =
     let torn = saved-torn (undo_range f).0 (next_generation f.header) (slice_index g.places i) s t room inside written in
     record { made = written; others = torn.bytes_are; unsettled = torn.unsettled_are; settled = λ synced. absurd (cc) }
 
-pub made-place : (f : Flush) (g : Group) (i : ℕ) (s t : Told) → byte_of (slice_index g.places i) + PAGE_BYTES ≤ length s.bytes → IsPlaced g i s t
+pub made-place : (f : Flush) (g : Group) (i : ℕ) (s t : Told) → byte_of (slice_index g.places i) + PAGE_BYTES ≤ length s.bytes → IsPageWritten g i s t
     → MakesStage (Place i) f g s t
 made-place f g i s t inside placed =
     let torn = placed-torn g i s t inside placed in
@@ -116,16 +116,16 @@ made-commit f g number s t done = record {
 pub counting-within : (header : Header) (slot : ℕ) (s : Told) (place count : ℕ) → 2 * SLOT_BYTES ≤ place → place + count ≤ length s.bytes
     → AnyCrash (IsCounting header slot) s → Each (MayLeave s.bytes ((place, count) ∷ s.unsettled)) (IsCounting header slot)
 counting-within header slot s place count past within safe =
-    let begun : Told = record { bytes = s.bytes; unsettled = (place, count) ∷ s.unsettled; moment = s.moment } in
-    past-counting s begun place count header slot past within
+    let writing : Told = record { bytes = s.bytes; unsettled = (place, count) ∷ s.unsettled; moment = s.moment } in
+    past-counting s writing place count header slot past within
     (record { bytes_are = MayLeave-same s.bytes ((place, count) ∷ []); unsettled_are = λ byte outside. outside; moment_is = refl }) safe
 
--- What a stage asks for, by what is due.
+-- What a stage asks for, by what is due_stage.
 other-stage : (b : Bool) (i j : ℕ) → (if b then Place i else PlaceSync) ≡ Undo j → ⊥
 other-stage true i j is = cc
 other-stage false i j is = cc
 
-pub undo-asks : (p : Position) (f : Flush) (g : Group) (i : ℕ) → due_at p f g ≡ Undo i → (bytes : List ℕ) → asks_at p f bytes
+pub undo-asks : (p : Position) (f : Flush) (g : Group) (i : ℕ) → due_stage_at p f g ≡ Undo i → (bytes : List ℕ) → asks_at p f bytes
 undo-asks Idle f g i is bytes = tt
 undo-asks (Undoing from) f g i is bytes = tt
 undo-asks (Arming change) f g i is bytes = absurd (cc)
@@ -137,7 +137,7 @@ place-none true i j is = cc
 place-none false i j is = cc
 
 -- where a page is placed, the header counts whatever a crash leaves
-pub place-asks : (p : Position) (f : Flush) (g : Group) (i : ℕ) (t : Told) → due_at p f g ≡ Place i → HeaderStands p f t
+pub place-asks : (p : Position) (f : Flush) (g : Group) (i : ℕ) (t : Told) → due_stage_at p f g ≡ Place i → HeaderStands p f t
     → AnyCrash (IsCounting f.header f.slot) t
 place-asks Idle f g i t is stands = absurd (cc)
 place-asks (Undoing from) f g i t is stands = absurd (place-none (nat_lt (next_live g.was_live from (f.pages - from)) f.pages) _ i is)
@@ -145,7 +145,7 @@ place-asks (Arming change) f g i t is stands = absurd (cc)
 place-asks (Placing j) f g i t is stands = stands
 place-asks (Committing change) f g i t is stands = absurd (cc)
 
-pub asks-place : (F : (List ℕ → Type 0) → Type 0) (p : Position) (f : Flush) (g : Group) (i : ℕ) → due_at p f g ≡ Place i
+pub asks-place : (F : (List ℕ → Type 0) → Type 0) (p : Position) (f : Flush) (g : Group) (i : ℕ) → due_stage_at p f g ≡ Place i
     → F (IsCounting f.header f.slot) → F (asks_at p f)
 asks-place F Idle f g i is of = absurd (cc)
 asks-place F (Undoing from) f g i is of = absurd (place-none (nat_lt (next_live g.was_live from (f.pages - from)) f.pages) _ i is)

@@ -13,7 +13,7 @@ IsSaved place generation at old new =
     Written place (undo_entry_of at generation (slice_range old.bytes (byte_of at) (byte_of at + PAGE_BYTES))) old new
 
 -- the page of this number was written where it belongs
-pub record IsPlaced (group : Group) (i : ℕ) (old new : Told) : Type 0 where
+pub record IsPageWritten (group : Group) (i : ℕ) (old new : Told) : Type 0 where
   pub page : List ℕ
   pub page_is : group.page i ≡ Some page
   pub sized : length page ≡ PAGE_BYTES

@@ -38,15 +38,15 @@ committed_header header target = record header {
 }
 
 -- the header that a flush changes to next, at each position
-abbrev pub next_header_at : Position → Flush → Header
-next_header_at Idle f = armed_header f.header f.written
-next_header_at (Undoing from) f = armed_header f.header f.written
-next_header_at (Arming change) f = armed_header f.header f.written
-next_header_at (Placing i) f = committed_header f.header f.target
-next_header_at (Committing change) f = committed_header f.header f.target
+abbrev pub header_to_write_at : Position → Flush → Header
+header_to_write_at Idle f = armed_header f.header f.written
+header_to_write_at (Undoing from) f = armed_header f.header f.written
+header_to_write_at (Arming change) f = armed_header f.header f.written
+header_to_write_at (Placing i) f = committed_header f.header f.target
+header_to_write_at (Committing change) f = committed_header f.header f.target
 
-abbrev pub next_header : Flush → Header
-next_header f = next_header_at f.at f
+abbrev pub header_to_write : Flush → Header
+header_to_write f = header_to_write_at f.at f
 
 -- The numbers of a flush fit its position. All entries are written from the success of UndoSync on.
 abbrev pub AreCounts : Position → Flush → Type 0
@@ -111,10 +111,10 @@ abbrev pub left : Flush → ℕ
 left f = left_at f.at f
 
 -- the flush that begins as a group was frozen, of so many pages, of which so many were live
-abbrev pub begun : Header → ℕ → ℕ → Flush → Flush
-begun target pages live f = record f { target = target; at = Undoing 0; pages = pages; live = live; written = 0 }
+abbrev pub begun_flush : Header → ℕ → ℕ → Flush → Flush
+begun_flush target pages live f = record f { target = target; at = Undoing 0; pages = pages; live = live; written = 0 }
 
--- the position after the stage that is due was tried and failed: where it opens a gate, that was tried from then on
+-- the position after the stage that is due_stage was tried and failed: where it opens a gate, that was tried from then on
 abbrev pub tried_change : Change → Change
 tried_change Close = Close
 tried_change Write = Write
@@ -134,15 +134,15 @@ tried f = record f { at = tried_at f.at }
 abbrev pub idle_flush : Header → ℕ → Flush
 idle_flush header slot = record { header = header; slot = slot; target = header; at = Idle; pages = 0; live = 0; written = 0 }
 
--- which stage of a header change is due
-abbrev pub change_of : Position → Change
-change_of Idle = Close
-change_of (Undoing from) = Close
-change_of (Arming change) = change
-change_of (Placing i) = Close
-change_of (Committing change) = change
+-- which stage of a header change is due_stage
+abbrev pub due_change : Position → Change
+due_change Idle = Close
+due_change (Undoing from) = Close
+due_change (Arming change) = change
+due_change (Placing i) = Close
+due_change (Committing change) = change
 
--- whether the stage that is due ends the flush
+-- whether the stage that is due_stage ends the flush
 abbrev pub is_last : Position → Bool
 is_last Idle = false
 is_last (Undoing from) = false

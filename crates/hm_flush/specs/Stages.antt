@@ -1,4 +1,4 @@
--- The stages of a flush: which is due, how far it brings the flush, and what it does to the disk.
+-- The stages of a flush: which is due_stage, how far it brings the flush, and what it does to the disk.
 use Rattle.std.specs.Prelude.{◌≡◌, ℕ, ◌+◌, ◌-◌, ◌<◌, Bool, false, true, List, [], ◌∷◌, nat_lt, slice_index, if◌then◌else◌}
 use Rattle.hm_types.specs.declared.limits.TheConstants.{PAGE_BYTES, UNDO_ENTRY_BYTES}
 use Rattle.hm_types.specs.Offset.{byte_of}
@@ -15,21 +15,21 @@ use Rattle.hm_flush.specs.declared.flush.Position.TheVariants.{Idle, Undoing, Ar
 use Rattle.hm_flush.specs.declared.stage.Stage.{Stage}
 use Rattle.hm_flush.specs.declared.stage.Stage.TheVariants.{Freeze, Undo, UndoSync, Arm, Place, PlaceSync, Commit}
 use Rattle.hm_flush.specs.Change.{change_asks, change_brings, change_number, change_range}
-use Rattle.hm_flush.specs.Device.{IsPlaced, IsSaved}
-use Rattle.hm_flush.specs.Flush.{change_of, next_generation, next_header}
+use Rattle.hm_flush.specs.Device.{IsPageWritten, IsSaved}
+use Rattle.hm_flush.specs.Flush.{due_change, next_generation, header_to_write}
 use Rattle.hm_flush.specs.Group.{Group, next_live}
 
--- the stage that is due at each position: each live page is saved, and then each page placed
-abbrev pub due_at : Position → Flush → Group → Stage
-due_at Idle f g = Freeze
-due_at (Undoing from) f g =
+-- the stage that is due_stage at each position: each live page is saved, and then each page placed
+abbrev pub due_stage_at : Position → Flush → Group → Stage
+due_stage_at Idle f g = Freeze
+due_stage_at (Undoing from) f g =
     if nat_lt (next_live g.was_live from (f.pages - from)) f.pages then Undo (next_live g.was_live from (f.pages - from)) else UndoSync
-due_at (Arming change) f g = Arm (change_number change)
-due_at (Placing i) f g = if nat_lt i f.pages then Place i else PlaceSync
-due_at (Committing change) f g = Commit (change_number change)
+due_stage_at (Arming change) f g = Arm (change_number change)
+due_stage_at (Placing i) f g = if nat_lt i f.pages then Place i else PlaceSync
+due_stage_at (Committing change) f g = Commit (change_number change)
 
-abbrev pub due : Flush → Group → Stage
-due f g = due_at f.at f g
+abbrev pub due_stage : Flush → Group → Stage
+due_stage f g = due_stage_at f.at f g
 
 -- the number of a page, where a stage has one, is that of one of so many
 abbrev pub IsNumbered : Stage → ℕ → Type 0
@@ -45,23 +45,23 @@ IsNumbered (Commit number) pages = Unit {0}
 abbrev pub armed : Change → Flush → Flush
 armed Close f = record f { at = Arming Write }
 armed Write f = record f { at = Arming (Open false) }
-armed (Open tried) f = record f { header = next_header f; slot = 1 - f.slot; at = Placing 0 }
+armed (Open tried) f = record f { header = header_to_write f; slot = 1 - f.slot; at = Placing 0 }
 
 -- the flush after a stage of Commit: the last ends it
 abbrev pub committed : Change → Flush → Flush
 committed Close f = record f { at = Committing Write }
 committed Write f = record f { at = Committing (Open false) }
-committed (Open tried) f = record f { header = next_header f; slot = 1 - f.slot; at = Idle }
+committed (Open tried) f = record f { header = header_to_write f; slot = 1 - f.slot; at = Idle }
 
 -- the flush in flight after this stage succeeded
-abbrev pub moved : Stage → Flush → Flush
-moved Freeze f = f
-moved (Undo i) f = record f { at = Undoing (i + 1); written = f.written + 1 }
-moved UndoSync f = record f { at = Arming Close }
-moved (Arm number) f = armed (change_of f.at) f
-moved (Place i) f = record f { at = Placing (i + 1) }
-moved PlaceSync f = record f { at = Committing Close }
-moved (Commit number) f = committed (change_of f.at) f
+abbrev pub moved_flush : Stage → Flush → Flush
+moved_flush Freeze f = f
+moved_flush (Undo i) f = record f { at = Undoing (i + 1); written = f.written + 1 }
+moved_flush UndoSync f = record f { at = Arming Close }
+moved_flush (Arm number) f = armed (due_change f.at) f
+moved_flush (Place i) f = record f { at = Placing (i + 1) }
+moved_flush PlaceSync f = record f { at = Committing Close }
+moved_flush (Commit number) f = committed (due_change f.at) f
 
 -- the entry that is written next
 abbrev pub undo_range : Flush → ℕ × ℕ
@@ -76,21 +76,21 @@ abbrev pub stage_range : Stage → Flush → Group → ℕ × ℕ
 stage_range Freeze f g = (0, 0)
 stage_range (Undo i) f g = undo_range f
 stage_range UndoSync f g = (0, 0)
-stage_range (Arm number) f g = change_range (change_of f.at) f.slot
+stage_range (Arm number) f g = change_range (due_change f.at) f.slot
 stage_range (Place i) f g = place_range g i
 stage_range PlaceSync f g = (0, 0)
-stage_range (Commit number) f g = change_range (change_of f.at) f.slot
+stage_range (Commit number) f g = change_range (due_change f.at) f.slot
 
 abbrev pub range_of : Flush → Group → ℕ × ℕ
-range_of f g = stage_range (due f g) f g
+range_of f g = stage_range (due_stage f g) f g
 
 -- what a stage asks for, of each image that a crash may leave, and keeps within itself and where it fails
 abbrev pub asks_at : Position → Flush → List ℕ → Type 0
 asks_at Idle f bytes = Unit {0}
 asks_at (Undoing from) f bytes = Unit {0}
-asks_at (Arming change) f bytes = change_asks change f.header f.slot (next_header f) bytes
+asks_at (Arming change) f bytes = change_asks change f.header f.slot (header_to_write f) bytes
 asks_at (Placing i) f bytes = IsCounting f.header f.slot bytes
-asks_at (Committing change) f bytes = change_asks change f.header f.slot (next_header f) bytes
+asks_at (Committing change) f bytes = change_asks change f.header f.slot (header_to_write f) bytes
 
 abbrev pub asks : Flush → List ℕ → Type 0
 asks f bytes = asks_at f.at f bytes
@@ -98,8 +98,8 @@ asks f bytes = asks_at f.at f bytes
 -- what a stage of a header change does
 abbrev pub IsChangeMade : Flush → Told → Told → Type 0
 IsChangeMade f old new =
-    StageDone (change_brings (change_of f.at) f.header f.slot (next_header f)) (change_range (change_of f.at) f.slot).0
-    (change_range (change_of f.at) f.slot).1 old new
+    StageDone (change_brings (due_change f.at) f.header f.slot (header_to_write f)) (change_range (due_change f.at) f.slot).0
+    (change_range (due_change f.at) f.slot).1 old new
 
 -- what a stage that succeeded does to the disk, exactly
 abbrev pub IsStageMade : Stage → Flush → Group → Told → Told → Type 0
@@ -107,7 +107,7 @@ IsStageMade Freeze f g old new = new ≡ old
 IsStageMade (Undo i) f g old new = IsSaved (undo_range f).0 (next_generation f.header) (slice_index g.places i) old new
 IsStageMade UndoSync f g old new = Synced old new
 IsStageMade (Arm number) f g old new = IsChangeMade f old new
-IsStageMade (Place i) f g old new = IsPlaced g i old new
+IsStageMade (Place i) f g old new = IsPageWritten g i old new
 IsStageMade PlaceSync f g old new = Synced old new
 IsStageMade (Commit number) f g old new = IsChangeMade f old new
 
@@ -129,6 +129,6 @@ pub record MakesStage (stage : Stage) (f : Flush) (g : Group) (old new : Told) :
   pub unsettled : UnsettlesAtMost (stage_range stage f g).0 (stage_range stage f g).1 old new
   pub settled : is_synced stage ≡ true → new.unsettled ≡ []
 
--- so did the one that was due
-abbrev pub Makes : Flush → Group → Told → Told → Type 0
-Makes f g old new = MakesStage (due f g) f g old new
+-- so did the one that was due_stage
+abbrev pub DueStageMade : Flush → Group → Told → Told → Type 0
+DueStageMade f g old new = MakesStage (due_stage f g) f g old new

@@ -10,7 +10,7 @@ ghost use Rattle.hm_header.specs.Range.{HasRoom};
 ghost use Rattle.hm_undo.specs.Log.{entry_place};
 ghost use Rattle.hm_pages.specs.Store.{contents};
 ghost use Rattle.hm_flush.specs.Group.{group_of};
-ghost use Rattle.hm_flush.specs.Device.{IsPlaced, IsSaved};
+ghost use Rattle.hm_flush.specs.Device.{IsPageWritten, IsSaved};
 
 use hm_disk::Disk;
 use hm_fields::Page;
@@ -57,7 +57,7 @@ pub fn place_page<D: Disk>(disk: &mut D, pages: &PageStore, i: u32) -> Result<()
     requires page { IfSome (D.told disk.old) (λ t.
         byte_of (slice_index (contents pages.now).frozen_group i) + PAGE_BYTES ≤ length t.bytes) }
     ensures ok { OnOk result (BothTell (D.told disk.old) (D.told disk.new)
-        (IsPlaced (group_of (contents pages.now)) i)) }
+        (IsPageWritten (group_of (contents pages.now)) i)) }
     ensures err { OnErr result (BothTell (D.told disk.old) (D.told disk.new)
         (TornAll (byte_of (slice_index (contents pages.now).frozen_group i)) PAGE_BYTES)) }
     ensures any_moment { BothTell (D.told disk.old) (D.told disk.new)

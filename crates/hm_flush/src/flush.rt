@@ -8,12 +8,12 @@ ghost use Rattle.hm_header.specs.Change.{IsNext, StageElapses, StageFailed};
 ghost use Rattle.hm_header.specs.Range.{HasRoom, IsHeader};
 ghost use Rattle.hm_pages.specs.Store.{contents};
 ghost use Rattle.hm_flush.specs.declared.stage.Stage.TheVariants.{Freeze};
-ghost use Rattle.hm_flush.specs.Calls.{ArePlaced, Stands};
+ghost use Rattle.hm_flush.specs.Calls.{AreFlushPlaces, FlushStands};
 ghost use Rattle.hm_flush.specs.Device.{IsSaved};
-ghost use Rattle.hm_flush.specs.Flush.{IsFlush, IsGroupOf, armed_header, begun, change_of, committed_header, is_last};
-ghost use Rattle.hm_flush.specs.Flush.{next_generation, next_header, tried};
+ghost use Rattle.hm_flush.specs.Flush.{IsFlush, IsGroupOf, armed_header, begun_flush, due_change, committed_header, is_last};
+ghost use Rattle.hm_flush.specs.Flush.{next_generation, header_to_write, tried};
 ghost use Rattle.hm_flush.specs.Group.{group_of};
-ghost use Rattle.hm_flush.specs.Stages.{IsNumbered, Makes, armed, asks, committed, due, moved, range_of, undo_range};
+ghost use Rattle.hm_flush.specs.Stages.{IsNumbered, DueStageMade, armed, asks, committed, due_stage, moved_flush, range_of, undo_range};
 
 use crate::change::{Change, change_header};
 use crate::device::{place_page, save_page};
@@ -61,7 +61,7 @@ impl Flush {
     pub fn due(&self, pages: &PageStore) -> Stage
         requires sound { IsFlush self.now }
         requires group { IsGroupOf self.now (contents pages.now) }
-        ensures value { result ≡ due self.now (group_of (contents pages.now)) }
+        ensures value { result ≡ due_stage self.now (group_of (contents pages.now)) }
         ensures number { IsNumbered result self.now.pages }
     {
         match self.at {
@@ -85,12 +85,12 @@ impl Flush {
     pub fn make<D: Disk>(&self, stage: Stage, pages: &PageStore, disk: &mut D) -> Result<(), Failed>
         requires sound { IsFlush self.now }
         requires group { IsGroupOf self.now (contents pages.now) }
-        requires places { ArePlaced self.now.header.bigblocks (contents pages.now) }
-        requires stands { IfSome (D.told disk.old) (Stands self.now) }
-        requires due { stage ≡ due self.now (group_of (contents pages.now)) }
+        requires places { AreFlushPlaces self.now.header.bigblocks (contents pages.now) }
+        requires stands { IfSome (D.told disk.old) (FlushStands self.now) }
+        requires due { stage ≡ due_stage self.now (group_of (contents pages.now)) }
         requires flight { stage ≢ Freeze }
         ensures ok { OnOk result (BothTell (D.told disk.old) (D.told disk.new)
-            (Makes self.now (group_of (contents pages.now)))) }
+            (DueStageMade self.now (group_of (contents pages.now)))) }
         ensures err { OnErr result (BothTell (D.told disk.old) (D.told disk.new)
             (StageFailed (asks self.now) (range_of self.now (group_of (contents pages.now))).0
             (range_of self.now (group_of (contents pages.now))).1)) }
@@ -121,7 +121,7 @@ impl Flush {
     fn save<D: Disk>(&self, i: u32, pages: &PageStore, disk: &mut D) -> Result<(), Failed>
         requires sound { IsFlush self.now }
         requires i { i < length (contents pages.now).frozen_group }
-        requires places { ArePlaced self.now.header.bigblocks (contents pages.now) }
+        requires places { AreFlushPlaces self.now.header.bigblocks (contents pages.now) }
         requires room { IfSome (D.told disk.old) (λ t. HasRoom (length t.bytes) self.now.header.bigblocks) }
         ensures ok { OnOk result (BothTell (D.told disk.old) (D.told disk.new)
             (IsSaved (undo_range self.now).0 (next_generation self.now.header)
@@ -147,7 +147,7 @@ impl Flush {
     // The header that the flush changes to next.
     fn next_header(&self) -> Header
         requires { IsFlush self.now }
-        ensures value { result ≡ next_header self.now }
+        ensures value { result ≡ header_to_write self.now }
         ensures header { IsHeader result }
         ensures follows { IsNext self.now.header result }
     {
@@ -188,7 +188,7 @@ impl Flush {
 
     // Which stage of the header change is due.
     fn change(&self) -> Change
-        ensures { result ≡ change_of self.now.at }
+        ensures { result ≡ due_change self.now.at }
     {
         match self.at {
             Position::Arming(change) | Position::Committing(change) => change,
@@ -205,7 +205,7 @@ impl Flush {
 
     /// The flush of a group that was frozen, of so many pages, of which so many were live as committed.
     pub fn begun(&self, target: &Header, pages: u32, live: u32) -> Flush
-        ensures { result ≡ begun target.now pages live self.now }
+        ensures { result ≡ begun_flush target.now pages live self.now }
     {
         Flush {
             header: self.header,
@@ -237,7 +237,7 @@ impl Flush {
     pub fn moved(&self, stage: Stage) -> Flush
         requires sound { IsFlush self.now }
         requires number { IsNumbered stage self.now.pages }
-        ensures { result ≡ moved stage self.now }
+        ensures { result ≡ moved_flush stage self.now }
     {
         match stage {
             Stage::Freeze => *self,
@@ -264,7 +264,7 @@ impl Flush {
     // The flush after a stage of Arm.
     fn armed(&self) -> Flush
         requires { IsFlush self.now }
-        ensures { result ≡ armed (change_of self.now.at) self.now }
+        ensures { result ≡ armed (due_change self.now.at) self.now }
     {
         match self.change() {
             Change::Close => self.with(Position::Arming(Change::Write)),
@@ -281,7 +281,7 @@ impl Flush {
     // The flush after a stage of Commit.
     fn committed(&self) -> Flush
         requires { IsFlush self.now }
-        ensures { result ≡ committed (change_of self.now.at) self.now }
+        ensures { result ≡ committed (due_change self.now.at) self.now }
     {
         match self.change() {
             Change::Close => self.with(Position::Committing(Change::Write)),

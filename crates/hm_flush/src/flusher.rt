@@ -1,5 +1,5 @@
 // The flusher: the header that counts, and the flush that is in flight.
-ghost use Rattle.std.specs.Prelude.{◌≡◌, ◌≢◌, ◌≤◌, None, IfOk, IfErr, IfSome, OnOk, OnErr};
+ghost use Rattle.std.specs.Prelude.{◌≡◌, ◌≢◌, ◌≤◌, IfOk, IfErr, IfSome, OnOk, OnErr};
 ghost use Rattle.hm_types.specs.Told.{BothTell};
 ghost use Rattle.hm_types.specs.declared.fault.Fault.TheVariants.{NoMemory};
 ghost use Rattle.hm_header.specs.declared.header.Header.{Header};
@@ -7,10 +7,10 @@ ghost use Rattle.hm_header.specs.Change.{StageElapses, StageFailed};
 ghost use Rattle.hm_header.specs.Range.{IsHeader};
 ghost use Rattle.hm_pages.specs.Store.{contents};
 ghost use Rattle.hm_flush.specs.declared.flush.Position.TheVariants.{Idle};
-ghost use Rattle.hm_flush.specs.Calls.{ArePlaced, HasStageCause, MayFollow, Moves, PagesMove, Stands, Stays};
+ghost use Rattle.hm_flush.specs.Calls.{HasStageCause, IsFlushReady, IsTarget, StageSucceeds, PagesMove, FlushStands, StageFails};
 ghost use Rattle.hm_flush.specs.Flush.{IsGroupOf, idle_flush};
 ghost use Rattle.hm_flush.specs.Group.{group_of};
-ghost use Rattle.hm_flush.specs.Stages.{Makes, asks, range_of};
+ghost use Rattle.hm_flush.specs.Stages.{DueStageMade, asks, range_of};
 
 use crate::flush::{Flush, Position};
 use crate::group::count_live;
@@ -67,7 +67,7 @@ impl Flusher {
         self.flush.header.last
     }
 
-    /// Makes the stage that is due, and answers which. Where no flush is in flight this is Freeze, which
+    /// DueStageMade the stage that is due, and answers which. Where no flush is in flight this is Freeze, which
     /// takes the version, the last id, the root and the append big-blocks of `now`; no other stage reads
     /// it. No call may be open in `pages`. After a fault all is as before but for the range that the
     /// stage writes, and the same stage is due: `Media` where the disk failed, and at Freeze `NoMemory`.
@@ -77,16 +77,14 @@ impl Flusher {
         disk: &mut D,
         now: &Header,
     ) -> Result<Stage, Fault>
-        requires now { MayFollow self.old now.now }
-        requires closed { (contents pages.old).begin ≡ None }
-        requires group { IsGroupOf self.old (contents pages.old) }
-        requires places { ArePlaced self.old.header.bigblocks (contents pages.old) }
-        requires stands { IfSome (D.told disk.old) (Stands self.old) }
-        ensures ok { IfOk result (λ stage. Moves now.now stage self.old self.new
+        requires now { IsTarget self.old now.now }
+        requires ready { IsFlushReady self.old (contents pages.old) }
+        requires stands { IfSome (D.told disk.old) (FlushStands self.old) }
+        ensures ok { IfOk result (λ stage. StageSucceeds now.now stage self.old self.new
             (contents pages.old) (contents pages.new)) }
-        ensures err { OnErr result (Stays self.old self.new (contents pages.old) (contents pages.new)) }
+        ensures err { OnErr result (StageFails self.old self.new (contents pages.old) (contents pages.new)) }
         ensures made { OnOk result (BothTell (D.told disk.old) (D.told disk.new)
-            (Makes self.old (group_of (contents pages.old)))) }
+            (DueStageMade self.old (group_of (contents pages.old)))) }
         ensures failed { OnErr result (BothTell (D.told disk.old) (D.told disk.new)
             (StageFailed (asks self.old) (range_of self.old (group_of (contents pages.old))).0
             (range_of self.old (group_of (contents pages.old))).1)) }
@@ -94,7 +92,7 @@ impl Flusher {
             (StageElapses (asks self.old) (range_of self.old (group_of (contents pages.old))).0
             (range_of self.old (group_of (contents pages.old))).1
             (D.left_since disk.old) (D.left_since disk.new)) }
-        ensures stands { IfSome (D.told disk.new) (Stands self.new) }
+        ensures stands { IfSome (D.told disk.new) (FlushStands self.new) }
         ensures cause { HasStageCause self.old.at (D.faults disk.old) (D.faults disk.new) result }
     {
         if self.flush.at == Position::Idle {
@@ -107,12 +105,11 @@ impl Flusher {
     // Freezes the current group, and begins its flush.
     fn freeze(&mut self, pages: &mut PageStore, now: &Header) -> Result<Stage, Fault>
         requires idle { self.old.at ≡ Idle }
-        requires now { MayFollow self.old now.now }
-        requires closed { (contents pages.old).begin ≡ None }
-        requires group { IsGroupOf self.old (contents pages.old) }
-        ensures ok { IfOk result (λ stage. Moves now.now stage self.old self.new
+        requires now { IsTarget self.old now.now }
+        requires ready { IsFlushReady self.old (contents pages.old) }
+        ensures ok { IfOk result (λ stage. StageSucceeds now.now stage self.old self.new
             (contents pages.old) (contents pages.new)) }
-        ensures err { OnErr result (Stays self.old self.new (contents pages.old) (contents pages.new)) }
+        ensures err { OnErr result (StageFails self.old self.new (contents pages.old) (contents pages.new)) }
         ensures fault { IfErr result (λ fault. fault ≡ NoMemory) }
     {
         pages.freeze(now.last)?;
@@ -122,17 +119,16 @@ impl Flusher {
         Ok(Stage::Freeze)
     }
 
-    // Makes the stage that is due of the flush in flight.
+    // DueStageMade the stage that is due of the flush in flight.
     fn go_on<D: Disk>(&mut self, pages: &mut PageStore, disk: &mut D) -> Result<Stage, Fault>
         requires flight { self.old.at ≢ Idle }
-        requires group { IsGroupOf self.old (contents pages.old) }
-        requires places { ArePlaced self.old.header.bigblocks (contents pages.old) }
-        requires stands { IfSome (D.told disk.old) (Stands self.old) }
-        ensures ok { (now : Header) → IfOk result (λ stage. Moves now stage self.old self.new
+        requires ready { IsFlushReady self.old (contents pages.old) }
+        requires stands { IfSome (D.told disk.old) (FlushStands self.old) }
+        ensures ok { (now : Header) → IfOk result (λ stage. StageSucceeds now stage self.old self.new
             (contents pages.old) (contents pages.new)) }
-        ensures err { OnErr result (Stays self.old self.new (contents pages.old) (contents pages.new)) }
+        ensures err { OnErr result (StageFails self.old self.new (contents pages.old) (contents pages.new)) }
         ensures made { OnOk result (BothTell (D.told disk.old) (D.told disk.new)
-            (Makes self.old (group_of (contents pages.old)))) }
+            (DueStageMade self.old (group_of (contents pages.old)))) }
         ensures failed { OnErr result (BothTell (D.told disk.old) (D.told disk.new)
             (StageFailed (asks self.old) (range_of self.old (group_of (contents pages.old))).0
             (range_of self.old (group_of (contents pages.old))).1)) }
@@ -140,7 +136,7 @@ impl Flusher {
             (StageElapses (asks self.old) (range_of self.old (group_of (contents pages.old))).0
             (range_of self.old (group_of (contents pages.old))).1
             (D.left_since disk.old) (D.left_since disk.new)) }
-        ensures stands { IfSome (D.told disk.new) (Stands self.new) }
+        ensures stands { IfSome (D.told disk.new) (FlushStands self.new) }
         ensures cause { HasStageCause self.old.at (D.faults disk.old) (D.faults disk.new) result }
     {
         let flush = self.flush;
@@ -163,7 +159,7 @@ impl Flusher {
     }
 }
 
-// Makes the frozen pages the committed ones, where the stage that was due ends the flush.
+// DueStageMade the frozen pages the committed ones, where the stage that was due ends the flush.
 fn commit_last(flush: &Flush, pages: &mut PageStore)
     requires flight { flush.now.at ≢ Idle }
     requires group { IsGroupOf flush.now (contents pages.old) }

@@ -7,7 +7,9 @@ mod device;
 mod flush;
 mod flusher;
 mod group;
+mod laws;
 mod stage;
 
 pub use flusher::Flusher;
+pub use laws::{no_stage_is_left_where_none_is_in_flight, same_slots_keep_what_a_flush_asks_for};
 pub use stage::Stage;
