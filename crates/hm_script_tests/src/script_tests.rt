@@ -35,9 +35,8 @@ fn outcome(alloc: Global, bytes: &[u8]) -> Result<String, AllocError> {
 }
 
 #[test]
-fn scripts_give_their_blocks_or_their_first_bad_line(rt: HostRuntime) -> Result<(), Fail> {
+fn values_keep_their_forms_and_ranges(rt: HostRuntime) -> Result<(), Fail> {
     for (script, want) in [
-        // Values keep their forms and ranges.
         (b"pfs-master /p 0123456789abcdef".as_slice(), ONE),
         (b"pfs-master /p 0123456789ABCDEF", ONE),
         (b"pfs-master /p 123456789abcdef", BAD),
@@ -80,8 +79,16 @@ fn scripts_give_their_blocks_or_their_first_bad_line(rt: HostRuntime) -> Result<
         (b"mirror-copy /p /q 4294967295", ONE),
         (b"mirror-copy /p /q 4294967296", BAD),
         (b"mirror-copy /p /q 4294967297", BAD),
-        // A lane is 1 to 8 and a colon before the command.
-        (b"sync", ONE),
+    ] {
+        assert_eq!(rt; outcome(rt.alloc(), script)?.as_str(), want, "{script:?}");
+    }
+    Ok(())
+}
+
+#[test]
+fn a_lane_is_1_to_8_and_a_colon_before_the_command(rt: HostRuntime) -> Result<(), Fail> {
+    for (script, want) in [
+        (b"sync".as_slice(), ONE),
         (b"1: sync", "[ 1:1 ]"),
         (b"8: sync", "[ 8:1 ]"),
         (b"2: mkdir /p", "[ 2:1 ]"),
@@ -104,8 +111,16 @@ fn scripts_give_their_blocks_or_their_first_bad_line(rt: HostRuntime) -> Result<
         (b"1: 2: sync", BAD),
         (b"1: frob", BAD),
         (b"1: # sync", BAD),
-        // Words are bytes with one blank between two.
-        (b"ls /a", ONE),
+    ] {
+        assert_eq!(rt; outcome(rt.alloc(), script)?.as_str(), want, "{script:?}");
+    }
+    Ok(())
+}
+
+#[test]
+fn words_are_bytes_with_one_blank_between_two(rt: HostRuntime) -> Result<(), Fail> {
+    for (script, want) in [
+        (b"ls /a".as_slice(), ONE),
         (b"ls a", ONE),
         (b"ls !", ONE),
         (b"ls ~", ONE),
@@ -126,8 +141,17 @@ fn scripts_give_their_blocks_or_their_first_bad_line(rt: HostRuntime) -> Result<
         (b"\r", BAD),
         (b"sync\r", BAD),
         (b"sync \r", BAD),
+    ] {
+        assert_eq!(rt; outcome(rt.alloc(), script)?.as_str(), want, "{script:?}");
+    }
+    Ok(())
+}
+
+#[test]
+fn blocks_remarks_and_the_first_bad_line(rt: HostRuntime) -> Result<(), Fail> {
+    for (script, want) in [
         // Lanes in a row make one block.
-        (b"", ""),
+        (b"".as_slice(), ""),
         (b"\n", ""),
         (b"\n\n# sync\n", ""),
         (b"sync", ONE),
@@ -163,8 +187,16 @@ fn scripts_give_their_blocks_or_their_first_bad_line(rt: HostRuntime) -> Result<
         (b"\n\n\nfrob", "bad line 4"),
         (b"1: sync\n2: sync\n9: sync\n", "bad line 3"),
         (b"sync\nsync\nsync ", "bad line 3"),
-        // What is no form is a bad line.
-        (b"frob", BAD),
+    ] {
+        assert_eq!(rt; outcome(rt.alloc(), script)?.as_str(), want, "{script:?}");
+    }
+    Ok(())
+}
+
+#[test]
+fn what_is_no_form_is_a_bad_line(rt: HostRuntime) -> Result<(), Fail> {
+    for (script, want) in [
+        (b"frob".as_slice(), BAD),
         (b"frob /b", BAD),
         (b"Mkdir /a", BAD),
         (b"mkdi /a", BAD),
@@ -195,7 +227,16 @@ fn scripts_give_their_blocks_or_their_first_bad_line(rt: HostRuntime) -> Result<
         (b"ls", BAD),
         (b"ls /a /b", BAD),
         (b"cat /a 0", BAD),
-        (b"cat /a 0 1 1", BAD),
+    ] {
+        assert_eq!(rt; outcome(rt.alloc(), script)?.as_str(), want, "{script:?}");
+    }
+    Ok(())
+}
+
+#[test]
+fn what_is_no_form_of_later_commands_is_a_bad_line(rt: HostRuntime) -> Result<(), Fail> {
+    for (script, want) in [
+        (b"cat /a 0 1 1".as_slice(), BAD),
         (b"stat", BAD),
         (b"stat /a /b", BAD),
         (b"readlink", BAD),

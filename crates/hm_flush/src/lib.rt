@@ -1,0 +1,15 @@
+//! The flush of a volume: stage by stage the pages of a frozen group come onto the disk, so that after a
+//! crash at any moment the state that was committed can be had again, or the next one.
+#![tactic(auto)]
+
+mod change;
+mod device;
+mod flush;
+mod flusher;
+mod group;
+mod laws;
+mod stage;
+
+pub use flusher::Flusher;
+pub use laws::{no_stage_is_left_where_none_is_in_flight, same_slots_keep_what_a_flush_asks_for};
+pub use stage::Stage;

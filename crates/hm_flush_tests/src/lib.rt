@@ -1,0 +1,11 @@
+//! Tests of `hm_flush`: flushes over a disk in memory that counts its calls, with each of them failing in turn.
+//!
+//! They stand in a crate of their own, so that the proofs of the flush are not done once more with them.
+#![tactic(auto)]
+
+#[cfg(test)]
+mod flush_tests;
+#[cfg(test)]
+mod test_disk;
+#[cfg(test)]
+mod volume;

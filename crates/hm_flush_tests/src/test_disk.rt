@@ -1,0 +1,189 @@
+// A disk in memory that counts its calls by kind, and fails those that it is told to.
+ghost use Rattle.std.specs.Prelude.{◌≡◌, ◌≤◌, IsErr, length};
+ghost use Rattle.hm_types.specs.Faults.{HasCause};
+ghost use Rattle.hm_disk.specs.declared.limits.TheConstants.{MOST_CALL_BYTES};
+
+use hm_disk::Disk;
+use hm_disk_forms::MemDisk;
+use hm_types::Failed;
+use std::alloc::Global;
+
+// How many calls there were of each kind.
+#[derive(Clone, Copy, Debug, PartialEq, Eq)]
+pub struct Counts {
+    pub reads: u64,
+    pub writes: u64,
+    pub syncs: u64,
+}
+
+// It tells nothing. Of a write that fails half is put.
+#[derive(Drop)]
+pub struct TestDisk {
+    disk: MemDisk,
+    fails: Vec<u64>,
+    calls: u64,
+    faults: u64,
+    counts: Counts,
+}
+
+impl TestDisk {
+    // A disk of 24 big-blocks of zeros. The calls of these numbers, from 1 on, fail.
+    pub fn new(alloc: Global, fails: Vec<u64>) -> TestDisk {
+        TestDisk {
+            disk: MemDisk::new(alloc, 24, Vec::new(alloc)),
+            fails,
+            calls: 0,
+            faults: 0,
+            counts: Counts {
+                reads: 0,
+                writes: 0,
+                syncs: 0,
+            },
+        }
+    }
+
+    // The same disk, whose calls are counted anew.
+    pub fn failing(self, fails: Vec<u64>) -> TestDisk {
+        let TestDisk {
+            disk,
+            fails: _,
+            calls: _,
+            faults: _,
+            counts: _,
+        } = self;
+        TestDisk {
+            disk,
+            fails,
+            calls: 0,
+            faults: 0,
+            counts: Counts {
+                reads: 0,
+                writes: 0,
+                syncs: 0,
+            },
+        }
+    }
+
+    pub fn counts(&self) -> Counts {
+        self.counts
+    }
+
+    // Counts a call, and says whether it is to fail.
+    fn begin(&mut self) -> bool
+        ensures { self.new.faults ≡ self.old.faults }
+    {
+        self.calls = self.calls.saturating_add(1);
+        self.fails.contains(&self.calls)
+    }
+
+    fn fail(&mut self) -> Result<(), Failed>
+        ensures failed { IsErr result }
+        ensures cause { HasCause self.old.faults self.new.faults result }
+    {
+        self.faults = self.faults.saturating_add(1);
+        Err(Failed)
+    }
+
+    // What a call of the disk in memory answered.
+    fn end(&mut self, answer: Result<(), Failed>) -> Result<(), Failed>
+        ensures cause { HasCause self.old.faults self.new.faults result }
+    {
+        match answer {
+            Ok(()) => Ok(()),
+            Err(Failed) => self.fail(),
+        }
+    }
+}
+
+// Reads where the range lies inside the disk.
+fn read_inside(disk: &mut MemDisk, place: u64, buf: &mut [u8]) -> Result<(), Failed>
+    requires { length buf.old ≤ MOST_CALL_BYTES }
+{
+    let size = disk.size()?;
+    if place <= size && buf.len() as u64 <= size - place {
+        disk.read_at(place, buf)
+    } else {
+        Err(Failed)
+    }
+}
+
+// Writes where the range lies inside the disk.
+fn write_inside(disk: &mut MemDisk, place: u64, bytes: &[u8]) -> Result<(), Failed>
+    requires { length bytes.now ≤ MOST_CALL_BYTES }
+{
+    let size = disk.size()?;
+    if place <= size && bytes.len() as u64 <= size - place {
+        disk.write_at(place, bytes)
+    } else {
+        Err(Failed)
+    }
+}
+
+impl Disk for TestDisk {
+    ghost use Rattle.std.specs.Prelude.{None};
+    ghost use Rattle.std.proofs.Common.{inl};
+
+    ghost told = { λ _. None };
+
+    ghost left_since = { λ _ _ _. Unit {0} };
+
+    ghost Past = { Unit {0} };
+
+    ghost past = { λ _. tt };
+
+    ghost left_before = { λ _ _ _. Unit {0} };
+
+    ghost faults = { λ d. d.faults };
+
+    ghost counts_now = { λ d moment image. tt };
+
+    ghost only_now = { λ d image. tt };
+
+    ghost since_earlier = { λ d earlier moment image. tt };
+
+    ghost splits = { λ d moment image left. inl tt };
+
+    ghost joins = { λ d moment image left. tt };
+
+    fn size(&mut self) -> Result<u64, Failed> {
+        match self.disk.size() {
+            Ok(size) => Ok(size),
+            Err(Failed) => {
+                self.faults = self.faults.saturating_add(1);
+                Err(Failed)
+            }
+        }
+    }
+
+    fn read_at(&mut self, place: u64, buf: &mut [u8]) -> Result<(), Failed> {
+        self.counts.reads = self.counts.reads.saturating_add(1);
+        if self.begin() {
+            return self.fail();
+        }
+        let answer = read_inside(&mut self.disk, place, buf);
+        self.end(answer)
+    }
+
+    fn write_at(&mut self, place: u64, bytes: &[u8]) -> Result<(), Failed> {
+        self.counts.writes = self.counts.writes.saturating_add(1);
+        if self.begin() {
+            let _ = write_inside(&mut self.disk, place, &bytes[..bytes.len() / 2]);
+            return self.fail();
+        }
+        let answer = write_inside(&mut self.disk, place, bytes);
+        self.end(answer)
+    }
+
+    fn sync(&mut self) -> Result<(), Failed> {
+        self.counts.syncs = self.counts.syncs.saturating_add(1);
+        if self.begin() {
+            return self.fail();
+        }
+        let answer = self.disk.sync();
+        self.end(answer)
+    }
+
+    fn faults(&self) -> u64 {
+        self.faults
+    }
+}
