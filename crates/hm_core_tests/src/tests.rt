@@ -107,31 +107,51 @@ fn answers(core: &mut Volume, command: Command, want: &Reply) -> Result<bool, No
     }
 }
 
-#[test]
-fn what_was_done_is_found_again(rt: HostRuntime) -> Result<(), Fail> {
-    let alloc = rt.alloc();
-    let content = Reply::Content {
+// What the file has once it was written.
+fn content(alloc: Global) -> Result<Reply, NoMemory> {
+    Ok(Reply::Content {
         bytes: Bytes::of(Vec::from_slice(alloc, b"abc")?),
-    };
-    let mut core = mounted(&rt, alloc, made(&rt, alloc));
+    })
+}
+
+// Makes the file and writes it, and ends the use of the volume.
+fn first_use(rt: &impl Abort, alloc: Global, disk: MemDisk) -> Result<MemDisk, NoMemory> {
+    let mut core = mounted(rt, alloc, disk);
     assert!(rt; answers(&mut core, touch(alloc)?, &Reply::Done)?);
     assert!(rt; answers(&mut core, touch(alloc)?, &Reply::Exists)?);
     assert!(rt; answers(&mut core, write(alloc)?, &Reply::Done)?);
-    assert!(rt; answers(&mut core, cat(alloc)?, &content)?);
-    let mut disk = finished(&rt, core);
-    assert_eq!(rt; header_of(&rt, &mut disk), (1, 2));
-    let mut core = mounted(&rt, alloc, disk);
+    assert!(rt; answers(&mut core, cat(alloc)?, &content(alloc)?)?);
+    Ok(finished(rt, core))
+}
+
+// Finds the file as it was written, and ends the use of the volume.
+fn second_use(rt: &impl Abort, alloc: Global, disk: MemDisk) -> Result<MemDisk, NoMemory> {
+    let mut core = mounted(rt, alloc, disk);
     assert_eq!(rt; (core.last(), core.boundary()), (Id(5), Id(5)));
-    assert!(rt; answers(&mut core, cat(alloc)?, &content)?);
+    assert!(rt; answers(&mut core, cat(alloc)?, &content(alloc)?)?);
     assert!(rt; answers(&mut core, touch(alloc)?, &Reply::Exists)?);
-    let mut disk = finished(&rt, core);
-    assert_eq!(rt; header_of(&rt, &mut disk), (0, 3));
-    let mut core = mounted(&rt, alloc, disk);
+    Ok(finished(rt, core))
+}
+
+// Finds the file again, and removes it.
+fn third_use(rt: &impl Abort, alloc: Global, disk: MemDisk) -> Result<(), NoMemory> {
+    let mut core = mounted(rt, alloc, disk);
     assert_eq!(rt; (core.last(), core.boundary()), (Id(7), Id(7)));
-    assert!(rt; answers(&mut core, cat(alloc)?, &content)?);
+    assert!(rt; answers(&mut core, cat(alloc)?, &content(alloc)?)?);
     assert_eq!(rt; core.last(), Id(8));
     assert!(rt; answers(&mut core, rm(alloc)?, &Reply::Done)?);
     assert!(rt; answers(&mut core, cat(alloc)?, &Reply::NotFound)?);
+    Ok(())
+}
+
+#[test]
+fn what_was_done_is_found_again(rt: HostRuntime) -> Result<(), Fail> {
+    let alloc = rt.alloc();
+    let mut disk = first_use(&rt, alloc, made(&rt, alloc))?;
+    assert_eq!(rt; header_of(&rt, &mut disk), (1, 2));
+    let mut disk = second_use(&rt, alloc, disk)?;
+    assert_eq!(rt; header_of(&rt, &mut disk), (0, 3));
+    third_use(&rt, alloc, disk)?;
     Ok(())
 }
 
