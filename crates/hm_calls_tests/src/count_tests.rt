@@ -93,13 +93,12 @@ fn a_name_of_1000_versions_takes_at_most_40_searches_more(rt: HostRuntime) -> Re
 
 // The counts of a call after a name came and went so many times.
 fn counts_of_gone(alloc: Global, times: u64, line: &str) -> Result<Counts, Fail> {
-    let mut volume = volume_of(alloc, &Fnv, &FRESH)?;
+    let mut lines = Vec::new(alloc);
     for _ in 0..times {
-        ask(alloc, &mut volume, &Fnv, "touch /a")?;
-        ask(alloc, &mut volume, &Fnv, "rm /a")?;
+        lines.push("touch /a")?;
+        lines.push("rm /a")?;
     }
-    let (_, counts) = counts_of(alloc, volume, line)?;
-    Ok(counts)
+    counts_after(alloc, &lines, line)
 }
 
 // Each look at the name halves create ids, of which there are 4,000.
