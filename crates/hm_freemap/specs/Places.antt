@@ -1,5 +1,5 @@
 -- Where the entries of layer 2 stand. Its big-blocks follow one another, so its pages do, each with 256 entries.
-use Rattle.std.specs.Prelude.{ℕ, ◌+◌, ◌*◌, ◌/◌, ◌%◌, ◌<◌, Bool, IsTrue}
+use Rattle.std.specs.Prelude.{◌≡◌, ℕ, ◌+◌, ◌*◌, ◌/◌, ◌%◌, ◌<◌, Bool, IsTrue}
 use Rattle.hm_types.specs.Layout.{first_layer2, start_of}
 use Rattle.hm_types.specs.Offset.{raw_of}
 use Rattle.hm_types.specs.declared.limits.TheConstants.{PAGE_BYTES}
@@ -16,6 +16,10 @@ page_of block = raw_of FREEMAP_ZONE (start_of first_layer2 + block / entries_per
 -- where in that page it begins, in bytes
 unfoldable pub place_of : ℕ → ℕ
 place_of block = block % entries_per_page * 16
+
+-- the offset of the page with an entry of one of so many big-blocks
+abbrev pub IsPageOf : ℕ → ℕ → Type 0
+IsPageOf bigblocks at = (block : ℕ) × (block < bigblocks) × (at ≡ page_of block)
 
 -- at each page of layer 2 of so many big-blocks one stands
 abbrev pub HasLayer2 : ℕ → (ℕ → Bool) → Type 0

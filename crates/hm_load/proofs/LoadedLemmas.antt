@@ -6,7 +6,7 @@ use Rattle.std.proofs.lemmas.List.Elements.{recursion_from_All}
 use Rattle.hm_types.specs.Offset.{zone_of}
 use Rattle.hm_types.specs.declared.zone.TheConstants.{TREE_ZONE, FREEMAP_ZONE}
 use Rattle.hm_fields.specs.Pages.{PageMap, page_in}
-use Rattle.hm_freemap.specs.Places.{entries_per_page, page_of}
+use Rattle.hm_freemap.specs.Places.{IsPageOf, entries_per_page, page_of}
 use Rattle.hm_freemap.specs.Stand.{entry_page}
 use Rattle.hm_header.specs.Range.{IsHeader}
 use Rattle.hm_header.specs.declared.header.Header.{Header}
@@ -24,7 +24,7 @@ use Rattle.hm_search.specs.declared.subtree.Subtree.{Subtree}
 use Rattle.hm_search.proofs.FrameLemmas.{frame_stored, frame_reaches}
 use Rattle.hm_search.proofs.ListLemmas.{each_both}
 use Rattle.hm_search.proofs.ReachLemmas.{one_under, or_left, or_right}
-use Rattle.hm_load.specs.Freemap.{HoldsEntryOf, HoldsLayer2, IsPageOf, layer2_page, layer2_pages}
+use Rattle.hm_load.specs.Freemap.{HoldsEntryOf, HoldsLayer2, layer2_page, layer2_pages}
 use Rattle.hm_load.specs.Held.{IsApart}
 use Rattle.hm_load.specs.Loaded.{IsLoaded, IsPlain, tree_part}
 use Rattle.hm_load.specs.Tree.{AddsTree, HasTreeAt, IsUnder}

@@ -72,10 +72,6 @@ pub record IsPageDamage (header : Header) (number : ℕ) (page : List ℕ) (at k
   pub place : at ≡ layer2_page number
   pub told : kind ≡ BAD_FREEMAP
 
--- the offset of a page of layer 2 with an entry of one of so many big-blocks
-abbrev pub IsPageOf : ℕ → ℕ → Type 0
-IsPageOf blocks at = (block : ℕ) × (block < blocks) × (at ≡ page_of block)
-
 -- Of the first pages of layer 2, so many of them, those with entries of the volume's big-blocks are in a map, and no
 -- other page.
 pub record HoldsLayer2 (header : Header) (count : ℕ) (map : PageMap) : Type 0 where

@@ -4,13 +4,13 @@ use Rattle.hm_types.specs.Offset.{zone_of}
 use Rattle.hm_types.specs.declared.zone.TheConstants.{TREE_ZONE}
 use Rattle.hm_btree.specs.Tree.{IsTreeSpace}
 use Rattle.hm_fields.specs.Pages.{PageMap}
-use Rattle.hm_freemap.specs.Places.{HasLayer2, entries_per_page}
+use Rattle.hm_freemap.specs.Places.{IsPageOf, HasLayer2, entries_per_page}
 use Rattle.hm_freemap.specs.Stand.{entry_page}
 use Rattle.hm_header.specs.declared.header.Header.{Header}
 use Rattle.hm_pages.specs.Maps.{set_at}
 use Rattle.hm_pages.specs.Sets.{no_set}
 use Rattle.hm_pages.specs.Store.{Store, layer2}
-use Rattle.hm_load.specs.Freemap.{HoldsEntries, HoldsEntryOf, HoldsLayer2, IsPageOf, layer2_page, piece_page}
+use Rattle.hm_load.specs.Freemap.{HoldsEntries, HoldsEntryOf, HoldsLayer2, layer2_page, piece_page}
 
 -- the three maps are one, no call is open, and nothing was changed or is frozen
 pub record IsPlain (s : Store) : Type 0 where

@@ -19,7 +19,7 @@ use Rattle.hm_key.specs.declared.element.Element.{Element}
 use Rattle.hm_search.specs.Tree.{elements_of}
 use Rattle.hm_btree.specs.Tree.{IsTreeSpace}
 use Rattle.hm_freemap.specs.Entry.{SpellsEntry, entry_in}
-use Rattle.hm_freemap.specs.Places.{page_of, place_of}
+use Rattle.hm_freemap.specs.Places.{IsPageOf, page_of, place_of}
 use Rattle.hm_freemap.specs.Stand.{AreAppended, IsBelow, StandBy, Tells, entry_of, entry_page, free_by, home_of}
 use Rattle.hm_freemap.specs.declared.entry.Entry.{Entry}
 use Rattle.hm_freemap.proofs.BoundLemmas.{live_few}
@@ -34,7 +34,7 @@ use Rattle.hm_image.specs.Same.{HasSameBytes}
 use Rattle.hm_image.specs.Sound.{HasEntry, HasLayer1, IsAmongPayloads, IsFilled, IsSoundBy}
 use Rattle.hm_image.specs.StandFor.{StandFor}
 use Rattle.hm_image.specs.Stands.{StandsFor}
-use Rattle.hm_load.specs.Freemap.{HoldsEntryOf, IsPageOf}
+use Rattle.hm_load.specs.Freemap.{HoldsEntryOf}
 use Rattle.hm_load.specs.Held.{HoldsImage}
 use Rattle.hm_load.specs.Loaded.{IsLoaded}
 use Rattle.hm_load.proofs.TreeLemmas.{Keeps, same_there}

@@ -11,10 +11,9 @@ use Rattle.hm_types.specs.declared.fault.Fault.{Fault}
 use Rattle.hm_types.specs.declared.zone.TheConstants.{TREE_ZONE}
 use Rattle.hm_disk.specs.Crash.{Told}
 use Rattle.hm_fields.specs.Pages.{PageMap}
-use Rattle.hm_freemap.specs.Places.{page_of}
+use Rattle.hm_freemap.specs.Places.{IsPageOf, page_of}
 use Rattle.hm_pages.specs.Calls.{IsBegun, IsChanged, IsKept as IsPagesKept, IsUndone}
 use Rattle.hm_pages.specs.Store.{Store, frame_of as pages_frame}
-use Rattle.hm_load.specs.Freemap.{IsPageOf}
 use Rattle.hm_stored.specs.Calls.{SameBooks}
 use Rattle.hm_stored.specs.Decide.{dec_or}
 use Rattle.hm_stored.specs.Heap.{Heap, heap_of}

@@ -11,8 +11,8 @@ use Rattle.hm_key.specs.Extents.{AreExtents, Extent, extent_at}
 use Rattle.hm_node.specs.Inner.{IsNodeOffset}
 use Rattle.hm_node.specs.Shape.{HoldsNode}
 use Rattle.hm_freemap.specs.Extents.{is_extent, reference}
+use Rattle.hm_freemap.specs.Places.{IsPageOf}
 use Rattle.hm_freemap.specs.Stand.{IsBelow, StandBy, entry_of, home_of}
-use Rattle.hm_load.specs.Freemap.{IsPageOf}
 use Rattle.hm_stored.specs.Basis.{AreFixed, Basis, nodes, states_of}
 use Rattle.hm_stored.specs.Heap.{Heap, basis_with, bytes_of, does_hold, does_tell, maps_of, places_in}
 use Rattle.hm_stored.specs.Log.{filled}

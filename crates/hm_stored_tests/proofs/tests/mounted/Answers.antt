@@ -6,7 +6,7 @@ use Rattle.hm_types.specs.declared.zone.TheConstants.{TREE_ZONE}
 use Rattle.hm_disk.specs.Crash.{Told}
 use Rattle.hm_header.specs.OnDisk.{HasHeader}
 use Rattle.hm_header.specs.declared.header.Header.{Header}
-use Rattle.hm_load.specs.Freemap.{IsPageOf}
+use Rattle.hm_freemap.specs.Places.{IsPageOf}
 use Rattle.hm_stored.specs.Heap.{heap_of}
 use Rattle.hm_stored.specs.Turn.{IsClosed}
 use Rattle.hm_stored_tests.proofs.tests.mounted.Goals as goal
