@@ -1,8 +1,7 @@
 -- A core, as a contract sees it.
 use Rattle.std.specs.Prelude.{◌-◌, vec_capacity, vec_len}
 use Rattle.hm_disk.specs.declared.disk.Disk.{Ghosts}
-use Rattle.hm_pages.specs.Store.{contents}
-use Rattle.hm_stored.specs.Heap.{heap_of}
+use Rattle.hm_stored.specs.Space.{heap as heap_of_space}
 use Rattle.hm_core.specs.State.{CoreState}
 use Rattle.hm_core.specs.declared.volume.Core.{Core}
 
@@ -16,7 +15,7 @@ seen {g = g} c = record {
   free = c.free;
   start = c.start;
   faults = g.faults c.stored.space.disk;
-  heap = heap_of (contents c.stored.space.pages.store) (g.told c.stored.space.disk) c.stored.space.books;
+  heap = heap_of_space c.stored.space;
   root = c.stored.root;
   disk = c.stored.space.disk;
   input = c.input;

@@ -1,8 +1,7 @@
 // A call of any command that is served.
 ghost use Rattle.std.specs.Prelude.{◌<◌};
 ghost use Rattle.hm_types.specs.declared.limits.TheConstants.{GREATEST_ID};
-ghost use Rattle.hm_pages.specs.Store.{contents};
-ghost use Rattle.hm_stored.specs.Heap.{heap_of};
+ghost use Rattle.hm_stored.specs.Space.{heap};
 ghost use Rattle.hm_stored.specs.Turn.{IsClosed};
 ghost use Rattle.hm_core.specs.Answer.{Answers};
 ghost use Rattle.hm_core.specs.Served.{IsAsked};
@@ -22,14 +21,11 @@ pub(crate) fn answer_asked<D: Disk>(
     command: &Command,
     last: Id,
 ) -> Reply
-    requires closed { IsClosed (heap_of (contents stored.old.space.pages.store)
-        (D.told stored.old.space.disk) stored.old.space.books) }
+    requires closed { IsClosed (heap stored.old.space) }
     requires asked { IsAsked command.now }
     requires left { last.0 < GREATEST_ID }
     ensures answers { Answers (D.faults stored.old.space.disk) (D.faults stored.new.space.disk) last.0 command.now
-        (heap_of (contents stored.old.space.pages.store) (D.told stored.old.space.disk) stored.old.space.books)
-        (heap_of (contents stored.new.space.pages.store) (D.told stored.new.space.disk) stored.new.space.books)
-        stored.old.root stored.new.root result }
+        (heap stored.old.space) (heap stored.new.space) stored.old.root stored.new.root result }
 {
     match command {
         Command::Df => tell_space(stored),

@@ -2,9 +2,8 @@
 ghost use Rattle.std.specs.Prelude.{◌≡◌, ◌+◌, ◌<◌};
 ghost use Rattle.hm_types.specs.declared.limits.TheConstants.{GREATEST_ID};
 ghost use Rattle.hm_model.specs.Forms.{IsInRange};
-ghost use Rattle.hm_pages.specs.Store.{contents};
 ghost use Rattle.hm_calls.specs.Commands.{IsOnTrees};
-ghost use Rattle.hm_stored.specs.Heap.{heap_of};
+ghost use Rattle.hm_stored.specs.Space.{heap};
 ghost use Rattle.hm_stored.specs.Turn.{IsClosed};
 ghost use Rattle.hm_core.specs.Answer.{Answers};
 ghost use Rattle.hm_core.specs.Told.{reply_to};
@@ -26,14 +25,11 @@ pub fn answer_over<D: Disk>(
     command: &Command,
     last: Id,
 ) -> Reply
-    requires closed { IsClosed (heap_of (contents stored.old.space.pages.store)
-        (D.told stored.old.space.disk) stored.old.space.books) }
+    requires closed { IsClosed (heap stored.old.space) }
     requires served { IsOnTrees command.now × IsInRange command.now }
     requires left { last.0 < GREATEST_ID }
     ensures answers { Answers (D.faults stored.old.space.disk) (D.faults stored.new.space.disk) last.0 command.now
-        (heap_of (contents stored.old.space.pages.store) (D.told stored.old.space.disk) stored.old.space.books)
-        (heap_of (contents stored.new.space.pages.store) (D.told stored.new.space.disk) stored.new.space.books)
-        stored.old.root stored.new.root result }
+        (heap stored.old.space) (heap stored.new.space) stored.old.root stored.new.root result }
 {
     stored.begin(last);
     match answer_next(alloc, stored, command, last, None) {

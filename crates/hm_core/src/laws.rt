@@ -29,16 +29,7 @@ ghost use Rattle.hm_stored.specs.Told.{elements_told};
 ghost use Rattle.hm_core.specs.Calls.{Fails, IsNextCall, Serves};
 ghost use Rattle.hm_core.specs.History.{IsLegalOver, setting_of};
 ghost use Rattle.hm_core.specs.Ledger.{IsPaid};
-ghost use Rattle.hm_core.specs.Told.{
-  ArePages,
-  HoldsSame,
-  HoldsTold,
-  OpensStore,
-  TellsFailure,
-  TellsHeld,
-  TellsSpace,
-  reply_to,
-};
+ghost use Rattle.hm_core.specs.Told.{ArePages, HoldsSame, HoldsTold, OpensStore, TellsFailure, TellsHeld, TellsSpace, reply_to};
 ghost use Rattle.hm_state.specs.Volume.{HoldsVolume};
 
 use hm_key::{ElementStore, Extents};

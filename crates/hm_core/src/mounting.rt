@@ -2,8 +2,7 @@
 ghost use Rattle.std.specs.Prelude.{◌≤◌, IfErr, IfOk, IfSome};
 ghost use Rattle.hm_types.specs.Faults.{IsCaused};
 ghost use Rattle.hm_header.specs.Range.{IsHeader};
-ghost use Rattle.hm_pages.specs.Store.{contents};
-ghost use Rattle.hm_stored.specs.Heap.{heap_of};
+ghost use Rattle.hm_stored.specs.Space.{heap};
 ghost use Rattle.hm_core.specs.Mounting.{IsHeaderOn, IsReadFrom};
 ghost use Rattle.hm_core.specs.Opened.{IsNotMounted};
 ghost use Rattle.hm_core.specs.declared.fault.OpenFault.TheVariants.{Fault as of_disk};
@@ -25,8 +24,7 @@ pub(crate) fn open_space<D: Disk>(
 ) -> Result<(Space<D>, u32), (D, Fault)>
     requires header { IsHeader header.now }
     requires counts { IfSome (D.told disk) (IsHeaderOn header.now) }
-    ensures ok { IfOk result (λ opened. IsReadFrom (D.told disk) header.now opened.1
-        (heap_of (contents opened.0.pages.store) (D.told opened.0.disk) opened.0.books)) }
+    ensures ok { IfOk result (λ opened. IsReadFrom (D.told disk) header.now opened.1 (heap opened.0)) }
     ensures faults { IfOk result (λ opened. D.faults disk ≤ D.faults opened.0.disk) }
     ensures err { IfErr result (λ e. IsNotMounted (D.told disk) (D.told e.0) (of_disk e.1)) }
     ensures cause { IfErr result (λ e. (D.faults disk ≤ D.faults e.0)

@@ -2,8 +2,7 @@
 ghost use Rattle.std.specs.Prelude.{ℕ, ◌<◌};
 ghost use Rattle.hm_types.specs.declared.limits.TheConstants.{GREATEST_ID};
 ghost use Rattle.hm_model.specs.declared.command.Command.TheVariants.{Df};
-ghost use Rattle.hm_pages.specs.Store.{contents};
-ghost use Rattle.hm_stored.specs.Heap.{heap_of};
+ghost use Rattle.hm_stored.specs.Space.{heap};
 ghost use Rattle.hm_stored.specs.Turn.{IsClosed};
 ghost use Rattle.hm_core.specs.Answer.{Answers};
 
@@ -16,13 +15,10 @@ use hm_types::first_pool;
 /// Answers `df` over the store of a volume in which no call is open: how many big-blocks the pool has,
 /// and how many of them are free. Each page of layer 2 is read once a state.
 pub fn tell_space<D: Disk>(stored: &mut Stored<D>) -> Reply
-    requires closed { IsClosed (heap_of (contents stored.old.space.pages.store)
-        (D.told stored.old.space.disk) stored.old.space.books) }
+    requires closed { IsClosed (heap stored.old.space) }
     ensures answers { (last : ℕ) → last < GREATEST_ID →
         Answers (D.faults stored.old.space.disk) (D.faults stored.new.space.disk) last Df
-        (heap_of (contents stored.old.space.pages.store) (D.told stored.old.space.disk) stored.old.space.books)
-        (heap_of (contents stored.new.space.pages.store) (D.told stored.new.space.disk) stored.new.space.books)
-        stored.old.root stored.new.root result }
+        (heap stored.old.space) (heap stored.new.space) stored.old.root stored.new.root result }
 {
     let bigblocks = stored.space().books().bigblocks;
     match stored.free_blocks() {

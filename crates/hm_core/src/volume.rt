@@ -1,6 +1,5 @@
 // One volume in use.
-ghost use Rattle.hm_pages.specs.Store.{contents};
-ghost use Rattle.hm_stored.specs.Heap.{heap_of};
+ghost use Rattle.hm_stored.specs.Space.{heap};
 ghost use Rattle.hm_core.specs.Inside.{IsInOrder};
 
 use hm_disk::Disk;
@@ -27,7 +26,5 @@ pub struct Core<D: Disk, I, O> {
     pub(crate) free: u32,
     pub(crate) start: u64,
     pub(crate) history: Vec<Entry>,
-    ghost ordered: { ∥ IsInOrder header slot last.0 free
-        (heap_of (contents stored.space.pages.store) (D.told stored.space.disk) stored.space.books)
-        history.items ∥₁ },
+    ghost ordered: { ∥ IsInOrder header slot last.0 free (heap stored.space) history.items ∥₁ },
 }

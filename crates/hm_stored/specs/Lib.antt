@@ -6,6 +6,7 @@ pub mod Known
 pub mod DecideFirm
 pub mod Fixed
 pub mod Heap
+pub mod Space
 pub mod Held
 pub mod Calls
 pub mod Nodes

@@ -1,5 +1,30 @@
 //! The store of a volume: its pages, its freemap and its disk, as the calls on names read and change
 //! them.
+//!
+//! A volume in use is in one of these states. Each move names the function of [`Space`] that makes it;
+//! [`Stored`] has the same, and keeps the root of the tree beside.
+//!
+//! ```text
+//!   recovering (planned)
+//!        |
+//!        |  over
+//!        v
+//!      idle -------- begin -------> a call is open --+
+//!        ^ ^                          |  |  |  ^     |  place, share, give_back, admit,
+//!        | +------ keep (kept) -------+  |  |  +-----+  change, new_node, drop_node
+//!        |                               |  |
+//!        +------- undo (dropped) --------+  |  one of these failed half-way
+//!        |                                  v
+//!        +------- undo (dropped) ------- refusing
+//!
+//!   frozen (planned): beside any of these, from the first stage of a flush until its last
+//! ```
+//!
+//! idle: the current state is what calls that were kept have made of the volume. A call is open: its
+//! changes stand in the current state, and the state as it began can be had again. Refusing: what the
+//! current state holds is not known, and each call is refused. Kept: the changes belong to the group that
+//! is flushed next. Dropped: pages, append big-blocks and root are as the call found them; payloads that
+//! it wrote stay on the disk, where nothing refers to them.
 #![tactic(auto)]
 
 mod books;

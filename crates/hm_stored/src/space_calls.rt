@@ -6,9 +6,9 @@ ghost use Rattle.hm_types.specs.Faults.{IsCaused};
 ghost use Rattle.hm_types.specs.Layout.{IsPool};
 ghost use Rattle.hm_freemap.specs.Faults.{IsFreemapDamage};
 ghost use Rattle.hm_key.specs.Extents.{extent_at, given_back_at, shared_at};
-ghost use Rattle.hm_pages.specs.Store.{contents};
 ghost use Rattle.hm_stored.specs.Calls.{AnswersRoom, ChangesExtents, Places, Stays};
-ghost use Rattle.hm_stored.specs.Heap.{extents_in, free_of, heap_of, maps_of, room_of};
+ghost use Rattle.hm_stored.specs.Heap.{extents_in, free_of, maps_of, room_of};
+ghost use Rattle.hm_stored.specs.Space.{heap};
 ghost use Rattle.hm_stored.specs.Turn.{LooksSame};
 
 use crate::extents::{give, renew, share};
@@ -24,16 +24,10 @@ impl<D: Disk> Space<D> {
     pub fn place(&mut self, zone: u8, bytes: &[u8]) -> Result<HOff, Fault>
         requires zone { IsPayloadZone zone }
         requires some { 1 ≤ length bytes.now }
-        requires room { rounded (length bytes.now) ≤ room_of
-            (heap_of (contents self.old.pages.store) (D.told self.old.disk) self.old.books) zone }
-        ensures ok { IfOk result (Places zone bytes.now
-            (heap_of (contents self.old.pages.store) (D.told self.old.disk) self.old.books)
-            (heap_of (contents self.new.pages.store) (D.told self.new.disk) self.new.books)) }
-        ensures stays { Stays (in_zone zone (rounded (length bytes.now)))
-            (heap_of (contents self.old.pages.store) (D.told self.old.disk) self.old.books)
-            (heap_of (contents self.new.pages.store) (D.told self.new.disk) self.new.books) }
-        ensures cause { HasStoreCause (extents_in
-            (heap_of (contents self.old.pages.store) (D.told self.old.disk) self.old.books))
+        requires room { rounded (length bytes.now) ≤ room_of (heap self.old) zone }
+        ensures ok { IfOk result (Places zone bytes.now (heap self.old) (heap self.new)) }
+        ensures stays { Stays (in_zone zone (rounded (length bytes.now))) (heap self.old) (heap self.new) }
+        ensures cause { HasStoreCause (extents_in (heap self.old))
             (D.faults self.old.disk) (D.faults self.new.disk) result }
     {
         if !self.books.whole || bytes.len() > MOST_CALL_BYTES {
@@ -51,16 +45,12 @@ impl<D: Disk> Space<D> {
     /// Adds a reference to the live extent at `at`, which is as long as `len` bytes take, and has
     /// fewer than 64.
     pub fn share(&mut self, at: HOff, len: u32) -> Result<(), Fault>
-        requires live { IfSome (extents_in (heap_of (contents self.old.pages.store) (D.told self.old.disk) self.old.books)) (λ xs.
+        requires live { IfSome (extents_in (heap self.old)) (λ xs.
             IsSomeAnd (extent_at at xs) (λ x. (x.len ≡ rounded len) × (x.refs < 64))) }
-        ensures ok { OnOk result (ChangesExtents (λ xs ys. ys ≡ shared_at at xs)
-            (heap_of (contents self.old.pages.store) (D.told self.old.disk) self.old.books)
-            (heap_of (contents self.new.pages.store) (D.told self.new.disk) self.new.books)) }
-        ensures stays { Stays nothing
-            (heap_of (contents self.old.pages.store) (D.told self.old.disk) self.old.books)
-            (heap_of (contents self.new.pages.store) (D.told self.new.disk) self.new.books) }
-        ensures cause { HasStoreCause (extents_in
-            (heap_of (contents self.old.pages.store) (D.told self.old.disk) self.old.books))
+        ensures ok { OnOk result (ChangesExtents (λ xs ys. ys ≡ shared_at at xs) (heap self.old)
+            (heap self.new)) }
+        ensures stays { Stays nothing (heap self.old) (heap self.new) }
+        ensures cause { HasStoreCause (extents_in (heap self.old))
             (D.faults self.old.disk) (D.faults self.new.disk) result }
     {
         if !self.books.whole {
@@ -72,16 +62,12 @@ impl<D: Disk> Space<D> {
     /// Takes a reference off the live extent at `at`, which is as long as `len` bytes take. With its
     /// last one the extent is gone.
     pub fn give_back(&mut self, at: HOff, len: u32) -> Result<(), Fault>
-        requires live { IfSome (extents_in (heap_of (contents self.old.pages.store) (D.told self.old.disk) self.old.books)) (λ xs.
+        requires live { IfSome (extents_in (heap self.old)) (λ xs.
             IsSomeAnd (extent_at at xs) (λ x. x.len ≡ rounded len)) }
-        ensures ok { OnOk result (ChangesExtents (λ xs ys. ys ≡ given_back_at at xs)
-            (heap_of (contents self.old.pages.store) (D.told self.old.disk) self.old.books)
-            (heap_of (contents self.new.pages.store) (D.told self.new.disk) self.new.books)) }
-        ensures stays { Stays nothing
-            (heap_of (contents self.old.pages.store) (D.told self.old.disk) self.old.books)
-            (heap_of (contents self.new.pages.store) (D.told self.new.disk) self.new.books) }
-        ensures cause { HasStoreCause (extents_in
-            (heap_of (contents self.old.pages.store) (D.told self.old.disk) self.old.books))
+        ensures ok { OnOk result (ChangesExtents (λ xs ys. ys ≡ given_back_at at xs) (heap self.old)
+            (heap self.new)) }
+        ensures stays { Stays nothing (heap self.old) (heap self.new) }
+        ensures cause { HasStoreCause (extents_in (heap self.old))
             (D.faults self.old.disk) (D.faults self.new.disk) result }
     {
         if !self.books.whole {
@@ -94,11 +80,8 @@ impl<D: Disk> Space<D> {
     /// A call asks for it before it gives anything back: a big-block that it freed could else be begun
     /// while the call may still be undone.
     pub fn admit(&mut self, zones: Zones, held: u32) -> Result<(), SpaceFault>
-        ensures answers { AnswersRoom zones held
-            (heap_of (contents self.old.pages.store) (D.told self.old.disk) self.old.books)
-            (heap_of (contents self.new.pages.store) (D.told self.new.disk) self.new.books) result }
-        ensures cause { HasAdmitCause (extents_in
-            (heap_of (contents self.old.pages.store) (D.told self.old.disk) self.old.books))
+        ensures answers { AnswersRoom zones held (heap self.old) (heap self.new) result }
+        ensures cause { HasAdmitCause (extents_in (heap self.old))
             (D.faults self.old.disk) (D.faults self.new.disk) result }
     {
         if self.books.gave || !self.books.whole {
@@ -110,14 +93,12 @@ impl<D: Disk> Space<D> {
     /// Reads the first bytes of a live extent, which is at least as long as the buffer. More bytes than
     /// a disk gives in one call are refused.
     pub fn fetch(&mut self, at: HOff, buf: &mut [u8]) -> Result<(), Fault>
-        requires live { IfSome (extents_in (heap_of (contents self.old.pages.store) (D.told self.old.disk) self.old.books)) (λ xs.
+        requires live { IfSome (extents_in (heap self.old)) (λ xs.
             IsSomeAnd (extent_at at xs) (λ x. length buf.old ≤ x.len)) }
-        ensures ok { IfSome (extents_in (heap_of (contents self.old.pages.store) (D.told self.old.disk) self.old.books)) (λ xs.
+        ensures ok { IfSome (extents_in (heap self.old)) (λ xs.
             IfSome (extent_at at xs) (λ x. OnOk result (buf.new ≡ first (length buf.old) x.bytes))) }
-        ensures same { heap_of (contents self.new.pages.store) (D.told self.new.disk) self.new.books ≡
-            heap_of (contents self.old.pages.store) (D.told self.old.disk) self.old.books }
-        ensures cause { HasStoreCause (extents_in
-            (heap_of (contents self.old.pages.store) (D.told self.old.disk) self.old.books))
+        ensures same { heap self.new ≡ heap self.old }
+        ensures cause { HasStoreCause (extents_in (heap self.old))
             (D.faults self.old.disk) (D.faults self.new.disk) result }
     {
         if buf.len() > MOST_CALL_BYTES {
@@ -136,15 +117,11 @@ impl<D: Disk> Space<D> {
     /// How many big-blocks are free. It reads each page of layer 2 once a state. Damage is told only of
     /// an entry that is none of its big-block.
     pub fn free_blocks(&mut self) -> Result<u32, Fault>
-        ensures ok { IfOk result (λ free. free ≡ free_of
-            (heap_of (contents self.old.pages.store) (D.told self.old.disk) self.old.books)) }
-        ensures same { LooksSame
-            (heap_of (contents self.old.pages.store) (D.told self.old.disk) self.old.books)
-            (heap_of (contents self.new.pages.store) (D.told self.new.disk) self.new.books) }
+        ensures ok { IfOk result (λ free. free ≡ free_of (heap self.old)) }
+        ensures same { LooksSame (heap self.old) (heap self.new) }
         ensures disk { self.new.disk ≡ self.old.disk }
         ensures cause { IfErr result (IsFreemapDamage self.old.books.bigblocks self.old.books.append
-            (IsPool self.old.books.bigblocks)
-            (maps_of (heap_of (contents self.old.pages.store) (D.told self.old.disk) self.old.books))) }
+            (IsPool self.old.books.bigblocks) (maps_of (heap self.old))) }
         ensures no_media { IfErr result (IsCaused 0 0) }
     {
         if !self.books.whole {

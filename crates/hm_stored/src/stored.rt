@@ -2,9 +2,9 @@
 ghost use Rattle.std.specs.Prelude.{◌≡◌, ℕ, List, Some};
 ghost use Rattle.hm_btree.specs.Tree.{HoldsTree};
 ghost use Rattle.hm_fields.specs.Fields.{AreBytes};
-ghost use Rattle.hm_pages.specs.Store.{contents};
-ghost use Rattle.hm_stored.specs.Heap.{heap_of, pages_of};
+ghost use Rattle.hm_stored.specs.Heap.{pages_of};
 ghost use Rattle.hm_stored.specs.Held.{AreOfVolume};
+ghost use Rattle.hm_stored.specs.Space.{heap};
 ghost use Rattle.hm_stored.specs.Turn.{IsClosed};
 
 use crate::space::Space;
@@ -22,7 +22,7 @@ use hm_types::{Counted, Fault, HOff};
 pub struct Stored<D: Disk> {
     pub(crate) space: Space<D>,
     pub(crate) root: HOff,
-    ghost tree: { HoldsTree (pages_of (heap_of (contents space.pages.store) (D.told space.disk) space.books)) root },
+    ghost tree: { HoldsTree (pages_of (heap space)) root },
 }
 
 impl<D: Disk> Counted for Stored<D> {
@@ -34,33 +34,31 @@ impl<D: Disk> Counted for Stored<D> {
 
     ghost Frame = { Frame };
 
-    ghost frame = { λ s. frame_of (heap_of (contents s.space.pages.store) (D.told s.space.disk) s.space.books) };
+    ghost frame = { λ s. frame_of (heap s.space) };
 }
 
 impl<D: Disk> HasRoom for Stored<D> {
     ghost use Rattle.hm_stored.specs.Heap.{extents_in, free_of, room_of};
 
-    ghost room = { λ s. room_of (heap_of (contents s.space.pages.store) (D.told s.space.disk) s.space.books) };
+    ghost room = { λ s. room_of (heap s.space) };
 
-    ghost free = { λ s. free_of (heap_of (contents s.space.pages.store) (D.told s.space.disk) s.space.books) };
+    ghost free = { λ s. free_of (heap s.space) };
 
-    ghost extents = { λ s. extents_in (heap_of (contents s.space.pages.store) (D.told s.space.disk) s.space.books) };
+    ghost extents = { λ s. extents_in (heap s.space) };
 }
 
 impl<D: Disk> HasElements for Stored<D> {
     ghost use Rattle.hm_stored.specs.Told.{elements_told, mark_told};
 
-    ghost elements = { λ s. elements_told
-        (heap_of (contents s.space.pages.store) (D.told s.space.disk) s.space.books) s.root };
+    ghost elements = { λ s. elements_told (heap s.space) s.root };
 
-    ghost mark = { λ s. mark_told
-        (heap_of (contents s.space.pages.store) (D.told s.space.disk) s.space.books) s.root };
+    ghost mark = { λ s. mark_told (heap s.space) s.root };
 }
 
 impl<D: Disk> Stored<D> {
     /// The store over a space in which no call is open. Its tree is the one from `root` on.
     pub fn over(space: Space<D>, root: HOff) -> Stored<D>
-        requires closed { IsClosed (heap_of (contents space.pages.store) (D.told space.disk) space.books) }
+        requires closed { IsClosed (heap space) }
         ensures space { result.space ≡ space }
         ensures root { result.root ≡ root }
     {
@@ -83,9 +81,7 @@ impl<D: Disk> Stored<D> {
 
     /// Does nothing, and says what the type of a page tells: each byte of each page is one.
     pub fn pages_are_bytes(&self)
-        ensures { (at : ℕ) (page : List ℕ) →
-            (heap_of (contents self.now.space.pages.store) (D.told self.now.space.disk)
-            self.now.space.books).pages.current at ≡ Some page →
+        ensures { (at : ℕ) (page : List ℕ) → (heap self.now.space).pages.current at ≡ Some page →
             AreBytes page }
     {
         pages_are_bytes(&self.space.pages.store);
@@ -94,8 +90,7 @@ impl<D: Disk> Stored<D> {
     /// Does nothing, and says that each page is a node, or has entries of layer 2 for big-blocks of the
     /// volume.
     pub fn pages_are_of_volume(&self)
-        ensures { AreOfVolume (heap_of (contents self.now.space.pages.store)
-            (D.told self.now.space.disk) self.now.space.books) }
+        ensures { AreOfVolume (heap self.now.space) }
     {}
 
     /// The space and the root.

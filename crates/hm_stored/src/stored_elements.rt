@@ -1,6 +1,6 @@
 // The elements of a volume in use.
-ghost use Rattle.hm_pages.specs.Store.{contents};
-ghost use Rattle.hm_stored.specs.Heap.{heap_of, pages_of};
+ghost use Rattle.hm_stored.specs.Heap.{pages_of};
+ghost use Rattle.hm_stored.specs.Space.{heap};
 
 use crate::stored::Stored;
 use crate::tree_calls;
@@ -12,11 +12,9 @@ impl<D: Disk> ElementStore for Stored<D> {
     ghost use Rattle.std.specs.Prelude.{true};
     ghost use Rattle.hm_btree.specs.Laws.{told_marked, told_sorted};
 
-    ghost sorted = { λ s. told_sorted true
-        (pages_of (heap_of (contents s.space.pages.store) (D.told s.space.disk) s.space.books)) s.root s.tree };
+    ghost sorted = { λ s. told_sorted true (pages_of (heap s.space)) s.root s.tree };
 
-    ghost marked = { λ s. told_marked true
-        (pages_of (heap_of (contents s.space.pages.store) (D.told s.space.disk) s.space.books)) s.root s.tree };
+    ghost marked = { λ s. told_marked true (pages_of (heap s.space)) s.root s.tree };
 
     fn first_at_or_after(&mut self, at: &Base) -> Result<Option<Element>, Fault> {
         let (root, found) = tree_calls::first_at_or_after(&mut self.space, self.root, at);

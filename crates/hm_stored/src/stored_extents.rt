@@ -1,7 +1,6 @@
 // The extents of payloads of a volume in use.
 ghost use Rattle.std.specs.Prelude.{◌≡◌};
-ghost use Rattle.hm_pages.specs.Store.{contents};
-ghost use Rattle.hm_stored.specs.Heap.{heap_of};
+ghost use Rattle.hm_stored.specs.Space.{heap};
 ghost use Rattle.hm_stored.specs.Told.{is_settled};
 
 use crate::stored::Stored;
@@ -12,10 +11,9 @@ use hm_types::{Fault, HOff, SpaceFault, Zones};
 impl<D: Disk> Extents for Stored<D> {
     ghost use Rattle.hm_stored.specs.Laws.{live_told, told_together};
 
-    ghost live = { λ s. live_told (heap_of (contents s.space.pages.store) (D.told s.space.disk) s.space.books) s.space.kept };
+    ghost live = { λ s. live_told (heap s.space) s.space.kept };
 
-    ghost together = { λ s. told_together
-        (heap_of (contents s.space.pages.store) (D.told s.space.disk) s.space.books) s.root };
+    ghost together = { λ s. told_together (heap s.space) s.root };
 
     fn admit(&mut self, zones: Zones, held: u32) -> Result<(), SpaceFault> {
         let admitted = self.space.admit(zones, held);

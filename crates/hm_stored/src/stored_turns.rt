@@ -3,8 +3,9 @@ ghost use Rattle.std.specs.Prelude.{◌≡◌, IfSome, IsSome, List, true};
 ghost use Rattle.hm_types.specs.Elements.{FullElement};
 ghost use Rattle.hm_pages.specs.Store.{contents};
 ghost use Rattle.hm_stored.specs.Content.{KeepsContent};
-ghost use Rattle.hm_stored.specs.Heap.{content_of, heap_of};
+ghost use Rattle.hm_stored.specs.Heap.{content_of};
 ghost use Rattle.hm_stored.specs.Known.{AreKnown};
+ghost use Rattle.hm_stored.specs.Space.{heap};
 ghost use Rattle.hm_stored.specs.Standing.{Holds};
 ghost use Rattle.hm_stored.specs.Told.{Tells};
 ghost use Rattle.hm_stored.specs.Turn.{IsClosed, IsDropped, IsKeptOf, IsOpened};
@@ -17,19 +18,12 @@ impl<D: Disk> Stored<D> {
     /// Opens a call, with the last id that was drawn. No call may be open. Where the volume is in order
     /// and its ids are known, the store tells just the elements that it holds. It takes no memory.
     pub fn begin(&mut self, last: Id)
-        requires closed { IsClosed
-            (heap_of (contents self.old.space.pages.store) (D.told self.old.space.disk) self.old.space.books) }
-        ensures turn { IsOpened self.old.root last.0
-            (heap_of (contents self.old.space.pages.store) (D.told self.old.space.disk) self.old.space.books)
-            (heap_of (contents self.new.space.pages.store) (D.told self.new.space.disk) self.new.space.books) }
+        requires closed { IsClosed (heap self.old.space) }
+        ensures turn { IsOpened self.old.root last.0 (heap self.old.space) (heap self.new.space) }
         ensures root { self.new.root ≡ self.old.root }
         ensures disk { self.new.space.disk ≡ self.old.space.disk }
-        ensures told { (es : List FullElement)
-            → Holds (heap_of (contents self.old.space.pages.store) (D.told self.old.space.disk) self.old.space.books)
-            self.old.root es
-            → AreKnown last.0 es
-            → Tells (heap_of (contents self.new.space.pages.store) (D.told self.new.space.disk) self.new.space.books)
-            self.new.root es }
+        ensures told { (es : List FullElement) → Holds (heap self.old.space) self.old.root es
+            → AreKnown last.0 es → Tells (heap self.new.space) self.new.root es }
     {
         self.space.begin(self.root, last);
     }
@@ -38,14 +32,10 @@ impl<D: Disk> Stored<D> {
     pub fn keep(&mut self)
         requires opened { IsSome (contents self.old.space.pages.store).begin }
         requires whole { self.old.space.books.whole ≡ true }
-        ensures turn { IsKeptOf
-            (heap_of (contents self.old.space.pages.store) (D.told self.old.space.disk) self.old.space.books)
-            (heap_of (contents self.new.space.pages.store) (D.told self.new.space.disk) self.new.space.books) }
+        ensures turn { IsKeptOf (heap self.old.space) (heap self.new.space) }
         ensures root { self.new.root ≡ self.old.root }
         ensures disk { self.new.space.disk ≡ self.old.space.disk }
-        ensures content { KeepsContent
-            (heap_of (contents self.old.space.pages.store) (D.told self.old.space.disk) self.old.space.books)
-            (heap_of (contents self.new.space.pages.store) (D.told self.new.space.disk) self.new.space.books) }
+        ensures content { KeepsContent (heap self.old.space) (heap self.new.space) }
     {
         self.space.keep();
     }
@@ -54,14 +44,10 @@ impl<D: Disk> Stored<D> {
     /// opened. It takes no memory.
     pub fn undo(&mut self)
         requires opened { IsSome (contents self.old.space.pages.store).begin }
-        ensures turn { IsDropped
-            (heap_of (contents self.old.space.pages.store) (D.told self.old.space.disk) self.old.space.books)
-            (heap_of (contents self.new.space.pages.store) (D.told self.new.space.disk) self.new.space.books) }
+        ensures turn { IsDropped (heap self.old.space) (heap self.new.space) }
         ensures root { self.new.root ≡ self.old.space.books.roots.current }
         ensures disk { self.new.space.disk ≡ self.old.space.disk }
-        ensures held { IfSome (content_of
-            (heap_of (contents self.old.space.pages.store) (D.told self.old.space.disk) self.old.space.books))
-            (Holds (heap_of (contents self.new.space.pages.store) (D.told self.new.space.disk) self.new.space.books)
+        ensures held { IfSome (content_of (heap self.old.space)) (Holds (heap self.new.space)
             self.new.root) }
     {
         self.space.undo();

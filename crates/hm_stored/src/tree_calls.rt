@@ -8,8 +8,8 @@ ghost use Rattle.hm_key.specs.Elements.{element_at, first_from, inserted, last_i
 ghost use Rattle.hm_key.specs.Key.{IsBefore, greatest_key, key_of};
 ghost use Rattle.hm_key.specs.Marks.{IsQuiet, Marks, MarksJoin, MarksStay};
 ghost use Rattle.hm_key.specs.Stores.{IsEnd, IsFound, IsFoundTo};
-ghost use Rattle.hm_pages.specs.Store.{contents};
-ghost use Rattle.hm_stored.specs.Heap.{heap_of, pages_of, room_of};
+ghost use Rattle.hm_stored.specs.Heap.{pages_of, room_of};
+ghost use Rattle.hm_stored.specs.Space.{heap};
 ghost use Rattle.hm_stored.specs.Told.{ReadsTree, WritesTree, elements_told, mark_told};
 
 use crate::space::Space;
@@ -24,17 +24,14 @@ pub(crate) fn insert<D: Disk>(
     root: HOff,
     e: &Element,
 ) -> (HOff, Result<(), Fault>)
-    requires tree { HoldsTree (pages_of (heap_of (contents space.old.pages.store) (D.told space.old.disk) space.old.books)) root }
-    requires new { IfSome (elements_told (heap_of (contents space.old.pages.store) (D.told space.old.disk) space.old.books) root)
+    requires tree { HoldsTree (pages_of (heap space.old)) root }
+    requires new { IfSome (elements_told (heap space.old) root)
         (λ es. IsNone (element_at (key_of e.now.base) es)) }
     requires element { IsElement e.now }
-    requires room { INSERT_ROOM ≤ room_of
-        (heap_of (contents space.old.pages.store) (D.told space.old.disk) space.old.books) TREE_ZONE }
+    requires room { INSERT_ROOM ≤ room_of (heap space.old) TREE_ZONE }
     ensures writes { WritesTree (in_zone TREE_ZONE INSERT_ROOM) (inserted e.now) (Marks (key_of e.now.base) (last_id e.now))
-        (heap_of (contents space.old.pages.store) (D.told space.old.disk) space.old.books)
-        (heap_of (contents space.new.pages.store) (D.told space.new.disk) space.new.books) root result.0 result.1 }
-    ensures cause { HasStoreCause (elements_told
-        (heap_of (contents space.old.pages.store) (D.told space.old.disk) space.old.books) root)
+        (heap space.old) (heap space.new) root result.0 result.1 }
+    ensures cause { HasStoreCause (elements_told (heap space.old) root)
         (D.faults space.old.disk) (D.faults space.new.disk) result.1 }
 {
     let mut tree = BTree::over(space, root);
@@ -51,16 +48,13 @@ pub(crate) fn set_delete<D: Disk>(
     at: &Base,
     delete: u64,
 ) -> (HOff, Result<(), Fault>)
-    requires tree { HoldsTree (pages_of (heap_of (contents space.old.pages.store) (D.told space.old.disk) space.old.books)) root }
-    requires there { IfSome (elements_told
-        (heap_of (contents space.old.pages.store) (D.told space.old.disk) space.old.books) root)
+    requires tree { HoldsTree (pages_of (heap space.old)) root }
+    requires there { IfSome (elements_told (heap space.old) root)
         (λ es. IsSome (element_at (key_of at.now) es)) }
     requires later { (delete ≡ 0) ⊎ (at.now.create < delete) }
     ensures writes { WritesTree nothing (with_delete (key_of at.now) delete) (Marks (key_of at.now) delete)
-        (heap_of (contents space.old.pages.store) (D.told space.old.disk) space.old.books)
-        (heap_of (contents space.new.pages.store) (D.told space.new.disk) space.new.books) root result.0 result.1 }
-    ensures cause { HasStoreCause (elements_told
-        (heap_of (contents space.old.pages.store) (D.told space.old.disk) space.old.books) root)
+        (heap space.old) (heap space.new) root result.0 result.1 }
+    ensures cause { HasStoreCause (elements_told (heap space.old) root)
         (D.faults space.old.disk) (D.faults space.new.disk) result.1 }
 {
     let mut tree = BTree::over(space, root);
@@ -76,15 +70,12 @@ pub(crate) fn remove<D: Disk>(
     root: HOff,
     at: &Base,
 ) -> (HOff, Result<(), Fault>)
-    requires tree { HoldsTree (pages_of (heap_of (contents space.old.pages.store) (D.told space.old.disk) space.old.books)) root }
-    requires there { IfSome (elements_told
-        (heap_of (contents space.old.pages.store) (D.told space.old.disk) space.old.books) root)
+    requires tree { HoldsTree (pages_of (heap space.old)) root }
+    requires there { IfSome (elements_told (heap space.old) root)
         (λ es. IsSome (element_at (key_of at.now) es)) }
     ensures writes { WritesTree nothing (removed (key_of at.now)) (MarksJoin (key_of at.now))
-        (heap_of (contents space.old.pages.store) (D.told space.old.disk) space.old.books)
-        (heap_of (contents space.new.pages.store) (D.told space.new.disk) space.new.books) root result.0 result.1 }
-    ensures cause { HasStoreCause (elements_told
-        (heap_of (contents space.old.pages.store) (D.told space.old.disk) space.old.books) root)
+        (heap space.old) (heap space.new) root result.0 result.1 }
+    ensures cause { HasStoreCause (elements_told (heap space.old) root)
         (D.faults space.old.disk) (D.faults space.new.disk) result.1 }
 {
     let mut tree = BTree::over(space, root);
@@ -101,15 +92,12 @@ pub(crate) fn readdress<D: Disk>(
     at: &Base,
     to: HOff,
 ) -> (HOff, Result<(), Fault>)
-    requires tree { HoldsTree (pages_of (heap_of (contents space.old.pages.store) (D.told space.old.disk) space.old.books)) root }
-    requires there { IfSome (elements_told
-        (heap_of (contents space.old.pages.store) (D.told space.old.disk) space.old.books) root)
+    requires tree { HoldsTree (pages_of (heap space.old)) root }
+    requires there { IfSome (elements_told (heap space.old) root)
         (λ es. IsSome (element_at (key_of at.now) es)) }
-    ensures writes { WritesTree nothing (with_payload (key_of at.now) to) MarksStay
-        (heap_of (contents space.old.pages.store) (D.told space.old.disk) space.old.books)
-        (heap_of (contents space.new.pages.store) (D.told space.new.disk) space.new.books) root result.0 result.1 }
-    ensures cause { HasStoreCause (elements_told
-        (heap_of (contents space.old.pages.store) (D.told space.old.disk) space.old.books) root)
+    ensures writes { WritesTree nothing (with_payload (key_of at.now) to) MarksStay (heap space.old)
+        (heap space.new) root result.0 result.1 }
+    ensures cause { HasStoreCause (elements_told (heap space.old) root)
         (D.faults space.old.disk) (D.faults space.new.disk) result.1 }
 {
     let mut tree = BTree::over(space, root);
@@ -125,15 +113,12 @@ pub(crate) fn first_at_or_after<D: Disk>(
     root: HOff,
     at: &Base,
 ) -> (HOff, Result<Option<Element>, Fault>)
-    requires tree { HoldsTree (pages_of (heap_of (contents space.old.pages.store) (D.told space.old.disk) space.old.books)) root }
-    ensures ok { IfSome (elements_told (heap_of (contents space.old.pages.store) (D.told space.old.disk) space.old.books) root)
+    requires tree { HoldsTree (pages_of (heap space.old)) root }
+    ensures ok { IfSome (elements_told (heap space.old) root)
         (λ es. IfOk result.1 (λ found. found ≡ first_from (key_of at.now) es)) }
     ensures found { IfOk result.1 (λ found. IfSome found (IsFound (key_of at.now))) }
-    ensures reads { ReadsTree
-        (heap_of (contents space.old.pages.store) (D.told space.old.disk) space.old.books)
-        (heap_of (contents space.new.pages.store) (D.told space.new.disk) space.new.books) root result.0 }
-    ensures cause { HasStoreCause (elements_told
-        (heap_of (contents space.old.pages.store) (D.told space.old.disk) space.old.books) root)
+    ensures reads { ReadsTree (heap space.old) (heap space.new) root result.0 }
+    ensures cause { HasStoreCause (elements_told (heap space.old) root)
         (D.faults space.old.disk) (D.faults space.new.disk) result.1 }
 {
     let mut tree = BTree::over(space, root);
@@ -149,15 +134,12 @@ pub(crate) fn last_at_or_before<D: Disk>(
     root: HOff,
     at: &Base,
 ) -> (HOff, Result<Option<Element>, Fault>)
-    requires tree { HoldsTree (pages_of (heap_of (contents space.old.pages.store) (D.told space.old.disk) space.old.books)) root }
-    ensures ok { IfSome (elements_told (heap_of (contents space.old.pages.store) (D.told space.old.disk) space.old.books) root)
+    requires tree { HoldsTree (pages_of (heap space.old)) root }
+    ensures ok { IfSome (elements_told (heap space.old) root)
         (λ es. IfOk result.1 (λ found. found ≡ last_to (key_of at.now) es)) }
     ensures found { IfOk result.1 (λ found. IfSome found (IsFoundTo (key_of at.now))) }
-    ensures reads { ReadsTree
-        (heap_of (contents space.old.pages.store) (D.told space.old.disk) space.old.books)
-        (heap_of (contents space.new.pages.store) (D.told space.new.disk) space.new.books) root result.0 }
-    ensures cause { HasStoreCause (elements_told
-        (heap_of (contents space.old.pages.store) (D.told space.old.disk) space.old.books) root)
+    ensures reads { ReadsTree (heap space.old) (heap space.new) root result.0 }
+    ensures cause { HasStoreCause (elements_told (heap space.old) root)
         (D.faults space.old.disk) (D.faults space.new.disk) result.1 }
 {
     let mut tree = BTree::over(space, root);
@@ -174,17 +156,13 @@ pub(crate) fn unchanged_until<D: Disk>(
     at: &Base,
     since: Id,
 ) -> (HOff, Result<Option<Base>, Fault>)
-    requires tree { HoldsTree (pages_of (heap_of (contents space.old.pages.store) (D.told space.old.disk) space.old.books)) root }
+    requires tree { HoldsTree (pages_of (heap space.old)) root }
     requires before { IsBefore (key_of at.now) greatest_key }
-    ensures ok { IfSome (elements_told (heap_of (contents space.old.pages.store) (D.told space.old.disk) space.old.books) root)
-        (λ _. IfOk result.1 (IsQuiet (mark_told
-        (heap_of (contents space.old.pages.store) (D.told space.old.disk) space.old.books) root) (key_of at.now) since.0)) }
+    ensures ok { IfSome (elements_told (heap space.old) root) (λ _. IfOk result.1 (IsQuiet (mark_told
+        (heap space.old) root) (key_of at.now) since.0)) }
     ensures found { IfOk result.1 (λ end. IfSome end (IsEnd (key_of at.now))) }
-    ensures reads { ReadsTree
-        (heap_of (contents space.old.pages.store) (D.told space.old.disk) space.old.books)
-        (heap_of (contents space.new.pages.store) (D.told space.new.disk) space.new.books) root result.0 }
-    ensures cause { HasStoreCause (elements_told
-        (heap_of (contents space.old.pages.store) (D.told space.old.disk) space.old.books) root)
+    ensures reads { ReadsTree (heap space.old) (heap space.new) root result.0 }
+    ensures cause { HasStoreCause (elements_told (heap space.old) root)
         (D.faults space.old.disk) (D.faults space.new.disk) result.1 }
 {
     let mut tree = BTree::over(space, root);

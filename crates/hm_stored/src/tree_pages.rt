@@ -1,7 +1,6 @@
 // The nodes of a space, as a tree reads and changes them.
 ghost use Rattle.std.specs.Prelude.{◌<◌, ◌^◌};
-ghost use Rattle.hm_pages.specs.Store.{contents};
-ghost use Rattle.hm_stored.specs.Heap.{heap_of};
+ghost use Rattle.hm_stored.specs.Space.{heap};
 
 use crate::space::Space;
 use hm_disk::Disk;
@@ -19,20 +18,20 @@ impl<D: Disk> Counted for Space<D> {
 
     ghost Frame = { Frame };
 
-    ghost frame = { λ s. frame_of (heap_of (contents s.pages.store) (D.told s.disk) s.books) };
+    ghost frame = { λ s. frame_of (heap s) };
 }
 
 impl<D: Disk> Pages for Space<D> {
     ghost use Rattle.hm_stored.specs.Heap.{Rest, pages_of, rest_of};
     ghost use Rattle.hm_stored.specs.Nodes.{KeepsNodes};
 
-    ghost pages = { λ s. pages_of (heap_of (contents s.pages.store) (D.told s.disk) s.books) };
+    ghost pages = { λ s. pages_of (heap s) };
 
     ghost kept = { KeepsNodes };
 
     ghost Rest = { Rest };
 
-    ghost rest = { λ s. rest_of (heap_of (contents s.pages.store) (D.told s.disk) s.books) };
+    ghost rest = { λ s. rest_of (heap s) };
 
     /// Reads the node at `at`. Where none stands, it tells damage.
     #[inline]
@@ -82,11 +81,11 @@ impl<D: Disk> NodePages for Space<D> {
 impl<D: Disk> HasRoom for Space<D> {
     ghost use Rattle.hm_stored.specs.Heap.{extents_in, free_of, room_of};
 
-    ghost room = { λ s. room_of (heap_of (contents s.pages.store) (D.told s.disk) s.books) };
+    ghost room = { λ s. room_of (heap s) };
 
-    ghost free = { λ s. free_of (heap_of (contents s.pages.store) (D.told s.disk) s.books) };
+    ghost free = { λ s. free_of (heap s) };
 
-    ghost extents = { λ s. extents_in (heap_of (contents s.pages.store) (D.told s.disk) s.books) };
+    ghost extents = { λ s. extents_in (heap s) };
 }
 
 // Does nothing, and says what the type of an offset tells of it.

@@ -8,8 +8,8 @@ ghost use Rattle.hm_freemap.specs.Faults.{HasExtentCause, HasFreemapCause};
 ghost use Rattle.hm_freemap.specs.Places.{HasLayer2};
 ghost use Rattle.hm_freemap.specs.Stand.{AreBelow, append_of, room_in};
 ghost use Rattle.hm_pages.specs.Store.{contents, frame_of, layer2};
-ghost use Rattle.hm_stored.specs.Heap.{heap_of};
 ghost use Rattle.hm_stored.specs.Nodes.{AddsNode, DropsNode, HasSameSpots};
+ghost use Rattle.hm_stored.specs.Space.{heap};
 
 use crate::grants::{give, take};
 use crate::pages::VolumePages;
@@ -25,9 +25,7 @@ impl<D: Disk> NodeSpace for Space<D> {
     ghost use Rattle.hm_stored.specs.Heap.{Rest, rest_of};
     ghost use Rattle.hm_stored.specs.Laws.{rests};
 
-    ghost rests = { λ s t same. rests
-        (heap_of (contents s.pages.store) (D.told s.disk) s.books)
-        (heap_of (contents t.pages.store) (D.told t.disk) t.books) same };
+    ghost rests = { λ s t same. rests (heap s) (heap t) same };
 
     fn new_node(&mut self, with: &Page) -> Result<HOff, Fault> {
         if !self.books.whole {

@@ -4,10 +4,10 @@ ghost use Rattle.hm_types.specs.declared.limits.TheConstants.{BIGBLOCK_BYTES};
 ghost use Rattle.hm_btree.specs.Tree.{IsTreeSpace};
 ghost use Rattle.hm_freemap.specs.Places.{HasLayer2};
 ghost use Rattle.hm_pages.specs.Store.{contents, layer2};
-ghost use Rattle.hm_stored.specs.Heap.{heap_of};
 ghost use Rattle.hm_stored.specs.Basis.{nodes};
 ghost use Rattle.hm_stored.specs.Content.{DropsContent, KeepsContent, OpensContent};
 ghost use Rattle.hm_stored.specs.Held.{AreOfVolume};
+ghost use Rattle.hm_stored.specs.Space.{heap, heap_over};
 ghost use Rattle.hm_stored.specs.Turn.{IsClosed, IsDropped, IsEnded, IsKeptOf, IsOpened};
 
 use crate::books::Books;
@@ -23,12 +23,11 @@ impl<D: Disk> Space<D> {
     /// the disk is as long as the volume.
     pub fn over(store: PageStore, disk: D, books: Books) -> Space<D>
         requires layer2 { HasLayer2 books.bigblocks (layer2 (contents store)) }
-        requires closed { IsClosed (heap_of (contents store) (D.told disk) books) }
+        requires closed { IsClosed (heap_over D.told store disk books) }
         requires tree { IsTreeSpace (nodes (contents store).current) books.roots.current }
-        requires only { AreOfVolume (heap_of (contents store) (D.told disk) books) }
+        requires only { AreOfVolume (heap_over D.told store disk books) }
         requires size { IfSome (D.told disk) (λ t. books.bigblocks * BIGBLOCK_BYTES ≤ length t.bytes) }
-        ensures heap { heap_of (contents result.pages.store) (D.told result.disk) result.books
-            ≡ heap_of (contents store) (D.told disk) books }
+        ensures heap { heap result ≡ heap_over D.told store disk books }
         ensures disk { result.disk ≡ disk }
     {
         Space {
@@ -41,13 +40,9 @@ impl<D: Disk> Space<D> {
     /// Opens a call, over the tree that begins at `root` and with the last id that was drawn. No call
     /// may be open. It takes no memory.
     pub fn begin(&mut self, root: HOff, last: Id)
-        requires closed { IsClosed (heap_of (contents self.old.pages.store) (D.told self.old.disk) self.old.books) }
-        ensures turn { IsOpened root last.0
-            (heap_of (contents self.old.pages.store) (D.told self.old.disk) self.old.books)
-            (heap_of (contents self.new.pages.store) (D.told self.new.disk) self.new.books) }
-        ensures content { OpensContent root last.0
-            (heap_of (contents self.old.pages.store) (D.told self.old.disk) self.old.books)
-            (heap_of (contents self.new.pages.store) (D.told self.new.disk) self.new.books) }
+        requires closed { IsClosed (heap self.old) }
+        ensures turn { IsOpened root last.0 (heap self.old) (heap self.new) }
+        ensures content { OpensContent root last.0 (heap self.old) (heap self.new) }
         ensures disk { self.new.disk ≡ self.old.disk }
     {
         self.pages.store.begin();
@@ -63,12 +58,8 @@ impl<D: Disk> Space<D> {
     pub fn keep(&mut self)
         requires opened { IsSome (contents self.old.pages.store).begin }
         requires whole { self.old.books.whole ≡ true }
-        ensures turn { IsKeptOf
-            (heap_of (contents self.old.pages.store) (D.told self.old.disk) self.old.books)
-            (heap_of (contents self.new.pages.store) (D.told self.new.disk) self.new.books) }
-        ensures content { KeepsContent
-            (heap_of (contents self.old.pages.store) (D.told self.old.disk) self.old.books)
-            (heap_of (contents self.new.pages.store) (D.told self.new.disk) self.new.books) }
+        ensures turn { IsKeptOf (heap self.old) (heap self.new) }
+        ensures content { KeepsContent (heap self.old) (heap self.new) }
         ensures disk { self.new.disk ≡ self.old.disk }
     {
         self.pages.store.keep();
@@ -78,12 +69,8 @@ impl<D: Disk> Space<D> {
     /// when it was opened. It takes no memory.
     pub fn undo(&mut self)
         requires opened { IsSome (contents self.old.pages.store).begin }
-        ensures turn { IsDropped
-            (heap_of (contents self.old.pages.store) (D.told self.old.disk) self.old.books)
-            (heap_of (contents self.new.pages.store) (D.told self.new.disk) self.new.books) }
-        ensures content { DropsContent
-            (heap_of (contents self.old.pages.store) (D.told self.old.disk) self.old.books)
-            (heap_of (contents self.new.pages.store) (D.told self.new.disk) self.new.books) }
+        ensures turn { IsDropped (heap self.old) (heap self.new) }
+        ensures content { DropsContent (heap self.old) (heap self.new) }
         ensures disk { self.new.disk ≡ self.old.disk }
     {
         self.pages.store.undo();
@@ -94,9 +81,7 @@ impl<D: Disk> Space<D> {
     /// Ends a change of the open call. One that failed may be half done, so that each further one is
     /// refused until the changes are dropped.
     pub(crate) fn end_change(&mut self, done: bool)
-        ensures ends { IsEnded done
-            (heap_of (contents self.old.pages.store) (D.told self.old.disk) self.old.books)
-            (heap_of (contents self.new.pages.store) (D.told self.new.disk) self.new.books) }
+        ensures ends { IsEnded done (heap self.old) (heap self.new) }
         ensures disk { self.new.disk ≡ self.old.disk }
     {
         let whole = self.books.whole && done;

@@ -4,7 +4,8 @@ ghost use Rattle.hm_key.specs.Element.{IsElement};
 ghost use Rattle.hm_key.specs.Key.{IsBefore, greatest_key, key_of};
 ghost use Rattle.hm_newfs.specs.Steps.{HasSpace};
 ghost use Rattle.hm_pages.specs.Store.{contents};
-ghost use Rattle.hm_stored.specs.Heap.{frame_of, heap_of};
+ghost use Rattle.hm_stored.specs.Heap.{frame_of};
+ghost use Rattle.hm_stored.specs.Space.{heap};
 ghost use Rattle.hm_stored.specs.Turn.{IsClosed};
 
 use hm_disk::Disk;
@@ -20,7 +21,7 @@ use std::test::Fail;
 
 // A space over a volume of 24 big-blocks.
 fn mounted<D: Disk + Drop>(alloc: Global, mut disk: D) -> Result<Space<D>, Failed>
-    ensures { IfOk result (λ s. IsClosed (heap_of (contents s.pages.store) (D.told s.disk) s.books)) }
+    ensures { IfOk result (λ s. IsClosed (heap s)) }
 {
     let header = match read_header(&mut disk)? {
         Ok((header, _)) => header,
