@@ -5,3 +5,8 @@ pub mod MakeLemmas
 pub mod StandLemmas
 pub mod StageLemmas
 pub mod KeptLemmas
+pub mod PageLemmas
+pub mod SavedLemmas
+pub mod RecoverLemmas
+pub mod GuardLemmas
+pub mod SameGuardLemmas

@@ -4,3 +4,5 @@ pub mod Device
 pub mod Flush
 pub mod Stages
 pub mod Calls
+pub mod Recoverable
+pub mod Guard

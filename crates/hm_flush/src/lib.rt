@@ -11,5 +11,8 @@ mod laws;
 mod stage;
 
 pub use flusher::Flusher;
-pub use laws::{no_stage_is_left_where_none_is_in_flight, same_slots_keep_what_a_flush_asks_for};
+pub use laws::{
+    no_stage_is_left_where_none_is_in_flight, same_guarded_bytes_keep_the_guard,
+    same_slots_keep_what_a_flush_asks_for, what_is_guarded_is_recoverable,
+};
 pub use stage::Stage;
