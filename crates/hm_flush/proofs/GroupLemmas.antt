@@ -62,3 +62,14 @@ live_before-grows w i (suc n) below = ⊎_elim (λ less. omega (arith, live_befo
   where
     same : suc n ≤ i → live_before w i ≤ live_before w (suc n)
     same past = let is : i ≡ suc n = omega arith in subst (λ (k : ℕ). live_before w k ≤ live_before w (suc n)) (sym is) (omega arith)
+
+-- those from one on before it were not live
+pub next_live-skips : (w : ℕ → Bool) (from n i : ℕ) → from ≤ i → i < next_live w from n → w i ≡ false
+next_live-skips w from zero i past below = absurd (omega (arith, past, below))
+next_live-skips w from (suc n) i past below = step (w from) refl below (λ later. next_live-skips w (suc from) n i (omega (arith, later)))
+  where
+    step : (b : Bool) → w from ≡ b → i < (if b then from else next_live w (suc from) n)
+        → (from < i → i < next_live w (suc from) n → w i ≡ false) → w i ≡ false
+    step true is below more = absurd (omega (arith, past, below))
+    step false is below more =
+        ⊎_elim (λ less. more less below) (λ same. let here : from ≡ i = omega (arith, same, past) in ap (λ (k : ℕ). w k) (sym here) ∙ is) (cases_lt from i)

@@ -10,3 +10,7 @@ pub mod SavedLemmas
 pub mod RecoverLemmas
 pub mod GuardLemmas
 pub mod SameGuardLemmas
+pub mod RangeLemmas
+pub mod SaveLemmas
+pub mod StepLemmas
+pub mod CallLemmas

@@ -252,7 +252,7 @@ places-kept (Committing (Open tried)) now bigblocks s s' flight done placed = re
 }
 
 -- a number of a list is a member
-place-member : (places : List ℕ) (i : ℕ) → i < length places → is_member nat_eq places (slice_index places i) ≡ true
+pub place-member : (places : List ℕ) (i : ℕ) → i < length places → is_member nat_eq places (slice_index places i) ≡ true
 place-member places i below = (is_member-Decides Decides-eqb places (slice_index places i)).1 (Contains-get_or places i 0 below)
 
 pub places-frozen : (bigblocks : ℕ) (boundary : Id) (s s' : Store) → IsFrozen boundary s s' → AreFlushPlaces bigblocks s → AreFlushPlaces bigblocks s'

@@ -2,6 +2,7 @@
 ghost use Rattle.std.specs.Prelude.{◌≡◌, ◌≢◌, ◌≤◌, IfOk, IfErr, IfSome, OnOk, OnErr};
 ghost use Rattle.hm_types.specs.Told.{BothTell};
 ghost use Rattle.hm_types.specs.declared.fault.Fault.TheVariants.{NoMemory};
+ghost use Rattle.hm_disk.specs.Crash.{Told};
 ghost use Rattle.hm_header.specs.declared.header.Header.{Header};
 ghost use Rattle.hm_header.specs.Change.{StageElapses, StageFailed};
 ghost use Rattle.hm_header.specs.Range.{IsHeader};
@@ -10,6 +11,7 @@ ghost use Rattle.hm_flush.specs.declared.flush.Position.TheVariants.{Idle};
 ghost use Rattle.hm_flush.specs.Calls.{HasStageCause, IsFlushReady, IsTarget, StageSucceeds, PagesMove, FlushStands, StageFails};
 ghost use Rattle.hm_flush.specs.Flush.{IsGroupOf, idle_flush};
 ghost use Rattle.hm_flush.specs.Group.{group_of};
+ghost use Rattle.hm_flush.specs.Guard.{ElapsesRecoverable, Guards, GuardsOn};
 ghost use Rattle.hm_flush.specs.Stages.{DueStageMade, asks, range_of};
 
 use crate::flush::{Flush, Position};
@@ -93,6 +95,11 @@ impl Flusher {
             (range_of self.old (group_of (contents pages.old))).1
             (D.left_since disk.old) (D.left_since disk.new)) }
         ensures stands { IfSome (D.told disk.new) (FlushStands self.new) }
+        ensures guards { BothTell (D.told disk.old) (D.told disk.new)
+            (GuardsOn self.old (contents pages.old) self.new (contents pages.new)) }
+        ensures recoverable { BothTell (D.told disk.old) (D.told disk.new)
+            (ElapsesRecoverable self.old (contents pages.old)
+            (D.left_since disk.old) (D.left_since disk.new)) }
         ensures cause { HasStageCause self.old.at (D.faults disk.old) (D.faults disk.new) result }
     {
         if self.flush.at == Position::Idle {
@@ -110,8 +117,11 @@ impl Flusher {
         ensures ok { IfOk result (λ stage. StageSucceeds now.now stage self.old self.new
             (contents pages.old) (contents pages.new)) }
         ensures err { OnErr result (StageFails self.old self.new (contents pages.old) (contents pages.new)) }
+        ensures guards { (t : Told) → Guards self.old (contents pages.old) t →
+            Guards self.new (contents pages.new) t }
         ensures fault { IfErr result (λ fault. fault ≡ NoMemory) }
     {
+        store_is_sound(pages);
         pages.freeze(now.last)?;
         store_is_sound(pages);
         let live = count_live(pages);
@@ -137,8 +147,14 @@ impl Flusher {
             (range_of self.old (group_of (contents pages.old))).1
             (D.left_since disk.old) (D.left_since disk.new)) }
         ensures stands { IfSome (D.told disk.new) (FlushStands self.new) }
+        ensures guards { BothTell (D.told disk.old) (D.told disk.new)
+            (GuardsOn self.old (contents pages.old) self.new (contents pages.new)) }
+        ensures recoverable { BothTell (D.told disk.old) (D.told disk.new)
+            (ElapsesRecoverable self.old (contents pages.old)
+            (D.left_since disk.old) (D.left_since disk.new)) }
         ensures cause { HasStageCause self.old.at (D.faults disk.old) (D.faults disk.new) result }
     {
+        store_is_sound(pages);
         let flush = self.flush;
         let stage = flush.due(pages);
         let before = disk.faults();

@@ -1,0 +1,101 @@
+-- The guard over a call of the flusher, where the disk tells.
+use Rattle.std.proofs.Common.{◌≡◌, ◌≢◌, ◌⊎◌, inl, inr, ℕ, Bool, true, false, List, [], length, refl, sym, ◌∙◌, ap, subst, arith, is_some, Option, Some, None, IfSome}
+use Rattle.hm_types.specs.declared.id.Id.{Id}
+use Rattle.hm_types.specs.Told.{BothTell}
+use Rattle.hm_disk.specs.Crash.{Told, MayLeave}
+use Rattle.hm_disk.specs.Moments.{LeftSince}
+use Rattle.hm_disk.proofs.DiskLemmas.{BothTell-map}
+use Rattle.hm_disk.proofs.MomentLemmas.{Elapses-none}
+use Rattle.hm_fields.specs.Pages.{PageMap}
+use Rattle.hm_header.specs.declared.header.Header.{Header}
+use Rattle.hm_header.specs.Change.{AnyCrash, StageElapses, StageFailed}
+use Rattle.hm_pages.specs.Calls.{IsFrozen}
+use Rattle.hm_pages.specs.Sound.{IsSound}
+use Rattle.hm_pages.specs.Store.{Store}
+use Rattle.hm_undo.specs.Entry.{IsUndoPageOf}
+use Rattle.hm_flush.specs.declared.flush.Flush.{Flush}
+use Rattle.hm_flush.specs.declared.flush.Position.{Position}
+use Rattle.hm_flush.specs.declared.flush.Position.TheVariants.{Idle, Undoing, Arming, Placing, Committing}
+use Rattle.hm_flush.specs.Calls.{AreFlushPlaces, FlushStands, HeaderStands, PagesMove}
+use Rattle.hm_flush.specs.Flush.{IsFlush, IsGroupAt, IsGroupOf, armed_header, begun_flush, tried}
+use Rattle.hm_flush.specs.Group.{group_of}
+use Rattle.hm_flush.specs.Guard.{ArePlaced, ElapsesRecoverable, Guards, GuardsOn, HasSaved, IsUnarmedAt, guarded_at}
+use Rattle.hm_flush.specs.Recoverable.{HoldsPages}
+use Rattle.hm_flush.specs.Stages.{DueStageMade, asks, due_stage, moved_flush, range_of}
+use Rattle.hm_flush.proofs.StandLemmas.{lies-past, stands-on, stands-tried}
+use Rattle.hm_flush.proofs.StepLemmas.{Fits, elapses-recoverable, guards-on, guards-tried}
+
+group-pages : (p : Position) (f : Flush) (s : Store) → IsGroupAt p f s → p ≢ Idle → length s.frozen_group ≡ f.pages
+group-pages Idle f s group flight = absurd (flight refl)
+group-pages (Undoing from) f s group flight = group.pages
+group-pages (Arming change) f s group flight = group.pages
+group-pages (Placing i) f s group flight = group.pages
+group-pages (Committing change) f s group flight = group.pages
+
+module _ (f : Flush) (s : Store) (sound : IsFlush f) (group : IsGroupOf f s) (placed : AreFlushPlaces f.header.bigblocks s) (store : IsSound s)
+    (flight : f.at ≢ Idle) (old new : Option Told) (stands : IfSome old (FlushStands f)) where
+  fits : Fits f s
+  fits = record { sound = sound; len = group-pages f.at f s group; placed = placed; store = store.flush }
+
+  pub guards-then : (s' : Store) (now : Header) → PagesMove f.at now s s' → BothTell old new (DueStageMade f (group_of s))
+      → BothTell old new (GuardsOn f s (moved_flush (due_stage f (group_of s)) f) s')
+  guards-then s' now move made =
+      BothTell-map old new (FlushStands f) (DueStageMade f (group_of s)) (GuardsOn f s (moved_flush (due_stage f (group_of s)) f) s')
+      (λ a b here did guards. guards-on f s s' now flight fits move a b guards did
+      (stands-on f (group_of s) a b flight here (lies-past f s (length a.bytes) flight sound group placed here.room) did)) stands made
+
+  pub guards-still : BothTell old new (StageFailed (asks f) (range_of f (group_of s)).0 (range_of f (group_of s)).1)
+      → BothTell old new (GuardsOn f s (tried f) s)
+  guards-still failed =
+      BothTell-map old new (FlushStands f) (StageFailed (asks f) (range_of f (group_of s)).0 (range_of f (group_of s)).1) (GuardsOn f s (tried f) s)
+      (λ a b here did guards. guards-tried f s fits a b guards did
+      (stands-tried f (group_of s) a b flight here (lies-past f s (length a.bytes) flight sound group placed here.room) did)) stands failed
+
+  pub recoverable-within : (past since : LeftSince)
+      → BothTell old new (StageElapses (asks f) (range_of f (group_of s)).0 (range_of f (group_of s)).1 past since)
+      → BothTell old new (ElapsesRecoverable f s past since)
+  recoverable-within past since time =
+      BothTell-map old new (FlushStands f) (StageElapses (asks f) (range_of f (group_of s)).0 (range_of f (group_of s)).1 past since)
+      (ElapsesRecoverable f s past since) (λ a b here did guards. elapses-recoverable f s fits a guards past since b did) stands time
+
+-- a group that is frozen
+none-saved : (header : Header) (s : Store) (bytes : List ℕ) → HasSaved (armed_header header 0) s 0 bytes
+none-saved header s bytes = record {
+  olds = [];
+  range = record { count = refl; each = λ i. tt };
+  committed = tt;
+  live = λ i below. absurd (omega (arith, below));
+}
+
+frozen-placed : (bigblocks : ℕ) (boundary : Id) (s s' : Store) → IsSound s → s.begin ≡ None → AreFlushPlaces bigblocks s → IsFrozen boundary s s'
+    → ArePlaced bigblocks s.frozen → ArePlaced bigblocks s'.frozen
+frozen-placed bigblocks boundary s s' sound closed placed frozen was at page is = step (s.group.changed at) refl
+  where
+    here : s.current at ≡ Some page
+    here = ap (λ (map : PageMap). map at) (sym frozen.frozen) ∙ is
+
+    step : (c : Bool) → s.group.changed at ≡ c → IsUndoPageOf bigblocks at
+    step true changed = placed.current at changed (ap is_some here)
+    step false same = was at page (sym ((sound.closed closed).1 at same) ∙ here)
+
+pub guards-begun : (f new : Flush) (now : Header) (n live : ℕ) (boundary : Id) (s s' : Store) → f.at ≡ Idle → IsSound s → s.begin ≡ None
+    → AreFlushPlaces f.header.bigblocks s → IsFrozen boundary s s' → new ≡ begun_flush now n live f → (t : Told) → Guards f s t → Guards new s' t
+guards-begun f new now n live boundary s s' idle sound closed placed frozen is t guards = subst (λ (x : Flush). Guards x s' t) (sym is) (record {
+  stands = record {
+    room = guards.stands.room;
+    header = subst (λ (p : Position). HeaderStands p f t) idle guards.stands.header;
+  };
+  committed = subst (λ (map : PageMap). ArePlaced f.header.bigblocks map) (sym frozen.committed) guards.committed;
+  frozen = frozen-placed f.header.bigblocks boundary s s' sound closed placed frozen guards.frozen;
+  unarmed = subst (λ (p : Position). IsUnarmedAt p f.header) idle guards.unarmed;
+  crash = λ image left.
+      let was = subst (λ (p : Position). AnyCrash (guarded_at p f s) t) idle guards.crash image left in
+      (was.0, subst (λ (map : PageMap). HoldsPages map image) (sym frozen.committed) was.1);
+  read = none-saved f.header s' t.bytes;
+})
+
+-- no call of the disk was made
+pub same-told : (f new : Flush) (s s' : Store) (past : LeftSince) (old : Option Told) → ((t : Told) → Guards f s t → Guards new s' t)
+    → BothTell old old (GuardsOn f s new s') × BothTell old old (ElapsesRecoverable f s past past)
+same-told f new s s' past None step = (tt, tt)
+same-told f new s s' past (Some t) step = (step t, λ guards. Elapses-none _ past t)
