@@ -14,3 +14,4 @@ pub mod RangeLemmas
 pub mod SaveLemmas
 pub mod StepLemmas
 pub mod CallLemmas
+pub mod MadeUpLemmas

@@ -1,14 +1,20 @@
 // What follows from the definitions alone: each function states one law, and does nothing.
-ghost use Rattle.std.specs.Prelude.{◌≡◌, ◌↔◌};
+ghost use Rattle.std.specs.Prelude.{◌≡◌, ◌↔◌, ◌≤◌, ◌*◌, ℕ, List, [], ◌∷◌, Some, length};
 ghost use Rattle.hm_disk.specs.Crash.{Told, MayLeave};
 ghost use Rattle.hm_disk.specs.Moments.{Each};
-ghost use Rattle.hm_header.specs.Change.{HaveSameSlots};
+ghost use Rattle.hm_types.specs.declared.limits.TheConstants.{PAGE_BYTES};
+ghost use Rattle.hm_types.specs.Offset.{byte_of};
+ghost use Rattle.hm_fields.specs.Fields.{Apart};
+ghost use Rattle.hm_header.specs.declared.header.Header.{Header};
+ghost use Rattle.hm_header.specs.declared.header.TheConstants.{SLOT_BYTES};
+ghost use Rattle.hm_header.specs.Range.{IsHeader};
+ghost use Rattle.hm_header.specs.Change.{HaveSameSlots, IsCounting};
 ghost use Rattle.hm_flush.specs.declared.flush.Flush.{Flush};
 ghost use Rattle.hm_flush.specs.declared.flush.Position.TheVariants.{Idle};
-ghost use Rattle.hm_flush.specs.Calls.{FlushStands};
-ghost use Rattle.hm_flush.specs.Flush.{IsFlush, left};
-ghost use Rattle.hm_flush.specs.Guard.{Guards, HaveSameGuarded};
-ghost use Rattle.hm_flush.specs.Recoverable.{Recoverable};
+ghost use Rattle.hm_flush.specs.Calls.{FlushStands, IsFlushReady};
+ghost use Rattle.hm_flush.specs.Flush.{IsFlush, idle_flush, left};
+ghost use Rattle.hm_flush.specs.Guard.{ArePlaced, Guards, HaveSameGuarded};
+ghost use Rattle.hm_flush.specs.Recoverable.{HoldsPages, Recoverable};
 ghost use Rattle.hm_pages.specs.Calls.{IsSameFlush};
 ghost use Rattle.hm_pages.specs.Store.{Store};
 
@@ -38,4 +44,24 @@ pub fn what_is_guarded_is_recoverable()
 pub fn same_guarded_bytes_keep_the_guard()
     ensures { (f : Flush) (s after : Store) (old new : Told) → IsSameFlush s after →
         HaveSameGuarded f.header.bigblocks s old new → Guards f s old → Guards f after new }
+{}
+
+/// On a disk that is settled an idle flush is guarded where the header counts and names no range, and each
+/// committed page stands where it belongs. So the guard is had as a volume is mounted.
+pub fn a_settled_disk_is_guarded()
+    ensures { (header : Header) (slot : ℕ) (s : Store) (t : Told) → IsCounting header slot t.bytes →
+        header.undo_count ≡ 0 → ArePlaced header.bigblocks s.committed →
+        ArePlaced header.bigblocks s.frozen → HoldsPages s.committed t.bytes →
+        t.unsettled ≡ [] → Guards (idle_flush header slot) s t }
+{}
+
+/// For each header in range that names no range there is a disk on which an idle flush is guarded and
+/// ready, with a committed page where the root stands, and with any range unsettled that meets neither
+/// the slots nor this page. So the guard is no contradiction.
+pub fn some_disk_is_guarded()
+    ensures { (header : Header) (page : List ℕ) (place count : ℕ) → IsHeader header →
+        header.undo_count ≡ 0 → length page ≡ PAGE_BYTES → 2 * SLOT_BYTES ≤ place →
+        Apart (byte_of header.root) PAGE_BYTES place count → (s : Store) × (t : Told)
+        × IsFlushReady (idle_flush header 0) s × Guards (idle_flush header 0) s t
+        × (s.committed header.root ≡ Some page) × (t.unsettled ≡ (place, count) ∷ []) }
 {}
