@@ -35,7 +35,7 @@ StandsForChange Write f t = AnyCrash (change_asks Write f.header f.slot (header_
 StandsForChange (Open tried) f t = AnyCrash (change_asks (Open tried) f.header f.slot (header_to_write f)) t
     × (tried ≡ false → AnyCrash (IsBodyWritten f.header f.slot (header_to_write f)) t)
 
--- The header counts on the disk as the stage that is due_stage needs it: before UndoSync as reads give it, and from then on
+-- The header counts on the disk as the stage that is due needs it: before UndoSync as reads give it, and from then on
 -- whatever a crash leaves.
 abbrev pub HeaderStands : Position → Flush → Told → Type 0
 HeaderStands Idle f t = IsCounting f.header f.slot t.bytes
@@ -87,7 +87,7 @@ LeftFalls (Arming change) s old new = left new + 1 ≡ left old
 LeftFalls (Placing i) s old new = left new + 1 ≡ left old
 LeftFalls (Committing change) s old new = left new + 1 ≡ left old
 
--- the stage that was due_stage succeeded, and brought flush and store on
+-- the stage that was due succeeded, and brought flush and store on
 pub record StageSucceeds (now : Header) (stage : Stage) (old new : Flush) (pages pages' : Store) : Type 0 where
   pub stage_is : stage ≡ due_stage old (group_of pages)
   pub flush : IsMoved old.at now stage pages' old new

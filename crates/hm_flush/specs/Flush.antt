@@ -114,7 +114,7 @@ left f = left_at f.at f
 abbrev pub begun_flush : Header → ℕ → ℕ → Flush → Flush
 begun_flush target pages live f = record f { target = target; at = Undoing 0; pages = pages; live = live; written = 0 }
 
--- the position after the stage that is due_stage was tried and failed: where it opens a gate, that was tried from then on
+-- the position after the stage that is due was tried and failed: where it opens a gate, that was tried from then on
 abbrev pub tried_change : Change → Change
 tried_change Close = Close
 tried_change Write = Write
@@ -134,7 +134,7 @@ tried f = record f { at = tried_at f.at }
 abbrev pub idle_flush : Header → ℕ → Flush
 idle_flush header slot = record { header = header; slot = slot; target = header; at = Idle; pages = 0; live = 0; written = 0 }
 
--- which stage of a header change is due_stage
+-- which stage of a header change is due
 abbrev pub due_change : Position → Change
 due_change Idle = Close
 due_change (Undoing from) = Close
@@ -142,7 +142,7 @@ due_change (Arming change) = change
 due_change (Placing i) = Close
 due_change (Committing change) = change
 
--- whether the stage that is due_stage ends the flush
+-- whether the stage that is due ends the flush
 abbrev pub is_last : Position → Bool
 is_last Idle = false
 is_last (Undoing from) = false

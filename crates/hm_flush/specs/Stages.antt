@@ -1,4 +1,4 @@
--- The stages of a flush: which is due_stage, how far it brings the flush, and what it does to the disk.
+-- The stages of a flush: which is due, how far it brings the flush, and what it does to the disk.
 use Rattle.std.specs.Prelude.{◌≡◌, ℕ, ◌+◌, ◌-◌, ◌<◌, Bool, false, true, List, [], ◌∷◌, nat_lt, slice_index, if◌then◌else◌}
 use Rattle.hm_types.specs.declared.limits.TheConstants.{PAGE_BYTES, UNDO_ENTRY_BYTES}
 use Rattle.hm_types.specs.Offset.{byte_of}
@@ -19,7 +19,7 @@ use Rattle.hm_flush.specs.Device.{IsPageWritten, IsSaved}
 use Rattle.hm_flush.specs.Flush.{due_change, next_generation, header_to_write}
 use Rattle.hm_flush.specs.Group.{Group, next_live}
 
--- the stage that is due_stage at each position: each live page is saved, and then each page placed
+-- the stage that is due at each position: each live page is saved, and then each page placed
 abbrev pub due_stage_at : Position → Flush → Group → Stage
 due_stage_at Idle f g = Freeze
 due_stage_at (Undoing from) f g =
@@ -129,6 +129,6 @@ pub record MakesStage (stage : Stage) (f : Flush) (g : Group) (old new : Told) :
   pub unsettled : UnsettlesAtMost (stage_range stage f g).0 (stage_range stage f g).1 old new
   pub settled : is_synced stage ≡ true → new.unsettled ≡ []
 
--- so did the one that was due_stage
+-- so did the one that was due
 abbrev pub DueStageMade : Flush → Group → Told → Told → Type 0
 DueStageMade f g old new = MakesStage (due_stage f g) f g old new

@@ -34,7 +34,7 @@ impl Change {
     }
 }
 
-/// DueStageMade this stage of the change from the header that counts, in this slot, to `next` in the other one.
+/// Makes this stage of the change from the header that counts, in this slot, to `next` in the other one.
 /// After `Failed` it may be made again.
 pub fn change_header<D: Disk>(
     disk: &mut D,

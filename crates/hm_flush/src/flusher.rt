@@ -69,7 +69,7 @@ impl Flusher {
         self.flush.header.last
     }
 
-    /// DueStageMade the stage that is due, and answers which. Where no flush is in flight this is Freeze, which
+    /// Makes the stage that is due, and answers which. Where no flush is in flight this is Freeze, which
     /// takes the version, the last id, the root and the append big-blocks of `now`; no other stage reads
     /// it. No call may be open in `pages`. After a fault all is as before but for the range that the
     /// stage writes, and the same stage is due: `Media` where the disk failed, and at Freeze `NoMemory`.
@@ -129,7 +129,7 @@ impl Flusher {
         Ok(Stage::Freeze)
     }
 
-    // DueStageMade the stage that is due of the flush in flight.
+    // Makes the stage that is due of the flush in flight.
     fn go_on<D: Disk>(&mut self, pages: &mut PageStore, disk: &mut D) -> Result<Stage, Fault>
         requires flight { self.old.at ≢ Idle }
         requires ready { IsFlushReady self.old (contents pages.old) }
@@ -175,7 +175,7 @@ impl Flusher {
     }
 }
 
-// DueStageMade the frozen pages the committed ones, where the stage that was due ends the flush.
+// Makes the frozen pages the committed ones, where the stage that was due ends the flush.
 fn commit_last(flush: &Flush, pages: &mut PageStore)
     requires flight { flush.now.at ≢ Idle }
     requires group { IsGroupOf flush.now (contents pages.old) }
