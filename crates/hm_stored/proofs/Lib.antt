@@ -26,6 +26,8 @@ mod PutLemmas
 mod ReferLemmas
 mod RoomLemmas
 mod SafeLemmas
+pub mod SpotLemmas
+mod RootLemmas
 mod StandingLemmas
 mod StoredLemmas
 mod UseLemmas

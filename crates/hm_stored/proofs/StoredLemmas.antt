@@ -12,6 +12,7 @@ use Rattle.hm_types.specs.declared.zones.Zones.{Zones}
 use Rattle.hm_fields.specs.Pages.{PageMap}
 use Rattle.hm_key.specs.Calls.{Admission}
 use Rattle.hm_key.specs.Extents.{Extent}
+use Rattle.hm_key.specs.Stores.{Keeps}
 use Rattle.hm_key.specs.declared.element.Element.{Element}
 use Rattle.hm_btree.specs.Tree.{HoldsTree, told_elements, told_mark}
 use Rattle.hm_stored.specs.Basis.{nodes}
@@ -296,3 +297,13 @@ module _ {S : Type 0} (heap : S → Heap) (root : S → ℕ) where
       unchanged = tt;
       room = λ zone. room_rises zone (answers.room zone);
     }
+
+    pub room_keeps : (r : Result (Unit {0}) SpaceFault) → done ≡ is_settled r → AnswersRoom zones held (heap old) mid r
+        → Keeps elements extents old new r
+    room_keeps (Ok x) is answers =
+        let given = room_given (Ok x) is answers in
+        record {
+          elements = ap (λ (o : Option (List Element)). is_some o) given.content.elements;
+          extents = ap (λ (o : Option (List Extent)). is_some o) given.content.extents;
+        }
+    room_keeps (Err fault) is answers = record { elements = tt; extents = tt }

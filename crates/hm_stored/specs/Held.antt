@@ -1,6 +1,6 @@
 -- What always holds of a space.
-use Rattle.std.specs.Prelude.{◌≡◌, ◌⊎◌, ℕ, ◌+◌, ◌*◌, ◌^◌, ◌<◌, ◌≤◌, ◌&&◌, false, nat_eq, List, Option, None, Some, if◌then◌else◌, is_some, length, map}
-use Rattle.std.specs.Prelude.{All, IfSome, IsSome, IsTrue, count_by, pos, ◌<ℤ◌}
+use Rattle.std.specs.Prelude.{◌≡◌, ◌⊎◌, ℕ, ◌+◌, ◌*◌, ◌^◌, ◌<◌, ◌≤◌, Bool, ◌&&◌, false, nat_eq, List, Option, None, Some, if◌then◌else◌, is_some, length, map}
+use Rattle.std.specs.Prelude.{All, IfSome, IsSome, IsTrue, count_by, pos, ◌<ℤ◌, slice_index, true}
 use Rattle.hm_types.specs.Offset.{zone_of}
 use Rattle.hm_types.specs.References.{IsPlaced, Reference, References}
 use Rattle.hm_types.specs.Space.{rounded}
@@ -12,6 +12,9 @@ use Rattle.hm_node.specs.Inner.{IsNodeOffset}
 use Rattle.hm_node.specs.Shape.{HoldsNode}
 use Rattle.hm_freemap.specs.Extents.{is_extent, reference}
 use Rattle.hm_freemap.specs.Places.{IsPageOf}
+use Rattle.hm_header.specs.Range.{IsRoot}
+use Rattle.hm_undo.specs.Entry.{IsUndoPageOf}
+use Rattle.hm_pages.specs.Store.{Store}
 use Rattle.hm_freemap.specs.Stand.{IsBelow, StandBy, entry_of, home_of}
 use Rattle.hm_stored.specs.Basis.{AreFixed, Basis, nodes, states_of}
 use Rattle.hm_stored.specs.Heap.{Heap, basis_with, bytes_of, does_hold, does_tell, maps_of, places_in}
@@ -80,7 +83,23 @@ AreOnlyOf bigblocks pages = (at : ℕ) → IsSome (pages at) → (zone_of at ≡
 abbrev pub AreOfVolume : Heap → Type 0
 AreOfVolume h = AreOnlyOf h.bigblocks h.pages.current
 
--- What always holds of the pages of a space beside: they are of its volume, and were when the open call began.
+-- Each page that the open call or the group changed stands where an entry of the UNDO log may name it: in the pool, or in layer 2.
+-- So does each frozen one.
+pub record ArePlaced (bigblocks : ℕ) (s : Store) : Type 0 where
+  pub call : (at : ℕ) → s.call.changed at ≡ true → IsUndoPageOf bigblocks at
+  pub group : (at : ℕ) → s.group.changed at ≡ true → IsUndoPageOf bigblocks at
+  pub frozen : (i : ℕ) → i < length s.frozen_group → IsUndoPageOf bigblocks (slice_index s.frozen_group i)
+
+-- What always holds of the pages of a space beside: they are of its volume, and were when the open call began, and those that
+-- changed stand where they may.
 pub record IsOfVolume (h : Heap) : Type 0 where
   pub only : AreOfVolume h
   pub begun : IfSome h.pages.begin (AreOnlyOf h.bigblocks)
+  pub placed : ArePlaced h.bigblocks h.pages
+
+-- Where the tree of a store begins, and whether a call is open. Without one, its root stands where the next header may name it;
+-- and while one is open, so does the root to which dropping it leads.
+pub record IsRooted (opened : Bool) (h : Heap) (root : ℕ) : Type 0 where
+  pub opened_is : is_some h.pages.begin ≡ opened
+  pub root_is : opened ≡ false → IsRoot h.bigblocks root
+  pub begun : opened ≡ true → IsRoot h.bigblocks h.roots.current

@@ -2,6 +2,7 @@
 use Rattle.std.specs.Prelude.{◌≡◌, ◌&&◌, ℕ, Bool, true, false, [], None}
 use Rattle.hm_pages.specs.Calls.{IsBegun, IsKept as IsPagesKept, IsUndone}
 use Rattle.hm_pages.specs.Store.{frame_of as pages_frame}
+use Rattle.hm_header.specs.Range.{IsRoot}
 use Rattle.hm_stored.specs.Heap.{Heap}
 
 -- no call is open
@@ -21,6 +22,11 @@ pub record IsOpened (root last : ℕ) (old new : Heap) : Type 0 where
     log = [];
     gave = false;
   }
+
+-- the open call may be kept: none of its changes failed half-way, and the root of its tree is one that a header may name
+pub record IsKeepable (h : Heap) (root : ℕ) : Type 0 where
+  pub whole : h.whole ≡ true
+  pub root_is : IsRoot h.bigblocks root
 
 -- the open call was closed, and what it changed stays
 pub record IsKeptOf (old new : Heap) : Type 0 where

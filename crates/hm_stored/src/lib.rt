@@ -33,6 +33,7 @@ mod extents;
 mod grants;
 mod pages;
 mod payloads;
+mod places;
 mod roots;
 mod space;
 mod space_calls;

@@ -4,7 +4,7 @@ ghost use Rattle.hm_pages.specs.Store.{Frame, contents, frame_of, layer2};
 use hm_fields::{Page, Pages, State, States};
 use hm_freemap::FreemapPages;
 use hm_pages::PageStore;
-use hm_types::{Counted, Fault, HOff};
+use hm_types::{Counted, FREEMAP_ZONE, Fault, HOff};
 
 /// Every page of a volume, those of its freemap among them.
 #[derive(Drop)]
@@ -23,12 +23,12 @@ impl Counted for VolumePages {
 }
 
 impl Pages for VolumePages {
-    ghost use Rattle.std.specs.Prelude.{ℕ, Bool, Some};
-    ghost use Rattle.hm_stored.specs.Nodes.{spots};
+    ghost use Rattle.std.specs.Prelude.{Some};
+    ghost use Rattle.hm_stored.specs.Nodes.{Spots, spots};
 
     ghost pages = { λ s. Some (contents s.store).current };
 
-    ghost Rest = { ℕ → Bool };
+    ghost Rest = { Spots };
 
     ghost rest = { λ s. spots (contents s.store) };
 
@@ -36,9 +36,10 @@ impl Pages for VolumePages {
         self.store.page(at, into)
     }
 
-    /// Puts a page in place of the one that stands at `at`. Where none stands, it answers `NoMemory`.
+    /// Puts a page of the freemap in place of the one that stands at `at`. Where none stands, and in
+    /// another zone, it answers `NoMemory`.
     fn change(&mut self, at: HOff, with: &Page) -> Result<(), Fault> {
-        if self.store.look(at).is_none() {
+        if at.zone() != FREEMAP_ZONE || self.store.look(at).is_none() {
             return Err(Fault::NoMemory);
         }
         self.store.change(at, with)

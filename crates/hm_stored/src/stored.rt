@@ -1,9 +1,11 @@
 // The store of a volume in use.
-ghost use Rattle.std.specs.Prelude.{◌≡◌, ℕ, List, Some};
+ghost use Rattle.std.specs.Prelude.{◌≡◌, ℕ, List, None, Some};
+ghost use Rattle.std.proofs.Props.{props};
 ghost use Rattle.hm_btree.specs.Tree.{HoldsTree};
 ghost use Rattle.hm_fields.specs.Fields.{AreBytes};
+ghost use Rattle.hm_header.specs.Range.{IsRoot};
 ghost use Rattle.hm_stored.specs.Heap.{pages_of};
-ghost use Rattle.hm_stored.specs.Held.{AreOfVolume};
+ghost use Rattle.hm_stored.specs.Held.{AreOfVolume, ArePlaced, IsRooted};
 ghost use Rattle.hm_stored.specs.Space.{heap};
 ghost use Rattle.hm_stored.specs.Turn.{IsClosed};
 
@@ -17,12 +19,16 @@ use hm_types::{Counted, Fault, HOff};
 /// space has, and the extents of their payloads.
 ///
 /// It tells both while a call is open and none of its changes failed. Once one failed, each further
-/// call is refused until the changes are dropped.
+/// call is refused until the changes are dropped. Without an open call no element is read or changed:
+/// each call on one answers `NoMemory`.
 #[derive(Drop)]
 pub struct Stored<D: Disk> {
     pub(crate) space: Space<D>,
     pub(crate) root: HOff,
+    // Whether a call is open.
+    pub(crate) is_open: bool,
     ghost tree: { HoldsTree (pages_of (heap space)) root },
+    ghost rooted: { IsRooted is_open (heap space) root } by { Prim.hlevel props },
 }
 
 impl<D: Disk> Counted for Stored<D> {
@@ -56,13 +62,19 @@ impl<D: Disk> HasElements for Stored<D> {
 }
 
 impl<D: Disk> Stored<D> {
-    /// The store over a space in which no call is open. Its tree is the one from `root` on.
+    /// The store over a space in which no call is open. Its tree is the one from `root` on, which stands
+    /// in the pool.
     pub fn over(space: Space<D>, root: HOff) -> Stored<D>
         requires closed { IsClosed (heap space) }
+        requires root { IsRoot (heap space).bigblocks root }
         ensures space { result.space ≡ space }
         ensures root { result.root ≡ root }
     {
-        Stored { space, root }
+        Stored {
+            space,
+            root,
+            is_open: false,
+        }
     }
 
     /// The space.
@@ -93,12 +105,20 @@ impl<D: Disk> Stored<D> {
         ensures { AreOfVolume (heap self.now.space) }
     {}
 
+    /// Does nothing, and says where what a flush writes stands: each page that changed or is frozen in
+    /// the pool or in layer 2, and without an open call the root of the tree in the pool.
+    pub fn changes_are_placed(&self)
+        ensures pages { ArePlaced (heap self.now.space).bigblocks (heap self.now.space).pages }
+        ensures root { (heap self.now.space).pages.begin ≡ None →
+            IsRoot (heap self.now.space).bigblocks self.now.root }
+    {}
+
     /// The space and the root.
     pub fn into_parts(self) -> (Space<D>, HOff)
         ensures space { result.0 ≡ self.space }
         ensures root { result.1 ≡ self.root }
     {
-        let Stored { space, root } = self;
+        let Stored { space, root, .. } = self;
         (space, root)
     }
 }

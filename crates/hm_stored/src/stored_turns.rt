@@ -1,5 +1,5 @@
 // How a call on a volume in use is opened and closed.
-ghost use Rattle.std.specs.Prelude.{◌≡◌, IfSome, IsSome, List, true};
+ghost use Rattle.std.specs.Prelude.{◌≡◌, ◌↔◌, IfSome, IsSome, IsTrue, List};
 ghost use Rattle.hm_types.specs.Elements.{FullElement};
 ghost use Rattle.hm_pages.specs.Store.{contents};
 ghost use Rattle.hm_stored.specs.Content.{KeepsContent};
@@ -8,8 +8,9 @@ ghost use Rattle.hm_stored.specs.Known.{AreKnown};
 ghost use Rattle.hm_stored.specs.Space.{heap};
 ghost use Rattle.hm_stored.specs.Standing.{Holds};
 ghost use Rattle.hm_stored.specs.Told.{Tells};
-ghost use Rattle.hm_stored.specs.Turn.{IsClosed, IsDropped, IsKeptOf, IsOpened};
+ghost use Rattle.hm_stored.specs.Turn.{IsClosed, IsDropped, IsKeepable, IsKeptOf, IsOpened};
 
+use crate::places::is_tree_place;
 use crate::stored::Stored;
 use hm_disk::Disk;
 use hm_types::Id;
@@ -26,18 +27,21 @@ impl<D: Disk> Stored<D> {
             → AreKnown last.0 es → Tells (heap self.new.space) self.new.root es }
     {
         self.space.begin(self.root, last);
+        self.is_open = true;
     }
 
-    /// Closes the open call, none of whose changes failed, and keeps what it changed. It takes no memory.
+    /// Closes the open call, and keeps what it changed: `can_keep` says whether it may. It takes no
+    /// memory.
     pub fn keep(&mut self)
         requires opened { IsSome (contents self.old.space.pages.store).begin }
-        requires whole { self.old.space.books.whole ≡ true }
+        requires keepable { IsKeepable (heap self.old.space) self.old.root }
         ensures turn { IsKeptOf (heap self.old.space) (heap self.new.space) }
         ensures root { self.new.root ≡ self.old.root }
         ensures disk { self.new.space.disk ≡ self.old.space.disk }
         ensures content { KeepsContent (heap self.old.space) (heap self.new.space) }
     {
         self.space.keep();
+        self.is_open = false;
     }
 
     /// Closes the open call, and drops what it changed: the volume holds what it held when the call was
@@ -52,12 +56,14 @@ impl<D: Disk> Stored<D> {
     {
         self.space.undo();
         self.root = self.space.books.roots.current;
+        self.is_open = false;
     }
 
-    /// Whether no change of the open call failed.
-    pub fn is_whole(&self) -> bool
-        ensures { result ≡ self.now.space.books.whole }
+    /// Whether the open call may be kept: none of its changes failed, and the root of its tree stands in
+    /// the pool.
+    pub fn can_keep(&self) -> bool
+        ensures { IsTrue result ↔ IsKeepable (heap self.now.space) self.now.root }
     {
-        self.space.is_whole()
+        self.space.is_whole() && is_tree_place(self.space.books.bigblocks, self.root)
     }
 }

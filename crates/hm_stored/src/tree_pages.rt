@@ -2,12 +2,13 @@
 ghost use Rattle.std.specs.Prelude.{◌<◌, ◌^◌};
 ghost use Rattle.hm_stored.specs.Space.{heap};
 
+use crate::places::is_tree_place;
 use crate::space::Space;
 use hm_disk::Disk;
 use hm_fields::{Page, Pages};
 use hm_key::HasRoom;
 use hm_node::NodePages;
-use hm_types::{BAD_LEVEL, Counted, Fault, HOff, TREE_ZONE};
+use hm_types::{BAD_LEVEL, Counted, Fault, HOff};
 
 impl<D: Disk> Counted for Space<D> {
     ghost use Rattle.hm_stored.specs.Heap.{Frame, frame_of};
@@ -51,10 +52,11 @@ impl<D: Disk> Pages for Space<D> {
         }
     }
 
-    /// Puts a node in place of the one that stands at `at`. Where none stands, it answers `NoMemory`.
+    /// Puts a node in place of the one that stands at `at`. Where none stands, and where no page of the
+    /// tree may stand, it answers `NoMemory`.
     fn change(&mut self, at: HOff, with: &Page) -> Result<(), Fault> {
         known_offset(at);
-        if at.zone() != TREE_ZONE || self.pages.store.look(at).is_none() {
+        if !is_tree_place(self.books.bigblocks, at) || self.pages.store.look(at).is_none() {
             return Err(Fault::NoMemory);
         }
         match self.pages.store.change(at, with) {

@@ -6,7 +6,7 @@ ghost use Rattle.hm_freemap.specs.Places.{HasLayer2};
 ghost use Rattle.hm_pages.specs.Store.{contents, layer2};
 ghost use Rattle.hm_stored.specs.Basis.{nodes};
 ghost use Rattle.hm_stored.specs.Content.{DropsContent, KeepsContent, OpensContent};
-ghost use Rattle.hm_stored.specs.Held.{AreOfVolume};
+ghost use Rattle.hm_stored.specs.Held.{AreOfVolume, ArePlaced};
 ghost use Rattle.hm_stored.specs.Space.{heap, heap_over};
 ghost use Rattle.hm_stored.specs.Turn.{IsClosed, IsDropped, IsEnded, IsKeptOf, IsOpened};
 
@@ -19,13 +19,14 @@ use hm_types::{HOff, Id};
 
 impl<D: Disk> Space<D> {
     /// A space over the pages of a volume, its disk and its books. No call is open, the pages of zone 8
-    /// are the tree from the current root on, the others have entries of layer 2 for its big-blocks, and
-    /// the disk is as long as the volume.
+    /// are the tree from the current root on, the others have entries of layer 2 for its big-blocks, those
+    /// that changed stand in the pool or in layer 2, and the disk is as long as the volume.
     pub fn over(store: PageStore, disk: D, books: Books) -> Space<D>
         requires layer2 { HasLayer2 books.bigblocks (layer2 (contents store)) }
         requires closed { IsClosed (heap_over D.told store disk books) }
         requires tree { IsTreeSpace (nodes (contents store).current) books.roots.current }
         requires only { AreOfVolume (heap_over D.told store disk books) }
+        requires placed { ArePlaced books.bigblocks (contents store) }
         requires size { IfSome (D.told disk) (λ t. books.bigblocks * BIGBLOCK_BYTES ≤ length t.bytes) }
         ensures heap { heap result ≡ heap_over D.told store disk books }
         ensures disk { result.disk ≡ disk }

@@ -24,7 +24,7 @@ invariant_of-self g c =
         s.there,
         (
           ∥∥₁_map s.kept (λ k. subst (λ (t : Bool). IsKept (record h { whole = t })) (sym whole) (ended_kept c.args.done h k)),
-          (∥∥₁_map s.of_volume (λ k. record { only = k.only; begun = k.begun }), tt),
+          (∥∥₁_map s.of_volume (λ k. record { only = k.only; begun = k.begun; placed = k.placed }), tt),
         ),
       ),
     )

@@ -1,8 +1,9 @@
 -- Free big-blocks are counted.
+use Rattle.std.proofs.Common.{refl}
 use Rattle.hm_pages.specs.Store.{contents}
 use Rattle.hm_stored.specs.Heap.{heap_of}
 use Rattle.hm_stored.proofs.LookLemmas.{free_counted, look_kept, look_layer2, looks_same}
-use Rattle.hm_stored.proofs.VolumeLemmas.{volume_look}
+use Rattle.hm_stored.proofs.VolumeLemmas.{volume_still}
 use Rattle.hm_stored.proofs.space.Space.free_blocks.Goals as goal
 
 pub invariant_of-self : goal.invariant_of-self
@@ -13,7 +14,8 @@ invariant_of-self g c =
     record {
       there = look_layer2 old new (g.D.Disk.told s.disk) s.books c.count_free.ensures.frame c.count_free.ensures.same.0 s.there;
       kept = look_kept old new (g.D.Disk.told s.disk) s.books c.count_free.ensures.frame c.count_free.ensures.same.0 s.kept;
-      of_volume = volume_look old new (g.D.Disk.told s.disk) s.books c.count_free.ensures.frame c.count_free.ensures.same.0 s.of_volume;
+      of_volume = volume_still old new (g.D.Disk.told s.disk) (g.D.Disk.told s.disk) s.books s.books c.count_free.ensures.frame
+          (record { bigblocks = refl; begun = refl; roots = refl; last = refl }) c.count_free.ensures.same.1 s.of_volume;
     }
 
 pub returns-clause-ok : goal.returns-clause-ok

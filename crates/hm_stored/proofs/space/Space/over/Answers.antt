@@ -10,5 +10,6 @@ invariant_of-result g c = record {
   there = c.requires.layer2;
   kept = ∣ over_kept (contents c.args.store) (g.D.Disk.told c.args.disk) c.args.books c.requires.closed
       (tree_nodes (contents c.args.store).current c.args.books.roots.current c.requires.tree) c.requires.size ∣₁;
-  of_volume = ∣ volume_over (contents c.args.store) (g.D.Disk.told c.args.disk) c.args.books c.requires.closed c.requires.only ∣₁;
+  of_volume = ∣ volume_over (contents c.args.store) (g.D.Disk.told c.args.disk) c.args.books c.requires.closed c.requires.only
+      c.requires.placed ∣₁;
 }

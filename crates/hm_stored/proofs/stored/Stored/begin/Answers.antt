@@ -2,6 +2,7 @@
 use Rattle.hm_pages.specs.Store.{contents}
 use Rattle.hm_stored.specs.Heap.{heap_of}
 use Rattle.hm_stored.proofs.PutCallLemmas.{sized_of}
+use Rattle.hm_stored.proofs.RootLemmas.{rooted_begun}
 use Rattle.hm_stored.proofs.StandingLemmas.{opened_tells, opened_tree}
 use Rattle.hm_stored.proofs.stored.Stored.begin.Goals as goal
 
@@ -12,6 +13,9 @@ invariant_of-self g c =
     record {
       tree = ∣ opened_tree (heap_of (contents s.pages.store) (g.D.Disk.told s.disk) s.books)
           (heap_of (contents new.pages.store) (g.D.Disk.told new.disk) new.books) c.args.self.now.root c.args.last.0 c.requires.closed c.begin.ensures.turn ∣₁;
+      rooted = rooted_begun c.args.self.now.is_open (heap_of (contents s.pages.store) (g.D.Disk.told s.disk) s.books)
+          (heap_of (contents new.pages.store) (g.D.Disk.told new.disk) new.books) c.args.self.now.root c.args.last.0 c.requires.closed c.begin.ensures.turn
+          c.args.self.now.rooted;
     }
 
 pub returns-clause-told : goal.returns-clause-told

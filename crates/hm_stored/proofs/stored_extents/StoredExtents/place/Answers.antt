@@ -3,6 +3,7 @@ use Rattle.std.proofs.Common.{length}
 use Rattle.hm_types.specs.Space.{in_zone, rounded}
 use Rattle.hm_pages.specs.Store.{contents}
 use Rattle.hm_stored.specs.Heap.{heap_of}
+use Rattle.hm_stored.proofs.RootLemmas.{rooted_ended}
 use Rattle.hm_stored.proofs.StoredLemmas.{ended_stays, placed_tree}
 use Rattle.hm_stored.proofs.stored_extents.StoredExtents.place.Goals as goal
 
@@ -16,6 +17,9 @@ invariant_of-self g c =
           (heap_of (contents new.pages.store) (g.D.Disk.told new.disk) new.books) c.args.self.now.root c.is_ok.result c.end_change.ensures.ends
           (heap_of (contents s.pages.store) (g.D.Disk.told s.disk) s.books) c.args.zone c.args.bytes.now c.place-placed.result c.is_ok.ensures.value
           c.args.self.now.tree c.place-placed.ensures.ok;
+      rooted = rooted_ended c.args.self.now.is_open (heap_of (contents s.pages.store) (g.D.Disk.told s.disk) s.books)
+          (heap_of (contents mid.pages.store) (g.D.Disk.told mid.disk) mid.books) (heap_of (contents new.pages.store) (g.D.Disk.told new.disk) new.books)
+          c.args.self.now.root c.is_ok.result c.place-placed.ensures.stays.frame c.end_change.ensures.ends c.args.self.now.rooted;
     }
 
 pub returns-clause-space : goal.returns-clause-space

@@ -1,7 +1,5 @@
 -- A node is put in place of the one that stands there.
-use Rattle.std.proofs.Common.{◌≡◌, ◌∙◌, Some, ap, sym, arith, true, is_some}
-use Rattle.hm_types.specs.Offset.{zone_of}
-use Rattle.hm_types.specs.declared.zone.TheConstants.{TREE_ZONE}
+use Rattle.std.proofs.Common.{◌≡◌, ◌∙◌, Some, ap, sym, true, is_some}
 use Rattle.hm_pages.specs.Store.{contents}
 use Rattle.hm_stored.specs.Heap.{heap_of}
 use Rattle.hm_stored.proofs.ChangeLemmas.{frame_put, kept_by, puts_by, rest_put, some_map, told_put}
@@ -15,7 +13,7 @@ returns-in-Ok-clause-ok g c =
     let old = contents s.pages.store in
     let new = contents c.change.new.self in
     let told = g.D.Disk.told s.disk in
-    let tree : zone_of c.args.at ≡ TREE_ZONE = grind (arith, c.zone.ensures.value, c.if-zone-ne-TREE_ZONE.false) in
+    let tree = (c.is_tree_place.ensures.0 c.if-not-is_tree_place.false).zone in
     let there : is_some (old.current c.args.at) ≡ true = ap (λ o. is_some o) (sym c.look.ensures) ∙
     (some_map (λ p. p.now) c.look.result ∙ c.if-is_none.ensures) in
     told_put (heap_of old told s.books) (heap_of new told s.books) c.args.at c.args.with.now s.books.most
@@ -28,7 +26,7 @@ returns-in-Ok-clause-rest g c =
     let old = contents s.pages.store in
     let new = contents c.change.new.self in
     let told = g.D.Disk.told s.disk in
-    let tree : zone_of c.args.at ≡ TREE_ZONE = grind (arith, c.zone.ensures.value, c.if-zone-ne-TREE_ZONE.false) in
+    let tree = (c.is_tree_place.ensures.0 c.if-not-is_tree_place.false).zone in
     let there : is_some (old.current c.args.at) ≡ true = ap (λ o. is_some o) (sym c.look.ensures) ∙
     (some_map (λ p. p.now) c.look.result ∙ c.if-is_none.ensures) in
     rest_put (heap_of old told s.books) (heap_of new told s.books) c.args.at c.args.with.now s.books.most
@@ -41,7 +39,7 @@ returns-in-Ok-clause-frame g c =
     let old = contents s.pages.store in
     let new = contents c.change.new.self in
     let told = g.D.Disk.told s.disk in
-    let tree : zone_of c.args.at ≡ TREE_ZONE = grind (arith, c.zone.ensures.value, c.if-zone-ne-TREE_ZONE.false) in
+    let tree = (c.is_tree_place.ensures.0 c.if-not-is_tree_place.false).zone in
     let there : is_some (old.current c.args.at) ≡ true = ap (λ o. is_some o) (sym c.look.ensures) ∙
     (some_map (λ p. p.now) c.look.result ∙ c.if-is_none.ensures) in
     frame_put (heap_of old told s.books) (heap_of new told s.books) c.args.at c.args.with.now s.books.most
@@ -53,7 +51,7 @@ invariant_of-self g c =
     let old = contents s.pages.store in
     let new = contents c.change.new.self in
     let told = g.D.Disk.told s.disk in
-    let tree : zone_of c.args.at ≡ TREE_ZONE = grind (arith, c.zone.ensures.value, c.if-zone-ne-TREE_ZONE.false) in
+    let tree = (c.is_tree_place.ensures.0 c.if-not-is_tree_place.false).zone in
     let there : is_some (old.current c.args.at) ≡ true = ap (λ o. is_some o) (sym c.look.ensures) ∙
     (some_map (λ p. p.now) c.look.result ∙ c.if-is_none.ensures) in
     let both = kept_by old new told s.books c.args.at c.args.with.now c.change.result c.change.ensures.changed c.change.ensures.unchanged there tree
@@ -61,6 +59,6 @@ invariant_of-self g c =
     record {
       there = both.0;
       kept = both.1;
-      of_volume = volume_tried c.args.at (Some c.args.with.now) old new told s.books c.change.result tree c.change.ensures.changed
-          c.change.ensures.unchanged s.of_volume;
+      of_volume = volume_tried c.args.at (Some c.args.with.now) old new told s.books c.change.result
+          (c.is_tree_place.ensures.0 c.if-not-is_tree_place.false) c.change.ensures.changed c.change.ensures.unchanged s.of_volume;
     }

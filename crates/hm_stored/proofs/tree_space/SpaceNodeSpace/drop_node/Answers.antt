@@ -1,7 +1,5 @@
 -- A node is taken out.
-use Rattle.std.proofs.Common.{◌≡◌, refl, arith, true}
-use Rattle.hm_types.specs.Offset.{zone_of}
-use Rattle.hm_types.specs.declared.zone.TheConstants.{TREE_ZONE}
+use Rattle.std.proofs.Common.{refl, true}
 use Rattle.hm_pages.specs.Store.{contents}
 use Rattle.hm_stored.specs.Calls.{SameBooks}
 use Rattle.hm_stored.specs.Heap.{heap_of}
@@ -19,7 +17,7 @@ invariant_of-self-3 g c =
     let new = contents c.take_node-gone.new.pages.store in
     let told = g.D.Disk.told s.disk in
     let then = record s.books { gave = true; whole = c.is_ok-self.result } in
-    let tree : zone_of c.args.at ≡ TREE_ZONE = grind (arith, c.zone.ensures.value, c.if-zone-ne-TREE_ZONE.false) in
+    let tree = (c.is_tree_place.ensures.0 c.if-not-is_tree_place.false).zone in
     record {
       there = layer2_same s.books.bigblocks old new c.take_node-gone.ensures.frame s.there;
       kept = gone_kept old new told s.books then c.args.at c.take_node-gone.ensures.frame
@@ -37,7 +35,7 @@ returns-clause-ok g c =
     let new = contents c.take_node-gone.new.pages.store in
     let told = g.D.Disk.told s.disk in
     let then = record s.books { gave = true; whole = c.is_ok-self.result } in
-    let tree : zone_of c.args.at ≡ TREE_ZONE = grind (arith, c.zone.ensures.value, c.if-zone-ne-TREE_ZONE.false) in
+    let tree = (c.is_tree_place.ensures.0 c.if-not-is_tree_place.false).zone in
     (gone_ok old new told s.books then c.args.at c.take_node-gone.ensures.frame (record { bigblocks = refl; begun = refl; roots = refl; last = refl })
     refl refl refl c.if-not-self.false tree s.kept c.requires c.take_node-gone.result c.is_ok-self.ensures.value c.take_node-gone.ensures.ok).0
 
@@ -49,7 +47,7 @@ returns-clause-extents g c =
     let new = contents c.take_node-gone.new.pages.store in
     let told = g.D.Disk.told s.disk in
     let then = record s.books { gave = true; whole = c.is_ok-self.result } in
-    let tree : zone_of c.args.at ≡ TREE_ZONE = grind (arith, c.zone.ensures.value, c.if-zone-ne-TREE_ZONE.false) in
+    let tree = (c.is_tree_place.ensures.0 c.if-not-is_tree_place.false).zone in
     (gone_ok old new told s.books then c.args.at c.take_node-gone.ensures.frame (record { bigblocks = refl; begun = refl; roots = refl; last = refl })
     refl refl refl c.if-not-self.false tree s.kept c.requires c.take_node-gone.result c.is_ok-self.ensures.value c.take_node-gone.ensures.ok).1
 
@@ -61,7 +59,7 @@ returns-clause-spent g c =
     let new = contents c.take_node-gone.new.pages.store in
     let told = g.D.Disk.told s.disk in
     let then = record s.books { gave = true; whole = c.is_ok-self.result } in
-    let tree : zone_of c.args.at ≡ TREE_ZONE = grind (arith, c.zone.ensures.value, c.if-zone-ne-TREE_ZONE.false) in
+    let tree = (c.is_tree_place.ensures.0 c.if-not-is_tree_place.false).zone in
     let same : SameBooks s.books then = record { bigblocks = refl; begun = refl; roots = refl; last = refl } in
     let spends = gone_spent old new told s.books then c.args.at c.take_node-gone.ensures.frame same
     refl refl refl c.if-not-self.false tree s.kept c.requires c.take_node-gone.result c.is_ok-self.ensures.value c.take_node-gone.ensures.ok in
