@@ -15,8 +15,8 @@ use Rattle.hm_pages.specs.Sets.{ChangeSet, HasChanged}
 use Rattle.hm_pages.specs.Store.{Store, Frame as PagesFrame, frame_of as pages_frame}
 use Rattle.hm_stored.specs.Basis.{Basis, nodes}
 use Rattle.hm_stored.specs.Heap.{Heap, basis_with, bytes_of, content_of, content_with, does_tell, elements_with, extents_in}
-use Rattle.hm_stored.specs.Heap.{fixed_of, frame_of, pages_of, places_in}
-use Rattle.hm_stored.specs.Fixed.{fixed_with}
+use Rattle.hm_stored.specs.Heap.{fixed_of, frame_of, pages_of, places_in, refs_begun}
+use Rattle.hm_stored.specs.Fixed.{fixed_with, refs_with}
 use Rattle.hm_stored.specs.Held.{Held, HeldBy}
 use Rattle.hm_stored.specs.Log.{after_changes, filled, places_of}
 use Rattle.hm_stored.specs.declared.change.Change.{Change}
@@ -61,12 +61,11 @@ module _ (h h' : Heap) (same : SameBasis h h') where
 
   -- the same bytes are fixed, where as much is told
   pub fixed_told : content_of h' ≡ content_of h
-      → fixed_of h' ≡ fixed_with h.bigblocks (is_some (content_of h)) h.pages.committed h.roots.committed h'.disk
-  fixed_told content = by_parts h'.bigblocks (content_of h') h'.pages.committed h'.roots same.bigblocks content committed_same same.roots where
-    by_parts : (n : ℕ) (es : Option (List FullElement)) (c : PageMap) (r : Roots) → n ≡ h.bigblocks → es ≡ content_of h → c ≡ h.pages.committed
-        → r ≡ h.roots → fixed_with n (is_some es) c r.committed h'.disk
-        ≡ fixed_with h.bigblocks (is_some (content_of h)) h.pages.committed h.roots.committed h'.disk
-    by_parts n es c r first second third fourth = rw (first, second, third, fourth) refl
+      → fixed_of h' ≡ fixed_with h.bigblocks (is_some (content_of h)) (refs_begun h) h'.disk
+  fixed_told content = by_parts h'.bigblocks (content_of h') (option_map (basis_with h') h'.pages.begin) same.bigblocks content bases_same where
+    by_parts : (n : ℕ) (es : Option (List FullElement)) (o : Option Basis) → n ≡ h.bigblocks → es ≡ content_of h → o ≡ option_map (basis_with h) h.pages.begin
+        → fixed_with n (is_some es) (refs_with o) h'.disk ≡ fixed_with h.bigblocks (is_some (content_of h)) (refs_begun h) h'.disk
+    by_parts n es o first second third = rw (first, second, third) refl
 
   pub places_same : h'.log ≡ h.log → places_in h' ≡ places_in h
   places_same log =
@@ -115,7 +114,7 @@ pub frame_told : (h h' : Heap) → SameBasis h h' → option_map (λ (t : Told).
 frame_told h h' same size moment content fixed =
     by_parts (pages_frame h'.pages) h'.bigblocks h'.begun h'.roots h'.last (option_map (λ (t : Told). length t.bytes) h'.disk) (moment_of h'.disk)
     (content_of h') (fixed_of h') same.pages same.bigblocks same.begun same.roots same.last size moment content fixed where
-      by_parts : (p : PagesFrame) (n : ℕ) (a : List ℕ) (r : Roots) (l : ℕ) (s m : Option ℕ) (c : Option (List FullElement)) (x : Option (ℕ → Option ℕ))
+      by_parts : (p : PagesFrame) (n : ℕ) (a : List ℕ) (r : Roots) (l : ℕ) (s m : Option ℕ) (c : Option (List FullElement)) (x : Option (ℕ → Option (ℕ × Bool)))
           → p ≡ pages_frame h.pages → n ≡ h.bigblocks → a ≡ h.begun → r ≡ h.roots → l ≡ h.last → s ≡ option_map (λ (t : Told). length t.bytes) h.disk
           → m ≡ moment_of h.disk → c ≡ content_of h → x ≡ fixed_of h
           → record { pages = p; bigblocks = n; begun = a; roots = r; last = l; size = s; moment = m; content = c; fixed = x } ≡ frame_of h
@@ -127,7 +126,7 @@ pub frame_same : (h h' : Heap) → SameBasis h h' → h'.disk ≡ h.disk → fra
 frame_same h h' same disk =
     frame_told h h' same (ap (option_map (λ (t : Told). length t.bytes)) disk) (ap moment_of disk) (content_same h h' same disk)
     (fixed_told h h' same (content_same h h' same disk)
-    ∙ ap (fixed_with h.bigblocks (is_some (content_of h)) h.pages.committed h.roots.committed) disk)
+    ∙ ap (fixed_with h.bigblocks (is_some (content_of h)) (refs_begun h)) disk)
 
 -- a change of a store of pages leaves its frame
 pub changed_frame : (at : ℕ) (page : Option (List ℕ)) (old new : Store) → IsChanged at page old new → pages_frame new ≡ pages_frame old

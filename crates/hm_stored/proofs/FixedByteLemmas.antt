@@ -1,4 +1,4 @@
--- Fixed bytes of a disk stay, as bytes are put into a new extent of the pool.
+-- Fixed bytes of a disk stay, and are settled where they were, as bytes are put into a new extent of the pool.
 use Rattle.std.proofs.Common.{◌≡◌, Bool, true, false, true≢false, ℕ, ◌+◌, ◌<◌, ◌≤◌, inl, inr, ⊎_elim, List, [], ◌∷◌, Option, Some, None, refl, sym, ap}
 use Rattle.std.proofs.Common.{◌∙◌, arith, cond, length, nat_le, nat_lt, slice_index}
 use Rattle.std.specs.Prelude.{All, ◌&&◌, ◌||◌}
@@ -10,11 +10,10 @@ use Rattle.hm_types.specs.Layout.{first_pool, start_of}
 use Rattle.hm_types.specs.Offset.{byte_of}
 use Rattle.hm_types.specs.References.{Reference, begin_of, end_of}
 use Rattle.hm_types.specs.Space.{rounded}
-use Rattle.hm_disk.specs.Crash.{MayLeave, Outside, Told}
-use Rattle.hm_fields.specs.Pages.{PageMap}
+use Rattle.hm_disk.specs.Crash.{MayLeave, Outside, Told, is_outside}
+use Rattle.hm_disk.proofs.CrashLemmas.{is_outside-from}
 use Rattle.hm_freemap.specs.Extents.{IsApart, reference}
-use Rattle.hm_stored.specs.Basis.{refers}
-use Rattle.hm_stored.specs.Calls.{Alters}
+use Rattle.hm_stored.specs.Calls.{Alters, AltersAt}
 use Rattle.hm_stored.specs.Fixed.{does_name, fixed_with, is_fixed}
 
 -- a byte that a reference names is none of what stands apart from it
@@ -44,12 +43,22 @@ any_outside at len byte (r ∷ refs) named apart =
       by_test true is apart rest named = named_outside at len byte r is apart
       by_test false is apart rest named = rest named
 
--- What was taken stands in the pool, and apart from each reference where they count.
-module _ (bigblocks : ℕ) (known : Bool) (committed : PageMap) (root at len : ℕ) (pool : start_of (first_pool bigblocks) ≤ byte_of at)
-    (apart : known ≡ true → All (IsApart (reference at len)) (refers committed root)) where
-  abbrev refs : List Reference
-  refs = refers committed root
+-- a range of ranges is left out where a byte lies outside it
+pub outside_added : (place count byte : ℕ) (unsettled : List (ℕ × ℕ)) → Outside ((place, count) ∷ []) byte
+    → is_outside ((place, count) ∷ unsettled) byte ≡ is_outside unsettled byte
+outside_added place count byte unsettled outside =
+    by_test (nat_lt byte place || nat_le (place + count) byte) (is_outside-from ((place, count) ∷ []) byte outside) where
+      by_test : (t : Bool) → (t && true) ≡ true → (t && is_outside unsettled byte) ≡ is_outside unsettled byte
+      by_test true is = refl
+      by_test false is = absurd (true≢false (sym is))
 
+-- what a disk has in a byte, and whether that is settled
+abbrev byte_in : Told → ℕ → ℕ × Bool
+byte_in t byte = (slice_index t.bytes byte, is_outside t.unsettled byte)
+
+-- What was taken stands in the pool, and apart from each reference where they count.
+module _ (bigblocks : ℕ) (known : Bool) (refs : List Reference) (at len : ℕ) (pool : start_of (first_pool bigblocks) ≤ byte_of at)
+    (apart : known ≡ true → All (IsApart (reference at len)) refs) where
   fixed_outside : (byte : ℕ) → is_fixed bigblocks known refs byte ≡ true → Outside ((byte_of at, rounded len) ∷ []) byte
   fixed_outside byte fixed =
       by_parts (nat_lt byte (start_of (first_pool bigblocks))) known (list_any (does_name byte) refs) refl refl refl fixed where
@@ -67,15 +76,20 @@ module _ (bigblocks : ℕ) (known : Bool) (committed : PageMap) (root at len : �
       (λ (past : length old ≤ byte). get_or_past new byte 0 (let size = change.size in omega (arith, size, past)) ∙ sym (get_or_past old byte 0 past))
       (cases_lt byte (length old))
 
+  value_stays : (t u : Told) (byte : ℕ) → AltersAt (byte_of at) (rounded len) t u → is_fixed bigblocks known refs byte ≡ true
+      → byte_in u byte ≡ byte_in t byte
+  value_stays t u byte alters fixed =
+      ap (λ (b : ℕ). (b, is_outside u.unsettled byte)) (byte_stays t.bytes u.bytes byte alters.bytes fixed)
+      ∙ ap (λ (s : Bool). (slice_index t.bytes byte, s)) (alters.settled byte (fixed_outside byte fixed))
+
   pub fixed_altered : (was is : Option Told) → Alters (byte_of at) (rounded len) was is
-      → fixed_with bigblocks known committed root is ≡ fixed_with bigblocks known committed root was
+      → fixed_with bigblocks known refs is ≡ fixed_with bigblocks known refs was
   unfolding fixed_with
   fixed_altered None None both = refl
   fixed_altered None (Some u) both = absurd both
   fixed_altered (Some t) None both = absurd both
   fixed_altered (Some t) (Some u) both =
       ap Some (λ i byte. by_test byte (is_fixed bigblocks known refs byte) refl i) where
-        by_test : (byte : ℕ) (f : Bool) → is_fixed bigblocks known refs byte ≡ f
-            → cond f (Some (slice_index u.bytes byte)) None ≡ cond f (Some (slice_index t.bytes byte)) None
-        by_test byte true fixed = ap Some (byte_stays t.bytes u.bytes byte both fixed)
+        by_test : (byte : ℕ) (f : Bool) → is_fixed bigblocks known refs byte ≡ f → cond f (Some (byte_in u byte)) None ≡ cond f (Some (byte_in t byte)) None
+        by_test byte true fixed = ap Some (value_stays t u byte both fixed)
         by_test byte false fixed = refl

@@ -1,7 +1,7 @@
 mod AdmitCallLemmas
 mod AdmitLemmas
 mod ApartLemmas
-mod BasisLemmas
+pub mod BasisLemmas
 mod BeginLemmas
 mod BookLemmas
 mod CauseLemmas

@@ -1,6 +1,6 @@
 -- What the call of a space that puts bytes into an extent answers.
-use Rattle.std.proofs.Common.{◌≡◌, true, true≢false, ℕ, ◌+◌, ◌*◌, ◌≤◌, ⊎_elim, List, [], ◌∷◌, Option, Some, None, Result, Ok, Err, refl, sym, ap}
-use Rattle.std.proofs.Common.{subst, ◌∙◌, arith, is_some, length, slice_range}
+use Rattle.std.proofs.Common.{◌≡◌, true, true≢false, ℕ, ◌+◌, ◌*◌, ◌<◌, ◌≤◌, inl, inr, ⊎_elim, List, [], ◌∷◌, Option, Some, None, Result, Ok, Err, refl, sym, ap}
+use Rattle.std.proofs.Common.{subst, ◌∙◌, arith, is_some, length, slice_index, slice_range}
 use Rattle.std.specs.Prelude.{IfOk, IfSome, OnErr}
 use Rattle.std.proofs.Math.Logic.{∥∥₁_elim}
 use Rattle.std.proofs.Props.{props}
@@ -11,8 +11,8 @@ use Rattle.hm_types.specs.Told.{BothTell}
 use Rattle.hm_types.specs.declared.fault.Fault.{Fault}
 use Rattle.hm_types.specs.declared.limits.TheConstants.{BIGBLOCK_BYTES}
 use Rattle.hm_types.specs.declared.zone.TheConstants.{SMALL_ZONE, TREE_ZONE}
-use Rattle.hm_disk.specs.Crash.{MayLeave, Told}
-use Rattle.hm_disk.specs.Disk.{Written, moment_of}
+use Rattle.hm_disk.specs.Crash.{MayLeave, Outside, Told, is_outside}
+use Rattle.hm_disk.specs.Disk.{MayBeTorn, Written, moment_of}
 use Rattle.hm_disk.specs.WriteLaws.{MayLeave-overwritten}
 use Rattle.hm_header.proofs.SliceLemmas.{slice-overwritten}
 use Rattle.hm_key.specs.Extents.{with_extent}
@@ -28,9 +28,21 @@ use Rattle.hm_stored.specs.declared.change.Change.TheVariants.{Placed}
 use Rattle.hm_stored.proofs.BasisLemmas.{SameBasis, frame_same}
 use Rattle.hm_stored.proofs.CauseLemmas.{held_of, take_undamaged, told_extents}
 use Rattle.hm_stored.proofs.ExtentCallLemmas.{nothing_told, places_noted}
+use Rattle.hm_stored.proofs.FixedByteLemmas.{outside_added}
 use Rattle.hm_stored.proofs.NewNodeLemmas.{room_whole}
 use Rattle.hm_stored.proofs.NodeCallLemmas.{basis, kept_broken, spends_half}
 use Rattle.hm_stored.proofs.PutLemmas.{frame_put, put_kept, put_ok, put_spent, take_within}
+
+-- what lies outside the extent for so many bytes lies outside these
+outside_front : (place len byte : ℕ) → Outside ((place, rounded len) ∷ []) byte → Outside ((place, len) ∷ []) byte
+outside_front place len byte outside =
+    (⊎_elim (λ (low : byte < place). inl low) (λ (past : place + rounded len ≤ byte). inr (omega (arith, past))) outside.0, tt)
+
+-- and is settled where it was, once they are unsettled
+settled_beside : (place len byte : ℕ) (t u : Told) → u.unsettled ≡ (place, len) ∷ t.unsettled → Outside ((place, rounded len) ∷ []) byte
+    → is_outside u.unsettled byte ≡ is_outside t.unsettled byte
+settled_beside place len byte t u added outside =
+    ap (λ (r : List (ℕ × ℕ)). is_outside r byte) added ∙ outside_added place len byte t.unsettled (outside_front place len byte outside)
 
 -- bytes that were written alter no more than the extent for them
 written_alters : (was is : Option Told) (place : ℕ) (bytes : List ℕ) (most : ℕ) → IfSome was (λ (t : Told). most ≤ length t.bytes)
@@ -39,9 +51,28 @@ written_alters : (was is : Option Told) (place : ℕ) (bytes : List ℕ) (most :
 written_alters None None place bytes most size within both = tt
 written_alters None (Some u) place bytes most size within both = absurd both
 written_alters (Some t) None place bytes most size within both = absurd both
-written_alters (Some t) (Some u) place bytes most size within both =
-    subst (λ (b : List ℕ). MayLeave t.bytes ((place, rounded (length bytes)) ∷ []) b) (sym both.bytes_are)
-    (MayLeave-overwritten t.bytes place (rounded (length bytes)) bytes (omega arith) (omega (arith, size, within)))
+written_alters (Some t) (Some u) place bytes most size within both = record {
+  bytes = subst (λ (b : List ℕ). MayLeave t.bytes ((place, rounded (length bytes)) ∷ []) b) (sym both.bytes_are)
+      (MayLeave-overwritten t.bytes place (rounded (length bytes)) bytes (omega arith) (omega (arith, size, within)));
+  settled = λ byte outside. settled_beside place (length bytes) byte t u both.unsettled_are outside;
+}
+
+-- so does a write that failed
+torn_alters : (was is : Option Told) (place len : ℕ) → BothTell was is (MayBeTorn place len) → Alters place (rounded len) was is
+torn_alters None None place len both = tt
+torn_alters None (Some u) place len both = absurd both
+torn_alters (Some t) None place len both = absurd both
+torn_alters (Some t) (Some u) place len (inl torn) = record {
+  bytes = record { size = torn.bytes_are.size; same = λ byte below outside. torn.bytes_are.same byte below (outside_front place len byte outside) };
+  settled = λ byte outside. settled_beside place len byte t u torn.unsettled_are outside;
+}
+torn_alters (Some t) (Some u) place len (inr same) = record {
+  bytes = record {
+    size = ap (λ (b : List ℕ). length b) same.bytes_are;
+    same = λ byte below outside. ap (λ (b : List ℕ). slice_index b byte) same.bytes_are;
+  };
+  settled = λ byte outside. ap (λ (r : List (ℕ × ℕ)). is_outside r byte) same.unsettled_are;
+}
 
 -- and are read there
 written_there : (was is : Option Told) (place : ℕ) (bytes : List ℕ) (most : ℕ) → IfSome was (λ (t : Told). most ≤ length t.bytes)
@@ -135,19 +166,21 @@ module _ (old new : Store) (was is : Option Told) (books books' : Books) (zone :
     unfolding heap_of
     torn_frame = ⊎_elim (λ (same : is ≡ was). frame_same h h' (based leaves.same) same)
         (λ (t : Tears zone (length bytes) old new was is books).
-        frame_put h h' zone t.at (length bytes) books.most books.below (based leaves.same) whole low high some t.takes has_room t.torn kept books.pool moment)
+        frame_put h h' zone t.at (length bytes) books.most books.below (based leaves.same) whole low high some t.takes has_room
+        (torn_alters was is (byte_of t.at) (length bytes) t.torn) kept books.pool moment)
         tears
 
     torn_size : IfSome was (λ (t : Told). books.bigblocks * BIGBLOCK_BYTES ≤ length t.bytes)
         → IfSome is (λ (t : Told). books.bigblocks * BIGBLOCK_BYTES ≤ length t.bytes)
     torn_size size = ⊎_elim (λ (same : is ≡ was). subst
         (λ (o : Option Told). IfSome o (λ (t : Told). books.bigblocks * BIGBLOCK_BYTES ≤ length t.bytes)) (sym same) size)
-        (λ (t : Tears zone (length bytes) old new was is books). by_disk was is (byte_of t.at) t.torn size) tears where
+        (λ (t : Tears zone (length bytes) old new was is books). by_disk was is (byte_of t.at) (torn_alters was is (byte_of t.at) (length bytes) t.torn) size)
+        tears where
           by_disk : (o p : Option Told) (place : ℕ) → Alters place (rounded (length bytes)) o p
               → IfSome o (λ (t : Told). books.bigblocks * BIGBLOCK_BYTES ≤ length t.bytes)
               → IfSome p (λ (t : Told). books.bigblocks * BIGBLOCK_BYTES ≤ length t.bytes)
           by_disk None None place both size = tt
-          by_disk (Some t) (Some u) place both size = omega (arith, both.size, size)
+          by_disk (Some t) (Some u) place both size = omega (arith, both.bytes.size, size)
           by_disk None (Some u) place both size = absurd both
           by_disk (Some t) None place both size = absurd both
 

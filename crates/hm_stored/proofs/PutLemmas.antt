@@ -5,6 +5,9 @@ use Rattle.std.specs.Prelude.{All, IfSome, IsTrue, option_map, ◌&&◌}
 use Rattle.std.proofs.Math.Logic.{∥∥₁_elim}
 use Rattle.std.proofs.Props.{props}
 use Rattle.std.proofs.lemmas.List.{take-take}
+use Rattle.std.proofs.lemmas.List.Elements.{All-append, All-nil}
+use Rattle.hm_types.specs.Elements.{FullElement}
+use Rattle.hm_types.specs.References.{Reference}
 use Rattle.hm_types.specs.Layout.{first_pool, start_of}
 use Rattle.hm_types.specs.Offset.{byte_of}
 use Rattle.hm_types.specs.Space.{IsPayloadZone, Spends, in_zone, rounded}
@@ -18,19 +21,20 @@ use Rattle.hm_freemap.specs.Change.{appended}
 use Rattle.hm_freemap.specs.Extents.{IsApart, Takes, reference}
 use Rattle.hm_freemap.specs.Stand.{AreBelow, AreDistinct, AreOfPool, append_of, entry_of, room_in}
 use Rattle.hm_freemap.proofs.ListLemmas.{all_right}
-use Rattle.hm_stored.specs.Basis.{Basis, fulls_in, refers, states_of}
+use Rattle.hm_stored.specs.Basis.{Basis, fulls_in, states_of}
 use Rattle.hm_stored.specs.Calls.{Alters, ChangesExtents}
 use Rattle.hm_stored.specs.DecideFirm.{is_firm}
 use Rattle.hm_stored.specs.Heap.{Heap, basis_with, bytes_of, content_by, content_of, content_with, does_hold, does_tell, fixed_of, frame_of, free_of}
-use Rattle.hm_stored.specs.Heap.{is_firm_with, maps_of, places_in, room_of}
-use Rattle.hm_stored.specs.Held.{AreNodes, Held, IsKept, IsSafe, Safe, with_refs}
+use Rattle.hm_stored.specs.Fixed.{refs_with}
+use Rattle.hm_stored.specs.Heap.{is_firm_with, maps_of, places_in, refs_begun, room_of}
+use Rattle.hm_stored.specs.Held.{AreNodes, HeldBy, IsKept, IsSafe, Safe, with_refs}
 use Rattle.hm_stored.specs.Known.{is_known}
 use Rattle.hm_freemap.proofs.TakeLemmas.{handed_out}
 use Rattle.hm_stored.specs.Log.{filled, one_of}
 use Rattle.hm_stored.proofs.ApartLemmas.{all_apart}
 use Rattle.hm_stored.proofs.BasisLemmas.{SameBasis, bases_same, begin_same, beside, fixed_told, frame_told, held_map, tell_same}
 use Rattle.hm_stored.proofs.BookLemmas.{grows_put, nodes_kept}
-use Rattle.hm_stored.proofs.CauseLemmas.{on_begin, on_books, tells_parts}
+use Rattle.hm_stored.proofs.CauseLemmas.{on_books, tells_parts}
 use Rattle.hm_stored.proofs.FixedByteLemmas.{fixed_altered}
 use Rattle.hm_stored.proofs.LogLemmas.{content_kept}
 use Rattle.hm_stored.proofs.NewNodeLemmas.{room_whole}
@@ -49,7 +53,7 @@ told_alike (Some t) None place count both = absurd both
 -- the bytes that both tell differ only there
 bytes_alter : (was is : Option Told) (place count : ℕ) → Alters place count was is → MayLeave (bytes_of was) ((place, count) ∷ []) (bytes_of is)
 bytes_alter None None place count both = record { size = refl; same = λ byte low outside. refl }
-bytes_alter (Some t) (Some u) place count both = both
+bytes_alter (Some t) (Some u) place count both = both.bytes
 bytes_alter None (Some u) place count both = absurd both
 bytes_alter (Some t) None place count both = absurd both
 
@@ -124,7 +128,7 @@ module _ (h h' : Heap) (zone at len : ℕ) (few : h.bigblocks ≤ MOST_BIGBLOCKS
             by_firm (basis_with h begin) t u
             (λ firm. subst (λ (o : Option PageMap). IfSome o (λ m. IsSafe h (basis_with h m))) there
             (safe (holds_by there disk firm)))
-            both (is_firm (basis_with h begin)) refl where
+            both.bytes (is_firm (basis_with h begin)) refl where
               holds_by : h.pages.begin ≡ Some begin → h.disk ≡ Some t → is_firm (basis_with h begin) ≡ true → does_hold h ≡ true
               holds_by begun told firm =
                   ap (λ (w : Bool). w && is_firm_with (option_map (basis_with h) h.pages.begin) h.disk) whole
@@ -135,30 +139,46 @@ module _ (h h' : Heap) (zone at len : ℕ) (few : h.bigblocks ≤ MOST_BIGBLOCKS
   pub content_put : content_of h' ≡ content_of h
   content_put = ∥∥₁_elim kept (hlevel props) (λ k. same_content k.safe)
 
-  -- what was committed last stands apart, where it is known
-  committed_apart : Held h → is_some (content_of h) ≡ true → All (IsApart (reference at len)) (refers h.pages.committed h.roots.committed)
-  committed_apart held known =
-      on_begin h (All (IsApart (reference at len)) (refers h.pages.committed h.roots.committed))
-      (ap (λ (w : Bool). w && is_some (content_of h)) whole ∙ known) held (λ begin refs is.
-      let states = states_of (basis_with h begin) in
-      let all = takes.dead (with_refs refs states) is.stand in
-      all_right (IsApart (reference at len)) states.frozen states.committed
-      (all_right (IsApart (reference at len)) refs (states.frozen ++ states.committed) all))
+  -- the books were in order as the call began, where the content is known
+  holds_known : is_some (content_of h) ≡ true → does_hold h ≡ true
+  holds_known known =
+      ap (λ (w : Bool). w && is_firm_with (option_map (basis_with h) h.pages.begin) h.disk) whole
+      ∙ by_parts (option_map (basis_with h) h.pages.begin) h.disk known where
+        by_parts : (o : Option Basis) (d : Option Told) → is_some (content_with h.last o d) ≡ true → is_firm_with o d ≡ true
+        by_parts None d is = absurd (true≢false (sym is))
+        by_parts (Some b) None is = absurd (true≢false (sym is))
+        by_parts (Some b) (Some t) is = by_test (is_firm b) refl where
+          by_test : (f : Bool) → is_firm b ≡ f → f ≡ true
+          by_test true firm = refl
+          by_test false none = absurd (true≢false (sym is ∙ ap (λ (o : Option (List FullElement)). is_some o) (unfirm h.last b t.bytes none)))
+
+  -- What the trees of the three states referred to then stands apart: of the current one for it lies below what its zone
+  -- appends, of the others for the freemap stands for them.
+  begun_apart : IsKept h → is_some (content_of h) ≡ true → All (IsApart (reference at len)) (refs_begun h)
+  begun_apart k known =
+      by_begin h.pages.begin (k.held (ap (λ (w : Bool). w && is_some (content_of h)) whole ∙ known)) (k.safe (holds_known known)) where
+        by_begin : (o : Option PageMap) → IfSome o (λ begin. (refs : List Reference) × HeldBy h (basis_with h begin) refs)
+            → IfSome o (λ begin. IsSafe h (basis_with h begin)) → All (IsApart (reference at len)) (refs_with (option_map (basis_with h) o))
+        by_begin None held safe = All-nil (IsApart (reference at len))
+        by_begin (Some begin) held safe =
+            let states = states_of (basis_with h begin) in
+            All-append (IsApart (reference at len)) states.current (states.frozen ++ states.committed) (apart (basis_with h begin) safe)
+            (all_right (IsApart (reference at len)) held.0 (states.frozen ++ states.committed) (takes.dead (with_refs held.0 states) held.1.stand))
 
   in_pool : AreOfPool h.bigblocks h.append → start_of (first_pool h.bigblocks) ≤ byte_of at
   in_pool pool = let one = pool (zone - TREE_ZONE) (omega (arith, low, high)) in omega (arith, one.0, takes.begin)
 
   fixed_put : AreOfPool h.bigblocks h.append → fixed_of h' ≡ fixed_of h
   fixed_put pool = fixed_told h h' basis content_put
-      ∙ ∥∥₁_elim kept (hlevel props) (λ k. fixed_altered h.bigblocks (is_some (content_of h)) h.pages.committed h.roots.committed at len
-      (in_pool pool) (committed_apart k.held) h.disk h'.disk alters)
+      ∙ ∥∥₁_elim kept (hlevel props) (λ k. fixed_altered h.bigblocks (is_some (content_of h)) (refs_begun h) at len
+      (in_pool pool) (begun_apart k) h.disk h'.disk alters)
 
   pub frame_put : AreOfPool h.bigblocks h.append → moment_of h'.disk ≡ moment_of h.disk → frame_of h' ≡ frame_of h
   frame_put pool moment = frame_told h h' basis (size_same h.disk h'.disk alters) moment content_put (fixed_put pool) where
     size_same : (was is : Option Told) → Alters (byte_of at) (rounded len) was is
         → option_map (λ (t : Told). length t.bytes) is ≡ option_map (λ (t : Told). length t.bytes) was
     size_same None None both = refl
-    size_same (Some t) (Some u) both = ap Some both.size
+    size_same (Some t) (Some u) both = ap Some both.bytes.size
     size_same None (Some u) both = absurd both
     size_same (Some t) None both = absurd both
 
@@ -175,7 +195,7 @@ module _ (h h' : Heap) (zone at len : ℕ) (few : h.bigblocks ≤ MOST_BIGBLOCKS
         by_disk : (was is : Option Told) → Alters (byte_of at) (rounded len) was is → IfSome was (λ (t : Told). h.bigblocks * BIGBLOCK_BYTES ≤ length t.bytes)
             → IfSome is (λ (t : Told). h.bigblocks * BIGBLOCK_BYTES ≤ length t.bytes)
         by_disk None None both size = tt
-        by_disk (Some t) (Some u) both size = omega (arith, both.size, size)
+        by_disk (Some t) (Some u) both size = omega (arith, both.bytes.size, size)
         by_disk None (Some u) both size = absurd both
         by_disk (Some t) None both size = absurd both
 
@@ -199,7 +219,7 @@ module _ (h h' : Heap) (zone at len : ℕ) (few : h.bigblocks ≤ MOST_BIGBLOCKS
     by_disk (Some t) None both size told = absurd both
     by_disk (Some t) (Some u) both size told =
         let one = below (zone - TREE_ZONE) (omega (arith, low, high)) in
-        omega (arith, both.size, size, takes.begin, fits, one)
+        omega (arith, both.bytes.size, size, takes.begin, fits, one)
 
   -- a space that tells has a disk that does
   tells_disk : IsTrue (does_tell h) → is_some h.disk ≡ true

@@ -16,7 +16,7 @@ use Rattle.hm_key.specs.Stores.{Keeps}
 use Rattle.hm_key.specs.declared.element.Element.{Element}
 use Rattle.hm_btree.specs.Tree.{HoldsTree, told_elements, told_mark}
 use Rattle.hm_stored.specs.Basis.{nodes}
-use Rattle.hm_stored.specs.Calls.{AnswersRoom, Places, Stays}
+use Rattle.hm_stored.specs.Calls.{AnswersRoom, ChangesExtents, Places, Stays}
 use Rattle.hm_stored.specs.Heap.{Heap, basis_with, bytes_of, content_of, does_tell, extents_in, frame_of, free_of, is_firm_with, pages_of, places_in, room_of}
 use Rattle.hm_stored.specs.Held.{IsKept}
 use Rattle.hm_stored.specs.Laws.{rests, told_together}
@@ -212,6 +212,12 @@ module _ (mid new : Heap) (root : ℕ) (done : Bool) (ends : IsEnded done mid ne
       → IfOk r (Places zone bytes old mid) → HoldsTree (pages_of new) root
   placed_tree old zone bytes (Ok at) is tree ok = tree_done old is ok.changes.tree tree
   placed_tree old zone bytes (Err e) is tree ok = tree_failed is
+
+  -- the extents changed
+  pub changed_tree : (old : Heap) (Change : List Extent → List Extent → Type 0) (r : Result (Unit {0}) Fault) → done ≡ is_ok r
+      → HoldsTree (pages_of old) root → OnOk r (ChangesExtents Change old mid) → HoldsTree (pages_of new) root
+  changed_tree old Change (Ok x) is tree ok = tree_done old is ok.tree tree
+  changed_tree old Change (Err e) is tree ok = tree_failed is
 
   -- zones got room, or there is none for them
   pub room_tree : (old : Heap) (zones : Zones) (held : ℕ) (r : Result (Unit {0}) SpaceFault) → done ≡ is_settled r → HoldsTree (pages_of old) root

@@ -5,8 +5,8 @@ use Rattle.hm_types.specs.Space.{Admits, IfNoSpace, LacksSpace, Spends, rounded}
 use Rattle.hm_types.specs.declared.fault.SpaceFault.{SpaceFault}
 use Rattle.hm_types.specs.declared.fault.SpaceFault.TheVariants.{NoSpace, Fault as of_store}
 use Rattle.hm_types.specs.Told.{BothTell}
-use Rattle.hm_disk.specs.Crash.{MayLeave, Told}
-use Rattle.hm_disk.specs.Disk.{Written}
+use Rattle.hm_disk.specs.Crash.{MayLeave, Outside, Told, is_outside}
+use Rattle.hm_disk.specs.Disk.{MayBeTorn, Written}
 use Rattle.hm_key.specs.Calls.{GetWhole}
 use Rattle.hm_key.specs.Extents.{Extent, PlacesAt}
 use Rattle.hm_stored.specs.Heap.{Heap, extents_in, frame_of, free_of, pages_of, rest_of, room_of}
@@ -58,20 +58,25 @@ pub record GivesExtent (at len : ℕ) (old new : Store) (before after : Books) :
   pub noted : HasNoted (GivenBack at) before after
   pub gave : after.gave ≡ true
 
--- a disk told its content before and after, and only so many bytes from a place on may differ
+-- only so many bytes from a place on may differ, and each other one is settled where it was
+pub record AltersAt (place count : ℕ) (old new : Told) : Type 0 where
+  pub bytes : MayLeave old.bytes ((place, count) ∷ []) new.bytes
+  pub settled : (byte : ℕ) → Outside ((place, count) ∷ []) byte → is_outside new.unsettled byte ≡ is_outside old.unsettled byte
+
+-- the same of a disk, which told its content before and after
 abbrev pub Alters : ℕ → ℕ → Option Told → Option Told → Type 0
-Alters place count old new = BothTell old new (λ was is. MayLeave was.bytes ((place, count) ∷ []) is.bytes)
+Alters place count old new = BothTell old new (AltersAt place count)
 
 -- An extent was taken for bytes, and they were written there.
 pub record PutsBytes (zone : ℕ) (bytes : List ℕ) (at : ℕ) (old new : Store) (was is : Option Told) (before after : Books) : Type 0 where
   pub taken : TakesExtent zone (length bytes) at old new before after
   pub wrote : BothTell was is (Written (byte_of at) bytes)
 
--- An extent was taken, and what stands there may be any bytes.
+-- An extent was taken, and the write there failed: what stands there may be any bytes.
 pub record Tears (zone len : ℕ) (old new : Store) (was is : Option Told) (before : Books) : Type 0 where
   pub at : ℕ
   pub takes : Takes before.bigblocks before.append zone len at (maps_in old) new.current
-  pub torn : Alters (byte_of at) (rounded len) was is
+  pub torn : BothTell was is (MayBeTorn (byte_of at) len)
 
 -- A disk tells what it told, or was torn where an extent was taken.
 abbrev pub MayTear : ℕ → ℕ → Store → Store → Option Told → Option Told → Books → Type 0

@@ -1,6 +1,7 @@
 -- What a space of a volume holds, and what it tells of that.
 use Rattle.std.specs.Prelude.{ℕ, ◌^◌, Bool, false, ◌&&◌, List, [], Option, None, Some, if◌then◌else◌, is_some, length, map, option_map}
 use Rattle.hm_types.specs.Elements.{FullElement}
+use Rattle.hm_types.specs.References.{Reference}
 use Rattle.hm_types.specs.declared.limits.TheConstants.{BIGBLOCK_BYTES}
 use Rattle.hm_fields.specs.Pages.{PageMap}
 use Rattle.hm_disk.specs.Crash.{Told}
@@ -11,7 +12,7 @@ use Rattle.hm_freemap.specs.Stand.{Maps, free_by, is_handed_out, room_in}
 use Rattle.hm_pages.specs.Store.{Store, Frame as PagesFrame, frame_of as pages_frame}
 use Rattle.hm_stored.specs.Basis.{Basis, elements_in, fulls_in, nodes}
 use Rattle.hm_stored.specs.DecideFirm.{is_firm}
-use Rattle.hm_stored.specs.Fixed.{fixed_with}
+use Rattle.hm_stored.specs.Fixed.{fixed_with, refs_with}
 use Rattle.hm_stored.specs.Known.{is_known}
 use Rattle.hm_stored.specs.Log.{after_changes, places_of, filled}
 use Rattle.hm_stored.specs.declared.books.Books.{Books}
@@ -105,13 +106,18 @@ room_of h zone = if h.whole then room_in h.append h.pages.current zone else (if 
 abbrev pub free_of : Heap → ℕ
 free_of h = if h.whole then free_by h.bigblocks h.append (maps_of h) else 2 ^ 32
 
--- For each fixed byte what the disk has there, where it tells. Fixed is what lies before the pool, and what the tree that
--- was committed last refers to, where a call is open over books that are in order and its ids are known.
-abbrev pub fixed_of : Heap → Option (ℕ → Option ℕ)
-fixed_of h = fixed_with h.bigblocks (is_some (content_of h)) h.pages.committed h.roots.committed h.disk
+-- what the trees of the three states referred to as the open call began
+abbrev pub refs_begun : Heap → List Reference
+refs_begun h = refs_with (option_map (basis_with h) h.pages.begin)
+
+-- For each fixed byte what the disk has there, and whether that is settled, where it tells. Fixed is what lies before the
+-- pool, and what the committed tree, the frozen one, or the current one as the call began refers to, where a call is open
+-- over books that are in order and its ids are known.
+abbrev pub fixed_of : Heap → Option (ℕ → Option (ℕ × Bool))
+fixed_of h = fixed_with h.bigblocks (is_some (content_of h)) (refs_begun h) h.disk
 
 -- What no change of a call alters: the pages but for those of the open call, its state as that began, how much the
--- disk holds, its moment, what the elements were, and the bytes of the disk that are fixed.
+-- disk holds, its moment, what the elements were, and the bytes of the disk that are fixed, settled where they were.
 pub record Frame : Type 0 where
   pub pages : PagesFrame
   pub bigblocks : ℕ
@@ -121,7 +127,7 @@ pub record Frame : Type 0 where
   pub size : Option ℕ
   pub moment : Option ℕ
   pub content : Option (List FullElement)
-  pub fixed : Option (ℕ → Option ℕ)
+  pub fixed : Option (ℕ → Option (ℕ × Bool))
 
 abbrev pub frame_of : Heap → Frame
 frame_of h = record {

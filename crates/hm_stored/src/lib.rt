@@ -31,6 +31,7 @@ mod books;
 mod change;
 mod extents;
 mod grants;
+mod laws;
 mod pages;
 mod payloads;
 mod places;
@@ -49,6 +50,7 @@ mod turns;
 
 pub use books::Books;
 pub use change::Change;
+pub use laws::{FrameWord, what_a_crash_leaves_over_calls, what_the_frame_says_stays};
 pub use roots::Roots;
 pub use space::Space;
 pub use stored::Stored;

@@ -45,6 +45,7 @@ pub(crate) fn put<D: Disk>(
         (λ one. one ≡ append_of books.old.append zone)
         (Some (contents pages.old.store).committed) (Some (contents pages.old.store).frozen)
         (Some (contents pages.old.store).current) (D.faults disk.old) (D.faults disk.new) result }
+    ensures past { D.past disk.new ≡ D.past disk.old }
 {
     let at = take(pages, books, zone, bytes.len() as u32)?;
     let before = disk.faults();
@@ -69,6 +70,7 @@ pub(crate) fn read<D: Disk>(disk: &mut D, place: u64, buf: &mut [u8]) -> Result<
     ensures same { D.told disk.new ≡ D.told disk.old }
     ensures cause { HasFaultCause (D.faults disk.old) (D.faults disk.new) result }
     ensures undamaged { IfErr result IsUndamaged }
+    ensures past { D.past disk.new ≡ D.past disk.old }
 {
     let before = disk.faults();
     match disk.read_at(place, buf) {

@@ -29,6 +29,7 @@ impl<D: Disk> Space<D> {
         ensures stays { Stays (in_zone zone (rounded (length bytes.now))) (heap self.old) (heap self.new) }
         ensures cause { HasStoreCause (extents_in (heap self.old))
             (D.faults self.old.disk) (D.faults self.new.disk) result }
+        ensures past { D.past self.new.disk ≡ D.past self.old.disk }
     {
         if !self.books.whole || bytes.len() > MOST_CALL_BYTES {
             return Err(Fault::NoMemory);
@@ -52,6 +53,7 @@ impl<D: Disk> Space<D> {
         ensures stays { Stays nothing (heap self.old) (heap self.new) }
         ensures cause { HasStoreCause (extents_in (heap self.old))
             (D.faults self.old.disk) (D.faults self.new.disk) result }
+        ensures past { D.past self.new.disk ≡ D.past self.old.disk }
     {
         if !self.books.whole {
             return Err(Fault::NoMemory);
@@ -69,6 +71,7 @@ impl<D: Disk> Space<D> {
         ensures stays { Stays nothing (heap self.old) (heap self.new) }
         ensures cause { HasStoreCause (extents_in (heap self.old))
             (D.faults self.old.disk) (D.faults self.new.disk) result }
+        ensures past { D.past self.new.disk ≡ D.past self.old.disk }
     {
         if !self.books.whole {
             return Err(Fault::NoMemory);
@@ -83,6 +86,7 @@ impl<D: Disk> Space<D> {
         ensures answers { AnswersRoom zones held (heap self.old) (heap self.new) result }
         ensures cause { HasAdmitCause (extents_in (heap self.old))
             (D.faults self.old.disk) (D.faults self.new.disk) result }
+        ensures past { D.past self.new.disk ≡ D.past self.old.disk }
     {
         if self.books.gave || !self.books.whole {
             return Err(SpaceFault::Fault(Fault::NoMemory));
@@ -100,6 +104,7 @@ impl<D: Disk> Space<D> {
         ensures same { heap self.new ≡ heap self.old }
         ensures cause { HasStoreCause (extents_in (heap self.old))
             (D.faults self.old.disk) (D.faults self.new.disk) result }
+        ensures past { D.past self.new.disk ≡ D.past self.old.disk }
     {
         if buf.len() > MOST_CALL_BYTES {
             return Err(Fault::NoMemory);

@@ -38,9 +38,9 @@ impl<D: Disk> Counted for Stored<D> {
 
     ghost name = { λ _. 0 };
 
-    ghost Frame = { Frame };
+    ghost Frame = { Frame × D.Past };
 
-    ghost frame = { λ s. frame_of (heap s.space) };
+    ghost frame = { λ s. (frame_of (heap s.space), D.past s.space.disk) };
 }
 
 impl<D: Disk> HasRoom for Stored<D> {

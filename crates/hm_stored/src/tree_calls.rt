@@ -33,6 +33,7 @@ pub(crate) fn insert<D: Disk>(
         (heap space.old) (heap space.new) root result.0 result.1 }
     ensures cause { HasStoreCause (elements_told (heap space.old) root)
         (D.faults space.old.disk) (D.faults space.new.disk) result.1 }
+    ensures past { D.past space.new.disk ≡ D.past space.old.disk }
 {
     let mut tree = BTree::over(space, root);
     let answer = tree.insert(e);
@@ -56,6 +57,7 @@ pub(crate) fn set_delete<D: Disk>(
         (heap space.old) (heap space.new) root result.0 result.1 }
     ensures cause { HasStoreCause (elements_told (heap space.old) root)
         (D.faults space.old.disk) (D.faults space.new.disk) result.1 }
+    ensures past { D.past space.new.disk ≡ D.past space.old.disk }
 {
     let mut tree = BTree::over(space, root);
     let answer = tree.set_delete(at, delete);
@@ -77,6 +79,7 @@ pub(crate) fn remove<D: Disk>(
         (heap space.old) (heap space.new) root result.0 result.1 }
     ensures cause { HasStoreCause (elements_told (heap space.old) root)
         (D.faults space.old.disk) (D.faults space.new.disk) result.1 }
+    ensures past { D.past space.new.disk ≡ D.past space.old.disk }
 {
     let mut tree = BTree::over(space, root);
     let answer = tree.remove(at);
@@ -99,6 +102,7 @@ pub(crate) fn readdress<D: Disk>(
         (heap space.new) root result.0 result.1 }
     ensures cause { HasStoreCause (elements_told (heap space.old) root)
         (D.faults space.old.disk) (D.faults space.new.disk) result.1 }
+    ensures past { D.past space.new.disk ≡ D.past space.old.disk }
 {
     let mut tree = BTree::over(space, root);
     let answer = tree.readdress(at, to);
@@ -120,6 +124,7 @@ pub(crate) fn first_at_or_after<D: Disk>(
     ensures reads { ReadsTree (heap space.old) (heap space.new) root result.0 }
     ensures cause { HasStoreCause (elements_told (heap space.old) root)
         (D.faults space.old.disk) (D.faults space.new.disk) result.1 }
+    ensures past { D.past space.new.disk ≡ D.past space.old.disk }
 {
     let mut tree = BTree::over(space, root);
     let answer = tree.first_at_or_after(at);
@@ -141,6 +146,7 @@ pub(crate) fn last_at_or_before<D: Disk>(
     ensures reads { ReadsTree (heap space.old) (heap space.new) root result.0 }
     ensures cause { HasStoreCause (elements_told (heap space.old) root)
         (D.faults space.old.disk) (D.faults space.new.disk) result.1 }
+    ensures past { D.past space.new.disk ≡ D.past space.old.disk }
 {
     let mut tree = BTree::over(space, root);
     let answer = tree.last_at_or_before(at);
@@ -164,6 +170,7 @@ pub(crate) fn unchanged_until<D: Disk>(
     ensures reads { ReadsTree (heap space.old) (heap space.new) root result.0 }
     ensures cause { HasStoreCause (elements_told (heap space.old) root)
         (D.faults space.old.disk) (D.faults space.new.disk) result.1 }
+    ensures past { D.past space.new.disk ≡ D.past space.old.disk }
 {
     let mut tree = BTree::over(space, root);
     let answer = tree.unchanged_until(at, since);

@@ -17,9 +17,9 @@ impl<D: Disk> Counted for Space<D> {
 
     ghost name = { λ _. 0 };
 
-    ghost Frame = { Frame };
+    ghost Frame = { Frame × D.Past };
 
-    ghost frame = { λ s. frame_of (heap s) };
+    ghost frame = { λ s. (frame_of (heap s), D.past s.disk) };
 }
 
 impl<D: Disk> Pages for Space<D> {

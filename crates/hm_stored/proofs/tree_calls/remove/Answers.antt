@@ -23,7 +23,7 @@ returns-clause-writes g c =
     let wrote : TreeWrites nothing change marked c.remove-answer.result begun.intact (heap begun.space.now) (heap tree.space.now)
     begun.root tree.root tree.intact = record {
       ok = on_ok (λ is. record { elements = is.elements; mark = is.mark; extents = is.extents }) c.remove-answer.result did.ok;
-      stays = record { frame = did.frame; spent = record { room = did.space.room; free = did.space.free } };
+      stays = record { frame = ap (λ f. f.0) did.frame; spent = record { room = did.space.room; free = did.space.free } };
     } in
     lent_written nothing change marked heap c.args.space.now begun.space.now tree.space.now back.0.now c.end_change.new.self _
     c.args.root begun.root tree.root back.1 begun.intact tree.intact c.is_ok.result c.args.space.now.books.most c.remove-answer.result wrote

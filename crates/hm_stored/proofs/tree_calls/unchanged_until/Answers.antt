@@ -20,7 +20,7 @@ returns-clause-reads g c =
       extents = did.keeps.extents;
       room = did.keeps.room;
       free = did.keeps.free;
-      frame = did.frame;
+      frame = ap (λ f. f.0) did.frame;
     } in
     lent_read heap c.args.space.now begun.space.now tree.space.now back.0.now _ c.args.root begun.root tree.root back.1 begun.intact tree.intact read
     (ap (λ m. m.now) c.over-tree.ensures.space) c.over-tree.ensures.root c.over-tree.ensures.intact (ap (λ m. m.now) c.into_parts-space.ensures.space)

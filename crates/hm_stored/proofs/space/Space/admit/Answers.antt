@@ -1,4 +1,5 @@
 -- Zones get room.
+use Rattle.std.proofs.Common.{refl}
 use Rattle.hm_pages.specs.Store.{contents}
 use Rattle.hm_stored.specs.Heap.{heap_of}
 use Rattle.hm_stored.proofs.AdmitCallLemmas.{answers}
@@ -29,4 +30,5 @@ returns g c =
           c.renew.ensures.frame c.renew.ensures.books c.if-not-self.false c.if-self.false s.kept c.renew.result c.renew.ensures.ok c.renew.ensures.err).0;
       cause = admit_caused (heap_of (contents s.pages.store) (g.D.Disk.told s.disk) s.books)
           (g.D.Disk.faults s.disk) c.renew.result s.kept c.renew.ensures.cause;
+      past = refl;
     }

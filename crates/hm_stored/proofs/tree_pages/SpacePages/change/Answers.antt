@@ -42,8 +42,8 @@ returns-in-Ok-clause-frame g c =
     let tree = (c.is_tree_place.ensures.0 c.if-not-is_tree_place.false).zone in
     let there : is_some (old.current c.args.at) ≡ true = ap (λ o. is_some o) (sym c.look.ensures) ∙
     (some_map (λ p. p.now) c.look.result ∙ c.if-is_none.ensures) in
-    frame_put (heap_of old told s.books) (heap_of new told s.books) c.args.at c.args.with.now s.books.most
-    (puts_by old new told s.books c.args.at c.args.with.now c.in-Ok.ensures.changed there tree)
+    ap (λ f. (f, g.D.Disk.past s.disk)) (frame_put (heap_of old told s.books) (heap_of new told s.books) c.args.at c.args.with.now s.books.most
+    (puts_by old new told s.books c.args.at c.args.with.now c.in-Ok.ensures.changed there tree))
 
 pub invariant_of-self : goal.invariant_of-self
 invariant_of-self g c =

@@ -1,5 +1,7 @@
 -- A node is taken out.
-use Rattle.std.proofs.Common.{refl, true}
+use Rattle.std.proofs.Common.{◌≡◌, ap, refl, arith, true}
+use Rattle.hm_types.specs.Offset.{zone_of}
+use Rattle.hm_types.specs.declared.zone.TheConstants.{TREE_ZONE}
 use Rattle.hm_pages.specs.Store.{contents}
 use Rattle.hm_stored.specs.Calls.{SameBooks}
 use Rattle.hm_stored.specs.Heap.{heap_of}
@@ -65,7 +67,8 @@ returns-clause-spent g c =
     refl refl refl c.if-not-self.false tree s.kept c.requires c.take_node-gone.result c.is_ok-self.ensures.value c.take_node-gone.ensures.ok in
     record {
       name = refl;
-      frame = frame_same (heap_of old told s.books) (heap_of new told then) (basis old new told told s.books then c.take_node-gone.ensures.frame same) refl;
+      frame = ap (λ f. (f, g.D.Disk.past s.disk)) (frame_same (heap_of old told s.books) (heap_of new told then)
+          (basis old new told told s.books then c.take_node-gone.ensures.frame same) refl);
       space = record { room = spends.room; free = spends.free };
     }
 

@@ -1,5 +1,5 @@
 -- A node is added where there is room.
-use Rattle.std.proofs.Common.{ℕ, ◌≤◌, refl, subst}
+use Rattle.std.proofs.Common.{ℕ, ◌≤◌, ap, refl, subst}
 use Rattle.hm_types.specs.declared.zone.TheConstants.{TREE_ZONE}
 use Rattle.hm_pages.specs.Store.{contents}
 use Rattle.hm_stored.specs.Calls.{SameBooks}
@@ -64,6 +64,7 @@ returns-clause-spent g c =
     refl refl refl c.if-not-self.false s.kept c.add_node-added.result c.is_ok-self.ensures.value c.add_node-added.ensures.ok in
     record {
       name = refl;
-      frame = frame_same (heap_of old told s.books) (heap_of new told then) (basis old new told told s.books then c.add_node-added.ensures.frame same) refl;
+      frame = ap (λ f. (f, g.D.Disk.past s.disk)) (frame_same (heap_of old told s.books) (heap_of new told then)
+          (basis old new told told s.books then c.add_node-added.ensures.frame same) refl);
       space = record { room = spends.room; free = spends.free };
     }
