@@ -1,50 +1,58 @@
--- What no call of a space touches of its disk: all before the pool, and the state that was committed last.
+-- What no call of a space touches of its disk, nor unsettles: all before the pool, and the state that was committed last.
 use Rattle.std.proofs.Common.{◌≡◌, Bool, true, false, true≢false, ℕ, ◌+◌, ◌*◌, ◌<◌, ◌≤◌, List, Option, Some, None, IsSome, refl, sym, ap, subst, ◌∙◌}
 use Rattle.std.proofs.Common.{arith, cond, is_some, length, map, nat_lt, slice_index, slice_range}
-use Rattle.std.specs.Prelude.{IfSome, option_map, ◌&&◌, ◌||◌}
+use Rattle.std.specs.Prelude.{IfSome, option_map, ◌&&◌, ◌||◌, ◌++◌}
 use Rattle.std.specs.List.{All, Contains, list_any}
 use Rattle.std.proofs.lemmas.Bool.{le-leb, lt-ltb}
-use Rattle.std.proofs.lemmas.List.Elements.{All-contains_itself, All-weaker}
+use Rattle.std.proofs.lemmas.List.Elements.{All-contains, All-contains_itself, All-weaker}
 use Rattle.std.proofs.lemmas.List.Folds.{list_any_at}
 use Rattle.hm_types.specs.Layout.{blocks_per_layer2, first_pool, first_undo, layer2_blocks, start_of}
 use Rattle.hm_types.specs.Offset.{byte_of}
 use Rattle.hm_types.specs.References.{Reference, begin_of}
 use Rattle.hm_types.specs.declared.limits.TheConstants.{PAGE_BYTES}
-use Rattle.hm_disk.specs.Crash.{Told}
+use Rattle.hm_disk.specs.Crash.{Outside, Told, is_outside}
+use Rattle.hm_disk.proofs.CrashLemmas.{is_outside-from, is_outside-is}
 use Rattle.hm_fields.specs.Pages.{PageMap}
+use Rattle.hm_header.specs.Change.{HaveSameSlots}
 use Rattle.hm_header.specs.OnDisk.{HasHeader, first_slot, second_slot}
 use Rattle.hm_header.specs.Slots.{IsChosen}
 use Rattle.hm_header.specs.declared.header.Header.{Header}
 use Rattle.hm_header.specs.declared.header.TheConstants.{SLOT_BYTES}
 use Rattle.hm_freemap.specs.Places.{page_of}
+use Rattle.hm_freemap.specs.Stand.{all_of}
+use Rattle.hm_freemap.proofs.ListLemmas.{all_right}
 use Rattle.hm_btree.specs.Tree.{IsTreeSpace}
 use Rattle.hm_image.specs.Image.{bytes_at, pages_of, references_from, to_payload}
 use Rattle.hm_image.specs.Same.{HasSameBytes, HasSameFreemap, HasSameTree}
 use Rattle.hm_image.specs.Sound.{HasEntry, HasLayer1}
 use Rattle.hm_image.proofs.PartLemmas.{part_same}
 use Rattle.hm_search.specs.Tree.{elements_of}
-use Rattle.hm_stored.specs.Basis.{entry_outside, nodes, refers}
-use Rattle.hm_stored.specs.Fixed.{does_name, fixed_with, is_fixed}
-use Rattle.hm_stored.specs.Heap.{Frame, Heap, content_of, frame_of}
+use Rattle.hm_stored.specs.Basis.{entry_outside, nodes, refers, states_of}
+use Rattle.hm_stored.specs.Fixed.{does_name, fixed_with, is_fixed, refs_with}
+use Rattle.hm_stored.specs.Heap.{Frame, Heap, basis_with, content_of, content_with, frame_of, refs_begun}
 use Rattle.hm_stored.specs.Held.{AreOnlyOf}
+use Rattle.hm_stored.proofs.BasisLemmas.{bases_same}
 use Rattle.hm_state.specs.Backed.{IsBacked, committed_in}
+use Rattle.hm_state.specs.Durable.{AreSettled, IsDurable, IsSettledAt}
 use Rattle.hm_state.specs.Written.{IsWritten}
 use Rattle.hm_state.proofs.KeptLemmas.{nodes_keep, references_kept}
 use Rattle.hm_state.proofs.StaysLemmas.{written_stays}
 
--- where the fixed bytes are the same, each of them is
-abbrev value_in : Option (ℕ → Option ℕ) → ℕ → Option ℕ
+-- where the fixed bytes are the same, each of them is, and is settled where it was
+abbrev value_in : Option (ℕ → Option (ℕ × Bool)) → ℕ → Option (ℕ × Bool)
 value_in None byte = None
 value_in (Some f) byte = f byte
 
-fixed_bytes : (bigblocks : ℕ) (known : Bool) (committed : PageMap) (root : ℕ) (s t : Told)
-    → fixed_with bigblocks known committed root (Some t) ≡ fixed_with bigblocks known committed root (Some s) → (byte : ℕ)
-    → is_fixed bigblocks known (refers committed root) byte ≡ true → slice_index t.bytes byte ≡ slice_index s.bytes byte
+abbrev byte_in : Told → ℕ → ℕ × Bool
+byte_in t byte = (slice_index t.bytes byte, is_outside t.unsettled byte)
+
+fixed_bytes : (bigblocks : ℕ) (known : Bool) (refs : List Reference) (s t : Told)
+    → fixed_with bigblocks known refs (Some t) ≡ fixed_with bigblocks known refs (Some s) → (byte : ℕ)
+    → is_fixed bigblocks known refs byte ≡ true → byte_in t byte ≡ byte_in s byte
 unfolding fixed_with
-fixed_bytes bigblocks known committed root s t same byte fixed =
-    by_test (is_fixed bigblocks known (refers committed root) byte) fixed (ap (λ o. value_in o byte) same) where
-      by_test : (b : Bool) → b ≡ true → cond b (Some (slice_index t.bytes byte)) None ≡ cond b (Some (slice_index s.bytes byte)) None
-          → slice_index t.bytes byte ≡ slice_index s.bytes byte
+fixed_bytes bigblocks known refs s t same byte fixed =
+    by_test (is_fixed bigblocks known refs byte) fixed (ap (λ o. value_in o byte) same) where
+      by_test : (b : Bool) → b ≡ true → cond b (Some (byte_in t byte)) None ≡ cond b (Some (byte_in s byte)) None → byte_in t byte ≡ byte_in s byte
       by_test true is got = cc
       by_test false is got = absurd (true≢false (sym is))
 
@@ -79,8 +87,13 @@ module _ (old new : Heap) (same : frame_of new ≡ frame_of old) where
   abbrev known : Bool
   known = is_some (content_of old)
 
+  -- what all three trees referred to as the call began
   abbrev refs : List Reference
-  refs = refers old.pages.committed old.roots.committed
+  refs = refs_begun old
+
+  -- what the committed one does
+  abbrev committed_refs : List Reference
+  committed_refs = refers old.pages.committed old.roots.committed
 
   bigblocks_same : new.bigblocks ≡ old.bigblocks
   bigblocks_same = ap (λ (f : Frame). f.bigblocks) same
@@ -91,21 +104,51 @@ module _ (old new : Heap) (same : frame_of new ≡ frame_of old) where
   root_same : new.roots.committed ≡ old.roots.committed
   root_same = ap (λ (f : Frame). f.roots.committed) same
 
-  fixed_same : fixed_with old.bigblocks known old.pages.committed old.roots.committed new.disk
-      ≡ fixed_with old.bigblocks known old.pages.committed old.roots.committed old.disk
+  refs_same : refs_begun new ≡ refs
+  refs_same = ap refs_with (bases_same old new (record {
+    pages = ap (λ (f : Frame). f.pages) same;
+    bigblocks = bigblocks_same;
+    begun = ap (λ (f : Frame). f.begun) same;
+    roots = ap (λ (f : Frame). f.roots) same;
+    last = ap (λ (f : Frame). f.last) same;
+  }))
+
+  fixed_same : fixed_with old.bigblocks known refs new.disk ≡ fixed_with old.bigblocks known refs old.disk
   fixed_same =
-      sym (by_parts new.bigblocks (is_some (content_of new)) new.pages.committed new.roots.committed bigblocks_same
-      (ap (λ (f : Frame). is_some f.content) same) committed_same root_same)
+      sym (by_parts new.bigblocks (is_some (content_of new)) (refs_begun new) bigblocks_same (ap (λ (f : Frame). is_some f.content) same) refs_same)
       ∙ ap (λ (f : Frame). f.fixed) same where
-        by_parts : (n : ℕ) (k : Bool) (c : PageMap) (r : ℕ) → n ≡ old.bigblocks → k ≡ known → c ≡ old.pages.committed → r ≡ old.roots.committed
-            → fixed_with n k c r new.disk ≡ fixed_with old.bigblocks known old.pages.committed old.roots.committed new.disk
-        by_parts n k c r first second third fourth = rw (first, second, third, fourth) refl
+        by_parts : (n : ℕ) (k : Bool) (r : List Reference) → n ≡ old.bigblocks → k ≡ known → r ≡ refs
+            → fixed_with n k r new.disk ≡ fixed_with old.bigblocks known refs new.disk
+        by_parts n k r first second third = rw (first, second, third) refl
+
+  -- what the committed tree refers to is among all, where it is known
+  committed_among : known ≡ true → (r : Reference) → Contains committed_refs r → Contains refs r
+  committed_among told r there = by_begin old.pages.begin told where
+    by_begin : (o : Option PageMap) → is_some (content_with old.last (option_map (basis_with old) o) old.disk) ≡ true
+        → Contains (refs_with (option_map (basis_with old) o)) r
+    by_begin None is = absurd (true≢false (sym is))
+    by_begin (Some begin) is =
+        let states = states_of (basis_with old begin) in
+        let Among : Reference → Type 0 = Contains (all_of states) in
+        All-contains Among states.committed r
+        (all_right Among states.frozen states.committed
+        (all_right Among states.current (states.frozen ++ states.committed) (All-contains_itself (all_of states)))) there
 
   module _ (s t : Told) (was : old.disk ≡ Some s) (is : new.disk ≡ Some t) where
+    value_same : (byte : ℕ) → is_fixed old.bigblocks known refs byte ≡ true → byte_in t byte ≡ byte_in s byte
+    value_same =
+        let of_disk : Option Told → Option (ℕ → Option (ℕ × Bool)) = fixed_with old.bigblocks known refs in
+        fixed_bytes old.bigblocks known refs s t (ap of_disk (sym is) ∙ fixed_same ∙ ap of_disk was)
+
     byte_same : (byte : ℕ) → is_fixed old.bigblocks known refs byte ≡ true → slice_index t.bytes byte ≡ slice_index s.bytes byte
-    byte_same =
-        let of_disk : Option Told → Option (ℕ → Option ℕ) = fixed_with old.bigblocks known old.pages.committed old.roots.committed in
-        fixed_bytes old.bigblocks known old.pages.committed old.roots.committed s t (ap of_disk (sym is) ∙ fixed_same ∙ ap of_disk was)
+    byte_same byte fixed = ap (λ (v : ℕ × Bool). v.0) (value_same byte fixed)
+
+    settled_same : (byte : ℕ) → is_fixed old.bigblocks known refs byte ≡ true → is_outside t.unsettled byte ≡ is_outside s.unsettled byte
+    settled_same byte fixed = ap (λ (v : ℕ × Bool). v.1) (value_same byte fixed)
+
+    settled_stays : (byte : ℕ) → is_fixed old.bigblocks known refs byte ≡ true → Outside s.unsettled byte → Outside t.unsettled byte
+    settled_stays byte fixed settled =
+        is_outside-is t.unsettled byte (settled_same byte fixed ∙ is_outside-from s.unsettled byte settled)
 
     pub size_same : length t.bytes ≡ length s.bytes
     size_same =
@@ -142,14 +185,36 @@ module _ (old new : Heap) (same : frame_of new ≡ frame_of old) where
           rw (size_same, bytes) refl;
     }
 
+    -- both slots are the same, whatever is known
+    pub slots_same : HaveSameSlots s t
+    slots_same = record {
+      size = size_same;
+      bytes = λ byte low. low_same byte (omega (arith, low));
+      settled = λ byte low. settled_same byte (low_fixed old.bigblocks known refs byte (omega (arith, low)));
+    }
+
+    -- a byte that the committed tree names is fixed, where it is known
+    named_byte : known ≡ true → (r : Reference) → Contains committed_refs r → (byte : ℕ) → begin_of r ≤ byte → byte < begin_of r + r.len
+        → is_fixed old.bigblocks known refs byte ≡ true
+    named_byte told r there byte = named_fixed old.bigblocks known refs r byte told (committed_among told r there)
+
+    -- what was settled of it is
+    settled_on : known ≡ true → AreSettled old.bigblocks committed_refs s → AreSettled old.bigblocks committed_refs t
+    settled_on told settled = record {
+      freemap = λ byte from to. settled_stays byte (low_fixed old.bigblocks known refs byte (omega (arith, to))) (settled.freemap byte from to);
+      named = All-weaker (Contains committed_refs) (IsSettledAt t)
+          (λ r there byte from to. settled_stays byte (named_byte told r there byte from to)
+          (All-contains (IsSettledAt s) committed_refs r settled.named there byte from to)) committed_refs (All-contains_itself committed_refs);
+    }
+
     -- all that the committed tree refers to is the same, where it is known
-    tree_same : known ≡ true → references_from (pages_of s.bytes) old.roots.committed ≡ refs → HasSameTree s.bytes t.bytes old.roots.committed
+    tree_same : known ≡ true → references_from (pages_of s.bytes) old.roots.committed ≡ committed_refs → HasSameTree s.bytes t.bytes old.roots.committed
     tree_same told named = record {
       size = size_same;
       bytes = subst (All (HasSameBytes s.bytes t.bytes)) (sym named)
-          (All-weaker (Contains refs) (HasSameBytes s.bytes t.bytes)
+          (All-weaker (Contains committed_refs) (HasSameBytes s.bytes t.bytes)
           (λ r there. part_same s.bytes t.bytes (begin_of r) (begin_of r + r.len) size_same
-          (λ byte from to. byte_same byte (named_fixed old.bigblocks known refs r byte told there from to))) refs (All-contains_itself refs));
+          (λ byte from to. byte_same byte (named_byte told r there byte from to))) committed_refs (All-contains_itself committed_refs));
     }
 
     written_on : known ≡ true → IsTreeSpace (nodes old.pages.committed) old.roots.committed → AreOnlyOf old.bigblocks old.pages.committed
@@ -188,3 +253,21 @@ module _ (old new : Heap) (same : frame_of new ≡ frame_of old) where
     by_disk o None was is size written = tt
     by_disk None (Some t) was is size written = absurd cc
     by_disk (Some s) (Some t) was is size written = moved s t was is (written_on s t was is told backed.tree backed.pages written)
+
+  pub durable_stays : IsSome (content_of old) → IsDurable old → IsDurable new
+  durable_stays told durable = record {
+    backed = backed_stays told durable.backed;
+    settled = by_disk old.disk new.disk refl refl (ap (λ (f : Frame). f.size) same) durable.settled;
+  } where
+    moved_refs : (t : Told) → AreSettled old.bigblocks committed_refs t → AreSettled new.bigblocks (refers new.pages.committed new.roots.committed) t
+    moved_refs t settled =
+        subst (λ (n : ℕ). AreSettled n (refers new.pages.committed new.roots.committed) t) (sym bigblocks_same)
+        (subst (λ (m : PageMap). AreSettled old.bigblocks (refers m new.roots.committed) t) (sym committed_same)
+        (subst (λ (r : ℕ). AreSettled old.bigblocks (refers old.pages.committed r) t) (sym root_same) settled))
+
+    by_disk : (o n : Option Told) → old.disk ≡ o → new.disk ≡ n
+        → option_map (λ (d : Told). length d.bytes) n ≡ option_map (λ (d : Told). length d.bytes) o
+        → IfSome o (AreSettled old.bigblocks committed_refs) → IfSome n (AreSettled new.bigblocks (refers new.pages.committed new.roots.committed))
+    by_disk o None was is size settled = tt
+    by_disk None (Some t) was is size settled = absurd cc
+    by_disk (Some s) (Some t) was is size settled = moved_refs t (settled_on s t was is told settled)

@@ -9,7 +9,7 @@ ghost use Rattle.hm_types.specs.declared.limits.TheConstants.{PAGE_BYTES};
 ghost use Rattle.hm_disk.specs.Crash.{Told};
 ghost use Rattle.hm_fields.specs.Fields.{AreBytes};
 ghost use Rattle.hm_header.specs.declared.header.Header.{Header};
-ghost use Rattle.hm_header.specs.Change.{Changes};
+ghost use Rattle.hm_header.specs.Change.{Changes, HaveSameSlots};
 ghost use Rattle.hm_header.specs.OnDisk.{HasHeader};
 ghost use Rattle.hm_header.specs.Range.{IsRoot, IsSize};
 ghost use Rattle.hm_freemap.specs.Extents.{IsApart};
@@ -29,6 +29,7 @@ ghost use Rattle.hm_stored.specs.Held.{AreOfVolume};
 ghost use Rattle.hm_stored.specs.Mounted.{IsBooksOf};
 ghost use Rattle.hm_stored.specs.Standing.{Holds, basis_now};
 ghost use Rattle.hm_state.specs.Backed.{IsBacked};
+ghost use Rattle.hm_state.specs.Durable.{IsDurable};
 ghost use Rattle.hm_state.specs.Free.{free_in};
 ghost use Rattle.hm_state.specs.Frozen.{HasFrozen};
 ghost use Rattle.hm_state.specs.Placed.{ArePlaces, PutsPages};
@@ -95,8 +96,8 @@ pub fn a_mounted_volume_is_backed()
 {}
 
 /// Calls of a space, which leave its frame, leave on its disk all that stands before the pool, so that
-/// the header that counts is the same one; and where the content at the call's beginning is known, all
-/// of the state that was committed last.
+/// the header that counts is the same one, and both header slots, settled where they were; and where the
+/// content at the call's beginning is known, all of the state that was committed last, settled as it was.
 pub fn what_was_committed_stays()
     ensures slots { (old new : Heap) (s t : Told) → frame_of new ≡ frame_of old →
         old.disk ≡ Some s → new.disk ≡ Some t → (length t.bytes ≡ length s.bytes) ×
@@ -105,8 +106,12 @@ pub fn what_was_committed_stays()
     ensures header { (old new : Heap) (s t : Told) (header : Header) (slot : ℕ) →
         frame_of new ≡ frame_of old → old.disk ≡ Some s → new.disk ≡ Some t →
         HasHeader s.bytes header slot → HasHeader t.bytes header slot }
+    ensures same_slots { (old new : Heap) (s t : Told) → frame_of new ≡ frame_of old →
+        old.disk ≡ Some s → new.disk ≡ Some t → HaveSameSlots s t }
     ensures backed { (old new : Heap) → frame_of new ≡ frame_of old → IsSome (content_of old) →
         IsBacked old → IsBacked new }
+    ensures durable { (old new : Heap) → frame_of new ≡ frame_of old → IsSome (content_of old) →
+        IsDurable old → IsDurable new }
 {}
 
 /// The pages of a space lie within its volume, behind layer 1 of the freemap, and share no byte with
