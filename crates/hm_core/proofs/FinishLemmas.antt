@@ -9,7 +9,7 @@ use Rattle.hm_types.specs.declared.fault.Fault.{Fault}
 use Rattle.hm_disk.specs.Crash.{Told}
 use Rattle.hm_disk.proofs.DiskLemmas.{BothTell-map, BothTell-same}
 use Rattle.hm_fields.specs.Fields.{AreBytes}
-use Rattle.hm_header.specs.Range.{IsHeader, IsRoot, IsSize}
+use Rattle.hm_header.specs.Range.{IsHeader, IsSize}
 use Rattle.hm_header.specs.declared.header.Header.{Header}
 use Rattle.hm_header.proofs.AnswerLemmas.{OnOk-map}
 use Rattle.hm_pages.specs.Store.{Store}
@@ -26,11 +26,9 @@ use Rattle.hm_state.specs.Frozen.{HasFrozen}
 use Rattle.hm_state.specs.Volume.{HoldsVolume}
 use Rattle.hm_stored.specs.Held.{AreOfVolume}
 use Rattle.hm_state.proofs.ChangedLemmas.{changed_stands}
-use Rattle.hm_state.proofs.FrozenLemmas.{firm_root, frozen_places}
 use Rattle.hm_state.proofs.InPlaceLemmas.{written_in_place}
 use Rattle.hm_core.specs.Core.{StandsOver, volume_after}
 use Rattle.hm_core.specs.Finished.{HasNextHeader, IsFinished, LeavesVolume, next_header}
-use Rattle.hm_state.specs.Placed.{AreInside}
 use Rattle.hm_core.specs.State.{CoreState}
 use Rattle.hm_core.specs.WrittenBack.{Freezes, WritesBack}
 use Rattle.hm_core.proofs.CausedLemmas.{caused_later}
@@ -39,10 +37,6 @@ use Rattle.hm_core.proofs.CausedLemmas.{caused_later}
 self_told : (told : Option Told) → IfSome told (λ t. told ≡ Some t)
 self_told None = tt
 self_told (Some t) = refl
-
-if_told : (told : Option Told) (P : Type 0) → P → IfSome told (λ _. P)
-if_told None P p = tt
-if_told (Some t) P p = p
 
 -- no entry is one of no event
 no_events : (events : List Event) → entries_of events ≡ [] → events ≡ []
@@ -54,8 +48,7 @@ pub record WroteBack (s : Store) (old : Option Told) (before : ℕ) (header : He
     (faults : ℕ) (result : Result (Unit {0}) Fault) : Type 0 where
   pub frozen : OnOk result (Freezes next s f)
   pub ok : OnOk result (BothTell old told (WritesBack f next (1 - slot)))
-  pub whole : IsRoot next.bigblocks next.root → ((g : Store) → Freezes next s g → AreInside (start_of header.bigblocks) g.frozen_group)
-      → IfErr result IsUndamaged
+  pub undamaged : IfErr result IsUndamaged
   pub cause : HasFaultCause before faults result
 
 module _ {D I O : Type 0} (core : CoreState D I O) where
@@ -86,7 +79,7 @@ module _ {D I O : Type 0} (core : CoreState D I O) where
       header = λ some. absurd (some none);
       cause = record { never_falls = omega (arith, same); caused = tt };
       caused = λ run. caused_later core.header.last.0 core.start core.faults faults core.last core.history run (omega (arith, same));
-      whole = λ opening foreigners stands. if_told h.disk _ tt;
+      undamaged = tt;
     }
 
   -- a run in which something was done
@@ -111,13 +104,6 @@ module _ {D I O : Type 0} (core : CoreState D I O) where
         frozen = freezes.frozen;
         sound = freezes.sound;
       }
-
-      root_stands : IsRoot next.bigblocks next.root
-      root_stands = subst (λ (n : ℕ). IsRoot n core.root) (sym size) (firm_root h core.root firm)
-
-      places_stand : (f : Store) → Freezes next h.pages f → AreInside (start_of core.header.bigblocks) f.frozen_group
-      places_stand f freezes =
-          (frozen_places h core.root f (has_frozen f freezes) (start_of core.header.bigblocks) (omega (arith, size))).inside
 
       new_stands : (f : Store) (s t : Told) → Freezes next h.pages f → h.disk ≡ Some s
           → ((at : ℕ) (page : List ℕ) → h.pages.current at ≡ Some page → AreBytes page)
@@ -146,8 +132,7 @@ module _ {D I O : Type 0} (core : CoreState D I O) where
           (λ s t is w. record { counts = w.changes.header_is; settled = w.changes.settled }) (self_told h.disk) both) wrote.ok;
       cause = wrote.cause;
       caused = λ run. caused_later core.header.last.0 core.start core.faults faults core.last core.history run wrote.cause.never_falls;
-      whole = λ opening foreigners stands.
-          if_told h.disk _ (wrote.whole (root_stands opening foreigners stands) (places_stand opening foreigners stands));
+      undamaged = wrote.undamaged;
     } where
       left : (r : Result (Unit {0}) Fault) → OnOk r (Freezes next h.pages f) → OnOk r (BothTell h.disk told (WritesBack f next (1 - core.slot)))
           → OnOk r (BothTell h.disk told (λ _ t. LeavesVolume core t.bytes))

@@ -1,8 +1,8 @@
 -- A core is ready to be written back.
-use Rattle.std.proofs.Common.{◌≡◌, ◌≢◌, ℕ, zero, suc, ◌+◌, ◌%◌, ◌^◌, ◌<◌, List, [], ◌∷◌, Option, None, Some}
-use Rattle.std.proofs.Common.{refl, sym, ap, subst, ◌∙◌, arith, length, slice_index, take}
+use Rattle.std.proofs.Common.{◌≡◌, ◌≢◌, ⊎_elim, ℕ, zero, suc, ◌+◌, ◌%◌, ◌^◌, ◌<◌, List, [], ◌∷◌, Option, None, Some}
+use Rattle.std.proofs.Common.{refl, sym, ap, subst, ◌∙◌, arith, is_some, length, slice_index, take}
 use Rattle.std.proofs.Math.Logic.{∥∥₁_elim}
-use Rattle.hm_types.specs.Layout.{IsPool}
+use Rattle.hm_types.specs.Layout.{IsPool, start_of}
 use Rattle.hm_freemap.specs.Stand.{AreDistinct}
 use Rattle.hm_model.specs.declared.entry.Entry.{Entry}
 use Rattle.hm_stored.specs.Heap.{Heap, heap_of}
@@ -13,11 +13,16 @@ use Rattle.std.specs.List.{AllByRecursion}
 use Rattle.std.proofs.Props.{props}
 use Rattle.hm_disk.specs.Crash.{Told}
 use Rattle.hm_header.specs.OnDisk.{HasHeader}
-use Rattle.hm_header.specs.Range.{IsHeader, IsRoot}
+use Rattle.hm_header.specs.Range.{IsHeader, IsRoot, IsSize}
 use Rattle.hm_header.specs.Slots.{Counts}
 use Rattle.hm_header.specs.declared.header.Header.{Header}
 use Rattle.hm_pages.specs.Store.{Store}
-use Rattle.hm_core.specs.WrittenBack.{IsReady}
+use Rattle.hm_undo.specs.Entry.{IsUndoPageOf}
+use Rattle.hm_stored.specs.Held.{ArePlaced}
+use Rattle.hm_stored.proofs.SpotLemmas.{and_left}
+use Rattle.hm_state.specs.Placed.{AreInside, IsInside}
+use Rattle.hm_state.proofs.FrozenLemmas.{place_member}
+use Rattle.hm_core.specs.WrittenBack.{Freezes, IsReady}
 
 none_prop : (block : ℕ) (others : List ℕ) → IsProp (AllByRecursion (λ other. block ≢ other) others)
 none_prop block [] = hlevel props
@@ -90,14 +95,31 @@ module _ (header : Header) (slot last free root : ℕ) (s : Store) (told : Optio
         );
       }
 
-  pub core_ready : h ≡ heap_of s told books → ∥ IsInOrder header slot last free h history ∥₁ → IsReady s told header slot next
+  pub core_ready : h ≡ heap_of s told books → (h.pages.begin ≡ None → IsRoot h.bigblocks root) → ∥ IsInOrder header slot last free h history ∥₁
+      → IsReady s told header slot next
   unfolding heap_of
-  core_ready is ordered = ∥∥₁_elim ordered (ready_prop s told header slot next) (λ o. record {
+  core_ready is root_is ordered = ∥∥₁_elim ordered (ready_prop s told header slot next) (λ o. record {
     idle = ap (λ (x : Heap). x.pages.boundary) (sym is) ∙ o.idle;
     closed = ap (λ (x : Heap). x.pages.begin) (sym is) ∙ o.closed.begin;
     slot_is = o.slot_is;
     header_is = o.header_is;
     counts = subst (λ (x : Heap). IfSome x.disk (λ t. HasHeader t.bytes header slot)) is o.on_disk;
     follows = record { bigblocks = refl; generation = after };
-    next_is = next_in_range o (ap (λ (x : Heap). x.bigblocks) is);
+    next_is = next_in_range o (ap (λ (x : Heap). x.bigblocks) is)
+        (subst (λ (n : ℕ). IsRoot n root) (sym o.bigblocks) (root_is o.closed.begin));
   })
+
+-- a page that an entry of the log may name lies inside the volume, behind the header slots and layer 1
+page_inside : (bigblocks at : ℕ) → IsSize bigblocks → IsUndoPageOf bigblocks at → IsInside (start_of bigblocks) at
+page_inside bigblocks at size page = (
+  ⊎_elim (λ pool. omega (arith, pool.1)) (λ layer. omega (arith, layer.1)) page.zone,
+  ⊎_elim (λ pool. omega (arith, pool.1, page.page, size)) (λ layer. omega (arith, layer.1, page.page, size)) page.zone,
+)
+
+-- so do the pages of a store once they are frozen
+pub frozen_inside : (bigblocks : ℕ) (next : Header) (s f : Store) → IsSize bigblocks → ArePlaced bigblocks s → Freezes next s f
+    → AreInside (start_of bigblocks) f.frozen_group
+frozen_inside bigblocks next s f size placed freezes i low =
+    let at = slice_index f.frozen_group i in
+    page_inside bigblocks at size (placed.group at
+    (and_left (s.group.changed at) (is_some (s.current at)) (sym (freezes.frozen.each at) ∙ place_member f.frozen_group i low)))

@@ -1,5 +1,5 @@
 -- What ending the use of a core makes of its disk.
-use Rattle.std.specs.Prelude.{◌≡◌, ◌≢◌, ℕ, ◌+◌, ◌-◌, ◌%◌, ◌^◌, List, [], Option, IfErr, IfSome, IsOk, OnOk, Result}
+use Rattle.std.specs.Prelude.{◌≡◌, ◌≢◌, ℕ, ◌+◌, ◌-◌, ◌%◌, ◌^◌, List, [], Option, IfErr, IsOk, OnOk, Result}
 use Rattle.hm_types.specs.Faults.{HasFaultCause, IsUndamaged}
 use Rattle.hm_types.specs.Told.{BothTell}
 use Rattle.hm_types.specs.declared.fault.Fault.{Fault}
@@ -33,16 +33,15 @@ module _ {D I O : Type 0} where
     pub counts : HasHeader t.bytes (next_header core) (1 - core.slot)
     pub settled : t.unsettled ≡ []
 
-  -- Where nothing was done, nothing is written. Else the disk stands for the volume as it is now. Damage is told of no volume
-  -- that stood. Each reply of the history has its cause still.
+  -- Where nothing was done, nothing is written. Else the disk stands for the volume as it is now. It fails only where the disk
+  -- or memory does. Each reply of the history has its cause still.
   pub record IsFinished (core : CoreState D I O) (told : Option Told) (faults : ℕ) (result : Result (Unit {0}) Fault) : Type 0 where
     pub nothing : core.history ≡ [] → IsOk result × (told ≡ core.heap.disk)
     pub volume : OnOk result (BothTell core.heap.disk told (λ _ t. LeavesVolume core t.bytes))
     pub header : OnOk result (core.history ≢ [] → BothTell core.heap.disk told (λ _ t. HasNextHeader core t))
     pub cause : HasFaultCause core.faults faults result
     pub caused : IsCausedRun core → IsCausedFrom core.header.last.0 core.start faults core.last core.history
-    pub whole : (opening : Volume) (foreigners : Foreigners) → StandsOver core opening foreigners
-        → IfSome core.heap.disk (λ _. IfErr result IsUndamaged)
+    pub undamaged : IfErr result IsUndamaged
 
   -- these are the disk and the streams of a core
   pub record HandsBack (core : CoreState D I O) (disk : D) (input : I) (output : O) : Type 0 where

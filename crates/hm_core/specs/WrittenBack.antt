@@ -1,20 +1,17 @@
 -- What writing a volume back makes of its disk.
-use Rattle.std.specs.Prelude.{◌≡◌, ℕ, ◌<◌, ◌≤◌, List, None, Option, IfSome, length, slice_index}
-use Rattle.hm_types.specs.declared.damage.TheConstants.{BAD_FIELD}
-use Rattle.hm_types.specs.declared.fault.Fault.{Fault}
-use Rattle.hm_types.specs.declared.fault.Fault.TheVariants.{Damaged}
+use Rattle.std.specs.Prelude.{◌≡◌, ℕ, ◌≤◌, None, Option, IfSome, length}
 use Rattle.hm_disk.specs.Crash.{Told}
 use Rattle.hm_header.specs.Change.{Changes, IsNext}
 use Rattle.hm_header.specs.OnDisk.{HasHeader}
-use Rattle.hm_header.specs.Range.{IsHeader, IsRoot}
+use Rattle.hm_header.specs.Range.{IsHeader}
 use Rattle.hm_header.specs.declared.header.Header.{Header}
 use Rattle.hm_pages.specs.Calls.{IsFrozen}
 use Rattle.hm_pages.specs.Sound.{IsSound}
 use Rattle.hm_pages.specs.Store.{Store}
-use Rattle.hm_state.specs.Placed.{IsInside, PutsPages}
+use Rattle.hm_state.specs.Placed.{PutsPages}
 
 -- Nothing of a store is frozen, and no call is open; a header counts on its disk, in the slot of this number; and the next
--- one is in range, where the root is a page of the tree.
+-- one is in range.
 pub record IsReady (s : Store) (told : Option Told) (header : Header) (slot : ℕ) (next : Header) : Type 0 where
   pub idle : s.boundary ≡ None
   pub closed : s.begin ≡ None
@@ -22,7 +19,7 @@ pub record IsReady (s : Store) (told : Option Told) (header : Header) (slot : �
   pub header_is : IsHeader header
   pub counts : IfSome told (λ t. HasHeader t.bytes header slot)
   pub follows : IsNext header next
-  pub next_is : IsRoot next.bigblocks next.root → IsHeader next
+  pub next_is : IsHeader next
 
 -- Pages were put where they stand, and then a header was written in the slot of this number.
 pub record WritesBack (f : Store) (header : Header) (number : ℕ) (old new : Told) : Type 0 where
@@ -34,10 +31,3 @@ pub record WritesBack (f : Store) (header : Header) (number : ℕ) (old new : To
 pub record Freezes (next : Header) (old new : Store) : Type 0 where
   pub frozen : IsFrozen next.last old new
   pub sound : IsSound new
-
--- damage is told of a page that is to be written beside the volume, or before layer 2 of its freemap
-pub record IsPlaceFault (size : ℕ) (places : List ℕ) (fault : Fault) : Type 0 where
-  pub i : ℕ
-  pub below : i < length places
-  pub is : fault ≡ Damaged (slice_index places i) BAD_FIELD
-  pub outside : ¬ IsInside size (slice_index places i)

@@ -16,8 +16,8 @@ use hm_types::{Fault, Id};
 use std::alloc::Global;
 
 /// Answers a call on names or file bytes by the id after `last`, over the store of a volume in which no
-/// call is open, and keeps what it changed, or drops it all where the device failed or memory was
-/// refused. Each history that was legal over an opening volume goes on legally with the entry of the
+/// call is open, and keeps what it changed, or drops it all where the device failed, memory was
+/// refused, or the root of the tree would stand outside the pool: that is answered as want of memory. Each history that was legal over an opening volume goes on legally with the entry of the
 /// call, where no fewer big-blocks are free than its least.
 pub fn answer_over<D: Disk>(
     alloc: Global,
@@ -33,7 +33,7 @@ pub fn answer_over<D: Disk>(
 {
     stored.begin(last);
     match answer_next(alloc, stored, command, last, None) {
-        Ok(reply) if stored.is_whole() => {
+        Ok(reply) if stored.can_keep() => {
             stored.keep();
             stored.pages_are_bytes();
             reply

@@ -23,6 +23,7 @@ impl<D: Disk, I, O> Core<D, I, O> {
         }
         self.stored.pages_are_bytes();
         self.stored.pages_are_of_volume();
+        self.stored.changes_are_placed();
         let Core {
             stored,
             input,

@@ -134,12 +134,9 @@ module _ {D I O : Type 0} where
             stands_now;
       }
 
-    -- damage is told of what was no volume alone
+    -- damage is told of none
     no_damage : (disk : Seen Told) (at kind : ℕ) → IsFinished core disk.told disk.faults (Err (damage at kind)) → IfSome begun.heap.disk StandsForNone
-    no_damage disk at kind finished = each_told begun.heap.disk _ _ (λ t stands volume is. none volume (stands volume no_foreigners is))
-        stands_now where
-          none : (volume : Volume) → StandsOver core volume no_foreigners → ⊥
-          none volume stands = where_told core.heap.disk _ ⊥ stands.legal.held.holds.elements.1 (finished.whole volume no_foreigners stands)
+    no_damage disk at kind finished = absurd finished.undamaged
 
     write_cause : (disk : Seen Told) (fault : Fault) → IsFinished core disk.told disk.faults (Err fault)
         → IsWriteCause begun.heap.disk core.faults disk.faults (of_fault fault)

@@ -1,12 +1,13 @@
 // A store over a volume as it is made.
-ghost use Rattle.std.specs.Prelude.{◌≡◌, ◌≤◌, IfOk, IfSome, IsSome, length, true};
+ghost use Rattle.std.specs.Prelude.{◌≡◌, ◌≤◌, IfOk, IfSome, IsSome, length};
+ghost use Rattle.hm_header.specs.Range.{IsRoot};
 ghost use Rattle.hm_key.specs.Element.{IsElement};
 ghost use Rattle.hm_key.specs.Key.{IsBefore, greatest_key, key_of};
 ghost use Rattle.hm_newfs.specs.Steps.{HasSpace};
 ghost use Rattle.hm_pages.specs.Store.{contents};
 ghost use Rattle.hm_stored.specs.Heap.{frame_of};
 ghost use Rattle.hm_stored.specs.Space.{heap};
-ghost use Rattle.hm_stored.specs.Turn.{IsClosed};
+ghost use Rattle.hm_stored.specs.Turn.{IsClosed, IsKeepable};
 
 use hm_disk::Disk;
 use hm_disk_forms::{FileDisk, MemDisk};
@@ -21,7 +22,8 @@ use std::test::Fail;
 
 // A space over a volume of 24 big-blocks.
 fn mounted<D: Disk + Drop>(alloc: Global, mut disk: D) -> Result<Space<D>, Failed>
-    ensures { IfOk result (λ s. IsClosed (heap s)) }
+    ensures closed { IfOk result (λ s. IsClosed (heap s)) }
+    ensures root { IfOk result (λ s. IsRoot (heap s).bigblocks s.books.roots.current) }
 {
     let header = match read_header(&mut disk)? {
         Ok((header, _)) => header,
@@ -69,7 +71,7 @@ fn drop_call<D: Disk>(store: &mut Stored<D>)
 // Closes the open call, whose changes are kept, and opens another.
 fn keep_call<D: Disk>(store: &mut Stored<D>)
     requires opened { IsSome (contents store.old.space.pages.store).begin }
-    requires whole { store.old.space.books.whole ≡ true }
+    requires keepable { IsKeepable (heap store.old.space) store.old.root }
     ensures begun { IsSome (contents store.new.space.pages.store).begin }
 {
     store.keep();
@@ -221,7 +223,7 @@ fn payloads_are_read_shared_and_given_back(rt: HostRuntime) -> Result<(), Fail> 
 fn kept_changes_stay_and_dropped_ones_go(rt: HostRuntime) -> Result<(), Fail> {
     let mut store = opened_file(rt)?;
     assert_eq!(rt; add(&mut store, &element(1)), Ok(()));
-    assert!(rt; store.is_whole());
+    assert!(rt; store.can_keep());
     keep_call(&mut store);
     assert_eq!(rt; add(&mut store, &element(2)), Ok(()));
     drop_call(&mut store);
@@ -241,7 +243,7 @@ fn a_call_that_failed_is_refused_until_it_is_dropped(rt: HostRuntime) -> Result<
         store.admit(Zones::META, 0),
         Err(SpaceFault::Fault(Fault::NoMemory))
     );
-    assert!(rt; !store.is_whole());
+    assert!(rt; !store.can_keep());
     let e = element(1);
     assert_eq!(rt; store.first_at_or_after(&e.base), Err(Fault::NoMemory));
     assert_eq!(rt; store.share(at, 10), Err(Fault::NoMemory));

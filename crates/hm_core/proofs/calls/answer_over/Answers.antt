@@ -77,7 +77,7 @@ returns-in-Ok g c =
           c.answer_next.ensures.borrowed.1 c.requires.served.0 c.requires.left c.answer_next.result
           (caused_over _ _ _ _ (g.D.Disk.faults s.space.disk) (g.D.Disk.faults s3.space.disk) c.answer_next.result
           (ap g.D.Disk.faults c.begin.ensures.disk) (ap g.D.Disk.faults c.keep.ensures.disk) c.answer_next.ensures.cause)
-          (sym c.is_whole.ensures ∙ c.if-is_whole.true) c.keep.ensures.turn c.keep.ensures.content c.keep.ensures.root c.pages_are_bytes.ensures s2.tree
+          (c.can_keep.ensures.0 c.if-can_keep.true).whole c.keep.ensures.turn c.keep.ensures.content c.keep.ensures.root c.pages_are_bytes.ensures s2.tree
           c.in-Ok.ensures.step c.in-Ok.ensures.charges c.in-Ok.ensures.possible;
     }
 

@@ -6,6 +6,7 @@ use Rattle.hm_types.specs.declared.limits.TheConstants.{BIGBLOCK_BYTES}
 use Rattle.hm_disk.specs.Crash.{Told}
 use Rattle.hm_pages.specs.Store.{contents}
 use Rattle.hm_stored.specs.Heap.{heap_of}
+use Rattle.hm_stored.proofs.SpotLemmas.{none_placed}
 use Rattle.hm_core.specs.declared.fault.OpenFault.TheVariants.{Fault as of_disk}
 use Rattle.hm_state.proofs.MountedLemmas.{mounted_pages}
 use Rattle.hm_core.specs.Opened.{IsNotMounted}
@@ -30,6 +31,11 @@ over-space-requires-clause-size g c =
 pub over-space-requires-clause-only : goal.over-space-requires-clause-only
 over-space-requires-clause-only g c =
     mounted_pages (g.D.Disk.told c.load.new.disk) c.args.header.now (contents c.in-Ok.store) c.of.result c.in-Ok.ensures.loaded c.of.ensures
+
+pub over-space-requires-clause-placed : goal.over-space-requires-clause-placed
+over-space-requires-clause-placed g c =
+    let plain = c.in-Ok.ensures.loaded.plain in
+    none_placed c.of.result.bigblocks (contents c.in-Ok.store) plain.call plain.group plain.flush.0
 
 pub returns-in-Ok-free_blocks-clause-ok : goal.returns-in-Ok-free_blocks-clause-ok
 returns-in-Ok-free_blocks-clause-ok g c =

@@ -8,7 +8,7 @@ use Rattle.hm_stored_tests.proofs.tests.keep_call.Goals as goal
 pub begin-requires : goal.begin-requires
 unfolding heap_of
 begin-requires g c = record {
-  closed = subst IsClosed (sym c.keep.ensures.turn.rest) (record { begin = c.keep.ensures.turn.pages.begin; whole = c.requires.whole });
+  closed = subst IsClosed (sym c.keep.ensures.turn.rest) (record { begin = c.keep.ensures.turn.pages.begin; whole = c.requires.keepable.whole });
 }
 
 pub returns : goal.returns

@@ -1,13 +1,16 @@
-use Rattle.std.proofs.Common.{IfOk, ◌≡◌, ◌⊎◌, ℕ, ◌*◌, ◌≤◌, ◌∙◌, Option, Some, None, length, sym, subst}
+use Rattle.std.proofs.Common.{IfOk, ◌≡◌, ◌⊎◌, ℕ, ◌*◌, ◌≤◌, ◌∙◌, Option, Some, None, length, rules, sym, subst}
 use Rattle.std.specs.Prelude.{IfSome}
 use Rattle.hm_types.specs.Offset.{zone_of}
 use Rattle.hm_types.specs.declared.limits.TheConstants.{BIGBLOCK_BYTES}
 use Rattle.hm_types.specs.declared.zone.TheConstants.{TREE_ZONE}
 use Rattle.hm_disk.specs.Crash.{Told}
 use Rattle.hm_header.specs.OnDisk.{HasHeader}
+use Rattle.hm_header.specs.Range.{IsRoot}
 use Rattle.hm_header.specs.declared.header.Header.{Header}
 use Rattle.hm_freemap.specs.Places.{IsPageOf}
-use Rattle.hm_stored.specs.Heap.{heap_of}
+use Rattle.hm_pages.specs.Store.{contents}
+use Rattle.hm_stored.specs.Heap.{Heap, heap_of}
+use Rattle.hm_stored.proofs.SpotLemmas.{none_placed}
 use Rattle.hm_stored.specs.Turn.{IsClosed}
 use Rattle.hm_stored_tests.proofs.tests.mounted.Goals as goal
 
@@ -33,6 +36,18 @@ over-requires-clause-size g c =
     (room_of_header (g.D.Disk.told c.args.disk) c.in-Ok.header _ (subst (λ r. IfOk r (λ answer. IfSome (g.D.Disk.told c.args.disk)
     (λ (t : Told). HasHeader t.bytes answer.0 answer.1))) c.in-Ok.is c.in_ok-header.ensures.chosen)))
 
-pub returns-in-Ok-load : goal.returns-in-Ok-load
+pub over-requires-clause-placed : goal.over-requires-clause-placed
+over-requires-clause-placed g c =
+    let plain = c.in-Ok-load.ensures.loaded.plain in
+    none_placed c.of.result.bigblocks (contents c.in-Ok-load.store) plain.call plain.group plain.flush.0
+
+pub returns-in-Ok-load-clause-root : goal.returns-in-Ok-load-clause-root
 unfolding heap_of
-returns-in-Ok-load g c = subst IsClosed (sym c.over.ensures.heap) (record { begin = c.in-Ok-load.ensures.loaded.plain.begin; whole = c.of.ensures.closed.1 })
+returns-in-Ok-load-clause-root g c =
+    subst (λ (h : Heap). IsRoot h.bigblocks h.roots.current) (sym c.over.ensures.heap)
+    (subst (λ (n : ℕ). IsRoot n c.of.result.roots.current) (sym c.of.ensures.bigblocks)
+    (subst (IsRoot c.in-Ok.header.bigblocks) (sym c.of.ensures.roots.2) (search rules)))
+
+pub returns-in-Ok-load-clause-closed : goal.returns-in-Ok-load-clause-closed
+unfolding heap_of
+returns-in-Ok-load-clause-closed g c = subst IsClosed (sym c.over.ensures.heap) (record { begin = c.in-Ok-load.ensures.loaded.plain.begin; whole = c.of.ensures.closed.1 })

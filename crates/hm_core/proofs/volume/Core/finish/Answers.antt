@@ -3,9 +3,12 @@ use Rattle.std.proofs.Common.{◌≡◌, ◌≢◌, ℕ, ◌+◌, ◌-◌, ◌%�
 use Rattle.std.proofs.Math.Logic.{∥∥₁_elim}
 use Rattle.std.proofs.Props.{props}
 use Rattle.std.proofs.lemmas.List.{nil_from_length}
+use Rattle.hm_header.specs.Range.{IsRoot}
 use Rattle.hm_header.specs.declared.header.Header.{Header}
 use Rattle.hm_pages.specs.Store.{contents}
+use Rattle.hm_pages.specs.declared.store.PageStore.{PageStore}
 use Rattle.hm_stored.specs.Heap.{heap_of}
+use Rattle.hm_stored.specs.Held.{ArePlaced}
 use Rattle.hm_core.specs.Finished.{IsFinished, next_header}
 use Rattle.hm_core.specs.Seen.{seen}
 use Rattle.hm_core.proofs.FinishLemmas.{WroteBack, untouched_finished, written_finished}
@@ -37,7 +40,12 @@ write_back-written-requires g c =
       ready = core_ready s.header s.slot s.last.0 s.free c.into_parts-space.result.1 (contents c.into_parts-store.result.0)
           (g.D.Disk.told c.into_parts-store.result.1) c.into_parts-store.result.2
           (heap_of (contents s.stored.space.pages.store) (g.D.Disk.told s.stored.space.disk) s.stored.space.books) s.history.items c.next_generation.result
-          c.next_generation.ensures four heap s.ordered;
+          c.next_generation.ensures four heap
+          (λ closed. subst (IsRoot s.stored.space.books.bigblocks) (sym c.into_parts-space.ensures.root) (c.changes_are_placed.ensures.root closed))
+          s.ordered;
+      placed = subst (λ (x : PageStore). ArePlaced s.header.bigblocks (contents x)) (sym pages)
+          (subst (λ (n : ℕ). ArePlaced n (contents s.stored.space.pages.store)) (sym (∥∥₁_elim s.ordered (hlevel props) (λ o. o.bigblocks)))
+          c.changes_are_placed.ensures.pages);
     }
 
 pub returns-clause-disk : goal.returns-clause-disk
@@ -70,7 +78,7 @@ returns-clause-disk g c =
     f told faults result = record {
       frozen = c.write_back-written.ensures.frozen;
       ok = c.write_back-written.ensures.ok;
-      whole = c.write_back-written.ensures.whole;
+      undamaged = c.write_back-written.ensures.undamaged;
       cause = c.write_back-written.ensures.cause;
     } in
     written_finished core c.pages_are_of_volume.ensures (∥∥₁_elim s.ordered (hlevel props) (λ o. o.bigblocks))

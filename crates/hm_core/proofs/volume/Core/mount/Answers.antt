@@ -1,7 +1,8 @@
-use Rattle.std.proofs.Common.{◌≤◌, List, Option, refl, sym, subst, ap, ◌∙◌, arith}
+use Rattle.std.proofs.Common.{◌≤◌, ℕ, List, Option, refl, sym, subst, ap, ◌∙◌, arith}
 use Rattle.std.specs.Prelude.{IfSome}
 use Rattle.hm_disk.specs.Crash.{Told}
 use Rattle.hm_header.specs.OnDisk.{HasHeader}
+use Rattle.hm_header.specs.Range.{IsRoot}
 use Rattle.hm_model.specs.declared.entry.Entry.{Entry}
 use Rattle.hm_pages.specs.Store.{contents}
 use Rattle.hm_stored.specs.Heap.{heap_of}
@@ -25,6 +26,11 @@ invariant_of-result g c =
           (ordered_first (g.D.Disk.told c.read_header.new.disk) header slot free h c.in-Ok.ensures.header.0 c.in-Ok.ensures.header.1
           (subst (λ (told : Option Told). IfSome told (λ t. HasHeader t.bytes header slot)) (sym c.read_header.ensures.same) c.in-Ok.ensures.chosen) read) ∣₁;
     }
+
+pub over-requires-clause-root : goal.over-requires-clause-root
+unfolding heap_of
+over-requires-clause-root g c =
+    subst (λ (n : ℕ). IsRoot n c.in-Ok.answer.0.root) c.in-Ok-open_space.ensures.ok.bigblocks c.in-Ok.ensures.header.0.root
 
 pub returns-in-Ok-open_space-clause-ok : goal.returns-in-Ok-open_space-clause-ok
 returns-in-Ok-open_space-clause-ok g c =
