@@ -286,8 +286,8 @@ module _ {S : Type 0} (heap : S → Heap) (root_of : S → ℕ) (h : Heap) (root
           (room_same (heap new) h' (ap (λ (x : Heap). x.whole) keeps.rest) (ap (λ (x : Heap). x.append) keeps.rest) keeps.pages.current)
           (paid_call room free first calls (reserves_for command) old new (reserves_most command) charges
           (paid_as h (heap old) first calls free_old room_old paid));
-      legal = λ first start history opening foreigners entry least is so_far.
-          served_call first start faults faults' history h root last opening foreigners so_far counted entry (is_next entry is) elements extents free old new
+      legal = λ first start history opening foreigners events entry least is so_far.
+          served_call first start faults faults' history h root last opening foreigners events so_far counted entry (is_next entry is) elements extents free old new
           h' root' (record {
             told = tells _ so_far.held.holds;
             found = omega (arith, least, free_old);
@@ -342,8 +342,8 @@ module _ {S : Type 0} (heap : S → Heap) (root_of : S → ℕ) (h : Heap) (root
           (free_same h h' whole_is size_is append (drops.pages.flush.committed ∙ (ap (λ (f : Frame). f.pages.committed) frame ∙ opens.pages.flush.committed))
           (drops.pages.flush.frozen ∙ (ap (λ (f : Frame). f.pages.frozen) frame ∙ opens.pages.flush.frozen)) pages_are)
           (room_same h h' whole_is append pages_are) paid);
-      legal = λ first start history opening foreigners entry least is so_far.
-          failed_call first start faults faults' history h root last opening foreigners so_far counted entry (is_next entry is) h' root' (record {
+      legal = λ first start history opening foreigners events entry least is so_far.
+          failed_call first start faults faults' history h root last opening foreigners events so_far counted entry (is_next entry is) h' root' (record {
             told = subst (TellsFailure faults faults') (sym is.reply_is) (fails _ so_far.held.holds);
             holds = subst (λ (n : ℕ). HoldsSame h root h' n) (sym (root_is ∙ current))
                 (dropped_holds h root last _ so_far.held.holds (heap old) (opens_content h (heap old) root last closed kept opens) (heap new) h'

@@ -13,9 +13,8 @@ none_before [] event rest is = cc
 none_before (e ∷ es) event rest is = cc
 
 pub first : (free start faults : ℕ) (h : Heap) (root last : ℕ) (opening : Volume) (foreigners : Foreigners) → start ≤ faults
-    → HoldsVolume h root last opening → IsLegalOver free start faults [] h root last opening foreigners
+    → HoldsVolume h root last opening → IsLegalOver free start faults [] h root last opening foreigners []
 first free start faults h root last opening foreigners counted holds = record {
-  events = [];
   entries = refl;
   legal = λ before event rest is. absurd (none_before before event rest is);
   counted = counted;

@@ -30,35 +30,34 @@ use Rattle.hm_step.proofs.HistoryLemmas.{allowed_failed, stands_failed}
 use Rattle.hm_step.proofs.LegalLemmas.{may_follow_failed}
 use Rattle.hm_step.proofs.SubstituteLemmas.{trees_given}
 use Rattle.hm_core.specs.Calls.{Fails, IsNextCall, Serves}
-use Rattle.hm_core.specs.History.{HoldsState, IsLegalOver, disk_counts, setting_of}
+use Rattle.hm_core.specs.History.{HoldsState, IsLegalBeyond, IsLegalOver, disk_counts, setting_of}
 use Rattle.hm_core.proofs.CountLemmas.{NumbersOf, legal_later, told_most}
 use Rattle.hm_core.proofs.StateLemmas.{holds_after, served_state}
 use Rattle.hm_core.proofs.WordLemmas.{words_are_read}
 
 module _ (free start faults faults' : ℕ) (history : List Entry) (h : Heap) (root last : ℕ) (opening : Volume) (foreigners : Foreigners)
-    (so_far : IsLegalOver free start faults history h root last opening foreigners) (counted : faults ≤ faults') where
+    (events : List Event) (so_far : IsLegalOver free start faults history h root last opening foreigners events) (counted : faults ≤ faults') where
   -- the run with the count of now, and what it has come to
   abbrev pub run : Setting
   run = setting_of free start faults' opening foreigners
 
   abbrev pub state : State
-  state = state_after run so_far.events
+  state = state_after run events
 
   abbrev pub known : Known
-  known = known_after (known_at opening.last (disk_counts start)) so_far.events
+  known = known_after (known_at opening.last (disk_counts start)) events
 
-  legal : IsLegal run so_far.events
-  legal = legal_later (setting_of free start faults opening foreigners) (disk_counts faults') so_far.events
+  legal : IsLegal run events
+  legal = legal_later (setting_of free start faults opening foreigners) (disk_counts faults') events
       (record { disk = counted; input = omega arith; output = omega arith }) so_far.legal
 
-  pub goes_on : (event : Event) (h' : Heap) (root' : ℕ) → MayFollow run so_far.events event
-      → HoldsState h' root' (last + 1) (state_after run (so_far.events ++ event ∷ []))
-      → IsLegalOver free start faults' (history ++ event.entry ∷ []) h' root' (last + 1) opening foreigners
+  pub goes_on : (event : Event) (h' : Heap) (root' : ℕ) → MayFollow run events event
+      → HoldsState h' root' (last + 1) (state_after run (events ++ event ∷ []))
+      → IsLegalOver free start faults' (history ++ event.entry ∷ []) h' root' (last + 1) opening foreigners (events ++ event ∷ [])
   goes_on event h' root' follows held = record {
-    events = so_far.events ++ event ∷ [];
-    entries = map-append (λ (e : Event). e.entry) so_far.events (event ∷ []) ∙ ap (λ (es : List Entry). es ++ event.entry ∷ []) so_far.entries;
-    legal = IsLegal-goes_on run so_far.events event legal follows;
-    counted = subst (λ (k : Known). k.counts.disk ≤ faults') (sym (known_after-push (known_at opening.last (disk_counts start)) so_far.events event))
+    entries = map-append (λ (e : Event). e.entry) events (event ∷ []) ∙ ap (λ (es : List Entry). es ++ event.entry ∷ []) so_far.entries;
+    legal = IsLegal-goes_on run events event legal follows;
+    counted = subst (λ (k : Known). k.counts.disk ≤ faults') (sym (known_after-push (known_at opening.last (disk_counts start)) events event))
         (told_most run.now known event.entry (omega (arith, so_far.counted, counted)) follows.caused.numbers);
     held = held;
   }
@@ -71,7 +70,7 @@ module _ (free start faults faults' : ℕ) (history : List Entry) (h : Heap) (ro
   left_next left = subst (λ (n : ℕ). n < GREATEST_ID) so_far.held.holds.last_is left
 
   -- the floor of the events is that of their entries
-  pub floor_next : (space : ℕ) → floor free history ≤ space → floor_after run so_far.events ≤ space
+  pub floor_next : (space : ℕ) → floor free history ≤ space → floor_after run events ≤ space
   floor_next space least = subst (λ (list : List Entry). floor free list ≤ space) (sym so_far.entries) least
 
   -- ---- a call that is served
@@ -89,12 +88,12 @@ module _ (free start faults faults' : ℕ) (history : List Entry) (h : Heap) (ro
     event = record { entry = entry; paths = (words_are_read entry.call).0; substitutes = given_trees.0 }
 
     abbrev pub call : Call
-    call = call_after run so_far.events event
+    call = call_after run events event
 
     own : entry.id.0 ≡ state.volume.last + 1
     own = drawn_next entry.id.0 is.own
 
-    next : (space : ℕ) → floor_after run so_far.events ≤ space → IsNext run so_far.events event space es
+    next : (space : ℕ) → floor_after run events ≤ space → IsNext run events event space es
     next space enough = record {
       served = is.served;
       own = own;
@@ -107,17 +106,17 @@ module _ (free start faults faults' : ℕ) (history : List Entry) (h : Heap) (ro
 
     -- the space that came of a call holds the state after it
     next_held : (h' : Heap) (root' : ℕ) (now : List FullElement) → h'.bigblocks ≡ h.bigblocks → Holds h' root' now
-        → StandFor now (state_after run (so_far.events ++ event ∷ [])).volume → IsAllowed run so_far.events event
-        → HoldsState h' root' (last + 1) (state_after run (so_far.events ++ event ∷ []))
+        → StandFor now (state_after run (events ++ event ∷ [])).volume → IsAllowed run events event
+        → HoldsState h' root' (last + 1) (state_after run (events ++ event ∷ []))
     next_held h' root' now same holds stand allowed =
-        holds_after h h' root root' last state (state_after run (so_far.events ++ event ∷ [])) (is_change entry.call entry.reply) call now
-        so_far.held refl (served_state run so_far.events event is.served own allowed) same holds stand
+        holds_after h h' root root' last state (state_after run (events ++ event ∷ [])) (is_change entry.call entry.reply) call now
+        so_far.held refl (served_state run events event is.served own allowed) same holds stand
 
     -- a store served it
     module _ {S : Type 0} (elements_of : S → Option (List Element)) (extents_of : S → Option (List Extent)) (free_of : S → ℕ)
         (old new : S) (h' : Heap) (root' : ℕ)
         (serves : Serves elements_of extents_of free_of (floor free history) last entry old new h h' root root') where
-      of_event : IsEventOf (record { command = entry.call; last = last; busy = None }) entry.reply run so_far.events event
+      of_event : IsEventOf (record { command = entry.call; last = last; busy = None }) entry.reply run events event
       of_event = record {
         command_is = refl;
         reply_is = refl;
@@ -125,31 +124,31 @@ module _ (free start faults faults' : ℕ) (history : List Entry) (h : Heap) (ro
         busy_is = ap busy_in so_far.held.opened;
       }
 
-      stepped : GoesOn run so_far.events event (elements_of new) (extents_of new)
+      stepped : GoesOn run events event (elements_of new) (extents_of new)
       stepped = by (content_of (elements_of old) (extents_of old)) (serves.told es so_far.held.holds.elements.1) serves.step where
         by : (o : Option Lists) → IsSomeAnd o (λ was. IsBalanced was.0 was.1 × (fulls was ≡ es))
             → IfSome o (λ was. IsBalanced was.0 was.1 → (r : Setting) (before : List Event) (e : Event)
             → IsEventOf (record { command = entry.call; last = last; busy = None }) entry.reply r before e
             → IsNext r before e (free_of old) (fulls was) → GoesOn r before e (elements_of new) (extents_of new))
-            → GoesOn run so_far.events event (elements_of new) (extents_of new)
+            → GoesOn run events event (elements_of new) (extents_of new)
         by None told each = absurd told
         by (Some was) told each =
-            each told.0 run so_far.events event of_event
-            (subst (λ (l : List FullElement). IsNext run so_far.events event (free_of old) l) (sym told.1)
+            each told.0 run events event of_event
+            (subst (λ (l : List FullElement). IsNext run events event (free_of old) l) (sym told.1)
             (next (free_of old) (floor_next (free_of old) serves.found)))
 
-      held : HoldsState h' root' (last + 1) (state_after run (so_far.events ++ event ∷ []))
+      held : HoldsState h' root' (last + 1) (state_after run (events ++ event ∷ []))
       held = by (content_of (elements_of new) (extents_of new)) refl stepped.stands where
         by : (o : Option Lists) → content_of (elements_of new) (extents_of new) ≡ o
-            → IsSomeAnd o (λ now. IsBalanced now.0 now.1 × StandIfFit now (state_after run (so_far.events ++ event ∷ [])).volume)
-            → HoldsState h' root' (last + 1) (state_after run (so_far.events ++ event ∷ []))
+            → IsSomeAnd o (λ now. IsBalanced now.0 now.1 × StandIfFit now (state_after run (events ++ event ∷ [])).volume)
+            → HoldsState h' root' (last + 1) (state_after run (events ++ event ∷ []))
         by None told stands = absurd stands
         by (Some now) told stands =
             let there = serves.holds now told stands.0 in
             next_held h' root' (fulls now) serves.size there.holds (stands.1 there.fit) stepped.allowed
 
-      pub served_call : IsLegalOver free start faults' (history ++ entry ∷ []) h' root' (last + 1) opening foreigners
-      served_call = goes_on event h' root' stepped.follows held
+      pub served_call : IsLegalBeyond free start faults' (history ++ entry ∷ []) h' root' (last + 1) opening foreigners events
+      served_call = (event ∷ [], goes_on event h' root' stepped.follows held)
 
     -- the device failed in it, or memory was refused
     module _ (h' : Heap) (root' : ℕ) (failed : Fails faults faults' entry h h' root root') where
@@ -168,13 +167,15 @@ module _ (free start faults faults' : ℕ) (history : List Entry) (h : Heap) (ro
       ]
 
       abbrev least : ℕ
-      least = floor_after run so_far.events
+      least = floor_after run events
 
-      at_least : IsNext run so_far.events event least es
+      at_least : IsNext run events event least es
       at_least = next least (omega arith)
 
-      pub failed_call : IsLegalOver free start faults' (history ++ entry ∷ []) h' root' (last + 1) opening foreigners
-      failed_call =
-          goes_on event h' root' (may_follow_failed run so_far.events event least es at_least fails numbers)
-          (next_held h' root' es failed.size (failed.holds es so_far.held.holds.elements.1)
-          (stands_failed run so_far.events event least es at_least fails) (allowed_failed run so_far.events event least es at_least fails))
+      pub failed_call : IsLegalBeyond free start faults' (history ++ entry ∷ []) h' root' (last + 1) opening foreigners events
+      failed_call = (
+        event ∷ [],
+        goes_on event h' root' (may_follow_failed run events event least es at_least fails numbers)
+            (next_held h' root' es failed.size (failed.holds es so_far.held.holds.elements.1)
+            (stands_failed run events event least es at_least fails) (allowed_failed run events event least es at_least fails)),
+      )

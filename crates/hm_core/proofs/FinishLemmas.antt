@@ -13,7 +13,7 @@ use Rattle.hm_header.specs.Range.{IsHeader, IsSize}
 use Rattle.hm_header.specs.declared.header.Header.{Header}
 use Rattle.hm_header.proofs.AnswerLemmas.{OnOk-map}
 use Rattle.hm_pages.specs.Store.{Store}
-use Rattle.hm_model.specs.After.{Event, after}
+use Rattle.hm_model.specs.After.{Event}
 use Rattle.hm_model.specs.Foreign.{Foreigners}
 use Rattle.hm_model.specs.Legal.{entries_of}
 use Rattle.hm_model.specs.Volume.{Volume}
@@ -27,8 +27,9 @@ use Rattle.hm_state.specs.Volume.{HoldsVolume}
 use Rattle.hm_stored.specs.Held.{AreOfVolume}
 use Rattle.hm_state.proofs.ChangedLemmas.{changed_stands}
 use Rattle.hm_state.proofs.InPlaceLemmas.{written_in_place}
-use Rattle.hm_core.specs.Core.{StandsOver, volume_after}
+use Rattle.hm_core.specs.Core.{StandsOver}
 use Rattle.hm_core.specs.Finished.{HasNextHeader, IsFinished, LeavesVolume, next_header}
+use Rattle.hm_core.specs.History.{volume_of}
 use Rattle.hm_core.specs.State.{CoreState}
 use Rattle.hm_core.specs.WrittenBack.{Freezes, WritesBack}
 use Rattle.hm_core.proofs.CausedLemmas.{caused_later}
@@ -60,16 +61,16 @@ module _ {D I O : Type 0} (core : CoreState D I O) where
 
   -- a run in which nothing was done
   module _ (none : core.history ≡ []) where
-    left_alone : (opening : Volume) (foreigners : Foreigners) (stands : StandsOver core opening foreigners) (t : Told) → StandsFor t.bytes opening
-        → StandsFor t.bytes (volume_after stands)
-    left_alone opening foreigners stands t is =
-        let events = no_events stands.legal.events (stands.legal.entries ∙ none) in
-        subst (λ (v : Volume). StandsFor t.bytes v) (ap (λ (es : List Event). (after opening foreigners es).volume) (sym events)) is
+    left_alone : (opening : Volume) (foreigners : Foreigners) (events : List Event) → StandsOver core opening foreigners events → (t : Told)
+        → StandsFor t.bytes opening → StandsFor t.bytes (volume_of opening foreigners events)
+    left_alone opening foreigners events stands t is =
+        let no_event = no_events events (stands.legal.entries ∙ none) in
+        subst (λ (v : Volume). StandsFor t.bytes v) (ap (λ (es : List Event). volume_of opening foreigners es) (sym no_event)) is
 
     by_disk : (told : Option Told) → h.disk ≡ told → IfSome told (λ t. LeavesVolume core t.bytes)
     by_disk None is = tt
-    by_disk (Some t) is = λ opening foreigners stands.
-        left_alone opening foreigners stands t
+    by_disk (Some t) is = λ opening foreigners events stands.
+        left_alone opening foreigners events stands t
         (subst (λ (o : Option Told). IfSome o (λ u. StandsFor u.bytes opening)) is (stands.untouched none))
 
     pub untouched_finished : (faults : ℕ) → faults ≡ core.faults → IsFinished core h.disk faults (Ok tt)
@@ -84,8 +85,8 @@ module _ {D I O : Type 0} (core : CoreState D I O) where
 
   -- a run in which something was done
   module _ (only : AreOfVolume h) (size : core.header.bigblocks ≡ h.bigblocks) (header_is : IsHeader core.header) where
-    module _ (opening : Volume) (foreigners : Foreigners) (stands : StandsOver core opening foreigners) where
-      holds : HoldsVolume h core.root core.last (volume_after stands)
+    module _ (opening : Volume) (foreigners : Foreigners) (events : List Event) (stands : StandsOver core opening foreigners events) where
+      holds : HoldsVolume h core.root core.last (volume_of opening foreigners events)
       holds = stands.legal.held.holds
 
       firm_by : (told : Option Told) (es : List FullElement) → IsSomeAnd told (λ t. HoldsBy h core.root t.bytes es) → IsFirm (basis_now h core.root)
@@ -107,18 +108,18 @@ module _ {D I O : Type 0} (core : CoreState D I O) where
 
       new_stands : (f : Store) (s t : Told) → Freezes next h.pages f → h.disk ≡ Some s
           → ((at : ℕ) (page : List ℕ) → h.pages.current at ≡ Some page → AreBytes page)
-          → WritesBack f next (1 - core.slot) s t → StandsFor t.bytes (volume_after stands)
+          → WritesBack f next (1 - core.slot) s t → StandsFor t.bytes (volume_of opening foreigners events)
       new_stands f s t freezes is bytes wrote =
           let room : start_of h.bigblocks ≤ length s.bytes =
           omega (arith, size, wrote.changes.header_is.room, wrote.changes.others.size, wrote.puts.others.size) in
           let written = written_in_place h core.root f (has_frozen f freezes) s wrote.between is room stands.backed wrote.puts bytes in
-          changed_stands h core.root core.last (volume_after stands) next core.slot wrote.between t holds only written
+          changed_stands h core.root core.last (volume_of opening foreigners events) next core.slot wrote.between t holds only written
           (record { bigblocks = size; append = refl; root_is = refl; last_is = refl }) wrote.changes
 
     leaves_volume : (f : Store) (s t : Told) → Freezes next h.pages f
         → ((at : ℕ) (page : List ℕ) → h.pages.current at ≡ Some page → AreBytes page)
         → h.disk ≡ Some s → WritesBack f next (1 - core.slot) s t → LeavesVolume core t.bytes
-    leaves_volume f s t freezes bytes is wrote opening foreigners stands = new_stands opening foreigners stands f s t freezes is bytes wrote
+    leaves_volume f s t freezes bytes is wrote opening foreigners events stands = new_stands opening foreigners events stands f s t freezes is bytes wrote
 
     -- so ends a core whose pages were written back
     pub written_finished : (f : Store) (told : Option Told) (faults : ℕ) (result : Result (Unit {0}) Fault) → core.history ≢ []

@@ -10,6 +10,7 @@ pub mod ReplyLemmas
 pub mod FloorLemmas
 pub mod StateLemmas
 pub mod CallLemmas
+pub mod CoreLemmas
 pub mod SpaceLemmas
 pub mod CausedLemmas
 pub mod FaultLemmas

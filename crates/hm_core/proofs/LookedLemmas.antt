@@ -7,6 +7,7 @@ use Rattle.hm_disk.specs.Crash.{Told}
 use Rattle.hm_fields.specs.Pages.{PageMap}
 use Rattle.hm_pages.specs.Store.{Frame as PagesFrame}
 use Rattle.hm_freemap.specs.Stand.{Maps, free_by, is_handed_out, room_in}
+use Rattle.hm_model.specs.After.{Event}
 use Rattle.hm_model.specs.Foreign.{Foreigners}
 use Rattle.hm_model.specs.Legal.{state_after}
 use Rattle.hm_model.specs.Volume.{Volume}
@@ -67,14 +68,14 @@ module _ (old new : Heap) (looks : LooksSame old new) where
   }
 
   pub looked_legal : (free start faults : ℕ) (history : List Entry) (root last : ℕ) (opening : Volume) (foreigners : Foreigners)
-      → IsLegalOver free start faults history old root last opening foreigners → IsLegalOver free start faults history new root last opening foreigners
-  looked_legal free start faults history root last opening foreigners is = record {
-    events = is.events;
+      (events : List Event) → IsLegalOver free start faults history old root last opening foreigners events
+      → IsLegalOver free start faults history new root last opening foreigners events
+  looked_legal free start faults history root last opening foreigners events is = record {
     entries = is.entries;
     legal = is.legal;
     counted = is.counted;
     held = record {
-      holds = looked_held root last (state_after (setting_of free start faults opening foreigners) is.events).volume is.held.holds;
+      holds = looked_held root last (state_after (setting_of free start faults opening foreigners) events).volume is.held.holds;
       opened = is.held.opened;
     };
   }

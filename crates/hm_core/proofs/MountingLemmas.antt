@@ -175,7 +175,7 @@ module _ {D I O : Type 0} (core : CoreState D I O) (new : core.history ≡ []) (
     (last : core.last ≡ core.header.last.0) (start : core.start ≡ core.faults) where
   stands_over : (told : Option Told) → core.heap.disk ≡ told → IfSome told (BacksWhatStands core.heap) → IfSome told (HoldsWhatStands core.heap core.header)
       → IfSome told (λ t. (opening : Volume) (foreigners : Foreigners) → StandsFor t.bytes opening
-      → StandsOver core opening foreigners)
+      → StandsOver core opening foreigners [])
   stands_over None disk backed holds = tt
   stands_over (Some t) disk backed holds = λ opening foreigners stands.
       let held : HoldsVolume core.heap core.root core.last opening =
@@ -183,7 +183,7 @@ module _ {D I O : Type 0} (core : CoreState D I O) (new : core.history ≡ []) (
       (subst (λ (n : ℕ). HoldsVolume core.heap core.header.root n opening) (sym last) (holds opening stands)) in
       record {
         legal = subst
-            (λ (l : List Entry). IsLegalOver core.free core.start core.faults l core.heap core.root core.last opening foreigners)
+            (λ (l : List Entry). IsLegalOver core.free core.start core.faults l core.heap core.root core.last opening foreigners [])
             (sym new)
             (first core.free core.start core.faults core.heap core.root core.last opening foreigners (omega (arith, start)) held);
         backed = backed opening stands;

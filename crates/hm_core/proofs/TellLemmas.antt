@@ -12,6 +12,7 @@ use Rattle.hm_types.specs.declared.limits.TheConstants.{GREATEST_ID}
 use Rattle.hm_freemap.specs.Faults.{IsFreemapDamage}
 use Rattle.hm_freemap.specs.Stand.{free_by, is_free_by}
 use Rattle.hm_freemap.proofs.GoodLemmas.{good_block}
+use Rattle.hm_model.specs.After.{Event}
 use Rattle.hm_model.specs.Foreign.{Foreigners}
 use Rattle.hm_model.specs.Needs.{floor}
 use Rattle.hm_model.specs.Volume.{Volume}
@@ -24,7 +25,7 @@ use Rattle.hm_stored.specs.Heap.{Heap, content_of, free_of, maps_of, room_of}
 use Rattle.hm_stored.specs.Standing.{basis_now}
 use Rattle.hm_stored.specs.Turn.{IsClosed, LooksSame}
 use Rattle.hm_core.specs.Answer.{Answers, KeepsCommitted}
-use Rattle.hm_core.specs.History.{IsLegalOver}
+use Rattle.hm_core.specs.History.{IsLegalBeyond, IsLegalOver}
 use Rattle.hm_core.specs.Ledger.{IsPaid}
 use Rattle.hm_core.specs.Told.{reply_to}
 use Rattle.hm_core.proofs.AnswerLemmas.{fault_silent}
@@ -83,12 +84,14 @@ module _ (old new : Heap) (root root' faults faults' : ℕ) (closed : IsClosed o
 
   module _ (last : ℕ) (left : last < GREATEST_ID) where
     -- what was legal before the look is so after it
-    there : (first start : ℕ) (history : List Entry) (opening : Volume) (foreigners : Foreigners)
-        → IsLegalOver first start faults' history old root (last + 1) opening foreigners
-        → IsLegalOver first start faults' history new root' (last + 1) opening foreigners
-    there first start history opening foreigners legal =
-        subst (λ (r : ℕ). IsLegalOver first start faults' history new r (last + 1) opening foreigners) (sym stays)
-        (looked_legal old new looks first start faults' history root (last + 1) opening foreigners legal)
+    there : (first start : ℕ) (history : List Entry) (opening : Volume) (foreigners : Foreigners) (events : List Event)
+        → IsLegalBeyond first start faults' history old root (last + 1) opening foreigners events
+        → IsLegalBeyond first start faults' history new root' (last + 1) opening foreigners events
+    there first start history opening foreigners events (more, legal) = (
+      more,
+      subst (λ (r : ℕ). IsLegalOver first start faults' history new r (last + 1) opening foreigners (events ++ more)) (sym stays)
+          (looked_legal old new looks first start faults' history root (last + 1) opening foreigners (events ++ more) legal),
+    )
 
     pub told_answers : (space free : ℕ) → space ≡ old.bigblocks - first_pool old.bigblocks → free ≡ free_of old
         → Answers faults faults' last Df old new root root' (Space space free)
@@ -105,8 +108,8 @@ module _ (old new : Heap) (root root' faults faults' : ℕ) (closed : IsClosed o
         backed = λ held. backed_same old new (looked_committed old new looks);
       };
       paid = paid_same;
-      legal = λ first start history opening foreigners entry enough of so_far.
-          there first start (history ++ entry ∷ []) opening foreigners (space_told first start faults faults' history old root last opening foreigners so_far counted left entry of.call_is of.own
+      legal = λ first start history opening foreigners events entry enough of so_far.
+          there first start (history ++ entry ∷ []) opening foreigners events (space_told first start faults faults' history old root last opening foreigners events so_far counted left entry of.call_is of.own
           (space, free, of.reply_is, pool_is, omega (arith, is, enough), omega (arith, is, pool_is, free_most)));
     }
 
@@ -126,8 +129,8 @@ module _ (old new : Heap) (root root' faults faults' : ℕ) (closed : IsClosed o
         backed = λ held. backed_same old new (looked_committed old new looks);
       };
       paid = paid_same;
-      legal = λ first start history opening foreigners entry enough of so_far.
+      legal = λ first start history opening foreigners events entry enough of so_far.
           let firm = held_firm old root so_far.held.holds.elements.0 so_far.held.holds.elements.1 in
-          there first start (history ++ entry ∷ []) opening foreigners (space_refused first start faults faults' history old root last opening foreigners so_far counted left entry of.call_is of.own
+          there first start (history ++ entry ∷ []) opening foreigners events (space_refused first start faults faults' history old root last opening foreigners events so_far counted left entry of.call_is of.own
           (of.reply_is ∙ memory_alone fault bad caused firm));
     }

@@ -2,6 +2,7 @@
 use Rattle.std.specs.Prelude.{◌≡◌, ℕ, ◌+◌, ◌≤◌, IfSome, List, [], ◌∷◌, ◌++◌, None}
 use Rattle.hm_header.specs.OnDisk.{HasHeader}
 use Rattle.hm_header.specs.declared.header.Header.{Header}
+use Rattle.hm_model.specs.After.{Event}
 use Rattle.hm_model.specs.Foreign.{Foreigners}
 use Rattle.hm_model.specs.Needs.{floor}
 use Rattle.hm_model.specs.Reply.{told_boundary}
@@ -14,7 +15,7 @@ use Rattle.hm_stored.specs.Turn.{IsClosed}
 use Rattle.hm_state.specs.Backed.{IsBacked}
 use Rattle.hm_state.specs.Volume.{HoldsVolume}
 use Rattle.hm_core.specs.Caused.{IsCausedFrom}
-use Rattle.hm_core.specs.History.{IsLegalOver}
+use Rattle.hm_core.specs.History.{IsLegalBeyond, IsLegalOver}
 use Rattle.hm_core.specs.Ledger.{IsPaid}
 
 -- the entry of a call with this reply, by the id after the last one
@@ -33,7 +34,7 @@ pub record KeepsCommitted (Told : Type 0) (h h' : Heap) : Type 0 where
 
 -- A call was answered so, over which the count of faults went from one to another. The reply tells no boundary, no call is open, the big-blocks that
 -- were begun are paid for, what was committed is still there, and each history that was legal goes on legally with the
--- entry of the call. Whatever the space holds, the reply has its cause.
+-- entry of the call, and keeps the events of those before it. Whatever the space holds, the reply has its cause.
 pub record Answers (faults faults' last : ℕ) (command : Command) (h h' : Heap) (root root' : ℕ) (reply : Reply) : Type 0 where
   pub closed : IsClosed h'
   pub counted : faults ≤ faults'
@@ -42,7 +43,7 @@ pub record Answers (faults faults' last : ℕ) (command : Command) (h h' : Heap)
   pub paid : (first calls : ℕ) → IsPaid first (free_of h) calls (room_of h) → IsPaid first (free_of h') (calls + 1) (room_of h')
   pub caused : (first start : ℕ) (history : List Entry) (entry : Entry) → IsEntryOf last command reply entry
       → IsCausedFrom first start faults last history → IsCausedFrom first start faults' (last + 1) (history ++ entry ∷ [])
-  pub legal : (free start : ℕ) (history : List Entry) (opening : Volume) (foreigners : Foreigners) (entry : Entry)
+  pub legal : (free start : ℕ) (history : List Entry) (opening : Volume) (foreigners : Foreigners) (events : List Event) (entry : Entry)
       → floor free history ≤ free_of h → IsEntryOf last command reply entry
-      → IsLegalOver free start faults history h root last opening foreigners
-      → IsLegalOver free start faults' (history ++ entry ∷ []) h' root' (last + 1) opening foreigners
+      → IsLegalOver free start faults history h root last opening foreigners events
+      → IsLegalBeyond free start faults' (history ++ entry ∷ []) h' root' (last + 1) opening foreigners events

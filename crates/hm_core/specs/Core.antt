@@ -1,7 +1,7 @@
 -- What the calls of a core do.
-use Rattle.std.specs.Prelude.{◌≡◌, ℕ, ◌+◌, ◌<◌, ◌≤◌, [], ◌∷◌, ◌++◌, IfSome, None, length}
+use Rattle.std.specs.Prelude.{◌≡◌, ℕ, ◌+◌, ◌<◌, ◌≤◌, List, [], ◌∷◌, ◌++◌, IfSome, None, length}
 use Rattle.hm_types.specs.declared.limits.TheConstants.{GREATEST_ID}
-use Rattle.hm_model.specs.After.{after}
+use Rattle.hm_model.specs.After.{Event}
 use Rattle.hm_model.specs.Foreign.{Foreigners}
 use Rattle.hm_model.specs.Reply.{told_boundary}
 use Rattle.hm_model.specs.Volume.{Volume}
@@ -16,21 +16,19 @@ use Rattle.hm_core.specs.declared.step.Step.{Step}
 use Rattle.hm_core.specs.declared.step.Step.TheVariants.{Answered, Spent}
 
 module _ {D I O : Type 0} where
-  -- A core stands for the volume on which its run began: its history is legal over it, and its space holds the volume after
-  -- that history. Its disk has all that was committed last, and as long as nothing was done it stands for that volume.
-  pub record StandsOver (core : CoreState D I O) (opening : Volume) (foreigners : Foreigners) : Type 0 where
-    pub legal : IsLegalOver core.free core.start core.faults core.history core.heap core.root core.last opening foreigners
+  -- A core stands for the volume on which its run began, by these events: its history is that of them, and is legal over it,
+  -- and its space holds the volume after them. Its disk has all that was committed last, and as long as nothing was done it
+  -- stands for that volume.
+  pub record StandsOver (core : CoreState D I O) (opening : Volume) (foreigners : Foreigners) (events : List Event) : Type 0 where
+    pub legal : IsLegalOver core.free core.start core.faults core.history core.heap core.root core.last opening foreigners events
     pub backed : IsBacked core.heap
     pub untouched : core.history ≡ [] → IfSome core.heap.disk (λ t. StandsFor t.bytes opening)
 
-  -- the volume after its history
-  abbrev pub volume_after : {core : CoreState D I O} {opening : Volume} {foreigners : Foreigners}
-      → StandsOver core opening foreigners → Volume
-  volume_after {opening = opening} {foreigners = foreigners} stands = (after opening foreigners stands.legal.events).volume
-
-  -- for each volume on which the run may have begun, it stands for it still
+  -- For each volume on which the run may have begun, it stands for it still, by the events of before and more: what it had
+  -- answered by then was right over the same trees.
   abbrev pub GoesOn : CoreState D I O → CoreState D I O → Type 0
-  GoesOn old new = (opening : Volume) (foreigners : Foreigners) → StandsOver old opening foreigners → StandsOver new opening foreigners
+  GoesOn old new = (opening : Volume) (foreigners : Foreigners) (events : List Event) → StandsOver old opening foreigners events
+      → (more : List Event) × StandsOver new opening foreigners (events ++ more)
 
   -- each reply of its history has its cause, from the last id of the header on which it was mounted and the count of faults then
   abbrev pub IsCausedRun : CoreState D I O → Type 0

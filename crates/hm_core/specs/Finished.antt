@@ -7,10 +7,12 @@ use Rattle.hm_disk.specs.Crash.{Told}
 use Rattle.hm_header.specs.OnDisk.{HasHeader}
 use Rattle.hm_header.specs.declared.header.Header.{Header}
 use Rattle.hm_image.specs.Stands.{StandsFor}
+use Rattle.hm_model.specs.After.{Event}
 use Rattle.hm_model.specs.Foreign.{Foreigners}
 use Rattle.hm_model.specs.Volume.{Volume}
 use Rattle.hm_core.specs.Caused.{IsCausedFrom}
-use Rattle.hm_core.specs.Core.{IsCausedRun, StandsOver, volume_after}
+use Rattle.hm_core.specs.Core.{IsCausedRun, StandsOver}
+use Rattle.hm_core.specs.History.{volume_of}
 use Rattle.hm_core.specs.State.{CoreState}
 
 module _ {D I O : Type 0} where
@@ -25,8 +27,8 @@ module _ {D I O : Type 0} where
 
   -- whatever volume the run began on, the bytes stand for the volume after the history
   abbrev pub LeavesVolume : CoreState D I O → List ℕ → Type 0
-  LeavesVolume core bytes = (opening : Volume) (foreigners : Foreigners) (stands : StandsOver core opening foreigners)
-      → StandsFor bytes (volume_after stands)
+  LeavesVolume core bytes = (opening : Volume) (foreigners : Foreigners) (events : List Event) → StandsOver core opening foreigners events
+      → StandsFor bytes (volume_of opening foreigners events)
 
   -- the next header counts, in the other slot, and nothing is unsettled
   pub record HasNextHeader (core : CoreState D I O) (t : Told) : Type 0 where

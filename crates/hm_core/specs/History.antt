@@ -1,6 +1,6 @@
 -- A history over the volume on which it began, and the space that has come of it.
-use Rattle.std.specs.Prelude.{◌≡◌, ℕ, ◌≤◌, List, []}
-use Rattle.hm_model.specs.After.{Event, State}
+use Rattle.std.specs.Prelude.{◌≡◌, ℕ, ◌≤◌, List, [], ◌++◌}
+use Rattle.hm_model.specs.After.{Event, State, after}
 use Rattle.hm_model.specs.Caused.{Counts, known_after, known_at}
 use Rattle.hm_model.specs.Foreign.{Foreigners}
 use Rattle.hm_model.specs.Legal.{IsLegal, Setting, entries_of, state_after}
@@ -29,12 +29,21 @@ pub record HoldsState (h : Heap) (root last : ℕ) (state : State) : Type 0 wher
   pub holds : HoldsVolume h root last state.volume
   pub opened : state.opened ≡ []
 
--- The entries of a history are those of events that are legal over an opening volume, with no more faults told than were
--- counted, and a space holds the state after them.
+-- the volume that an opening one has become by these events
+abbrev pub volume_of : Volume → Foreigners → List Event → Volume
+volume_of opening foreigners events = (after opening foreigners events).volume
+
+-- The entries of a history are those of these events, which are legal over an opening volume, with no more faults told than
+-- were counted, and a space holds the state after them. The events say which trees each entry saw of a pseudo file system
+-- whose trees are not certain.
 pub record IsLegalOver (free start faults : ℕ) (history : List Entry) (h : Heap) (root last : ℕ) (opening : Volume)
-    (foreigners : Foreigners) : Type 0 where
-  pub events : List Event
+    (foreigners : Foreigners) (events : List Event) : Type 0 where
   pub entries : entries_of events ≡ history
   pub legal : IsLegal (setting_of free start faults opening foreigners) events
   pub counted : (known_after (known_at opening.last (disk_counts start)) events).counts.disk ≤ faults
   pub held : HoldsState h root last (state_after (setting_of free start faults opening foreigners) events)
+
+-- the same over these events and more: what each entry before them saw stays
+abbrev pub IsLegalBeyond : ℕ → ℕ → ℕ → List Entry → Heap → ℕ → ℕ → Volume → Foreigners → List Event → Type 0
+IsLegalBeyond free start faults history h root last opening foreigners events =
+    (more : List Event) × IsLegalOver free start faults history h root last opening foreigners (events ++ more)

@@ -94,5 +94,5 @@ module _ {D I O : Type 0} where
     pub counting : IfSome old (λ t. HasHeader t.bytes core.header core.slot)
     pub whole : IfSome old (λ t. IsWhole t.bytes core.header)
     pub stands : IfSome old (λ t. (opening : Volume) (foreigners : Foreigners) → StandsFor t.bytes opening
-        → StandsOver core opening foreigners)
+        → StandsOver core opening foreigners [])
     pub streams : (core.input ≡ input) × (core.output ≡ output)

@@ -27,7 +27,7 @@ ghost use Rattle.hm_stored.specs.Known.{AreKnown, is_known};
 ghost use Rattle.hm_stored.specs.Standing.{Holds};
 ghost use Rattle.hm_stored.specs.Told.{elements_told};
 ghost use Rattle.hm_core.specs.Calls.{Fails, IsNextCall, Serves};
-ghost use Rattle.hm_core.specs.History.{IsLegalOver, setting_of};
+ghost use Rattle.hm_core.specs.History.{IsLegalBeyond, IsLegalOver, setting_of};
 ghost use Rattle.hm_core.specs.Ledger.{IsPaid};
 ghost use Rattle.hm_core.specs.Told.{ArePages, HoldsSame, HoldsTold, OpensStore, TellsFailure, TellsHeld, TellsSpace, reply_to};
 ghost use Rattle.hm_state.specs.Volume.{HoldsVolume};
@@ -39,41 +39,44 @@ use hm_key::{ElementStore, Extents};
 pub fn a_core_begins_with_no_history()
     ensures { (free start faults : ℕ) (h : Heap) (root last : ℕ) (opening : Volume)
         (foreigners : Foreigners) → start ≤ faults → HoldsVolume h root last opening →
-        IsLegalOver free start faults [] h root last opening foreigners }
+        IsLegalOver free start faults [] h root last opening foreigners [] }
 {}
 
-/// A call that was served: where a history is legal over an opening volume, and the space holds the
-/// volume after it, a call that a store over the space served goes on with it legally, and the space
-/// that came of it holds the volume after that call. The store knows nothing of the volume.
+/// A call that was served: where a history is legal over an opening volume by some events, and the space
+/// holds the volume after them, a call that a store over the space served goes on with it legally, by
+/// these events and more, and the space that came of it holds the volume after that call. The store knows
+/// nothing of the volume.
 pub fn a_served_call_goes_on<T: ElementStore + Extents>()
     ensures { (free start faults faults' : ℕ) (history : List Entry) (h h' : Heap)
-        (root root' last : ℕ) (opening : Volume) (foreigners : Foreigners) (entry : Entry)
-        (old new : T) →
-        IsLegalOver free start faults history h root last opening foreigners →
+        (root root' last : ℕ) (opening : Volume) (foreigners : Foreigners) (events : List Event)
+        (entry : Entry) (old new : T) →
+        IsLegalOver free start faults history h root last opening foreigners events →
         faults ≤ faults' → IsNextCall last entry →
         Serves T.elements T.extents T.free (floor free history) last entry old new h h' root root' →
-        IsLegalOver free start faults' (history ++ entry ∷ []) h' root' (last + 1) opening foreigners }
+        IsLegalBeyond free start faults' (history ++ entry ∷ []) h' root' (last + 1) opening foreigners events }
 {}
 
 /// A call that failed: the same, where the device failed or memory was refused, and the space that
 /// came of it holds what the one before held.
 pub fn a_failed_call_goes_on()
     ensures { (free start faults faults' : ℕ) (history : List Entry) (h h' : Heap)
-        (root root' last : ℕ) (opening : Volume) (foreigners : Foreigners) (entry : Entry) →
-        IsLegalOver free start faults history h root last opening foreigners →
+        (root root' last : ℕ) (opening : Volume) (foreigners : Foreigners) (events : List Event)
+        (entry : Entry) →
+        IsLegalOver free start faults history h root last opening foreigners events →
         faults ≤ faults' → IsNextCall last entry → Fails faults faults' entry h h' root root' →
-        IsLegalOver free start faults' (history ++ entry ∷ []) h' root' (last + 1) opening foreigners }
+        IsLegalBeyond free start faults' (history ++ entry ∷ []) h' root' (last + 1) opening foreigners events }
 {}
 
 /// A call `df` that tells the pool of the space, and a number of free big-blocks that is not below the
 /// least: the same, and the space stays.
 pub fn a_call_that_tells_space_goes_on()
     ensures { (free start faults faults' : ℕ) (history : List Entry) (h : Heap)
-        (root last : ℕ) (opening : Volume) (foreigners : Foreigners) (entry : Entry) →
-        IsLegalOver free start faults history h root last opening foreigners →
+        (root last : ℕ) (opening : Volume) (foreigners : Foreigners) (events : List Event)
+        (entry : Entry) →
+        IsLegalOver free start faults history h root last opening foreigners events →
         faults ≤ faults' → last < GREATEST_ID → entry.call ≡ Df → entry.id.0 ≡ last + 1 →
         TellsSpace free history h entry.reply →
-        IsLegalOver free start faults' (history ++ entry ∷ []) h root (last + 1) opening foreigners }
+        IsLegalBeyond free start faults' (history ++ entry ∷ []) h root (last + 1) opening foreigners events }
 {}
 
 /// A fault of a call over a store that tells what a space holds is one of the device or of memory,

@@ -1,5 +1,5 @@
 -- From the lines that were served on an open volume to the run of a script's lines on a disk.
-use Rattle.std.proofs.Common.{ℕ, ◌≤◌, List, ◌++◌, take, refl, sym, ◌∙◌, ap, append_assoc, arith, subst, inl, inr}
+use Rattle.std.proofs.Common.{ℕ, ◌≤◌, List, [], ◌++◌, take, refl, sym, ◌∙◌, ap, append_assoc, arith, subst, inl, inr}
 use Rattle.std.specs.Prelude.{All, Contains, Err, IfErr, IfSome, IsSomeAnd, None, Ok, OnOk, Option, Result, Some}
 use Rattle.std.proofs.lemmas.List.Elements.{All-contains, Contains-append_left}
 use Rattle.hm_types.specs.Told.{BothTell}
@@ -10,11 +10,12 @@ use Rattle.hm_header.specs.OnDisk.{HasHeader}
 use Rattle.hm_header.specs.declared.header.Header.{Header}
 use Rattle.hm_image.specs.Stands.{StandsFor}
 use Rattle.hm_model.specs.declared.line.Line.{Line}
-use Rattle.hm_model.specs.After.{after}
+use Rattle.hm_model.specs.After.{Event}
 use Rattle.hm_model.specs.Foreign.{Foreigners, no_foreigners}
 use Rattle.hm_model.specs.Volume.{Volume}
 use Rattle.hm_core.specs.Core.{StandsOver}
 use Rattle.hm_core.specs.Finished.{IsFinished, LeavesVolume as CoreLeaves}
+use Rattle.hm_core.specs.History.{volume_of}
 use Rattle.hm_core.specs.Mounting.{CountsFree}
 use Rattle.hm_core.specs.Opened.{IsMounted}
 use Rattle.hm_core.specs.State.{CoreState}
@@ -96,13 +97,16 @@ module _ {D I O : Type 0} where
       }
 
     -- it stands for each volume that the disk stood for
-    stands_now : OverEach begun.heap.disk (StandsOver core)
-    stands_now = subst (λ (o : Option Told). OverEach o (StandsOver core)) (sym mounted.told)
-        (each_told told _ _ (λ t stands opening foreigners is. from.goes_on opening foreigners (stands opening foreigners is)) mounted.stands)
+    abbrev StandsBySome : Volume → Foreigners → Type 0
+    StandsBySome opening foreigners = (events : List Event) × StandsOver core opening foreigners events
 
-    has_history : (opening : Volume) (foreigners : Foreigners) → StandsOver core opening foreigners → HasHistory (ran_of core) opening foreigners
-    has_history opening foreigners stands = record {
-      events = stands.legal.events;
+    stands_now : OverEach begun.heap.disk StandsBySome
+    stands_now = subst (λ (o : Option Told). OverEach o StandsBySome) (sym mounted.told)
+        (each_told told _ _ (λ t stands opening foreigners is. from.goes_on opening foreigners [] (stands opening foreigners is)) mounted.stands)
+
+    has_history : (opening : Volume) (foreigners : Foreigners) → StandsBySome opening foreigners → HasHistory (ran_of core) opening foreigners
+    has_history opening foreigners (events, stands) = record {
+      events = events;
       entries = stands.legal.entries;
       legal = stands.legal.legal;
       last = sym stands.legal.held.holds.last_is;
@@ -113,18 +117,18 @@ module _ {D I O : Type 0} where
         stands_now
 
     module _ (disk : Seen Told) (done : Unit {0}) (finished : IsFinished core disk.told disk.faults (Ok done)) where
-      leaves : (opening : Volume) (foreigners : Foreigners) → StandsOver core opening foreigners → LeavesVolume (ran_of core) disk.told opening foreigners
+      leaves : (opening : Volume) (foreigners : Foreigners) → StandsBySome opening foreigners → LeavesVolume (ran_of core) disk.told opening foreigners
       unfolding has_history
-      leaves opening foreigners stands = record {
-        has = has_history opening foreigners stands;
+      leaves opening foreigners (events, stands) = record {
+        has = has_history opening foreigners (events, stands);
         stands = told_after core.heap.disk disk.told _ _ stands.legal.held.holds.elements.1 (both_leave core.heap.disk disk.told finished.volume);
       } where
         both_leave : (a b : Option Told) → BothTell a b (λ s t. CoreLeaves core t.bytes)
-            → BothTell a b (λ s t. StandsFor t.bytes (after opening foreigners stands.legal.events).volume)
+            → BothTell a b (λ s t. StandsFor t.bytes (volume_of opening foreigners events))
         both_leave None None both = tt
         both_leave None (Some t) both = absurd both
         both_leave (Some s) None both = absurd both
-        both_leave (Some s) (Some t) both = both opening foreigners stands
+        both_leave (Some s) (Some t) both = both opening foreigners events stands
 
       is_kept : IsKept begun.heap.disk disk.told (ran_of core)
       is_kept = record {

@@ -12,6 +12,7 @@ use Rattle.hm_model.specs.Out.{IsOf, entry_words, printed_line, spent_words}
 use Rattle.hm_core.specs.Core.{Enters, KeepsRest, Steps}
 use Rattle.hm_core.specs.State.{CoreState}
 use Rattle.hm_core.specs.declared.step.Step.TheVariants.{Answered, Spent}
+use Rattle.hm_core.proofs.CoreLemmas.{goes_on_further, goes_on_still}
 use Rattle.hm_shell.specs.declared.stop.Stop.{Stop}
 use Rattle.hm_shell.specs.declared.stop.Stop.TheVariants.{Usage, NotVolume, BadField, DiskFault, Damaged, ScriptFault, OutFault, NoMemory, BadLine, TooLong}
 use Rattle.hm_shell.specs.Alone.{Answers, IsAlone, line_text, out_text}
@@ -93,7 +94,7 @@ module _ {D I O : Type 0} where
     rest = KeepsRest-none core;
     never_falls = omega arith;
     caused = λ run. run;
-    goes_on = λ opening foreigners stands. stands;
+    goes_on = goes_on_still core core (λ opening foreigners events stands. stands);
     idle = λ none. refl;
   }
 
@@ -103,7 +104,8 @@ module _ {D I O : Type 0} where
     rest = record { header = refl; slot = refl; free = refl; start = refl; input = refl; output = refl };
     never_falls = omega arith;
     caused = λ run. run;
-    goes_on = λ opening foreigners stands. record { legal = stands.legal; backed = stands.backed; untouched = stands.untouched };
+    goes_on = goes_on_still core (record core { spare = spare })
+        (λ opening foreigners events stands. record { legal = stands.legal; backed = stands.backed; untouched = stands.untouched });
     idle = λ none. refl;
   }
 
@@ -113,7 +115,7 @@ module _ {D I O : Type 0} where
     rest = KeepsRest-more a b c so_far.rest enters.rest;
     never_falls = (let first = so_far.never_falls in let second = enters.never_falls in omega (arith, first, second));
     caused = λ run. enters.caused (so_far.caused run);
-    goes_on = λ opening foreigners stands. enters.goes_on opening foreigners (so_far.goes_on opening foreigners stands);
+    goes_on = goes_on_further a b c so_far.goes_on enters.goes_on;
     idle = λ none. absurd (not_empty b.history enters.entry (sym enters.history ∙ none));
   }
 
@@ -287,7 +289,7 @@ module _ {D I O : Type 0} where
     };
     never_falls = from.never_falls;
     caused = from.caused;
-    goes_on = λ opening foreigners stands. from.goes_on opening foreigners ((GoesFrom-reserved a spare).goes_on opening foreigners stands);
+    goes_on = goes_on_further a (record a { spare = spare }) c (GoesFrom-reserved a spare).goes_on from.goes_on;
     idle = from.idle;
   }
 

@@ -1,5 +1,5 @@
 -- A call is answered and entered.
-use Rattle.std.proofs.Common.{List, ◌+◌, refl, sym, subst, ◌∙◌, arith}
+use Rattle.std.proofs.Common.{List, ◌+◌, ◌++◌, refl, sym, subst, ◌∙◌, arith}
 use Rattle.std.proofs.Math.Logic.{∥∥₁_elim, ∥∥₁_map}
 use Rattle.std.proofs.Props.{props}
 use Rattle.hm_model.specs.declared.entry.Entry.{Entry}
@@ -51,15 +51,21 @@ returns g c =
               subst (λ (l : List Entry). IsCausedFrom s.header.last.0 s.start (g.D.Disk.faults t.space.disk) (s.last.0 + 1) l)
               (sym c.push_reserved.ensures.items)
               (answers.caused s.header.last.0 s.start s.history.items entry (record { call_is = refl; reply_is = refl; own = refl }) so_far);
-          goes_on = λ opening foreigners stands. record {
-            legal = subst (λ (l : List Entry). IsLegalOver s.free s.start (g.D.Disk.faults t.space.disk) l h' t.root (s.last.0 + 1) opening foreigners)
-                (sym c.push_reserved.ensures.items)
-                (answers.legal s.free s.start s.history.items opening foreigners entry
-                (least_left s.header s.slot s.last.0 s.free h s.history.items s.ordered)
-                (record { call_is = refl; reply_is = refl; own = refl }) stands.legal);
-            backed = answers.committed.backed (_, stands.legal.held.holds) stands.backed;
-            untouched = λ none. absurd (no_entry s.history.items entry (sym c.push_reserved.ensures.items ∙ none));
-          };
+          goes_on = λ opening foreigners events stands.
+              let next = answers.legal s.free s.start s.history.items opening foreigners events entry
+                  (least_left s.header s.slot s.last.0 s.free h s.history.items s.ordered)
+                  (record { call_is = refl; reply_is = refl; own = refl }) stands.legal in
+              (
+                next.0,
+                record {
+                  legal = subst
+                      (λ (l : List Entry). IsLegalOver s.free s.start (g.D.Disk.faults t.space.disk) l h' t.root (s.last.0 + 1) opening foreigners
+                      (events ++ next.0))
+                      (sym c.push_reserved.ensures.items) next.1;
+                  backed = answers.committed.backed (_, stands.legal.held.holds) stands.backed;
+                  untouched = λ none. absurd (no_entry s.history.items entry (sym c.push_reserved.ensures.items ∙ none));
+                },
+              );
         },
       );
     }
