@@ -21,6 +21,7 @@ use Rattle.hm_calls.specs.Known.{AreKnown, AreOlderOrSlaves}
 use Rattle.hm_calls.specs.Possible.{MayReply}
 use Rattle.hm_calls.specs.Writes.{reserves}
 use Rattle.hm_cursor.specs.Told.{HasReadingCause, Lists, fulls}
+use Rattle.hm_model.specs.Caused.{Counts}
 use Rattle.hm_model.specs.Reply.{told_boundary}
 use Rattle.hm_model.specs.Volume.{Volume}
 use Rattle.hm_model.specs.declared.command.Command.{Command}
@@ -42,11 +43,13 @@ use Rattle.hm_stored.proofs.KnownLemmas.{known_each}
 use Rattle.hm_stored.proofs.OpenedLemmas.{opens_content, told_held}
 use Rattle.hm_core.specs.Answer.{Answers, IsEntryOf, KeepsCommitted}
 use Rattle.hm_core.specs.Calls.{IsNextCall}
+use Rattle.hm_core.specs.Counts.{AreLater, with_disk}
 use Rattle.hm_core.specs.Ledger.{IsPaid, calls_in}
 use Rattle.hm_core.specs.Told.{ArePages, HoldsSame, HoldsTold, TellsFailure, TellsHeld, reply_to}
 use Rattle.hm_core.proofs.CallLemmas.{failed_call, served_call}
 use Rattle.hm_core.proofs.CausedLemmas.{fault_goes_on, reply_goes_on}
 use Rattle.hm_core.proofs.CommittedLemmas.{SameCommitted, backed_same, kept_framed, kept_same}
+use Rattle.hm_core.proofs.CountLemmas.{disk_later}
 use Rattle.hm_core.proofs.FaultLemmas.{no_damage_told}
 use Rattle.hm_core.proofs.LedgerLemmas.{paid_call}
 use Rattle.hm_core.proofs.OpenLemmas.{dropped_holds, held_known, kept_holds, opened_tells}
@@ -209,6 +212,9 @@ module _ {S : Type 0} (heap : S → Heap) (root_of : S → ℕ) (h : Heap) (root
   counted : faults ≤ faults'
   counted = cause.counted.never_falls
 
+  later : (counts : Counts) → AreLater (with_disk counts faults) (with_disk counts faults')
+  later counts = disk_later counts faults faults' counted
+
   tells : (volume : Volume) → HoldsVolume h root last volume → TellsHeld (elements old) (extents old) h root
   tells = tells_begun h (heap old) root (root_of old) last closed kept opens same
 
@@ -268,8 +274,8 @@ module _ {S : Type 0} (heap : S → Heap) (root_of : S → ℕ) (h : Heap) (root
       closed = record { begin = keeps.pages.begin; whole = ap (λ (x : Heap). x.whole) keeps.rest ∙ whole };
       counted = counted;
       silent = no_boundary last None command (words_are_read command).0 reply served (words_are_read command).1 may;
-      caused = λ first start history entry is so_far.
-          reply_goes_on first start faults faults' last history so_far counted entry left is.own (subst IsOnTrees (sym is.call_is) served)
+      caused = λ first start counts history entry is so_far.
+          reply_goes_on first start (with_disk counts faults) (with_disk counts faults') last history so_far (later counts) entry left is.own (subst IsOnTrees (sym is.call_is) served)
           (subst (λ (c : Command). MayReply last None c entry.reply) (sym is.call_is)
           (subst (λ (r : Reply). MayReply last None command r) (sym is.reply_is) may));
       committed = committed_end (record {
@@ -286,9 +292,9 @@ module _ {S : Type 0} (heap : S → Heap) (root_of : S → ℕ) (h : Heap) (root
           (room_same (heap new) h' (ap (λ (x : Heap). x.whole) keeps.rest) (ap (λ (x : Heap). x.append) keeps.rest) keeps.pages.current)
           (paid_call room free first calls (reserves_for command) old new (reserves_most command) charges
           (paid_as h (heap old) first calls free_old room_old paid));
-      legal = λ first start history opening foreigners events entry least is so_far.
-          served_call first start faults faults' history h root last opening foreigners events so_far counted entry (is_next entry is) elements extents free old new
-          h' root' (record {
+      legal = λ first start counts history opening foreigners events entry least is so_far.
+          served_call first start (with_disk counts faults) (with_disk counts faults') history h root last opening foreigners events so_far (later counts) entry
+          (is_next entry is) elements extents free old new h' root' (record {
             told = tells _ so_far.held.holds;
             found = omega (arith, least, free_old);
             step = subst (λ (r : Reply). IsStep elements extents free (record { command = entry.call; last = last; busy = None }) old new r) (sym is.reply_is)
@@ -326,8 +332,8 @@ module _ {S : Type 0} (heap : S → Heap) (root_of : S → ℕ) (h : Heap) (root
       closed = record { begin = drops.pages.begin; whole = ap (λ (x : Heap). x.whole) drops.rest };
       counted = counted;
       silent = ap told_boundary tells_fault ∙ fault_silent fault;
-      caused = λ first start history entry is so_far.
-          fault_goes_on first start faults faults' last history so_far counted entry left is.own (subst IsOnTrees (sym is.call_is) served) fault
+      caused = λ first start counts history entry is so_far.
+          fault_goes_on first start (with_disk counts faults) (with_disk counts faults') last history so_far (later counts) entry left is.own (subst IsOnTrees (sym is.call_is) served) fault
           (is.reply_is ∙ tells_fault) fault_is;
       committed = committed_end (record {
         bigblocks = ap (λ (x : Heap). x.bigblocks) drops.rest;
@@ -342,8 +348,9 @@ module _ {S : Type 0} (heap : S → Heap) (root_of : S → ℕ) (h : Heap) (root
           (free_same h h' whole_is size_is append (drops.pages.flush.committed ∙ (ap (λ (f : Frame). f.pages.committed) frame ∙ opens.pages.flush.committed))
           (drops.pages.flush.frozen ∙ (ap (λ (f : Frame). f.pages.frozen) frame ∙ opens.pages.flush.frozen)) pages_are)
           (room_same h h' whole_is append pages_are) paid);
-      legal = λ first start history opening foreigners events entry least is so_far.
-          failed_call first start faults faults' history h root last opening foreigners events so_far counted entry (is_next entry is) h' root' (record {
+      legal = λ first start counts history opening foreigners events entry least is so_far.
+          failed_call first start (with_disk counts faults) (with_disk counts faults') history h root last opening foreigners events so_far (later counts) entry
+          (is_next entry is) h' root' (record {
             told = subst (TellsFailure faults faults') (sym is.reply_is) (fails _ so_far.held.holds);
             holds = subst (λ (n : ℕ). HoldsSame h root h' n) (sym (root_is ∙ current))
                 (dropped_holds h root last _ so_far.held.holds (heap old) (opens_content h (heap old) root last closed kept opens) (heap new) h'

@@ -1,9 +1,11 @@
 -- A core begins with the empty history.
-use Rattle.std.proofs.Common.{◌≡◌, ℕ, ◌≤◌, List, [], ◌∷◌, ◌++◌, refl}
+use Rattle.std.proofs.Common.{◌≡◌, ℕ, List, [], ◌∷◌, ◌++◌, refl}
 use Rattle.hm_model.specs.After.{Event}
+use Rattle.hm_model.specs.Caused.{Counts}
 use Rattle.hm_model.specs.Foreign.{Foreigners}
 use Rattle.hm_model.specs.Volume.{Volume}
 use Rattle.hm_stored.specs.Heap.{Heap}
+use Rattle.hm_core.specs.Counts.{AreLater}
 use Rattle.hm_core.specs.History.{IsLegalOver}
 use Rattle.hm_state.specs.Volume.{HoldsVolume}
 
@@ -12,7 +14,7 @@ none_before : (before : List Event) (event : Event) (rest : List Event) → [] �
 none_before [] event rest is = cc
 none_before (e ∷ es) event rest is = cc
 
-pub first : (free start faults : ℕ) (h : Heap) (root last : ℕ) (opening : Volume) (foreigners : Foreigners) → start ≤ faults
+pub first : (free : ℕ) (start faults : Counts) (h : Heap) (root last : ℕ) (opening : Volume) (foreigners : Foreigners) → AreLater start faults
     → HoldsVolume h root last opening → IsLegalOver free start faults [] h root last opening foreigners []
 first free start faults h root last opening foreigners counted holds = record {
   entries = refl;

@@ -10,7 +10,7 @@ use Rattle.hm_key.specs.declared.element.Element.{Element}
 use Rattle.hm_cursor.specs.Told.{Lists, fulls}
 use Rattle.hm_model.specs.After.{Event, State, busy_in}
 use Rattle.hm_model.specs.Call.{Call}
-use Rattle.hm_model.specs.Caused.{HasNumbers, Known, known_after, known_at}
+use Rattle.hm_model.specs.Caused.{Counts, HasNumbers, Known, known_after, known_at}
 use Rattle.hm_model.specs.Foreign.{Foreigners}
 use Rattle.hm_model.specs.Legal.{IsAllowed, IsLegal, MayFollow, Setting, call_after, floor_after, state_after}
 use Rattle.hm_model.specs.Needs.{floor}
@@ -30,13 +30,14 @@ use Rattle.hm_step.proofs.HistoryLemmas.{allowed_failed, stands_failed}
 use Rattle.hm_step.proofs.LegalLemmas.{may_follow_failed}
 use Rattle.hm_step.proofs.SubstituteLemmas.{trees_given}
 use Rattle.hm_core.specs.Calls.{Fails, IsNextCall, Serves}
-use Rattle.hm_core.specs.History.{HoldsState, IsLegalBeyond, IsLegalOver, disk_counts, setting_of}
-use Rattle.hm_core.proofs.CountLemmas.{NumbersOf, legal_later, told_most}
+use Rattle.hm_core.specs.Counts.{AreLater}
+use Rattle.hm_core.specs.History.{HoldsState, IsLegalBeyond, IsLegalOver, setting_of}
+use Rattle.hm_core.proofs.CountLemmas.{NumbersOf, later_still, legal_later, told_most}
 use Rattle.hm_core.proofs.StateLemmas.{holds_after, served_state}
 use Rattle.hm_core.proofs.WordLemmas.{words_are_read}
 
-module _ (free start faults faults' : ℕ) (history : List Entry) (h : Heap) (root last : ℕ) (opening : Volume) (foreigners : Foreigners)
-    (events : List Event) (so_far : IsLegalOver free start faults history h root last opening foreigners events) (counted : faults ≤ faults') where
+module _ (free : ℕ) (start faults faults' : Counts) (history : List Entry) (h : Heap) (root last : ℕ) (opening : Volume) (foreigners : Foreigners)
+    (events : List Event) (so_far : IsLegalOver free start faults history h root last opening foreigners events) (counted : AreLater faults faults') where
   -- the run with the count of now, and what it has come to
   abbrev pub run : Setting
   run = setting_of free start faults' opening foreigners
@@ -45,11 +46,14 @@ module _ (free start faults faults' : ℕ) (history : List Entry) (h : Heap) (ro
   state = state_after run events
 
   abbrev pub known : Known
-  known = known_after (known_at opening.last (disk_counts start)) events
+  known = known_after (known_at opening.last start) events
 
   legal : IsLegal run events
-  legal = legal_later (setting_of free start faults opening foreigners) (disk_counts faults') events
-      (record { disk = counted; input = omega arith; output = omega arith }) so_far.legal
+  legal = legal_later (setting_of free start faults opening foreigners) faults' events counted so_far.legal
+
+  -- no more faults were told than are counted now
+  told_now : AreLater known.counts faults'
+  told_now = later_still known.counts faults faults' so_far.counted counted
 
   pub goes_on : (event : Event) (h' : Heap) (root' : ℕ) → MayFollow run events event
       → HoldsState h' root' (last + 1) (state_after run (events ++ event ∷ []))
@@ -57,8 +61,8 @@ module _ (free start faults faults' : ℕ) (history : List Entry) (h : Heap) (ro
   goes_on event h' root' follows held = record {
     entries = map-append (λ (e : Event). e.entry) events (event ∷ []) ∙ ap (λ (es : List Entry). es ++ event.entry ∷ []) so_far.entries;
     legal = IsLegal-goes_on run events event legal follows;
-    counted = subst (λ (k : Known). k.counts.disk ≤ faults') (sym (known_after-push (known_at opening.last (disk_counts start)) events event))
-        (told_most run.now known event.entry (omega (arith, so_far.counted, counted)) follows.caused.numbers);
+    counted = subst (λ (k : Known). AreLater k.counts faults') (sym (known_after-push (known_at opening.last start) events event))
+        (told_most run.now known event.entry told_now follows.caused.numbers);
     held = held;
   }
 
@@ -151,7 +155,7 @@ module _ (free start faults faults' : ℕ) (history : List Entry) (h : Heap) (ro
       served_call = (event ∷ [], goes_on event h' root' stepped.follows held)
 
     -- the device failed in it, or memory was refused
-    module _ (h' : Heap) (root' : ℕ) (failed : Fails faults faults' entry h h' root root') where
+    module _ (h' : Heap) (root' : ℕ) (failed : Fails faults.disk faults'.disk entry h h' root root') where
       fails : IsFailure entry.reply
       fails = elim failed.told [
         | inl (before, after, told, media) ↦ inl (before, after, told)
@@ -162,7 +166,8 @@ module _ (free start faults faults' : ℕ) (history : List Entry) (h : Heap) (ro
       numbers = elim failed.told [
         | inl (before, after, told, media) ↦
             subst (λ (r : Reply). NumbersOf run.now known entry r) (sym told)
-            (let begin = media.begin in record { begin = omega (arith, so_far.counted, begin); rose = media.rose; end = media.end })
+            (let begin = media.begin in let least = so_far.counted.disk in
+            record { begin = omega (arith, least, begin); rose = media.rose; end = media.end })
         | inr told ↦ subst (λ (r : Reply). NumbersOf run.now known entry r) (sym told) tt
       ]
 

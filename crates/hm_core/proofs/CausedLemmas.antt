@@ -1,5 +1,5 @@
 -- One call more keeps that each reply of a history has its cause, whatever the disk holds.
-use Rattle.std.proofs.Common.{◌≡◌, ℕ, ◌+◌, ◌<◌, ◌≤◌, inl, inr, List, [], ◌∷◌, ◌++◌, refl, sym, ap, subst, ◌∙◌, arith}
+use Rattle.std.proofs.Common.{◌≡◌, ℕ, ◌+◌, ◌<◌, inl, inr, List, [], ◌∷◌, ◌++◌, refl, sym, ap, subst, ◌∙◌, arith}
 use Rattle.std.specs.Prelude.{None}
 use Rattle.std.specs.List.{Contains}
 use Rattle.std.proofs.lemmas.List.{map-append}
@@ -21,9 +21,9 @@ use Rattle.hm_model.proofs.HistoryLemmas.{last_or_before, nothing_in_none}
 use Rattle.hm_step.specs.Causes.{IsNextOf, TellsFault}
 use Rattle.hm_step.proofs.CauseLemmas.{fault_cause, may_cause, may_end}
 use Rattle.hm_core.specs.Caused.{IsCausedFrom}
-use Rattle.hm_core.specs.History.{disk_counts}
+use Rattle.hm_core.specs.Counts.{AreLater}
 use Rattle.hm_core.specs.Told.{reply_to}
-use Rattle.hm_core.proofs.CountLemmas.{NumbersOf, cause_later, told_most}
+use Rattle.hm_core.proofs.CountLemmas.{NumbersOf, cause_later, later_still, told_most}
 use Rattle.hm_core.proofs.SpaceLemmas.{same_entry}
 use Rattle.hm_core.proofs.WordLemmas.{words_are_read}
 
@@ -38,7 +38,7 @@ AreCaused-goes_on last start now events event caused next before e rest is =
     ]
 
 -- a history with no entry
-pub caused_first : (first start now last : ℕ) (history : List Entry) → history ≡ [] → start ≤ now → last ≡ first
+pub caused_first : (first : ℕ) (start now : Counts) (last : ℕ) (history : List Entry) → history ≡ [] → AreLater start now → last ≡ first
     → IsCausedFrom first start now last history
 caused_first first start now last history none counted same = record {
   events = [];
@@ -64,15 +64,18 @@ fault_listed (device before after) = (1, omega arith, refl)
 fault_listed (damage at kind) = (2, omega arith, refl)
 fault_listed no_memory = (3, omega arith, refl)
 
-module _ (first start faults faults' last : ℕ) (history : List Entry) (so_far : IsCausedFrom first start faults last history)
-    (counted : faults ≤ faults') where
+module _ (first : ℕ) (start faults faults' : Counts) (last : ℕ) (history : List Entry) (so_far : IsCausedFrom first start faults last history)
+    (counted : AreLater faults faults') where
   abbrev known : Known
-  known = known_after (known_at first (disk_counts start)) so_far.events
+  known = known_after (known_at first start) so_far.events
 
-  still : AreCaused first (disk_counts start) (disk_counts faults') so_far.events
+  -- no more faults were told than are counted now
+  told_now : AreLater known.counts faults'
+  told_now = later_still known.counts faults faults' so_far.counted counted
+
+  still : AreCaused first start faults' so_far.events
   still before event rest is =
-      cause_later (disk_counts faults) (disk_counts faults') (known_after (known_at first (disk_counts start)) before) event
-      (record { disk = counted; input = omega arith; output = omega arith }) (so_far.caused before event rest is)
+      cause_later faults faults' (known_after (known_at first start) before) event counted (so_far.caused before event rest is)
 
   -- more faults are counted
   pub caused_later : IsCausedFrom first start faults' last history
@@ -80,29 +83,28 @@ module _ (first start faults faults' last : ℕ) (history : List Entry) (so_far 
     events = so_far.events;
     entries = so_far.entries;
     caused = still;
-    counted = (let told = so_far.counted in omega (arith, told, counted));
+    counted = told_now;
     last_is = so_far.last_is;
   }
 
   -- the numbers of a reply that tells a fault have their cause
-  fault_numbers : (entry : Entry) (fault : Fault) → IsFaultCaused faults faults' fault
-      → NumbersOf (disk_counts faults') known entry (reply_to fault)
+  fault_numbers : (entry : Entry) (fault : Fault) → IsFaultCaused faults.disk faults'.disk fault
+      → NumbersOf faults' known entry (reply_to fault)
   fault_numbers entry (device before after) caused =
-      (let told = so_far.counted in let begin = caused.begin in record { begin = omega (arith, told, begin); rose = caused.rose; end = caused.end })
+      (let least = so_far.counted.disk in let begin = caused.begin in record { begin = omega (arith, least, begin); rose = caused.rose; end = caused.end })
   fault_numbers entry (damage at kind) caused = tt
   fault_numbers entry no_memory caused = tt
 
-  goes_on : (event : Event) → HasCause (disk_counts faults') known event → passed_ids event.entry.reply ≡ None → event.entry.id.0 ≡ last + 1
+  goes_on : (event : Event) → HasCause faults' known event → passed_ids event.entry.reply ≡ None → event.entry.id.0 ≡ last + 1
       → IsCausedFrom first start faults' (last + 1) (history ++ event.entry ∷ [])
   goes_on event cause ends own =
-      let push = known_after-push (known_at first (disk_counts start)) so_far.events event in
+      let push = known_after-push (known_at first start) so_far.events event in
       let none : end_id event.entry.reply ≡ 0 = rw ends refl in
       record {
         events = so_far.events ++ event ∷ [];
         entries = map-append (λ (e : Event). e.entry) so_far.events (event ∷ []) ∙ ap (λ (es : List Entry). es ++ event.entry ∷ []) so_far.entries;
-        caused = AreCaused-goes_on first (disk_counts start) (disk_counts faults') so_far.events event still cause;
-        counted = subst (λ (k : Known). k.counts.disk ≤ faults') (sym push)
-            (told_most (disk_counts faults') known event.entry (let told = so_far.counted in omega (arith, told, counted)) cause.numbers);
+        caused = AreCaused-goes_on first start faults' so_far.events event still cause;
+        counted = subst (λ (k : Known). AreLater k.counts faults') (sym push) (told_most faults' known event.entry told_now cause.numbers);
         last_is = ap (λ (k : Known). k.last) push ∙ omega (arith, own, none);
       }
 
@@ -125,20 +127,20 @@ module _ (first start faults faults' last : ℕ) (history : List Entry) (so_far 
       reply_goes_on may =
           let here : MayReply known.last None entry.call entry.reply =
           subst (λ (n : ℕ). MayReply n None entry.call entry.reply) (sym so_far.last_is) may in
-          goes_on event (may_cause known event next None here (disk_counts faults')) (may_end known event next None here) own
+          goes_on event (may_cause known event next None here faults') (may_end known event next None here) own
 
-      pub fault_goes_on : (fault : Fault) → entry.reply ≡ reply_to fault → IsFaultCaused faults faults' fault
+      pub fault_goes_on : (fault : Fault) → entry.reply ≡ reply_to fault → IsFaultCaused faults.disk faults'.disk fault
           → IsCausedFrom first start faults' (last + 1) (history ++ entry ∷ [])
       fault_goes_on fault is caused =
           goes_on event
-          (fault_cause known event next (disk_counts faults') (subst TellsFault (sym is) (fault_tells fault))
-          (subst (λ (r : Reply). NumbersOf (disk_counts faults') known entry r) (sym is) (fault_numbers entry fault caused)))
+          (fault_cause known event next faults' (subst TellsFault (sym is) (fault_tells fault))
+          (subst (λ (r : Reply). NumbersOf faults' known entry r) (sym is) (fault_numbers entry fault caused)))
           (ap passed_ids is ∙ fault_ends fault) own
 
     -- a `df`
     module _ (call_is : entry.call ≡ Df) where
       df_goes_on : (reply : Reply) → entry.reply ≡ reply → Contains (109 ∷ at_any_point) (number_of reply) → passed_ids reply ≡ None
-          → HasNumbers (disk_counts faults') known (record entry { call = Df; reply = reply })
+          → HasNumbers faults' known (record entry { call = Df; reply = reply })
           → IsCausedFrom first start faults' (last + 1) (history ++ entry ∷ [])
       df_goes_on reply reply_is listed ends numbers =
           subst (λ (e : Entry). IsCausedFrom first start faults' (last + 1) (history ++ e ∷ [])) (same_entry entry Df reply call_is reply_is)
@@ -154,7 +156,7 @@ module _ (first start faults faults' last : ℕ) (history : List Entry) (so_far 
       pub space_goes_on : (pool spare : ℕ) → entry.reply ≡ Space pool spare → IsCausedFrom first start faults' (last + 1) (history ++ entry ∷ [])
       space_goes_on pool spare is = df_goes_on (Space pool spare) is (0, omega arith, refl) refl tt
 
-      pub space_fault_goes_on : (fault : Fault) → entry.reply ≡ reply_to fault → IsFaultCaused faults faults' fault
+      pub space_fault_goes_on : (fault : Fault) → entry.reply ≡ reply_to fault → IsFaultCaused faults.disk faults'.disk fault
           → IsCausedFrom first start faults' (last + 1) (history ++ entry ∷ [])
       space_fault_goes_on fault is caused =
           df_goes_on (reply_to fault) is (fault_listed fault) (fault_ends fault)

@@ -7,12 +7,19 @@ use Rattle.hm_model.specs.Legal.{IsLegal, MayFollow, Setting}
 use Rattle.hm_model.specs.declared.entry.Entry.{Entry}
 use Rattle.hm_model.specs.declared.reply.Reply.{Reply}
 use Rattle.hm_model.specs.declared.reply.Reply.TheVariants.{Cut, Media, StreamFault, Synced}
+use Rattle.hm_core.specs.Counts.{AreLater, with_disk}
 
--- no count fell
-pub record AreLater (old new : Counts) : Type 0 where
-  pub disk : old.disk ≤ new.disk
-  pub input : old.input ≤ new.input
-  pub output : old.output ≤ new.output
+pub later_still : (a b c : Counts) → AreLater a b → AreLater b c → AreLater a c
+later_still a b c first second =
+    let d = first.disk in let i = first.input in let o = first.output in
+    let e = second.disk in let j = second.input in let p = second.output in
+    record { disk = omega (arith, d, e); input = omega (arith, i, j); output = omega (arith, o, p) }
+
+pub later_same : (counts : Counts) → AreLater counts counts
+later_same counts = record { disk = omega arith; input = omega arith; output = omega arith }
+
+pub disk_later : (counts : Counts) (old new : ℕ) → old ≤ new → AreLater (with_disk counts old) (with_disk counts new)
+disk_later counts old new le = record { disk = le; input = omega arith; output = omega arith }
 
 media_later : (from now later before after : ℕ) → now ≤ later → IsMedia from now before after → IsMedia from later before after
 media_later from now later before after le is = (let end = is.end in record { begin = is.begin; rose = is.rose; end = omega (arith, le, end) })
@@ -72,22 +79,26 @@ pub legal_later : (run : Setting) (later : Counts) (events : List Event) → Are
     → IsLegal (counted_to run later) events
 legal_later run later events le legal before event rest is = follows_later run later before event le (legal before event rest is)
 
--- A reply told no more faults of the disk than were counted: so none of a history did.
-abbrev DiskTold : Known → Entry → Reply → ℕ
-DiskTold known e reply = (elim reply as (λ r. Counts) [
+-- A reply told no more faults than were counted: so none of a history did.
+abbrev CountsTold : Known → Entry → Reply → Counts
+CountsTold known e reply = elim reply as (λ r. Counts) [
   | Media before after ↦ record known.counts { disk = max known.counts.disk after }
   | StreamFault before after ↦ stream_told (is_output known.opened e.call) after known.counts
   | other ↦ known.counts
-]).disk
+]
 
-stream_leaves : (output : Bool) (after : ℕ) (counts : Counts) (most : ℕ) → counts.disk ≤ most → (stream_told output after counts).disk ≤ most
-stream_leaves true after counts most le = le
-stream_leaves false after counts most le = le
+stream_most : (output : Bool) (after : ℕ) (counts now : Counts) → AreLater counts now → after ≤ stream_count output now
+    → AreLater (stream_told output after counts) now
+stream_most true after counts now le end =
+    let least = le.output in record { disk = le.disk; input = le.input; output = omega (arith, least, end) }
+stream_most false after counts now le end =
+    let least = le.input in record { disk = le.disk; input = omega (arith, least, end); output = le.output }
 
-pub told_most : (now : Counts) (known : Known) (e : Entry) → known.counts.disk ≤ now.disk → HasNumbers now known e
-    → (counts_after known e).disk ≤ now.disk
+pub told_most : (now : Counts) (known : Known) (e : Entry) → AreLater known.counts now → HasNumbers now known e → AreLater (counts_after known e) now
 told_most now known e le numbers = by e.reply numbers where
-  by : (reply : Reply) → NumbersOf now known e reply → DiskTold known e reply ≤ now.disk
-  by (Media before after) is = (let end = is.end in omega (arith, le, end))
-  by (StreamFault before after) is = stream_leaves (is_output known.opened e.call) after known.counts now.disk le
+  by : (reply : Reply) → NumbersOf now known e reply → AreLater (CountsTold known e reply) now
+  by (Media before after) is =
+      let least = le.disk in let end = is.end in
+      record { disk = omega (arith, least, end); input = le.input; output = le.output }
+  by (StreamFault before after) is = stream_most (is_output known.opened e.call) after known.counts now le is.end
   by other is = le

@@ -29,10 +29,12 @@ use Rattle.hm_state.proofs.ChangedLemmas.{changed_stands}
 use Rattle.hm_state.proofs.InPlaceLemmas.{written_in_place}
 use Rattle.hm_core.specs.Core.{StandsOver}
 use Rattle.hm_core.specs.Finished.{HasNextHeader, IsFinished, LeavesVolume, next_header}
+use Rattle.hm_core.specs.Counts.{with_disk}
 use Rattle.hm_core.specs.History.{volume_of}
 use Rattle.hm_core.specs.State.{CoreState}
 use Rattle.hm_core.specs.WrittenBack.{Freezes, WritesBack}
 use Rattle.hm_core.proofs.CausedLemmas.{caused_later}
+use Rattle.hm_core.proofs.CountLemmas.{disk_later}
 
 -- what is told is told
 self_told : (told : Option Told) → IfSome told (λ t. told ≡ Some t)
@@ -52,7 +54,7 @@ pub record WroteBack (s : Store) (old : Option Told) (before : ℕ) (header : He
   pub undamaged : IfErr result IsUndamaged
   pub cause : HasFaultCause before faults result
 
-module _ {D I O : Type 0} (core : CoreState D I O) where
+module _ (core : CoreState) where
   abbrev h : Heap
   h = core.heap
 
@@ -73,14 +75,16 @@ module _ {D I O : Type 0} (core : CoreState D I O) where
         left_alone opening foreigners events stands t
         (subst (λ (o : Option Told). IfSome o (λ u. StandsFor u.bytes opening)) is (stands.untouched none))
 
-    pub untouched_finished : (faults : ℕ) → faults ≡ core.faults → IsFinished core h.disk faults (Ok tt)
+    pub untouched_finished : (faults : ℕ) → faults ≡ core.counts.disk → IsFinished core h.disk faults (Ok tt)
     untouched_finished faults same = record {
       nothing = λ is. (refl, refl);
       volume = BothTell-same h.disk (λ _ t. LeavesVolume core t.bytes) (by_disk h.disk refl);
       header = λ some. absurd (some none);
       cause = record { never_falls = omega (arith, same); caused = tt };
-      caused = λ run. caused_later core.header.last.0 core.start core.faults faults core.last core.history run (omega (arith, same));
-      undamaged = tt;
+      caused = λ run.
+          caused_later core.mounted.first core.mounted.counts core.counts (with_disk core.counts faults) core.last core.history run
+          (disk_later core.counts core.counts.disk faults (omega (arith, same)));
+      whole = λ opening foreigners events stands. if_told h.disk _ tt;
     }
 
   -- a run in which something was done
@@ -124,7 +128,7 @@ module _ {D I O : Type 0} (core : CoreState D I O) where
     -- so ends a core whose pages were written back
     pub written_finished : (f : Store) (told : Option Told) (faults : ℕ) (result : Result (Unit {0}) Fault) → core.history ≢ []
         → ((at : ℕ) (page : List ℕ) → h.pages.current at ≡ Some page → AreBytes page)
-        → WroteBack h.pages h.disk core.faults core.header core.slot next f told faults result → IsFinished core told faults result
+        → WroteBack h.pages h.disk core.counts.disk core.header core.slot next f told faults result → IsFinished core told faults result
     written_finished f told faults result some bytes wrote = record {
       nothing = λ none. absurd (some none);
       volume = left result wrote.frozen wrote.ok;
@@ -132,8 +136,11 @@ module _ {D I O : Type 0} (core : CoreState D I O) where
           (λ _ t. HasNextHeader core t)
           (λ s t is w. record { counts = w.changes.header_is; settled = w.changes.settled }) (self_told h.disk) both) wrote.ok;
       cause = wrote.cause;
-      caused = λ run. caused_later core.header.last.0 core.start core.faults faults core.last core.history run wrote.cause.never_falls;
-      undamaged = wrote.undamaged;
+      caused = λ run.
+          caused_later core.mounted.first core.mounted.counts core.counts (with_disk core.counts faults) core.last core.history run
+          (disk_later core.counts core.counts.disk faults wrote.cause.never_falls);
+      whole = λ opening foreigners events stands.
+          if_told h.disk _ (wrote.whole (root_stands opening foreigners events stands) (places_stand opening foreigners events stands));
     } where
       left : (r : Result (Unit {0}) Fault) → OnOk r (Freezes next h.pages f) → OnOk r (BothTell h.disk told (WritesBack f next (1 - core.slot)))
           → OnOk r (BothTell h.disk told (λ _ t. LeavesVolume core t.bytes))

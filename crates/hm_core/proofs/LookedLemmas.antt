@@ -8,6 +8,7 @@ use Rattle.hm_fields.specs.Pages.{PageMap}
 use Rattle.hm_pages.specs.Store.{Frame as PagesFrame}
 use Rattle.hm_freemap.specs.Stand.{Maps, free_by, is_handed_out, room_in}
 use Rattle.hm_model.specs.After.{Event}
+use Rattle.hm_model.specs.Caused.{Counts}
 use Rattle.hm_model.specs.Foreign.{Foreigners}
 use Rattle.hm_model.specs.Legal.{state_after}
 use Rattle.hm_model.specs.Volume.{Volume}
@@ -67,7 +68,7 @@ module _ (old new : Heap) (looks : LooksSame old new) where
     elements = (is.elements.0, held_same root is.elements.0 is.elements.1, is.elements.2);
   }
 
-  pub looked_legal : (free start faults : ℕ) (history : List Entry) (root last : ℕ) (opening : Volume) (foreigners : Foreigners)
+  pub looked_legal : (free : ℕ) (start faults : Counts) (history : List Entry) (root last : ℕ) (opening : Volume) (foreigners : Foreigners)
       (events : List Event) → IsLegalOver free start faults history old root last opening foreigners events
       → IsLegalOver free start faults history new root last opening foreigners events
   looked_legal free start faults history root last opening foreigners events is = record {

@@ -17,6 +17,7 @@ use Rattle.hm_header.specs.declared.header.Header.{Header}
 use Rattle.hm_freemap.specs.Faults.{IsBadBlock, IsFreemapDamage, IsGoodBlock}
 use Rattle.hm_freemap.specs.Stand.{HoldsPoolEntry, Maps, entry_page, free_by}
 use Rattle.hm_pages.specs.Store.{Frame as PagesFrame, Store, in_state}
+use Rattle.hm_model.specs.Caused.{Counts}
 use Rattle.hm_model.specs.Foreign.{Foreigners}
 use Rattle.hm_model.specs.Volume.{Volume}
 use Rattle.hm_model.specs.declared.entry.Entry.{Entry}
@@ -34,6 +35,7 @@ use Rattle.hm_state.specs.Volume.{HoldsVolume}
 use Rattle.hm_state.proofs.BackedLemmas.{mounted_backed}
 use Rattle.hm_state.proofs.MountedLemmas.{mounted, mounted_free}
 use Rattle.hm_core.specs.Core.{StandsOver}
+use Rattle.hm_core.specs.Counts.{AreLater}
 use Rattle.hm_core.specs.History.{IsLegalOver}
 use Rattle.hm_core.specs.Inside.{IsInOrder}
 use Rattle.hm_core.specs.Ledger.{IsPaid}
@@ -44,6 +46,7 @@ use Rattle.hm_core.proofs.CausedLemmas.{caused_first}
 use Rattle.hm_core.proofs.BeginLemmas.{first}
 use Rattle.hm_core.proofs.LedgerLemmas.{paid_first}
 use Rattle.hm_core.proofs.CommittedLemmas.{backed_same}
+use Rattle.hm_core.proofs.CountLemmas.{later_same}
 use Rattle.hm_core.proofs.LookedLemmas.{looked_closed, looked_committed, looked_free, looked_held}
 
 abbrev maps_with : PageMap → PageMap → PageMap → Maps
@@ -171,8 +174,15 @@ ordered_first told header slot free h range low chosen read = record {
 }
 
 -- a core over a space that was read, with no history
-module _ {D I O : Type 0} (core : CoreState D I O) (new : core.history ≡ []) (root : core.root ≡ core.header.root)
-    (last : core.last ≡ core.header.last.0) (start : core.start ≡ core.faults) where
+module _ (core : CoreState) (new : core.history ≡ []) (root : core.root ≡ core.header.root)
+    (ids : (core.last ≡ core.boundary) × (core.mounted.first ≡ core.boundary) × (core.boundary ≡ core.header.last.0))
+    (start : core.mounted.counts ≡ core.counts) where
+  last : core.last ≡ core.header.last.0
+  last = ids.0 ∙ ids.2
+
+  later : AreLater core.mounted.counts core.counts
+  later = subst (λ (c : Counts). AreLater core.mounted.counts c) start (later_same core.mounted.counts)
+
   stands_over : (told : Option Told) → core.heap.disk ≡ told → IfSome told (BacksWhatStands core.heap) → IfSome told (HoldsWhatStands core.heap core.header)
       → IfSome told (λ t. (opening : Volume) (foreigners : Foreigners) → StandsFor t.bytes opening
       → StandsOver core opening foreigners [])
@@ -183,26 +193,25 @@ module _ {D I O : Type 0} (core : CoreState D I O) (new : core.history ≡ []) (
       (subst (λ (n : ℕ). HoldsVolume core.heap core.header.root n opening) (sym last) (holds opening stands)) in
       record {
         legal = subst
-            (λ (l : List Entry). IsLegalOver core.free core.start core.faults l core.heap core.root core.last opening foreigners [])
+            (λ (l : List Entry). IsLegalOver core.mounted.free core.mounted.counts core.counts l core.heap core.root core.last opening foreigners [])
             (sym new)
-            (first core.free core.start core.faults core.heap core.root core.last opening foreigners (omega (arith, start)) held);
+            (first core.mounted.free core.mounted.counts core.counts core.heap core.root core.last opening foreigners later held);
         backed = backed opening stands;
         untouched = λ none. subst (λ (d : Option Told). IfSome d (λ t. StandsFor t.bytes opening)) (sym disk) stands;
       }
 
-  pub is_mounted : (told : Option Told) (faults : ℕ) → faults ≤ core.faults
-      → IfSome told (λ t. HasHeader t.bytes core.header core.slot) → IsReadFrom told core.header core.free core.heap
-      → IsMounted told faults core.input core.output core
+  pub is_mounted : (told : Option Told) (faults : ℕ) → faults ≤ core.counts.disk
+      → IfSome told (λ t. HasHeader t.bytes core.header core.slot) → IsReadFrom told core.header core.mounted.free core.heap
+      → IsMounted told faults core
   is_mounted told faults counted chosen read = record {
     history = new;
     told = read.disk;
     counts = (counted, start);
-    last = last;
-    caused = caused_first core.header.last.0 core.start core.faults core.last core.history new (omega (arith, start)) last;
+    ids = ids;
+    caused = caused_first core.mounted.first core.mounted.counts core.counts core.last core.history new later (ids.0 ∙ sym ids.1);
     free = read.free_is;
     counted = read.counted;
     counting = chosen;
     whole = read.whole;
     stands = stands_over told read.disk read.backed read.holds;
-    streams = (refl, refl);
   }

@@ -8,7 +8,7 @@ use Rattle.hm_types.specs.Layout.{first_pool}
 use Rattle.hm_types.specs.declared.limits.TheConstants.{GREATEST_ID}
 use Rattle.hm_model.specs.After.{Event, State, after_event, on_volume, opening_state}
 use Rattle.hm_model.specs.Call.{Call}
-use Rattle.hm_model.specs.Caused.{HasNumbers, IsCaused, Known, at_any_point, known_after, known_at, number_of}
+use Rattle.hm_model.specs.Caused.{Counts, HasNumbers, IsCaused, Known, at_any_point, known_after, known_at, number_of}
 use Rattle.hm_model.specs.Due.{Check, refusal}
 use Rattle.hm_model.specs.Foreign.{Foreigners}
 use Rattle.hm_model.specs.Legal.{IsDue, IsReply, IsSpace, IsUndamaged, MayFollow, NamesAdded, Setting, call_after, floor_after, state_after}
@@ -26,7 +26,8 @@ use Rattle.hm_image.specs.StandFor.{StandFor}
 use Rattle.hm_stored.specs.Heap.{Heap}
 use Rattle.hm_step.specs.Step.{after_call}
 use Rattle.hm_step.proofs.NextLemmas.{stand_next}
-use Rattle.hm_core.specs.History.{IsLegalBeyond, IsLegalOver, disk_counts, setting_of}
+use Rattle.hm_core.specs.Counts.{AreLater}
+use Rattle.hm_core.specs.History.{IsLegalBeyond, IsLegalOver, setting_of}
 use Rattle.hm_core.specs.Told.{TellsSpace}
 use Rattle.hm_core.proofs.CallLemmas.{drawn_next, floor_next, goes_on, left_next}
 use Rattle.hm_core.proofs.StateLemmas.{holds_after}
@@ -36,8 +37,8 @@ pub same_entry : (entry : Entry) (command : Command) (reply : Reply) → entry.c
     → record entry { call = command; reply = reply } ≡ entry
 same_entry entry command reply call_is reply_is = rw (← call_is, ← reply_is) refl
 
-module _ (free start faults faults' : ℕ) (history : List Entry) (h : Heap) (root last : ℕ) (opening : Volume) (foreigners : Foreigners)
-    (events : List Event) (so_far : IsLegalOver free start faults history h root last opening foreigners events) (counted : faults ≤ faults') (left : last < GREATEST_ID) where
+module _ (free : ℕ) (start faults faults' : Counts) (history : List Entry) (h : Heap) (root last : ℕ) (opening : Volume) (foreigners : Foreigners)
+    (events : List Event) (so_far : IsLegalOver free start faults history h root last opening foreigners events) (counted : AreLater faults faults') (left : last < GREATEST_ID) where
   -- the run with the count of now, and what it has come to
   abbrev run : Setting
   run = setting_of free start faults' opening foreigners
@@ -46,7 +47,7 @@ module _ (free start faults faults' : ℕ) (history : List Entry) (h : Heap) (ro
   state = state_after run events
 
   abbrev known : Known
-  known = known_after (known_at opening.last (disk_counts start)) events
+  known = known_after (known_at opening.last start) events
 
   abbrev event_of : Entry → Event
   event_of entry = record { entry = entry; paths = []; substitutes = [] }
@@ -77,9 +78,9 @@ module _ (free start faults faults' : ℕ) (history : List Entry) (h : Heap) (ro
     own = drawn_next free start faults faults' history h root last opening foreigners events so_far counted some.id.0 own_is
 
     last_same : known.last ≡ state.volume.last
-    last_same = last_known (known_at opening.last (disk_counts start)) (opening_state opening foreigners) events refl
+    last_same = last_known (known_at opening.last start) (opening_state opening foreigners) events refl
 
-    is_caused : IsCaused run.now (known_at opening.last (disk_counts start)) events event
+    is_caused : IsCaused run.now (known_at opening.last start) events event
     is_caused = record {
       id = own ∙ ap (λ (n : ℕ). n + 1) (sym last_same);
       drawn = omega (arith, own, low);

@@ -13,6 +13,7 @@ use Rattle.hm_freemap.specs.Faults.{IsFreemapDamage}
 use Rattle.hm_freemap.specs.Stand.{free_by, is_free_by}
 use Rattle.hm_freemap.proofs.GoodLemmas.{good_block}
 use Rattle.hm_model.specs.After.{Event}
+use Rattle.hm_model.specs.Caused.{Counts}
 use Rattle.hm_model.specs.Foreign.{Foreigners}
 use Rattle.hm_model.specs.Needs.{floor}
 use Rattle.hm_model.specs.Volume.{Volume}
@@ -25,18 +26,23 @@ use Rattle.hm_stored.specs.Heap.{Heap, content_of, free_of, maps_of, room_of}
 use Rattle.hm_stored.specs.Standing.{basis_now}
 use Rattle.hm_stored.specs.Turn.{IsClosed, LooksSame}
 use Rattle.hm_core.specs.Answer.{Answers, KeepsCommitted}
+use Rattle.hm_core.specs.Counts.{AreLater, with_disk}
 use Rattle.hm_core.specs.History.{IsLegalBeyond, IsLegalOver}
 use Rattle.hm_core.specs.Ledger.{IsPaid}
 use Rattle.hm_core.specs.Told.{reply_to}
 use Rattle.hm_core.proofs.AnswerLemmas.{fault_silent}
 use Rattle.hm_core.proofs.CausedLemmas.{space_fault_goes_on, space_goes_on}
 use Rattle.hm_core.proofs.CommittedLemmas.{backed_same, kept_same}
+use Rattle.hm_core.proofs.CountLemmas.{disk_later}
 use Rattle.hm_core.proofs.LookedLemmas.{held_firm, looked_closed, looked_committed, looked_free, looked_legal, looked_room}
 use Rattle.hm_core.proofs.SpaceLemmas.{space_refused, space_told}
 
 module _ (old new : Heap) (root root' faults faults' : ℕ) (closed : IsClosed old) (looks : LooksSame old new) (stays : root' ≡ root) (same : faults' ≡ faults) where
   counted : faults ≤ faults'
   counted = omega (arith, same)
+
+  later : (counts : Counts) → AreLater (with_disk counts faults) (with_disk counts faults')
+  later counts = disk_later counts faults faults' counted
 
   paid_same : (first calls : ℕ) → IsPaid first (free_of old) calls (room_of old) → IsPaid first (free_of new) (calls + 1) (room_of new)
   paid_same first calls paid =
@@ -84,13 +90,13 @@ module _ (old new : Heap) (root root' faults faults' : ℕ) (closed : IsClosed o
 
   module _ (last : ℕ) (left : last < GREATEST_ID) where
     -- what was legal before the look is so after it
-    there : (first start : ℕ) (history : List Entry) (opening : Volume) (foreigners : Foreigners) (events : List Event)
-        → IsLegalBeyond first start faults' history old root (last + 1) opening foreigners events
-        → IsLegalBeyond first start faults' history new root' (last + 1) opening foreigners events
-    there first start history opening foreigners events (more, legal) = (
+    there : (first : ℕ) (start counts : Counts) (history : List Entry) (opening : Volume) (foreigners : Foreigners) (events : List Event)
+        → IsLegalBeyond first start counts history old root (last + 1) opening foreigners events
+        → IsLegalBeyond first start counts history new root' (last + 1) opening foreigners events
+    there first start counts history opening foreigners events (more, legal) = (
       more,
-      subst (λ (r : ℕ). IsLegalOver first start faults' history new r (last + 1) opening foreigners (events ++ more)) (sym stays)
-          (looked_legal old new looks first start faults' history root (last + 1) opening foreigners (events ++ more) legal),
+      subst (λ (r : ℕ). IsLegalOver first start counts history new r (last + 1) opening foreigners (events ++ more)) (sym stays)
+          (looked_legal old new looks first start counts history root (last + 1) opening foreigners (events ++ more) legal),
     )
 
     pub told_answers : (space free : ℕ) → space ≡ old.bigblocks - first_pool old.bigblocks → free ≡ free_of old
@@ -99,8 +105,8 @@ module _ (old new : Heap) (root root' faults faults' : ℕ) (closed : IsClosed o
       closed = looked_closed old new looks closed;
       counted = counted;
       silent = refl;
-      caused = λ first start history entry of so_far.
-          space_goes_on first start faults faults' last history so_far counted entry left of.own of.call_is space free of.reply_is;
+      caused = λ first start counts history entry of so_far.
+          space_goes_on first start (with_disk counts faults) (with_disk counts faults') last history so_far (later counts) entry left of.own of.call_is space free of.reply_is;
       committed = record {
         bigblocks = kept.bigblocks;
         boundary = kept.boundary;
@@ -108,8 +114,9 @@ module _ (old new : Heap) (root root' faults faults' : ℕ) (closed : IsClosed o
         backed = λ held. backed_same old new (looked_committed old new looks);
       };
       paid = paid_same;
-      legal = λ first start history opening foreigners events entry enough of so_far.
-          there first start (history ++ entry ∷ []) opening foreigners events (space_told first start faults faults' history old root last opening foreigners events so_far counted left entry of.call_is of.own
+      legal = λ first start counts history opening foreigners events entry enough of so_far.
+          there first start (with_disk counts faults') (history ++ entry ∷ []) opening foreigners events (space_told first start (with_disk counts faults) (with_disk counts faults') history old root last opening
+          foreigners events so_far (later counts) left entry of.call_is of.own
           (space, free, of.reply_is, pool_is, omega (arith, is, enough), omega (arith, is, pool_is, free_most)));
     }
 
@@ -119,8 +126,8 @@ module _ (old new : Heap) (root root' faults faults' : ℕ) (closed : IsClosed o
       closed = looked_closed old new looks closed;
       counted = counted;
       silent = fault_silent fault;
-      caused = λ first start history entry of so_far.
-          space_fault_goes_on first start faults faults' last history so_far counted entry left of.own of.call_is fault of.reply_is
+      caused = λ first start counts history entry of so_far.
+          space_fault_goes_on first start (with_disk counts faults) (with_disk counts faults') last history so_far (later counts) entry left of.own of.call_is fault of.reply_is
           (no_device fault caused);
       committed = record {
         bigblocks = kept.bigblocks;
@@ -129,8 +136,9 @@ module _ (old new : Heap) (root root' faults faults' : ℕ) (closed : IsClosed o
         backed = λ held. backed_same old new (looked_committed old new looks);
       };
       paid = paid_same;
-      legal = λ first start history opening foreigners events entry enough of so_far.
+      legal = λ first start counts history opening foreigners events entry enough of so_far.
           let firm = held_firm old root so_far.held.holds.elements.0 so_far.held.holds.elements.1 in
-          there first start (history ++ entry ∷ []) opening foreigners events (space_refused first start faults faults' history old root last opening foreigners events so_far counted left entry of.call_is of.own
+          there first start (with_disk counts faults') (history ++ entry ∷ []) opening foreigners events (space_refused first start (with_disk counts faults) (with_disk counts faults') history old root last opening
+          foreigners events so_far (later counts) left entry of.call_is of.own
           (of.reply_is ∙ memory_alone fault bad caused firm));
     }

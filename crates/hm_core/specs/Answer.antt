@@ -3,6 +3,7 @@ use Rattle.std.specs.Prelude.{◌≡◌, ℕ, ◌+◌, ◌≤◌, IfSome, List, 
 use Rattle.hm_header.specs.OnDisk.{HasHeader}
 use Rattle.hm_header.specs.declared.header.Header.{Header}
 use Rattle.hm_model.specs.After.{Event}
+use Rattle.hm_model.specs.Caused.{Counts}
 use Rattle.hm_model.specs.Foreign.{Foreigners}
 use Rattle.hm_model.specs.Needs.{floor}
 use Rattle.hm_model.specs.Reply.{told_boundary}
@@ -15,6 +16,7 @@ use Rattle.hm_stored.specs.Turn.{IsClosed}
 use Rattle.hm_state.specs.Backed.{IsBacked}
 use Rattle.hm_state.specs.Volume.{HoldsVolume}
 use Rattle.hm_core.specs.Caused.{IsCausedFrom}
+use Rattle.hm_core.specs.Counts.{with_disk}
 use Rattle.hm_core.specs.History.{IsLegalBeyond, IsLegalOver}
 use Rattle.hm_core.specs.Ledger.{IsPaid}
 
@@ -32,7 +34,7 @@ pub record KeepsCommitted (Told : Type 0) (h h' : Heap) : Type 0 where
   pub header : (header : Header) (slot : ℕ) → IfSome h.disk (λ t. HasHeader t.bytes header slot) → IfSome h'.disk (λ t. HasHeader t.bytes header slot)
   pub backed : Told → IsBacked h → IsBacked h'
 
--- A call was answered so, over which the count of faults went from one to another. The reply tells no boundary, no call is open, the big-blocks that
+-- A call was answered so, over which the count of the disk's faults went from one to another. The reply tells no boundary, no call is open, the big-blocks that
 -- were begun are paid for, what was committed is still there, and each history that was legal goes on legally with the
 -- entry of the call, and keeps the events of those before it. Whatever the space holds, the reply has its cause.
 pub record Answers (faults faults' last : ℕ) (command : Command) (h h' : Heap) (root root' : ℕ) (reply : Reply) : Type 0 where
@@ -41,9 +43,10 @@ pub record Answers (faults faults' last : ℕ) (command : Command) (h h' : Heap)
   pub silent : told_boundary reply ≡ None
   pub committed : KeepsCommitted ((volume : Volume) × HoldsVolume h root last volume) h h'
   pub paid : (first calls : ℕ) → IsPaid first (free_of h) calls (room_of h) → IsPaid first (free_of h') (calls + 1) (room_of h')
-  pub caused : (first start : ℕ) (history : List Entry) (entry : Entry) → IsEntryOf last command reply entry
-      → IsCausedFrom first start faults last history → IsCausedFrom first start faults' (last + 1) (history ++ entry ∷ [])
-  pub legal : (free start : ℕ) (history : List Entry) (opening : Volume) (foreigners : Foreigners) (events : List Event) (entry : Entry)
+  pub caused : (first : ℕ) (start counts : Counts) (history : List Entry) (entry : Entry) → IsEntryOf last command reply entry
+      → IsCausedFrom first start (with_disk counts faults) last history
+      → IsCausedFrom first start (with_disk counts faults') (last + 1) (history ++ entry ∷ [])
+  pub legal : (free : ℕ) (start counts : Counts) (history : List Entry) (opening : Volume) (foreigners : Foreigners) (events : List Event) (entry : Entry)
       → floor free history ≤ free_of h → IsEntryOf last command reply entry
-      → IsLegalOver free start faults history h root last opening foreigners events
-      → IsLegalBeyond free start faults' (history ++ entry ∷ []) h' root' (last + 1) opening foreigners events
+      → IsLegalOver free start (with_disk counts faults) history h root last opening foreigners events
+      → IsLegalBeyond free start (with_disk counts faults') (history ++ entry ∷ []) h' root' (last + 1) opening foreigners events

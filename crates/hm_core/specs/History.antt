@@ -1,5 +1,5 @@
 -- A history over the volume on which it began, and the space that has come of it.
-use Rattle.std.specs.Prelude.{◌≡◌, ℕ, ◌≤◌, List, [], ◌++◌}
+use Rattle.std.specs.Prelude.{◌≡◌, ℕ, List, [], ◌++◌}
 use Rattle.hm_model.specs.After.{Event, State, after}
 use Rattle.hm_model.specs.Caused.{Counts, known_after, known_at}
 use Rattle.hm_model.specs.Foreign.{Foreigners}
@@ -8,20 +8,17 @@ use Rattle.hm_model.specs.Volume.{Volume}
 use Rattle.hm_model.specs.declared.entry.Entry.{Entry}
 use Rattle.hm_stored.specs.Heap.{Heap}
 use Rattle.hm_state.specs.Volume.{HoldsVolume}
+use Rattle.hm_core.specs.Counts.{AreLater}
 
--- counts of a core that has no streams: those of its disk
-abbrev pub disk_counts : ℕ → Counts
-disk_counts faults = record { disk = faults; input = 0; output = 0 }
-
--- What a run of a core began with, over an opening volume: so many free big-blocks, and so many faults of its disk; and
+-- What a run of a core began with, over an opening volume: so many free big-blocks, and so many faults of its devices; and
 -- how many these are now.
-abbrev pub setting_of : ℕ → ℕ → ℕ → Volume → Foreigners → Setting
+abbrev pub setting_of : ℕ → Counts → Counts → Volume → Foreigners → Setting
 setting_of free start now opening foreigners = record {
   opening = opening;
   foreigners = foreigners;
   free = free;
-  start = disk_counts start;
-  now = disk_counts now;
+  start = start;
+  now = now;
 }
 
 -- a space holds the volume of a state, in which no housekeeping call is open
@@ -36,14 +33,14 @@ volume_of opening foreigners events = (after opening foreigners events).volume
 -- The entries of a history are those of these events, which are legal over an opening volume, with no more faults told than
 -- were counted, and a space holds the state after them. The events say which trees each entry saw of a pseudo file system
 -- whose trees are not certain.
-pub record IsLegalOver (free start faults : ℕ) (history : List Entry) (h : Heap) (root last : ℕ) (opening : Volume)
+pub record IsLegalOver (free : ℕ) (start now : Counts) (history : List Entry) (h : Heap) (root last : ℕ) (opening : Volume)
     (foreigners : Foreigners) (events : List Event) : Type 0 where
   pub entries : entries_of events ≡ history
-  pub legal : IsLegal (setting_of free start faults opening foreigners) events
-  pub counted : (known_after (known_at opening.last (disk_counts start)) events).counts.disk ≤ faults
-  pub held : HoldsState h root last (state_after (setting_of free start faults opening foreigners) events)
+  pub legal : IsLegal (setting_of free start now opening foreigners) events
+  pub counted : AreLater (known_after (known_at opening.last start) events).counts now
+  pub held : HoldsState h root last (state_after (setting_of free start now opening foreigners) events)
 
 -- the same over these events and more: what each entry before them saw stays
-abbrev pub IsLegalBeyond : ℕ → ℕ → ℕ → List Entry → Heap → ℕ → ℕ → Volume → Foreigners → List Event → Type 0
-IsLegalBeyond free start faults history h root last opening foreigners events =
-    (more : List Event) × IsLegalOver free start faults history h root last opening foreigners (events ++ more)
+abbrev pub IsLegalBeyond : ℕ → Counts → Counts → List Entry → Heap → ℕ → ℕ → Volume → Foreigners → List Event → Type 0
+IsLegalBeyond free start now history h root last opening foreigners events =
+    (more : List Event) × IsLegalOver free start now history h root last opening foreigners (events ++ more)

@@ -1,5 +1,6 @@
 pub mod Ledger
 pub mod WrittenBack
+pub mod Counts
 pub mod History
 pub mod Caused
 pub mod Told

@@ -79,20 +79,18 @@ pub record IsMade (bigblocks : ℕ) (old new : Told) : Type 0 where
   pub stands : IsSettled (fresh bigblocks) new
   pub room : IsTooSmall bigblocks old → ⊥
 
-module _ {D I O : Type 0} where
-  -- A core as it is mounted over a disk that told this, whose faults were counted so far: nothing has happened yet, nothing
-  -- below the header is damaged, and whatever volume the disk stands for, the core stands for it.
-  -- The free big-blocks are counted as the bytes of such a volume leave them.
-  pub record IsMounted (old : Option Told) (faults : ℕ) (input : I) (output : O) (core : CoreState D I O) : Type 0 where
-    pub history : core.history ≡ []
-    pub told : core.heap.disk ≡ old
-    pub counts : (faults ≤ core.faults) × (core.start ≡ core.faults)
-    pub last : core.last ≡ core.header.last.0
-    pub caused : IsCausedRun core
-    pub free : core.free ≡ free_of core.heap
-    pub counted : IfSome old (CountsFree core.free core.header)
-    pub counting : IfSome old (λ t. HasHeader t.bytes core.header core.slot)
-    pub whole : IfSome old (λ t. IsWhole t.bytes core.header)
-    pub stands : IfSome old (λ t. (opening : Volume) (foreigners : Foreigners) → StandsFor t.bytes opening
-        → StandsOver core opening foreigners [])
-    pub streams : (core.input ≡ input) × (core.output ≡ output)
+-- A core as it is mounted over a disk that told this, whose faults were counted so far: nothing has happened yet, nothing
+-- below the header is damaged, and whatever volume the disk stands for, the core stands for it.
+-- The free big-blocks are counted as the bytes of such a volume leave them.
+pub record IsMounted (old : Option Told) (faults : ℕ) (core : CoreState) : Type 0 where
+  pub history : core.history ≡ []
+  pub told : core.heap.disk ≡ old
+  pub counts : (faults ≤ core.counts.disk) × (core.mounted.counts ≡ core.counts)
+  pub ids : (core.last ≡ core.boundary) × (core.mounted.first ≡ core.boundary) × (core.boundary ≡ core.header.last.0)
+  pub caused : IsCausedRun core
+  pub free : core.mounted.free ≡ free_of core.heap
+  pub counted : IfSome old (CountsFree core.mounted.free core.header)
+  pub counting : IfSome old (λ t. HasHeader t.bytes core.header core.slot)
+  pub whole : IfSome old (λ t. IsWhole t.bytes core.header)
+  pub stands : IfSome old (λ t. (opening : Volume) (foreigners : Foreigners) → StandsFor t.bytes opening
+      → StandsOver core opening foreigners [])

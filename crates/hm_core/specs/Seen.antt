@@ -2,22 +2,24 @@
 use Rattle.std.specs.Prelude.{◌-◌, vec_capacity, vec_len}
 use Rattle.hm_disk.specs.declared.disk.Disk.{Ghosts}
 use Rattle.hm_stored.specs.Space.{heap as heap_of_space}
-use Rattle.hm_core.specs.State.{CoreState}
+use Rattle.hm_core.specs.Counts.{disk_counts}
+use Rattle.hm_core.specs.State.{CoreDevices, CoreState}
 use Rattle.hm_core.specs.declared.volume.Core.{Core}
 
-abbrev pub seen : {D I O : Type 0} {g : Ghosts D} → Core D I O g → CoreState D I O
+abbrev pub seen : {D I O : Type 0} {g : Ghosts D} → Core D I O g → CoreState
 seen {g = g} c = record {
   history = c.history.items;
   spare = vec_capacity c.history - vec_len c.history;
   last = c.last.0;
+  boundary = c.header.last.0;
+  mounted = record { first = c.first.0; free = c.free; counts = disk_counts c.start };
+  counts = disk_counts (g.faults c.stored.space.disk);
   header = c.header;
   slot = c.slot;
-  free = c.free;
-  start = c.start;
-  faults = g.faults c.stored.space.disk;
   heap = heap_of_space c.stored.space;
   root = c.stored.root;
-  disk = c.stored.space.disk;
-  input = c.input;
-  output = c.output;
 }
+
+-- what it is over
+abbrev pub devices : {D I O : Type 0} {g : Ghosts D} → Core D I O g → CoreDevices D I O
+devices c = record { disk = c.stored.space.disk; input = c.input; output = c.output }

@@ -1,24 +1,34 @@
 -- What a contract sees of a core.
 use Rattle.std.specs.Prelude.{ℕ, List}
 use Rattle.hm_header.specs.declared.header.Header.{Header}
+use Rattle.hm_model.specs.Caused.{Counts}
 use Rattle.hm_model.specs.declared.entry.Entry.{Entry}
 use Rattle.hm_stored.specs.Heap.{Heap}
 
--- The run's history, and how many more entries it has room for; the last id that was drawn; the header on the disk, and the
--- slot that it stands in; how many big-blocks were free and how many faults of the disk were counted as the run began, and
--- how many of these were counted by now; what its space holds, and where the tree begins in it; and the disk and the two
--- streams.
-pub record CoreState (D I O : Type 0) : Type 0 where
+-- What there was as a volume was mounted: the last id, how many big-blocks were free, and how many faults of the devices were
+-- counted. No step changes it.
+pub record Mounted : Type 0 where
+  pub first : ℕ
+  pub free : ℕ
+  pub counts : Counts
+
+-- The run's history, and how many more entries it has room for; the last id that was drawn, and the last one that is on the
+-- disk; what there was at mounting, and the counts of faults by now; the header on the disk, and the slot that it stands in;
+-- what its space holds, and where the tree begins in it. No device is part of it.
+pub record CoreState : Type 0 where
   pub history : List Entry
   pub spare : ℕ
   pub last : ℕ
+  pub boundary : ℕ
+  pub mounted : Mounted
+  pub counts : Counts
   pub header : Header
   pub slot : ℕ
-  pub free : ℕ
-  pub start : ℕ
-  pub faults : ℕ
   pub heap : Heap
   pub root : ℕ
+
+-- the disk of a core, and the two streams that it keeps
+pub record CoreDevices (D I O : Type 0) : Type 0 where
   pub disk : D
   pub input : I
   pub output : O

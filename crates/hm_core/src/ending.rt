@@ -1,6 +1,6 @@
 // The end of the use of a volume.
 ghost use Rattle.hm_core.specs.Finished.{HandsBack, IsFinished};
-ghost use Rattle.hm_core.specs.Seen.{seen};
+ghost use Rattle.hm_core.specs.Seen.{devices, seen};
 ghost use Rattle.std.specs.Prelude.{◌≡◌};
 
 use crate::volume::Core;
@@ -15,7 +15,7 @@ impl<D: Disk, I, O> Core<D, I, O> {
     /// is a fault of the disk or want of memory, the disk may have no volume that can be opened.
     pub fn finish(self) -> (D, I, O, Result<(), Fault>)
         ensures disk { IsFinished (seen self) (D.told result.0) (D.faults result.0) result.3 }
-        ensures streams { (result.1 ≡ (seen self).input) × (result.2 ≡ (seen self).output) }
+        ensures streams { (result.1 ≡ (devices self).input) × (result.2 ≡ (devices self).output) }
     {
         if self.history.is_empty() {
             let (disk, input, output) = self.into_devices();
@@ -49,7 +49,7 @@ impl<D: Disk, I, O> Core<D, I, O> {
 
     /// Ends the use of the volume without a write, and hands back the disk and the streams.
     pub fn into_devices(self) -> (D, I, O)
-        ensures { HandsBack (seen self) result.0 result.1 result.2 }
+        ensures { HandsBack (devices self) result.0 result.1 result.2 }
     {
         let Core {
             stored,

@@ -1,6 +1,6 @@
 // The history of a core.
 ghost use Rattle.std.specs.Prelude.{◌≡◌, ◌≤◌, ◌<◌, OnErr, OnOk, Some, length, slice_get};
-ghost use Rattle.hm_core.specs.Seen.{seen};
+ghost use Rattle.hm_core.specs.Seen.{devices, seen};
 
 use crate::volume::Core;
 use hm_disk::Disk;
@@ -13,6 +13,7 @@ impl<D: Disk, I, O> Core<D, I, O> {
         ensures ok { OnOk result (entries ≤ (seen self.new).spare) }
         ensures err { OnErr result ((seen self.new).spare ≡ (seen self.old).spare) }
         ensures keeps { seen self.new ≡ record (seen self.old) { spare = (seen self.new).spare } }
+        ensures streams { devices self.new ≡ devices self.old }
     {
         self.history.reserve(entries as usize)?;
         Ok(())

@@ -12,6 +12,7 @@ ghost use Rattle.hm_key.specs.Versions.{IsBelow};
 ghost use Rattle.hm_key.specs.declared.element.Element.{Element};
 ghost use Rattle.hm_cursor.specs.Told.{HasReadingCause};
 ghost use Rattle.hm_model.specs.After.{Event};
+ghost use Rattle.hm_model.specs.Caused.{Counts};
 ghost use Rattle.hm_model.specs.Foreign.{Foreigners};
 ghost use Rattle.hm_model.specs.Legal.{IsLegal};
 ghost use Rattle.hm_model.specs.Needs.{floor};
@@ -27,6 +28,7 @@ ghost use Rattle.hm_stored.specs.Known.{AreKnown, is_known};
 ghost use Rattle.hm_stored.specs.Standing.{Holds};
 ghost use Rattle.hm_stored.specs.Told.{elements_told};
 ghost use Rattle.hm_core.specs.Calls.{Fails, IsNextCall, Serves};
+ghost use Rattle.hm_core.specs.Counts.{AreLater};
 ghost use Rattle.hm_core.specs.History.{IsLegalBeyond, IsLegalOver, setting_of};
 ghost use Rattle.hm_core.specs.Ledger.{IsPaid};
 ghost use Rattle.hm_core.specs.Told.{ArePages, HoldsSame, HoldsTold, OpensStore, TellsFailure, TellsHeld, TellsSpace, reply_to};
@@ -37,8 +39,8 @@ use hm_key::{ElementStore, Extents};
 /// A core begins with the empty history, over each volume that its space holds, whatever foreign
 /// masters there are.
 pub fn a_core_begins_with_no_history()
-    ensures { (free start faults : ℕ) (h : Heap) (root last : ℕ) (opening : Volume)
-        (foreigners : Foreigners) → start ≤ faults → HoldsVolume h root last opening →
+    ensures { (free : ℕ) (start faults : Counts) (h : Heap) (root last : ℕ) (opening : Volume)
+        (foreigners : Foreigners) → AreLater start faults → HoldsVolume h root last opening →
         IsLegalOver free start faults [] h root last opening foreigners [] }
 {}
 
@@ -47,11 +49,11 @@ pub fn a_core_begins_with_no_history()
 /// these events and more, and the space that came of it holds the volume after that call. The store knows
 /// nothing of the volume.
 pub fn a_served_call_goes_on<T: ElementStore + Extents>()
-    ensures { (free start faults faults' : ℕ) (history : List Entry) (h h' : Heap)
+    ensures { (free : ℕ) (start faults faults' : Counts) (history : List Entry) (h h' : Heap)
         (root root' last : ℕ) (opening : Volume) (foreigners : Foreigners) (events : List Event)
         (entry : Entry) (old new : T) →
         IsLegalOver free start faults history h root last opening foreigners events →
-        faults ≤ faults' → IsNextCall last entry →
+        AreLater faults faults' → IsNextCall last entry →
         Serves T.elements T.extents T.free (floor free history) last entry old new h h' root root' →
         IsLegalBeyond free start faults' (history ++ entry ∷ []) h' root' (last + 1) opening foreigners events }
 {}
@@ -59,22 +61,22 @@ pub fn a_served_call_goes_on<T: ElementStore + Extents>()
 /// A call that failed: the same, where the device failed or memory was refused, and the space that
 /// came of it holds what the one before held.
 pub fn a_failed_call_goes_on()
-    ensures { (free start faults faults' : ℕ) (history : List Entry) (h h' : Heap)
+    ensures { (free : ℕ) (start faults faults' : Counts) (history : List Entry) (h h' : Heap)
         (root root' last : ℕ) (opening : Volume) (foreigners : Foreigners) (events : List Event)
         (entry : Entry) →
         IsLegalOver free start faults history h root last opening foreigners events →
-        faults ≤ faults' → IsNextCall last entry → Fails faults faults' entry h h' root root' →
+        AreLater faults faults' → IsNextCall last entry → Fails faults.disk faults'.disk entry h h' root root' →
         IsLegalBeyond free start faults' (history ++ entry ∷ []) h' root' (last + 1) opening foreigners events }
 {}
 
 /// A call `df` that tells the pool of the space, and a number of free big-blocks that is not below the
 /// least: the same, and the space stays.
 pub fn a_call_that_tells_space_goes_on()
-    ensures { (free start faults faults' : ℕ) (history : List Entry) (h : Heap)
+    ensures { (free : ℕ) (start faults faults' : Counts) (history : List Entry) (h : Heap)
         (root last : ℕ) (opening : Volume) (foreigners : Foreigners) (events : List Event)
         (entry : Entry) →
         IsLegalOver free start faults history h root last opening foreigners events →
-        faults ≤ faults' → last < GREATEST_ID → entry.call ≡ Df → entry.id.0 ≡ last + 1 →
+        AreLater faults faults' → last < GREATEST_ID → entry.call ≡ Df → entry.id.0 ≡ last + 1 →
         TellsSpace free history h entry.reply →
         IsLegalBeyond free start faults' (history ++ entry ∷ []) h root (last + 1) opening foreigners events }
 {}
@@ -130,8 +132,8 @@ pub fn a_dropped_space_holds_what_was_held()
 
 /// A history that is legal while so many faults were counted is legal once more were.
 pub fn later_counts_leave_a_history_legal()
-    ensures { (free start faults faults' : ℕ) (opening : Volume) (foreigners : Foreigners)
-        (events : List Event) → faults ≤ faults' →
+    ensures { (free : ℕ) (start faults faults' : Counts) (opening : Volume) (foreigners : Foreigners)
+        (events : List Event) → AreLater faults faults' →
         IsLegal (setting_of free start faults opening foreigners) events →
         IsLegal (setting_of free start faults' opening foreigners) events }
 {}

@@ -3,7 +3,7 @@ ghost use Rattle.std.specs.Prelude.{◌≡◌, ◌≤◌, IfErr, IfOk, OnOk};
 ghost use Rattle.hm_types.specs.Told.{BothTell};
 ghost use Rattle.hm_header.specs.Range.{IsSize};
 ghost use Rattle.hm_core.specs.Opened.{HasOpenCause, IsMade, IsMounted, IsNotMade, IsNotMounted, IsOpenCaused};
-ghost use Rattle.hm_core.specs.Seen.{seen};
+ghost use Rattle.hm_core.specs.Seen.{devices, seen};
 
 use crate::fault::OpenFault;
 use crate::mounting::open_space;
@@ -52,7 +52,8 @@ impl<D: Disk, I, O> Core<D, I, O> {
         input: I,
         output: O,
     ) -> Result<Core<D, I, O>, (D, I, O, OpenFault)>
-        ensures ok { IfOk result (λ core. IsMounted (D.told disk) (D.faults disk) input output (seen core)) }
+        ensures ok { IfOk result (λ core. IsMounted (D.told disk) (D.faults disk) (seen core)) }
+        ensures streams { IfOk result (λ core. ((devices core).input ≡ input) × ((devices core).output ≡ output)) }
         ensures err { IfErr result (λ e. IsNotMounted (D.told disk) (D.told e.0) e.3
             × (e.1 ≡ input) × (e.2 ≡ output)) }
         ensures cause { IfErr result (λ e. (D.faults disk ≤ D.faults e.0)
@@ -71,6 +72,7 @@ impl<D: Disk, I, O> Core<D, I, O> {
                 header,
                 slot,
                 last: header.last,
+                first: header.last,
                 free,
                 start: space.disk().faults(),
                 history: Vec::new(alloc),

@@ -1,7 +1,7 @@
 // The steps of a core.
 ghost use Rattle.std.specs.Prelude.{◌≡◌, ◌≤◌};
-ghost use Rattle.hm_core.specs.Core.{Steps};
-ghost use Rattle.hm_core.specs.Seen.{seen};
+ghost use Rattle.hm_core.specs.Core.{LeavesDevices, Steps};
+ghost use Rattle.hm_core.specs.Seen.{devices, seen};
 ghost use Rattle.hm_core.specs.Served.{IsAsked};
 
 use crate::asked::answer_asked;
@@ -20,6 +20,7 @@ impl<D: Disk, I, O> Core<D, I, O> {
         requires since { since.0 ≤ (seen self.old).last }
         requires asked { IsAsked command }
         ensures steps { Steps (seen self.old) (seen self.new) lane line command result }
+        ensures streams { LeavesDevices (devices self.old) (devices self.new) result }
     {
         if self.last.0 == GREATEST_ID {
             return Step::Spent;
@@ -47,7 +48,7 @@ impl<D: Disk, I, O> Core<D, I, O> {
 
     /// The last id on the disk.
     pub fn boundary(&self) -> Id
-        ensures { result ≡ (seen self.now).header.last }
+        ensures { result.0 ≡ (seen self.now).boundary }
     {
         self.header.last
     }

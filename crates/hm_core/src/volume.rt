@@ -23,6 +23,7 @@ pub struct Core<D: Disk, I, O> {
     pub(crate) header: Header,
     pub(crate) slot: u8,
     pub(crate) last: Id,
+    pub(crate) first: Id,
     pub(crate) free: u32,
     pub(crate) start: u64,
     pub(crate) history: Vec<Entry>,

@@ -62,16 +62,15 @@ StoppedOpening-mount newfs a b c fault made not_mounted earlier caused = record 
   caused = caused_longer a.faults b.faults c.faults fault earlier caused;
 }
 
-module _ {D I O : Type 0} where
-  has_whole : (told : Option Told) (faults : ℕ) (input : I) (output : O) (core : CoreState D I O) → IsMounted told faults input output core
-      → IfSome told (λ t. HasWhole t.bytes)
-  has_whole None faults input output core mounted = tt
-  has_whole (Some t) faults input output core mounted = record { header = core.header; slot = core.slot; counts = mounted.counting; whole = mounted.whole }
+has_whole : (told : Option Told) (faults : ℕ) (core : CoreState) → IsMounted told faults core
+    → IfSome told (λ t. HasWhole t.bytes)
+has_whole None faults core mounted = tt
+has_whole (Some t) faults core mounted = record { header = core.header; slot = core.slot; counts = mounted.counting; whole = mounted.whole }
 
-  -- a volume was opened
-  pub OpensOn-mounted : (newfs : Option ℕ) (a b : Option Told) (faults : ℕ) (input : I) (output : O) (core : CoreState D I O) → MakesVolume newfs a b
-      → IsMounted b faults input output core → OpensOn newfs a core.heap.disk
-  OpensOn-mounted None a b faults input output core made mounted =
-      (mounted.told ∙ made, subst (λ (o : Option Told). IfSome o (λ t. HasWhole t.bytes)) made (has_whole b faults input output core mounted))
-  OpensOn-mounted (Some size) a b faults input output core made mounted =
-      subst (λ (o : Option Told). BothTell a o (IsMade size)) (sym mounted.told) made
+-- a volume was opened
+pub OpensOn-mounted : (newfs : Option ℕ) (a b : Option Told) (faults : ℕ) (core : CoreState) → MakesVolume newfs a b
+    → IsMounted b faults core → OpensOn newfs a core.heap.disk
+OpensOn-mounted None a b faults core made mounted =
+    (mounted.told ∙ made, subst (λ (o : Option Told). IfSome o (λ t. HasWhole t.bytes)) made (has_whole b faults core mounted))
+OpensOn-mounted (Some size) a b faults core made mounted =
+    subst (λ (o : Option Told). BothTell a o (IsMade size)) (sym mounted.told) made

@@ -1,5 +1,5 @@
 -- From the lines that were served on an open volume to the run of a script's lines on a disk.
-use Rattle.std.proofs.Common.{ℕ, ◌≤◌, List, [], ◌++◌, take, refl, sym, ◌∙◌, ap, append_assoc, arith, subst, inl, inr}
+use Rattle.std.proofs.Common.{◌≡◌, ℕ, ◌≤◌, List, [], ◌++◌, take, refl, sym, ◌∙◌, ap, append_assoc, arith, subst, inl, inr}
 use Rattle.std.specs.Prelude.{All, Contains, Err, IfErr, IfSome, IsSomeAnd, None, Ok, OnOk, Option, Result, Some}
 use Rattle.std.proofs.lemmas.List.Elements.{All-contains, Contains-append_left}
 use Rattle.hm_types.specs.Told.{BothTell}
@@ -7,18 +7,19 @@ use Rattle.hm_types.specs.declared.fault.Fault.{Fault}
 use Rattle.hm_types.specs.declared.fault.Fault.TheVariants.{Media as media, Damaged as damage, NoMemory as no_memory}
 use Rattle.hm_disk.specs.Crash.{Told}
 use Rattle.hm_header.specs.OnDisk.{HasHeader}
-use Rattle.hm_header.specs.declared.header.Header.{Header}
 use Rattle.hm_image.specs.Stands.{StandsFor}
 use Rattle.hm_model.specs.declared.line.Line.{Line}
 use Rattle.hm_model.specs.After.{Event}
+use Rattle.hm_model.specs.Caused.{Counts}
 use Rattle.hm_model.specs.Foreign.{Foreigners, no_foreigners}
 use Rattle.hm_model.specs.Volume.{Volume}
 use Rattle.hm_core.specs.Core.{StandsOver}
+use Rattle.hm_core.specs.Counts.{AreLater}
 use Rattle.hm_core.specs.Finished.{IsFinished, LeavesVolume as CoreLeaves}
 use Rattle.hm_core.specs.History.{volume_of}
 use Rattle.hm_core.specs.Mounting.{CountsFree}
 use Rattle.hm_core.specs.Opened.{IsMounted}
-use Rattle.hm_core.specs.State.{CoreState}
+use Rattle.hm_core.specs.State.{CoreState, Mounted}
 use Rattle.hm_shell.specs.declared.stop.Stop.{Stop}
 use Rattle.hm_shell.specs.Alone.{IsAlone, out_text}
 use Rattle.hm_shell.specs.Lines.{IsServedLine}
@@ -54,189 +55,194 @@ each_told : (o : Option Told) (P Q : Told → Type 0) → ((t : Told) → P t �
 each_told None P Q from p = tt
 each_told (Some t) P Q from p = from t p
 
-module _ {D I O : Type 0} where
-  -- what a core tells of the run
-  abbrev pub ran_of : CoreState D I O → Ran
-  ran_of core = record {
-    history = core.history;
-    first = core.header.last.0;
-    last = core.last;
-    free = core.free;
-    start = core.start;
-    faults = core.faults;
-  }
+-- what a core tells of the run
+abbrev pub ran_of : CoreState → Ran
+ran_of core = record {
+  history = core.history;
+  first = core.mounted.first;
+  last = core.last;
+  free = core.mounted.free;
+  start = core.mounted.counts;
+  counts = core.counts;
+}
 
-  module _ (told : Option Told) (faults : ℕ) (input : I) (output : O) (begun core : CoreState D I O)
-      (mounted : IsMounted told faults input output begun) (from : GoesFrom begun core) where
-    counted : (old new : ℕ) → old ≤ faults → core.faults ≤ new → IsCounted old new (ran_of core)
-    counted old new earlier later =
-        let counts = mounted.counts in let start = from.rest.start in let falls = from.never_falls in
-        let first = counts.0 in let second = counts.1 in
-        record {
-          begin = omega (arith, earlier, first, second, start);
-          rose = omega (arith, second, start, falls);
-          end = later;
-        }
+module _ (told : Option Told) (faults : ℕ) (begun core : CoreState)
+    (mounted : IsMounted told faults begun) (from : GoesFrom begun core) where
+  start_is : core.mounted.counts ≡ begun.counts
+  start_is = ap (λ (m : Mounted). m.counts) from.rest.mounted ∙ mounted.counts.1
 
-    -- each reply has its cause
-    has_causes : HasCauses (ran_of core)
-    has_causes = from.caused mounted.caused
-
-    -- and it began with what the disk told
-    begins_on : IfSome begun.heap.disk (BeginsOn (ran_of core))
-    begins_on = subst (λ (o : Option Told). IfSome o (BeginsOn (ran_of core))) (sym mounted.told) (by told mounted.counting mounted.counted) where
-      by : (o : Option Told) → IfSome o (λ t. HasHeader t.bytes begun.header begun.slot) → IfSome o (CountsFree begun.free begun.header)
-          → IfSome o (BeginsOn (ran_of core))
-      by None counts free = tt
-      by (Some t) counts free = record {
-        header = begun.header;
-        slot = begun.slot;
-        counts = counts;
-        first_is = ap (λ (h : Header). h.last.0) from.rest.header;
-        free_is = λ volume stands. from.rest.free ∙ free volume stands;
+  counted : (old new : ℕ) → old ≤ faults → core.counts.disk ≤ new → IsCounted old new (ran_of core)
+  counted old new earlier later =
+      let first = mounted.counts.0 in let start = ap (λ (c : Counts). c.disk) start_is in
+      record {
+        begin = omega (arith, earlier, first, start);
+        rose = subst (λ (c : Counts). AreLater c core.counts) (sym start_is) from.never_falls;
+        end = later;
       }
 
-    -- it stands for each volume that the disk stood for
-    abbrev StandsBySome : Volume → Foreigners → Type 0
-    StandsBySome opening foreigners = (events : List Event) × StandsOver core opening foreigners events
+  -- each reply has its cause
+  has_causes : HasCauses (ran_of core)
+  has_causes = from.caused mounted.caused
 
-    stands_now : OverEach begun.heap.disk StandsBySome
-    stands_now = subst (λ (o : Option Told). OverEach o StandsBySome) (sym mounted.told)
-        (each_told told _ _ (λ t stands opening foreigners is. from.goes_on opening foreigners [] (stands opening foreigners is)) mounted.stands)
-
-    has_history : (opening : Volume) (foreigners : Foreigners) → StandsBySome opening foreigners → HasHistory (ran_of core) opening foreigners
-    has_history opening foreigners (events, stands) = record {
-      events = events;
-      entries = stands.legal.entries;
-      legal = stands.legal.legal;
-      last = sym stands.legal.held.holds.last_is;
+  -- and it began with what the disk told
+  begins_on : IfSome begun.heap.disk (BeginsOn (ran_of core))
+  begins_on = subst (λ (o : Option Told). IfSome o (BeginsOn (ran_of core))) (sym mounted.told) (by told mounted.counting mounted.counted) where
+    by : (o : Option Told) → IfSome o (λ t. HasHeader t.bytes begun.header begun.slot) → IfSome o (CountsFree begun.mounted.free begun.header)
+        → IfSome o (BeginsOn (ran_of core))
+    by None counts free = tt
+    by (Some t) counts free = record {
+      header = begun.header;
+      slot = begun.slot;
+      counts = counts;
+      first_is = ap (λ (m : Mounted). m.first) from.rest.mounted ∙ mounted.ids.1 ∙ mounted.ids.2;
+      free_is = λ volume stands. ap (λ (m : Mounted). m.free) from.rest.mounted ∙ free volume stands;
     }
 
-    histories : OverEach begun.heap.disk (HasHistory (ran_of core))
-    histories = each_told begun.heap.disk _ _ (λ t stands opening foreigners is. has_history opening foreigners (stands opening foreigners is))
-        stands_now
+  -- it stands for each volume that the disk stood for
+  abbrev StandsBySome : Volume → Foreigners → Type 0
+  StandsBySome opening foreigners = (events : List Event) × StandsOver core opening foreigners events
 
-    module _ (disk : Seen Told) (done : Unit {0}) (finished : IsFinished core disk.told disk.faults (Ok done)) where
-      leaves : (opening : Volume) (foreigners : Foreigners) → StandsBySome opening foreigners → LeavesVolume (ran_of core) disk.told opening foreigners
-      unfolding has_history
-      leaves opening foreigners (events, stands) = record {
-        has = has_history opening foreigners (events, stands);
-        stands = told_after core.heap.disk disk.told _ _ stands.legal.held.holds.elements.1 (both_leave core.heap.disk disk.told finished.volume);
-      } where
-        both_leave : (a b : Option Told) → BothTell a b (λ s t. CoreLeaves core t.bytes)
-            → BothTell a b (λ s t. StandsFor t.bytes (volume_of opening foreigners events))
-        both_leave None None both = tt
-        both_leave None (Some t) both = absurd both
-        both_leave (Some s) None both = absurd both
-        both_leave (Some s) (Some t) both = both opening foreigners events stands
+  stands_now : OverEach begun.heap.disk StandsBySome
+  stands_now = subst (λ (o : Option Told). OverEach o StandsBySome) (sym mounted.told)
+      (each_told told _ _ (λ t stands opening foreigners is. from.goes_on opening foreigners [] (stands opening foreigners is)) mounted.stands)
 
-      is_kept : IsKept begun.heap.disk disk.told (ran_of core)
-      is_kept = record {
-        unwritten = λ none. (finished.nothing none).1 ∙ ap (λ h. h.disk) (from.idle none);
-        settled = λ some. each_told disk.told _ _ (λ t next. next.settled) (on_told core.heap.disk disk.told _ (finished.header some));
-        volume = each_told begun.heap.disk _ _ (λ t stands opening foreigners is. leaves opening foreigners (stands opening foreigners is))
-            stands_now;
-      }
-
-    -- damage is told of none
-    no_damage : (disk : Seen Told) (at kind : ℕ) → IsFinished core disk.told disk.faults (Err (damage at kind)) → IfSome begun.heap.disk StandsForNone
-    no_damage disk at kind finished = absurd finished.undamaged
-
-    write_cause : (disk : Seen Told) (fault : Fault) → IsFinished core disk.told disk.faults (Err fault)
-        → IsWriteCause begun.heap.disk core.faults disk.faults (of_fault fault)
-    write_cause disk (media before after) finished = finished.cause.caused
-    write_cause disk (damage at kind) finished = no_damage disk at kind finished
-    write_cause disk no_memory finished = tt
-
-  answers_all : (lines : List Line) (begun core : CoreState D I O) (old new : Option (List ℕ)) → All IsServedLine lines → Served lines begun core old new
-      → AnswersAll lines (ran_of core) old new
-  answers_all lines begun core old new each served = record {
-    text = out_text lines core.history;
-    out = answers_out core.last core.history lines (are_alone lines each) served.answers;
-    gained = served.gained;
+  has_history : (opening : Volume) (foreigners : Foreigners) → StandsBySome opening foreigners → HasHistory (ran_of core) opening foreigners
+  has_history opening foreigners (events, stands) = record {
+    events = events;
+    entries = stands.legal.entries;
+    legal = stands.legal.legal;
+    last = sym stands.legal.held.holds.last_is;
   }
 
-  answers_in_part : (lines : List Line) (begun core : CoreState D I O) (old new : Option (List ℕ)) → All IsServedLine lines
-      → (part : ServedInPart lines begun core old new)
-      → AnswersInPart lines (out_text part.before core.history ++ take part.printed (out_text part.last core.history)) (ran_of core)
-  answers_in_part lines begun core old new each part = record {
-    before = part.before;
-    last = part.last;
-    rest = part.rest;
-    split = part.split;
-    one = part.one;
-    out = answers_out core.last core.history (part.before ++ part.last) front part.answers;
-    printed = part.printed;
-    text_is = refl;
-  } where
-    front : All IsAlone (part.before ++ part.last)
-    front = each_from IsAlone (part.before ++ part.last) (λ l has. All-contains IsAlone lines l (are_alone lines each)
-        (subst (λ (ls : List Line). Contains ls l) (sym (part.split ∙ sym (append_assoc part.before part.last part.rest)))
-        (Contains-append_left (part.before ++ part.last) part.rest l has)))
+  histories : OverEach begun.heap.disk (HasHistory (ran_of core))
+  histories = each_told begun.heap.disk _ _ (λ t stands opening foreigners is. has_history opening foreigners (stands opening foreigners is))
+      stands_now
 
-  module _ (newfs : Option ℕ) (lines : List Line) (each : All IsServedLine lines) (old made new : Seen Told) (input : I) (output : O) (begun : CoreState D I O)
-      (makes : MakesVolume newfs old.told made.told) (earlier : old.faults ≤ made.faults) (mounted : IsMounted made.told made.faults input output begun) where
-    -- all lines were run, and the volume was written back
-    pub RunsAll-used : (old_out new_out : Option (List ℕ)) → UsesAll lines begun new old_out new_out → RunsAll newfs lines old new old_out new_out
-    RunsAll-used old_out new_out used = record {
-      opened = begun.heap.disk;
-      opens = OpensOn-mounted newfs old.told made.told made.faults input output begun makes mounted;
-      ran = ran_of used.core;
-      begins = begins_on made.told made.faults input output begun used.core mounted used.served.from;
-      caused = has_causes made.told made.faults input output begun used.core mounted used.served.from;
-      counted = counted made.told made.faults input output begun used.core mounted used.served.from old.faults new.faults earlier
-          used.finished.cause.never_falls;
-      answered = answers_all lines begun used.core old_out new_out each used.served;
-      kept = is_kept made.told made.faults input output begun used.core mounted used.served.from new tt used.finished;
+  module _ (disk : Seen Told) (done : Unit {0}) (finished : IsFinished core disk.told disk.faults (Ok done)) where
+    leaves : (opening : Volume) (foreigners : Foreigners) → StandsBySome opening foreigners → LeavesVolume (ran_of core) disk.told opening foreigners
+    unfolding has_history
+    leaves opening foreigners (events, stands) = record {
+      has = has_history opening foreigners (events, stands);
+      stands = told_after core.heap.disk disk.told _ _ stands.legal.held.holds.elements.1 (both_leave core.heap.disk disk.told finished.volume);
+    } where
+      both_leave : (a b : Option Told) → BothTell a b (λ s t. CoreLeaves core t.bytes)
+          → BothTell a b (λ s t. StandsFor t.bytes (volume_of opening foreigners events))
+      both_leave None None both = tt
+      both_leave None (Some t) both = absurd both
+      both_leave (Some s) None both = absurd both
+      both_leave (Some s) (Some t) both = both opening foreigners events stands
+
+    is_kept : IsKept begun.heap.disk disk.told (ran_of core)
+    is_kept = record {
+      unwritten = λ none. (finished.nothing none).1 ∙ ap (λ h. h.disk) (from.idle none);
+      settled = λ some. each_told disk.told _ _ (λ t next. next.settled) (on_told core.heap.disk disk.told _ (finished.header some));
+      volume = each_told begun.heap.disk _ _ (λ t stands opening foreigners is. leaves opening foreigners (stands opening foreigners is))
+          stands_now;
     }
 
-    -- the run stopped
-    pub StoppedUsing-stopped : (old_out new_out : Seen (List ℕ)) (stop : Stop) → StopsUsing lines begun new old_out new_out stop
-        → StoppedUsing newfs lines old new old_out new_out stop
-    StoppedUsing-stopped old_out new_out stop (inl at_line) =
-        let core = at_line.core in
-        let part = at_line.served in
-        record {
-          opened = begun.heap.disk;
-          opens = OpensOn-mounted newfs old.told made.told made.faults input output begun makes mounted;
-          ran = ran_of core;
-          begins = begins_on made.told made.faults input output begun core mounted part.from;
-          caused = has_causes made.told made.faults input output begun core mounted part.from;
-          counted = counted made.told made.faults input output begun core mounted part.from old.faults new.faults earlier
-              (let count = at_line.count in omega (arith, count));
-          legal = histories made.told made.faults input output begun core mounted part.from;
-          stops = inl (record {
-            text = out_text part.before core.history ++ take part.printed (out_text part.last core.history);
-            answered = answers_in_part lines begun core old_out.told new_out.told each part;
-            gained = part.gained;
-            cause = at_line.cause;
-          });
-        }
-    StoppedUsing-stopped old_out new_out stop (inr writing) =
-        let core = writing.core in
-        record {
-          opened = begun.heap.disk;
-          opens = OpensOn-mounted newfs old.told made.told made.faults input output begun makes mounted;
-          ran = ran_of core;
-          begins = begins_on made.told made.faults input output begun core mounted writing.served.from;
-          caused = has_causes made.told made.faults input output begun core mounted writing.served.from;
-          counted = counted made.told made.faults input output begun core mounted writing.served.from old.faults new.faults earlier
-              writing.finished.cause.never_falls;
-          legal = histories made.told made.faults input output begun core mounted writing.served.from;
-          stops = inr (record {
-            answered = answers_all lines begun core old_out.told new_out.told each writing.served;
-            cause = subst (IsWriteCause begun.heap.disk core.faults new.faults) (sym writing.stop_is)
-                (write_cause made.told made.faults input output begun core mounted writing.served.from new writing.fault writing.finished);
-          });
-        }
+  -- damage is told of what was no volume alone
+  no_damage : (disk : Seen Told) (at kind : ℕ) → IsFinished core disk.told disk.faults (Err (damage at kind)) → IfSome begun.heap.disk StandsForNone
+  no_damage disk at kind finished = each_told begun.heap.disk _ _ (λ t stands volume is. none volume (stands volume no_foreigners is))
+      stands_now where
+        none : (volume : Volume) → StandsBySome volume no_foreigners → ⊥
+        none volume (events, stands) =
+            where_told core.heap.disk _ ⊥ stands.legal.held.holds.elements.1 (finished.whole volume no_foreigners events stands)
 
-    -- the same where there was no error, and where there was one
-    pub RunsAll-opened : (old_out new_out : Option (List ℕ)) (r : Result (Unit {0}) Stop) → OnOk r (UsesAll lines begun new old_out new_out)
-        → OnOk r (RunsAll newfs lines old new old_out new_out)
-    RunsAll-opened old_out new_out (Ok done) used = RunsAll-used old_out new_out used
-    RunsAll-opened old_out new_out (Err stop) used = tt
+  write_cause : (disk : Seen Told) (fault : Fault) → IsFinished core disk.told disk.faults (Err fault)
+      → IsWriteCause begun.heap.disk core.counts.disk disk.faults (of_fault fault)
+  write_cause disk (media before after) finished = finished.cause.caused
+  write_cause disk (damage at kind) finished = no_damage disk at kind finished
+  write_cause disk no_memory finished = tt
 
-    pub StoppedRunning-opened : (old_out new_out : Seen (List ℕ)) (r : Result (Unit {0}) Stop) → IfErr r (StopsUsing lines begun new old_out new_out)
-        → IfErr r (StoppedRunning newfs lines old new old_out new_out)
-    StoppedRunning-opened old_out new_out (Ok done) stops = tt
-    StoppedRunning-opened old_out new_out (Err stop) stops = inr (StoppedUsing-stopped old_out new_out stop stops)
+answers_all : (lines : List Line) (begun core : CoreState) (old new : Option (List ℕ)) → All IsServedLine lines → Served lines begun core old new
+    → AnswersAll lines (ran_of core) old new
+answers_all lines begun core old new each served = record {
+  text = out_text lines core.history;
+  out = answers_out core.last core.history lines (are_alone lines each) served.answers;
+  gained = served.gained;
+}
+
+answers_in_part : (lines : List Line) (begun core : CoreState) (old new : Option (List ℕ)) → All IsServedLine lines
+    → (part : ServedInPart lines begun core old new)
+    → AnswersInPart lines (out_text part.before core.history ++ take part.printed (out_text part.last core.history)) (ran_of core)
+answers_in_part lines begun core old new each part = record {
+  before = part.before;
+  last = part.last;
+  rest = part.rest;
+  split = part.split;
+  one = part.one;
+  out = answers_out core.last core.history (part.before ++ part.last) front part.answers;
+  printed = part.printed;
+  text_is = refl;
+} where
+  front : All IsAlone (part.before ++ part.last)
+  front = each_from IsAlone (part.before ++ part.last) (λ l has. All-contains IsAlone lines l (are_alone lines each)
+      (subst (λ (ls : List Line). Contains ls l) (sym (part.split ∙ sym (append_assoc part.before part.last part.rest)))
+      (Contains-append_left (part.before ++ part.last) part.rest l has)))
+
+module _ (newfs : Option ℕ) (lines : List Line) (each : All IsServedLine lines) (old made new : Seen Told) (begun : CoreState)
+    (makes : MakesVolume newfs old.told made.told) (earlier : old.faults ≤ made.faults) (mounted : IsMounted made.told made.faults begun) where
+  -- all lines were run, and the volume was written back
+  pub RunsAll-used : (old_out new_out : Option (List ℕ)) → UsesAll lines begun new old_out new_out → RunsAll newfs lines old new old_out new_out
+  RunsAll-used old_out new_out used = record {
+    opened = begun.heap.disk;
+    opens = OpensOn-mounted newfs old.told made.told made.faults begun makes mounted;
+    ran = ran_of used.core;
+    begins = begins_on made.told made.faults begun used.core mounted used.served.from;
+    caused = has_causes made.told made.faults begun used.core mounted used.served.from;
+    counted = counted made.told made.faults begun used.core mounted used.served.from old.faults new.faults earlier
+        used.finished.cause.never_falls;
+    answered = answers_all lines begun used.core old_out new_out each used.served;
+    kept = is_kept made.told made.faults begun used.core mounted used.served.from new tt used.finished;
+  }
+
+  -- the run stopped
+  pub StoppedUsing-stopped : (old_out new_out : Seen (List ℕ)) (stop : Stop) → StopsUsing lines begun new old_out new_out stop
+      → StoppedUsing newfs lines old new old_out new_out stop
+  StoppedUsing-stopped old_out new_out stop (inl at_line) =
+      let core = at_line.core in
+      let part = at_line.served in
+      record {
+        opened = begun.heap.disk;
+        opens = OpensOn-mounted newfs old.told made.told made.faults begun makes mounted;
+        ran = ran_of core;
+        begins = begins_on made.told made.faults begun core mounted part.from;
+        caused = has_causes made.told made.faults begun core mounted part.from;
+        counted = counted made.told made.faults begun core mounted part.from old.faults new.faults earlier
+            (let count = at_line.count in omega (arith, count));
+        legal = histories made.told made.faults begun core mounted part.from;
+        stops = inl (record {
+          text = out_text part.before core.history ++ take part.printed (out_text part.last core.history);
+          answered = answers_in_part lines begun core old_out.told new_out.told each part;
+          gained = part.gained;
+          cause = at_line.cause;
+        });
+      }
+  StoppedUsing-stopped old_out new_out stop (inr writing) =
+      let core = writing.core in
+      record {
+        opened = begun.heap.disk;
+        opens = OpensOn-mounted newfs old.told made.told made.faults begun makes mounted;
+        ran = ran_of core;
+        begins = begins_on made.told made.faults begun core mounted writing.served.from;
+        caused = has_causes made.told made.faults begun core mounted writing.served.from;
+        counted = counted made.told made.faults begun core mounted writing.served.from old.faults new.faults earlier
+            writing.finished.cause.never_falls;
+        legal = histories made.told made.faults begun core mounted writing.served.from;
+        stops = inr (record {
+          answered = answers_all lines begun core old_out.told new_out.told each writing.served;
+          cause = subst (IsWriteCause begun.heap.disk core.counts.disk new.faults) (sym writing.stop_is)
+              (write_cause made.told made.faults begun core mounted writing.served.from new writing.fault writing.finished);
+        });
+      }
+
+  -- the same where there was no error, and where there was one
+  pub RunsAll-opened : (old_out new_out : Option (List ℕ)) (r : Result (Unit {0}) Stop) → OnOk r (UsesAll lines begun new old_out new_out)
+      → OnOk r (RunsAll newfs lines old new old_out new_out)
+  RunsAll-opened old_out new_out (Ok done) used = RunsAll-used old_out new_out used
+  RunsAll-opened old_out new_out (Err stop) used = tt
+
+  pub StoppedRunning-opened : (old_out new_out : Seen (List ℕ)) (r : Result (Unit {0}) Stop) → IfErr r (StopsUsing lines begun new old_out new_out)
+      → IfErr r (StoppedRunning newfs lines old new old_out new_out)
+  StoppedRunning-opened old_out new_out (Ok done) stops = tt
+  StoppedRunning-opened old_out new_out (Err stop) stops = inr (StoppedUsing-stopped old_out new_out stop stops)

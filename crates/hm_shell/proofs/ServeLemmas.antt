@@ -9,10 +9,11 @@ use Rattle.hm_pipe.proofs.PipeLemmas.{Gains-none, Gains-append}
 use Rattle.hm_model.specs.declared.entry.Entry.{Entry}
 use Rattle.hm_model.specs.declared.line.Line.{Line}
 use Rattle.hm_model.specs.Out.{IsOf, entry_words, printed_line, spent_words}
-use Rattle.hm_core.specs.Core.{Enters, KeepsRest, Steps}
-use Rattle.hm_core.specs.State.{CoreState}
+use Rattle.hm_core.specs.Core.{Enters, KeepsRest, KeepsStreams, Steps}
+use Rattle.hm_core.specs.State.{CoreDevices, CoreState}
 use Rattle.hm_core.specs.declared.step.Step.TheVariants.{Answered, Spent}
 use Rattle.hm_core.proofs.CoreLemmas.{goes_on_further, goes_on_still}
+use Rattle.hm_core.proofs.CountLemmas.{later_same, later_still}
 use Rattle.hm_shell.specs.declared.stop.Stop.{Stop}
 use Rattle.hm_shell.specs.declared.stop.Stop.TheVariants.{Usage, NotVolume, BadField, DiskFault, Damaged, ScriptFault, OutFault, NoMemory, BadLine, TooLong}
 use Rattle.hm_shell.specs.Alone.{Answers, IsAlone, line_text, out_text}
@@ -75,299 +76,298 @@ entry_there history e found place there is =
     sym (get_or_from_slice_get (history ++ e ∷ []) (length history) found e (subst (λ (k : ℕ). slice_get (history ++ e ∷ []) k ≡ Some found) there is))
     ∙ last_entry history e e
 
-module _ {D I O : Type 0} where
-  KeepsRest-none : (core : CoreState D I O) → KeepsRest core core
-  KeepsRest-none core = record { header = refl; slot = refl; free = refl; start = refl; input = refl; output = refl }
+-- two steps keep the streams where each does
+pub streams_more : {D I O : Type 0} (a b c : CoreDevices D I O) → KeepsStreams a b → KeepsStreams b c → KeepsStreams a c
+streams_more a b c first second = record { input = second.input ∙ first.input; output = second.output ∙ first.output }
 
-  KeepsRest-more : (a b c : CoreState D I O) → KeepsRest a b → KeepsRest b c → KeepsRest a c
-  KeepsRest-more a b c first second = record {
-    header = second.header ∙ first.header;
-    slot = second.slot ∙ first.slot;
-    free = second.free ∙ first.free;
-    start = second.start ∙ first.start;
-    input = second.input ∙ first.input;
-    output = second.output ∙ first.output;
-  }
+KeepsRest-none : (core : CoreState) → KeepsRest core core
+KeepsRest-none core = record { mounted = refl; boundary = refl; header = refl; slot = refl }
 
-  GoesFrom-none : (core : CoreState D I O) → GoesFrom core core
-  GoesFrom-none core = record {
-    rest = KeepsRest-none core;
-    never_falls = omega arith;
-    caused = λ run. run;
-    goes_on = goes_on_still core core (λ opening foreigners events stands. stands);
-    idle = λ none. refl;
-  }
+KeepsRest-more : (a b c : CoreState) → KeepsRest a b → KeepsRest b c → KeepsRest a c
+KeepsRest-more a b c first second = record {
+  mounted = second.mounted ∙ first.mounted;
+  boundary = second.boundary ∙ first.boundary;
+  header = second.header ∙ first.header;
+  slot = second.slot ∙ first.slot;
+}
 
-  -- room was made in a core
-  GoesFrom-reserved : (core : CoreState D I O) (spare : ℕ) → GoesFrom core (record core { spare = spare })
-  GoesFrom-reserved core spare = record {
-    rest = record { header = refl; slot = refl; free = refl; start = refl; input = refl; output = refl };
-    never_falls = omega arith;
-    caused = λ run. run;
-    goes_on = goes_on_still core (record core { spare = spare })
-        (λ opening foreigners events stands. record { legal = stands.legal; backed = stands.backed; untouched = stands.untouched });
-    idle = λ none. refl;
-  }
+GoesFrom-none : (core : CoreState) → GoesFrom core core
+GoesFrom-none core = record {
+  rest = KeepsRest-none core;
+  never_falls = later_same core.counts;
+  caused = λ run. run;
+  goes_on = goes_on_still core core (λ opening foreigners events stands. stands);
+  idle = λ none. refl;
+}
 
-  -- and a call was entered
-  GoesFrom-entered : (a b c : CoreState D I O) (lane number : ℕ) (command : _) → GoesFrom a b → Enters b c lane number command → GoesFrom a c
-  GoesFrom-entered a b c lane number command so_far enters = record {
-    rest = KeepsRest-more a b c so_far.rest enters.rest;
-    never_falls = (let first = so_far.never_falls in let second = enters.never_falls in omega (arith, first, second));
-    caused = λ run. enters.caused (so_far.caused run);
-    goes_on = goes_on_further a b c so_far.goes_on enters.goes_on;
-    idle = λ none. absurd (not_empty b.history enters.entry (sym enters.history ∙ none));
-  }
+-- room was made in a core
+GoesFrom-reserved : (core : CoreState) (spare : ℕ) → GoesFrom core (record core { spare = spare })
+GoesFrom-reserved core spare = record {
+  rest = record { mounted = refl; boundary = refl; header = refl; slot = refl };
+  never_falls = later_same core.counts;
+  caused = λ run. run;
+  goes_on = goes_on_still core (record core { spare = spare })
+      (λ opening foreigners events stands. record { legal = stands.legal; backed = stands.backed; untouched = stands.untouched });
+  idle = λ none. refl;
+}
 
-  -- What comes of one line more: the history answers it, it prints its text, and those before it print what they did.
-  record HasRun (lines : List Line) (line : Line) (begun old new : CoreState D I O) (text : List ℕ) : Type 0 where
-    pub from : GoesFrom begun new
-    pub answers : Answers new.last (lines ++ line ∷ []) new.history
-    pub up_to : (e : Entry) → Contains new.history e → e.id.0 ≤ new.last
-    pub earlier : out_text lines new.history ≡ out_text lines old.history
-    pub own : out_text (line ∷ []) new.history ≡ text
-    pub both : out_text (lines ++ line ∷ []) new.history ≡ out_text lines old.history ++ text
-    pub spare : old.spare ≤ new.spare + 1
+-- and a call was entered
+GoesFrom-entered : (a b c : CoreState) (lane number : ℕ) (command : _) → GoesFrom a b → Enters b c lane number command → GoesFrom a c
+GoesFrom-entered a b c lane number command so_far enters = record {
+  rest = KeepsRest-more a b c so_far.rest enters.rest;
+  never_falls = later_still a.counts b.counts c.counts so_far.never_falls enters.never_falls;
+  caused = λ run. enters.caused (so_far.caused run);
+  goes_on = goes_on_further a b c so_far.goes_on enters.goes_on;
+  idle = λ none. absurd (not_empty b.history enters.entry (sym enters.history ∙ none));
+}
 
-  module _ (lines : List Line) (line : Line) (later : (l : Line) → Contains lines l → l.number < line.number) (alone : IsAlone line)
-      (begun old : CoreState D I O) (held holds : Option (List ℕ)) (served : Served lines begun old held holds) where
-    module _ (new : CoreState D I O) (enters : Enters old new line.lane line.number line.command) where
-      own_entry : IsOf line enters.entry
-      own_entry = record { lane = enters.of_line.0; number = enters.of_line.1; command = enters.of_line.2 }
+-- What comes of one line more: the history answers it, it prints its text, and those before it print what they did.
+record HasRun (lines : List Line) (line : Line) (begun old new : CoreState) (text : List ℕ) : Type 0 where
+  pub from : GoesFrom begun new
+  pub answers : Answers new.last (lines ++ line ∷ []) new.history
+  pub up_to : (e : Entry) → Contains new.history e → e.id.0 ≤ new.last
+  pub earlier : out_text lines new.history ≡ out_text lines old.history
+  pub own : out_text (line ∷ []) new.history ≡ text
+  pub both : out_text (lines ++ line ∷ []) new.history ≡ out_text lines old.history ++ text
+  pub spare : old.spare ≤ new.spare + 1
 
-      above : (a : Entry) → Contains old.history a → a.id.0 < enters.entry.id.0
-      above a has = (let up_to = served.up_to a has in let id = enters.id.0 in omega (arith, up_to, id))
+module _ (lines : List Line) (line : Line) (later : (l : Line) → Contains lines l → l.number < line.number) (alone : IsAlone line)
+    (begun old : CoreState) (held holds : Option (List ℕ)) (served : Served lines begun old held holds) where
+  module _ (new : CoreState) (enters : Enters old new line.lane line.number line.command) where
+    own_entry : IsOf line enters.entry
+    own_entry = record { lane = enters.of_line.0; number = enters.of_line.1; command = enters.of_line.2 }
 
-      up_to_entered : (e : Entry) → Contains new.history e → e.id.0 ≤ new.last
-      up_to_entered e has = elim (Contains-append_cases old.history (enters.entry ∷ []) e (subst (λ (h : List Entry). Contains h e) enters.history has)) [
-        | inl before ↦ (let up_to = served.up_to e before in let id = enters.id.1 in omega (arith, up_to, id))
-        | inr here ↦ (let id = enters.id.0 in let last = enters.id.1 in
-            subst (λ (x : Entry). x.id.0 ≤ new.last) (only_one enters.entry e here) (omega (arith, id, last)))
-      ]
+    above : (a : Entry) → Contains old.history a → a.id.0 < enters.entry.id.0
+    above a has = (let up_to = served.up_to a has in let id = enters.id.0 in omega (arith, up_to, id))
 
-      has_entered : HasRun lines line begun old new (printed_line (entry_words enters.entry))
-      has_entered = record {
-        from = GoesFrom-entered begun old new line.lane line.number line.command served.from enters;
-        answers = rw enters.history
-            (answers_more lines old.history line later old.last enters.entry served.answers enters.left own_entry enters.silent above new.last);
-        up_to = up_to_entered;
-        earlier = rw enters.history (out_before lines old.history line later old.last served.answers enters.entry own_entry alone.single);
-        own = rw enters.history (append-nil (line_text (old.history ++ enters.entry ∷ []) line)
-            ∙ text_answered lines old.history line later old.last served.answers enters.entry own_entry alone.single);
-        both = rw enters.history (out_answered lines old.history line later old.last served.answers enters.entry own_entry alone.single);
-        spare = enters.spare;
-      }
+    up_to_entered : (e : Entry) → Contains new.history e → e.id.0 ≤ new.last
+    up_to_entered e has = elim (Contains-append_cases old.history (enters.entry ∷ []) e (subst (λ (h : List Entry). Contains h e) enters.history has)) [
+      | inl before ↦ (let up_to = served.up_to e before in let id = enters.id.1 in omega (arith, up_to, id))
+      | inr here ↦ (let id = enters.id.0 in let last = enters.id.1 in
+          subst (λ (x : Entry). x.id.0 ≤ new.last) (only_one enters.entry e here) (omega (arith, id, last)))
+    ]
 
-    has_spent : old.last ≡ GREATEST_ID → HasRun lines line begun old old (printed_line spent_words)
-    has_spent greatest = record {
-      from = served.from;
-      answers = answers_spent lines old.history line later old.last greatest served.answers;
-      up_to = served.up_to;
-      earlier = refl;
-      own = append-nil (line_text old.history line) ∙ text_spent lines old.history line later old.last served.answers;
-      both = out_spent lines old.history line later old.last served.answers;
-      spare = omega arith;
+    has_entered : HasRun lines line begun old new (printed_line (entry_words enters.entry))
+    has_entered = record {
+      from = GoesFrom-entered begun old new line.lane line.number line.command served.from enters;
+      answers = rw enters.history
+          (answers_more lines old.history line later old.last enters.entry served.answers enters.left own_entry enters.silent above new.last);
+      up_to = up_to_entered;
+      earlier = rw enters.history (out_before lines old.history line later old.last served.answers enters.entry own_entry alone.single);
+      own = rw enters.history (append-nil (line_text (old.history ++ enters.entry ∷ []) line)
+          ∙ text_answered lines old.history line later old.last served.answers enters.entry own_entry alone.single);
+      both = rw enters.history (out_answered lines old.history line later old.last served.answers enters.entry own_entry alone.single);
+      spare = enters.spare;
     }
 
-    has_run : (new : CoreState D I O) (text : List ℕ) → RunsLine old new line text → HasRun lines line begun old new text
-    has_run new text (inl entered) = rw entered.1 (has_entered new entered.0)
-    has_run new text (inr spent) = rw (spent.1, spent.2) (has_spent spent.0)
-
-    -- one more line was run and printed
-    Served-line : (new : CoreState D I O) (gained : Option (List ℕ)) → ServesLine old new line holds gained → Served (lines ++ line ∷ []) begun new held gained
-    Served-line new gained serves =
-        let run = has_run new serves.text serves.runs in
-        record {
-          from = run.from;
-          answers = run.answers;
-          up_to = run.up_to;
-          gained = rw run.both (Gains-append held holds gained (out_text lines old.history) serves.text served.gained serves.gained);
-        }
-
-    spare_left : (new : CoreState D I O) (gained : Option (List ℕ)) → ServesLine old new line holds gained → old.spare ≤ new.spare + 1
-    spare_left new gained serves = (has_run new serves.text serves.runs).spare
-
-    -- one more line was run, and printed in part or not at all
-    part_line : (all rest : List Line) (new : CoreState D I O) (second third : Seen (List ℕ)) (stop : Stop) → holds ≡ second.told
-        → all ≡ lines ++ line ∷ rest → StoppedServing old new line second third stop → ServedInPart all begun new held third.told
-    part_line all rest new second third stop same split stopped =
-        let run = has_run new stopped.text stopped.runs in
-        let part = stopped_front stopped.text second third stop stopped.printing in
-        record {
-          before = lines;
-          last = line ∷ [];
-          rest = rest;
-          split = split;
-          one = omega arith;
-          from = run.from;
-          answers = run.answers;
-          printed = part.0;
-          gained = rw (run.earlier, run.own)
-              (Gains-append held holds third.told (out_text lines old.history) (take part.0 stopped.text) served.gained (rw same part.1));
-        }
-
-  -- no line was served yet
-  Served-none : (begun core : CoreState D I O) (held : Option (List ℕ)) → GoesFrom begun core → core.history ≡ [] → Served [] begun core held held
-  Served-none begun core held from none = record {
-    from = from;
-    answers = rw none (answers_none core.last);
-    up_to = λ e has. (let lt = (subst (λ (h : List Entry). Contains h e) none has).1 in absurd (omega (arith, lt)));
-    gained = Gains-none held;
+  has_spent : old.last ≡ GREATEST_ID → HasRun lines line begun old old (printed_line spent_words)
+  has_spent greatest = record {
+    from = served.from;
+    answers = answers_spent lines old.history line later old.last greatest served.answers;
+    up_to = served.up_to;
+    earlier = refl;
+    own = append-nil (line_text old.history line) ∙ text_spent lines old.history line later old.last served.answers;
+    both = out_spent lines old.history line later old.last served.answers;
+    spare = omega arith;
   }
 
-  pub Serving-none : (lines : List Line) (core : CoreState D I O) (held : Option (List ℕ)) → core.history ≡ [] → 2 * length lines ≤ core.spare
-      → Serving lines [] lines core core held held
-  Serving-none lines core held none room = record { split = refl; served = Served-none core core held (GoesFrom-none core) none; room = room }
+  has_run : (new : CoreState) (text : List ℕ) → RunsLine old new line text → HasRun lines line begun old new text
+  has_run new text (inl entered) = rw entered.1 (has_entered new entered.0)
+  has_run new text (inr spent) = rw (spent.1, spent.2) (has_spent spent.0)
 
-  -- nothing was served
-  pub ServedInPart-none : (lines : List Line) (begun core : CoreState D I O) (held : Option (List ℕ)) → core ≡ record begun { spare = core.spare }
-      → begun.history ≡ []
-      → ServedInPart lines begun core held held
-  ServedInPart-none lines begun core held keeps none =
-      let from : GoesFrom begun core = subst (λ (c : CoreState D I O). GoesFrom begun c) (sym keeps) (GoesFrom-reserved begun core.spare) in
-      let empty : core.history ≡ [] = ap (λ (c : CoreState D I O). c.history) keeps ∙ none in
+  -- one more line was run and printed
+  Served-line : (new : CoreState) (gained : Option (List ℕ)) → ServesLine old new line holds gained → Served (lines ++ line ∷ []) begun new held gained
+  Served-line new gained serves =
+      let run = has_run new serves.text serves.runs in
       record {
-        before = [];
-        last = [];
-        rest = lines;
-        split = refl;
-        one = omega arith;
-        from = from;
-        answers = rw empty (answers_none core.last);
-        printed = 0;
-        gained = Gains-none held;
+        from = run.from;
+        answers = run.answers;
+        up_to = run.up_to;
+        gained = rw run.both (Gains-append held holds gained (out_text lines old.history) serves.text served.gained serves.gained);
       }
 
-  -- the next line is a served one, and there is room for it
-  pub room_next : (lines before rest : List Line) (line : Line) (begun core : CoreState D I O) (held holds : Option (List ℕ))
-      → Serving lines before (line ∷ rest) begun core held holds → 2 ≤ core.spare
-  room_next lines before rest line begun core held holds so_far = (let room = so_far.room in omega (arith, room))
+  spare_left : (new : CoreState) (gained : Option (List ℕ)) → ServesLine old new line holds gained → old.spare ≤ new.spare + 1
+  spare_left new gained serves = (has_run new serves.text serves.runs).spare
 
-  module _ (lines before rest : List Line) (line : Line) (each : All IsServedLine lines) (rising : AreRising lines)
-      (begun old new : CoreState D I O) where
-    pub Serving-more : (held holds gained : Option (List ℕ)) → Serving lines before (line ∷ rest) begun old held holds → ServesLine old new line holds gained
-        → Serving lines (before ++ line ∷ []) rest begun new held gained
-    Serving-more held holds gained so_far serves =
-        let later = below_next lines before rest line rising so_far.split in
-        let is_alone = (served_next lines before rest line each so_far.split).by_itself in
-        record {
-          split = so_far.split ∙ sym (append_assoc before (line ∷ []) rest);
-          served = Served-line before line later is_alone begun old held holds so_far.served new gained serves;
-          room = (let room = so_far.room in let left = spare_left before line later is_alone begun old held holds so_far.served new gained serves in omega
-              (arith, room, left));
-        }
+  -- one more line was run, and printed in part or not at all
+  part_line : (all rest : List Line) (new : CoreState) (second third : Seen (List ℕ)) (stop : Stop) → holds ≡ second.told
+      → all ≡ lines ++ line ∷ rest → StoppedServing old new line second third stop → ServedInPart all begun new held third.told
+  part_line all rest new second third stop same split stopped =
+      let run = has_run new stopped.text stopped.runs in
+      let part = stopped_front stopped.text second third stop stopped.printing in
+      record {
+        before = lines;
+        last = line ∷ [];
+        rest = rest;
+        split = split;
+        one = omega arith;
+        from = run.from;
+        answers = run.answers;
+        printed = part.0;
+        gained = rw (run.earlier, run.own)
+            (Gains-append held holds third.told (out_text lines old.history) (take part.0 stopped.text) served.gained (rw same part.1));
+      }
 
-    -- the lines before were served when this one stopped
-    pub ServedInPart-stopped : (held : Option (List ℕ)) (second third : Seen (List ℕ)) (stop : Stop)
-        → Serving lines before (line ∷ rest) begun old held second.told
-        → StoppedServing old new line second third stop → ServedInPart lines begun new held third.told
-    ServedInPart-stopped held second third stop so_far stopped =
-        part_line before line (below_next lines before rest line rising so_far.split) (served_next lines before rest line each so_far.split).by_itself
-        begun old held second.told so_far.served lines rest new second third stop refl so_far.split stopped
+-- no line was served yet
+Served-none : (begun core : CoreState) (held : Option (List ℕ)) → GoesFrom begun core → core.history ≡ [] → Served [] begun core held held
+Served-none begun core held from none = record {
+  from = from;
+  answers = rw none (answers_none core.last);
+  up_to = λ e has. (let lt = (subst (λ (h : List Entry). Contains h e) none has).1 in absurd (omega (arith, lt)));
+  gained = Gains-none held;
+}
 
-    -- and this is why
-    pub IsOutCause-stopped : (second third : Seen (List ℕ)) (stop : Stop) → StoppedServing old new line second third stop
-        → IsOutCause second.faults third.faults stop
-    IsOutCause-stopped second third stop stopped = IsOutCause-printing stopped.text second third stop stopped.printing
+pub Serving-none : (lines : List Line) (core : CoreState) (held : Option (List ℕ)) → core.history ≡ [] → 2 * length lines ≤ core.spare
+    → Serving lines [] lines core core held held
+Serving-none lines core held none room = record { split = refl; served = Served-none core core held (GoesFrom-none core) none; room = room }
 
-  -- all were served
-  pub Served-all : (lines before : List Line) (begun core : CoreState D I O) (held holds : Option (List ℕ)) → Serving lines before [] begun core held holds
-      → Served lines begun core held holds
-  Served-all lines before begun core held holds so_far =
-      subst (λ (ls : List Line). Served ls begun core held holds) (sym (append-nil before) ∙ sym so_far.split) so_far.served
+-- nothing was served
+pub ServedInPart-none : (lines : List Line) (begun core : CoreState) (held : Option (List ℕ)) → core ≡ record begun { spare = core.spare }
+    → begun.history ≡ []
+    → ServedInPart lines begun core held held
+ServedInPart-none lines begun core held keeps none =
+    let from : GoesFrom begun core = subst (λ (c : CoreState). GoesFrom begun c) (sym keeps) (GoesFrom-reserved begun core.spare) in
+    let empty : core.history ≡ [] = ap (λ (c : CoreState). c.history) keeps ∙ none in
+    record {
+      before = [];
+      last = [];
+      rest = lines;
+      split = refl;
+      one = omega arith;
+      from = from;
+      answers = rw empty (answers_none core.last);
+      printed = 0;
+      gained = Gains-none held;
+    }
 
-  -- what was served from a core in which room was made was served from it
-  GoesFrom-after : (a c : CoreState D I O) (spare : ℕ) → GoesFrom (record a { spare = spare }) c → GoesFrom a c
-  GoesFrom-after a c spare from = record {
-    rest = record {
-      header = from.rest.header;
-      slot = from.rest.slot;
-      free = from.rest.free;
-      start = from.rest.start;
-      input = from.rest.input;
-      output = from.rest.output;
-    };
-    never_falls = from.never_falls;
-    caused = from.caused;
-    goes_on = goes_on_further a (record a { spare = spare }) c (GoesFrom-reserved a spare).goes_on from.goes_on;
-    idle = from.idle;
-  }
+-- the next line is a served one, and there is room for it
+pub room_next : (lines before rest : List Line) (line : Line) (begun core : CoreState) (held holds : Option (List ℕ))
+    → Serving lines before (line ∷ rest) begun core held holds → 2 ≤ core.spare
+room_next lines before rest line begun core held holds so_far = (let room = so_far.room in omega (arith, room))
 
-  pub Served-after : (lines : List Line) (a b c : CoreState D I O) (held holds : Option (List ℕ)) → b ≡ record a { spare = b.spare }
-      → Served lines b c held holds → Served lines a c held holds
-  Served-after lines a b c held holds keeps served = record {
-    from = GoesFrom-after a c b.spare (subst (λ (x : CoreState D I O). GoesFrom x c) keeps served.from);
-    answers = served.answers;
-    up_to = served.up_to;
-    gained = served.gained;
-  }
+module _ (lines before rest : List Line) (line : Line) (each : All IsServedLine lines) (rising : AreRising lines)
+    (begun old new : CoreState) where
+  pub Serving-more : (held holds gained : Option (List ℕ)) → Serving lines before (line ∷ rest) begun old held holds → ServesLine old new line holds gained
+      → Serving lines (before ++ line ∷ []) rest begun new held gained
+  Serving-more held holds gained so_far serves =
+      let later = below_next lines before rest line rising so_far.split in
+      let is_alone = (served_next lines before rest line each so_far.split).by_itself in
+      record {
+        split = so_far.split ∙ sym (append_assoc before (line ∷ []) rest);
+        served = Served-line before line later is_alone begun old held holds so_far.served new gained serves;
+        room = (let room = so_far.room in let left = spare_left before line later is_alone begun old held holds so_far.served new gained serves in omega
+            (arith, room, left));
+      }
 
-  pub ServedInPart-after : (lines : List Line) (a b c : CoreState D I O) (held holds : Option (List ℕ)) → b ≡ record a { spare = b.spare }
-      → ServedInPart lines b c held holds → ServedInPart lines a c held holds
-  ServedInPart-after lines a b c held holds keeps part = record {
-    before = part.before;
-    last = part.last;
-    rest = part.rest;
-    split = part.split;
-    one = part.one;
-    from = GoesFrom-after a c b.spare (subst (λ (x : CoreState D I O). GoesFrom x c) keeps part.from);
-    answers = part.answers;
-    printed = part.printed;
-    gained = part.gained;
-  }
+  -- the lines before were served when this one stopped
+  pub ServedInPart-stopped : (held : Option (List ℕ)) (second third : Seen (List ℕ)) (stop : Stop)
+      → Serving lines before (line ∷ rest) begun old held second.told
+      → StoppedServing old new line second third stop → ServedInPart lines begun new held third.told
+  ServedInPart-stopped held second third stop so_far stopped =
+      part_line before line (below_next lines before rest line rising so_far.split) (served_next lines before rest line each so_far.split).by_itself
+      begun old held second.told so_far.served lines rest new second third stop refl so_far.split stopped
 
-  -- the same where there was no error, and where there was one
-  pub served_after : (lines : List Line) (a b c : CoreState D I O) (held holds : Option (List ℕ)) (r : Result (Unit {0}) Stop)
-      → b ≡ record a { spare = b.spare }
-      → OnOk r (Served lines b c held holds) → OnOk r (Served lines a c held holds)
-  served_after lines a b c held holds (Ok done) keeps served = Served-after lines a b c held holds keeps served
-  served_after lines a b c held holds (Err stop) keeps served = tt
+  -- and this is why
+  pub IsOutCause-stopped : (second third : Seen (List ℕ)) (stop : Stop) → StoppedServing old new line second third stop
+      → IsOutCause second.faults third.faults stop
+  IsOutCause-stopped second third stop stopped = IsOutCause-printing stopped.text second third stop stopped.printing
 
-  pub part_after : (lines : List Line) (a b c : CoreState D I O) (held holds : Option (List ℕ)) (r : Result (Unit {0}) Stop) → b ≡ record a { spare = b.spare }
-      → OnErr r (ServedInPart lines b c held holds) → OnErr r (ServedInPart lines a c held holds)
-  part_after lines a b c held holds (Ok done) keeps part = tt
-  part_after lines a b c held holds (Err stop) keeps part = ServedInPart-after lines a b c held holds keeps part
+-- all were served
+pub Served-all : (lines before : List Line) (begun core : CoreState) (held holds : Option (List ℕ)) → Serving lines before [] begun core held holds
+    → Served lines begun core held holds
+Served-all lines before begun core held holds so_far =
+    subst (λ (ls : List Line). Served ls begun core held holds) (sym (append-nil before) ∙ sym so_far.split) so_far.served
 
-  module _ (old new : CoreState D I O) (line : Line) (r : Result (Unit {0}) Stop) where
-    -- a line was called, and its entry printed or not
-    module _ (place : ℕ) (e : Entry) (steps : Steps old new line.lane line.number line.command (Answered place))
-        (there : slice_get new.history place ≡ Some e) where
-      runs_answered : RunsLine old new line (printed_line (entry_words e))
-      runs_answered = inl (
-        steps.1,
-        ap (λ (x : Entry). printed_line (entry_words x))
-            (entry_there old.history steps.1.entry e place steps.0 (subst (λ (h : List Entry). slice_get h place ≡ Some e) steps.1.history there)),
-      )
+-- what was served from a core in which room was made was served from it
+GoesFrom-after : (a c : CoreState) (spare : ℕ) → GoesFrom (record a { spare = spare }) c → GoesFrom a c
+GoesFrom-after a c spare from = record {
+  rest = record {
+    mounted = from.rest.mounted;
+    boundary = from.rest.boundary;
+    header = from.rest.header;
+    slot = from.rest.slot;
+  };
+  never_falls = from.never_falls;
+  caused = from.caused;
+  goes_on = goes_on_further a (record a { spare = spare }) c (GoesFrom-reserved a spare).goes_on from.goes_on;
+  idle = from.idle;
+}
 
-      pub answered_printed : (held holds : Option (List ℕ)) → OnOk r (Gains held (printed_line (entry_words e)) holds)
-          → OnOk r (ServesLine old new line held holds)
-      answered_printed held holds gained = by r gained where
-        by : (r : Result (Unit {0}) Stop) → OnOk r (Gains held (printed_line (entry_words e)) holds) → OnOk r (ServesLine old new line held holds)
-        by (Ok done) gained = record { text = printed_line (entry_words e); runs = runs_answered; gained = gained }
-        by (Err stop) gained = tt
+pub Served-after : (lines : List Line) (a b c : CoreState) (held holds : Option (List ℕ)) → b ≡ record a { spare = b.spare }
+    → Served lines b c held holds → Served lines a c held holds
+Served-after lines a b c held holds keeps served = record {
+  from = GoesFrom-after a c b.spare (subst (λ (x : CoreState). GoesFrom x c) keeps served.from);
+  answers = served.answers;
+  up_to = served.up_to;
+  gained = served.gained;
+}
 
-      pub answered_stopped : (held holds : Seen (List ℕ)) → IfErr r (StoppedPrinting (printed_line (entry_words e)) held holds)
+pub ServedInPart-after : (lines : List Line) (a b c : CoreState) (held holds : Option (List ℕ)) → b ≡ record a { spare = b.spare }
+    → ServedInPart lines b c held holds → ServedInPart lines a c held holds
+ServedInPart-after lines a b c held holds keeps part = record {
+  before = part.before;
+  last = part.last;
+  rest = part.rest;
+  split = part.split;
+  one = part.one;
+  from = GoesFrom-after a c b.spare (subst (λ (x : CoreState). GoesFrom x c) keeps part.from);
+  answers = part.answers;
+  printed = part.printed;
+  gained = part.gained;
+}
+
+-- the same where there was no error, and where there was one
+pub served_after : (lines : List Line) (a b c : CoreState) (held holds : Option (List ℕ)) (r : Result (Unit {0}) Stop)
+    → b ≡ record a { spare = b.spare }
+    → OnOk r (Served lines b c held holds) → OnOk r (Served lines a c held holds)
+served_after lines a b c held holds (Ok done) keeps served = Served-after lines a b c held holds keeps served
+served_after lines a b c held holds (Err stop) keeps served = tt
+
+pub part_after : (lines : List Line) (a b c : CoreState) (held holds : Option (List ℕ)) (r : Result (Unit {0}) Stop) → b ≡ record a { spare = b.spare }
+    → OnErr r (ServedInPart lines b c held holds) → OnErr r (ServedInPart lines a c held holds)
+part_after lines a b c held holds (Ok done) keeps part = tt
+part_after lines a b c held holds (Err stop) keeps part = ServedInPart-after lines a b c held holds keeps part
+
+module _ (old new : CoreState) (line : Line) (r : Result (Unit {0}) Stop) where
+  -- a line was called, and its entry printed or not
+  module _ (place : ℕ) (e : Entry) (steps : Steps old new line.lane line.number line.command (Answered place))
+      (there : slice_get new.history place ≡ Some e) where
+    runs_answered : RunsLine old new line (printed_line (entry_words e))
+    runs_answered = inl (
+      steps.1,
+      ap (λ (x : Entry). printed_line (entry_words x))
+          (entry_there old.history steps.1.entry e place steps.0 (subst (λ (h : List Entry). slice_get h place ≡ Some e) steps.1.history there)),
+    )
+
+    pub answered_printed : (held holds : Option (List ℕ)) → OnOk r (Gains held (printed_line (entry_words e)) holds)
+        → OnOk r (ServesLine old new line held holds)
+    answered_printed held holds gained = by r gained where
+      by : (r : Result (Unit {0}) Stop) → OnOk r (Gains held (printed_line (entry_words e)) holds) → OnOk r (ServesLine old new line held holds)
+      by (Ok done) gained = record { text = printed_line (entry_words e); runs = runs_answered; gained = gained }
+      by (Err stop) gained = tt
+
+    pub answered_stopped : (held holds : Seen (List ℕ)) → IfErr r (StoppedPrinting (printed_line (entry_words e)) held holds)
+        → IfErr r (StoppedServing old new line held holds)
+    answered_stopped held holds stopped = by r stopped where
+      by : (r : Result (Unit {0}) Stop) → IfErr r (StoppedPrinting (printed_line (entry_words e)) held holds)
           → IfErr r (StoppedServing old new line held holds)
-      answered_stopped held holds stopped = by r stopped where
-        by : (r : Result (Unit {0}) Stop) → IfErr r (StoppedPrinting (printed_line (entry_words e)) held holds)
-            → IfErr r (StoppedServing old new line held holds)
-        by (Ok done) stopped = tt
-        by (Err stop) stopped = record { text = printed_line (entry_words e); runs = runs_answered; printing = stopped }
+      by (Ok done) stopped = tt
+      by (Err stop) stopped = record { text = printed_line (entry_words e); runs = runs_answered; printing = stopped }
 
-    -- it found no id left
-    module _ (steps : Steps old new line.lane line.number line.command Spent) where
-      runs_spent : RunsLine old new line (printed_line spent_words)
-      runs_spent = inr (steps.0, steps.1, refl)
+  -- it found no id left
+  module _ (steps : Steps old new line.lane line.number line.command Spent) where
+    runs_spent : RunsLine old new line (printed_line spent_words)
+    runs_spent = inr (steps.0, steps.1, refl)
 
-      pub spent_printed : (held holds : Option (List ℕ)) → OnOk r (Gains held (printed_line spent_words) holds) → OnOk r (ServesLine old new line held holds)
-      spent_printed held holds gained = by r gained where
-        by : (r : Result (Unit {0}) Stop) → OnOk r (Gains held (printed_line spent_words) holds) → OnOk r (ServesLine old new line held holds)
-        by (Ok done) gained = record { text = printed_line spent_words; runs = runs_spent; gained = gained }
-        by (Err stop) gained = tt
+    pub spent_printed : (held holds : Option (List ℕ)) → OnOk r (Gains held (printed_line spent_words) holds) → OnOk r (ServesLine old new line held holds)
+    spent_printed held holds gained = by r gained where
+      by : (r : Result (Unit {0}) Stop) → OnOk r (Gains held (printed_line spent_words) holds) → OnOk r (ServesLine old new line held holds)
+      by (Ok done) gained = record { text = printed_line spent_words; runs = runs_spent; gained = gained }
+      by (Err stop) gained = tt
 
-      pub spent_stopped : (held holds : Seen (List ℕ)) → IfErr r (StoppedPrinting (printed_line spent_words) held holds)
-          → IfErr r (StoppedServing old new line held holds)
-      spent_stopped held holds stopped = by r stopped where
-        by : (r : Result (Unit {0}) Stop) → IfErr r (StoppedPrinting (printed_line spent_words) held holds) → IfErr r (StoppedServing old new line held holds)
-        by (Ok done) stopped = tt
-        by (Err stop) stopped = record { text = printed_line spent_words; runs = runs_spent; printing = stopped }
+    pub spent_stopped : (held holds : Seen (List ℕ)) → IfErr r (StoppedPrinting (printed_line spent_words) held holds)
+        → IfErr r (StoppedServing old new line held holds)
+    spent_stopped held holds stopped = by r stopped where
+      by : (r : Result (Unit {0}) Stop) → IfErr r (StoppedPrinting (printed_line spent_words) held holds) → IfErr r (StoppedServing old new line held holds)
+      by (Ok done) stopped = tt
+      by (Err stop) stopped = record { text = printed_line spent_words; runs = runs_spent; printing = stopped }

@@ -9,12 +9,14 @@ use Rattle.hm_image.specs.Stands.{StandsFor}
 use Rattle.hm_model.specs.declared.entry.Entry.{Entry}
 use Rattle.hm_model.specs.declared.line.Line.{Line}
 use Rattle.hm_model.specs.After.{Event, after}
+use Rattle.hm_model.specs.Caused.{Counts}
 use Rattle.hm_model.specs.Foreign.{Foreigners}
 use Rattle.hm_model.specs.Legal.{IsLegal, entries_of}
 use Rattle.hm_model.specs.Out.{IsOut}
 use Rattle.hm_model.specs.Volume.{Volume}
 use Rattle.hm_state.specs.Free.{free_in}
 use Rattle.hm_core.specs.Caused.{IsCausedFrom}
+use Rattle.hm_core.specs.Counts.{AreLater}
 use Rattle.hm_core.specs.History.{setting_of}
 use Rattle.hm_shell.specs.declared.stop.Stop.{Stop}
 use Rattle.hm_shell.specs.declared.stop.Stop.TheVariants.{Usage, NotVolume, BadField, DiskFault, Damaged, ScriptFault, OutFault, NoMemory, BadLine, TooLong}
@@ -23,24 +25,24 @@ use Rattle.hm_shell.specs.Opening.{OpensOn, StoppedOpening}
 use Rattle.hm_shell.specs.Seen.{Seen}
 
 -- What a core tells of a run: its history, the last id as it began and at its end, how many big-blocks were free as it began,
--- and the counts of the disk's faults as it began and at its end.
+-- and the counts of the devices' faults as it began and at its end.
 pub record Ran : Type 0 where
   pub history : List Entry
   pub first : ℕ
   pub last : ℕ
   pub free : ℕ
-  pub start : ℕ
-  pub faults : ℕ
+  pub start : Counts
+  pub counts : Counts
 
--- its counts lie between two counts of the disk's faults
+-- its counts lie between two counts of the disk's faults, and none fell
 pub record IsCounted (old new : ℕ) (ran : Ran) : Type 0 where
-  pub begin : old ≤ ran.start
-  pub rose : ran.start ≤ ran.faults
-  pub end : ran.faults ≤ new
+  pub begin : old ≤ ran.start.disk
+  pub rose : AreLater ran.start ran.counts
+  pub end : ran.counts.disk ≤ new
 
--- each reply of its history has its cause, from the last id and the count of faults as it began on
+-- each reply of its history has its cause, from the last id and the counts of faults as it began on
 abbrev pub HasCauses : Ran → Type 0
-HasCauses ran = IsCausedFrom ran.first ran.start ran.faults ran.last ran.history
+HasCauses ran = IsCausedFrom ran.first ran.start ran.counts ran.last ran.history
 
 -- A run began on a disk that told this: with the last id of the header that counts, and, where the disk stood for a volume, with
 -- as many free big-blocks as its bytes leave.
@@ -74,7 +76,7 @@ pub record AnswersInPart (lines : List Line) (text : List ℕ) (ran : Ran) : Typ
 pub record HasHistory (ran : Ran) (opening : Volume) (foreigners : Foreigners) : Type 0 where
   pub events : List Event
   pub entries : entries_of events ≡ ran.history
-  pub legal : IsLegal (setting_of ran.free ran.start ran.faults opening foreigners) events
+  pub legal : IsLegal (setting_of ran.free ran.start ran.counts opening foreigners) events
   pub last : (after opening foreigners events).volume.last ≡ ran.last
 
 -- the same, and a disk that tells this stands for the volume after that history
@@ -146,7 +148,7 @@ IsWriteCause opened before after TooLong = ⊥
 pub record StopsWriting (lines : List Line) (opened : Option Told) (ran : Ran) (faults : ℕ)
     (old_out new_out : Option (List ℕ)) (stop : Stop) : Type 0 where
   pub answered : AnswersAll lines ran old_out new_out
-  pub cause : IsWriteCause opened ran.faults faults stop
+  pub cause : IsWriteCause opened ran.counts.disk faults stop
 
 -- A run stopped with an open volume: at a line, or as the volume was written back. Each reply of its history has its cause,
 -- and it is a legal one over each volume that the disk stood for as it was opened.

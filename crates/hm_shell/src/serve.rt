@@ -1,7 +1,8 @@
 // The lines of a script, run one after another.
 ghost use Rattle.std.specs.Prelude.{◌≡◌, ◌*◌, ◌≤◌, [], IfErr, OnErr, OnOk, All, length};
 ghost use Rattle.hm_types.specs.declared.limits.TheConstants.{MOST_SCRIPT_LINES};
-ghost use Rattle.hm_core.specs.Seen.{seen as seen_core};
+ghost use Rattle.hm_core.specs.Core.{KeepsStreams};
+ghost use Rattle.hm_core.specs.Seen.{devices as devices_of, seen as seen_core};
 ghost use Rattle.hm_core.specs.Served.{IsAsked};
 ghost use Rattle.hm_shell.specs.Lines.{AreRising, IsServedLine};
 ghost use Rattle.hm_shell.specs.Running.{IsOutCause};
@@ -32,6 +33,7 @@ pub(crate) fn serve_script<D: Disk, I, O, K: Sink>(
         (K.held out.old) (K.held out.new)) }
     ensures err { OnErr result (ServedInPart lines.items (seen_core core.old) (seen_core core.new)
         (K.held out.old) (K.held out.new)) }
+    ensures streams { KeepsStreams (devices_of core.old) (devices_of core.new) }
     ensures cause { IfErr result (IsOutCause (K.faults out.old) (K.faults out.new)) }
     ensures never_falls { K.faults out.old ≤ K.faults out.new }
 {
@@ -53,6 +55,7 @@ fn serve_lines<D: Disk, I, O, K: Sink>(
         (K.held out.old) (K.held out.new)) }
     ensures err { OnErr result (ServedInPart lines.items (seen_core core.old) (seen_core core.new)
         (K.held out.old) (K.held out.new)) }
+    ensures streams { KeepsStreams (devices_of core.old) (devices_of core.new) }
     ensures cause { IfErr result (IsOutCause (K.faults out.old) (K.faults out.new)) }
     ensures never_falls { K.faults out.old ≤ K.faults out.new }
 {
@@ -75,6 +78,7 @@ fn serve_line<D: Disk, I, O, K: Sink>(
         (K.held out.old) (K.held out.new)) }
     ensures err { IfErr result (StoppedServing (seen_core core.old) (seen_core core.new) line
         (seen K.held K.faults out.old) (seen K.held K.faults out.new)) }
+    ensures streams { KeepsStreams (devices_of core.old) (devices_of core.new) }
     ensures never_falls { K.faults out.old ≤ K.faults out.new }
 {
     let Line {

@@ -2,7 +2,7 @@
 ghost use Rattle.std.specs.Prelude.{◌≡◌, ◌≤◌, [], IfErr, IfSome, OnOk, All, length};
 ghost use Rattle.hm_header.specs.Range.{IsSize};
 ghost use Rattle.hm_types.specs.declared.limits.TheConstants.{MOST_SCRIPT_LINES};
-ghost use Rattle.hm_core.specs.Seen.{seen as seen_core};
+ghost use Rattle.hm_core.specs.Seen.{devices as devices_of, seen as seen_core};
 ghost use Rattle.hm_shell.specs.Lines.{AreRising, IsServedLine};
 ghost use Rattle.hm_shell.specs.Making.{MakesVolume};
 ghost use Rattle.hm_shell.specs.Opening.{StoppedOpening};
@@ -135,9 +135,9 @@ fn run_lines<D: Disk, I, O, K: Sink>(
         (seen D.told D.faults result.disk) (K.held out.old) (K.held out.new)) }
     ensures err { IfErr result.outcome (StopsUsing lines.items (seen_core core)
         (seen D.told D.faults result.disk) (seen K.held K.faults out.old) (seen K.held K.faults out.new)) }
-    ensures streams { (result.stream_in ≡ (seen_core core).input)
-        × (result.stream_out ≡ (seen_core core).output) }
-    ensures counts { ((seen_core core).faults ≤ D.faults result.disk)
+    ensures streams { (result.stream_in ≡ (devices_of core).input)
+        × (result.stream_out ≡ (devices_of core).output) }
+    ensures counts { ((seen_core core).counts.disk ≤ D.faults result.disk)
         × (K.faults out.old ≤ K.faults out.new) }
 {
     let mut core = core;

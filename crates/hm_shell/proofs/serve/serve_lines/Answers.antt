@@ -1,7 +1,7 @@
 use Rattle.std.proofs.Common.{arith}
 use Rattle.hm_core.specs.Seen.{seen as seen_core}
 use Rattle.hm_shell.proofs.PrintLemmas.{on_err}
-use Rattle.hm_shell.proofs.ServeLemmas.{ServedInPart-stopped, Serving-more}
+use Rattle.hm_shell.proofs.ServeLemmas.{ServedInPart-stopped, Serving-more, streams_more}
 use Rattle.hm_shell.proofs.serve.serve_lines.Goals as goal
 
 pub loop-line-preserved : goal.loop-line-preserved
@@ -11,7 +11,11 @@ loop-line-preserved g c = (
       (g.K.Sink.held c.args.out.now) (g.K.Sink.held c.loop-line.out) (g.K.Sink.held c.serve_line.new.out)
       (rw c.in-Some.ensures.steps.0 at c.loop-line.invariant.0) c.in_ok-serve_line.ensures.ok,
   omega (arith, c.loop-line.invariant.1, c.serve_line.ensures.never_falls),
+  streams_more _ _ _ c.loop-line.invariant.2 c.serve_line.ensures.streams,
 )
+
+pub returns-in_err-serve_line-clause-streams : goal.returns-in_err-serve_line-clause-streams
+returns-in_err-serve_line-clause-streams g c = streams_more _ _ _ c.loop-line.invariant.2 c.serve_line.ensures.streams
 
 pub returns-in_err-serve_line-clause-err : goal.returns-in_err-serve_line-clause-err
 returns-in_err-serve_line-clause-err g c =

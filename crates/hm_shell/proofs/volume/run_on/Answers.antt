@@ -10,8 +10,7 @@ returns-in-Ok-clause-ok g c =
     let made = made_not_err c.args.job.newfs (g.D.Disk.told c.args.disk) (g.D.Disk.told c.make_volume.new.disk) c.make_volume.result c.make_volume.ensures.ok
     c.in_default.not-Err in
     RunsAll-opened c.args.job.newfs c.args.job.lines.items c.requires.due.each (seen g.D.Disk.told g.D.Disk.faults c.args.disk)
-    (seen g.D.Disk.told g.D.Disk.faults c.make_volume.new.disk) (seen g.D.Disk.told g.D.Disk.faults c.run_lines.result.disk) c.args.stream_in
-    c.args.stream_out (seen_core c.in-Ok.core)
+    (seen g.D.Disk.told g.D.Disk.faults c.make_volume.new.disk) (seen g.D.Disk.told g.D.Disk.faults c.run_lines.result.disk) (seen_core c.in-Ok.core)
     made c.make_volume.ensures.never_falls c.in-Ok.ensures.ok (g.K.Sink.held c.args.out.now) (g.K.Sink.held c.run_lines.new.out) c.run_lines.result.outcome
     c.run_lines.ensures.ok
 
@@ -20,8 +19,7 @@ returns-in-Ok-clause-err g c =
     let made = made_not_err c.args.job.newfs (g.D.Disk.told c.args.disk) (g.D.Disk.told c.make_volume.new.disk) c.make_volume.result c.make_volume.ensures.ok
     c.in_default.not-Err in
     StoppedRunning-opened c.args.job.newfs c.args.job.lines.items c.requires.due.each (seen g.D.Disk.told g.D.Disk.faults c.args.disk)
-    (seen g.D.Disk.told g.D.Disk.faults c.make_volume.new.disk) (seen g.D.Disk.told g.D.Disk.faults c.run_lines.result.disk) c.args.stream_in
-    c.args.stream_out (seen_core c.in-Ok.core)
+    (seen g.D.Disk.told g.D.Disk.faults c.make_volume.new.disk) (seen g.D.Disk.told g.D.Disk.faults c.run_lines.result.disk) (seen_core c.in-Ok.core)
     made c.make_volume.ensures.never_falls c.in-Ok.ensures.ok (seen g.K.Sink.held g.K.Sink.faults c.args.out.now)
     (seen g.K.Sink.held g.K.Sink.faults c.run_lines.new.out)
     c.run_lines.result.outcome c.run_lines.ensures.err

@@ -6,6 +6,7 @@ use Rattle.hm_header.specs.Range.{IsRoot}
 use Rattle.hm_model.specs.declared.entry.Entry.{Entry}
 use Rattle.hm_pages.specs.Store.{contents}
 use Rattle.hm_stored.specs.Heap.{heap_of}
+use Rattle.hm_core.specs.Counts.{disk_counts}
 use Rattle.hm_core.specs.Inside.{IsInOrder}
 use Rattle.hm_core.specs.Mounting.{IsReadFrom}
 use Rattle.hm_core.proofs.MountingLemmas.{is_mounted, ordered_first}
@@ -48,4 +49,4 @@ returns-in-Ok-open_space-clause-ok g c =
     c.in-Ok-open_space.ensures.ok) in
     let counted : g.D.Disk.faults c.args.disk ≤ g.D.Disk.faults s.disk =
     omega (arith, c.read_header.ensures.cause.never_falls, c.in-Ok-open_space.ensures.faults, same) in
-    is_mounted _ c.new.ensures.items c.over.ensures.root refl start old (g.D.Disk.faults c.args.disk) counted c.in-Ok.ensures.chosen read
+    is_mounted _ c.new.ensures.items c.over.ensures.root (refl, refl, refl) (ap disk_counts start) old (g.D.Disk.faults c.args.disk) counted c.in-Ok.ensures.chosen read
