@@ -168,6 +168,7 @@ ordered_first told header slot free h range low chosen read = record {
   bigblocks = read.bigblocks;
   closed = read.closed;
   idle = read.idle;
+  told = λ e has. (let below = has.1 in absurd (omega (arith, below)));
   later = omega arith;
   greatest = range.last.1;
   paid = subst (λ (n : ℕ). IsPaid free n 0 (room_of h)) read.free_is (paid_first free (room_of h));

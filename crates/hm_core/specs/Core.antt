@@ -1,5 +1,5 @@
 -- What the calls of a core do.
-use Rattle.std.specs.Prelude.{◌≡◌, ℕ, ◌+◌, ◌<◌, ◌≤◌, List, [], ◌∷◌, ◌++◌, IfSome, None, length}
+use Rattle.std.specs.Prelude.{◌≡◌, ℕ, ◌+◌, ◌<◌, ◌≤◌, List, [], ◌∷◌, ◌++◌, IfSome, length}
 use Rattle.hm_types.specs.declared.limits.TheConstants.{GREATEST_ID}
 use Rattle.hm_model.specs.After.{Event}
 use Rattle.hm_model.specs.Foreign.{Foreigners}
@@ -7,6 +7,7 @@ use Rattle.hm_model.specs.Reply.{told_boundary}
 use Rattle.hm_model.specs.Volume.{Volume}
 use Rattle.hm_model.specs.declared.command.Command.{Command}
 use Rattle.hm_model.specs.declared.entry.Entry.{Entry}
+use Rattle.hm_model.specs.declared.reply.Reply.{Reply}
 use Rattle.hm_image.specs.Stands.{StandsFor}
 use Rattle.hm_state.specs.Backed.{IsBacked}
 use Rattle.hm_core.specs.Caused.{IsCausedFrom}
@@ -42,14 +43,18 @@ pub record KeepsRest (old new : CoreState) : Type 0 where
   pub header : new.header ≡ old.header
   pub slot : new.slot ≡ old.slot
 
--- An id was left. The history gained the entry of this call, by the next id, whose reply tells no boundary and has its cause,
--- and at most one place of the room is taken.
-pub record Enters (old new : CoreState) (lane line : ℕ) (command : Command) : Type 0 where
+-- a boundary that a reply tells is on the disk, and is no earlier than this id
+abbrev pub TellsBoundary : ℕ → ℕ → Reply → Type 0
+TellsBoundary since boundary reply = IfSome (told_boundary reply) (λ told. (since ≤ told.0) × (told.0 ≤ boundary))
+
+-- An id was left. The history gained the entry of this call, by the next id, and its reply has its cause. A boundary that it
+-- tells is no earlier than the last id as the call began, and is on the disk. At most one place of the room is taken.
+pub record Enters (old new : CoreState) (lane line since : ℕ) (command : Command) : Type 0 where
   pub left : old.last < GREATEST_ID
   pub entry : Entry
   pub history : new.history ≡ old.history ++ entry ∷ []
   pub of_line : (entry.lane ≡ lane) × (entry.line ≡ line) × (entry.call ≡ command)
-  pub silent : told_boundary entry.reply ≡ None
+  pub told : TellsBoundary since new.boundary entry.reply
   pub id : (entry.id.0 ≡ old.last + 1) × (new.last ≡ old.last + 1)
   pub spare : old.spare ≤ new.spare + 1
   pub rest : KeepsRest old new
@@ -58,9 +63,9 @@ pub record Enters (old new : CoreState) (lane line : ℕ) (command : Command) : 
   pub goes_on : GoesOn old new
 
 -- a call was answered and entered, or no id was left and all is as before
-abbrev pub Steps : CoreState → CoreState → ℕ → ℕ → Command → Step → Type 0
-Steps old new lane line command (Answered place) = (place ≡ length old.history) × Enters old new lane line command
-Steps old new lane line command Spent = (old.last ≡ GREATEST_ID) × (new ≡ old)
+abbrev pub Steps : CoreState → CoreState → ℕ → ℕ → ℕ → Command → Step → Type 0
+Steps old new lane line since command (Answered place) = (place ≡ length old.history) × Enters old new lane line since command
+Steps old new lane line since command Spent = (old.last ≡ GREATEST_ID) × (new ≡ old)
 
 module _ {D I O : Type 0} where
   -- the streams of a core are as before

@@ -3,12 +3,14 @@ use Rattle.std.proofs.Common.{◌≡◌, ◌≢◌, ◌⊎◌, inl, ⊎_elim, �
 use Rattle.std.specs.Prelude.{All, Contains, filter, map, if◌then◌else◌, ◌&&◌, ◌==◌}
 use Rattle.std.specs.List.{AllByRecursion, AllZip, flat_map}
 use Rattle.std.proofs.lemmas.List.Elements.{All-contains, Contains-get_or, recursion_from_All}
+use Rattle.std.proofs.lemmas.Option.{IfSome_then}
 use Rattle.hm_model.specs.declared.command.Command.{Command}
 use Rattle.hm_model.specs.declared.command.Command.TheVariants.{Mkdir, Touch, Symlink, Snapshot, Ln, Mv, Write, Fill, Truncate, Rm, Rmdir, Ls, Cat, Stat, Readlink, Sync, Synctid, Prune, PruneAll, Reblock, PfsMaster, PfsSlave, PfsStatus, PfsUpgrade, MirrorRead, MirrorWrite, MirrorCopy, Df, End, Progress}
 use Rattle.hm_model.specs.declared.entry.Entry.{Entry}
 use Rattle.hm_model.specs.declared.line.Line.{Line}
 use Rattle.hm_model.specs.Caused.{is_ending, opens}
 use Rattle.hm_model.specs.Out.{AreOrdered, IsAnswered, IsBlockText, IsCallLine, IsLineText, IsOut, IsSpent, KeepsBoundary, answers, begins, ends, endings_of, joined, lines_in, openings_of}
+use Rattle.hm_model.specs.Reply.{told_boundary}
 use Rattle.hm_shell.specs.Alone.{Answers, FoundNone, HasEntry, IsAlone, alone, line_text, out_text}
 
 -- what a line of a call prints is the text of its line
@@ -102,7 +104,7 @@ module _ (end : ℕ) (history : List Entry) where
     answered_by : HasEntry history line → IsAnswered history end (line ∷ []) line (openings_of history line) (endings_of history line)
     answered_by h = rw (begins_all line.number history none, h.only, ends_none line.number history none) (h.own, keeps, inl closed) where
       keeps : KeepsBoundary history (line ∷ []) line h.entry.reply
-      keeps = rw h.silent tt
+      keeps = IfSome_then (told_boundary h.entry.reply) h.told (λ boundary after e has earlier. after e has (⊎_elim (λ lower. lower) (λ lower. lower.1) earlier))
 
       closed : opens h.entry ≡ false
       closed = rw (h.own.command, is_alone.single.ends_at_once) refl

@@ -1,15 +1,18 @@
 -- One line more, that runs by itself.
-use Rattle.std.proofs.Common.{◌≡◌, ◌≢◌, inl, inr, ⊎_elim, ℕ, zero, suc, ◌<◌, List, [], ◌∷◌, ◌++◌, None, refl, sym, subst, ◌∙◌, arith}
-use Rattle.std.specs.Prelude.{All, Contains, filter, slice_index_or}
+use Rattle.std.proofs.Common.{◌≡◌, ◌≢◌, inl, inr, ⊎_elim, ℕ, ◌<◌, ◌≤◌, List, [], ◌∷◌, ◌++◌, refl, sym, subst, ◌∙◌, arith}
+use Rattle.std.specs.Prelude.{All, Contains, filter}
 use Rattle.std.specs.List.{AllByRecursion}
 use Rattle.std.proofs.lemmas.Bool.{eq-eqb, ne_eqb}
+use Rattle.std.proofs.lemmas.Option.{IfSome_then}
 use Rattle.std.proofs.lemmas.List.Elements.{All-contains, All-from_recursion, Contains-append_cases, Contains-append_left, Contains-append_right, Contains-get_or, filter-append, recursion_from_All}
 use Rattle.hm_types.specs.declared.limits.TheConstants.{GREATEST_ID}
 use Rattle.hm_model.specs.declared.entry.Entry.{Entry}
 use Rattle.hm_model.specs.declared.line.Line.{Line}
 use Rattle.hm_model.specs.Out.{IsOf, answers, begins, ends}
 use Rattle.hm_model.specs.Reply.{told_boundary}
-use Rattle.hm_shell.specs.Alone.{Answers, FoundNone, HasAnswer, HasEntry}
+use Rattle.hm_model.specs.declared.reply.Reply.{Reply}
+use Rattle.hm_image.proofs.ListLemmas.{only_one}
+use Rattle.hm_shell.specs.Alone.{Answers, FoundNone, HasAnswer, HasEntry, TellsAfter}
 
 -- no line was run
 pub answers_none : (end : ℕ) → Answers end [] []
@@ -18,13 +21,6 @@ answers_none end = record {
   owned = λ e has. (let lt = has.1 in absurd (omega (arith, lt)));
   in_order = λ a b has also lower. (let lt = has.1 in absurd (omega (arith, lt)));
 }
-
--- the one element of a list
-pub only_one : {X : Type 0} (x y : X) → Contains (x ∷ []) y → x ≡ y
-only_one x y has = by_index has.0 has.1 has.2 where
-  by_index : (k : ℕ) → k < 1 → slice_index_or (x ∷ []) k y ≡ y → x ≡ y
-  by_index zero below at = at
-  by_index (suc k) below at = absurd (omega (arith, below))
 
 -- entries of other lines
 abbrev pub AreOfOthers : ℕ → List Entry → Type 0
@@ -76,17 +72,29 @@ module _ (lines : List Line) (history : List Entry) (line : Line) (later : (l : 
     }
 
   -- a line was answered
-  module _ (end : ℕ) (e : Entry) (h : Answers end lines history) (left : end < GREATEST_ID) (of : IsOf line e) (silent : told_boundary e.reply ≡ None)
+  module _ (end : ℕ) (e : Entry) (h : Answers end lines history) (left : end < GREATEST_ID) (of : IsOf line e) (told : TellsAfter history line.number e.reply)
       (above : (a : Entry) → Contains history a → a.id.0 < e.id.0) where
     abbrev after : List Entry
     after = history ++ e ∷ []
+
+    -- a boundary that an earlier line was told is at least the same ids still
+    tells_after : (number : ℕ) (reply : Reply) → number ≤ line.number → TellsAfter history number reply → TellsAfter after number reply
+    tells_after number reply low tells = IfSome_then (told_boundary reply) tells (λ boundary bounds x has earlier.
+        ⊎_elim (λ old. bounds x old earlier)
+        (λ new. (let lower = subst (λ (y : Entry). y.line < number) (sym (only_one e x new)) earlier in let is = of.number in absurd (omega (arith, lower, is, low))))
+        (Contains-append_cases history (e ∷ []) x has))
 
     answers_own : filter (answers line.number) (e ∷ []) ≡ e ∷ []
     answers_own = rw (eq-eqb e.line line.number of.number) refl
 
     old_entry : (l : Line) → Contains lines l → HasAnswer history end l → HasEntry after l
     old_entry l has (inr none) = (let greatest = none.greatest in absurd (omega (arith, left, greatest)))
-    old_entry l has (inl old) = record { entry = old.entry; only = only; own = old.own; silent = old.silent } where
+    old_entry l has (inl old) = record {
+      entry = old.entry;
+      only = only;
+      own = old.own;
+      told = tells_after l.number old.entry.reply (omega (arith, later l has)) old.told;
+    } where
       other : e.line ≢ l.number
       other same = (let lower = later l has in let number = of.number in omega (arith, same, lower, number))
 
@@ -98,7 +106,7 @@ module _ (lines : List Line) (history : List Entry) (line : Line) (later : (l : 
       entry = e;
       only = filter-append (answers line.number) history (e ∷ []) ∙ rw (none_yet end h, answers_own) refl;
       own = of;
-      silent = silent;
+      told = tells_after line.number e.reply (omega arith) told;
     }
 
     has_entry : (l : Line) → Contains (lines ++ line ∷ []) l → HasEntry after l

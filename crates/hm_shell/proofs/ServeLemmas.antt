@@ -2,7 +2,9 @@
 use Rattle.std.proofs.Common.{◌≡◌, ℕ, ◌+◌, ◌*◌, ◌<◌, ◌≤◌, List, [], ◌∷◌, ◌++◌, get_or, length, take, refl, subst, sym, ◌∙◌, ap, inl, inr, arith, append_assoc, append-nil, length-append}
 use Rattle.std.specs.Prelude.{All, Contains, IfErr, OnErr, OnOk, Option, Some, Result, Ok, Err, slice_get}
 use Rattle.std.proofs.lemmas.List.Elements.{All-contains, Contains-append_cases, Contains-append_right}
-use Rattle.std.proofs.lemmas.Option.{get_or_from_slice_get}
+use Rattle.std.proofs.lemmas.Option.{IfSome_then, get_or_from_slice_get}
+use Rattle.hm_image.proofs.ListLemmas.{only_one}
+use Rattle.hm_model.specs.Reply.{told_boundary}
 use Rattle.hm_types.specs.declared.limits.TheConstants.{GREATEST_ID}
 use Rattle.hm_pipe.specs.Pipe.{Gains}
 use Rattle.hm_pipe.proofs.PipeLemmas.{Gains-none, Gains-append}
@@ -16,13 +18,13 @@ use Rattle.hm_core.proofs.CoreLemmas.{goes_on_further, goes_on_still}
 use Rattle.hm_core.proofs.CountLemmas.{later_same, later_still}
 use Rattle.hm_shell.specs.declared.stop.Stop.{Stop}
 use Rattle.hm_shell.specs.declared.stop.Stop.TheVariants.{Usage, NotVolume, BadField, DiskFault, Damaged, ScriptFault, OutFault, NoMemory, BadLine, TooLong}
-use Rattle.hm_shell.specs.Alone.{Answers, IsAlone, line_text, out_text}
+use Rattle.hm_shell.specs.Alone.{Answers, IsAlone, TellsAfter, line_text, out_text}
 use Rattle.hm_shell.specs.Lines.{AreRising, IsServedLine}
 use Rattle.hm_shell.specs.Printing.{StoppedPrinting}
 use Rattle.hm_shell.specs.Running.{IsOutCause}
 use Rattle.hm_shell.specs.Seen.{Seen}
 use Rattle.hm_shell.specs.Serving.{GoesFrom, RunsLine, Served, ServedInPart, ServesLine, Serving, StoppedServing}
-use Rattle.hm_shell.proofs.AloneMoreLemmas.{answers_more, answers_none, answers_spent, only_one}
+use Rattle.hm_shell.proofs.AloneMoreLemmas.{answers_more, answers_none, answers_spent}
 use Rattle.hm_shell.proofs.TextLemmas.{out_before, out_spent, out_answered, text_answered, text_spent}
 
 -- a line that was not printed was printed in part
@@ -112,8 +114,8 @@ GoesFrom-reserved core spare = record {
 }
 
 -- and a call was entered
-GoesFrom-entered : (a b c : CoreState) (lane number : ℕ) (command : _) → GoesFrom a b → Enters b c lane number command → GoesFrom a c
-GoesFrom-entered a b c lane number command so_far enters = record {
+GoesFrom-entered : (a b c : CoreState) (lane number since : ℕ) (command : _) → GoesFrom a b → Enters b c lane number since command → GoesFrom a c
+GoesFrom-entered a b c lane number since command so_far enters = record {
   rest = KeepsRest-more a b c so_far.rest enters.rest;
   never_falls = later_still a.counts b.counts c.counts so_far.never_falls enters.never_falls;
   caused = λ run. enters.caused (so_far.caused run);
@@ -133,7 +135,7 @@ record HasRun (lines : List Line) (line : Line) (begun old new : CoreState) (tex
 
 module _ (lines : List Line) (line : Line) (later : (l : Line) → Contains lines l → l.number < line.number) (alone : IsAlone line)
     (begun old : CoreState) (held holds : Option (List ℕ)) (served : Served lines begun old held holds) where
-  module _ (new : CoreState) (enters : Enters old new line.lane line.number line.command) where
+  module _ (new : CoreState) (enters : Enters old new line.lane line.number old.last line.command) where
     own_entry : IsOf line enters.entry
     own_entry = record { lane = enters.of_line.0; number = enters.of_line.1; command = enters.of_line.2 }
 
@@ -147,11 +149,16 @@ module _ (lines : List Line) (line : Line) (later : (l : Line) → Contains line
           subst (λ (x : Entry). x.id.0 ≤ new.last) (only_one enters.entry e here) (omega (arith, id, last)))
     ]
 
+    -- a boundary that it tells is at least the ids so far
+    tells : TellsAfter old.history line.number enters.entry.reply
+    tells = IfSome_then (told_boundary enters.entry.reply) enters.told (λ boundary bounds e has earlier.
+        (let up_to = served.up_to e has in let since = bounds.0 in omega (arith, up_to, since)))
+
     has_entered : HasRun lines line begun old new (printed_line (entry_words enters.entry))
     has_entered = record {
-      from = GoesFrom-entered begun old new line.lane line.number line.command served.from enters;
+      from = GoesFrom-entered begun old new line.lane line.number old.last line.command served.from enters;
       answers = rw enters.history
-          (answers_more lines old.history line later old.last enters.entry served.answers enters.left own_entry enters.silent above new.last);
+          (answers_more lines old.history line later old.last enters.entry served.answers enters.left own_entry tells above new.last);
       up_to = up_to_entered;
       earlier = rw enters.history (out_before lines old.history line later old.last served.answers enters.entry own_entry alone.single);
       own = rw enters.history (append-nil (line_text (old.history ++ enters.entry ∷ []) line)
@@ -330,8 +337,11 @@ part_after lines a b c held holds (Err stop) keeps part = ServedInPart-after lin
 
 module _ (old new : CoreState) (line : Line) (r : Result (Unit {0}) Stop) where
   -- a line was called, and its entry printed or not
-  module _ (place : ℕ) (e : Entry) (steps : Steps old new line.lane line.number line.command (Answered place))
-      (there : slice_get new.history place ≡ Some e) where
+  module _ (place : ℕ) (e : Entry) (since : ℕ) (same : since ≡ old.last)
+      (called : Steps old new line.lane line.number since line.command (Answered place)) (there : slice_get new.history place ≡ Some e) where
+    steps : Steps old new line.lane line.number old.last line.command (Answered place)
+    steps = subst (λ (n : ℕ). Steps old new line.lane line.number n line.command (Answered place)) same called
+
     runs_answered : RunsLine old new line (printed_line (entry_words e))
     runs_answered = inl (
       steps.1,
@@ -355,7 +365,7 @@ module _ (old new : CoreState) (line : Line) (r : Result (Unit {0}) Stop) where
       by (Err stop) stopped = record { text = printed_line (entry_words e); runs = runs_answered; printing = stopped }
 
   -- it found no id left
-  module _ (steps : Steps old new line.lane line.number line.command Spent) where
+  module _ (since : ℕ) (steps : Steps old new line.lane line.number since line.command Spent) where
     runs_spent : RunsLine old new line (printed_line spent_words)
     runs_spent = inr (steps.0, steps.1, refl)
 

@@ -1,11 +1,12 @@
 -- Lines that run one after another, each by itself.
-use Rattle.std.specs.Prelude.{◌≡◌, ◌≢◌, ◌⊎◌, ℕ, ◌<◌, List, [], ◌∷◌, false, None, All, Contains, filter, map}
+use Rattle.std.specs.Prelude.{◌≡◌, ◌≢◌, ◌⊎◌, ℕ, ◌<◌, ◌≤◌, List, [], ◌∷◌, false, All, Contains, IfSome, filter, map}
 use Rattle.std.specs.List.{flat_map}
 use Rattle.hm_types.specs.declared.limits.TheConstants.{GREATEST_ID}
 use Rattle.hm_model.specs.declared.command.Command.{Command}
 use Rattle.hm_model.specs.declared.command.Command.TheVariants.{Progress}
 use Rattle.hm_model.specs.declared.entry.Entry.{Entry}
 use Rattle.hm_model.specs.declared.line.Line.{Line}
+use Rattle.hm_model.specs.declared.reply.Reply.{Reply}
 use Rattle.hm_model.specs.Caused.{is_ending, is_housekeeping}
 use Rattle.hm_model.specs.Out.{IsOf, answers, endings_of, line_words, openings_of, printed_line}
 use Rattle.hm_model.specs.Reply.{told_boundary}
@@ -25,12 +26,17 @@ pub record IsAlone (line : Line) : Type 0 where
 abbrev pub alone : List Line → List (List Line)
 alone lines = map (λ (line : Line). line ∷ []) lines
 
--- exactly one entry of the history is the line's, and it tells no boundary
+-- a boundary that a reply tells is at least the ids of the entries of lines before this number
+abbrev pub TellsAfter : List Entry → ℕ → Reply → Type 0
+TellsAfter history number reply =
+    IfSome (told_boundary reply) (λ boundary. (e : Entry) → Contains history e → e.line < number → e.id.0 ≤ boundary.0)
+
+-- exactly one entry of the history is the line's, and a boundary that it tells is at least the ids of earlier lines
 pub record HasEntry (history : List Entry) (line : Line) : Type 0 where
   pub entry : Entry
   pub only : filter (answers line.number) history ≡ entry ∷ []
   pub own : IsOf line entry
-  pub silent : told_boundary entry.reply ≡ None
+  pub told : TellsAfter history line.number entry.reply
 
 -- a line found no id left: it has no entry, and no later line has one
 pub record FoundNone (history : List Entry) (end : ℕ) (line : Line) : Type 0 where

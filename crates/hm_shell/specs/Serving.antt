@@ -56,7 +56,7 @@ pub record ServedInPart (lines : List Line) (begun core : CoreState) (old new : 
 -- a line was run, and this is to be printed: its call was entered, or no id was left and all is as before
 abbrev pub RunsLine : CoreState → CoreState → Line → List ℕ → Type 0
 RunsLine old new line text =
-    ((enters : Enters old new line.lane line.number line.command) × (text ≡ printed_line (entry_words enters.entry)))
+    ((enters : Enters old new line.lane line.number old.last line.command) × (text ≡ printed_line (entry_words enters.entry)))
     ⊎ ((old.last ≡ GREATEST_ID) × (new ≡ old) × (text ≡ printed_line spent_words))
 
 -- a line was run and printed

@@ -1,11 +1,10 @@
 // What follows from the definitions alone: a function that states a law, and does nothing.
-ghost use Rattle.std.specs.Prelude.{◌≡◌, ◌<◌, ◌∷◌, ◌++◌, [], ℕ, All, Contains, List, None, Option};
+ghost use Rattle.std.specs.Prelude.{◌≡◌, ◌<◌, ◌∷◌, ◌++◌, [], ℕ, All, Contains, List, Option};
 ghost use Rattle.hm_types.specs.declared.limits.TheConstants.{GREATEST_ID};
 ghost use Rattle.hm_model.specs.Out.{IsOf, IsOut};
-ghost use Rattle.hm_model.specs.Reply.{told_boundary};
 ghost use Rattle.hm_model.specs.declared.entry.Entry.{Entry};
 ghost use Rattle.hm_model.specs.declared.line.Line.{Line};
-ghost use Rattle.hm_shell.specs.Alone.{Answers, IsAlone, alone, out_text};
+ghost use Rattle.hm_shell.specs.Alone.{Answers, IsAlone, TellsAfter, alone, out_text};
 ghost use Rattle.hm_shell.specs.Words.{IsPlan};
 
 /// Words have one plan only.
@@ -23,11 +22,11 @@ pub fn lines_by_themselves_print_a_run()
 {}
 
 /// Where a history answers lines, and an id is left, it answers one line more with one entry more: that
-/// of the line, with an id above all others.
+/// of the line, with an id above all others, and no boundary below them.
 pub fn one_line_more_is_answered()
     ensures { (lines : List Line) (history : List Entry) (line : Line) (end next : ℕ) (e : Entry) →
         ((l : Line) → Contains lines l → l.number < line.number) → Answers end lines history →
-        end < GREATEST_ID → IsOf line e → told_boundary e.reply ≡ None →
+        end < GREATEST_ID → IsOf line e → TellsAfter history line.number e.reply →
         ((a : Entry) → Contains history a → a.id.0 < e.id.0) →
         Answers next (lines ++ line ∷ []) (history ++ e ∷ []) }
 {}

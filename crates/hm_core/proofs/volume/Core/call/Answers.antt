@@ -10,7 +10,7 @@ use Rattle.hm_core.specs.Counts.{disk_counts}
 use Rattle.hm_core.specs.History.{IsLegalOver}
 use Rattle.hm_core.specs.Inside.{IsInOrder}
 use Rattle.hm_core.proofs.CountLemmas.{disk_later}
-use Rattle.hm_core.proofs.StepLemmas.{entry_of, least_left, no_entry, ordered_next}
+use Rattle.hm_core.proofs.StepLemmas.{entry_of, least_left, no_entry, none_told, ordered_next}
 use Rattle.hm_core.proofs.volume.Core.call.Goals as goal
 
 pub invariant_of-self : goal.invariant_of-self
@@ -25,7 +25,8 @@ invariant_of-self g c =
           (ordered_next s.header s.slot s.last.0 s.free h s.history.items h' s.stored.root t.root (g.D.Disk.faults s.stored.space.disk)
           (g.D.Disk.faults t.space.disk) c.args.command c.answer_asked-reply.result
           (entry_of (s.last.0 + 1) c.args.lane c.args.line c.args.command c.answer_asked-reply.result)
-          (let greatest = o.greatest in omega (arith, greatest)) c.answer_asked-reply.ensures.answers o));
+          (let greatest = o.greatest in omega (arith, greatest)) (record { call_is = refl; reply_is = refl; own = refl })
+          c.answer_asked-reply.ensures.answers o));
     }
 
 pub returns-clause-steps : goal.returns-clause-steps
@@ -45,7 +46,7 @@ returns-clause-steps g c =
         entry = entry;
         history = c.push_reserved.ensures.items;
         of_line = (refl, refl, refl);
-        silent = answers.silent;
+        told = none_told c.args.since.0 s.header.last.0 c.answer_asked-reply.result answers.silent;
         id = (refl, refl);
         spare = omega (arith, c.push_reserved.ensures.len, c.push_reserved.ensures.capacity);
         rest = record { mounted = refl; boundary = refl; header = refl; slot = refl };
