@@ -1,6 +1,7 @@
 -- What a disk stands for once a core has ended.
 use Rattle.std.proofs.Common.{◌≡◌, ◌≢◌, ℕ, ◌+◌, ◌-◌, ◌≤◌, List, [], ◌∷◌, Option, None, Some, Result, Ok, Err, refl, sym, ◌∙◌, ap, subst, arith, length, map}
 use Rattle.std.specs.Prelude.{IfErr, IfSome, IsSomeAnd, OnOk}
+use Rattle.std.proofs.Math.Logic.{∥∥₁_map}
 use Rattle.hm_types.specs.Elements.{FullElement}
 use Rattle.hm_types.specs.Faults.{HasFaultCause, IsUndamaged}
 use Rattle.hm_types.specs.Layout.{start_of}
@@ -27,7 +28,7 @@ use Rattle.hm_state.specs.Volume.{HoldsVolume}
 use Rattle.hm_stored.specs.Held.{AreOfVolume}
 use Rattle.hm_state.proofs.ChangedLemmas.{changed_stands}
 use Rattle.hm_state.proofs.InPlaceLemmas.{written_in_place}
-use Rattle.hm_core.specs.Core.{StandsOver}
+use Rattle.hm_core.specs.Core.{IsCausedRun, StandsOver}
 use Rattle.hm_core.specs.Finished.{HasNextHeader, IsFinished, LeavesVolume, next_header}
 use Rattle.hm_core.specs.Counts.{with_disk}
 use Rattle.hm_core.specs.History.{volume_of}
@@ -61,6 +62,12 @@ module _ (core : CoreState) where
   abbrev next : Header
   next = next_header core
 
+  -- its replies have their cause once more faults of the disk are counted
+  run_later : (faults : ℕ) → core.counts.disk ≤ faults → IsCausedRun core → IsCausedRun (record core { counts = with_disk core.counts faults })
+  run_later faults more run = ∥∥₁_map run (λ from.
+      caused_later core.mounted.first core.mounted.counts core.counts (with_disk core.counts faults) core.last core.history from
+      (disk_later core.counts core.counts.disk faults more))
+
   -- a run in which nothing was done
   module _ (none : core.history ≡ []) where
     left_alone : (opening : Volume) (foreigners : Foreigners) (events : List Event) → StandsOver core opening foreigners events → (t : Told)
@@ -75,15 +82,13 @@ module _ (core : CoreState) where
         left_alone opening foreigners events stands t
         (subst (λ (o : Option Told). IfSome o (λ u. StandsFor u.bytes opening)) is (stands.untouched none))
 
-    pub untouched_finished : (faults : ℕ) → faults ≡ core.counts.disk → IsFinished core h.disk faults (Ok tt)
-    untouched_finished faults same = record {
+    pub untouched_finished : (faults : ℕ) → faults ≡ core.counts.disk → IsCausedRun core → IsFinished core h.disk faults (Ok tt)
+    untouched_finished faults same run = record {
       nothing = λ is. (refl, refl);
       volume = BothTell-same h.disk (λ _ t. LeavesVolume core t.bytes) (by_disk h.disk refl);
       header = λ some. absurd (some none);
       cause = record { never_falls = omega (arith, same); caused = tt };
-      caused = λ run.
-          caused_later core.mounted.first core.mounted.counts core.counts (with_disk core.counts faults) core.last core.history run
-          (disk_later core.counts core.counts.disk faults (omega (arith, same)));
+      caused = run_later faults (omega (arith, same)) run;
       whole = λ opening foreigners events stands. if_told h.disk _ tt;
     }
 
@@ -126,19 +131,17 @@ module _ (core : CoreState) where
     leaves_volume f s t freezes bytes is wrote opening foreigners events stands = new_stands opening foreigners events stands f s t freezes is bytes wrote
 
     -- so ends a core whose pages were written back
-    pub written_finished : (f : Store) (told : Option Told) (faults : ℕ) (result : Result (Unit {0}) Fault) → core.history ≢ []
+    pub written_finished : (f : Store) (told : Option Told) (faults : ℕ) (result : Result (Unit {0}) Fault) → core.history ≢ [] → IsCausedRun core
         → ((at : ℕ) (page : List ℕ) → h.pages.current at ≡ Some page → AreBytes page)
         → WroteBack h.pages h.disk core.counts.disk core.header core.slot next f told faults result → IsFinished core told faults result
-    written_finished f told faults result some bytes wrote = record {
+    written_finished f told faults result some run bytes wrote = record {
       nothing = λ none. absurd (some none);
       volume = left result wrote.frozen wrote.ok;
       header = OnOk-map result _ _ (λ both _. BothTell-map h.disk told (λ s. h.disk ≡ Some s) (WritesBack f next (1 - core.slot))
           (λ _ t. HasNextHeader core t)
           (λ s t is w. record { counts = w.changes.header_is; settled = w.changes.settled }) (self_told h.disk) both) wrote.ok;
       cause = wrote.cause;
-      caused = λ run.
-          caused_later core.mounted.first core.mounted.counts core.counts (with_disk core.counts faults) core.last core.history run
-          (disk_later core.counts core.counts.disk faults wrote.cause.never_falls);
+      caused = run_later faults wrote.cause.never_falls run;
       whole = λ opening foreigners events stands.
           if_told h.disk _ (wrote.whole (root_stands opening foreigners events stands) (places_stand opening foreigners events stands));
     } where

@@ -209,7 +209,7 @@ module _ (core : CoreState) (new : core.history ≡ []) (root : core.root ≡ co
     told = read.disk;
     counts = (counted, start);
     ids = ids;
-    caused = caused_first core.mounted.first core.mounted.counts core.counts core.last core.history new later (ids.0 ∙ sym ids.1);
+    caused = ∣ caused_first core.mounted.first core.mounted.counts core.counts core.last core.history new later (ids.0 ∙ sym ids.1) ∣₁;
     free = read.free_is;
     counted = read.counted;
     counting = chosen;

@@ -32,9 +32,9 @@ abbrev pub GoesOn : CoreState → CoreState → Type 0
 GoesOn old new = (opening : Volume) (foreigners : Foreigners) (events : List Event) → StandsOver old opening foreigners events
     → (more : List Event) × StandsOver new opening foreigners (events ++ more)
 
--- each reply of its history has its cause, from the last id and the counts of faults as it was mounted on
+-- each reply of its history has its cause, from the last id and the counts of faults as it was mounted on: so it is of every core
 abbrev pub IsCausedRun : CoreState → Type 0
-IsCausedRun core = IsCausedFrom core.mounted.first core.mounted.counts core.counts core.last core.history
+IsCausedRun core = ∥ IsCausedFrom core.mounted.first core.mounted.counts core.counts core.last core.history ∥₁
 
 -- what a core began with, and what was committed last, are as before
 pub record KeepsRest (old new : CoreState) : Type 0 where
@@ -59,7 +59,7 @@ pub record Enters (old new : CoreState) (lane line since : ℕ) (command : Comma
   pub spare : old.spare ≤ new.spare + 1
   pub rest : KeepsRest old new
   pub never_falls : AreLater old.counts new.counts
-  pub caused : IsCausedRun old → IsCausedRun new
+  pub caused : IsCausedRun new
   pub goes_on : GoesOn old new
 
 -- a call was answered and entered, or no id was left and all is as before

@@ -10,7 +10,6 @@ use Rattle.hm_image.specs.Stands.{StandsFor}
 use Rattle.hm_model.specs.After.{Event}
 use Rattle.hm_model.specs.Foreign.{Foreigners}
 use Rattle.hm_model.specs.Volume.{Volume}
-use Rattle.hm_core.specs.Caused.{IsCausedFrom}
 use Rattle.hm_core.specs.Core.{IsCausedRun, StandsOver}
 use Rattle.hm_core.specs.History.{volume_of}
 use Rattle.hm_core.specs.Counts.{with_disk}
@@ -42,8 +41,7 @@ pub record IsFinished (core : CoreState) (told : Option Told) (faults : ℕ) (re
   pub volume : OnOk result (BothTell core.heap.disk told (λ _ t. LeavesVolume core t.bytes))
   pub header : OnOk result (core.history ≢ [] → BothTell core.heap.disk told (λ _ t. HasNextHeader core t))
   pub cause : HasFaultCause core.counts.disk faults result
-  pub caused : IsCausedRun core
-      → IsCausedFrom core.mounted.first core.mounted.counts (with_disk core.counts faults) core.last core.history
+  pub caused : IsCausedRun (record core { counts = with_disk core.counts faults })
   pub whole : (opening : Volume) (foreigners : Foreigners) (events : List Event) → StandsOver core opening foreigners events
       → IfSome core.heap.disk (λ _. IfErr result IsUndamaged)
 

@@ -1,5 +1,7 @@
 // One volume in use.
 ghost use Rattle.hm_stored.specs.Space.{heap};
+ghost use Rattle.hm_core.specs.Caused.{IsCausedFrom};
+ghost use Rattle.hm_core.specs.Counts.{disk_counts};
 ghost use Rattle.hm_core.specs.Inside.{IsInOrder};
 
 use hm_disk::Disk;
@@ -28,4 +30,6 @@ pub struct Core<D: Disk, I, O> {
     pub(crate) start: u64,
     pub(crate) history: Vec<Entry>,
     ghost ordered: { ∥ IsInOrder header slot last.0 free (heap stored.space) history.items ∥₁ },
+    ghost caused: { ∥ IsCausedFrom first.0 (disk_counts start)
+        (disk_counts (D.faults stored.space.disk)) last.0 history.items ∥₁ },
 }

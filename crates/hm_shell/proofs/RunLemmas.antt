@@ -24,7 +24,7 @@ use Rattle.hm_shell.specs.declared.stop.Stop.{Stop}
 use Rattle.hm_shell.specs.Alone.{IsAlone, out_text}
 use Rattle.hm_shell.specs.Lines.{IsServedLine}
 use Rattle.hm_shell.specs.Making.{MakesVolume}
-use Rattle.hm_shell.specs.Running.{AnswersAll, AnswersInPart, BeginsOn, HasCauses, HasHistory, IsCounted, IsKept, IsWriteCause, LeavesVolume, OverEach, Ran, RunsAll, StandsForNone, StoppedRunning, StoppedUsing}
+use Rattle.hm_shell.specs.Running.{AnswersAll, AnswersInPart, BeginsOn, HasHistory, IsCounted, IsKept, IsWriteCause, LeavesVolume, OverEach, Ran, RunsAll, StandsForNone, StoppedRunning, StoppedUsing}
 use Rattle.hm_shell.specs.Seen.{Seen}
 use Rattle.hm_shell.specs.Serving.{GoesFrom, Served, ServedInPart, StopsUsing, UsesAll}
 use Rattle.hm_shell.specs.Stop.{of_fault}
@@ -79,10 +79,6 @@ module _ (told : Option Told) (faults : ℕ) (begun core : CoreState)
         rose = subst (λ (c : Counts). AreLater c core.counts) (sym start_is) from.never_falls;
         end = later;
       }
-
-  -- each reply has its cause
-  has_causes : HasCauses (ran_of core)
-  has_causes = from.caused mounted.caused
 
   -- and it began with what the disk told
   begins_on : IfSome begun.heap.disk (BeginsOn (ran_of core))
@@ -189,7 +185,7 @@ module _ (newfs : Option ℕ) (lines : List Line) (each : All IsServedLine lines
     opens = OpensOn-mounted newfs old.told made.told made.faults begun makes mounted;
     ran = ran_of used.core;
     begins = begins_on made.told made.faults begun used.core mounted used.served.from;
-    caused = has_causes made.told made.faults begun used.core mounted used.served.from;
+    caused = used.caused;
     counted = counted made.told made.faults begun used.core mounted used.served.from old.faults new.faults earlier
         used.finished.cause.never_falls;
     answered = answers_all lines begun used.core old_out new_out each used.served;
@@ -207,7 +203,7 @@ module _ (newfs : Option ℕ) (lines : List Line) (each : All IsServedLine lines
         opens = OpensOn-mounted newfs old.told made.told made.faults begun makes mounted;
         ran = ran_of core;
         begins = begins_on made.told made.faults begun core mounted part.from;
-        caused = has_causes made.told made.faults begun core mounted part.from;
+        caused = at_line.caused;
         counted = counted made.told made.faults begun core mounted part.from old.faults new.faults earlier
             (let count = at_line.count in omega (arith, count));
         legal = histories made.told made.faults begun core mounted part.from;
@@ -225,7 +221,7 @@ module _ (newfs : Option ℕ) (lines : List Line) (each : All IsServedLine lines
         opens = OpensOn-mounted newfs old.told made.told made.faults begun makes mounted;
         ran = ran_of core;
         begins = begins_on made.told made.faults begun core mounted writing.served.from;
-        caused = has_causes made.told made.faults begun core mounted writing.served.from;
+        caused = writing.caused;
         counted = counted made.told made.faults begun core mounted writing.served.from old.faults new.faults earlier
             writing.finished.cause.never_falls;
         legal = histories made.told made.faults begun core mounted writing.served.from;

@@ -97,7 +97,6 @@ GoesFrom-none : (core : CoreState) → GoesFrom core core
 GoesFrom-none core = record {
   rest = KeepsRest-none core;
   never_falls = later_same core.counts;
-  caused = λ run. run;
   goes_on = goes_on_still core core (λ opening foreigners events stands. stands);
   idle = λ none. refl;
 }
@@ -107,7 +106,6 @@ GoesFrom-reserved : (core : CoreState) (spare : ℕ) → GoesFrom core (record c
 GoesFrom-reserved core spare = record {
   rest = record { mounted = refl; boundary = refl; header = refl; slot = refl };
   never_falls = later_same core.counts;
-  caused = λ run. run;
   goes_on = goes_on_still core (record core { spare = spare })
       (λ opening foreigners events stands. record { legal = stands.legal; backed = stands.backed; untouched = stands.untouched });
   idle = λ none. refl;
@@ -118,7 +116,6 @@ GoesFrom-entered : (a b c : CoreState) (lane number since : ℕ) (command : _) �
 GoesFrom-entered a b c lane number since command so_far enters = record {
   rest = KeepsRest-more a b c so_far.rest enters.rest;
   never_falls = later_still a.counts b.counts c.counts so_far.never_falls enters.never_falls;
-  caused = λ run. enters.caused (so_far.caused run);
   goes_on = goes_on_further a b c so_far.goes_on enters.goes_on;
   idle = λ none. absurd (not_empty b.history enters.entry (sym enters.history ∙ none));
 }
@@ -295,7 +292,6 @@ GoesFrom-after a c spare from = record {
     slot = from.rest.slot;
   };
   never_falls = from.never_falls;
-  caused = from.caused;
   goes_on = goes_on_further a (record a { spare = spare }) c (GoesFrom-reserved a spare).goes_on from.goes_on;
   idle = from.idle;
 }

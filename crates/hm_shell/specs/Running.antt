@@ -42,7 +42,7 @@ pub record IsCounted (old new : ℕ) (ran : Ran) : Type 0 where
 
 -- each reply of its history has its cause, from the last id and the counts of faults as it began on
 abbrev pub HasCauses : Ran → Type 0
-HasCauses ran = IsCausedFrom ran.first ran.start ran.counts ran.last ran.history
+HasCauses ran = ∥ IsCausedFrom ran.first ran.start ran.counts ran.last ran.history ∥₁
 
 -- A run began on a disk that told this: with the last id of the header that counts, and, where the disk stood for a volume, with
 -- as many free big-blocks as its bytes leave.

@@ -18,12 +18,11 @@ use Rattle.hm_shell.specs.Running.{IsOutCause}
 use Rattle.hm_shell.specs.Seen.{Seen}
 use Rattle.hm_shell.specs.Stop.{of_fault}
 
--- What has come of a core: what it began with stays, each reply has its cause still, it stands for each volume for which it
--- stood, and where its history has no entry its space is as it was.
+-- What has come of a core: what it began with stays, it stands for each volume for which it stood, and where its history has no
+-- entry its space is as it was.
 pub record GoesFrom (begun core : CoreState) : Type 0 where
   pub rest : KeepsRest begun core
   pub never_falls : AreLater begun.counts core.counts
-  pub caused : IsCausedRun begun → IsCausedRun core
   pub goes_on : GoesOn begun core
   pub idle : core.history ≡ [] → core.heap ≡ begun.heap
 
@@ -71,27 +70,30 @@ pub record StoppedServing (old new : CoreState) (line : Line) (old_out new_out :
   pub runs : RunsLine old new line text
   pub printing : StoppedPrinting text old_out new_out stop
 
--- All lines were served on an open volume, and it was written back.
+-- All lines were served on an open volume, and it was written back. Each reply has its cause.
 pub record UsesAll (lines : List Line) (begun : CoreState) (disk : Seen Told) (old new : Option (List ℕ)) : Type 0 where
   pub core : CoreState
   pub served : Served lines begun core old new
+  pub caused : IsCausedRun core
   pub finished : IsFinished core disk.told disk.faults (Ok tt)
 
--- A line was not served to its end, and the volume was left as it was then.
+-- A line was not served to its end, and the volume was left as it was then. Each reply has its cause.
 pub record LeavesAtLine (lines : List Line) (begun : CoreState) (disk : Seen Told) (old new : Seen (List ℕ)) (stop : Stop)
     : Type 0 where
   pub core : CoreState
   pub served : ServedInPart lines begun core old.told new.told
+  pub caused : IsCausedRun core
   pub cause : IsOutCause old.faults new.faults stop
   pub count : disk.faults ≡ core.counts.disk
 
--- All lines were served, and the volume could not be written back.
+-- All lines were served, and the volume could not be written back. Each reply has its cause.
 pub record FailsWriting (lines : List Line) (begun : CoreState) (disk : Seen Told) (old new : Option (List ℕ)) (stop : Stop)
     : Type 0 where
   pub core : CoreState
   pub served : Served lines begun core old new
   pub fault : Fault
   pub stop_is : stop ≡ of_fault fault
+  pub caused : IsCausedRun core
   pub finished : IsFinished core disk.told disk.faults (Err fault)
 
 -- the use of an open volume stopped

@@ -27,6 +27,12 @@ invariant_of-self g c =
           (entry_of (s.last.0 + 1) c.args.lane c.args.line c.args.command c.answer_asked-reply.result)
           (let greatest = o.greatest in omega (arith, greatest)) (record { call_is = refl; reply_is = refl; own = refl })
           c.answer_asked-reply.ensures.answers o));
+      caused = ∥∥₁_map s.caused (λ so_far.
+          subst (λ (l : List Entry). IsCausedFrom s.first.0 (disk_counts s.start) (disk_counts (g.D.Disk.faults t.space.disk)) (s.last.0 + 1) l)
+          (sym c.push_reserved.ensures.items)
+          (c.answer_asked-reply.ensures.answers.caused s.first.0 (disk_counts s.start) (disk_counts 0) s.history.items
+          (entry_of (s.last.0 + 1) c.args.lane c.args.line c.args.command c.answer_asked-reply.result)
+          (record { call_is = refl; reply_is = refl; own = refl }) so_far));
     }
 
 pub returns-clause-steps : goal.returns-clause-steps
@@ -38,8 +44,7 @@ returns-clause-steps g c =
     let old = g.D.Disk.faults s.stored.space.disk in
     let new = g.D.Disk.faults t.space.disk in
     let answers = c.answer_asked-reply.ensures.answers in
-    let entry = entry_of (s.last.0 + 1) c.args.lane c.args.line c.args.command c.answer_asked-reply.result in
-    (
+    let entry = entry_of (s.last.0 + 1) c.args.lane c.args.line c.args.command c.answer_asked-reply.result in (
       omega (arith, c.len-place.ensures, s.history.ok),
       record {
         left = ∥∥₁_elim s.ordered (hlevel props) (λ o. let greatest = o.greatest in omega (arith, greatest));
@@ -51,16 +56,15 @@ returns-clause-steps g c =
         spare = omega (arith, c.push_reserved.ensures.len, c.push_reserved.ensures.capacity);
         rest = record { mounted = refl; boundary = refl; header = refl; slot = refl };
         never_falls = disk_later (disk_counts 0) old new answers.counted;
-        caused = λ so_far.
+        caused = ∥∥₁_map s.caused (λ so_far.
             subst (λ (l : List Entry). IsCausedFrom s.first.0 (disk_counts s.start) (disk_counts new) (s.last.0 + 1) l)
             (sym c.push_reserved.ensures.items)
             (answers.caused s.first.0 (disk_counts s.start) (disk_counts 0) s.history.items entry
-            (record { call_is = refl; reply_is = refl; own = refl }) so_far);
+            (record { call_is = refl; reply_is = refl; own = refl }) so_far));
         goes_on = λ opening foreigners events stands.
             let next = answers.legal s.free (disk_counts s.start) (disk_counts 0) s.history.items opening foreigners events entry
             (least_left s.header s.slot s.last.0 s.free h s.history.items s.ordered)
-            (record { call_is = refl; reply_is = refl; own = refl }) stands.legal in
-            (
+            (record { call_is = refl; reply_is = refl; own = refl }) stands.legal in (
               next.0,
               record {
                 legal = subst

@@ -22,7 +22,7 @@ returns-then-is_empty-clause-disk g c =
     let zero : length s.history.items ≡ 0 = search rules in
     let none : s.history.items ≡ [] = nil_from_length s.history.items zero in
     subst (λ d. IsFinished (seen s) (g.D.Disk.told d) (g.D.Disk.faults d) (Ok tt)) (sym c.into_devices-disk.ensures.disk_is)
-    (untouched_finished (seen s) none (g.D.Disk.faults s.stored.space.disk) refl)
+    (untouched_finished (seen s) none (g.D.Disk.faults s.stored.space.disk) refl s.caused)
 
 pub write_back-written-requires : goal.write_back-written-requires
 unfolding heap_of
@@ -82,7 +82,7 @@ returns-clause-disk g c =
       cause = c.write_back-written.ensures.cause;
     } in
     written_finished core c.pages_are_of_volume.ensures (∥∥₁_elim s.ordered (hlevel props) (λ o. o.bigblocks))
-    (∥∥₁_elim s.ordered (header_prop s.header) (λ o. o.header_is)) f told faults result some c.pages_are_bytes.ensures
+    (∥∥₁_elim s.ordered (header_prop s.header) (λ o. o.header_is)) f told faults result some s.caused c.pages_are_bytes.ensures
     (subst (λ x. WroteBack (contents x) (g.D.Disk.told s.stored.space.disk) (g.D.Disk.faults s.stored.space.disk) s.header s.slot (next_header core)
     f told faults result) pages
     (subst (λ d. WroteBack (contents store) (g.D.Disk.told d) (g.D.Disk.faults d) s.header s.slot (next_header core) f told faults result) disk

@@ -1,4 +1,4 @@
-use Rattle.std.proofs.Common.{◌≤◌, ℕ, List, Option, refl, sym, subst, ap, ◌∙◌, arith}
+use Rattle.std.proofs.Common.{◌≡◌, ◌≤◌, List, Option, refl, sym, subst, ap, ◌∙◌, arith}
 use Rattle.std.specs.Prelude.{IfSome}
 use Rattle.hm_disk.specs.Crash.{Told}
 use Rattle.hm_header.specs.OnDisk.{HasHeader}
@@ -9,6 +9,8 @@ use Rattle.hm_stored.specs.Heap.{heap_of}
 use Rattle.hm_core.specs.Counts.{disk_counts}
 use Rattle.hm_core.specs.Inside.{IsInOrder}
 use Rattle.hm_core.specs.Mounting.{IsReadFrom}
+use Rattle.hm_core.proofs.CausedLemmas.{caused_first}
+use Rattle.hm_core.proofs.CountLemmas.{disk_later}
 use Rattle.hm_core.proofs.MountingLemmas.{is_mounted, ordered_first}
 use Rattle.hm_core.proofs.volume.Core.mount.Goals as goal
 
@@ -22,10 +24,14 @@ invariant_of-result g c =
     let read : IsReadFrom (g.D.Disk.told c.read_header.new.disk) header free h =
     subst (λ s. IsReadFrom (g.D.Disk.told c.read_header.new.disk) header free
     (heap_of (contents s.pages.store) (g.D.Disk.told s.disk) s.books)) (sym c.over.ensures.space) c.in-Ok-open_space.ensures.ok in
+    let start : c.faults.result ≡ g.D.Disk.faults s.disk =
+    c.faults.ensures ∙ ap g.D.Disk.faults c.disk.ensures ∙ sym (ap (λ x. g.D.Disk.faults x.disk) c.over.ensures.space) in
     record {
       ordered = ∣ subst (λ (l : List Entry). IsInOrder header slot header.last.0 free h l) (sym c.new.ensures.items)
           (ordered_first (g.D.Disk.told c.read_header.new.disk) header slot free h c.in-Ok.ensures.header.0 c.in-Ok.ensures.header.1
           (subst (λ (told : Option Told). IfSome told (λ t. HasHeader t.bytes header slot)) (sym c.read_header.ensures.same) c.in-Ok.ensures.chosen) read) ∣₁;
+      caused = ∣ caused_first header.last.0 (disk_counts c.faults.result) (disk_counts (g.D.Disk.faults s.disk)) header.last.0 _ c.new.ensures.items
+          (disk_later (disk_counts 0) c.faults.result (g.D.Disk.faults s.disk) (omega (arith, start))) refl ∣₁;
     }
 
 pub over-requires-clause-root : goal.over-requires-clause-root
