@@ -1,7 +1,7 @@
 // What a step of a core comes to.
 
 /// What one step of a core came to.
-#[derive(Clone, Copy, Debug, PartialEq, Eq)]
+#[derive(Debug, PartialEq, Eq, Drop)]
 pub enum Step {
     /// The call was answered. Its entry stands at this place of the history.
     Answered(usize),

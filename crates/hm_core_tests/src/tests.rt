@@ -6,6 +6,7 @@ use hm_core::{Core, OpenFault, Step, newfs};
 use hm_disk_forms::MemDisk;
 use hm_header::read_header;
 use hm_model::{Command, Reply};
+use hm_pipe::{MemSink, MemSource};
 use hm_types::{Bytes, Fault, Id, NoMemory, Text};
 use std::alloc::Global;
 use std::process::Abort;
@@ -239,6 +240,22 @@ fn a_new_volume_is_mounted_and_left_where_a_larger_one_has_no_room(
     // The pool has 13 big-blocks, and each of four zones appends to one.
     let space = Reply::Space { pool: 13, free: 9 };
     assert!(rt; answers(&mut core, Command::Df, &space)?);
+    Ok(())
+}
+
+// Whether a value may be handed to another thread is asked of its type alone.
+fn may_be_sent<T: Send>(_value: &T) {}
+
+#[test]
+fn a_core_over_devices_in_memory_may_be_sent(rt: HostRuntime) -> Result<(), Fail> {
+    let alloc = rt.alloc();
+    let disk = made(&rt, alloc);
+    let input = MemSource::new(Vec::new(alloc), Vec::new(alloc));
+    let output = MemSink::new(alloc, Vec::new(alloc));
+    match Core::mount(alloc, disk, input, output) {
+        Ok(core) => may_be_sent(&core),
+        Err(_) => panic!(rt; "not mounted"),
+    }
     Ok(())
 }
 
