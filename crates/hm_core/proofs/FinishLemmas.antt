@@ -89,7 +89,7 @@ module _ (core : CoreState) where
       header = λ some. absurd (some none);
       cause = record { never_falls = omega (arith, same); caused = tt };
       caused = run_later faults (omega (arith, same)) run;
-      whole = λ opening foreigners events stands. if_told h.disk _ tt;
+      undamaged = tt;
     }
 
   -- a run in which something was done
@@ -142,8 +142,7 @@ module _ (core : CoreState) where
           (λ s t is w. record { counts = w.changes.header_is; settled = w.changes.settled }) (self_told h.disk) both) wrote.ok;
       cause = wrote.cause;
       caused = run_later faults wrote.cause.never_falls run;
-      whole = λ opening foreigners events stands.
-          if_told h.disk _ (wrote.whole (root_stands opening foreigners events stands) (places_stand opening foreigners events stands));
+      undamaged = wrote.undamaged;
     } where
       left : (r : Result (Unit {0}) Fault) → OnOk r (Freezes next h.pages f) → OnOk r (BothTell h.disk told (WritesBack f next (1 - core.slot)))
           → OnOk r (BothTell h.disk told (λ _ t. LeavesVolume core t.bytes))

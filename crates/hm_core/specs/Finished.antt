@@ -34,16 +34,15 @@ pub record HasNextHeader (core : CoreState) (t : Told) : Type 0 where
   pub counts : HasHeader t.bytes (next_header core) (1 - core.slot)
   pub settled : t.unsettled ≡ []
 
--- Where nothing was done, nothing is written. Else the disk stands for the volume as it is now. Damage is told of no volume
--- that stood. Each reply of the history has its cause still.
+-- Where nothing was done, nothing is written. Else the disk stands for the volume as it is now. It fails only where the disk
+-- or memory does. Each reply of the history has its cause still.
 pub record IsFinished (core : CoreState) (told : Option Told) (faults : ℕ) (result : Result (Unit {0}) Fault) : Type 0 where
   pub nothing : core.history ≡ [] → IsOk result × (told ≡ core.heap.disk)
   pub volume : OnOk result (BothTell core.heap.disk told (λ _ t. LeavesVolume core t.bytes))
   pub header : OnOk result (core.history ≢ [] → BothTell core.heap.disk told (λ _ t. HasNextHeader core t))
   pub cause : HasFaultCause core.counts.disk faults result
   pub caused : IsCausedRun (record core { counts = with_disk core.counts faults })
-  pub whole : (opening : Volume) (foreigners : Foreigners) (events : List Event) → StandsOver core opening foreigners events
-      → IfSome core.heap.disk (λ _. IfErr result IsUndamaged)
+  pub undamaged : IfErr result IsUndamaged
 
 module _ {D I O : Type 0} where
   -- these are the disk and the streams of a core

@@ -28,13 +28,21 @@ ghost use Rattle.hm_stored.specs.Known.{AreKnown, is_known};
 ghost use Rattle.hm_stored.specs.Standing.{Holds};
 ghost use Rattle.hm_stored.specs.Told.{elements_told};
 ghost use Rattle.hm_core.specs.Calls.{Fails, IsNextCall, Serves};
+ghost use Rattle.hm_core.specs.Core.{GoesOn};
 ghost use Rattle.hm_core.specs.Counts.{AreLater};
 ghost use Rattle.hm_core.specs.History.{IsLegalBeyond, IsLegalOver, setting_of};
 ghost use Rattle.hm_core.specs.Ledger.{IsPaid};
+ghost use Rattle.hm_core.specs.State.{CoreState};
 ghost use Rattle.hm_core.specs.Told.{ArePages, HoldsSame, HoldsTold, OpensStore, TellsFailure, TellsHeld, TellsSpace, reply_to};
 ghost use Rattle.hm_state.specs.Volume.{HoldsVolume};
 
 use hm_key::{ElementStore, Extents};
+
+/// A core goes on from itself, and from what one that it goes on from went on from.
+pub fn a_core_goes_on_from_what_came_before()
+    ensures itself { (core : CoreState) → GoesOn core core }
+    ensures further { (a b c : CoreState) → GoesOn a b → GoesOn b c → GoesOn a c }
+{}
 
 /// A core begins with the empty history, over each volume that its space holds, whatever foreign
 /// masters there are.

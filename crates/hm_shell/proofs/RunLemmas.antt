@@ -136,13 +136,9 @@ module _ (told : Option Told) (faults : ℕ) (begun core : CoreState)
           stands_now;
     }
 
-  -- damage is told of what was no volume alone
+  -- damage is told of none
   no_damage : (disk : Seen Told) (at kind : ℕ) → IsFinished core disk.told disk.faults (Err (damage at kind)) → IfSome begun.heap.disk StandsForNone
-  no_damage disk at kind finished = each_told begun.heap.disk _ _ (λ t stands volume is. none volume (stands volume no_foreigners is))
-      stands_now where
-        none : (volume : Volume) → StandsBySome volume no_foreigners → ⊥
-        none volume (events, stands) =
-            where_told core.heap.disk _ ⊥ stands.legal.held.holds.elements.1 (finished.whole volume no_foreigners events stands)
+  no_damage disk at kind finished = absurd finished.undamaged
 
   write_cause : (disk : Seen Told) (fault : Fault) → IsFinished core disk.told disk.faults (Err fault)
       → IsWriteCause begun.heap.disk core.counts.disk disk.faults (of_fault fault)

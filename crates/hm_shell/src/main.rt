@@ -4,7 +4,7 @@
 mod devices;
 mod digits;
 mod job;
-mod laws;
+pub mod laws;
 mod lines;
 mod plan;
 mod print;
