@@ -104,7 +104,7 @@ module _ (h : Heap) (root : ℕ) (firm : IsFirm (basis_now h root)) (only : AreO
             ]
       ]
 
-  payload_referred : (e : Element) → Contains (elements_in (basis_now h root)) e → Contains refs (to_payload e)
+  pub payload_referred : (e : Element) → Contains (elements_in (basis_now h root)) e → Contains refs (to_payload e)
   payload_referred e there =
       let es = elements_of (nodes current) root in
       let node = node_at (nodes current) root in

@@ -32,7 +32,7 @@ use Rattle.hm_state.proofs.ApartLemmas.{past_apart, payloads_apart}
 use Rattle.hm_state.proofs.FrozenLemmas.{frozen_places, page_beside, place_differs, place_index, place_there, range_before, range_kept}
 
 -- the page at an offset whose page ends within an image
-page_whole : (image : List ℕ) (at : ℕ) → byte_of at + PAGE_BYTES ≤ length image → pages_of image at ≡ Some (bytes_at image at PAGE_BYTES)
+pub page_whole : (image : List ℕ) (at : ℕ) → byte_of at + PAGE_BYTES ≤ length image → pages_of image at ≡ Some (bytes_at image at PAGE_BYTES)
 page_whole image at within =
     ap (λ (b : Bool). cond b (Some (bytes_at image at PAGE_BYTES)) None) (le-leb (byte_of at + PAGE_BYTES) (length image) within)
 

@@ -12,3 +12,5 @@ pub mod InPlaceLemmas
 pub mod ChangedLemmas
 pub mod CommittedLemmas
 pub mod BackedLemmas
+pub mod AtRestLemmas
+pub mod RecoveredLemmas

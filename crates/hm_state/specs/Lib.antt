@@ -5,3 +5,4 @@ pub mod Durable
 pub mod Placed
 pub mod Frozen
 pub mod Free
+pub mod AtRest

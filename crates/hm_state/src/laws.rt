@@ -8,11 +8,14 @@ ghost use Rattle.hm_types.specs.Offset.{byte_of};
 ghost use Rattle.hm_types.specs.declared.limits.TheConstants.{PAGE_BYTES};
 ghost use Rattle.hm_disk.specs.Crash.{Told};
 ghost use Rattle.hm_fields.specs.Fields.{AreBytes};
+ghost use Rattle.hm_fields.specs.Pages.{PageMap};
 ghost use Rattle.hm_header.specs.declared.header.Header.{Header};
 ghost use Rattle.hm_header.specs.Change.{Changes, HaveSameSlots};
 ghost use Rattle.hm_header.specs.OnDisk.{HasHeader};
 ghost use Rattle.hm_header.specs.Range.{IsRoot, IsSize};
+ghost use Rattle.hm_flush.specs.Recoverable.{RecoversToState};
 ghost use Rattle.hm_freemap.specs.Extents.{IsApart};
+ghost use Rattle.hm_undo.specs.Recovered.{RecoversTo};
 ghost use Rattle.hm_key.specs.declared.element.Element.{Element};
 ghost use Rattle.hm_btree.specs.Tree.{IsTreeSpace};
 ghost use Rattle.hm_pages.specs.Store.{Store};
@@ -25,9 +28,10 @@ ghost use Rattle.hm_load.specs.Loaded.{IsLoaded};
 ghost use Rattle.hm_stored.specs.declared.books.Books.{Books};
 ghost use Rattle.hm_stored.specs.Basis.{IsFirm, elements_in, nodes};
 ghost use Rattle.hm_stored.specs.Heap.{Heap, content_of, frame_of, free_of, heap_of};
-ghost use Rattle.hm_stored.specs.Held.{AreOfVolume};
+ghost use Rattle.hm_stored.specs.Held.{AreOfVolume, AreOnlyOf};
 ghost use Rattle.hm_stored.specs.Mounted.{IsBooksOf};
 ghost use Rattle.hm_stored.specs.Standing.{Holds, basis_now};
+ghost use Rattle.hm_state.specs.AtRest.{HasBeside, HoldsAtRest};
 ghost use Rattle.hm_state.specs.Backed.{IsBacked};
 ghost use Rattle.hm_state.specs.Durable.{IsDurable};
 ghost use Rattle.hm_state.specs.Free.{free_in};
@@ -145,4 +149,23 @@ pub fn a_volume_written_in_place_stands()
         (old new : Told) → HoldsVolume h root last volume → AreOfVolume h →
         IsWritten h root old.bytes → IsHeaderOf h root last header →
         Changes header (1 - slot) old new → StandsFor new.bytes volume }
+{}
+
+/// What a space holds between two calls is a state by itself: the one that its header and its current
+/// pages make, whatever was committed or frozen before. So it can be spoken of once the space has moved
+/// on.
+pub fn a_state_at_rest_is_held()
+    ensures { (h : Heap) (t : Told) (root last : ℕ) (volume : Volume) (header : Header) →
+        h.disk ≡ Some t → HoldsVolume h root last volume → IsHeaderOf h root last header →
+        HoldsAtRest t header h.pages.current volume }
+{}
+
+/// Where a state by itself holds a volume, an image that recovers to its pages under its header, and has
+/// all else of it, recovers to one that stands for the volume.
+pub fn a_recovered_image_stands()
+    ensures { (t : Told) (header : Header) (map : PageMap) (volume : Volume) (image : List ℕ) →
+        HoldsAtRest t header map volume → AreOnlyOf header.bigblocks map →
+        ((at : ℕ) (page : List ℕ) → map at ≡ Some page → AreBytes page) →
+        HasBeside t header map image → RecoversToState header map image →
+        (result : List ℕ) × RecoversTo image result × StandsFor result volume }
 {}
