@@ -34,7 +34,7 @@ keep-requires-clause-opened g c =
     begun_some (heap_of (contents s.space.pages.store) (g.D.Disk.told s.space.disk) s.space.books)
     (heap_of (contents s1.space.pages.store) (g.D.Disk.told s1.space.disk) s1.space.books)
     (heap_of (contents s2.space.pages.store) (g.D.Disk.told s2.space.disk) s2.space.books) s.root c.args.last.0 c.begin.ensures.turn
-    c.answer_next.ensures.borrowed.1
+    (ap (λ f. f.0) c.answer_next.ensures.borrowed.1)
 
 pub undo-requires : goal.undo-requires
 unfolding heap_of
@@ -46,7 +46,7 @@ undo-requires g c =
       opened = begun_some (heap_of (contents s.space.pages.store) (g.D.Disk.told s.space.disk) s.space.books)
           (heap_of (contents s1.space.pages.store) (g.D.Disk.told s1.space.disk) s1.space.books)
           (heap_of (contents s2.space.pages.store) (g.D.Disk.told s2.space.disk) s2.space.books) s.root c.args.last.0 c.begin.ensures.turn
-          c.answer_next.ensures.borrowed.1;
+          (ap (λ f. f.0) c.answer_next.ensures.borrowed.1);
     }
 
 pub undo-requires-in-Err : goal.undo-requires-in-Err
@@ -59,7 +59,7 @@ undo-requires-in-Err g c =
       opened = begun_some (heap_of (contents s.space.pages.store) (g.D.Disk.told s.space.disk) s.space.books)
           (heap_of (contents s1.space.pages.store) (g.D.Disk.told s1.space.disk) s1.space.books)
           (heap_of (contents s2.space.pages.store) (g.D.Disk.told s2.space.disk) s2.space.books) s.root c.args.last.0 c.begin.ensures.turn
-          c.answer_next.ensures.borrowed.1;
+          (ap (λ f. f.0) c.answer_next.ensures.borrowed.1);
     }
 
 pub returns-in-Ok : goal.returns-in-Ok
@@ -74,7 +74,7 @@ returns-in-Ok g c =
           (heap_of (contents s.space.pages.store) (g.D.Disk.told s.space.disk) s.space.books) s.root c.args.last.0 s1 s2
           (heap_of (contents s3.space.pages.store) (g.D.Disk.told s3.space.disk) s3.space.books) s3.root c.args.command.now c.in-Ok.reply
           (g.D.Disk.faults s.space.disk) (g.D.Disk.faults s3.space.disk) c.requires.closed s.space.kept c.begin.ensures.turn c.begin.ensures.root
-          c.answer_next.ensures.borrowed.1 c.requires.served.0 c.requires.left c.answer_next.result
+          (ap (λ f. f.0) c.answer_next.ensures.borrowed.1) c.requires.served.0 c.requires.left c.answer_next.result
           (caused_over _ _ _ _ (g.D.Disk.faults s.space.disk) (g.D.Disk.faults s3.space.disk) c.answer_next.result
           (ap g.D.Disk.faults c.begin.ensures.disk) (ap g.D.Disk.faults c.keep.ensures.disk) c.answer_next.ensures.cause)
           (c.can_keep.ensures.0 c.if-can_keep.true).whole c.keep.ensures.turn c.keep.ensures.content c.keep.ensures.root c.pages_are_bytes.ensures s2.tree
@@ -93,7 +93,7 @@ returns-in-Ok-2 g c =
           (heap_of (contents s.space.pages.store) (g.D.Disk.told s.space.disk) s.space.books) s.root c.args.last.0 s1 s2
           (heap_of (contents s3.space.pages.store) (g.D.Disk.told s3.space.disk) s3.space.books) s3.root c.args.command.now _
           (g.D.Disk.faults s.space.disk) (g.D.Disk.faults s3.space.disk) c.requires.closed s.space.kept c.begin.ensures.turn c.begin.ensures.root
-          c.answer_next.ensures.borrowed.1 c.requires.served.0 c.requires.left c.answer_next.result
+          (ap (λ f. f.0) c.answer_next.ensures.borrowed.1) c.requires.served.0 c.requires.left c.answer_next.result
           (caused_over _ _ _ _ (g.D.Disk.faults s.space.disk) (g.D.Disk.faults s3.space.disk) c.answer_next.result
           (ap g.D.Disk.faults c.begin.ensures.disk) (ap g.D.Disk.faults c.undo.ensures.disk) c.answer_next.ensures.cause)
           c.undo.ensures.turn c.undo.ensures.root c.undo.ensures.held (λ volume holds. inr refl) no_memory refl tt;
@@ -114,7 +114,7 @@ returns-in-Err g c =
           (heap_of (contents s.space.pages.store) (g.D.Disk.told s.space.disk) s.space.books) s.root c.args.last.0 s1 s2
           (heap_of (contents s3.space.pages.store) (g.D.Disk.told s3.space.disk) s3.space.books) s3.root c.args.command.now c.failure.result
           (g.D.Disk.faults s.space.disk) (g.D.Disk.faults s3.space.disk) c.requires.closed s.space.kept c.begin.ensures.turn c.begin.ensures.root
-          c.answer_next.ensures.borrowed.1 c.requires.served.0 c.requires.left c.answer_next.result cause
+          (ap (λ f. f.0) c.answer_next.ensures.borrowed.1) c.requires.served.0 c.requires.left c.answer_next.result cause
           c.undo-in-Err.ensures.turn c.undo-in-Err.ensures.root c.undo-in-Err.ensures.held
           (λ volume holds.
           subst (λ r. TellsFailure (g.D.Disk.faults s.space.disk) (g.D.Disk.faults s3.space.disk) r) (sym c.failure.ensures)
@@ -122,7 +122,7 @@ returns-in-Err g c =
           (heap_of (contents s.space.pages.store) (g.D.Disk.told s.space.disk) s.space.books) s.root c.args.last.0 s1 s2
           (heap_of (contents s3.space.pages.store) (g.D.Disk.told s3.space.disk) s3.space.books) s3.root c.args.command.now c.failure.result
           (g.D.Disk.faults s.space.disk) (g.D.Disk.faults s3.space.disk) c.requires.closed s.space.kept c.begin.ensures.turn c.begin.ensures.root
-          c.answer_next.ensures.borrowed.1 c.requires.served.0 c.requires.left c.answer_next.result cause c.in-Err.fault c.in-Err.is volume holds))
+          (ap (λ f. f.0) c.answer_next.ensures.borrowed.1) c.requires.served.0 c.requires.left c.answer_next.result cause c.in-Err.fault c.in-Err.is volume holds))
           c.in-Err.fault c.failure.ensures
           (subst (λ r. IfErr r (IsCaused (g.D.Disk.faults s.space.disk) (g.D.Disk.faults s3.space.disk))) c.in-Err.is cause.counted.caused);
     }
