@@ -37,16 +37,12 @@ mod payloads;
 mod places;
 mod roots;
 mod space;
-mod space_calls;
 mod stored;
 mod stored_elements;
 mod stored_extents;
-mod stored_space;
-mod stored_turns;
 mod tree_calls;
 mod tree_pages;
 mod tree_space;
-mod turns;
 
 pub use books::Books;
 pub use change::Change;

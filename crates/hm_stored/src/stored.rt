@@ -9,11 +9,12 @@ ghost use Rattle.hm_stored.specs.Held.{AreOfVolume, ArePlaced, IsRooted};
 ghost use Rattle.hm_stored.specs.Space.{heap};
 ghost use Rattle.hm_stored.specs.Turn.{IsClosed};
 
+use crate::places::is_tree_place;
 use crate::space::Space;
 use hm_disk::Disk;
 use hm_key::{HasElements, HasRoom};
 use hm_pages::pages_are_bytes;
-use hm_types::{Counted, Fault, HOff};
+use hm_types::{Counted, Fault, HOff, Id};
 
 /// A volume in use, as the calls on names read and change it: its elements, which the tree over its
 /// space has, and the extents of their payloads.
@@ -120,5 +121,93 @@ impl<D: Disk> Stored<D> {
     {
         let Stored { space, root, .. } = self;
         (space, root)
+    }
+}
+
+// How a call is opened and closed.
+impl<D: Disk> Stored<D> {
+    ghost use Rattle.std.specs.Prelude.{◌≡◌, ◌↔◌, IfSome, IsSome, IsTrue, List};
+    ghost use Rattle.hm_types.specs.Elements.{FullElement};
+    ghost use Rattle.hm_pages.specs.Store.{contents};
+    ghost use Rattle.hm_stored.specs.Content.{KeepsContent};
+    ghost use Rattle.hm_stored.specs.Heap.{content_of};
+    ghost use Rattle.hm_stored.specs.Known.{AreKnown};
+    ghost use Rattle.hm_stored.specs.Space.{heap};
+    ghost use Rattle.hm_stored.specs.Standing.{Holds};
+    ghost use Rattle.hm_stored.specs.Told.{Tells};
+    ghost use Rattle.hm_stored.specs.Turn.{IsClosed, IsDropped, IsKeepable, IsKeptOf, IsOpened};
+
+    /// Opens a call, with the last id that was drawn. No call may be open. Where the volume is in order
+    /// and its ids are known, the store tells just the elements that it holds. It takes no memory.
+    pub fn begin(&mut self, last: Id)
+        requires closed { IsClosed (heap self.old.space) }
+        ensures turn { IsOpened self.old.root last.0 (heap self.old.space) (heap self.new.space) }
+        ensures root { self.new.root ≡ self.old.root }
+        ensures disk { self.new.space.disk ≡ self.old.space.disk }
+        ensures told { (es : List FullElement) → Holds (heap self.old.space) self.old.root es
+            → AreKnown last.0 es → Tells (heap self.new.space) self.new.root es }
+    {
+        self.space.begin(self.root, last);
+        self.is_open = true;
+    }
+
+    /// Closes the open call, and keeps what it changed: `can_keep` says whether it may. It takes no
+    /// memory.
+    pub fn keep(&mut self)
+        requires opened { IsSome (contents self.old.space.pages.store).begin }
+        requires keepable { IsKeepable (heap self.old.space) self.old.root }
+        ensures turn { IsKeptOf (heap self.old.space) (heap self.new.space) }
+        ensures root { self.new.root ≡ self.old.root }
+        ensures disk { self.new.space.disk ≡ self.old.space.disk }
+        ensures content { KeepsContent (heap self.old.space) (heap self.new.space) }
+    {
+        self.space.keep();
+        self.is_open = false;
+    }
+
+    /// Closes the open call, and drops what it changed: the volume holds what it held when the call was
+    /// opened. It takes no memory.
+    pub fn undo(&mut self)
+        requires opened { IsSome (contents self.old.space.pages.store).begin }
+        ensures turn { IsDropped (heap self.old.space) (heap self.new.space) }
+        ensures root { self.new.root ≡ self.old.space.books.roots.current }
+        ensures disk { self.new.space.disk ≡ self.old.space.disk }
+        ensures held { IfSome (content_of (heap self.old.space)) (Holds (heap self.new.space)
+            self.new.root) }
+    {
+        self.space.undo();
+        self.root = self.space.books.roots.current;
+        self.is_open = false;
+    }
+
+    /// Whether the open call may be kept: none of its changes failed, and the root of its tree stands in
+    /// the pool.
+    pub fn can_keep(&self) -> bool
+        ensures { IsTrue result ↔ IsKeepable (heap self.now.space) self.now.root }
+    {
+        self.space.is_whole() && is_tree_place(self.space.books.bigblocks, self.root)
+    }
+}
+
+// What it tells of its space.
+impl<D: Disk> Stored<D> {
+    ghost use Rattle.std.specs.Prelude.{◌≡◌, IfErr, IfOk};
+    ghost use Rattle.hm_types.specs.Faults.{IsCaused};
+    ghost use Rattle.hm_types.specs.Layout.{IsPool};
+    ghost use Rattle.hm_freemap.specs.Faults.{IsFreemapDamage};
+    ghost use Rattle.hm_stored.specs.Heap.{free_of, maps_of};
+    ghost use Rattle.hm_stored.specs.Space.{heap};
+    ghost use Rattle.hm_stored.specs.Turn.{LooksSame};
+
+    /// How many big-blocks are free: `free_blocks` of the space.
+    pub fn free_blocks(&mut self) -> Result<u32, Fault>
+        ensures ok { IfOk result (λ free. free ≡ free_of (heap self.old.space)) }
+        ensures same { LooksSame (heap self.old.space) (heap self.new.space) }
+        ensures rest { (self.new.root ≡ self.old.root) × (self.new.space.disk ≡ self.old.space.disk) }
+        ensures cause { IfErr result (IsFreemapDamage self.old.space.books.bigblocks self.old.space.books.append
+            (IsPool self.old.space.books.bigblocks) (maps_of (heap self.old.space))) }
+        ensures no_media { IfErr result (IsCaused 0 0) }
+    {
+        self.space.free_blocks()
     }
 }
