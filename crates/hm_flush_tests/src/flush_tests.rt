@@ -1,75 +1,14 @@
 // Flushes of a group: the stages in order, with each call of the disk failing in turn, over the end of the log.
+use crate::start::{PLAIN, Start, disk_at, place, volume_at};
 use crate::test_disk::{Counts, TestDisk};
-use crate::volume::{LAYER2, TREE, Volume, filled, header, pages, slot_of, target};
+use crate::volume::{LAYER2, TREE, Volume, filled, header, slot_of, target};
 use hm_disk::Disk;
 use hm_flush::Stage;
 use hm_header::{Header, SLOT_BYTES, read_header};
-use hm_pages::PageStore;
 use hm_types::{Failed, Fault, PAGE_BYTES, UNDO_ENTRY_BYTES};
 use hm_undo::decode;
-use std::alloc::Global;
 use std::process::Abort;
 use std::test::Fail;
-
-// Where a flush begins: the slot and the generation of the header that counts, and the next free entry.
-#[derive(Clone, Copy, Debug)]
-struct Start {
-    slot: u8,
-    generation: u64,
-    next: u32,
-}
-
-const PLAIN: Start = Start {
-    slot: 0,
-    generation: 7,
-    next: 3,
-};
-
-// The byte where a page stands.
-fn place(raw: u64) -> u64 {
-    raw % (1 << 52)
-}
-
-// A disk whose header of this slot counts, beside the one before it, with the committed pages, and other
-// bytes where the new ones will stand.
-fn write_start(disk: &mut TestDisk, start: Start) -> Result<(), Failed> {
-    let counts = slot_of(&header(start.generation, 0, 0, start.next));
-    let before = slot_of(&header(start.generation.wrapping_sub(1), 0, 0, start.next));
-    let (first, second) = if start.slot == 0 {
-        (&counts, &before)
-    } else {
-        (&before, &counts)
-    };
-    disk.write_at(0, first)?;
-    disk.write_at(SLOT_BYTES as u64, second)?;
-    for (raw, byte) in [
-        (LAYER2, 0x20),
-        (TREE, 0x10),
-        (TREE + 0x1000, 0x77),
-        (TREE + 0x2000, 0x12),
-        (TREE + 0x4000, 0x14),
-    ] {
-        disk.write_at(place(raw), &[byte; PAGE_BYTES])?;
-    }
-    disk.sync()
-}
-
-fn disk_at(rt: &impl Abort, alloc: Global, start: Start, fails: Vec<u64>) -> TestDisk {
-    let mut disk = TestDisk::new(alloc, Vec::new(alloc));
-    assert_eq!(rt; write_start(&mut disk, start), Ok(()));
-    disk.failing(fails)
-}
-
-fn volume_at(rt: &impl Abort, alloc: Global, start: Start) -> Volume {
-    let slot = start.slot.min(1);
-    match pages(alloc) {
-        Ok(pages) => match Volume::new(&header(start.generation, 0, 0, start.next), slot, pages) {
-            Some(volume) => volume,
-            None => panic!(rt; "a header is out of range"),
-        },
-        Err(_) => panic!(rt; "no pages"),
-    }
-}
 
 // Makes stages until the last of a flush, and says how many failed.
 fn flush(rt: &impl Abort, volume: &mut Volume, disk: &mut TestDisk) -> u32 {

@@ -4,8 +4,8 @@ ghost use Rattle.hm_types.specs.Faults.{HasCause};
 ghost use Rattle.hm_disk.specs.declared.limits.TheConstants.{MOST_CALL_BYTES};
 
 use hm_disk::Disk;
-use hm_disk_forms::MemDisk;
-use hm_types::Failed;
+use hm_disk_forms::{Crash, MemDisk};
+use hm_types::{Failed, NoMemory};
 use std::alloc::Global;
 
 // How many calls there were of each kind.
@@ -24,6 +24,7 @@ pub struct TestDisk {
     calls: u64,
     faults: u64,
     counts: Counts,
+    synced: Vec<usize>,
 }
 
 impl TestDisk {
@@ -39,6 +40,7 @@ impl TestDisk {
                 writes: 0,
                 syncs: 0,
             },
+            synced: Vec::new(alloc),
         }
     }
 
@@ -50,6 +52,7 @@ impl TestDisk {
             calls: _,
             faults: _,
             counts: _,
+            synced,
         } = self;
         TestDisk {
             disk,
@@ -61,11 +64,37 @@ impl TestDisk {
                 writes: 0,
                 syncs: 0,
             },
+            synced,
         }
     }
 
     pub fn counts(&self) -> Counts {
         self.counts
+    }
+
+    // How many writes and syncs are recorded.
+    pub fn changes(&self) -> usize {
+        self.disk.changes()
+    }
+
+    // How many writes are unsettled after so many of these: those since the last sync.
+    pub fn unsettled(&self, count: usize) -> usize {
+        let mut since = 0;
+        for synced in &self.synced {
+            if *synced <= count && since < *synced {
+                since = *synced;
+            }
+        }
+        count.saturating_sub(since)
+    }
+
+    // A disk as a crash after so many of these may have left this one.
+    pub fn crashed(&self, count: usize, crash: Crash<'_>) -> Result<MemDisk, NoMemory> {
+        if count <= self.disk.changes() {
+            self.disk.crashed(count, crash)
+        } else {
+            Err(NoMemory)
+        }
     }
 
     // Counts a call, and says whether it is to fail.
@@ -96,7 +125,7 @@ impl TestDisk {
 }
 
 // Reads where the range lies inside the disk.
-fn read_inside(disk: &mut MemDisk, place: u64, buf: &mut [u8]) -> Result<(), Failed>
+pub fn read_inside(disk: &mut MemDisk, place: u64, buf: &mut [u8]) -> Result<(), Failed>
     requires { length buf.old ≤ MOST_CALL_BYTES }
 {
     let size = disk.size()?;
@@ -180,6 +209,9 @@ impl Disk for TestDisk {
             return self.fail();
         }
         let answer = self.disk.sync();
+        if self.synced.push(self.disk.changes()).is_err() {
+            return self.fail();
+        }
         self.end(answer)
     }
 
