@@ -31,7 +31,7 @@ use Rattle.hm_shell.specs.Opening.{HasWhole, IsUnopened, OpensOn, StoppedOpening
 use Rattle.hm_shell.specs.Preparing.{IsPrepared, StoppedPreparing}
 use Rattle.hm_shell.specs.Reading.{WasRead}
 use Rattle.hm_shell.specs.Run.{Stops}
-use Rattle.hm_shell.specs.Running.{StandsForNone, StoppedRunning, StoppedUsing}
+use Rattle.hm_shell.specs.Running.{StoppedRunning, StoppedUsing}
 use Rattle.hm_shell.specs.Seen.{Seen}
 use Rattle.hm_shell.specs.Stop.{of_open, status_of}
 use Rattle.hm_shell.proofs.EndLemmas.{HasEnded}
@@ -100,7 +100,13 @@ wider status has = Contains-append_left (0 ∷ 4 ∷ 5 ∷ 6 ∷ 7 ∷ []) (10 �
 -- a status that comes anyway
 any_disk : (newfs : Option ℕ) (t : Told) (status : ℕ) → Contains (3 ∷ 4 ∷ 5 ∷ 7 ∷ []) status → Contains (0 ∷ 4 ∷ 5 ∷ 6 ∷ 7 ∷ []) status
     → Contains (10 ∷ 4 ∷ 5 ∷ 7 ∷ []) status → DiskBrings newfs t status
-any_disk None t status three whole ten = record { none = λ _ _. three; damaged = λ _ _ _. ten; stands = λ _ _. whole; headed = λ _ _ _. wider status whole }
+any_disk None t status three whole ten = record {
+  none = λ _ _. three;
+  damaged = λ _ _ _. ten;
+  stands = λ _ _. whole;
+  whole = λ _. whole;
+  headed = λ _ _ _. wider status whole;
+}
 any_disk (Some size) t status three whole ten = record { small = λ _. three; made = λ _. whole }
 
 four_anyway : (newfs : Option ℕ) (o : Option Told) → IfSome o (λ t. DiskBrings newfs t 4)
@@ -119,6 +125,7 @@ opened_brings None disk opened status opens has = each_gives disk (λ t. HasWhol
   none = λ fault is. absurd (headed_has_none t.bytes whole.header whole.slot fault whole.counts is);
   damaged = λ at kind is. absurd (whole_has_none t.bytes at kind whole is);
   stands = λ _ _. has;
+  whole = λ _. has;
   headed = λ _ _ _. wider status has;
 }) opens.1
 opened_brings (Some size) disk opened status opens has = both_gives disk opened (IsMade size) (λ t. NewBrings size t status) (λ s t made. record {
@@ -126,27 +133,13 @@ opened_brings (Some size) disk opened status opens has = both_gives disk opened 
   made = λ _. has;
 }) opens
 
--- with a volume that was damaged as it was written back, and so was none
-damaged_brings : (newfs : Option ℕ) (disk opened : Option Told) → OpensOn newfs disk opened → IfSome opened StandsForNone
-    → IfSome disk (λ t. DiskBrings newfs t 10)
-damaged_brings None None opened opens none = tt
-damaged_brings None (Some t) opened opens none =
-    let stood : StandsForNone t = rw opens.0 at none in record {
-      none = λ fault is. absurd (headed_has_none t.bytes opens.1.header opens.1.slot fault opens.1.counts is);
-      damaged = λ at kind is. absurd (whole_has_none t.bytes at kind opens.1 is);
-      stands = λ volume stands. absurd (stood volume stands);
-      headed = λ _ _ _. (5, lit< tt, refl);
-    }
-damaged_brings (Some size) None opened opens none = tt
-damaged_brings (Some size) (Some s) None opens none = absurd opens
-damaged_brings (Some size) (Some s) (Some t) opens none = absurd (none (fresh size) opens.stands.stands)
-
 -- with a disk that has no volume
 none_brings : (t : Told) (fault : HeaderFault) → HasFault t.bytes fault → ((volume : Volume) → StandsFor t.bytes volume → ⊥) → OldBrings t 3
 none_brings t fault is never = record {
   none = λ _ _. (0, lit< tt, refl);
   damaged = λ at kind damaged. absurd (headed_has_none t.bytes damaged.header damaged.slot fault damaged.counts is);
   stands = λ volume stands. absurd (never volume stands);
+  whole = λ whole. absurd (headed_has_none t.bytes whole.header whole.slot fault whole.counts is);
   headed = λ header slot counts. absurd (headed_has_none t.bytes header slot fault counts is);
 }
 
@@ -156,6 +149,7 @@ ten_brings t at kind damaged never = record {
   none = λ fault is. absurd (headed_has_none t.bytes damaged.header damaged.slot fault damaged.counts is);
   damaged = λ _ _ _. (0, lit< tt, refl);
   stands = λ volume stands. absurd (never volume stands);
+  whole = λ whole. absurd (whole_has_none t.bytes at kind whole damaged);
   headed = λ _ _ _. (5, lit< tt, refl);
 }
 
@@ -219,10 +213,8 @@ using_brings newfs lines old_disk new_disk old_out new_out OutFault using =
     ((4, lit< tt, refl), opened_brings newfs old_disk.told using.opened 6 using.opens (3, lit< tt, refl))
 using_brings newfs lines old_disk new_disk old_out new_out NoMemory using = ((5, lit< tt, refl), seven_anyway newfs old_disk.told)
 using_brings newfs lines old_disk new_disk old_out new_out (DiskFault before after) using = ((2, lit< tt, refl), four_anyway newfs old_disk.told)
-using_brings newfs lines old_disk new_disk old_out new_out (Damaged at kind) using = elim using.stops [
-  | inl line ↦ absurd line.cause
-  | inr writing ↦ ((6, lit< tt, refl), damaged_brings newfs old_disk.told using.opened using.opens writing.cause)
-]
+using_brings newfs lines old_disk new_disk old_out new_out (Damaged at kind) using =
+    elim using.stops [ inl line ↦ absurd line.cause | inr writing ↦ absurd writing.cause ]
 using_brings newfs lines old_disk new_disk old_out new_out Usage using = elim using.stops [ inl line ↦ absurd line.cause | inr writing ↦ absurd writing.cause ]
 using_brings newfs lines old_disk new_disk old_out new_out NotVolume using =
     elim using.stops [ inl line ↦ absurd line.cause | inr writing ↦ absurd writing.cause ]

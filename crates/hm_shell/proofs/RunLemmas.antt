@@ -24,7 +24,7 @@ use Rattle.hm_shell.specs.declared.stop.Stop.{Stop}
 use Rattle.hm_shell.specs.Alone.{IsAlone, out_text}
 use Rattle.hm_shell.specs.Lines.{IsServedLine}
 use Rattle.hm_shell.specs.Making.{MakesVolume}
-use Rattle.hm_shell.specs.Running.{AnswersAll, AnswersInPart, BeginsOn, HasHistory, IsCounted, IsKept, IsWriteCause, LeavesVolume, OverEach, Ran, RunsAll, StandsForNone, StoppedRunning, StoppedUsing}
+use Rattle.hm_shell.specs.Running.{AnswersAll, AnswersInPart, BeginsOn, HasHistory, IsCounted, IsKept, IsWriteCause, LeavesVolume, OverEach, Ran, RunsAll, StoppedRunning, StoppedUsing}
 use Rattle.hm_shell.specs.Seen.{Seen}
 use Rattle.hm_shell.specs.Serving.{GoesFrom, Served, ServedInPart, StopsUsing, UsesAll}
 use Rattle.hm_shell.specs.Stop.{of_fault}
@@ -136,14 +136,10 @@ module _ (told : Option Told) (faults : ℕ) (begun core : CoreState)
           stands_now;
     }
 
-  -- damage is told of none
-  no_damage : (disk : Seen Told) (at kind : ℕ) → IsFinished core disk.told disk.faults (Err (damage at kind)) → IfSome begun.heap.disk StandsForNone
-  no_damage disk at kind finished = absurd finished.undamaged
-
   write_cause : (disk : Seen Told) (fault : Fault) → IsFinished core disk.told disk.faults (Err fault)
-      → IsWriteCause begun.heap.disk core.counts.disk disk.faults (of_fault fault)
+      → IsWriteCause core.counts.disk disk.faults (of_fault fault)
   write_cause disk (media before after) finished = finished.cause.caused
-  write_cause disk (damage at kind) finished = no_damage disk at kind finished
+  write_cause disk (damage at kind) finished = absurd finished.undamaged
   write_cause disk no_memory finished = tt
 
 answers_all : (lines : List Line) (begun core : CoreState) (old new : Option (List ℕ)) → All IsServedLine lines → Served lines begun core old new
@@ -223,7 +219,7 @@ module _ (newfs : Option ℕ) (lines : List Line) (each : All IsServedLine lines
         legal = histories made.told made.faults begun core mounted writing.served.from;
         stops = inr (record {
           answered = answers_all lines begun core old_out.told new_out.told each writing.served;
-          cause = subst (IsWriteCause begun.heap.disk core.counts.disk new.faults) (sym writing.stop_is)
+          cause = subst (IsWriteCause core.counts.disk new.faults) (sym writing.stop_is)
               (write_cause made.told made.faults begun core mounted writing.served.from new writing.fault writing.finished);
         });
       }

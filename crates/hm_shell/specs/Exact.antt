@@ -10,6 +10,7 @@ use Rattle.hm_model.specs.Volume.{Volume}
 use Rattle.hm_core.specs.Opened.{HasDamage, IsTooSmall}
 use Rattle.hm_shell.specs.Devices.{Sight}
 use Rattle.hm_shell.specs.Lines.{IsFirstBad, IsGoodScript}
+use Rattle.hm_shell.specs.Opening.{HasWhole}
 use Rattle.hm_shell.specs.Words.{HasPlan, IsPlan}
 
 -- the statuses that a run may end with
@@ -22,12 +23,13 @@ pub record NewBrings (size : ℕ) (t : Told) (status : ℕ) : Type 0 where
   pub small : IsTooSmall size t → Contains (3 ∷ 4 ∷ 5 ∷ 7 ∷ []) status
   pub made : (IsTooSmall size t → ⊥) → Contains (0 ∷ 4 ∷ 5 ∷ 6 ∷ 7 ∷ []) status
 
--- The same of a disk as it is: no header counts, or what stands below it is damaged, or the lines are run on it. Where what
--- it holds is whole, and yet stands for no volume, its damage may show as it is written back.
+-- The same of a disk as it is: no header counts, or what stands below it is damaged, or the lines are run on it. Where what it
+-- holds is whole no damage is told, also where it stands for no volume.
 pub record OldBrings (t : Told) (status : ℕ) : Type 0 where
   pub none : (fault : HeaderFault) → HasFault t.bytes fault → Contains (3 ∷ 4 ∷ 5 ∷ 7 ∷ []) status
   pub damaged : (at kind : ℕ) → HasDamage t.bytes at kind → Contains (10 ∷ 4 ∷ 5 ∷ 7 ∷ []) status
   pub stands : (volume : Volume) → StandsFor t.bytes volume → Contains (0 ∷ 4 ∷ 5 ∷ 6 ∷ 7 ∷ []) status
+  pub whole : HasWhole t.bytes → Contains (0 ∷ 4 ∷ 5 ∷ 6 ∷ 7 ∷ []) status
   pub headed : (header : Header) (slot : ℕ) → HasHeader t.bytes header slot → Contains (0 ∷ 4 ∷ 5 ∷ 6 ∷ 7 ∷ 10 ∷ []) status
 
 abbrev pub DiskBrings : Option ℕ → Told → ℕ → Type 0

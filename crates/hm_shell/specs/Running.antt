@@ -127,28 +127,24 @@ pub record StopsAtLine (lines : List Line) (ran : Ran) (old_out new_out : Seen (
   pub gained : Gains old_out.told text new_out.told
   pub cause : IsOutCause old_out.faults new_out.faults stop
 
--- a disk that tells this stands for no volume
-abbrev pub StandsForNone : Told → Type 0
-StandsForNone t = (volume : Volume) → StandsFor t.bytes volume → ⊥
-
--- what made the run stop as the volume was written back: the disk, memory, or damage of what was no volume as it was opened
-abbrev pub IsWriteCause : Option Told → ℕ → ℕ → Stop → Type 0
-IsWriteCause opened before after (DiskFault b a) = IsMedia before after b a
-IsWriteCause opened before after NoMemory = Unit {0}
-IsWriteCause opened before after (Damaged at kind) = IfSome opened StandsForNone
-IsWriteCause opened before after Usage = ⊥
-IsWriteCause opened before after NotVolume = ⊥
-IsWriteCause opened before after (BadField place) = ⊥
-IsWriteCause opened before after (ScriptFault b a) = ⊥
-IsWriteCause opened before after OutFault = ⊥
-IsWriteCause opened before after (BadLine number) = ⊥
-IsWriteCause opened before after TooLong = ⊥
+-- what made the run stop as the volume was written back, over every disk: the disk failed, or memory was refused
+abbrev pub IsWriteCause : ℕ → ℕ → Stop → Type 0
+IsWriteCause before after (DiskFault b a) = IsMedia before after b a
+IsWriteCause before after NoMemory = Unit {0}
+IsWriteCause before after (Damaged at kind) = ⊥
+IsWriteCause before after Usage = ⊥
+IsWriteCause before after NotVolume = ⊥
+IsWriteCause before after (BadField place) = ⊥
+IsWriteCause before after (ScriptFault b a) = ⊥
+IsWriteCause before after OutFault = ⊥
+IsWriteCause before after (BadLine number) = ⊥
+IsWriteCause before after TooLong = ⊥
 
 -- all lines were answered and printed, and the volume could not be written back
 pub record StopsWriting (lines : List Line) (opened : Option Told) (ran : Ran) (faults : ℕ)
     (old_out new_out : Option (List ℕ)) (stop : Stop) : Type 0 where
   pub answered : AnswersAll lines ran old_out new_out
-  pub cause : IsWriteCause opened ran.counts.disk faults stop
+  pub cause : IsWriteCause ran.counts.disk faults stop
 
 -- A run stopped with an open volume: at a line, or as the volume was written back. Each reply of its history has its cause,
 -- and it is a legal one over each volume that the disk stood for as it was opened.
