@@ -1,14 +1,18 @@
 -- The guard over a call of the flusher, where the disk tells.
-use Rattle.std.proofs.Common.{◌≡◌, ◌≢◌, ◌⊎◌, inl, inr, ℕ, Bool, true, false, List, [], length, refl, sym, ◌∙◌, ap, subst, arith, is_some, Option, Some, None, IfSome}
+use Rattle.std.proofs.Common.{◌≡◌, ◌≢◌, ℕ, Bool, true, false, List, [], length, refl, sym, ◌∙◌, ap, subst, arith, is_some, Option, Some, None, IfSome, IfOk, OnOk, OnErr, Result, Ok, Err, ◌∷◌}
+use Rattle.std.proofs.lemmas.Bool.{true≢false}
+use Rattle.hm_types.specs.declared.fault.Fault.{Fault}
 use Rattle.hm_types.specs.declared.id.Id.{Id}
 use Rattle.hm_types.specs.Told.{BothTell}
-use Rattle.hm_disk.specs.Crash.{Told, MayLeave}
+use Rattle.hm_disk.specs.Crash.{Told}
 use Rattle.hm_disk.specs.Moments.{LeftSince}
+use Rattle.hm_disk.proofs.CrashLemmas.{MayLeave-same}
 use Rattle.hm_disk.proofs.DiskLemmas.{BothTell-map}
 use Rattle.hm_disk.proofs.MomentLemmas.{Elapses-none}
 use Rattle.hm_fields.specs.Pages.{PageMap}
 use Rattle.hm_header.specs.declared.header.Header.{Header}
 use Rattle.hm_header.specs.Change.{AnyCrash, StageElapses, StageFailed}
+use Rattle.hm_header.proofs.StageLemmas.{failed-same}
 use Rattle.hm_pages.specs.Calls.{IsFrozen}
 use Rattle.hm_pages.specs.Sound.{IsSound}
 use Rattle.hm_pages.specs.Store.{Store}
@@ -16,16 +20,18 @@ use Rattle.hm_undo.specs.Entry.{IsUndoPageOf}
 use Rattle.hm_flush.specs.declared.flush.Flush.{Flush}
 use Rattle.hm_flush.specs.declared.flush.Position.{Position}
 use Rattle.hm_flush.specs.declared.flush.Position.TheVariants.{Idle, Undoing, Arming, Placing, Committing}
-use Rattle.hm_flush.specs.Calls.{AreFlushPlaces, FlushStands, HeaderStands, PagesMove}
+use Rattle.hm_flush.specs.declared.stage.Stage.{Stage}
+use Rattle.hm_flush.specs.Calls.{AreFlushPlaces, FlushStands, HeaderStands, PagesMove, StageFails, StageSucceeds}
+use Rattle.hm_flush.specs.Ends.{StageDoes, StageEnds, StageTells}
 use Rattle.hm_flush.specs.Flush.{IsFlush, IsGroupAt, IsGroupOf, armed_header, begun_flush, tried}
-use Rattle.hm_flush.specs.Group.{group_of}
+use Rattle.hm_flush.specs.Group.{Group, group_of}
 use Rattle.hm_flush.specs.Guard.{ArePlaced, ElapsesRecoverable, Guards, GuardsOn, HasSaved, IsUnarmedAt, guarded_at}
 use Rattle.hm_flush.specs.Recoverable.{HoldsPages}
-use Rattle.hm_flush.specs.Stages.{DueStageMade, asks, due_stage, moved_flush, range_of}
+use Rattle.hm_flush.specs.Stages.{DueStageMade, MakesStage, asks, asks_at, due_stage, due_stage_at, moved_flush, range_of}
 use Rattle.hm_flush.proofs.StandLemmas.{lies-past, stands-on, stands-tried}
 use Rattle.hm_flush.proofs.StepLemmas.{Fits, elapses-recoverable, guards-on, guards-tried}
 
-group-pages : (p : Position) (f : Flush) (s : Store) → IsGroupAt p f s → p ≢ Idle → length s.frozen_group ≡ f.pages
+pub group-pages : (p : Position) (f : Flush) (s : Store) → IsGroupAt p f s → p ≢ Idle → length s.frozen_group ≡ f.pages
 group-pages Idle f s group flight = absurd (flight refl)
 group-pages (Undoing from) f s group flight = group.pages
 group-pages (Arming change) f s group flight = group.pages
@@ -94,8 +100,46 @@ guards-begun f new now n live boundary s s' idle sound closed placed frozen is t
   read = none-saved f.header s' t.bytes;
 })
 
--- no call of the disk was made
-pub same-told : (f new : Flush) (s s' : Store) (past : LeftSince) (old : Option Told) → ((t : Told) → Guards f s t → Guards new s' t)
-    → BothTell old old (GuardsOn f s new s') × BothTell old old (ElapsesRecoverable f s past past)
-same-told f new s s' past None step = (tt, tt)
-same-told f new s s' past (Some t) step = (step t, λ guards. Elapses-none _ past t)
+-- how a stage ended, told apart by its result
+pub stage-ends : (now : Header) (f new : Flush) (s s' : Store) (result : Result Stage Fault) → IfOk result (λ stage. StageSucceeds now stage f new s s')
+    → OnErr result (StageFails f new s s') → StageEnds now f new s s' result
+stage-ends now f new s s' (Ok stage) ok err = ok
+stage-ends now f new s s' (Err fault) ok err = err
+
+pub stage-does : (f : Flush) (s : Store) (result : Result Stage Fault) (old new : Option Told) → OnOk result (BothTell old new (DueStageMade f (group_of s)))
+    → OnErr result (BothTell old new (StageFailed (asks f) (range_of f (group_of s)).0 (range_of f (group_of s)).1))
+    → BothTell old new (StageDoes f (group_of s) result)
+stage-does f s (Ok stage) old new made failed = made
+stage-does f s (Err fault) old new made failed = failed
+
+pub stage-tells : (f f' : Flush) (s s' : Store) (result : Result Stage Fault) (past since : LeftSince) (old new : Option Told)
+    → BothTell old new (StageDoes f (group_of s) result)
+    → BothTell old new (StageElapses (asks f) (range_of f (group_of s)).0 (range_of f (group_of s)).1 past since)
+    → BothTell old new (GuardsOn f s f' s') → BothTell old new (ElapsesRecoverable f s past since)
+    → BothTell old new (StageTells f f' s s' result past since)
+stage-tells f f' s s' result past since None None does time guards recoverable = tt
+stage-tells f f' s s' result past since (Some a) (Some b) does time guards recoverable =
+    record { does = does; any_moment = time; guards = guards; recoverable = recoverable }
+stage-tells f f' s s' result past since None (Some b) does time guards recoverable = absurd does
+stage-tells f f' s s' result past since (Some a) None does time guards recoverable = absurd does
+
+-- Freeze makes no call of the disk
+idle-does : (f : Flush) (g : Group) (result : Result Stage Fault) (t : Told) → f.at ≡ Idle → StageDoes f g result t t
+idle-does f g (Ok stage) t idle = subst (λ (st : Stage). MakesStage st f g t t) (sym (ap (λ (p : Position). due_stage_at p f g) idle)) (record {
+  made = refl;
+  others = MayLeave-same t.bytes ((0, 0) ∷ []);
+  unsettled = λ byte outside. outside.1;
+  settled = λ synced. absurd (true≢false (sym synced));
+})
+idle-does f g (Err fault) t idle =
+    failed-same (asks f) (range_of f g).0 (range_of f g).1 t (subst (λ (p : Position). AnyCrash (asks_at p f) t) (sym idle) (λ image left. tt))
+
+pub freeze-tells : (f f' : Flush) (s s' : Store) (result : Result Stage Fault) (past : LeftSince) (old : Option Told) → f.at ≡ Idle
+    → ((t : Told) → Guards f s t → Guards f' s' t) → BothTell old old (StageTells f f' s s' result past past)
+freeze-tells f f' s s' result past None idle step = tt
+freeze-tells f f' s s' result past (Some t) idle step = record {
+  does = idle-does f (group_of s) result t idle;
+  any_moment = Elapses-none _ past t;
+  guards = step t;
+  recoverable = λ guards. Elapses-none _ past t;
+}

@@ -15,3 +15,4 @@ pub mod SaveLemmas
 pub mod StepLemmas
 pub mod CallLemmas
 pub mod MadeUpLemmas
+pub mod ReadLemmas

@@ -104,7 +104,7 @@ header-past : (old new : List ℕ) (header : Header) (slot place count : ℕ) �
 header-past old new header slot place count past change was =
     header-beside old new header slot place count (λ byte below. inl (omega (arith, below, past))) change was
 
-header-none : (old new : List ℕ) (header : Header) (slot : ℕ) → MayLeave old ((0, 0) ∷ []) new → HasHeader old header slot → HasHeader new header slot
+pub header-none : (old new : List ℕ) (header : Header) (slot : ℕ) → MayLeave old ((0, 0) ∷ []) new → HasHeader old header slot → HasHeader new header slot
 header-none old new header slot change was = header-beside old new header slot 0 0 (λ byte below. inr (omega arith)) change was
 
 module _ (header : Header) (slot : ℕ) (target : Header) (pages live written : ℕ) where

@@ -6,3 +6,4 @@ pub mod Stages
 pub mod Calls
 pub mod Recoverable
 pub mod Guard
+pub mod Ends

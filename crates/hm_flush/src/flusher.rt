@@ -1,5 +1,5 @@
 // The flusher: the header that counts, and the flush that is in flight.
-ghost use Rattle.std.specs.Prelude.{◌≡◌, ◌≢◌, ◌≤◌, IfOk, IfErr, IfSome, OnOk, OnErr};
+ghost use Rattle.std.specs.Prelude.{◌≡◌, ◌≢◌, ◌≤◌, ◌↔◌, IfOk, IfErr, IfSome, IsTrue, OnOk, OnErr};
 ghost use Rattle.hm_types.specs.Told.{BothTell};
 ghost use Rattle.hm_types.specs.declared.fault.Fault.TheVariants.{NoMemory};
 ghost use Rattle.hm_disk.specs.Crash.{Told};
@@ -9,7 +9,8 @@ ghost use Rattle.hm_header.specs.Range.{IsHeader};
 ghost use Rattle.hm_pages.specs.Store.{contents};
 ghost use Rattle.hm_flush.specs.declared.flush.Position.TheVariants.{Idle};
 ghost use Rattle.hm_flush.specs.Calls.{HasStageCause, IsFlushReady, IsTarget, StageSucceeds, PagesMove, FlushStands, StageFails};
-ghost use Rattle.hm_flush.specs.Flush.{IsGroupOf, idle_flush};
+ghost use Rattle.hm_flush.specs.Ends.{StageEnds, StageTells};
+ghost use Rattle.hm_flush.specs.Flush.{IsFlush, IsGroupOf, idle_flush};
 ghost use Rattle.hm_flush.specs.Group.{group_of};
 ghost use Rattle.hm_flush.specs.Guard.{ElapsesRecoverable, Guards, GuardsOn};
 ghost use Rattle.hm_flush.specs.Stages.{DueStageMade, asks, range_of};
@@ -69,6 +70,27 @@ impl Flusher {
         self.flush.header.last
     }
 
+    /// The header that counts.
+    pub fn header(&self) -> &Header
+        ensures { result.now ≡ self.now.header }
+    {
+        &self.flush.header
+    }
+
+    /// Whether no flush is in flight.
+    pub fn is_idle(&self) -> bool
+        ensures { IsTrue result ↔ (self.now.at ≡ Idle) }
+    {
+        self.flush.at == Position::Idle
+    }
+
+    /// Does nothing, and says what always holds of a flush.
+    pub fn flush_is_sound(&self)
+        ensures { IsFlush self.now }
+    {
+        let _ = &self.flush;
+    }
+
     /// Makes the stage that is due, and answers which. Where no flush is in flight this is Freeze, which
     /// takes the version, the last id, the root and the append big-blocks of `now`; no other stage reads
     /// it. No call may be open in `pages`. After a fault all is as before but for the range that the
@@ -82,24 +104,11 @@ impl Flusher {
         requires now { IsTarget self.old now.now }
         requires ready { IsFlushReady self.old (contents pages.old) }
         requires stands { IfSome (D.told disk.old) (FlushStands self.old) }
-        ensures ok { IfOk result (λ stage. StageSucceeds now.now stage self.old self.new
-            (contents pages.old) (contents pages.new)) }
-        ensures err { OnErr result (StageFails self.old self.new (contents pages.old) (contents pages.new)) }
-        ensures made { OnOk result (BothTell (D.told disk.old) (D.told disk.new)
-            (DueStageMade self.old (group_of (contents pages.old)))) }
-        ensures failed { OnErr result (BothTell (D.told disk.old) (D.told disk.new)
-            (StageFailed (asks self.old) (range_of self.old (group_of (contents pages.old))).0
-            (range_of self.old (group_of (contents pages.old))).1)) }
-        ensures any_moment { BothTell (D.told disk.old) (D.told disk.new)
-            (StageElapses (asks self.old) (range_of self.old (group_of (contents pages.old))).0
-            (range_of self.old (group_of (contents pages.old))).1
+        ensures ends { StageEnds now.now self.old self.new (contents pages.old) (contents pages.new) result }
+        ensures disk { BothTell (D.told disk.old) (D.told disk.new)
+            (StageTells self.old self.new (contents pages.old) (contents pages.new) result
             (D.left_since disk.old) (D.left_since disk.new)) }
         ensures stands { IfSome (D.told disk.new) (FlushStands self.new) }
-        ensures guards { BothTell (D.told disk.old) (D.told disk.new)
-            (GuardsOn self.old (contents pages.old) self.new (contents pages.new)) }
-        ensures recoverable { BothTell (D.told disk.old) (D.told disk.new)
-            (ElapsesRecoverable self.old (contents pages.old)
-            (D.left_since disk.old) (D.left_since disk.new)) }
         ensures cause { HasStageCause self.old.at (D.faults disk.old) (D.faults disk.new) result }
     {
         if self.flush.at == Position::Idle {

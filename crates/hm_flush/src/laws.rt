@@ -1,7 +1,8 @@
 // What follows from the definitions alone: each function states one law, and does nothing.
-ghost use Rattle.std.specs.Prelude.{◌≡◌, ◌↔◌, ◌≤◌, ◌*◌, ℕ, List, [], ◌∷◌, Some, length};
+ghost use Rattle.std.specs.Prelude.{◌≡◌, ◌↔◌, ◌≤◌, ◌*◌, ℕ, List, [], ◌∷◌, Result, Some, length};
 ghost use Rattle.hm_disk.specs.Crash.{Told, MayLeave};
 ghost use Rattle.hm_disk.specs.Moments.{Each};
+ghost use Rattle.hm_types.specs.declared.fault.Fault.{Fault};
 ghost use Rattle.hm_types.specs.declared.limits.TheConstants.{PAGE_BYTES};
 ghost use Rattle.hm_types.specs.Offset.{byte_of};
 ghost use Rattle.hm_fields.specs.Fields.{Apart};
@@ -11,11 +12,15 @@ ghost use Rattle.hm_header.specs.Range.{IsHeader};
 ghost use Rattle.hm_header.specs.Change.{HaveSameSlots, IsCounting};
 ghost use Rattle.hm_flush.specs.declared.flush.Flush.{Flush};
 ghost use Rattle.hm_flush.specs.declared.flush.Position.TheVariants.{Idle};
+ghost use Rattle.hm_flush.specs.declared.stage.Stage.{Stage};
 ghost use Rattle.hm_flush.specs.Calls.{FlushStands, IsFlushReady};
+ghost use Rattle.hm_flush.specs.Ends.{StageDoes, StageEnds, as_read};
 ghost use Rattle.hm_flush.specs.Flush.{IsFlush, idle_flush, left};
+ghost use Rattle.hm_flush.specs.Group.{group_of};
 ghost use Rattle.hm_flush.specs.Guard.{ArePlaced, Guards, HaveSameGuarded};
 ghost use Rattle.hm_flush.specs.Recoverable.{HoldsPages, Recoverable};
 ghost use Rattle.hm_pages.specs.Calls.{IsSameFlush};
+ghost use Rattle.hm_pages.specs.Sound.{IsSound};
 ghost use Rattle.hm_pages.specs.Store.{Store};
 
 /// No stage is left exactly where no flush is in flight.
@@ -44,6 +49,15 @@ pub fn what_is_guarded_is_recoverable()
 pub fn same_guarded_bytes_keep_the_guard()
     ensures { (f : Flush) (s after : Store) (old new : Told) → IsSameFlush s after →
         HaveSameGuarded f.header.bigblocks s old new → Guards f s old → Guards f after new }
+{}
+
+/// What stands as reads give it needs no sync: where the pages are guarded as if all were settled, they
+/// are so after each stage, whatever is unsettled. So the volume that a run leaves hangs on no crash.
+pub fn what_is_guarded_as_read_stays_so()
+    ensures { (now : Header) (f after : Flush) (s pages : Store) (result : Result Stage Fault)
+        (old new : Told) → IsFlush f → IsFlushReady f s → IsSound s →
+        StageEnds now f after s pages result → StageDoes f (group_of s) result old new →
+        Guards f s (as_read old) → Guards after pages (as_read new) }
 {}
 
 /// On a disk that is settled an idle flush is guarded where the header counts and names no range, and each
