@@ -42,3 +42,4 @@ mod DroppedLemmas
 mod TreeCountLemmas
 mod KeptLemmas
 mod LookLemmas
+mod FlushLemmas

@@ -16,3 +16,4 @@ pub mod Turn
 pub mod Mounted
 pub mod Standing
 pub mod Content
+pub mod Flushed

@@ -17,7 +17,8 @@
 //!        |                                  v
 //!        +------- undo (dropped) ------- refusing
 //!
-//!   frozen (planned): beside any of these, from the first stage of a flush until its last
+//!   frozen: beside any of these, from Freeze, the first stage of a flush, until Commit 3, its last.
+//!   Each stage is one flush_stage, between two calls, in idle alone
 //! ```
 //!
 //! idle: the current state is what calls that were kept have made of the volume. A call is open: its
@@ -25,11 +26,14 @@
 //! current state holds is not known, and each call is refused. Kept: the changes belong to the group that
 //! is flushed next. Dropped: pages, append big-blocks and root are as the call found them; payloads that
 //! it wrote stay on the disk, where nothing refers to them.
+//! Frozen: what Freeze found in the current state stays as it was until it is committed, whatever calls
+//! make of the current one meanwhile.
 #![tactic(auto)]
 
 mod books;
 mod change;
 mod extents;
+mod flushing;
 mod grants;
 mod laws;
 mod pages;

@@ -121,6 +121,21 @@ impl<D: Disk> Space<D> {
         self.books.whole
     }
 
+    /// How many pages the group has that is flushed next: those that calls put which were kept since the
+    /// last Freeze, and not taken out again.
+    pub fn group_len(&self) -> u32
+        ensures { result ≡ (heap self.now).pages.group.pages }
+    {
+        self.pages.store.group_len()
+    }
+
+    /// The big-blocks that the zones 8 to 11 append to now.
+    pub fn append(&self) -> [u32; 4]
+        ensures { result ≡ (heap self.now).append }
+    {
+        self.books.append
+    }
+
     /// The disk.
     pub fn disk(&self) -> &D
         ensures { result.now ≡ self.now.disk }

@@ -1,5 +1,5 @@
 // A store over a volume as it is made.
-ghost use Rattle.std.specs.Prelude.{◌≡◌, ◌≤◌, IfOk, IfSome, IsSome, length};
+ghost use Rattle.std.specs.Prelude.{◌≡◌, ◌≤◌, IfOk, IfSome, IsSome, None, length};
 ghost use Rattle.hm_header.specs.Range.{IsRoot};
 ghost use Rattle.hm_key.specs.Element.{IsElement};
 ghost use Rattle.hm_key.specs.Key.{IsBefore, greatest_key, key_of};
@@ -21,9 +21,10 @@ use std::alloc::Global;
 use std::test::Fail;
 
 // A space over a volume of 24 big-blocks.
-fn mounted<D: Disk + Drop>(alloc: Global, mut disk: D) -> Result<Space<D>, Failed>
+pub fn mounted<D: Disk + Drop>(alloc: Global, mut disk: D) -> Result<Space<D>, Failed>
     ensures closed { IfOk result (λ s. IsClosed (heap s)) }
     ensures root { IfOk result (λ s. IsRoot (heap s).bigblocks s.books.roots.current) }
+    ensures idle { IfOk result (λ s. (heap s).pages.boundary ≡ None) }
 {
     let header = match read_header(&mut disk)? {
         Ok((header, _)) => header,
@@ -79,7 +80,7 @@ fn keep_call<D: Disk>(store: &mut Stored<D>)
 }
 
 // Puts a piece into zone 9, which gets its reserve before, while so many big-blocks are held back.
-fn put_piece<S: Extents>(store: &mut S, piece: &[u8], held: u32) -> Result<HOff, SpaceFault>
+pub fn put_piece<S: Extents>(store: &mut S, piece: &[u8], held: u32) -> Result<HOff, SpaceFault>
     requires some { 1 ≤ length piece.now }
     requires most { length piece.now ≤ 65536 }
     ensures frame { S.frame store.new ≡ S.frame store.old }

@@ -1,4 +1,4 @@
-use Rattle.std.proofs.Common.{IfOk, ◌≡◌, ◌⊎◌, ℕ, ◌*◌, ◌≤◌, ◌∙◌, Option, Some, None, length, rules, sym, subst}
+use Rattle.std.proofs.Common.{IfOk, ap, ◌≡◌, ◌⊎◌, ℕ, ◌*◌, ◌≤◌, ◌∙◌, Option, Some, None, length, rules, sym, subst}
 use Rattle.std.specs.Prelude.{IfSome}
 use Rattle.hm_types.specs.Offset.{zone_of}
 use Rattle.hm_types.specs.declared.limits.TheConstants.{BIGBLOCK_BYTES}
@@ -51,3 +51,7 @@ returns-in-Ok-load-clause-root g c =
 pub returns-in-Ok-load-clause-closed : goal.returns-in-Ok-load-clause-closed
 unfolding heap_of
 returns-in-Ok-load-clause-closed g c = subst IsClosed (sym c.over.ensures.heap) (record { begin = c.in-Ok-load.ensures.loaded.plain.begin; whole = c.of.ensures.closed.1 })
+
+pub returns-in-Ok-load-clause-idle : goal.returns-in-Ok-load-clause-idle
+unfolding heap_of
+returns-in-Ok-load-clause-idle g c = ap (λ (h : Heap). h.pages.boundary) c.over.ensures.heap ∙ c.in-Ok-load.ensures.loaded.plain.flush.1
