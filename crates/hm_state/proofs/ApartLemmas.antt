@@ -1,9 +1,9 @@
 -- The pages of a space share no byte with each other, nor with a payload.
-use Rattle.std.proofs.Common.{◌≡◌, ◌≢◌, ◌⊎◌, inl, inr, true≢false, ℕ, ◌+◌, ◌*◌, ◌/◌, ◌<◌, ◌≤◌, List, ◌∷◌}
-use Rattle.std.proofs.Common.{IsSome, None, Option, ap, refl, sym, ◌∙◌, arith, is_some, map}
+use Rattle.std.proofs.Common.{◌≡◌, ◌≢◌, ◌⊎◌, inl, inr, true≢false, ℕ, ◌+◌, ◌*◌, ◌/◌, ◌<◌, ◌≤◌, List}
+use Rattle.std.proofs.Common.{IsSome, None, Option, ap, refl, sym, ◌∙◌, arith, is_some}
 use Rattle.std.specs.List.{Contains}
 use Rattle.std.proofs.lemmas.Bool.{cases_lt}
-use Rattle.std.proofs.lemmas.List.Elements.{All-contains, Contains-append_right}
+use Rattle.std.proofs.lemmas.List.Elements.{All-contains}
 use Rattle.hm_types.specs.Layout.{blocks_per_layer2, first_layer2, first_pool, layer2_blocks, start_of}
 use Rattle.hm_types.specs.Offset.{byte_of, zone_of}
 use Rattle.hm_types.specs.References.{IsPlaced, NoneOverlap, Reference, begin_of, end_of}
@@ -16,18 +16,16 @@ use Rattle.hm_freemap.proofs.BoundLemmas.{placed_high, placed_low}
 use Rattle.hm_freemap.proofs.ListLemmas.{all_left, apart_left}
 use Rattle.hm_header.specs.Range.{IsSize}
 use Rattle.hm_key.specs.declared.element.Element.{Element}
-use Rattle.hm_records.proofs.MemberLemmas.{has_map}
-use Rattle.hm_search.specs.Tree.{elements_of, height_of, node_at}
-use Rattle.hm_image.specs.Image.{nodes_below, to_node, to_payload}
+use Rattle.hm_image.specs.Image.{to_node, to_payload}
 use Rattle.hm_image.specs.Sound.{IsAmongPayloads}
 use Rattle.hm_image.proofs.ApartLemmas.{no_two_overlap}
 use Rattle.hm_image.proofs.NamedLemmas.{page_byte}
 use Rattle.hm_image.proofs.OffsetLemmas.{byte_is}
-use Rattle.hm_stored.specs.Basis.{IsFirm, elements_in, nodes, refers}
+use Rattle.hm_stored.specs.Basis.{IsFirm, elements_in, refers}
 use Rattle.hm_stored.specs.Heap.{Heap}
 use Rattle.hm_stored.specs.Held.{AreOfVolume}
 use Rattle.hm_stored.specs.Standing.{basis_now}
-use Rattle.hm_state.proofs.KeptLemmas.{page_referred}
+use Rattle.hm_state.proofs.KeptLemmas.{page_referred, payload_named}
 
 -- two pages of layer 2 are one, or share no byte
 layer2_apart : (a b : ℕ) → a < 1048576 → b < 1048576 → page_of a ≢ page_of b
@@ -105,11 +103,7 @@ module _ (h : Heap) (root : ℕ) (firm : IsFirm (basis_now h root)) (only : AreO
       ]
 
   pub payload_referred : (e : Element) → Contains (elements_in (basis_now h root)) e → Contains refs (to_payload e)
-  payload_referred e there =
-      let es = elements_of (nodes current) root in
-      let node = node_at (nodes current) root in
-      Contains-append_right (to_node root ∷ nodes_below (nodes current) (height_of node) node) (map to_payload es) (to_payload e)
-      (has_map to_payload es e there)
+  payload_referred e there = payload_named current root e there
 
   pub payloads_apart : (at : ℕ) (e : Element) → IsSome (current at) → Contains (elements_in (basis_now h root)) e → IsApart (to_node at) (to_payload e)
   payloads_apart at e first there =

@@ -20,7 +20,7 @@ use Rattle.hm_header.specs.declared.header.Header.{Header}
 use Rattle.hm_header.specs.declared.header.TheConstants.{SLOT_BYTES}
 use Rattle.hm_freemap.specs.Places.{page_of}
 use Rattle.hm_freemap.specs.Stand.{all_of}
-use Rattle.hm_freemap.proofs.ListLemmas.{all_right}
+use Rattle.hm_freemap.proofs.ListLemmas.{all_left, all_right}
 use Rattle.hm_btree.specs.Tree.{IsTreeSpace}
 use Rattle.hm_image.specs.Image.{bytes_at, pages_of, references_from, to_payload}
 use Rattle.hm_image.specs.Same.{HasSameBytes, HasSameFreemap, HasSameTree}
@@ -57,13 +57,13 @@ fixed_bytes bigblocks known refs s t same byte fixed =
       by_test false is got = absurd (true≢false (sym is))
 
 -- a byte before the pool is fixed
-low_fixed : (bigblocks : ℕ) (known : Bool) (refs : List Reference) (byte : ℕ) → byte < start_of (first_pool bigblocks)
+pub low_fixed : (bigblocks : ℕ) (known : Bool) (refs : List Reference) (byte : ℕ) → byte < start_of (first_pool bigblocks)
     → is_fixed bigblocks known refs byte ≡ true
 low_fixed bigblocks known refs byte low =
     ap (λ (t : Bool). t || (known && list_any (does_name byte) refs)) (lt-ltb byte (start_of (first_pool bigblocks)) low)
 
 -- so is one that a reference names, where they count
-named_fixed : (bigblocks : ℕ) (known : Bool) (refs : List Reference) (r : Reference) (byte : ℕ) → known ≡ true → Contains refs r → begin_of r ≤ byte
+pub named_fixed : (bigblocks : ℕ) (known : Bool) (refs : List Reference) (r : Reference) (byte : ℕ) → known ≡ true → Contains refs r → begin_of r ≤ byte
     → byte < begin_of r + r.len → is_fixed bigblocks known refs byte ≡ true
 named_fixed bigblocks known refs r byte is there from to = by_low (nat_lt byte (start_of (first_pool bigblocks))) where
   named : does_name byte r ≡ true
@@ -77,18 +77,18 @@ named_fixed bigblocks known refs r byte is there from to = by_low (nat_lt byte (
   by_low false = ap (λ (t : Bool). t && list_any (does_name byte) refs) is ∙ any
 
 -- the page with the entry of a big-block lies before the pool
-page_low : (bigblocks block : ℕ) → block < layer2_blocks bigblocks * blocks_per_layer2
+pub page_low : (bigblocks block : ℕ) → block < layer2_blocks bigblocks * blocks_per_layer2
     → byte_of (page_of block) + PAGE_BYTES ≤ start_of (first_undo bigblocks)
 unfolding page_of
 page_low bigblocks block few = omega (arith, few)
 
 -- Two spaces have one frame, and the disks of both tell.
 module _ (old new : Heap) (same : frame_of new ≡ frame_of old) where
-  abbrev known : Bool
+  abbrev pub known : Bool
   known = is_some (content_of old)
 
   -- what all three trees referred to as the call began
-  abbrev refs : List Reference
+  abbrev pub refs : List Reference
   refs = refs_begun old
 
   -- what the committed one does
@@ -121,18 +121,27 @@ module _ (old new : Heap) (same : frame_of new ≡ frame_of old) where
             → fixed_with n k r new.disk ≡ fixed_with old.bigblocks known refs new.disk
         by_parts n k r first second third = rw (first, second, third) refl
 
-  -- what the committed tree refers to is among all, where it is known
-  committed_among : known ≡ true → (r : Reference) → Contains committed_refs r → Contains refs r
-  committed_among told r there = by_begin old.pages.begin told where
+  -- what the frozen one does
+  abbrev frozen_refs : List Reference
+  frozen_refs = refers old.pages.frozen old.roots.frozen
+
+  -- what either tree refers to is among all, where it is known
+  both_among : known ≡ true → All (Contains refs) (frozen_refs ++ committed_refs)
+  both_among told = by_begin old.pages.begin told where
     by_begin : (o : Option PageMap) → is_some (content_with old.last (option_map (basis_with old) o) old.disk) ≡ true
-        → Contains (refs_with (option_map (basis_with old) o)) r
+        → All (Contains (refs_with (option_map (basis_with old) o))) (frozen_refs ++ committed_refs)
     by_begin None is = absurd (true≢false (sym is))
     by_begin (Some begin) is =
         let states = states_of (basis_with old begin) in
-        let Among : Reference → Type 0 = Contains (all_of states) in
-        All-contains Among states.committed r
-        (all_right Among states.frozen states.committed
-        (all_right Among states.current (states.frozen ++ states.committed) (All-contains_itself (all_of states)))) there
+        all_right (Contains (all_of states)) states.current (states.frozen ++ states.committed) (All-contains_itself (all_of states))
+
+  pub committed_among : known ≡ true → (r : Reference) → Contains committed_refs r → Contains refs r
+  committed_among told r there =
+      All-contains (Contains refs) committed_refs r (all_right (Contains refs) frozen_refs committed_refs (both_among told)) there
+
+  pub frozen_among : known ≡ true → (r : Reference) → Contains frozen_refs r → Contains refs r
+  frozen_among told r there =
+      All-contains (Contains refs) frozen_refs r (all_left (Contains refs) frozen_refs committed_refs (both_among told)) there
 
   module _ (s t : Told) (was : old.disk ≡ Some s) (is : new.disk ≡ Some t) where
     value_same : (byte : ℕ) → is_fixed old.bigblocks known refs byte ≡ true → byte_in t byte ≡ byte_in s byte
@@ -140,10 +149,10 @@ module _ (old new : Heap) (same : frame_of new ≡ frame_of old) where
         let of_disk : Option Told → Option (ℕ → Option (ℕ × Bool)) = fixed_with old.bigblocks known refs in
         fixed_bytes old.bigblocks known refs s t (ap of_disk (sym is) ∙ fixed_same ∙ ap of_disk was)
 
-    byte_same : (byte : ℕ) → is_fixed old.bigblocks known refs byte ≡ true → slice_index t.bytes byte ≡ slice_index s.bytes byte
+    pub byte_same : (byte : ℕ) → is_fixed old.bigblocks known refs byte ≡ true → slice_index t.bytes byte ≡ slice_index s.bytes byte
     byte_same byte fixed = ap (λ (v : ℕ × Bool). v.0) (value_same byte fixed)
 
-    settled_same : (byte : ℕ) → is_fixed old.bigblocks known refs byte ≡ true → is_outside t.unsettled byte ≡ is_outside s.unsettled byte
+    pub settled_same : (byte : ℕ) → is_fixed old.bigblocks known refs byte ≡ true → is_outside t.unsettled byte ≡ is_outside s.unsettled byte
     settled_same byte fixed = ap (λ (v : ℕ × Bool). v.1) (value_same byte fixed)
 
     settled_stays : (byte : ℕ) → is_fixed old.bigblocks known refs byte ≡ true → Outside s.unsettled byte → Outside t.unsettled byte

@@ -13,6 +13,7 @@ use Rattle.hm_key.specs.declared.element.Element.{Element}
 use Rattle.hm_node.specs.declared.node.Node.{Node}
 use Rattle.hm_search.specs.Tree.{IsSoundTree, elements_of, height_of, node_at, reaches, root_place}
 use Rattle.hm_search.proofs.ReachLemmas.{either}
+use Rattle.hm_records.proofs.MemberLemmas.{has_map}
 use Rattle.hm_btree.specs.Tree.{IsTreeSpace}
 use Rattle.hm_image.specs.Image.{nodes_below, references_from, to_node, to_payload}
 use Rattle.hm_image.proofs.ReferenceLemmas.{reached_is_referred, same_nodes}
@@ -64,3 +65,10 @@ pub page_referred : (pages : PageMap) (root at : ℕ) → IsTreeSpace (nodes pag
 page_referred pages root at tree zone there =
     let node : nodes pages at ≡ pages at = cond-true (nat_eq (zone_of at) TREE_ZONE) (pages at) None (eq-eqb (zone_of at) TREE_ZONE zone) in
     node_referred (nodes pages) root at tree (ap (λ (o : Option (List ℕ)). is_some o) node ∙ there)
+
+-- a payload is among what its tree refers to
+pub payload_named : (pages : PageMap) (root : ℕ) (e : Element) → Contains (elements_of (nodes pages) root) e → Contains (refers pages root) (to_payload e)
+payload_named pages root e there =
+    let es = elements_of (nodes pages) root in
+    let node = node_at (nodes pages) root in
+    Contains-append_right (to_node root ∷ nodes_below (nodes pages) (height_of node) node) (map to_payload es) (to_payload e) (has_map to_payload es e there)

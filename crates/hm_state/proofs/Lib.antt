@@ -14,3 +14,13 @@ pub mod CommittedLemmas
 pub mod BackedLemmas
 pub mod AtRestLemmas
 pub mod RecoveredLemmas
+pub mod JointLemmas
+pub mod CourseLemmas
+pub mod MovedLemmas
+pub mod StageRangeLemmas
+pub mod BesideLemmas
+pub mod StageHeldLemmas
+pub mod CurrentLemmas
+pub mod RecoveredVolumeLemmas
+pub mod FlushKeptLemmas
+pub mod MountedFlushLemmas

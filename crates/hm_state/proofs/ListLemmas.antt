@@ -6,7 +6,7 @@ use Rattle.hm_types.specs.References.{DoNotOverlap, NoneOverlap, Reference}
 use Rattle.hm_image.proofs.ApartLemmas.{no_two_overlap}
 
 -- references that stand in a list do not overlap where those of the list do not
-apart_of : (xs ys : List Reference) → NoneOverlap xs → All (Contains xs) ys → NoneOverlap ys
+pub apart_of : (xs ys : List Reference) → NoneOverlap xs → All (Contains xs) ys → NoneOverlap ys
 apart_of xs [] apart each = tt
 apart_of xs (y ∷ ys) apart each =
     let here = All-head (Contains xs) y ys each in

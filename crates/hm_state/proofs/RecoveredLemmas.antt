@@ -1,8 +1,8 @@
 -- What a recovered image has of a state, and which volume it stands for.
 use Rattle.std.proofs.Common.{◌≡◌, ◌⊎◌, ◌∙◌, inl, inr, ℕ, ◌+◌, ◌*◌, ◌<◌, ◌≤◌, List, None, Option, Some, IsSome}
-use Rattle.std.proofs.Common.{ap, arith, is_some, length, map as map_list, refl, subst, sym}
+use Rattle.std.proofs.Common.{ap, arith, is_some, map as map_list, refl, subst}
 use Rattle.std.specs.Prelude.{slice_range}
-use Rattle.std.specs.List.{All, Contains}
+use Rattle.std.specs.List.{Contains}
 use Rattle.std.proofs.lemmas.List.Elements.{All-contains, All-contains_itself, All-map, All-weaker}
 use Rattle.hm_types.specs.Layout.{blocks_per_layer2, layer2_blocks, start_of}
 use Rattle.hm_types.specs.Offset.{byte_of}

@@ -6,3 +6,4 @@ pub mod Placed
 pub mod Frozen
 pub mod Free
 pub mod AtRest
+pub mod Flushing

@@ -3,8 +3,13 @@
 //! It is definitions and laws alone: code that mounts a volume and writes one cites them.
 #![tactic(auto)]
 
+mod flushing;
 mod laws;
 
+pub use flushing::{
+    a_mounted_volume_is_committed, a_stage_keeps_what_a_flush_holds, calls_keep_what_a_flush_holds,
+    what_a_flush_holds_is_recovered,
+};
 pub use laws::{
     a_mounted_volume_is_backed, a_mounted_volume_is_held, a_recovered_image_stands,
     a_state_at_rest_is_held, a_volume_written_in_place_stands, a_written_volume_stands,
