@@ -7,6 +7,7 @@ use Rattle.hm_types.specs.Elements.{FullElement}
 use Rattle.hm_types.specs.Faults.{IsCaused}
 use Rattle.hm_types.specs.Space.{reserve_of}
 use Rattle.hm_types.specs.declared.fault.Fault.{Fault}
+use Rattle.hm_types.specs.declared.id.Id.{Id}
 use Rattle.hm_types.specs.declared.fault.Fault.TheVariants.{Damaged as damage, Media as device, NoMemory as no_memory}
 use Rattle.hm_types.specs.declared.limits.TheConstants.{GREATEST_ID}
 use Rattle.hm_btree.specs.Tree.{HoldsTree, told_elements}
@@ -41,14 +42,15 @@ use Rattle.hm_stored.specs.Standing.{Holds}
 use Rattle.hm_stored.specs.Turn.{IsClosed, IsDropped, IsKeptOf, IsOpened}
 use Rattle.hm_stored.proofs.KnownLemmas.{known_each}
 use Rattle.hm_stored.proofs.OpenedLemmas.{opens_content, told_held}
-use Rattle.hm_core.specs.Answer.{Answers, IsEntryOf, KeepsCommitted}
+use Rattle.hm_core.specs.Answer.{Answers, IsEntryOf, KeepsFlush}
 use Rattle.hm_core.specs.Calls.{IsNextCall}
 use Rattle.hm_core.specs.Counts.{AreLater, with_disk}
 use Rattle.hm_core.specs.Ledger.{IsPaid, calls_in}
+use Rattle.hm_core.specs.Served.{IsSync}
 use Rattle.hm_core.specs.Told.{ArePages, HoldsSame, HoldsTold, TellsFailure, TellsHeld, reply_to}
 use Rattle.hm_core.proofs.CallLemmas.{failed_call, served_call}
 use Rattle.hm_core.proofs.CausedLemmas.{fault_goes_on, reply_goes_on}
-use Rattle.hm_core.proofs.CommittedLemmas.{SameCommitted, backed_same, kept_framed, kept_same}
+use Rattle.hm_core.proofs.KeptLemmas.{IsSameBeside, kept_framed, kept_same, kept_then}
 use Rattle.hm_core.proofs.CountLemmas.{disk_later}
 use Rattle.hm_core.proofs.FaultLemmas.{no_damage_told}
 use Rattle.hm_core.proofs.LedgerLemmas.{paid_call}
@@ -132,7 +134,7 @@ paid_as a b first calls free room paid = record {
 }
 
 -- and so they are after a call more
-paid_later : (first free calls : ℕ) (room : ℕ → ℕ) → IsPaid first free calls room → IsPaid first free (calls + 1) room
+pub paid_later : (first free calls : ℕ) (room : ℕ → ℕ) → IsPaid first free calls room → IsPaid first free (calls + 1) room
 paid_later first free calls room paid = record {
   begun = paid.begun;
   filled = λ zone. more (paid.begun zone * calls_in zone) (room zone / reserve_of zone) (paid.filled zone);
@@ -192,6 +194,11 @@ fault_silent (device before after) = refl
 fault_silent (damage at kind) = refl
 fault_silent no_memory = refl
 
+-- so no other one than any
+pub none_told : (boundary : ℕ) (command : Command) (reply : Reply) → told_boundary reply ≡ None
+    → IfSome (told_boundary reply) (λ id. IsSync command × (id.0 ≡ boundary))
+none_told boundary command reply silent = subst (λ (o : Option Id). IfSome o (λ id. IsSync command × (id.0 ≡ boundary))) (sym silent) tt
+
 -- the store changed, and the call is closed
 module _ {S : Type 0} (heap : S → Heap) (root_of : S → ℕ) (h : Heap) (root last : ℕ) (old new : S) (h' : Heap) (root' : ℕ) (command : Command) (reply : Reply)
     (faults faults' : ℕ) (closed : IsClosed h) (kept : ∥ IsKept h ∥₁) (opens : IsOpened root last h (heap old)) (same : root_of old ≡ root)
@@ -228,13 +235,13 @@ module _ {S : Type 0} (heap : S → Heap) (root_of : S → ℕ) (h : Heap) (root
   is_next : (entry : Entry) → IsEntryOf last command reply entry → IsNextCall last entry
   is_next entry is = record { served = subst IsOnTrees (sym is.call_is) served; left = left; own = is.own }
 
-  begun_committed : SameCommitted h (heap old)
-  begun_committed = record {
+  begun_beside : IsSameBeside h (heap old)
+  begun_beside = record {
     bigblocks = ap (λ (x : Heap). x.bigblocks) opens.rest;
     disk = ap (λ (x : Heap). x.disk) opens.rest;
-    committed = opens.pages.flush.committed;
-    boundary = opens.pages.flush.boundary;
-    root = ap (λ (x : Heap). x.roots.committed) opens.rest;
+    pages = opens.pages.flush;
+    committed = ap (λ (x : Heap). x.roots.committed) opens.rest;
+    frozen = ap (λ (x : Heap). x.roots.frozen) opens.rest;
   }
 
   -- a space that held a volume tells its content once a call is opened
@@ -244,22 +251,11 @@ module _ {S : Type 0} (heap : S → Heap) (root_of : S → ℕ) (h : Heap) (root
       let told = opens_content h (heap old) root last closed kept opens holds.elements.0 holds.elements.1 known in
       subst (λ (o : Option (List FullElement)). IsSome o) (sym told.content) refl
 
-  -- what was committed stays, until the call is closed
-  committed_new : KeepsCommitted ((volume : Volume) × HoldsVolume h root last volume) h (heap new)
-  committed_new = record {
-    bigblocks = (kept_framed (heap old) (heap new) frame).bigblocks ∙ begun_committed.bigblocks;
-    boundary = (kept_framed (heap old) (heap new) frame).boundary ∙ begun_committed.boundary;
-    header = λ header slot on. (kept_framed (heap old) (heap new) frame).header header slot ((kept_same h (heap old) begun_committed).header header slot on);
-    backed = λ held backed. (kept_framed (heap old) (heap new) frame).backed (content_told held) (backed_same h (heap old) begun_committed backed);
-  }
-
-  committed_end : SameCommitted (heap new) h' → KeepsCommitted ((volume : Volume) × HoldsVolume h root last volume) h h'
-  committed_end same = record {
-    bigblocks = same.bigblocks ∙ committed_new.bigblocks;
-    boundary = same.boundary ∙ committed_new.boundary;
-    header = λ header slot on. (kept_same (heap new) h' same).header header slot (committed_new.header header slot on);
-    backed = λ held backed. backed_same (heap new) h' same (committed_new.backed held backed);
-  }
+  -- what a flush holds stays, until the call is closed and as it is
+  flush_end : IsSameBeside (heap new) h' → KeepsFlush ((volume : Volume) × HoldsVolume h root last volume) h h'
+  flush_end same =
+      kept_then h (heap old) h' content_told (kept_same h (heap old) begun_beside)
+      (kept_then (heap old) (heap new) h' (λ known. known) (kept_framed (heap old) (heap new) frame) (kept_same (heap new) h' same))
 
   bigblocks : (heap new).bigblocks ≡ h.bigblocks
   bigblocks = ap (λ (f : Frame). f.bigblocks) frame ∙ ap (λ (x : Heap). x.bigblocks) opens.rest
@@ -269,21 +265,21 @@ module _ {S : Type 0} (heap : S → Heap) (root_of : S → ℕ) (h : Heap) (root
       (pages : ArePages h') (tree : HoldsTree (pages_of (heap new)) (root_of new))
       (step : IsStep elements extents free (record { command = command; last = last; busy = None }) old new reply)
       (charges : Charges room free (reserves_for command) old new) (may : MayReply last None command reply) where
-    pub kept_answers : Answers faults faults' last command h h' root root' reply
-    kept_answers = record {
+    pub kept_answers : (boundary : ℕ) → Answers boundary faults faults' last command h h' root root' reply
+    kept_answers boundary = record {
       closed = record { begin = keeps.pages.begin; whole = ap (λ (x : Heap). x.whole) keeps.rest ∙ whole };
       counted = counted;
-      silent = no_boundary last None command (words_are_read command).0 reply served (words_are_read command).1 may;
-      caused = λ first start counts history entry is so_far.
+      told = none_told boundary command reply (no_boundary last None command (words_are_read command).0 reply served (words_are_read command).1 may);
+      caused = λ first start counts history entry is told before so_far.
           reply_goes_on first start (with_disk counts faults) (with_disk counts faults') last history so_far (later counts) entry left is.own (subst IsOnTrees (sym is.call_is) served)
           (subst (λ (c : Command). MayReply last None c entry.reply) (sym is.call_is)
           (subst (λ (r : Reply). MayReply last None command r) (sym is.reply_is) may));
-      committed = committed_end (record {
+      flush = flush_end (record {
         bigblocks = ap (λ (x : Heap). x.bigblocks) keeps.rest;
         disk = ap (λ (x : Heap). x.disk) keeps.rest;
-        committed = keeps.pages.flush.committed;
-        boundary = keeps.pages.flush.boundary;
-        root = ap (λ (x : Heap). x.roots.committed) keeps.rest;
+        pages = keeps.pages.flush;
+        committed = ap (λ (x : Heap). x.roots.committed) keeps.rest;
+        frozen = ap (λ (x : Heap). x.roots.frozen) keeps.rest;
       });
       paid = λ first calls paid.
           paid_as (heap new) h' first (calls + 1)
@@ -292,7 +288,7 @@ module _ {S : Type 0} (heap : S → Heap) (root_of : S → ℕ) (h : Heap) (root
           (room_same (heap new) h' (ap (λ (x : Heap). x.whole) keeps.rest) (ap (λ (x : Heap). x.append) keeps.rest) keeps.pages.current)
           (paid_call room free first calls (reserves_for command) old new (reserves_most command) charges
           (paid_as h (heap old) first calls free_old room_old paid));
-      legal = λ first start counts history opening foreigners events entry least is so_far.
+      legal = λ first start counts history opening foreigners events entry least is told before so_far.
           served_call first start (with_disk counts faults) (with_disk counts faults') history h root last opening foreigners events so_far (later counts) entry
           (is_next entry is) elements extents free old new h' root' (record {
             told = tells _ so_far.held.holds;
@@ -327,20 +323,20 @@ module _ {S : Type 0} (heap : S → Heap) (root_of : S → ℕ) (h : Heap) (root
     size_is : h'.bigblocks ≡ h.bigblocks
     size_is = ap (λ (x : Heap). x.bigblocks) drops.rest ∙ bigblocks
 
-    pub dropped_answers : Answers faults faults' last command h h' root root' reply
-    dropped_answers = record {
+    pub dropped_answers : (boundary : ℕ) → Answers boundary faults faults' last command h h' root root' reply
+    dropped_answers boundary = record {
       closed = record { begin = drops.pages.begin; whole = ap (λ (x : Heap). x.whole) drops.rest };
       counted = counted;
-      silent = ap told_boundary tells_fault ∙ fault_silent fault;
-      caused = λ first start counts history entry is so_far.
+      told = none_told boundary command reply (ap told_boundary tells_fault ∙ fault_silent fault);
+      caused = λ first start counts history entry is told before so_far.
           fault_goes_on first start (with_disk counts faults) (with_disk counts faults') last history so_far (later counts) entry left is.own (subst IsOnTrees (sym is.call_is) served) fault
           (is.reply_is ∙ tells_fault) fault_is;
-      committed = committed_end (record {
+      flush = flush_end (record {
         bigblocks = ap (λ (x : Heap). x.bigblocks) drops.rest;
         disk = ap (λ (x : Heap). x.disk) drops.rest;
-        committed = drops.pages.flush.committed;
-        boundary = drops.pages.flush.boundary;
-        root = ap (λ (x : Heap). x.roots.committed) drops.rest;
+        pages = drops.pages.flush;
+        committed = ap (λ (x : Heap). x.roots.committed) drops.rest;
+        frozen = ap (λ (x : Heap). x.roots.frozen) drops.rest;
       });
       paid = λ first calls paid.
           paid_later first (free_of h') calls (room_of h')
@@ -348,7 +344,7 @@ module _ {S : Type 0} (heap : S → Heap) (root_of : S → ℕ) (h : Heap) (root
           (free_same h h' whole_is size_is append (drops.pages.flush.committed ∙ (ap (λ (f : Frame). f.pages.committed) frame ∙ opens.pages.flush.committed))
           (drops.pages.flush.frozen ∙ (ap (λ (f : Frame). f.pages.frozen) frame ∙ opens.pages.flush.frozen)) pages_are)
           (room_same h h' whole_is append pages_are) paid);
-      legal = λ first start counts history opening foreigners events entry least is so_far.
+      legal = λ first start counts history opening foreigners events entry least is told before so_far.
           failed_call first start (with_disk counts faults) (with_disk counts faults') history h root last opening foreigners events so_far (later counts) entry
           (is_next entry is) h' root' (record {
             told = subst (TellsFailure faults faults') (sym is.reply_is) (fails _ so_far.held.holds);

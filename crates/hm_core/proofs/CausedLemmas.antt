@@ -1,30 +1,34 @@
 -- One call more keeps that each reply of a history has its cause, whatever the disk holds.
-use Rattle.std.proofs.Common.{◌≡◌, ℕ, ◌+◌, ◌<◌, inl, inr, List, [], ◌∷◌, ◌++◌, refl, sym, ap, subst, ◌∙◌, arith}
+use Rattle.std.proofs.Common.{◌≡◌, ℕ, ◌+◌, ◌<◌, ◌≤◌, inl, inr, List, [], ◌∷◌, ◌++◌, refl, sym, ap, subst, ◌∙◌, arith}
 use Rattle.std.specs.Prelude.{None}
 use Rattle.std.specs.List.{Contains}
 use Rattle.std.proofs.lemmas.List.{map-append}
 use Rattle.hm_types.specs.Faults.{IsCaused as IsFaultCaused}
 use Rattle.hm_types.specs.declared.fault.Fault.{Fault}
 use Rattle.hm_types.specs.declared.fault.Fault.TheVariants.{Damaged as damage, Media as device, NoMemory as no_memory}
+use Rattle.hm_types.specs.declared.id.Id.{Id}
 use Rattle.hm_types.specs.declared.limits.TheConstants.{GREATEST_ID}
 use Rattle.hm_calls.specs.Commands.{IsOnTrees}
 use Rattle.hm_calls.specs.Possible.{MayReply}
 use Rattle.hm_model.specs.After.{Event, end_id}
-use Rattle.hm_model.specs.Caused.{AreCaused, Counts, HasCause, HasNumbers, IsCaused, Known, at_any_point, known_after, known_at, number_of}
+use Rattle.hm_model.specs.Caused.{AreCaused, Counts, HasCause, IsCaused, Known, known_after, known_at, number_of, possible}
 use Rattle.hm_model.specs.Reply.{passed_ids}
 use Rattle.hm_model.specs.declared.command.Command.TheVariants.{Df}
 use Rattle.hm_model.specs.declared.entry.Entry.{Entry}
 use Rattle.hm_model.specs.declared.reply.Reply.{Reply}
-use Rattle.hm_model.specs.declared.reply.Reply.TheVariants.{Space}
+use Rattle.hm_model.specs.declared.reply.Reply.TheVariants.{Space, Synced}
 use Rattle.hm_model.proofs.EventLemmas.{known_after-push}
 use Rattle.hm_model.proofs.HistoryLemmas.{last_or_before, nothing_in_none}
 use Rattle.hm_step.specs.Causes.{IsNextOf, TellsFault}
 use Rattle.hm_step.proofs.CauseLemmas.{fault_cause, may_cause, may_end}
 use Rattle.hm_core.specs.Caused.{IsCausedFrom}
 use Rattle.hm_core.specs.Counts.{AreLater}
+use Rattle.hm_core.specs.Inside.{AreUpTo}
+use Rattle.hm_core.specs.Served.{IsServed, IsSync}
 use Rattle.hm_core.specs.Told.{reply_to}
+use Rattle.hm_core.proofs.BoundaryLemmas.{boundary_known}
 use Rattle.hm_core.proofs.CountLemmas.{NumbersOf, cause_later, later_still, told_most}
-use Rattle.hm_core.proofs.SpaceLemmas.{same_entry}
+use Rattle.hm_core.proofs.PathlessLemmas.{NamesNoPath, boundary_listed, event_of, fault_listed, pathless_cause, space_listed}
 use Rattle.hm_core.proofs.WordLemmas.{words_are_read}
 
 AreCaused-goes_on : (last : ℕ) (start now : Counts) (events : List Event) (event : Event) → AreCaused last start now events
@@ -58,11 +62,6 @@ fault_tells : (fault : Fault) → TellsFault (reply_to fault)
 fault_tells (device before after) = tt
 fault_tells (damage at kind) = tt
 fault_tells no_memory = tt
-
-fault_listed : (fault : Fault) → Contains (109 ∷ at_any_point) (number_of (reply_to fault))
-fault_listed (device before after) = (1, omega arith, refl)
-fault_listed (damage at kind) = (2, omega arith, refl)
-fault_listed no_memory = (3, omega arith, refl)
 
 module _ (first : ℕ) (start faults faults' : Counts) (last : ℕ) (history : List Entry) (so_far : IsCausedFrom first start faults last history)
     (counted : AreLater faults faults') where
@@ -137,27 +136,41 @@ module _ (first : ℕ) (start faults faults' : Counts) (last : ℕ) (history : L
           (subst (λ (r : Reply). NumbersOf faults' known entry r) (sym is) (fault_numbers entry fault caused)))
           (ap passed_ids is ∙ fault_ends fault) own
 
-    -- a `df`
-    module _ (call_is : entry.call ≡ Df) where
-      df_goes_on : (reply : Reply) → entry.reply ≡ reply → Contains (109 ∷ at_any_point) (number_of reply) → passed_ids reply ≡ None
-          → HasNumbers faults' known (record entry { call = Df; reply = reply })
-          → IsCausedFrom first start faults' (last + 1) (history ++ entry ∷ [])
-      df_goes_on reply reply_is listed ends numbers =
-          subst (λ (e : Entry). IsCausedFrom first start faults' (last + 1) (history ++ e ∷ [])) (same_entry entry Df reply call_is reply_is)
-          (goes_on (record { entry = record entry { call = Df; reply = reply }; paths = []; substitutes = [] }) (record {
-            id = own ∙ ap (λ (n : ℕ). n + 1) (sym so_far.last_is);
-            drawn = omega (arith, own, left);
-            read = tt;
-            possible = listed;
-            numbers = numbers;
-          }) ends own)
+    -- a call that names no path
+    pathless_goes_on : NamesNoPath entry.call → (reply : Reply) → entry.reply ≡ reply → Contains (possible entry.call []) (number_of reply)
+        → passed_ids reply ≡ None → NumbersOf faults' known entry reply → IsCausedFrom first start faults' (last + 1) (history ++ entry ∷ [])
+    pathless_goes_on no_path reply is listed ends numbers =
+        goes_on (event_of entry)
+        (pathless_cause faults' known entry no_path (subst (λ (n : ℕ). n < GREATEST_ID) (sym so_far.last_is) left)
+        (own ∙ ap (λ (n : ℕ). n + 1) (sym so_far.last_is))
+        (subst (λ (r : Reply). Contains (possible entry.call []) (number_of r)) (sym is) listed)
+        (subst (λ (r : Reply). NumbersOf faults' known entry r) (sym is) numbers))
+        (ap passed_ids is ∙ ends) own
 
-      -- it tells the space, or a fault
-      pub space_goes_on : (pool spare : ℕ) → entry.reply ≡ Space pool spare → IsCausedFrom first start faults' (last + 1) (history ++ entry ∷ [])
-      space_goes_on pool spare is = df_goes_on (Space pool spare) is (0, omega arith, refl) refl tt
+    pathless_fault_goes_on : NamesNoPath entry.call → (fault : Fault) → entry.reply ≡ reply_to fault → IsFaultCaused faults.disk faults'.disk fault
+        → IsCausedFrom first start faults' (last + 1) (history ++ entry ∷ [])
+    pathless_fault_goes_on no_path fault is caused =
+        pathless_goes_on no_path (reply_to fault) is (fault_listed entry.call fault no_path) (fault_ends fault) (fault_numbers entry fault caused)
 
-      pub space_fault_goes_on : (fault : Fault) → entry.reply ≡ reply_to fault → IsFaultCaused faults.disk faults'.disk fault
-          → IsCausedFrom first start faults' (last + 1) (history ++ entry ∷ [])
-      space_fault_goes_on fault is caused =
-          df_goes_on (reply_to fault) is (fault_listed fault) (fault_ends fault)
-          (fault_numbers (record entry { call = Df; reply = reply_to fault }) fault caused)
+    -- a `df` tells the space, or a fault
+    pub space_goes_on : entry.call ≡ Df → (pool spare : ℕ) → entry.reply ≡ Space pool spare
+        → IsCausedFrom first start faults' (last + 1) (history ++ entry ∷ [])
+    space_goes_on call_is pool spare is = pathless_goes_on (inl call_is) (Space pool spare) is (space_listed entry.call pool spare call_is) refl tt
+
+    pub space_fault_goes_on : entry.call ≡ Df → (fault : Fault) → entry.reply ≡ reply_to fault → IsFaultCaused faults.disk faults'.disk fault
+        → IsCausedFrom first start faults' (last + 1) (history ++ entry ∷ [])
+    space_fault_goes_on call_is = pathless_fault_goes_on (inl call_is)
+
+    -- a sync tells a boundary that was drawn, and no earlier one than was told
+    pub sync_goes_on : IsSync entry.call → (boundary : Id) → entry.reply ≡ Synced boundary → boundary.0 ≤ last → AreUpTo boundary.0 history
+        → IsCausedFrom first start faults' (last + 1) (history ++ entry ∷ [])
+    sync_goes_on sync boundary is drawn told =
+        pathless_goes_on (inr sync) (Synced boundary) is (boundary_listed entry.call boundary sync) refl
+        (boundary_known first boundary.0 start history so_far.events so_far.entries told, omega (arith, own, drawn))
+
+    -- a call that is asked was refused with a fault
+    pub refused_goes_on : IsServed entry.call → (fault : Fault) → entry.reply ≡ reply_to fault → IsFaultCaused faults.disk faults'.disk fault
+        → IsCausedFrom first start faults' (last + 1) (history ++ entry ∷ [])
+    refused_goes_on (inl (inl on_trees)) = fault_goes_on on_trees
+    refused_goes_on (inl (inr df)) = pathless_fault_goes_on (inl df)
+    refused_goes_on (inr sync) = pathless_fault_goes_on (inr sync)

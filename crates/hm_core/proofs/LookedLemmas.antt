@@ -5,6 +5,7 @@ use Rattle.hm_types.specs.Elements.{FullElement}
 use Rattle.hm_types.specs.declared.limits.TheConstants.{BIGBLOCK_BYTES}
 use Rattle.hm_disk.specs.Crash.{Told}
 use Rattle.hm_fields.specs.Pages.{PageMap}
+use Rattle.hm_flush.specs.declared.flush.Flush.{Flush}
 use Rattle.hm_pages.specs.Store.{Frame as PagesFrame}
 use Rattle.hm_freemap.specs.Stand.{Maps, free_by, is_handed_out, room_in}
 use Rattle.hm_model.specs.After.{Event}
@@ -18,9 +19,11 @@ use Rattle.hm_stored.specs.Heap.{Heap, free_of, maps_of, room_of}
 use Rattle.hm_stored.specs.Standing.{Holds, HoldsBy, basis_now}
 use Rattle.hm_stored.specs.Turn.{IsClosed, LooksSame}
 use Rattle.hm_stored.specs.declared.roots.Roots.{Roots}
+use Rattle.hm_state.specs.Flushing.{HoldsFlush}
 use Rattle.hm_state.specs.Volume.{HoldsVolume}
-use Rattle.hm_core.specs.History.{HoldsState, IsLegalOver, setting_of}
-use Rattle.hm_core.proofs.CommittedLemmas.{SameCommitted}
+use Rattle.hm_state.proofs.FlushKeptLemmas.{holds_same_flush}
+use Rattle.hm_core.specs.History.{IsLegalOver, setting_of}
+use Rattle.hm_core.proofs.KeptLemmas.{IsSameBeside}
 
 -- a space that holds something has its books in order
 pub held_firm : (h : Heap) (root : ℕ) (es : List FullElement) → Holds h root es → IsFirm (basis_now h root)
@@ -81,14 +84,25 @@ module _ (old new : Heap) (looks : LooksSame old new) where
     };
   }
 
-  pub looked_committed : SameCommitted old new
-  looked_committed = record {
+  pub looked_beside : IsSameBeside old new
+  looked_beside = record {
     bigblocks = bigblocks_same;
     disk = disk_same;
-    committed = ap (λ (f : PagesFrame). f.committed) looks.pages;
-    boundary = ap (λ (f : PagesFrame). f.boundary) looks.pages;
-    root = ap (λ (h : Heap). h.roots.committed) looks.rest;
+    pages = record {
+      committed = ap (λ (f : PagesFrame). f.committed) looks.pages;
+      frozen = ap (λ (f : PagesFrame). f.frozen) looks.pages;
+      frozen_group = ap (λ (f : PagesFrame). f.frozen_group) looks.pages;
+      boundary = ap (λ (f : PagesFrame). f.boundary) looks.pages;
+    };
+    committed = ap (λ (h : Heap). h.roots.committed) looks.rest;
+    frozen = ap (λ (h : Heap). h.roots.frozen) looks.rest;
   }
+
+  -- what a flush holds is still there
+  pub looked_flush : (f : Flush) (t : Told) (committed frozen : Volume) → HoldsFlush f old t committed frozen → HoldsFlush f new t committed frozen
+  looked_flush f t committed frozen =
+      let same = looked_beside in
+      holds_same_flush f old new t committed frozen same.pages same.bigblocks same.committed same.frozen
 
   pub looked_closed : IsClosed old → IsClosed new
   looked_closed closed = record {

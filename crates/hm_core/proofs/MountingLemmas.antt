@@ -1,7 +1,6 @@
 -- The space of a volume that was read.
-use Rattle.std.proofs.Common.{◌≡◌, ℕ, ◌^◌, ◌≤◌, List, [], Option, Some, None, refl, sym, ap, subst, ◌∙◌, arith}
-use Rattle.std.specs.Prelude.{IfSome, IsSomeAnd, if◌then◌else◌}
-use Rattle.hm_types.specs.Elements.{FullElement}
+use Rattle.std.proofs.Common.{◌≡◌, ℕ, ◌≤◌, List, [], Option, Some, None, refl, sym, ap, subst, ◌∙◌, arith}
+use Rattle.std.specs.Prelude.{IfSome}
 use Rattle.hm_types.specs.Faults.{IsCaused}
 use Rattle.hm_types.specs.Layout.{IsPool}
 use Rattle.hm_types.specs.declared.fault.Fault.{Fault}
@@ -11,11 +10,15 @@ use Rattle.hm_fields.specs.Fields.{AreBytes}
 use Rattle.hm_fields.specs.Pages.{PageMap}
 use Rattle.hm_fields.specs.declared.states.State.{State}
 use Rattle.hm_fields.specs.declared.states.State.TheVariants.{Current}
+use Rattle.hm_flush.specs.declared.flush.Flush.{Flush}
+use Rattle.hm_flush.specs.Calls.{FlushStands}
+use Rattle.hm_flush.specs.Ends.{as_read}
+use Rattle.hm_flush.specs.Flush.{idle_flush}
 use Rattle.hm_header.specs.OnDisk.{HasHeader}
 use Rattle.hm_header.specs.Range.{IsHeader}
 use Rattle.hm_header.specs.declared.header.Header.{Header}
 use Rattle.hm_freemap.specs.Faults.{IsBadBlock, IsFreemapDamage, IsGoodBlock}
-use Rattle.hm_freemap.specs.Stand.{HoldsPoolEntry, Maps, entry_page, free_by}
+use Rattle.hm_freemap.specs.Stand.{HoldsPoolEntry, Maps, entry_page}
 use Rattle.hm_pages.specs.Store.{Frame as PagesFrame, Store, in_state}
 use Rattle.hm_model.specs.Caused.{Counts}
 use Rattle.hm_model.specs.Foreign.{Foreigners}
@@ -25,29 +28,28 @@ use Rattle.hm_image.specs.Stands.{StandsFor}
 use Rattle.hm_load.specs.Damage.{IsWhole}
 use Rattle.hm_load.specs.Held.{HoldsImage}
 use Rattle.hm_load.specs.Loaded.{IsLoaded}
-use Rattle.hm_stored.specs.Basis.{Basis, IsFirm, fulls_in}
+use Rattle.hm_stored.specs.Flushed.{IsFlushedBy}
 use Rattle.hm_stored.specs.Heap.{Heap, free_of, heap_of, maps_of, room_of}
 use Rattle.hm_stored.specs.Mounted.{IsBooksOf}
-use Rattle.hm_stored.specs.Standing.{HoldsBy, basis_now}
 use Rattle.hm_stored.specs.Turn.{IsClosed, LooksSame}
 use Rattle.hm_stored.specs.declared.books.Books.{Books}
+use Rattle.hm_state.specs.Flushing.{HoldsFlush}
 use Rattle.hm_state.specs.Volume.{HoldsVolume}
-use Rattle.hm_state.proofs.BackedLemmas.{mounted_backed}
+use Rattle.hm_state.proofs.MountedFlushLemmas.{mounted_committed}
 use Rattle.hm_state.proofs.MountedLemmas.{mounted, mounted_free}
-use Rattle.hm_core.specs.Core.{StandsOver}
+use Rattle.hm_core.specs.Core.{HoldsUpTo, IsGuarded, StandsOver}
 use Rattle.hm_core.specs.Counts.{AreLater}
-use Rattle.hm_core.specs.History.{IsLegalOver}
+use Rattle.hm_core.specs.History.{IsLegalOver, up_to}
 use Rattle.hm_core.specs.Inside.{IsInOrder}
 use Rattle.hm_core.specs.Ledger.{IsPaid}
-use Rattle.hm_core.specs.Mounting.{CountsFree, BacksWhatStands, HoldsWhatStands, IsHeaderOn, IsReadFrom}
+use Rattle.hm_core.specs.Mounting.{CommitsWhatStands, CountsFree, HoldsWhatStands, IsHeaderOn, IsReadFrom}
 use Rattle.hm_core.specs.Opened.{IsMounted}
 use Rattle.hm_core.specs.State.{CoreState}
 use Rattle.hm_core.proofs.CausedLemmas.{caused_first}
 use Rattle.hm_core.proofs.BeginLemmas.{first}
 use Rattle.hm_core.proofs.LedgerLemmas.{paid_first}
-use Rattle.hm_core.proofs.CommittedLemmas.{backed_same}
 use Rattle.hm_core.proofs.CountLemmas.{later_same}
-use Rattle.hm_core.proofs.LookedLemmas.{looked_closed, looked_committed, looked_free, looked_held}
+use Rattle.hm_core.proofs.LookedLemmas.{looked_closed, looked_flush, looked_free, looked_held}
 
 abbrev maps_with : PageMap → PageMap → PageMap → Maps
 maps_with committed frozen current = record { committed = committed; frozen = frozen; current = current }
@@ -65,12 +67,17 @@ module _ (header : Header) (s : Store) (books : Books) (loaded : IsLoaded header
       looked_held (heap_of s (Some t) books) h looks header.root header.last.0 volume
       (mounted t header counts.0 s books volume stands counts.1 loaded image of_header)
 
-  backed_told : (told : Option Told) (h : Heap) → ArePages s → IfSome told (IsHeaderOn header)
-      → IfSome told (λ t. HoldsImage t.bytes header s) → LooksSame (heap_of s told books) h → IfSome told (BacksWhatStands h)
-  backed_told None h bytes counts image looks = tt
-  backed_told (Some t) h bytes counts image looks = λ volume stands.
-      backed_same (heap_of s (Some t) books) h (looked_committed (heap_of s (Some t) books) h looks)
-      (mounted_backed t header counts.0 s books volume stands counts.1 loaded image of_header (bytes Current))
+  committed_told : (told : Option Told) (h : Heap) → ArePages s → header.undo_count ≡ 0 → IfSome told (λ t. HoldsImage t.bytes header s)
+      → LooksSame (heap_of s told books) h → IfSome told (CommitsWhatStands h header)
+  committed_told None h bytes unarmed image looks = tt
+  committed_told (Some t) h bytes unarmed image looks = λ slot volume counts stands.
+      let by : (u : Told) → u.bytes ≡ t.bytes → u.unsettled ≡ [] → HoldsFlush (idle_flush header slot) h u volume volume =
+      λ u same settled.
+      looked_flush (heap_of s (Some t) books) h looks (idle_flush header slot) u volume volume
+      (mounted_committed u (Some t) header slot s books volume (subst (λ (bs : List ℕ). StandsFor bs volume) (sym same) stands)
+      (subst (λ (bs : List ℕ). HasHeader bs header slot) (sym same) counts) unarmed settled loaded
+      (subst (λ (bs : List ℕ). HoldsImage bs header s) (sym same) image) of_header (bytes Current)) in
+      (by (as_read t) refl refl, λ settled. by t refl settled)
 
   bigblocks_read : (told : Option Told) (h : Heap) → LooksSame (heap_of s told books) h → header.bigblocks ≡ h.bigblocks
   unfolding heap_of
@@ -101,10 +108,10 @@ module _ (header : Header) (s : Store) (books : Books) (loaded : IsLoaded header
   whole_told None image = tt
   whole_told (Some t) image = image.whole
 
-  pub read_from : (told disk : Option Told) (opened now : Heap) (free : ℕ) → ArePages s → IfSome told (IsHeaderOn header)
-      → IfSome told (λ t. HoldsImage t.bytes header s) → disk ≡ told → opened ≡ heap_of s disk books → LooksSame opened now
+  pub read_from : (told disk : Option Told) (opened now : Heap) (free : ℕ) → ArePages s → header.undo_count ≡ 0
+      → IfSome told (IsHeaderOn header) → IfSome told (λ t. HoldsImage t.bytes header s) → disk ≡ told → opened ≡ heap_of s disk books → LooksSame opened now
       → free ≡ free_of opened → IsReadFrom told header free now
-  read_from told disk opened now free bytes counts image kept made looks counted =
+  read_from told disk opened now free bytes unarmed counts image kept made looks counted =
       let is : opened ≡ heap_of s told books = opened_is told disk opened kept made in
       let same : LooksSame (heap_of s told books) now = subst (λ (h : Heap). LooksSame h now) is looks in
       record {
@@ -113,7 +120,7 @@ module _ (header : Header) (s : Store) (books : Books) (loaded : IsLoaded header
         free_is = counted ∙ ap free_of is ∙ sym (looked_free (heap_of s told books) now same);
         counted = counted_told told free (counted ∙ ap free_of is) counts image;
         holds = held_told told now counts image same;
-        backed = backed_told told now bytes counts image same;
+        committed = committed_told told now bytes unarmed image same;
         whole = whole_told told image;
         bigblocks = bigblocks_read told now same;
         idle = idle_read told now same;
@@ -158,61 +165,93 @@ module _ (header : Header) (s : Store) (books : Books) (loaded : IsLoaded header
       absurd (bad_nowhere told at kind (subst (λ (h : Heap). IsBadBlock h.bigblocks h.append (IsPool h.bigblocks) (maps_of h) at kind) is damage))
   no_damage told opened NoMemory is damage caused = refl
 
+-- an idle flush stands on a disk where its header counts
+module _ (header : Header) (slot : ℕ) where
+  idle_stands : (told : Option Told) → IfSome told (λ t. HasHeader t.bytes header slot) → IfSome told (FlushStands (idle_flush header slot))
+  idle_stands None counts = tt
+  idle_stands (Some t) counts = record { room = counts.room; header = counts }
+
+  idle_ready : (told : Option Told) (free : ℕ) (h : Heap) → IfSome told (λ t. HasHeader t.bytes header slot) → IsReadFrom told header free h
+      → IsFlushedBy (idle_flush header slot) h
+  idle_ready told free h chosen read = record {
+    closed = read.closed;
+    bigblocks = read.bigblocks;
+    group = read.idle;
+    stands = subst (λ (d : Option Told). IfSome d (FlushStands (idle_flush header slot))) (sym read.disk) (idle_stands told chosen);
+  }
+
 -- what always holds of a core, as it is mounted
-pub ordered_first : (told : Option Told) (header : Header) (slot free : ℕ) (h : Heap) → IsHeader header → slot ≤ 1
-    → IfSome told (λ t. HasHeader t.bytes header slot) → IsReadFrom told header free h → IsInOrder header slot header.last.0 free h []
-ordered_first told header slot free h range low chosen read = record {
-  header_is = range;
-  slot_is = low;
-  on_disk = subst (λ (d : Option Told). IfSome d (λ t. HasHeader t.bytes header slot)) (sym read.disk) chosen;
-  bigblocks = read.bigblocks;
-  closed = read.closed;
-  idle = read.idle;
+pub ordered_first : (told : Option Told) (header : Header) (slot free : ℕ) (h : Heap) → IsHeader header
+    → IfSome told (λ t. HasHeader t.bytes header slot) → IsReadFrom told header free h → IsInOrder (idle_flush header slot) header.last.0 free h []
+ordered_first told header slot free h range chosen read = record {
+  ready = idle_ready header slot told free h chosen read;
   told = λ e has. (let below = has.1 in absurd (omega (arith, below)));
+  drawn = λ e has. (let below = has.1 in absurd (omega (arith, below)));
   later = omega arith;
+  target = λ flight. absurd (flight refl);
   greatest = range.last.1;
   paid = subst (λ (n : ℕ). IsPaid free n 0 (room_of h)) read.free_is (paid_first free (room_of h));
 }
 
--- a core over a space that was read, with no history
-module _ (core : CoreState) (new : core.history ≡ []) (root : core.root ≡ core.header.root)
-    (ids : (core.last ≡ core.boundary) × (core.mounted.first ≡ core.boundary) × (core.boundary ≡ core.header.last.0))
-    (start : core.mounted.counts ≡ core.counts) where
-  last : core.last ≡ core.header.last.0
-  last = ids.0 ∙ ids.2
+-- a core over a space that was read, with no history, and with an idle flush
+module _ (core : CoreState) (header : Header) (slot : ℕ) (flush : core.flush ≡ idle_flush header slot) (new : core.history ≡ [])
+    (root : core.root ≡ header.root) (ids : (core.last ≡ header.last.0) × (core.mounted.first ≡ header.last.0))
+    (boundary : core.boundary ≡ core.flush.header.last.0) (start : core.mounted.counts ≡ core.counts) where
+  header_is : core.flush.header ≡ header
+  header_is = ap (λ (f : Flush). f.header) flush
+
+  bounded : core.boundary ≡ header.last.0
+  bounded = boundary ∙ ap (λ (x : Header). x.last.0) header_is
 
   later : AreLater core.mounted.counts core.counts
   later = subst (λ (c : Counts). AreLater core.mounted.counts c) start (later_same core.mounted.counts)
 
-  stands_over : (told : Option Told) → core.heap.disk ≡ told → IfSome told (BacksWhatStands core.heap) → IfSome told (HoldsWhatStands core.heap core.header)
+  -- no event is committed or frozen: the flush holds the opening volume
+  holds_first : (opening : Volume) (foreigners : Foreigners) (t : Told) → HoldsFlush (idle_flush header slot) core.heap t opening opening
+      → HoldsUpTo core opening foreigners [] t
+  unfolding up_to
+  holds_first opening foreigners t holds = subst (λ (f : Flush). HoldsFlush f core.heap t opening opening) (sym flush) holds
+
+  stands_over : (told : Option Told) → core.heap.disk ≡ told → IfSome told (λ t. HasHeader t.bytes header slot)
+      → IfSome told (CommitsWhatStands core.heap header) → IfSome told (HoldsWhatStands core.heap header)
       → IfSome told (λ t. (opening : Volume) (foreigners : Foreigners) → StandsFor t.bytes opening
       → StandsOver core opening foreigners [])
-  stands_over None disk backed holds = tt
-  stands_over (Some t) disk backed holds = λ opening foreigners stands.
+  stands_over None disk chosen committed holds = tt
+  stands_over (Some t) disk chosen committed holds = λ opening foreigners stands.
       let held : HoldsVolume core.heap core.root core.last opening =
       subst (λ (n : ℕ). HoldsVolume core.heap n core.last opening) (sym root)
-      (subst (λ (n : ℕ). HoldsVolume core.heap core.header.root n opening) (sym last) (holds opening stands)) in
+      (subst (λ (n : ℕ). HoldsVolume core.heap header.root n opening) (sym ids.0) (holds opening stands)) in
       record {
         legal = subst
             (λ (l : List Entry). IsLegalOver core.mounted.free core.mounted.counts core.counts l core.heap core.root core.last opening foreigners [])
             (sym new)
             (first core.mounted.free core.mounted.counts core.counts core.heap core.root core.last opening foreigners later held);
-        backed = backed opening stands;
-        untouched = λ none. subst (λ (d : Option Told). IfSome d (λ t. StandsFor t.bytes opening)) (sym disk) stands;
+        read = subst (λ (d : Option Told). IfSome d (λ u. HoldsUpTo core opening foreigners [] (as_read u))) (sym disk)
+            (holds_first opening foreigners (as_read t) (committed slot opening chosen stands).0);
       }
 
-  pub is_mounted : (told : Option Told) (faults : ℕ) → faults ≤ core.counts.disk
-      → IfSome told (λ t. HasHeader t.bytes core.header core.slot) → IsReadFrom told core.header core.mounted.free core.heap
-      → IsMounted told faults core
-  is_mounted told faults counted chosen read = record {
+  guarded_over : (told : Option Told) → core.heap.disk ≡ told → IfSome told (λ t. HasHeader t.bytes header slot)
+      → IfSome told (CommitsWhatStands core.heap header)
+      → IfSome told (λ t. t.unsettled ≡ [] → (opening : Volume) (foreigners : Foreigners) → StandsFor t.bytes opening
+      → IsGuarded core opening foreigners [])
+  guarded_over None disk chosen committed = tt
+  guarded_over (Some t) disk chosen committed = λ settled opening foreigners stands.
+      subst (λ (d : Option Told). IfSome d (HoldsUpTo core opening foreigners [])) (sym disk)
+      (holds_first opening foreigners t ((committed slot opening chosen stands).1 settled))
+
+  pub is_mounted : (told : Option Told) (faults : ℕ) → faults ≤ core.counts.disk → header.undo_count ≡ 0
+      → IfSome told (λ t. HasHeader t.bytes header slot) → IsReadFrom told header core.mounted.free core.heap → IsMounted told faults core
+  is_mounted told faults counted unarmed chosen read = record {
     history = new;
     told = read.disk;
     counts = (counted, start);
-    ids = ids;
+    ids = (ids.0 ∙ sym bounded, ids.1 ∙ sym bounded, boundary);
+    idle = (ap (λ (f : Flush). f.at) flush, ap (λ (x : Header). x.undo_count) header_is ∙ unarmed);
     caused = ∣ caused_first core.mounted.first core.mounted.counts core.counts core.last core.history new later (ids.0 ∙ sym ids.1) ∣₁;
     free = read.free_is;
-    counted = read.counted;
-    counting = chosen;
-    whole = read.whole;
-    stands = stands_over told read.disk read.backed read.holds;
+    counted = subst (λ (x : Header). IfSome told (CountsFree core.mounted.free x)) (sym header_is) read.counted;
+    counting = subst (λ (f : Flush). IfSome told (λ t. HasHeader t.bytes f.header f.slot)) (sym flush) chosen;
+    whole = subst (λ (x : Header). IfSome told (λ t. IsWhole t.bytes x)) (sym header_is) read.whole;
+    stands = stands_over told read.disk chosen read.committed read.holds;
+    guarded = guarded_over told read.disk chosen read.committed;
   }

@@ -20,7 +20,7 @@ use Rattle.hm_core.proofs.FitLemmas.{held_fit}
 use Rattle.hm_core.proofs.KnownLemmas.{volume_each, volume_known}
 
 -- a space holds one list of elements
-held_once : (h : Heap) (root : ℕ) (es es' : List FullElement) → Holds h root es → Holds h root es' → es ≡ es'
+pub held_once : (h : Heap) (root : ℕ) (es es' : List FullElement) → Holds h root es → Holds h root es' → es ≡ es'
 held_once h root es es' = by h.disk where
   by : (o : Option Told) → IsSomeAnd o (λ t. HoldsBy h root t.bytes es) → IsSomeAnd o (λ t. HoldsBy h root t.bytes es') → es ≡ es'
   by None first second = absurd first

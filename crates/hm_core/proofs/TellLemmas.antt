@@ -22,19 +22,19 @@ use Rattle.hm_model.specs.declared.entry.Entry.{Entry}
 use Rattle.hm_model.specs.declared.reply.Reply.{Reply}
 use Rattle.hm_model.specs.declared.reply.Reply.TheVariants.{NoMemory, Space}
 use Rattle.hm_stored.specs.Basis.{IsFirm, states_of}
-use Rattle.hm_stored.specs.Heap.{Heap, content_of, free_of, maps_of, room_of}
+use Rattle.hm_stored.specs.Heap.{Heap, free_of, maps_of, room_of}
 use Rattle.hm_stored.specs.Standing.{basis_now}
 use Rattle.hm_stored.specs.Turn.{IsClosed, LooksSame}
-use Rattle.hm_core.specs.Answer.{Answers, KeepsCommitted}
+use Rattle.hm_core.specs.Answer.{Answers, KeepsFlush}
 use Rattle.hm_core.specs.Counts.{AreLater, with_disk}
 use Rattle.hm_core.specs.History.{IsLegalBeyond, IsLegalOver}
 use Rattle.hm_core.specs.Ledger.{IsPaid}
 use Rattle.hm_core.specs.Told.{reply_to}
-use Rattle.hm_core.proofs.AnswerLemmas.{fault_silent}
+use Rattle.hm_core.proofs.AnswerLemmas.{fault_silent, none_told}
 use Rattle.hm_core.proofs.CausedLemmas.{space_fault_goes_on, space_goes_on}
-use Rattle.hm_core.proofs.CommittedLemmas.{backed_same, kept_same}
+use Rattle.hm_core.proofs.KeptLemmas.{kept_same}
 use Rattle.hm_core.proofs.CountLemmas.{disk_later}
-use Rattle.hm_core.proofs.LookedLemmas.{held_firm, looked_closed, looked_committed, looked_free, looked_legal, looked_room}
+use Rattle.hm_core.proofs.LookedLemmas.{held_firm, looked_beside, looked_closed, looked_free, looked_legal, looked_room}
 use Rattle.hm_core.proofs.SpaceLemmas.{space_refused, space_told}
 
 module _ (old new : Heap) (root root' faults faults' : ℕ) (closed : IsClosed old) (looks : LooksSame old new) (stays : root' ≡ root) (same : faults' ≡ faults) where
@@ -85,8 +85,8 @@ module _ (old new : Heap) (root root' faults faults' : ℕ) (closed : IsClosed o
   no_device (damage at kind) caused = tt
   no_device no_memory caused = tt
 
-  kept : KeepsCommitted (IsSome (content_of old)) old new
-  kept = kept_same old new (looked_committed old new looks)
+  kept : {Known : Type 0} → KeepsFlush Known old new
+  kept = kept_same old new (looked_beside old new looks)
 
   module _ (last : ℕ) (left : last < GREATEST_ID) where
     -- what was legal before the look is so after it
@@ -99,44 +99,34 @@ module _ (old new : Heap) (root root' faults faults' : ℕ) (closed : IsClosed o
           (looked_legal old new looks first start counts history root (last + 1) opening foreigners (events ++ more) legal),
     )
 
-    pub told_answers : (space free : ℕ) → space ≡ old.bigblocks - first_pool old.bigblocks → free ≡ free_of old
-        → Answers faults faults' last Df old new root root' (Space space free)
-    told_answers space free pool_is is = record {
+    pub told_answers : (boundary space free : ℕ) → space ≡ old.bigblocks - first_pool old.bigblocks → free ≡ free_of old
+        → Answers boundary faults faults' last Df old new root root' (Space space free)
+    told_answers boundary space free pool_is is = record {
       closed = looked_closed old new looks closed;
       counted = counted;
-      silent = refl;
-      caused = λ first start counts history entry of so_far.
+      told = tt;
+      caused = λ first start counts history entry of told before so_far.
           space_goes_on first start (with_disk counts faults) (with_disk counts faults') last history so_far (later counts) entry left of.own of.call_is space free of.reply_is;
-      committed = record {
-        bigblocks = kept.bigblocks;
-        boundary = kept.boundary;
-        header = kept.header;
-        backed = λ held. backed_same old new (looked_committed old new looks);
-      };
+      flush = kept;
       paid = paid_same;
-      legal = λ first start counts history opening foreigners events entry enough of so_far.
+      legal = λ first start counts history opening foreigners events entry enough of told before so_far.
           there first start (with_disk counts faults') (history ++ entry ∷ []) opening foreigners events (space_told first start (with_disk counts faults) (with_disk counts faults') history old root last opening
           foreigners events so_far (later counts) left entry of.call_is of.own
           (space, free, of.reply_is, pool_is, omega (arith, is, enough), omega (arith, is, pool_is, free_most)));
     }
 
-    pub failed_answers : (fault : Fault) → IsFreemapDamage old.bigblocks old.append (IsPool old.bigblocks) (maps_of old) fault → IsCaused 0 0 fault
-        → Answers faults faults' last Df old new root root' (reply_to fault)
-    failed_answers fault bad caused = record {
+    pub failed_answers : (boundary : ℕ) (fault : Fault) → IsFreemapDamage old.bigblocks old.append (IsPool old.bigblocks) (maps_of old) fault → IsCaused 0 0 fault
+        → Answers boundary faults faults' last Df old new root root' (reply_to fault)
+    failed_answers boundary fault bad caused = record {
       closed = looked_closed old new looks closed;
       counted = counted;
-      silent = fault_silent fault;
-      caused = λ first start counts history entry of so_far.
+      told = none_told boundary Df (reply_to fault) (fault_silent fault);
+      caused = λ first start counts history entry of told before so_far.
           space_fault_goes_on first start (with_disk counts faults) (with_disk counts faults') last history so_far (later counts) entry left of.own of.call_is fault of.reply_is
           (no_device fault caused);
-      committed = record {
-        bigblocks = kept.bigblocks;
-        boundary = kept.boundary;
-        header = kept.header;
-        backed = λ held. backed_same old new (looked_committed old new looks);
-      };
+      flush = kept;
       paid = paid_same;
-      legal = λ first start counts history opening foreigners events entry enough of so_far.
+      legal = λ first start counts history opening foreigners events entry enough of told before so_far.
           let firm = held_firm old root so_far.held.holds.elements.0 so_far.held.holds.elements.1 in
           there first start (with_disk counts faults') (history ++ entry ∷ []) opening foreigners events (space_refused first start (with_disk counts faults) (with_disk counts faults') history old root last opening
           foreigners events so_far (later counts) left entry of.call_is of.own

@@ -1,7 +1,8 @@
 -- What a call over a store makes of its space, from one moment without an open call to another.
-use Rattle.std.specs.Prelude.{◌≡◌, ℕ, ◌+◌, ◌≤◌, IfSome, List, [], ◌∷◌, ◌++◌, None}
-use Rattle.hm_header.specs.OnDisk.{HasHeader}
-use Rattle.hm_header.specs.declared.header.Header.{Header}
+use Rattle.std.specs.Prelude.{◌≡◌, ℕ, ◌+◌, ◌≤◌, IfSome, List, [], ◌∷◌, ◌++◌}
+use Rattle.hm_flush.specs.declared.flush.Flush.{Flush}
+use Rattle.hm_flush.specs.Calls.{FlushStands}
+use Rattle.hm_flush.specs.Ends.{as_read}
 use Rattle.hm_model.specs.After.{Event}
 use Rattle.hm_model.specs.Caused.{Counts}
 use Rattle.hm_model.specs.Foreign.{Foreigners}
@@ -11,14 +12,17 @@ use Rattle.hm_model.specs.Volume.{Volume}
 use Rattle.hm_model.specs.declared.command.Command.{Command}
 use Rattle.hm_model.specs.declared.entry.Entry.{Entry}
 use Rattle.hm_model.specs.declared.reply.Reply.{Reply}
+use Rattle.hm_pages.specs.Calls.{IsSameFlush}
 use Rattle.hm_stored.specs.Heap.{Heap, free_of, room_of}
 use Rattle.hm_stored.specs.Turn.{IsClosed}
-use Rattle.hm_state.specs.Backed.{IsBacked}
+use Rattle.hm_state.specs.Flushing.{HoldsFlush}
 use Rattle.hm_state.specs.Volume.{HoldsVolume}
 use Rattle.hm_core.specs.Caused.{IsCausedFrom}
 use Rattle.hm_core.specs.Counts.{with_disk}
 use Rattle.hm_core.specs.History.{IsLegalBeyond, IsLegalOver}
+use Rattle.hm_core.specs.Inside.{AreUpTo}
 use Rattle.hm_core.specs.Ledger.{IsPaid}
+use Rattle.hm_core.specs.Served.{IsSync}
 
 -- the entry of a call with this reply, by the id after the last one
 pub record IsEntryOf (last : ℕ) (command : Command) (reply : Reply) (entry : Entry) : Type 0 where
@@ -26,27 +30,31 @@ pub record IsEntryOf (last : ℕ) (command : Command) (reply : Reply) (entry : E
   pub reply_is : entry.reply ≡ reply
   pub own : entry.id.0 ≡ last + 1
 
--- What a call leaves of a space: how many big-blocks it has, what is frozen, and on its disk the header that counts; and,
--- where this holds, all that was committed last.
-pub record KeepsCommitted (Told : Type 0) (h h' : Heap) : Type 0 where
+-- What a call leaves of a space and its disk: how many big-blocks it has, what is committed and what is frozen, and the header that
+-- counts, as a flush asks for it; and, where this is known, all that a flush holds, as reads give it and as a crash may leave it.
+pub record KeepsFlush (Known : Type 0) (h h' : Heap) : Type 0 where
   pub bigblocks : h'.bigblocks ≡ h.bigblocks
-  pub boundary : h'.pages.boundary ≡ h.pages.boundary
-  pub header : (header : Header) (slot : ℕ) → IfSome h.disk (λ t. HasHeader t.bytes header slot) → IfSome h'.disk (λ t. HasHeader t.bytes header slot)
-  pub backed : Told → IsBacked h → IsBacked h'
+  pub pages : IsSameFlush h.pages h'.pages
+  pub stands : (f : Flush) → IfSome h.disk (FlushStands f) → IfSome h'.disk (FlushStands f)
+  pub read : Known → (f : Flush) (committed frozen : Volume) → IfSome h.disk (λ t. HoldsFlush f h (as_read t) committed frozen)
+      → IfSome h'.disk (λ t. HoldsFlush f h' (as_read t) committed frozen)
+  pub guarded : Known → (f : Flush) (committed frozen : Volume) → IfSome h.disk (λ t. HoldsFlush f h t committed frozen)
+      → IfSome h'.disk (λ t. HoldsFlush f h' t committed frozen)
 
--- A call was answered so, over which the count of the disk's faults went from one to another. The reply tells no boundary, no call is open, the big-blocks that
--- were begun are paid for, what was committed is still there, and each history that was legal goes on legally with the
--- entry of the call, and keeps the events of those before it. Whatever the space holds, the reply has its cause.
-pub record Answers (faults faults' last : ℕ) (command : Command) (h h' : Heap) (root root' : ℕ) (reply : Reply) : Type 0 where
+-- A call was answered so, where this boundary is committed, and over which the count of the disk's faults went from one to another.
+-- Only a sync tells a boundary, and that is this one; no call is open, the big-blocks that were begun are paid for, what a flush
+-- holds is still there, and each history that was legal goes on legally with the entry of the call, and keeps the events of those
+-- before it. Whatever the space holds, the reply has its cause.
+pub record Answers (boundary faults faults' last : ℕ) (command : Command) (h h' : Heap) (root root' : ℕ) (reply : Reply) : Type 0 where
   pub closed : IsClosed h'
   pub counted : faults ≤ faults'
-  pub silent : told_boundary reply ≡ None
-  pub committed : KeepsCommitted ((volume : Volume) × HoldsVolume h root last volume) h h'
+  pub told : IfSome (told_boundary reply) (λ id. IsSync command × (id.0 ≡ boundary))
+  pub flush : KeepsFlush ((volume : Volume) × HoldsVolume h root last volume) h h'
   pub paid : (first calls : ℕ) → IsPaid first (free_of h) calls (room_of h) → IsPaid first (free_of h') (calls + 1) (room_of h')
   pub caused : (first : ℕ) (start counts : Counts) (history : List Entry) (entry : Entry) → IsEntryOf last command reply entry
-      → IsCausedFrom first start (with_disk counts faults) last history
+      → AreUpTo boundary history → boundary ≤ last → IsCausedFrom first start (with_disk counts faults) last history
       → IsCausedFrom first start (with_disk counts faults') (last + 1) (history ++ entry ∷ [])
   pub legal : (free : ℕ) (start counts : Counts) (history : List Entry) (opening : Volume) (foreigners : Foreigners) (events : List Event) (entry : Entry)
-      → floor free history ≤ free_of h → IsEntryOf last command reply entry
+      → floor free history ≤ free_of h → IsEntryOf last command reply entry → AreUpTo boundary history → boundary ≤ last
       → IsLegalOver free start (with_disk counts faults) history h root last opening foreigners events
       → IsLegalBeyond free start (with_disk counts faults') (history ++ entry ∷ []) h' root' (last + 1) opening foreigners events

@@ -1,6 +1,8 @@
 -- What the calls of a core do.
-use Rattle.std.specs.Prelude.{◌≡◌, ℕ, ◌+◌, ◌<◌, ◌≤◌, List, [], ◌∷◌, ◌++◌, IfSome, length}
-use Rattle.hm_types.specs.declared.limits.TheConstants.{GREATEST_ID}
+use Rattle.std.specs.Prelude.{◌≡◌, ◌⊎◌, ℕ, ◌+◌, ◌<◌, ◌≤◌, List, [], ◌∷◌, ◌++◌, IfSome, length}
+use Rattle.hm_types.specs.declared.limits.TheConstants.{FULL_GROUP_PAGES, GREATEST_ID}
+use Rattle.hm_disk.specs.Crash.{Told}
+use Rattle.hm_flush.specs.Ends.{as_read}
 use Rattle.hm_model.specs.After.{Event}
 use Rattle.hm_model.specs.Foreign.{Foreigners}
 use Rattle.hm_model.specs.Reply.{told_boundary}
@@ -8,47 +10,61 @@ use Rattle.hm_model.specs.Volume.{Volume}
 use Rattle.hm_model.specs.declared.command.Command.{Command}
 use Rattle.hm_model.specs.declared.entry.Entry.{Entry}
 use Rattle.hm_model.specs.declared.reply.Reply.{Reply}
-use Rattle.hm_image.specs.Stands.{StandsFor}
-use Rattle.hm_state.specs.Backed.{IsBacked}
+use Rattle.hm_state.specs.Flushing.{HoldsFlush}
 use Rattle.hm_core.specs.Caused.{IsCausedFrom}
-use Rattle.hm_core.specs.History.{IsLegalOver}
+use Rattle.hm_core.specs.History.{IsLegalOver, up_to, volume_of}
 use Rattle.hm_core.specs.Counts.{AreLater}
+use Rattle.hm_core.specs.Served.{IsSync}
 use Rattle.hm_core.specs.State.{CoreDevices, CoreState}
 use Rattle.hm_core.specs.declared.step.Step.{Step}
-use Rattle.hm_core.specs.declared.step.Step.TheVariants.{Answered, Spent}
+use Rattle.hm_core.specs.declared.step.Step.TheVariants.{Answered, MustFlush, Spent}
+
+-- What a flush holds of the volume on which a run began, on a disk that tells this: the committed volume is the one after the
+-- events up to the boundary, and while a flush is in flight the frozen one that after those up to its target.
+abbrev pub HoldsUpTo : CoreState → Volume → Foreigners → List Event → Told → Type 0
+HoldsUpTo core opening foreigners events t =
+    HoldsFlush core.flush core.heap t (volume_of opening foreigners (up_to core.flush.header.last.0 events))
+    (volume_of opening foreigners (up_to core.flush.target.last.0 events))
 
 -- A core stands for the volume on which its run began, by these events: its history is that of them, and is legal over it,
--- and its space holds the volume after them. Its disk has all that was committed last, and as long as nothing was done it
--- stands for that volume.
+-- and its space holds the volume after them. Its disk has the committed and the frozen one, as reads give it.
 pub record StandsOver (core : CoreState) (opening : Volume) (foreigners : Foreigners) (events : List Event) : Type 0 where
   pub legal : IsLegalOver core.mounted.free core.mounted.counts core.counts core.history core.heap core.root core.last opening
       foreigners events
-  pub backed : IsBacked core.heap
-  pub untouched : core.history ≡ [] → IfSome core.heap.disk (λ t. StandsFor t.bytes opening)
+  pub read : IfSome core.heap.disk (λ t. HoldsUpTo core opening foreigners events (as_read t))
+
+-- So it has them as a crash may leave them: each image recovers to the one or, once the last stage of a flush was tried, to the other.
+abbrev pub IsGuarded : CoreState → Volume → Foreigners → List Event → Type 0
+IsGuarded core opening foreigners events = IfSome core.heap.disk (HoldsUpTo core opening foreigners events)
+
+-- A core stands for it by these events and more; and where it was guarded it is so still.
+pub record GoesOnBy (old new : CoreState) (opening : Volume) (foreigners : Foreigners) (events : List Event) : Type 0 where
+  pub more : List Event
+  pub stands : StandsOver new opening foreigners (events ++ more)
+  pub guarded : IsGuarded old opening foreigners events → IsGuarded new opening foreigners (events ++ more)
 
 -- For each volume on which the run may have begun, it stands for it still, by the events of before and more: what it had
 -- answered by then was right over the same trees.
 abbrev pub GoesOn : CoreState → CoreState → Type 0
 GoesOn old new = (opening : Volume) (foreigners : Foreigners) (events : List Event) → StandsOver old opening foreigners events
-    → (more : List Event) × StandsOver new opening foreigners (events ++ more)
+    → GoesOnBy old new opening foreigners events
 
 -- each reply of its history has its cause, from the last id and the counts of faults as it was mounted on: so it is of every core
 abbrev pub IsCausedRun : CoreState → Type 0
 IsCausedRun core = ∥ IsCausedFrom core.mounted.first core.mounted.counts core.counts core.last core.history ∥₁
 
--- what a core began with, and what was committed last, are as before
+-- what a core began with is as before, and the committed boundary never falls
 pub record KeepsRest (old new : CoreState) : Type 0 where
   pub mounted : new.mounted ≡ old.mounted
-  pub boundary : new.boundary ≡ old.boundary
-  pub header : new.header ≡ old.header
-  pub slot : new.slot ≡ old.slot
+  pub boundary : old.boundary ≤ new.boundary
 
 -- a boundary that a reply tells is on the disk, and is no earlier than this id
 abbrev pub TellsBoundary : ℕ → ℕ → Reply → Type 0
 TellsBoundary since boundary reply = IfSome (told_boundary reply) (λ told. (since ≤ told.0) × (told.0 ≤ boundary))
 
 -- An id was left. The history gained the entry of this call, by the next id, and its reply has its cause. A boundary that it
--- tells is no earlier than the last id as the call began, and is on the disk. At most one place of the room is taken.
+-- tells is no earlier than the last id as the call began, and is committed, and this entry is not. At most one place of the room
+-- is taken.
 pub record Enters (old new : CoreState) (lane line since : ℕ) (command : Command) : Type 0 where
   pub left : old.last < GREATEST_ID
   pub entry : Entry
@@ -56,15 +72,34 @@ pub record Enters (old new : CoreState) (lane line since : ℕ) (command : Comma
   pub of_line : (entry.lane ≡ lane) × (entry.line ≡ line) × (entry.call ≡ command)
   pub told : TellsBoundary since new.boundary entry.reply
   pub id : (entry.id.0 ≡ old.last + 1) × (new.last ≡ old.last + 1)
+  pub before : new.boundary < new.last
   pub spare : old.spare ≤ new.spare + 1
   pub rest : KeepsRest old new
   pub never_falls : AreLater old.counts new.counts
   pub caused : IsCausedRun new
   pub goes_on : GoesOn old new
 
--- a call was answered and entered, or no id was left and all is as before
+-- Nothing was entered: the history, the ids and the volume are as before. A flush may have gone on.
+pub record Waits (old new : CoreState) : Type 0 where
+  pub history : new.history ≡ old.history
+  pub last : new.last ≡ old.last
+  pub spare : new.spare ≡ old.spare
+  pub rest : KeepsRest old new
+  pub never_falls : AreLater old.counts new.counts
+  pub caused : IsCausedRun new
+  pub goes_on : GoesOn old new
+
+-- A call waits for a flush: the current group has as many pages as fill it, or it is a sync, and the boundary is before this id.
+abbrev pub NeedsFlush : CoreState → ℕ → Command → Type 0
+NeedsFlush core since command = (FULL_GROUP_PAGES ≤ core.heap.pages.group.pages) ⊎ (IsSync command × (core.boundary < since))
+
+-- A call was answered and entered, and the flush is where it was; or it waits for a flush, and is handed back; or no id was left.
+-- In both of these all is as before.
 abbrev pub Steps : CoreState → CoreState → ℕ → ℕ → ℕ → Command → Step → Type 0
-Steps old new lane line since command (Answered place) = (place ≡ length old.history) × Enters old new lane line since command
+Steps old new lane line since command (Answered place) =
+    (place ≡ length old.history) × Enters old new lane line since command × (new.flush ≡ old.flush) × ¬ NeedsFlush old since command
+Steps old new lane line since command (MustFlush back) =
+    (back ≡ command) × (new ≡ old) × (old.last < GREATEST_ID) × NeedsFlush old since command
 Steps old new lane line since command Spent = (old.last ≡ GREATEST_ID) × (new ≡ old)
 
 module _ {D I O : Type 0} where
@@ -73,7 +108,8 @@ module _ {D I O : Type 0} where
     pub input : new.input ≡ old.input
     pub output : new.output ≡ old.output
 
-  -- a step leaves the streams of a core, and where no id was left the disk too
+  -- a step leaves the streams of a core, and where nothing was answered the disk too
   abbrev pub LeavesDevices : CoreDevices D I O → CoreDevices D I O → Step → Type 0
   LeavesDevices old new (Answered place) = KeepsStreams old new
+  LeavesDevices old new (MustFlush back) = new ≡ old
   LeavesDevices old new Spent = new ≡ old

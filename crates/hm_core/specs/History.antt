@@ -1,5 +1,5 @@
 -- A history over the volume on which it began, and the space that has come of it.
-use Rattle.std.specs.Prelude.{◌≡◌, ℕ, List, [], ◌++◌}
+use Rattle.std.specs.Prelude.{◌≡◌, ℕ, List, [], ◌∷◌, ◌++◌, nat_le, if◌then◌else◌}
 use Rattle.hm_model.specs.After.{Event, State, after}
 use Rattle.hm_model.specs.Caused.{Counts, known_after, known_at}
 use Rattle.hm_model.specs.Foreign.{Foreigners}
@@ -29,6 +29,11 @@ pub record HoldsState (h : Heap) (root last : ℕ) (state : State) : Type 0 wher
 -- the volume that an opening one has become by these events
 abbrev pub volume_of : Volume → Foreigners → List Event → Volume
 volume_of opening foreigners events = (after opening foreigners events).volume
+
+-- the events of a history up to this id
+unfoldable pub up_to : ℕ → List Event → List Event
+up_to id [] = []
+up_to id (event ∷ events) = if nat_le event.entry.id.0 id then event ∷ up_to id events else []
 
 -- The entries of a history are those of these events, which are legal over an opening volume, with no more faults told than
 -- were counted, and a space holds the state after them. The events say which trees each entry saw of a pseudo file system

@@ -11,11 +11,10 @@ seen {g = g} c = record {
   history = c.history.items;
   spare = vec_capacity c.history - vec_len c.history;
   last = c.last.0;
-  boundary = c.header.last.0;
+  boundary = c.flusher.header.last.0;
   mounted = record { first = c.first.0; free = c.free; counts = disk_counts c.start };
   counts = disk_counts (g.faults c.stored.space.disk);
-  header = c.header;
-  slot = c.slot;
+  flush = c.flusher;
   heap = heap_of_space c.stored.space;
   root = c.stored.root;
 }

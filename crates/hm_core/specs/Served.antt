@@ -2,12 +2,19 @@
 use Rattle.std.specs.Prelude.{◌≡◌, ◌⊎◌}
 use Rattle.hm_model.specs.Forms.{IsInRange}
 use Rattle.hm_model.specs.declared.command.Command.{Command}
-use Rattle.hm_model.specs.declared.command.Command.TheVariants.{Df}
+use Rattle.hm_model.specs.declared.command.Command.TheVariants.{Df, Sync, Synctid}
 use Rattle.hm_calls.specs.Commands.{IsOnTrees}
 
 -- a call on names or on the bytes of files, or one that tells the space
+abbrev pub IsOnStore : Command → Type 0
+IsOnStore command = IsOnTrees command ⊎ (command ≡ Df)
+
+-- a call that waits until all that was answered before it is committed
+abbrev pub IsSync : Command → Type 0
+IsSync command = (command ≡ Sync) ⊎ (command ≡ Synctid)
+
 abbrev pub IsServed : Command → Type 0
-IsServed command = IsOnTrees command ⊎ (command ≡ Df)
+IsServed command = IsOnStore command ⊎ IsSync command
 
 -- the same with values that a line may have
 pub record IsAsked (command : Command) : Type 0 where

@@ -1,6 +1,6 @@
 -- What a contract sees of a core.
 use Rattle.std.specs.Prelude.{ℕ, List}
-use Rattle.hm_header.specs.declared.header.Header.{Header}
+use Rattle.hm_flush.specs.declared.flush.Flush.{Flush}
 use Rattle.hm_model.specs.Caused.{Counts}
 use Rattle.hm_model.specs.declared.entry.Entry.{Entry}
 use Rattle.hm_stored.specs.Heap.{Heap}
@@ -12,8 +12,8 @@ pub record Mounted : Type 0 where
   pub free : ℕ
   pub counts : Counts
 
--- The run's history, and how many more entries it has room for; the last id that was drawn, and the last one that is on the
--- disk; what there was at mounting, and the counts of faults by now; the header on the disk, and the slot that it stands in;
+-- The run's history, and how many more entries it has room for; the last id that was drawn, and the last one that is committed;
+-- what there was at mounting, and the counts of faults by now; the header that counts on the disk and how far a flush has come;
 -- what its space holds, and where the tree begins in it. No device is part of it.
 pub record CoreState : Type 0 where
   pub history : List Entry
@@ -22,8 +22,7 @@ pub record CoreState : Type 0 where
   pub boundary : ℕ
   pub mounted : Mounted
   pub counts : Counts
-  pub header : Header
-  pub slot : ℕ
+  pub flush : Flush
   pub heap : Heap
   pub root : ℕ
 

@@ -9,25 +9,31 @@ ghost use Rattle.hm_core.specs.Served.{IsAsked};
 use crate::calls::answer_over;
 use crate::space::tell_space;
 use hm_disk::Disk;
+use hm_flush::Flusher;
 use hm_model::{Command, Reply};
 use hm_stored::Stored;
 use hm_types::Id;
 use std::alloc::Global;
 
-/// Answers a call by the id after `last`, over the store of a volume in which no call is open.
+/// Answers a call by the id after `last`, over the store of a volume in which no call is open. A sync tells
+/// what the flusher has committed.
 pub(crate) fn answer_asked<D: Disk>(
     alloc: Global,
     stored: &mut Stored<D>,
+    flusher: &Flusher,
     command: &Command,
     last: Id,
 ) -> Reply
     requires closed { IsClosed (heap stored.old.space) }
     requires asked { IsAsked command.now }
     requires left { last.0 < GREATEST_ID }
-    ensures answers { Answers (D.faults stored.old.space.disk) (D.faults stored.new.space.disk) last.0 command.now
+    ensures answers { Answers flusher.now.header.last.0 (D.faults stored.old.space.disk) (D.faults stored.new.space.disk) last.0 command.now
         (heap stored.old.space) (heap stored.new.space) stored.old.root stored.new.root result }
 {
     match command {
+        Command::Sync | Command::Synctid => Reply::Synced {
+            boundary: flusher.boundary(),
+        },
         Command::Df => tell_space(stored),
         _ => answer_over(alloc, stored, command, last),
     }

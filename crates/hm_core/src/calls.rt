@@ -1,5 +1,5 @@
 // One call over a store.
-ghost use Rattle.std.specs.Prelude.{◌≡◌, ◌+◌, ◌<◌};
+ghost use Rattle.std.specs.Prelude.{◌≡◌, ℕ, ◌<◌};
 ghost use Rattle.hm_types.specs.declared.limits.TheConstants.{GREATEST_ID};
 ghost use Rattle.hm_model.specs.Forms.{IsInRange};
 ghost use Rattle.hm_calls.specs.Commands.{IsOnTrees};
@@ -28,7 +28,7 @@ pub fn answer_over<D: Disk>(
     requires closed { IsClosed (heap stored.old.space) }
     requires served { IsOnTrees command.now × IsInRange command.now }
     requires left { last.0 < GREATEST_ID }
-    ensures answers { Answers (D.faults stored.old.space.disk) (D.faults stored.new.space.disk) last.0 command.now
+    ensures answers { (boundary : ℕ) → Answers boundary (D.faults stored.old.space.disk) (D.faults stored.new.space.disk) last.0 command.now
         (heap stored.old.space) (heap stored.new.space) stored.old.root stored.new.root result }
 {
     stored.begin(last);

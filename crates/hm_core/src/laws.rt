@@ -4,6 +4,7 @@ ghost use Rattle.std.specs.Prelude.{IfErr, IfSome, IsTrue, true, List, Option, R
 ghost use Rattle.hm_types.specs.Elements.{FullElement};
 ghost use Rattle.hm_types.specs.Space.{reserve_of};
 ghost use Rattle.hm_types.specs.declared.fault.Fault.{Fault};
+ghost use Rattle.hm_types.specs.declared.id.Id.{Id};
 ghost use Rattle.hm_types.specs.declared.limits.TheConstants.{BIGBLOCK_BYTES, GREATEST_ID};
 ghost use Rattle.hm_btree.specs.Tree.{HoldsTree, told_elements};
 ghost use Rattle.hm_key.specs.Charges.{Charges};
@@ -14,13 +15,14 @@ ghost use Rattle.hm_cursor.specs.Told.{HasReadingCause};
 ghost use Rattle.hm_model.specs.After.{Event};
 ghost use Rattle.hm_model.specs.Caused.{Counts};
 ghost use Rattle.hm_model.specs.Foreign.{Foreigners};
-ghost use Rattle.hm_model.specs.Legal.{IsLegal};
+ghost use Rattle.hm_model.specs.Legal.{IsLegal, entries_of};
 ghost use Rattle.hm_model.specs.Needs.{floor};
 ghost use Rattle.hm_model.specs.Sites.{Parsed, ReadsWords};
 ghost use Rattle.hm_model.specs.Volume.{Volume};
 ghost use Rattle.hm_model.specs.declared.command.Command.{Command};
 ghost use Rattle.hm_model.specs.declared.command.Command.TheVariants.{Df};
 ghost use Rattle.hm_model.specs.declared.entry.Entry.{Entry};
+ghost use Rattle.hm_model.specs.declared.reply.Reply.TheVariants.{Synced};
 ghost use Rattle.hm_image.specs.StandFor.{StandFor};
 ghost use Rattle.hm_stored.specs.Content.{DropsContent, KeepsContent, OpensContent};
 ghost use Rattle.hm_stored.specs.Heap.{Heap, content_of, extents_in, pages_of};
@@ -30,8 +32,10 @@ ghost use Rattle.hm_stored.specs.Told.{elements_told};
 ghost use Rattle.hm_core.specs.Calls.{Fails, IsNextCall, Serves};
 ghost use Rattle.hm_core.specs.Core.{GoesOn};
 ghost use Rattle.hm_core.specs.Counts.{AreLater};
-ghost use Rattle.hm_core.specs.History.{IsLegalBeyond, IsLegalOver, setting_of};
+ghost use Rattle.hm_core.specs.History.{IsLegalBeyond, IsLegalOver, setting_of, up_to};
+ghost use Rattle.hm_core.specs.Inside.{AreDrawnBy, AreUpTo};
 ghost use Rattle.hm_core.specs.Ledger.{IsPaid};
+ghost use Rattle.hm_core.specs.Served.{IsServed, IsSync};
 ghost use Rattle.hm_core.specs.State.{CoreState};
 ghost use Rattle.hm_core.specs.Told.{ArePages, HoldsSame, HoldsTold, OpensStore, TellsFailure, TellsHeld, TellsSpace, reply_to};
 ghost use Rattle.hm_state.specs.Volume.{HoldsVolume};
@@ -87,6 +91,41 @@ pub fn a_call_that_tells_space_goes_on()
         AreLater faults faults' → last < GREATEST_ID → entry.call ≡ Df → entry.id.0 ≡ last + 1 →
         TellsSpace free history h entry.reply →
         IsLegalBeyond free start faults' (history ++ entry ∷ []) h root (last + 1) opening foreigners events }
+{}
+
+/// A sync: the same, where the boundary that it tells was drawn, and each one that the history told is at
+/// most this one.
+pub fn a_sync_goes_on()
+    ensures { (free : ℕ) (start faults faults' : Counts) (history : List Entry) (h : Heap)
+        (root last : ℕ) (opening : Volume) (foreigners : Foreigners) (events : List Event)
+        (entry : Entry) (boundary : Id) →
+        IsLegalOver free start faults history h root last opening foreigners events →
+        AreLater faults faults' → last < GREATEST_ID → IsSync entry.call → entry.id.0 ≡ last + 1 →
+        entry.reply ≡ Synced boundary → boundary.0 ≤ last → AreUpTo boundary.0 history →
+        IsLegalBeyond free start faults' (history ++ entry ∷ []) h root (last + 1) opening foreigners events }
+{}
+
+/// Any call that is asked and was refused, since a stage of a flush that was made for it failed: the
+/// same, where the device failed or memory was refused, and the space that came of it holds what the one
+/// before held.
+pub fn a_refused_call_goes_on()
+    ensures { (free : ℕ) (start faults faults' : Counts) (history : List Entry) (h h' : Heap)
+        (root root' last : ℕ) (opening : Volume) (foreigners : Foreigners) (events : List Event)
+        (entry : Entry) →
+        IsLegalOver free start faults history h root last opening foreigners events →
+        AreLater faults faults' → last < GREATEST_ID → IsServed entry.call → entry.id.0 ≡ last + 1 →
+        Fails faults.disk faults'.disk entry h h' root root' →
+        IsLegalBeyond free start faults' (history ++ entry ∷ []) h' root' (last + 1) opening foreigners events }
+{}
+
+/// Once a call was entered, the events of the history up to any earlier id are those of before; and before
+/// it those up to the last id were all.
+pub fn events_of_before_stay()
+    ensures stay { (last id : ℕ) (history : List Entry) (events more : List Event) (entry : Entry) →
+        entries_of events ≡ history → entries_of (events ++ more) ≡ history ++ entry ∷ [] →
+        entry.id.0 ≡ last + 1 → id ≤ last → up_to id (events ++ more) ≡ up_to id events }
+    ensures all { (last : ℕ) (history : List Entry) (events : List Event) →
+        entries_of events ≡ history → AreDrawnBy last history → up_to last events ≡ events }
 {}
 
 /// A fault of a call over a store that tells what a space holds is one of the device or of memory,

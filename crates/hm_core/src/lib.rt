@@ -1,4 +1,4 @@
-//! The core: making and mounting a volume, its calls, the history of a run, and the end of its use.
+//! The core: making and mounting a volume, its calls, the history of a run, and the flush that makes it last.
 #![tactic(auto)]
 
 mod asked;
@@ -12,17 +12,17 @@ mod opening;
 mod served;
 mod slots;
 mod space;
+mod staged;
+mod stages;
 mod step;
 mod steps;
 mod volume;
-mod write;
-mod write_back;
 
 pub use calls::answer_over;
 pub use fault::OpenFault;
 pub use opening::newfs;
 pub use served::is_served;
 pub use space::tell_space;
+pub use staged::Staged;
 pub use step::Step;
 pub use volume::Core;
-pub use write::write_pages;

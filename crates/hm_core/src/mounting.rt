@@ -1,5 +1,5 @@
 // The space of a volume that is mounted.
-ghost use Rattle.std.specs.Prelude.{◌≤◌, IfErr, IfOk, IfSome};
+ghost use Rattle.std.specs.Prelude.{◌≡◌, ◌≤◌, IfErr, IfOk, IfSome};
 ghost use Rattle.hm_types.specs.Faults.{IsCaused};
 ghost use Rattle.hm_header.specs.Range.{IsHeader};
 ghost use Rattle.hm_stored.specs.Space.{heap};
@@ -24,6 +24,7 @@ pub(crate) fn open_space<D: Disk>(
 ) -> Result<(Space<D>, u32), (D, Fault)>
     requires header { IsHeader header.now }
     requires counts { IfSome (D.told disk) (IsHeaderOn header.now) }
+    requires unarmed { header.now.undo_count ≡ 0 }
     ensures ok { IfOk result (λ opened. IsReadFrom (D.told disk) header.now opened.1 (heap opened.0)) }
     ensures faults { IfOk result (λ opened. D.faults disk ≤ D.faults opened.0.disk) }
     ensures err { IfErr result (λ e. IsNotMounted (D.told disk) (D.told e.0) (of_disk e.1)) }

@@ -10,6 +10,7 @@ use crate::mounting::open_space;
 use crate::slots::{disk_fault, read_header};
 use crate::volume::Core;
 use hm_disk::Disk;
+use hm_flush::Flusher;
 use hm_newfs::write_volume;
 use hm_stored::Stored;
 use hm_types::{BIGBLOCK_BYTES, Failed};
@@ -44,7 +45,8 @@ pub fn newfs<D: Disk>(disk: &mut D, bigblocks: u32) -> Result<(), OpenFault>
 impl<D: Disk, I, O> Core<D, I, O> {
     /// Opens the volume on a disk, and keeps two streams for it. It reads both header slots, the
     /// freemap, the tree and each payload, and writes nothing. An error hands back the disk and the
-    /// streams, and says why: that the disk has no volume, that a field of its header is out of range,
+    /// streams, and says why: that the disk has no volume, that a field of its header is out of range, or
+    /// that it names entries of the UNDO log (`BadField` with place 44: recovery is not served yet),
     /// the first damage of its freemap or its tree, a fault of reading, or want of memory.
     pub fn mount(
         alloc: Global,
@@ -69,8 +71,7 @@ impl<D: Disk, I, O> Core<D, I, O> {
                 alloc,
                 input,
                 output,
-                header,
-                slot,
+                flusher: Flusher::new(&header, slot),
                 last: header.last,
                 first: header.last,
                 free,

@@ -1,10 +1,11 @@
 // Which commands are served.
 ghost use Rattle.std.specs.Prelude.{◌↔◌, IsTrue};
-ghost use Rattle.hm_core.specs.Served.{IsServed};
+ghost use Rattle.hm_core.specs.Served.{IsServed, IsSync};
 
 use hm_model::Command;
 
-/// Whether a core serves a command: the calls on names and on the bytes of files, and `df`.
+/// Whether a core serves a command: the calls on names and on the bytes of files, `df`, `sync` and
+/// `synctid`.
 pub fn is_served(command: &Command) -> bool
     ensures { IsTrue result ↔ IsServed command.now }
 {
@@ -26,5 +27,14 @@ pub fn is_served(command: &Command) -> bool
             | Command::Stat { .. }
             | Command::Readlink { .. }
             | Command::Df
+            | Command::Sync
+            | Command::Synctid
     )
+}
+
+/// Whether a command is a sync, which waits until all that was answered before it is committed.
+pub(crate) fn is_sync(command: &Command) -> bool
+    ensures { IsTrue result ↔ IsSync command.now }
+{
+    matches!(command, Command::Sync | Command::Synctid)
 }

@@ -13,17 +13,25 @@ use hm_disk::Disk;
 use hm_header::{Header, HeaderFault};
 use hm_types::{Failed, Fault};
 
-/// The header of the slot that counts, and the slot's number, 0 or 1.
+// Where the number of UNDO entries that the header names stands in a slot, in bytes.
+const UNDO_COUNT_PLACE: u32 = 44;
+
+/// The header of the slot that counts, and the slot's number, 0 or 1. One that names entries of the
+/// UNDO log is refused as a bad field: the bytes below it may be half of one state and half of another.
 pub(crate) fn read_header<D: Disk>(disk: &mut D) -> Result<(Header, u8), OpenFault>
     ensures header { IfOk result (λ answer. IsHeader answer.0 × (answer.1 ≤ 1)) }
     ensures chosen { IfOk result
         (λ answer. IfSome (D.told disk.old) (λ t. HasHeader t.bytes answer.0 answer.1)) }
+    ensures unarmed { IfOk result (λ answer. answer.0.undo_count ≡ 0) }
     ensures err { IfErr result (IsNotMounted (D.told disk.old) (D.told disk.new)) }
     ensures same { D.told disk.new ≡ D.told disk.old }
     ensures cause { HasOpenCause (D.faults disk.old) (D.faults disk.new) result }
 {
     let before = disk.faults();
     match hm_header::read_header(disk) {
+        Ok(Ok((header, _))) if header.undo_count != 0 => Err(OpenFault::BadField {
+            place: UNDO_COUNT_PLACE,
+        }),
         Ok(Ok(answer)) => Ok(answer),
         Ok(Err(fault)) => Err(slots_fault(fault)),
         Err(Failed) => Err(disk_fault(disk, before)),

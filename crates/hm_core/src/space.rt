@@ -16,8 +16,8 @@ use hm_types::first_pool;
 /// and how many of them are free. Each page of layer 2 is read once a state.
 pub fn tell_space<D: Disk>(stored: &mut Stored<D>) -> Reply
     requires closed { IsClosed (heap stored.old.space) }
-    ensures answers { (last : ℕ) → last < GREATEST_ID →
-        Answers (D.faults stored.old.space.disk) (D.faults stored.new.space.disk) last Df
+    ensures answers { (boundary last : ℕ) → last < GREATEST_ID →
+        Answers boundary (D.faults stored.old.space.disk) (D.faults stored.new.space.disk) last Df
         (heap stored.old.space) (heap stored.new.space) stored.old.root stored.new.root result }
 {
     let bigblocks = stored.space().books().bigblocks;

@@ -1,21 +1,23 @@
-// The steps of a core.
-ghost use Rattle.std.specs.Prelude.{◌≡◌, ◌≤◌};
-ghost use Rattle.hm_core.specs.Core.{LeavesDevices, Steps};
+// The calls of a core.
+ghost use Rattle.std.specs.Prelude.{◌≡◌, ◌≤◌, ◌↔◌, IsTrue};
+ghost use Rattle.hm_core.specs.Core.{LeavesDevices, NeedsFlush, Steps};
 ghost use Rattle.hm_core.specs.Inside.{AreUpTo};
 ghost use Rattle.hm_core.specs.Seen.{devices, seen};
 ghost use Rattle.hm_core.specs.Served.{IsAsked};
 
 use crate::asked::answer_asked;
+use crate::served::is_sync;
 use crate::step::Step;
 use crate::volume::Core;
 use hm_disk::Disk;
 use hm_model::{Command, Entry};
-use hm_types::{GREATEST_ID, Id};
+use hm_types::{FULL_GROUP_PAGES, GREATEST_ID, Id};
 
 impl<D: Disk, I, O> Core<D, I, O> {
-    /// Answers a call and enters it in the history, with the next id. Where no id is left it does
-    /// nothing. The history must have room for two entries. `since` is the last id when the call began: a
-    /// boundary that the reply tells is no earlier, but no reply of the calls that are served tells one.
+    /// Answers a call and enters it in the history, with the next id. Where no id is left, or the call
+    /// must wait for a flush, it does nothing. The history must have room for two entries. `since` is
+    /// the last id when the call began: a sync is answered once the boundary, which it tells, is no
+    /// earlier.
     pub fn call(&mut self, lane: u8, line: u32, since: Id, command: Command) -> Step
         requires room { 2 ≤ (seen self.old).spare }
         requires since { since.0 ≤ (seen self.old).last }
@@ -26,7 +28,16 @@ impl<D: Disk, I, O> Core<D, I, O> {
         if self.last.0 == GREATEST_ID {
             return Step::Spent;
         }
-        let reply = answer_asked(self.alloc, &mut self.stored, &command, self.last);
+        if self.must_flush(since, &command) {
+            return Step::MustFlush(command);
+        }
+        let reply = answer_asked(
+            self.alloc,
+            &mut self.stored,
+            &self.flusher,
+            &command,
+            self.last,
+        );
         let id = Id(self.last.0 + 1);
         let place = self.history.len();
         self.last = id;
@@ -40,6 +51,14 @@ impl<D: Disk, I, O> Core<D, I, O> {
         Step::Answered(place)
     }
 
+    // Whether a call waits for a flush.
+    fn must_flush(&self, since: Id, command: &Command) -> bool
+        ensures { IsTrue result ↔ NeedsFlush (seen self.now) since.0 command.now }
+    {
+        self.stored.space().group_len() >= FULL_GROUP_PAGES
+            || (is_sync(command) && self.boundary().0 < since.0)
+    }
+
     /// The last id that was drawn.
     pub fn last(&self) -> Id
         ensures { result.0 ≡ (seen self.now).last }
@@ -47,12 +66,13 @@ impl<D: Disk, I, O> Core<D, I, O> {
         self.last
     }
 
-    /// The last id on the disk: no reply told a later one as a boundary, and it is at most the last id.
+    /// The last id that is committed: no reply told a later one as a boundary, and it is at most the last
+    /// id.
     pub fn boundary(&self) -> Id
         ensures is { result.0 ≡ (seen self.now).boundary }
         ensures told { AreUpTo result.0 (seen self.now).history }
         ensures drawn { result.0 ≤ (seen self.now).last }
     {
-        self.header.last
+        self.flusher.boundary()
     }
 }

@@ -5,7 +5,7 @@ ghost use Rattle.hm_core.specs.Counts.{disk_counts};
 ghost use Rattle.hm_core.specs.Inside.{IsInOrder};
 
 use hm_disk::Disk;
-use hm_header::Header;
+use hm_flush::Flusher;
 use hm_model::Entry;
 use hm_stored::Stored;
 use hm_types::Id;
@@ -15,21 +15,20 @@ use std::alloc::Global;
 /// only keeps.
 ///
 /// The volume is read as it is mounted. Payloads are written at the call that makes them, where nothing
-/// stood, and all else once, by `finish`.
+/// stood, and all else by a flush, stage by stage, between any two calls.
 #[derive(Drop)]
 pub struct Core<D: Disk, I, O> {
     pub(crate) alloc: Global,
     pub(crate) stored: Stored<D>,
     pub(crate) input: I,
     pub(crate) output: O,
-    pub(crate) header: Header,
-    pub(crate) slot: u8,
+    pub(crate) flusher: Flusher,
     pub(crate) last: Id,
     pub(crate) first: Id,
     pub(crate) free: u32,
     pub(crate) start: u64,
     pub(crate) history: Vec<Entry>,
-    ghost ordered: { ∥ IsInOrder header slot last.0 free (heap stored.space) history.items ∥₁ },
+    ghost ordered: { ∥ IsInOrder flusher last.0 free (heap stored.space) history.items ∥₁ },
     ghost caused: { ∥ IsCausedFrom first.0 (disk_counts start)
         (disk_counts (D.faults stored.space.disk)) last.0 history.items ∥₁ },
 }

@@ -17,7 +17,7 @@ use Rattle.hm_core.proofs.mounting.open_space.Goals as goal
 pub returns-in-Err-clause-err : goal.returns-in-Err-clause-err
 returns-in-Err-clause-err g c =
     not_loaded (g.D.Disk.told c.args.disk) (g.D.Disk.told c.load.new.disk) c.args.header.now c.in-Err.fault c.load.ensures.same
-    c.requires.counts c.in-Err.ensures.sound c.in-Err.ensures.damage
+    c.requires.unarmed c.requires.counts c.in-Err.ensures.sound c.in-Err.ensures.damage
 
 pub over-space-requires-clause-closed : goal.over-space-requires-clause-closed
 over-space-requires-clause-closed g c =
@@ -40,8 +40,8 @@ over-space-requires-clause-placed g c =
 pub returns-in-Ok-free_blocks-clause-ok : goal.returns-in-Ok-free_blocks-clause-ok
 returns-in-Ok-free_blocks-clause-ok g c =
     read_from c.args.header.now (contents c.in-Ok.store) c.of.result c.in-Ok.ensures.loaded c.of.ensures (g.D.Disk.told c.args.disk)
-    (g.D.Disk.told c.load.new.disk) _ _ c.in-Ok-free_blocks.free c.pages_are_bytes.ensures c.requires.counts c.in-Ok.ensures.holds c.load.ensures.same
-    c.over-space.ensures.heap c.free_blocks.ensures.same c.in-Ok-free_blocks.ensures.ok
+    (g.D.Disk.told c.load.new.disk) _ _ c.in-Ok-free_blocks.free c.pages_are_bytes.ensures c.requires.unarmed c.requires.counts c.in-Ok.ensures.holds
+    c.load.ensures.same c.over-space.ensures.heap c.free_blocks.ensures.same c.in-Ok-free_blocks.ensures.ok
 
 pub returns-in-Err-free_blocks-clause-err : goal.returns-in-Err-free_blocks-clause-err
 unfolding heap_of

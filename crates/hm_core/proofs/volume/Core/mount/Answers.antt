@@ -1,6 +1,7 @@
-use Rattle.std.proofs.Common.{◌≡◌, ℕ, ◌≤◌, List, Option, refl, sym, subst, ap, ◌∙◌, arith}
+use Rattle.std.proofs.Common.{◌≡◌, ℕ, ◌≤◌, List, [], Option, refl, sym, subst, ap, ◌∙◌, arith}
 use Rattle.std.specs.Prelude.{IfSome}
 use Rattle.hm_disk.specs.Crash.{Told}
+use Rattle.hm_flush.specs.declared.flush.Flush.{Flush}
 use Rattle.hm_header.specs.OnDisk.{HasHeader}
 use Rattle.hm_header.specs.Range.{IsRoot}
 use Rattle.hm_model.specs.declared.entry.Entry.{Entry}
@@ -27,10 +28,13 @@ invariant_of-result g c =
     let start : c.faults.result ≡ g.D.Disk.faults s.disk =
     c.faults.ensures ∙ ap g.D.Disk.faults c.disk.ensures ∙ sym (ap (λ x. g.D.Disk.faults x.disk) c.over.ensures.space) in
     record {
-      ordered = ∣ subst (λ (l : List Entry). IsInOrder header slot header.last.0 free h l) (sym c.new.ensures.items)
-          (ordered_first (g.D.Disk.told c.read_header.new.disk) header slot free h c.in-Ok.ensures.header.0 c.in-Ok.ensures.header.1
-          (subst (λ (told : Option Told). IfSome told (λ t. HasHeader t.bytes header slot)) (sym c.read_header.ensures.same) c.in-Ok.ensures.chosen) read) ∣₁;
-      caused = ∣ caused_first header.last.0 (disk_counts c.faults.result) (disk_counts (g.D.Disk.faults s.disk)) header.last.0 _ c.new.ensures.items
+      ordered = ∣ subst (λ (l : List Entry). IsInOrder c.new.result header.last.0 free h l) (sym c.new-in-Ok-open_space.ensures.items)
+          (subst (λ (f : Flush). IsInOrder f header.last.0 free h []) (sym c.new.ensures)
+          (ordered_first (g.D.Disk.told c.read_header.new.disk) header slot free h c.in-Ok.ensures.header.0
+          (subst (λ (told : Option Told). IfSome told (λ t. HasHeader t.bytes header slot)) (sym c.read_header.ensures.same) c.in-Ok.ensures.chosen)
+          read)) ∣₁;
+      caused = ∣ caused_first header.last.0 (disk_counts c.faults.result) (disk_counts (g.D.Disk.faults s.disk)) header.last.0 _
+          c.new-in-Ok-open_space.ensures.items
           (disk_later (disk_counts 0) c.faults.result (g.D.Disk.faults s.disk) (omega (arith, start))) refl ∣₁;
     }
 
@@ -55,4 +59,5 @@ returns-in-Ok-open_space-clause-ok g c =
     c.in-Ok-open_space.ensures.ok) in
     let counted : g.D.Disk.faults c.args.disk ≤ g.D.Disk.faults s.disk =
     omega (arith, c.read_header.ensures.cause.never_falls, c.in-Ok-open_space.ensures.faults, same) in
-    is_mounted _ c.new.ensures.items c.over.ensures.root (refl, refl, refl) (ap disk_counts start) old (g.D.Disk.faults c.args.disk) counted c.in-Ok.ensures.chosen read
+    is_mounted _ header c.in-Ok.answer.1 c.new.ensures c.new-in-Ok-open_space.ensures.items c.over.ensures.root (refl, refl) refl
+    (ap disk_counts start) old (g.D.Disk.faults c.args.disk) counted c.in-Ok.ensures.unarmed c.in-Ok.ensures.chosen read

@@ -1,0 +1,106 @@
+-- Once all is committed, the disk stands for the volume; and the last stage of a flush leaves nothing unsettled.
+use Rattle.std.proofs.Common.{◌≡◌, ◌≢◌, ℕ, ◌+◌, List, [], Option, None, Some, Result, Ok, Err, refl, ap, subst, ◌∙◌, arith, inr, Bool, true, false, sym, true≢false}
+use Rattle.std.specs.Prelude.{◌↔◌, IfSome, IsTrue}
+use Rattle.hm_types.specs.Told.{BothTell}
+use Rattle.hm_types.specs.declared.fault.Fault.{Fault}
+use Rattle.hm_disk.specs.Crash.{Told}
+use Rattle.hm_disk.specs.Moments.{LeftSince}
+use Rattle.hm_header.specs.declared.header.Header.{Header}
+use Rattle.hm_header.specs.OnDisk.{HasHeader}
+use Rattle.hm_flush.specs.declared.change.Change.{Change}
+use Rattle.hm_flush.specs.declared.change.Change.TheVariants.{Close, Write, Open}
+use Rattle.hm_flush.specs.declared.flush.Flush.{Flush}
+use Rattle.hm_flush.specs.declared.flush.Position.{Position}
+use Rattle.hm_flush.specs.declared.flush.Position.TheVariants.{Idle, Undoing, Arming, Placing, Committing}
+use Rattle.hm_flush.specs.declared.stage.Stage.{Stage}
+use Rattle.hm_flush.specs.Calls.{FlushStands, HeaderStands, IsMoved, LeftFalls, StageSucceeds}
+use Rattle.hm_flush.specs.Ends.{StageDoes, StageTells, as_read}
+use Rattle.hm_flush.specs.Flush.{IsFlush, left, left_at}
+use Rattle.hm_flush.specs.Group.{Group, group_of}
+use Rattle.hm_flush.specs.Stages.{due_stage, due_stage_at, is_synced}
+use Rattle.hm_model.specs.After.{Event}
+use Rattle.hm_model.specs.Foreign.{Foreigners}
+use Rattle.hm_model.specs.Volume.{Volume}
+use Rattle.hm_image.specs.Stands.{StandsFor}
+use Rattle.hm_pages.specs.Store.{Store}
+use Rattle.hm_state.proofs.RecoveredVolumeLemmas.{idle_stands}
+use Rattle.hm_core.specs.Core.{HoldsUpTo, StandsOver}
+use Rattle.hm_core.specs.Finished.{IsCommittedOn}
+use Rattle.hm_core.specs.History.{up_to, volume_of}
+use Rattle.hm_core.specs.Inside.{AreDrawnBy}
+use Rattle.hm_core.specs.Staged.{EndsBy, IsFlushed, MakesStage}
+use Rattle.hm_core.specs.State.{CoreState}
+use Rattle.hm_core.proofs.KeptLemmas.{if_told}
+use Rattle.hm_core.proofs.UpToLemmas.{up_to_all}
+
+module _ (core : CoreState) (flushed : IsFlushed core) (same : core.boundary ≡ core.flush.header.last.0) (sound : IsFlush core.flush)
+    (drawn : AreDrawnBy core.last core.history) where
+  -- what is committed is all
+  all_up_to : (opening : Volume) (foreigners : Foreigners) (events : List Event) → StandsOver core opening foreigners events
+      → volume_of opening foreigners (up_to core.flush.header.last.0 events) ≡ volume_of opening foreigners events
+  all_up_to opening foreigners events stands =
+      ap (λ (id : ℕ). volume_of opening foreigners (up_to id events)) (sym same ∙ flushed.last)
+      ∙ ap (λ (es : List Event). volume_of opening foreigners es) (up_to_all core.last core.history events stands.legal.entries drawn)
+
+  counts_now : (t : Told) → FlushStands core.flush t → HasHeader t.bytes core.flush.header core.flush.slot
+  counts_now t stands = subst (λ (p : Position). HeaderStands p core.flush t) flushed.idle stands.header
+
+  pub committed_on : IfSome core.heap.disk (FlushStands core.flush) → IfSome core.heap.disk (IsCommittedOn core)
+  committed_on stands = by core.heap.disk refl stands where
+    by : (o : Option Told) → core.heap.disk ≡ o → IfSome o (FlushStands core.flush) → IfSome o (IsCommittedOn core)
+    by None is here = tt
+    by (Some t) is here = record {
+      counts = counts_now t here;
+      volume = λ opening foreigners events over.
+          let held : HoldsUpTo core opening foreigners events (as_read t) =
+          subst (λ (o : Option Told). IfSome o (λ u. HoldsUpTo core opening foreigners events (as_read u))) is over.read in
+          subst (λ (v : Volume). StandsFor t.bytes v) (all_up_to opening foreigners events over)
+          (idle_stands core.flush sound core.heap (as_read t) (volume_of opening foreigners (up_to core.flush.header.last.0 events))
+          (volume_of opening foreigners (up_to core.flush.target.last.0 events)) held flushed.idle);
+    }
+
+-- one stage is left before the last one alone, and that ends with a sync
+last_synced : (p : Position) (f : Flush) (g : Group) → left_at p f ≡ 1 → is_synced (due_stage_at p f g) ≡ true
+last_synced Idle f g one = absurd (omega (arith, one))
+last_synced (Undoing from) f g one = absurd (omega (arith, one))
+last_synced (Arming Close) f g one = absurd (omega (arith, one))
+last_synced (Arming Write) f g one = absurd (omega (arith, one))
+last_synced (Arming (Open tried)) f g one = absurd (omega (arith, one))
+last_synced (Placing i) f g one = absurd (omega (arith, one))
+last_synced (Committing Close) f g one = absurd (omega (arith, one))
+last_synced (Committing Write) f g one = absurd (omega (arith, one))
+last_synced (Committing (Open tried)) f g one = refl
+
+-- one was left, where none is left after it
+one : (f f' : Flush) (p : Position) → f.at ≡ p → left f' + 1 ≡ left f → f'.at ≡ Idle → left_at p f ≡ 1
+one f f' p here falls idle =
+    let none : left f' ≡ 0 = ap (λ (q : Position). left_at q f') idle in
+    ap (λ (q : Position). left_at q f) (sym here) ∙ (sym falls ∙ ap (λ (n : ℕ). n + 1) none)
+
+-- a stage after which no flush is in flight was the last one
+ends_synced : (p : Position) (now : Header) (stage : Stage) (f f' : Flush) (s s' : Store) → f.at ≡ p → IsMoved p now stage s' f f' → LeftFalls p s' f f'
+    → f'.at ≡ Idle → is_synced (due_stage_at p f (group_of s)) ≡ true
+ends_synced Idle now stage f f' s s' here moved falls idle = absurd (begun (ap (λ (x : Flush). x.at) (sym moved) ∙ idle)) where
+  begun : Undoing 0 ≡ Idle → ⊥
+  begun same = absurd cc
+ends_synced (Undoing from) now stage f f' s s' here moved falls idle = last_synced (Undoing from) f (group_of s) (one f f' (Undoing from) here falls idle)
+ends_synced (Arming change) now stage f f' s s' here moved falls idle = last_synced (Arming change) f (group_of s) (one f f' (Arming change) here falls idle)
+ends_synced (Placing i) now stage f f' s s' here moved falls idle = last_synced (Placing i) f (group_of s) (one f f' (Placing i) here falls idle)
+ends_synced (Committing change) now stage f f' s s' here moved falls idle =
+    last_synced (Committing change) f (group_of s) (one f f' (Committing change) here falls idle)
+
+pub stage_settles : (now : Header) (stage : Stage) (f f' : Flush) (s s' : Store) (past since : LeftSince) (old new : Option Told)
+    → StageSucceeds now stage f f' s s' → f'.at ≡ Idle → (result : Result Stage Fault) → result ≡ Ok stage
+    → BothTell old new (StageTells f f' s s' result past since) → IfSome new (λ t. t.unsettled ≡ [])
+stage_settles now stage f f' s s' past since None None succeeds idle result is tells = tt
+stage_settles now stage f f' s s' past since None (Some t) succeeds idle result is tells = absurd tells
+stage_settles now stage f f' s s' past since (Some u) None succeeds idle result is tells = absurd tells
+stage_settles now stage f f' s s' past since (Some u) (Some t) succeeds idle result is tells =
+    (subst (λ (r : Result Stage Fault). StageDoes f (group_of s) r u t) is tells.does).settled
+    (ends_synced f.at now stage f f' s s' refl succeeds.flush succeeds.left idle)
+
+-- what a stage of the last flush tells
+pub ends_by : (old new : CoreState) (all : Bool) → (IsTrue all ↔ IsFlushed new) → (IsFlushed old → ⊥) → MakesStage old new
+    → (IsFlushed new → IfSome new.heap.disk (λ t. t.unsettled ≡ [])) → EndsBy old new (Ok all)
+ends_by old new true tells not_yet makes settled = (tells.0 refl, inr (record { makes = makes; settled = settled (tells.0 refl) }))
+ends_by old new false tells not_yet makes settled = (not_yet, λ flushed. absurd (true≢false (sym (tells.1 flushed))), makes)

@@ -1,0 +1,38 @@
+-- A sync tells what is committed, and leaves the space.
+use Rattle.std.proofs.Common.{◌≡◌, ℕ, ◌<◌, refl, sym, subst, arith}
+use Rattle.hm_types.specs.declared.id.Id.{Id}
+use Rattle.hm_types.specs.declared.limits.TheConstants.{GREATEST_ID}
+use Rattle.hm_model.specs.declared.command.Command.{Command}
+use Rattle.hm_model.specs.declared.reply.Reply.TheVariants.{Synced}
+use Rattle.hm_stored.specs.Heap.{Heap, free_of, room_of}
+use Rattle.hm_stored.specs.Turn.{IsClosed}
+use Rattle.hm_core.specs.Answer.{Answers}
+use Rattle.hm_core.specs.Counts.{with_disk}
+use Rattle.hm_core.specs.Served.{IsSync}
+use Rattle.hm_core.proofs.AnswerLemmas.{paid_later}
+use Rattle.hm_core.proofs.CausedLemmas.{sync_goes_on}
+use Rattle.hm_core.proofs.CountLemmas.{later_same}
+use Rattle.hm_core.proofs.KeptLemmas.{kept_same}
+use Rattle.hm_core.proofs.SpaceLemmas.{sync_told}
+
+pub sync_answers : (boundary : Id) (faults last : ℕ) (command : Command) (h : Heap) (root : ℕ) → IsSync command → IsClosed h → last < GREATEST_ID
+    → Answers boundary.0 faults faults last command h h root root (Synced boundary)
+sync_answers boundary faults last command h root sync closed left = record {
+  closed = closed;
+  counted = omega arith;
+  told = (sync, refl);
+  flush = kept_same h h (record {
+    bigblocks = refl;
+    disk = refl;
+    pages = record { committed = refl; frozen = refl; frozen_group = refl; boundary = refl };
+    committed = refl;
+    frozen = refl;
+  });
+  paid = λ first calls paid. paid_later first (free_of h) calls (room_of h) paid;
+  caused = λ first start counts history entry is told before so_far.
+      sync_goes_on first start (with_disk counts faults) (with_disk counts faults) last history so_far (later_same (with_disk counts faults)) entry left is.own
+      (subst IsSync (sym is.call_is) sync) boundary is.reply_is before told;
+  legal = λ first start counts history opening foreigners events entry least is told before so_far.
+      sync_told first start (with_disk counts faults) (with_disk counts faults) history h root last opening foreigners events so_far
+      (later_same (with_disk counts faults)) left entry boundary (subst IsSync (sym is.call_is) sync) is.own is.reply_is before told;
+}
