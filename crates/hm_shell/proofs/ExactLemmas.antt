@@ -19,7 +19,7 @@ use Rattle.hm_model.specs.declared.line.Line.{Line}
 use Rattle.hm_model.specs.Lines.{texts_of}
 use Rattle.hm_model.specs.Script.{IsTooLong}
 use Rattle.hm_model.specs.Volume.{Volume, fresh}
-use Rattle.hm_core.specs.Opened.{HasDamage, IsFailure, IsMade, IsNotMade, IsNotMounted, IsTooSmall}
+use Rattle.hm_core.specs.Opened.{HasDamage, IsArmed, IsFailure, IsMade, IsNotMade, IsNotMounted, IsTooSmall}
 use Rattle.hm_core.specs.declared.fault.OpenFault.{OpenFault}
 use Rattle.hm_core.specs.declared.fault.OpenFault.TheVariants.{BadField as bad_field, Fault as of_disk, NotVolume as no_volume}
 use Rattle.hm_shell.specs.declared.stop.Stop.{Stop}
@@ -93,6 +93,12 @@ whole_has_none bytes at kind whole damaged =
     (chosen_is_one (first_slot bytes) (second_slot bytes) (length bytes) damaged.header whole.header damaged.slot whole.slot damaged.counts whole.counts).0 in
     whole_is_undamaged bytes whole.header at kind whole.whole (subst (λ h. IsDamage bytes h at kind) same damaged.damage)
 
+-- a header that names no entries is the one that counts
+not_armed : (bytes : List ℕ) (header : Header) (slot : ℕ) → HasHeader bytes header slot → header.undo_count ≡ 0 → IsArmed bytes → ⊥
+not_armed bytes header slot counts zero armed =
+    let same = chosen_is_one (first_slot bytes) (second_slot bytes) (length bytes) armed.header header armed.slot slot armed.counts counts in
+    armed.armed (ap (λ (h : Header). h.undo_count) same.0 ∙ zero)
+
 -- the statuses that a whole disk brings are some of those that any disk with a header does
 wider : (status : ℕ) → Contains (0 ∷ 4 ∷ 5 ∷ 6 ∷ 7 ∷ []) status → Contains (0 ∷ 4 ∷ 5 ∷ 6 ∷ 7 ∷ 10 ∷ []) status
 wider status has = Contains-append_left (0 ∷ 4 ∷ 5 ∷ 6 ∷ 7 ∷ []) (10 ∷ []) status has
@@ -102,10 +108,11 @@ any_disk : (newfs : Option ℕ) (t : Told) (status : ℕ) → Contains (3 ∷ 4 
     → Contains (10 ∷ 4 ∷ 5 ∷ 7 ∷ []) status → DiskBrings newfs t status
 any_disk None t status three whole ten = record {
   none = λ _ _. three;
+  armed = λ _. three;
   damaged = λ _ _ _. ten;
-  stands = λ _ _. whole;
+  stands = λ _ _ _. whole;
   whole = λ _. whole;
-  headed = λ _ _ _. wider status whole;
+  headed = λ _ _ _ _. wider status whole;
 }
 any_disk (Some size) t status three whole ten = record { small = λ _. three; made = λ _. whole }
 
@@ -123,10 +130,11 @@ opened_brings : (newfs : Option ℕ) (disk opened : Option Told) (status : ℕ) 
     → IfSome disk (λ t. DiskBrings newfs t status)
 opened_brings None disk opened status opens has = each_gives disk (λ t. HasWhole t.bytes) (λ t. OldBrings t status) (λ t whole. record {
   none = λ fault is. absurd (headed_has_none t.bytes whole.header whole.slot fault whole.counts is);
+  armed = λ is. absurd (not_armed t.bytes whole.header whole.slot whole.counts whole.unarmed is);
   damaged = λ at kind is. absurd (whole_has_none t.bytes at kind whole is);
-  stands = λ _ _. has;
+  stands = λ _ _ _. has;
   whole = λ _. has;
-  headed = λ _ _ _. wider status has;
+  headed = λ _ _ _ _. wider status has;
 }) opens.1
 opened_brings (Some size) disk opened status opens has = both_gives disk opened (IsMade size) (λ t. NewBrings size t status) (λ s t made. record {
   small = λ small. absurd (made.room small);
@@ -134,23 +142,38 @@ opened_brings (Some size) disk opened status opens has = both_gives disk opened 
 }) opens
 
 -- with a disk that has no volume
-none_brings : (t : Told) (fault : HeaderFault) → HasFault t.bytes fault → ((volume : Volume) → StandsFor t.bytes volume → ⊥) → OldBrings t 3
+none_brings : (t : Told) (fault : HeaderFault) → HasFault t.bytes fault → ((volume : Volume) → StandsFor t.bytes volume → ¬ IsArmed t.bytes → ⊥)
+    → OldBrings t 3
 none_brings t fault is never = record {
   none = λ _ _. (0, lit< tt, refl);
+  armed = λ _. (0, lit< tt, refl);
   damaged = λ at kind damaged. absurd (headed_has_none t.bytes damaged.header damaged.slot fault damaged.counts is);
-  stands = λ volume stands. absurd (never volume stands);
+  stands = λ volume stands unarmed. absurd (never volume stands unarmed);
   whole = λ whole. absurd (headed_has_none t.bytes whole.header whole.slot fault whole.counts is);
-  headed = λ header slot counts. absurd (headed_has_none t.bytes header slot fault counts is);
+  headed = λ header slot counts _. absurd (headed_has_none t.bytes header slot fault counts is);
+}
+
+-- with one whose header names entries of the log
+armed_brings : (t : Told) → IsArmed t.bytes → OldBrings t 3
+armed_brings t is = record {
+  none = λ _ _. (0, lit< tt, refl);
+  armed = λ _. (0, lit< tt, refl);
+  damaged = λ at kind damaged. absurd (not_armed t.bytes damaged.header damaged.slot damaged.counts damaged.unarmed is);
+  stands = λ volume stands unarmed. absurd (unarmed is);
+  whole = λ whole. absurd (not_armed t.bytes whole.header whole.slot whole.counts whole.unarmed is);
+  headed = λ header slot counts unarmed. absurd (not_armed t.bytes header slot counts unarmed is);
 }
 
 -- with one that is damaged
-ten_brings : (t : Told) (at kind : ℕ) → HasDamage t.bytes at kind → ((volume : Volume) → StandsFor t.bytes volume → ⊥) → OldBrings t 10
+ten_brings : (t : Told) (at kind : ℕ) → HasDamage t.bytes at kind → ((volume : Volume) → StandsFor t.bytes volume → ¬ IsArmed t.bytes → ⊥)
+    → OldBrings t 10
 ten_brings t at kind damaged never = record {
   none = λ fault is. absurd (headed_has_none t.bytes damaged.header damaged.slot fault damaged.counts is);
+  armed = λ is. absurd (not_armed t.bytes damaged.header damaged.slot damaged.counts damaged.unarmed is);
   damaged = λ _ _ _. (0, lit< tt, refl);
-  stands = λ volume stands. absurd (never volume stands);
+  stands = λ volume stands unarmed. absurd (never volume stands unarmed);
   whole = λ whole. absurd (whole_has_none t.bytes at kind whole damaged);
-  headed = λ _ _ _. (5, lit< tt, refl);
+  headed = λ _ _ _ _. (5, lit< tt, refl);
 }
 
 small_brings : (size : ℕ) (t : Told) → IsTooSmall size t → NewBrings size t 3
@@ -160,7 +183,10 @@ small_brings size t small = record { small = λ _. (0, lit< tt, refl); made = λ
 unmounted_brings : (old new : Option Told) (fault : OpenFault) → IsNotMounted old new fault → IfSome old (λ t. OldBrings t (status_of (of_open fault)))
 unmounted_brings None new fault not = tt
 unmounted_brings (Some t) new no_volume not = none_brings t header_none not.why not.whole
-unmounted_brings (Some t) new (bad_field place) not = none_brings t (header_field place) not.why not.whole
+unmounted_brings (Some t) new (bad_field place) not = elim not.why [
+  | inl has ↦ none_brings t (header_field place) has not.whole
+  | inr armed ↦ armed_brings t armed.1
+]
 unmounted_brings (Some t) new (of_disk (damage at kind)) not = ten_brings t at kind not.why not.whole
 unmounted_brings (Some t) new (of_disk (media before after)) not = any_disk None t 4 (1, lit< tt, refl) (1, lit< tt, refl) (1, lit< tt, refl)
 unmounted_brings (Some t) new (of_disk no_memory) not = any_disk None t 7 (3, lit< tt, refl) (4, lit< tt, refl) (3, lit< tt, refl)

@@ -1,5 +1,7 @@
+pub mod CommitLemmas
 pub mod EndLemmas
 pub mod ExactLemmas
+pub mod FlushLemmas
 pub mod HexLemmas
 pub mod LinesLemmas
 pub mod PrepareLemmas
@@ -12,3 +14,4 @@ pub mod ServeLemmas
 pub mod AloneLemmas
 pub mod AloneMoreLemmas
 pub mod TextLemmas
+pub mod WaitLemmas

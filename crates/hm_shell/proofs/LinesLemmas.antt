@@ -83,8 +83,10 @@ on_trees_single Progress is = absurd is
 on_trees_single (End opening) is = absurd is
 
 served_single : (command : Command) → IsServed command → IsSingle command
-served_single command (inl is) = on_trees_single command is
-served_single command (inr is) = subst IsSingle (sym is) (record { calls = λ e. absurd (cc); ends_at_once = refl; begins = refl })
+served_single command (inl (inl is)) = on_trees_single command is
+served_single command (inl (inr is)) = subst IsSingle (sym is) (record { calls = λ e. absurd (cc); ends_at_once = refl; begins = refl })
+served_single command (inr (inl is)) = subst IsSingle (sym is) (record { calls = λ e. absurd (cc); ends_at_once = refl; begins = refl })
+served_single command (inr (inr is)) = subst IsSingle (sym is) (record { calls = λ e. absurd (cc); ends_at_once = refl; begins = refl })
 
 -- the texts of lines that are served
 served_texts : (number : ℕ) (texts : List (List ℕ)) (lines : List (Option Line)) → ReadEach number texts lines → AllByRecursion IsServable (somes lines)

@@ -6,7 +6,7 @@ use Rattle.hm_types.specs.declared.fault.Fault.TheVariants.{Media as media, Dama
 use Rattle.hm_disk.specs.Crash.{Told}
 use Rattle.hm_model.specs.Volume.{Volume, fresh}
 use Rattle.hm_image.specs.Stands.{StandsFor}
-use Rattle.hm_core.specs.Opened.{IsFailure, IsMade, IsMounted, IsNotMade, IsNotMounted, IsOpenCaused}
+use Rattle.hm_core.specs.Opened.{IsArmed, IsFailure, IsMade, IsMounted, IsNotMade, IsNotMounted, IsOpenCaused}
 use Rattle.hm_core.specs.State.{CoreState}
 use Rattle.hm_core.specs.declared.fault.OpenFault.{OpenFault}
 use Rattle.hm_core.specs.declared.fault.OpenFault.TheVariants.{NotVolume as no_volume, BadField as bad_field, Fault as of_disk}
@@ -38,12 +38,12 @@ caused_longer a b c (of_disk no_memory) earlier caused = tt
 
 -- a new volume is opened, unless the disk or memory fails
 made_fails : (size : ℕ) (a b : Option Told) (fault : OpenFault) → BothTell a b (IsMade size)
-    → IfSome b (λ t. (volume : Volume) → StandsFor t.bytes volume → IsFailure fault)
+    → IfSome b (λ t. (volume : Volume) → StandsFor t.bytes volume → ¬ IsArmed t.bytes → IsFailure fault)
     → BothTell a b (λ s t. IsMade size s t × IsFailure fault)
 made_fails size None None fault made whole = tt
 made_fails size None (Some t) fault made whole = absurd made
 made_fails size (Some s) None fault made whole = absurd made
-made_fails size (Some s) (Some t) fault made whole = (made, whole (fresh size) made.stands.stands)
+made_fails size (Some s) (Some t) fault made whole = (made, whole (fresh size) made.stands.stands made.unarmed)
 
 unopened : (newfs : Option ℕ) (a b c : Option Told) (fault : OpenFault) → MakesVolume newfs a b → IsNotMounted b c fault → IsUnopened newfs a c fault
 unopened None a b c fault made not_mounted = subst (λ (o : Option Told). IsNotMounted o c fault) made not_mounted
@@ -65,7 +65,13 @@ StoppedOpening-mount newfs a b c fault made not_mounted earlier caused = record 
 has_whole : (told : Option Told) (faults : ℕ) (core : CoreState) → IsMounted told faults core
     → IfSome told (λ t. HasWhole t.bytes)
 has_whole None faults core mounted = tt
-has_whole (Some t) faults core mounted = record { header = core.header; slot = core.slot; counts = mounted.counting; whole = mounted.whole }
+has_whole (Some t) faults core mounted = record {
+  header = core.flush.header;
+  slot = core.flush.slot;
+  counts = mounted.counting;
+  whole = mounted.whole;
+  unarmed = mounted.idle.1;
+}
 
 -- a volume was opened
 pub OpensOn-mounted : (newfs : Option ℕ) (a b : Option Told) (faults : ℕ) (core : CoreState) → MakesVolume newfs a b

@@ -2,9 +2,6 @@
 use Rattle.std.proofs.Common.{◌≡◌, ℕ, ◌≤◌, List, [], ◌++◌, take, refl, sym, ◌∙◌, ap, append_assoc, arith, subst, inl, inr}
 use Rattle.std.specs.Prelude.{All, Contains, Err, IfErr, IfSome, IsSomeAnd, None, Ok, OnOk, Option, Result, Some}
 use Rattle.std.proofs.lemmas.List.Elements.{All-contains, Contains-append_left}
-use Rattle.hm_types.specs.Told.{BothTell}
-use Rattle.hm_types.specs.declared.fault.Fault.{Fault}
-use Rattle.hm_types.specs.declared.fault.Fault.TheVariants.{Media as media, Damaged as damage, NoMemory as no_memory}
 use Rattle.hm_disk.specs.Crash.{Told}
 use Rattle.hm_header.specs.OnDisk.{HasHeader}
 use Rattle.hm_image.specs.Stands.{StandsFor}
@@ -15,7 +12,7 @@ use Rattle.hm_model.specs.Foreign.{Foreigners, no_foreigners}
 use Rattle.hm_model.specs.Volume.{Volume}
 use Rattle.hm_core.specs.Core.{StandsOver}
 use Rattle.hm_core.specs.Counts.{AreLater}
-use Rattle.hm_core.specs.Finished.{IsFinished, LeavesVolume as CoreLeaves}
+use Rattle.hm_core.specs.Finished.{IsCommittedOn}
 use Rattle.hm_core.specs.History.{volume_of}
 use Rattle.hm_core.specs.Mounting.{CountsFree}
 use Rattle.hm_core.specs.Opened.{IsMounted}
@@ -24,10 +21,9 @@ use Rattle.hm_shell.specs.declared.stop.Stop.{Stop}
 use Rattle.hm_shell.specs.Alone.{IsAlone, out_text}
 use Rattle.hm_shell.specs.Lines.{IsServedLine}
 use Rattle.hm_shell.specs.Making.{MakesVolume}
-use Rattle.hm_shell.specs.Running.{AnswersAll, AnswersInPart, BeginsOn, HasHistory, IsCounted, IsKept, IsWriteCause, LeavesVolume, OverEach, Ran, RunsAll, StoppedRunning, StoppedUsing}
+use Rattle.hm_shell.specs.Running.{AnswersAll, AnswersInPart, BeginsOn, HasHistory, IsCounted, IsKept, LeavesVolume, OverEach, Ran, RunsAll, StoppedRunning, StoppedUsing}
 use Rattle.hm_shell.specs.Seen.{Seen}
-use Rattle.hm_shell.specs.Serving.{GoesFrom, Served, ServedInPart, StopsUsing, UsesAll}
-use Rattle.hm_shell.specs.Stop.{of_fault}
+use Rattle.hm_shell.specs.Serving.{GoesFrom, IsEnded, Served, ServedInPart, StopsUsing, UsesAll}
 use Rattle.hm_shell.proofs.AloneLemmas.{answers_out}
 use Rattle.hm_shell.proofs.AloneMoreLemmas.{each_from}
 use Rattle.hm_shell.proofs.OpenLemmas.{OpensOn-mounted}
@@ -36,20 +32,9 @@ use Rattle.hm_shell.proofs.OpenLemmas.{OpensOn-mounted}
 are_alone : (lines : List Line) → All IsServedLine lines → All IsAlone lines
 are_alone lines each = λ k d below. (each k d below).by_itself
 
--- what a disk tells after a call of one that tells
-told_after : (a b : Option Told) (P Q : Told → Type 0) → IsSomeAnd a P → BothTell a b (λ s t. Q t) → IsSomeAnd b Q
-told_after None b P Q some both = absurd some
-told_after (Some s) None P Q some both = absurd both
-told_after (Some s) (Some t) P Q some both = both
-
-on_told : (a b : Option Told) (Q : Told → Type 0) → BothTell a b (λ s t. Q t) → IfSome b Q
-on_told a None Q both = tt
-on_told None (Some t) Q both = absurd both
-on_told (Some s) (Some t) Q both = both
-
-where_told : (o : Option Told) (P : Told → Type 0) (Q : Type 0) → IsSomeAnd o P → IfSome o (λ t. Q) → Q
-where_told None P Q some if_some = absurd some
-where_told (Some t) P Q some if_some = if_some
+some_told : (o : Option Told) (P Q R : Told → Type 0) → ((t : Told) → Q t → R t) → IsSomeAnd o P → IfSome o Q → IsSomeAnd o R
+some_told None P Q R from some q = absurd some
+some_told (Some t) P Q R from some q = from t q
 
 each_told : (o : Option Told) (P Q : Told → Type 0) → ((t : Told) → P t → Q t) → IfSome o P → IfSome o Q
 each_told None P Q from p = tt
@@ -83,12 +68,13 @@ module _ (told : Option Told) (faults : ℕ) (begun core : CoreState)
   -- and it began with what the disk told
   begins_on : IfSome begun.heap.disk (BeginsOn (ran_of core))
   begins_on = subst (λ (o : Option Told). IfSome o (BeginsOn (ran_of core))) (sym mounted.told) (by told mounted.counting mounted.counted) where
-    by : (o : Option Told) → IfSome o (λ t. HasHeader t.bytes begun.header begun.slot) → IfSome o (CountsFree begun.mounted.free begun.header)
+    by : (o : Option Told) → IfSome o (λ t. HasHeader t.bytes begun.flush.header begun.flush.slot)
+        → IfSome o (CountsFree begun.mounted.free begun.flush.header)
         → IfSome o (BeginsOn (ran_of core))
     by None counts free = tt
     by (Some t) counts free = record {
-      header = begun.header;
-      slot = begun.slot;
+      header = begun.flush.header;
+      slot = begun.flush.slot;
       counts = counts;
       first_is = ap (λ (m : Mounted). m.first) from.rest.mounted ∙ mounted.ids.1 ∙ mounted.ids.2;
       free_is = λ volume stands. ap (λ (m : Mounted). m.free) from.rest.mounted ∙ free volume stands;
@@ -100,7 +86,8 @@ module _ (told : Option Told) (faults : ℕ) (begun core : CoreState)
 
   stands_now : OverEach begun.heap.disk StandsBySome
   stands_now = subst (λ (o : Option Told). OverEach o StandsBySome) (sym mounted.told)
-      (each_told told _ _ (λ t stands opening foreigners is. from.goes_on opening foreigners [] (stands opening foreigners is)) mounted.stands)
+      (each_told told _ _ (λ t stands opening foreigners is.
+      let on = from.goes_on opening foreigners [] (stands opening foreigners is) in (on.more, on.stands)) mounted.stands)
 
   has_history : (opening : Volume) (foreigners : Foreigners) → StandsBySome opening foreigners → HasHistory (ran_of core) opening foreigners
   has_history opening foreigners (events, stands) = record {
@@ -114,33 +101,22 @@ module _ (told : Option Told) (faults : ℕ) (begun core : CoreState)
   histories = each_told begun.heap.disk _ _ (λ t stands opening foreigners is. has_history opening foreigners (stands opening foreigners is))
       stands_now
 
-  module _ (disk : Seen Told) (done : Unit {0}) (finished : IsFinished core disk.told disk.faults (Ok done)) where
-    leaves : (opening : Volume) (foreigners : Foreigners) → StandsBySome opening foreigners → LeavesVolume (ran_of core) disk.told opening foreigners
+  module _ (ended : IsEnded core) where
+    leaves : (opening : Volume) (foreigners : Foreigners) → StandsBySome opening foreigners → LeavesVolume (ran_of core) core.heap.disk opening foreigners
     unfolding has_history
     leaves opening foreigners (events, stands) = record {
       has = has_history opening foreigners (events, stands);
-      stands = told_after core.heap.disk disk.told _ _ stands.legal.held.holds.elements.1 (both_leave core.heap.disk disk.told finished.volume);
-    } where
-      both_leave : (a b : Option Told) → BothTell a b (λ s t. CoreLeaves core t.bytes)
-          → BothTell a b (λ s t. StandsFor t.bytes (volume_of opening foreigners events))
-      both_leave None None both = tt
-      both_leave None (Some t) both = absurd both
-      both_leave (Some s) None both = absurd both
-      both_leave (Some s) (Some t) both = both opening foreigners events stands
-
-    is_kept : IsKept begun.heap.disk disk.told (ran_of core)
-    is_kept = record {
-      unwritten = λ none. (finished.nothing none).1 ∙ ap (λ h. h.disk) (from.idle none);
-      settled = λ some. each_told disk.told _ _ (λ t next. next.settled) (on_told core.heap.disk disk.told _ (finished.header some));
-      volume = each_told begun.heap.disk _ _ (λ t stands opening foreigners is. leaves opening foreigners (stands opening foreigners is))
-          stands_now;
+      stands = some_told core.heap.disk _ (IsCommittedOn core) (λ t. StandsFor t.bytes (volume_of opening foreigners events))
+          (λ t committed. committed.volume opening foreigners events stands) stands.legal.held.holds.elements.1 ended.committed;
     }
 
-  write_cause : (disk : Seen Told) (fault : Fault) → IsFinished core disk.told disk.faults (Err fault)
-      → IsWriteCause core.counts.disk disk.faults (of_fault fault)
-  write_cause disk (media before after) finished = finished.cause.caused
-  write_cause disk (damage at kind) finished = absurd finished.undamaged
-  write_cause disk no_memory finished = tt
+    is_kept : (new : Option Told) → new ≡ core.heap.disk → IsKept begun.heap.disk new (ran_of core)
+    is_kept new same = subst (λ (o : Option Told). IsKept begun.heap.disk o (ran_of core)) (sym same) (record {
+      unwritten = λ none. ap (λ (c : CoreState). c.heap.disk) (from.idle none);
+      settled = ended.settled;
+      volume = each_told begun.heap.disk _ _ (λ t stands opening foreigners is. leaves opening foreigners (stands opening foreigners is))
+          stands_now;
+    })
 
 answers_all : (lines : List Line) (begun core : CoreState) (old new : Option (List ℕ)) → All IsServedLine lines → Served lines begun core old new
     → AnswersAll lines (ran_of core) old new
@@ -179,9 +155,9 @@ module _ (newfs : Option ℕ) (lines : List Line) (each : All IsServedLine lines
     begins = begins_on made.told made.faults begun used.core mounted used.served.from;
     caused = used.caused;
     counted = counted made.told made.faults begun used.core mounted used.served.from old.faults new.faults earlier
-        used.finished.cause.never_falls;
+        (let faults = used.disk_is.faults in omega (arith, faults));
     answered = answers_all lines begun used.core old_out new_out each used.served;
-    kept = is_kept made.told made.faults begun used.core mounted used.served.from new tt used.finished;
+    kept = is_kept made.told made.faults begun used.core mounted used.served.from used.ended new.told used.disk_is.told;
   }
 
   -- the run stopped
@@ -197,7 +173,7 @@ module _ (newfs : Option ℕ) (lines : List Line) (each : All IsServedLine lines
         begins = begins_on made.told made.faults begun core mounted part.from;
         caused = at_line.caused;
         counted = counted made.told made.faults begun core mounted part.from old.faults new.faults earlier
-            (let count = at_line.count in omega (arith, count));
+            (let faults = at_line.disk_is.faults in omega (arith, faults));
         legal = histories made.told made.faults begun core mounted part.from;
         stops = inl (record {
           text = out_text part.before core.history ++ take part.printed (out_text part.last core.history);
@@ -215,12 +191,11 @@ module _ (newfs : Option ℕ) (lines : List Line) (each : All IsServedLine lines
         begins = begins_on made.told made.faults begun core mounted writing.served.from;
         caused = writing.caused;
         counted = counted made.told made.faults begun core mounted writing.served.from old.faults new.faults earlier
-            writing.finished.cause.never_falls;
+            writing.counted;
         legal = histories made.told made.faults begun core mounted writing.served.from;
         stops = inr (record {
           answered = answers_all lines begun core old_out.told new_out.told each writing.served;
-          cause = subst (IsWriteCause core.counts.disk new.faults) (sym writing.stop_is)
-              (write_cause made.told made.faults begun core mounted writing.served.from new writing.fault writing.finished);
+          cause = writing.cause;
         });
       }
 

@@ -1,6 +1,6 @@
 -- Lines that are served from the front.
 use Rattle.std.proofs.Common.{◌≡◌, ℕ, ◌+◌, ◌*◌, ◌<◌, ◌≤◌, List, [], ◌∷◌, ◌++◌, get_or, length, take, refl, subst, sym, ◌∙◌, ap, inl, inr, arith, append_assoc, append-nil, length-append}
-use Rattle.std.specs.Prelude.{All, Contains, IfErr, OnErr, OnOk, Option, Some, Result, Ok, Err, slice_get}
+use Rattle.std.specs.Prelude.{All, Contains, IfErr, OnErr, OnOk, Option, None, Some, Result, Ok, Err, slice_get}
 use Rattle.std.proofs.lemmas.List.Elements.{All-contains, Contains-append_cases, Contains-append_right}
 use Rattle.std.proofs.lemmas.Option.{IfSome_then, get_or_from_slice_get}
 use Rattle.hm_image.proofs.ListLemmas.{only_one}
@@ -11,10 +11,9 @@ use Rattle.hm_pipe.proofs.PipeLemmas.{Gains-none, Gains-append}
 use Rattle.hm_model.specs.declared.entry.Entry.{Entry}
 use Rattle.hm_model.specs.declared.line.Line.{Line}
 use Rattle.hm_model.specs.Out.{IsOf, entry_words, printed_line, spent_words}
-use Rattle.hm_core.specs.Core.{Enters, KeepsRest, KeepsStreams, Steps}
-use Rattle.hm_core.specs.State.{CoreDevices, CoreState}
-use Rattle.hm_core.specs.declared.step.Step.TheVariants.{Answered, Spent}
-use Rattle.hm_core.proofs.CoreLemmas.{goes_on_further, goes_on_still}
+use Rattle.hm_core.specs.Core.{Enters, KeepsRest}
+use Rattle.hm_core.specs.State.{CoreState}
+use Rattle.hm_core.proofs.CoreLemmas.{goes_on_by_none, goes_on_further, goes_on_itself}
 use Rattle.hm_core.proofs.CountLemmas.{later_same, later_still}
 use Rattle.hm_shell.specs.declared.stop.Stop.{Stop}
 use Rattle.hm_shell.specs.declared.stop.Stop.TheVariants.{Usage, NotVolume, BadField, DiskFault, Damaged, ScriptFault, OutFault, NoMemory, BadLine, TooLong}
@@ -23,9 +22,10 @@ use Rattle.hm_shell.specs.Lines.{AreRising, IsServedLine}
 use Rattle.hm_shell.specs.Printing.{StoppedPrinting}
 use Rattle.hm_shell.specs.Running.{IsOutCause}
 use Rattle.hm_shell.specs.Seen.{Seen}
-use Rattle.hm_shell.specs.Serving.{GoesFrom, RunsLine, Served, ServedInPart, ServesLine, Serving, StoppedServing}
+use Rattle.hm_shell.specs.Serving.{AnswersLine, GoesFrom, IsBehind, RunsLine, Served, ServedInPart, ServesLine, Serving, StoppedServing}
 use Rattle.hm_shell.proofs.AloneMoreLemmas.{answers_more, answers_none, answers_spent}
 use Rattle.hm_shell.proofs.TextLemmas.{out_before, out_spent, out_answered, text_answered, text_spent}
+use Rattle.hm_shell.proofs.WaitLemmas.{KeepsRest-more}
 
 -- a line that was not printed was printed in part
 stopped_front : (line : List ℕ) (old new : Seen (List ℕ)) (stop : Stop) → StoppedPrinting line old new stop → (k : ℕ) × Gains old.told (take k line) new.told
@@ -78,36 +78,24 @@ entry_there history e found place there is =
     sym (get_or_from_slice_get (history ++ e ∷ []) (length history) found e (subst (λ (k : ℕ). slice_get (history ++ e ∷ []) k ≡ Some found) there is))
     ∙ last_entry history e e
 
--- two steps keep the streams where each does
-pub streams_more : {D I O : Type 0} (a b c : CoreDevices D I O) → KeepsStreams a b → KeepsStreams b c → KeepsStreams a c
-streams_more a b c first second = record { input = second.input ∙ first.input; output = second.output ∙ first.output }
-
 KeepsRest-none : (core : CoreState) → KeepsRest core core
-KeepsRest-none core = record { mounted = refl; boundary = refl; header = refl; slot = refl }
-
-KeepsRest-more : (a b c : CoreState) → KeepsRest a b → KeepsRest b c → KeepsRest a c
-KeepsRest-more a b c first second = record {
-  mounted = second.mounted ∙ first.mounted;
-  boundary = second.boundary ∙ first.boundary;
-  header = second.header ∙ first.header;
-  slot = second.slot ∙ first.slot;
-}
+KeepsRest-none core = record { mounted = refl; boundary = omega arith }
 
 GoesFrom-none : (core : CoreState) → GoesFrom core core
 GoesFrom-none core = record {
   rest = KeepsRest-none core;
   never_falls = later_same core.counts;
-  goes_on = goes_on_still core core (λ opening foreigners events stands. stands);
+  goes_on = goes_on_itself core;
   idle = λ none. refl;
 }
 
 -- room was made in a core
 GoesFrom-reserved : (core : CoreState) (spare : ℕ) → GoesFrom core (record core { spare = spare })
 GoesFrom-reserved core spare = record {
-  rest = record { mounted = refl; boundary = refl; header = refl; slot = refl };
+  rest = record { mounted = refl; boundary = omega arith };
   never_falls = later_same core.counts;
-  goes_on = goes_on_still core (record core { spare = spare })
-      (λ opening foreigners events stands. record { legal = stands.legal; backed = stands.backed; untouched = stands.untouched });
+  goes_on = λ opening foreigners events stands. goes_on_by_none core (record core { spare = spare }) opening foreigners events
+      (record { legal = stands.legal; read = stands.read }) (λ was. was);
   idle = λ none. refl;
 }
 
@@ -125,6 +113,7 @@ record HasRun (lines : List Line) (line : Line) (begun old new : CoreState) (tex
   pub from : GoesFrom begun new
   pub answers : Answers new.last (lines ++ line ∷ []) new.history
   pub up_to : (e : Entry) → Contains new.history e → e.id.0 ≤ new.last
+  pub behind : IsBehind old → IsBehind new
   pub earlier : out_text lines new.history ≡ out_text lines old.history
   pub own : out_text (line ∷ []) new.history ≡ text
   pub both : out_text (lines ++ line ∷ []) new.history ≡ out_text lines old.history ++ text
@@ -157,6 +146,7 @@ module _ (lines : List Line) (line : Line) (later : (l : Line) → Contains line
       answers = rw enters.history
           (answers_more lines old.history line later old.last enters.entry served.answers enters.left own_entry tells above new.last);
       up_to = up_to_entered;
+      behind = λ was some. enters.before;
       earlier = rw enters.history (out_before lines old.history line later old.last served.answers enters.entry own_entry alone.single);
       own = rw enters.history (append-nil (line_text (old.history ++ enters.entry ∷ []) line)
           ∙ text_answered lines old.history line later old.last served.answers enters.entry own_entry alone.single);
@@ -169,6 +159,7 @@ module _ (lines : List Line) (line : Line) (later : (l : Line) → Contains line
     from = served.from;
     answers = answers_spent lines old.history line later old.last greatest served.answers;
     up_to = served.up_to;
+    behind = λ was. was;
     earlier = refl;
     own = append-nil (line_text old.history line) ∙ text_spent lines old.history line later old.last served.answers;
     both = out_spent lines old.history line later old.last served.answers;
@@ -192,6 +183,9 @@ module _ (lines : List Line) (line : Line) (later : (l : Line) → Contains line
 
   spare_left : (new : CoreState) (gained : Option (List ℕ)) → ServesLine old new line holds gained → old.spare ≤ new.spare + 1
   spare_left new gained serves = (has_run new serves.text serves.runs).spare
+
+  behind_left : (new : CoreState) (gained : Option (List ℕ)) → ServesLine old new line holds gained → IsBehind old → IsBehind new
+  behind_left new gained serves = (has_run new serves.text serves.runs).behind
 
   -- one more line was run, and printed in part or not at all
   part_line : (all rest : List Line) (new : CoreState) (second third : Seen (List ℕ)) (stop : Stop) → holds ≡ second.told
@@ -223,7 +217,12 @@ Served-none begun core held from none = record {
 
 pub Serving-none : (lines : List Line) (core : CoreState) (held : Option (List ℕ)) → core.history ≡ [] → 2 * length lines ≤ core.spare
     → Serving lines [] lines core core held held
-Serving-none lines core held none room = record { split = refl; served = Served-none core core held (GoesFrom-none core) none; room = room }
+Serving-none lines core held none room = record {
+  split = refl;
+  served = Served-none core core held (GoesFrom-none core) none;
+  behind = λ some. absurd (some none);
+  room = room;
+}
 
 -- nothing was served
 pub ServedInPart-none : (lines : List Line) (begun core : CoreState) (held : Option (List ℕ)) → core ≡ record begun { spare = core.spare }
@@ -259,6 +258,7 @@ module _ (lines before rest : List Line) (line : Line) (each : All IsServedLine 
       record {
         split = so_far.split ∙ sym (append_assoc before (line ∷ []) rest);
         served = Served-line before line later is_alone begun old held holds so_far.served new gained serves;
+        behind = behind_left before line later is_alone begun old held holds so_far.served new gained serves so_far.behind;
         room = (let room = so_far.room in let left = spare_left before line later is_alone begun old held holds so_far.served new gained serves in omega
             (arith, room, left));
       }
@@ -285,12 +285,7 @@ Served-all lines before begun core held holds so_far =
 -- what was served from a core in which room was made was served from it
 GoesFrom-after : (a c : CoreState) (spare : ℕ) → GoesFrom (record a { spare = spare }) c → GoesFrom a c
 GoesFrom-after a c spare from = record {
-  rest = record {
-    mounted = from.rest.mounted;
-    boundary = from.rest.boundary;
-    header = from.rest.header;
-    slot = from.rest.slot;
-  };
+  rest = record { mounted = from.rest.mounted; boundary = from.rest.boundary };
   never_falls = from.never_falls;
   goes_on = goes_on_further a (record a { spare = spare }) c (GoesFrom-reserved a spare).goes_on from.goes_on;
   idle = from.idle;
@@ -331,49 +326,48 @@ pub part_after : (lines : List Line) (a b c : CoreState) (held holds : Option (L
 part_after lines a b c held holds (Ok done) keeps part = tt
 part_after lines a b c held holds (Err stop) keeps part = ServedInPart-after lines a b c held holds keeps part
 
-module _ (old new : CoreState) (line : Line) (r : Result (Unit {0}) Stop) where
-  -- a line was called, and its entry printed or not
-  module _ (place : ℕ) (e : Entry) (since : ℕ) (same : since ≡ old.last)
-      (called : Steps old new line.lane line.number since line.command (Answered place)) (there : slice_get new.history place ≡ Some e) where
-    steps : Steps old new line.lane line.number old.last line.command (Answered place)
-    steps = subst (λ (n : ℕ). Steps old new line.lane line.number n line.command (Answered place)) same called
-
-    runs_answered : RunsLine old new line (printed_line (entry_words e))
-    runs_answered = inl (
-      steps.1,
-      ap (λ (x : Entry). printed_line (entry_words x))
-          (entry_there old.history steps.1.entry e place steps.0 (subst (λ (h : List Entry). slice_get h place ≡ Some e) steps.1.history there)),
-    )
-
-    pub answered_printed : (held holds : Option (List ℕ)) → OnOk r (Gains held (printed_line (entry_words e)) holds)
-        → OnOk r (ServesLine old new line held holds)
-    answered_printed held holds gained = by r gained where
-      by : (r : Result (Unit {0}) Stop) → OnOk r (Gains held (printed_line (entry_words e)) holds) → OnOk r (ServesLine old new line held holds)
-      by (Ok done) gained = record { text = printed_line (entry_words e); runs = runs_answered; gained = gained }
-      by (Err stop) gained = tt
-
-    pub answered_stopped : (held holds : Seen (List ℕ)) → IfErr r (StoppedPrinting (printed_line (entry_words e)) held holds)
-        → IfErr r (StoppedServing old new line held holds)
-    answered_stopped held holds stopped = by r stopped where
-      by : (r : Result (Unit {0}) Stop) → IfErr r (StoppedPrinting (printed_line (entry_words e)) held holds)
-          → IfErr r (StoppedServing old new line held holds)
-      by (Ok done) stopped = tt
-      by (Err stop) stopped = record { text = printed_line (entry_words e); runs = runs_answered; printing = stopped }
+module _ (old new : CoreState) (line : Line) where
+  -- a line was answered, and this is to be printed
+  runs_answered : (place : ℕ) (e : Entry) → AnswersLine old new line.lane line.number line.command (Some place)
+      → slice_get new.history place ≡ Some e → RunsLine old new line (printed_line (entry_words e))
+  runs_answered place e answers there = inl (
+    answers.1,
+    ap (λ (x : Entry). printed_line (entry_words x))
+        (entry_there old.history answers.1.entry e place answers.0
+        (subst (λ (h : List Entry). slice_get h place ≡ Some e) answers.1.history there)),
+  )
 
   -- it found no id left
-  module _ (since : ℕ) (steps : Steps old new line.lane line.number since line.command Spent) where
-    runs_spent : RunsLine old new line (printed_line spent_words)
-    runs_spent = inr (steps.0, steps.1, refl)
+  runs_spent : AnswersLine old new line.lane line.number line.command None → RunsLine old new line (printed_line spent_words)
+  runs_spent answers = inr (answers.0, answers.1, refl)
 
-    pub spent_printed : (held holds : Option (List ℕ)) → OnOk r (Gains held (printed_line spent_words) holds) → OnOk r (ServesLine old new line held holds)
-    spent_printed held holds gained = by r gained where
-      by : (r : Result (Unit {0}) Stop) → OnOk r (Gains held (printed_line spent_words) holds) → OnOk r (ServesLine old new line held holds)
-      by (Ok done) gained = record { text = printed_line spent_words; runs = runs_spent; gained = gained }
-      by (Err stop) gained = tt
+  -- what is to be printed was printed or not
+  printed : (r : Result (Unit {0}) Stop) (text : List ℕ) (held holds : Option (List ℕ)) → RunsLine old new line text → OnOk r (Gains held text holds)
+      → OnOk r (ServesLine old new line held holds)
+  printed (Ok done) text held holds runs gained = record { text = text; runs = runs; gained = gained }
+  printed (Err stop) text held holds runs gained = tt
 
-    pub spent_stopped : (held holds : Seen (List ℕ)) → IfErr r (StoppedPrinting (printed_line spent_words) held holds)
-        → IfErr r (StoppedServing old new line held holds)
-    spent_stopped held holds stopped = by r stopped where
-      by : (r : Result (Unit {0}) Stop) → IfErr r (StoppedPrinting (printed_line spent_words) held holds) → IfErr r (StoppedServing old new line held holds)
-      by (Ok done) stopped = tt
-      by (Err stop) stopped = record { text = printed_line spent_words; runs = runs_spent; printing = stopped }
+  stopped : (r : Result (Unit {0}) Stop) (text : List ℕ) (held holds : Seen (List ℕ)) → RunsLine old new line text
+      → IfErr r (StoppedPrinting text held holds) → IfErr r (StoppedServing old new line held holds)
+  stopped (Ok done) text held holds runs printing = tt
+  stopped (Err stop) text held holds runs printing = record { text = text; runs = runs; printing = printing }
+
+  module _ (r : Result (Unit {0}) Stop) where
+    module _ (place : ℕ) (e : Entry) (answers : AnswersLine old new line.lane line.number line.command (Some place))
+        (there : slice_get new.history place ≡ Some e) where
+      pub answered_printed : (held holds : Option (List ℕ)) → OnOk r (Gains held (printed_line (entry_words e)) holds)
+          → OnOk r (ServesLine old new line held holds)
+      answered_printed held holds gained = printed r (printed_line (entry_words e)) held holds (runs_answered place e answers there) gained
+
+      pub answered_stopped : (held holds : Seen (List ℕ)) → IfErr r (StoppedPrinting (printed_line (entry_words e)) held holds)
+          → IfErr r (StoppedServing old new line held holds)
+      answered_stopped held holds printing = stopped r (printed_line (entry_words e)) held holds (runs_answered place e answers there) printing
+
+    module _ (answers : AnswersLine old new line.lane line.number line.command None) where
+      pub spent_printed : (held holds : Option (List ℕ)) → OnOk r (Gains held (printed_line spent_words) holds)
+          → OnOk r (ServesLine old new line held holds)
+      spent_printed held holds gained = printed r (printed_line spent_words) held holds (runs_spent answers) gained
+
+      pub spent_stopped : (held holds : Seen (List ℕ)) → IfErr r (StoppedPrinting (printed_line spent_words) held holds)
+          → IfErr r (StoppedServing old new line held holds)
+      spent_stopped held holds printing = stopped r (printed_line spent_words) held holds (runs_spent answers) printing

@@ -1,5 +1,5 @@
 -- Which status the words, the script and the disk bring, where nothing fails.
-use Rattle.std.specs.Prelude.{ℕ, List, [], ◌∷◌, Option, None, Some, IfSome, Contains}
+use Rattle.std.specs.Prelude.{◌≡◌, ℕ, List, [], ◌∷◌, Option, None, Some, IfSome, Contains}
 use Rattle.hm_disk.specs.Crash.{Told}
 use Rattle.hm_header.specs.OnDisk.{HasFault, HasHeader}
 use Rattle.hm_header.specs.declared.fault.HeaderFault.{HeaderFault}
@@ -7,7 +7,7 @@ use Rattle.hm_header.specs.declared.header.Header.{Header}
 use Rattle.hm_image.specs.Stands.{StandsFor}
 use Rattle.hm_model.specs.Script.{IsTooLong}
 use Rattle.hm_model.specs.Volume.{Volume}
-use Rattle.hm_core.specs.Opened.{HasDamage, IsTooSmall}
+use Rattle.hm_core.specs.Opened.{HasDamage, IsArmed, IsTooSmall}
 use Rattle.hm_shell.specs.Devices.{Sight}
 use Rattle.hm_shell.specs.Lines.{IsFirstBad, IsGoodScript}
 use Rattle.hm_shell.specs.Opening.{HasWhole}
@@ -23,14 +23,16 @@ pub record NewBrings (size : ℕ) (t : Told) (status : ℕ) : Type 0 where
   pub small : IsTooSmall size t → Contains (3 ∷ 4 ∷ 5 ∷ 7 ∷ []) status
   pub made : (IsTooSmall size t → ⊥) → Contains (0 ∷ 4 ∷ 5 ∷ 6 ∷ 7 ∷ []) status
 
--- The same of a disk as it is: no header counts, or what stands below it is damaged, or the lines are run on it. Where what it
--- holds is whole no damage is told, also where it stands for no volume.
+-- The same of a disk as it is: no header counts, or the one that does names entries of the UNDO log, or what stands below it is
+-- damaged, or the lines are run on it. Where what it holds is whole no damage is told, also where it stands for no volume.
 pub record OldBrings (t : Told) (status : ℕ) : Type 0 where
   pub none : (fault : HeaderFault) → HasFault t.bytes fault → Contains (3 ∷ 4 ∷ 5 ∷ 7 ∷ []) status
+  pub armed : IsArmed t.bytes → Contains (3 ∷ 4 ∷ 5 ∷ 7 ∷ []) status
   pub damaged : (at kind : ℕ) → HasDamage t.bytes at kind → Contains (10 ∷ 4 ∷ 5 ∷ 7 ∷ []) status
-  pub stands : (volume : Volume) → StandsFor t.bytes volume → Contains (0 ∷ 4 ∷ 5 ∷ 6 ∷ 7 ∷ []) status
+  pub stands : (volume : Volume) → StandsFor t.bytes volume → ¬ IsArmed t.bytes → Contains (0 ∷ 4 ∷ 5 ∷ 6 ∷ 7 ∷ []) status
   pub whole : HasWhole t.bytes → Contains (0 ∷ 4 ∷ 5 ∷ 6 ∷ 7 ∷ []) status
-  pub headed : (header : Header) (slot : ℕ) → HasHeader t.bytes header slot → Contains (0 ∷ 4 ∷ 5 ∷ 6 ∷ 7 ∷ 10 ∷ []) status
+  pub headed : (header : Header) (slot : ℕ) → HasHeader t.bytes header slot → header.undo_count ≡ 0
+      → Contains (0 ∷ 4 ∷ 5 ∷ 6 ∷ 7 ∷ 10 ∷ []) status
 
 abbrev pub DiskBrings : Option ℕ → Told → ℕ → Type 0
 DiskBrings None t status = OldBrings t status

@@ -11,12 +11,13 @@ use Rattle.hm_shell.specs.declared.stop.Stop.{Stop}
 use Rattle.hm_shell.specs.Seen.{Seen}
 use Rattle.hm_shell.specs.Stop.{of_open}
 
--- the bytes have a header that counts, and nothing below it is damaged
+-- the bytes have a header that counts and names no entries of the UNDO log, and nothing below it is damaged
 pub record HasWhole (bytes : List ℕ) : Type 0 where
   pub header : Header
   pub slot : ℕ
   pub counts : HasHeader bytes header slot
   pub whole : IsWhole bytes header
+  pub unarmed : header.undo_count ≡ 0
 
 -- What a disk told as a volume was opened on it: what it told before, and then nothing was written and what it told is
 -- whole; or, with `--newfs`, what it told once a volume of this size was made.

@@ -95,7 +95,7 @@ pub record IsKept (opened new : Option Told) (ran : Ran) : Type 0 where
   pub settled : ran.history ≢ [] → IfSome new (λ t. t.unsettled ≡ [])
   pub volume : OverEach opened (LeavesVolume ran new)
 
--- The whole run of a script's lines: a volume is made or not, opened, used and written back. Each reply has its cause.
+-- The whole run of a script's lines: a volume is made or not, opened and used, and all is committed. Each reply has its cause.
 pub record RunsAll (newfs : Option ℕ) (lines : List Line) (old_disk new_disk : Seen Told)
     (old_out new_out : Option (List ℕ)) : Type 0 where
   pub opened : Option Told
@@ -120,14 +120,14 @@ IsOutCause before after (ScriptFault b a) = ⊥
 IsOutCause before after (BadLine number) = ⊥
 IsOutCause before after TooLong = ⊥
 
--- a run stopped at a line, before anything was flushed, and the sink gained what was printed
+-- a run stopped at a line, before the last flush, and the sink gained what was printed
 pub record StopsAtLine (lines : List Line) (ran : Ran) (old_out new_out : Seen (List ℕ)) (stop : Stop) : Type 0 where
   pub text : List ℕ
   pub answered : AnswersInPart lines text ran
   pub gained : Gains old_out.told text new_out.told
   pub cause : IsOutCause old_out.faults new_out.faults stop
 
--- what made the run stop as the volume was written back, over every disk: the disk failed, or memory was refused
+-- what made the run stop in the last flush, over every disk: the disk failed, or memory was refused
 abbrev pub IsWriteCause : ℕ → ℕ → Stop → Type 0
 IsWriteCause before after (DiskFault b a) = IsMedia before after b a
 IsWriteCause before after NoMemory = Unit {0}
@@ -140,13 +140,13 @@ IsWriteCause before after OutFault = ⊥
 IsWriteCause before after (BadLine number) = ⊥
 IsWriteCause before after TooLong = ⊥
 
--- all lines were answered and printed, and the volume could not be written back
+-- all lines were answered and printed, and a stage of the last flush failed
 pub record StopsWriting (lines : List Line) (opened : Option Told) (ran : Ran) (faults : ℕ)
     (old_out new_out : Option (List ℕ)) (stop : Stop) : Type 0 where
   pub answered : AnswersAll lines ran old_out new_out
   pub cause : IsWriteCause ran.counts.disk faults stop
 
--- A run stopped with an open volume: at a line, or as the volume was written back. Each reply of its history has its cause,
+-- A run stopped with an open volume: at a line, or in the last flush. Each reply of its history has its cause,
 -- and it is a legal one over each volume that the disk stood for as it was opened.
 pub record StoppedUsing (newfs : Option ℕ) (lines : List Line) (old_disk new_disk : Seen Told)
     (old_out new_out : Seen (List ℕ)) (stop : Stop) : Type 0 where

@@ -1,30 +1,34 @@
 -- The lines of a script, served from the front on an open volume, and what comes of it.
-use Rattle.std.specs.Prelude.{◌≡◌, ◌⊎◌, ℕ, ◌*◌, ◌≤◌, List, [], ◌++◌, Option, Contains, Ok, Err, length, take}
-use Rattle.hm_types.specs.declared.fault.Fault.{Fault}
+use Rattle.std.specs.Prelude.{◌≡◌, ◌≢◌, ◌⊎◌, ℕ, ◌*◌, ◌<◌, ◌≤◌, List, [], ◌++◌, Option, None, Some, Contains, IfSome, length, take}
 use Rattle.hm_types.specs.declared.limits.TheConstants.{GREATEST_ID}
 use Rattle.hm_disk.specs.Crash.{Told}
 use Rattle.hm_pipe.specs.Pipe.{Gains}
+use Rattle.hm_model.specs.declared.command.Command.{Command}
 use Rattle.hm_model.specs.declared.entry.Entry.{Entry}
 use Rattle.hm_model.specs.declared.line.Line.{Line}
 use Rattle.hm_model.specs.Out.{entry_words, printed_line, spent_words}
-use Rattle.hm_core.specs.Core.{Enters, GoesOn, IsCausedRun, KeepsRest}
+use Rattle.hm_core.specs.Core.{Enters, GoesOn, IsCausedRun, KeepsRest, Waits}
 use Rattle.hm_core.specs.Counts.{AreLater}
-use Rattle.hm_core.specs.Finished.{IsFinished}
+use Rattle.hm_core.specs.Finished.{IsCommittedOn}
+use Rattle.hm_core.specs.Staged.{IsFlushed}
 use Rattle.hm_core.specs.State.{CoreState}
 use Rattle.hm_shell.specs.declared.stop.Stop.{Stop}
 use Rattle.hm_shell.specs.Alone.{Answers, out_text}
 use Rattle.hm_shell.specs.Printing.{StoppedPrinting}
-use Rattle.hm_shell.specs.Running.{IsOutCause}
+use Rattle.hm_shell.specs.Running.{IsOutCause, IsWriteCause}
 use Rattle.hm_shell.specs.Seen.{Seen}
-use Rattle.hm_shell.specs.Stop.{of_fault}
 
 -- What has come of a core: what it began with stays, it stands for each volume for which it stood, and where its history has no
--- entry its space is as it was.
+-- entry all but its room is as it was.
 pub record GoesFrom (begun core : CoreState) : Type 0 where
   pub rest : KeepsRest begun core
   pub never_falls : AreLater begun.counts core.counts
   pub goes_on : GoesOn begun core
-  pub idle : core.history ≡ [] → core.heap ≡ begun.heap
+  pub idle : core.history ≡ [] → core ≡ record begun { spare = core.spare }
+
+-- where a history has an entry, not all of it is committed
+abbrev pub IsBehind : CoreState → Type 0
+IsBehind core = core.history ≢ [] → core.boundary < core.last
 
 -- The core's history answers the lines, by ids up to its last one, and the sink gained what the lines print.
 pub record Served (lines : List Line) (begun core : CoreState) (old new : Option (List ℕ)) : Type 0 where
@@ -37,6 +41,7 @@ pub record Served (lines : List Line) (begun core : CoreState) (old new : Option
 pub record Serving (lines before rest : List Line) (begun core : CoreState) (old new : Option (List ℕ)) : Type 0 where
   pub split : lines ≡ before ++ rest
   pub served : Served before begun core old new
+  pub behind : IsBehind core
   pub room : 2 * length rest ≤ core.spare
 
 -- The lines before the rest were served; all of them but at most the last were printed whole, and a front of what the last
@@ -51,6 +56,15 @@ pub record ServedInPart (lines : List Line) (begun core : CoreState) (old new : 
   pub answers : Answers core.last (before ++ last) core.history
   pub printed : ℕ
   pub gained : Gains old (out_text before core.history ++ take printed (out_text last core.history)) new
+
+-- nothing was made of a core, or stages of a flush were, for a call for which an id is left
+abbrev pub Waited : CoreState → CoreState → Type 0
+Waited old new = (new ≡ old) ⊎ (Waits old new × (old.last < GREATEST_ID))
+
+-- A call was answered, after the stages for which it waited: its entry stands at this place of the history. Or no id was left.
+abbrev pub AnswersLine : CoreState → CoreState → ℕ → ℕ → Command → Option ℕ → Type 0
+AnswersLine old new lane number command (Some place) = (place ≡ length old.history) × Enters old new lane number old.last command
+AnswersLine old new lane number command None = (old.last ≡ GREATEST_ID) × (new ≡ old)
 
 -- a line was run, and this is to be printed: its call was entered, or no id was left and all is as before
 abbrev pub RunsLine : CoreState → CoreState → Line → List ℕ → Type 0
@@ -70,12 +84,30 @@ pub record StoppedServing (old new : CoreState) (line : Line) (old_out new_out :
   pub runs : RunsLine old new line text
   pub printing : StoppedPrinting text old_out new_out stop
 
--- All lines were served on an open volume, and it was written back. Each reply has its cause.
+-- The stages of the last flush were made: all is committed, and the disk stands for the volume. Where a stage was made, since not
+-- all was committed before, nothing is unsettled.
+pub record Commits (old new : CoreState) : Type 0 where
+  pub flushed : IsFlushed new
+  pub committed : IfSome new.heap.disk (IsCommittedOn new)
+  pub made : (new ≡ old) ⊎ (Waits old new × (¬ IsFlushed old) × IfSome new.heap.disk (λ t. t.unsettled ≡ []))
+
+-- A core by its end: the disk has its volume, and, where its history has an entry, nothing is unsettled.
+pub record IsEnded (core : CoreState) : Type 0 where
+  pub committed : IfSome core.heap.disk (IsCommittedOn core)
+  pub settled : core.history ≢ [] → IfSome core.heap.disk (λ t. t.unsettled ≡ [])
+
+-- the disk of a core, as it was handed back
+pub record IsDiskOf (core : CoreState) (disk : Seen Told) : Type 0 where
+  pub told : disk.told ≡ core.heap.disk
+  pub faults : disk.faults ≡ core.counts.disk
+
+-- All lines were served on an open volume, and all is committed. Each reply has its cause.
 pub record UsesAll (lines : List Line) (begun : CoreState) (disk : Seen Told) (old new : Option (List ℕ)) : Type 0 where
   pub core : CoreState
   pub served : Served lines begun core old new
   pub caused : IsCausedRun core
-  pub finished : IsFinished core disk.told disk.faults (Ok tt)
+  pub ended : IsEnded core
+  pub disk_is : IsDiskOf core disk
 
 -- A line was not served to its end, and the volume was left as it was then. Each reply has its cause.
 pub record LeavesAtLine (lines : List Line) (begun : CoreState) (disk : Seen Told) (old new : Seen (List ℕ)) (stop : Stop)
@@ -84,17 +116,16 @@ pub record LeavesAtLine (lines : List Line) (begun : CoreState) (disk : Seen Tol
   pub served : ServedInPart lines begun core old.told new.told
   pub caused : IsCausedRun core
   pub cause : IsOutCause old.faults new.faults stop
-  pub count : disk.faults ≡ core.counts.disk
+  pub disk_is : IsDiskOf core disk
 
--- All lines were served, and the volume could not be written back. Each reply has its cause.
+-- All lines were served, and a stage of the last flush failed. Each reply has its cause.
 pub record FailsWriting (lines : List Line) (begun : CoreState) (disk : Seen Told) (old new : Option (List ℕ)) (stop : Stop)
     : Type 0 where
   pub core : CoreState
   pub served : Served lines begun core old new
-  pub fault : Fault
-  pub stop_is : stop ≡ of_fault fault
   pub caused : IsCausedRun core
-  pub finished : IsFinished core disk.told disk.faults (Err fault)
+  pub counted : core.counts.disk ≤ disk.faults
+  pub cause : IsWriteCause core.counts.disk disk.faults stop
 
 -- the use of an open volume stopped
 abbrev pub StopsUsing : List Line → CoreState → Seen Told → Seen (List ℕ) → Seen (List ℕ) → Stop → Type 0

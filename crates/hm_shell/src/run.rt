@@ -21,17 +21,21 @@ use std::thread::Threads;
 
 /// Reads the words and the script, makes a volume on the disk where the words ask for one, opens
 /// the disk's volume, runs the script's lines one after another, prints each reply before the next
-/// line is run, and writes the volume back.
+/// line is run, and commits what is left in a last flush.
+///
+/// A flush is made in stages. One is due before a line is answered where the changed pages fill a group,
+/// and for a sync until all that was answered before it is committed.
 ///
 /// It ends with status 0 once each line was answered and the volume is on the disk. Else it ends
 /// at the first of these that it meets: words that break the rule (2), a fault of the script's
 /// source (5), a script that is too long (9), a line that is outside the grammar, or has a lane, or is
 /// of a call that is not served (8), a disk that fails (4), that has no volume or one whose header is
-/// out of range (3), or a volume that is damaged (10), a fault of the sink (6), and want of memory
-/// outside a call's own reply (7). It then prints a last line, but for a fault of the sink, which ends
-/// it in silence. A fault of the sink in the last line leaves the status as it is. Nothing is written
-/// to the disk before words and script were found good, and nothing is flushed after a fault of the
-/// sink.
+/// out of range or names entries of the UNDO log, as of a volume that was cut off in a flush (3), or a
+/// volume that is damaged (10), a fault of the sink (6), and want of memory outside a call's own
+/// reply (7). A disk that fails in a stage for a line refuses that line alone. A last line is printed
+/// then, but for a fault of the sink, which ends the run in silence. A fault of the sink in the last line
+/// leaves the status as it is. Nothing is written to the disk before words and script were found good,
+/// and nothing is flushed after a fault of the sink.
 ///
 /// The streams are handed back as they are, and the gate is not called.
 pub fn run<

@@ -7,13 +7,13 @@ ghost use Rattle.hm_core.specs.Served.{IsAsked};
 ghost use Rattle.hm_shell.specs.Lines.{AreRising, IsServedLine};
 ghost use Rattle.hm_shell.specs.Running.{IsOutCause};
 ghost use Rattle.hm_shell.specs.Seen.{seen};
-ghost use Rattle.hm_shell.specs.Serving.{Served, ServedInPart, ServesLine, StoppedServing};
+ghost use Rattle.hm_shell.specs.Serving.{AnswersLine, IsBehind, Served, ServedInPart, ServesLine, StoppedServing};
 
 use crate::print::{print_entry, print_spent};
 use crate::stop::Stop;
-use hm_core::{Core, Step};
+use hm_core::{Core, Staged, Step};
 use hm_disk::Disk;
-use hm_model::Line;
+use hm_model::{Command, Line};
 use hm_pipe::Sink;
 use std::alloc::Global;
 
@@ -31,6 +31,7 @@ pub(crate) fn serve_script<D: Disk, I, O, K: Sink>(
     requires start { (seen_core core.old).history ≡ [] }
     ensures ok { OnOk result (Served lines.items (seen_core core.old) (seen_core core.new)
         (K.held out.old) (K.held out.new)) }
+    ensures behind { OnOk result (IsBehind (seen_core core.new)) }
     ensures err { OnErr result (ServedInPart lines.items (seen_core core.old) (seen_core core.new)
         (K.held out.old) (K.held out.new)) }
     ensures streams { KeepsStreams (devices_of core.old) (devices_of core.new) }
@@ -53,6 +54,7 @@ fn serve_lines<D: Disk, I, O, K: Sink>(
     requires room { 2 * length lines.items ≤ (seen_core core.old).spare }
     ensures ok { OnOk result (Served lines.items (seen_core core.old) (seen_core core.new)
         (K.held out.old) (K.held out.new)) }
+    ensures behind { OnOk result (IsBehind (seen_core core.new)) }
     ensures err { OnErr result (ServedInPart lines.items (seen_core core.old) (seen_core core.new)
         (K.held out.old) (K.held out.new)) }
     ensures streams { KeepsStreams (devices_of core.old) (devices_of core.new) }
@@ -86,9 +88,36 @@ fn serve_line<D: Disk, I, O, K: Sink>(
         number,
         command,
     } = line;
+    match answer_line(core, lane, number, command) {
+        Some(place) => print_entry(alloc, core.entry(place), out),
+        None => print_spent(out),
+    }
+}
+
+// Calls until the call is answered, and makes a stage of a flush each time that it waits for one. Tells where its entry stands, unless
+// no id was left.
+fn answer_line<D: Disk, I, O>(
+    core: &mut Core<D, I, O>,
+    lane: u8,
+    number: u32,
+    command: Command,
+) -> Option<usize>
+    requires asked { IsAsked command }
+    requires room { 2 ≤ (seen_core core.old).spare }
+    ensures answers { AnswersLine (seen_core core.old) (seen_core core.new) lane number command result }
+    ensures streams { KeepsStreams (devices_of core.old) (devices_of core.new) }
+{
     let since = core.last();
-    match core.call(lane, number, since, command) {
-        Step::Answered(place) => print_entry(alloc, core.entry(place), out),
-        Step::Spent => print_spent(out),
+    let mut waiting = command;
+    'waiting: loop {
+        match core.call(lane, number, since, waiting) {
+            Step::Answered(place) => return Some(place),
+            Step::MustFlush(back) => match core.flush_stage(lane, number, back) {
+                Staged::More(back) => waiting = back,
+                Staged::Refused(place) => return Some(place),
+                Staged::Spent => return None,
+            },
+            Step::Spent => return None,
+        }
     }
 }

@@ -1,15 +1,17 @@
 // A script's lines, run on the volume of a disk.
-ghost use Rattle.std.specs.Prelude.{◌≡◌, ◌≤◌, [], IfErr, IfSome, OnOk, All, length};
+ghost use Rattle.std.specs.Prelude.{◌≡◌, ◌≤◌, [], IfErr, IfSome, OnErr, OnOk, All, length};
 ghost use Rattle.hm_header.specs.Range.{IsSize};
 ghost use Rattle.hm_types.specs.declared.limits.TheConstants.{MOST_SCRIPT_LINES};
+ghost use Rattle.hm_core.specs.Core.{KeepsStreams};
 ghost use Rattle.hm_core.specs.Seen.{devices as devices_of, seen as seen_core};
+ghost use Rattle.hm_core.specs.Staged.{IsFlushed};
 ghost use Rattle.hm_shell.specs.Lines.{AreRising, IsServedLine};
 ghost use Rattle.hm_shell.specs.Making.{MakesVolume};
 ghost use Rattle.hm_shell.specs.Opening.{StoppedOpening};
 ghost use Rattle.hm_shell.specs.Preparing.{IsDue};
-ghost use Rattle.hm_shell.specs.Running.{RunsAll, StoppedRunning};
+ghost use Rattle.hm_shell.specs.Running.{IsWriteCause, RunsAll, StoppedRunning};
 ghost use Rattle.hm_shell.specs.Seen.{seen};
-ghost use Rattle.hm_shell.specs.Serving.{StopsUsing, UsesAll};
+ghost use Rattle.hm_shell.specs.Serving.{Commits, StopsUsing, UsesAll};
 
 use crate::job::Job;
 use crate::serve::serve_script;
@@ -120,7 +122,7 @@ fn make_volume<D: Disk>(disk: &mut D, bigblocks: Option<u32>) -> Result<(), Stop
     }
 }
 
-// Runs the lines on an open volume. It is written back where all of them were run.
+// Runs the lines on an open volume, and closes it.
 fn run_lines<D: Disk, I, O, K: Sink>(
     alloc: Global,
     core: Core<D, I, O>,
@@ -131,6 +133,7 @@ fn run_lines<D: Disk, I, O, K: Sink>(
     requires rising { AreRising lines.items }
     requires few { length lines.items ≤ MOST_SCRIPT_LINES }
     requires start { (seen_core core).history ≡ [] }
+    requires flushed { IsFlushed (seen_core core) }
     ensures ok { OnOk result.outcome (UsesAll lines.items (seen_core core)
         (seen D.told D.faults result.disk) (K.held out.old) (K.held out.new)) }
     ensures err { IfErr result.outcome (StopsUsing lines.items (seen_core core)
@@ -141,24 +144,55 @@ fn run_lines<D: Disk, I, O, K: Sink>(
         × (K.faults out.old ≤ K.faults out.new) }
 {
     let mut core = core;
-    if let Err(stop) = serve_script(alloc, &mut core, lines, out) {
-        let (disk, stream_in, stream_out) = core.into_devices();
-        return Closed {
-            disk,
-            stream_in,
-            stream_out,
-            outcome: Err(stop),
-        };
-    }
-    let (disk, stream_in, stream_out, outcome) = core.finish();
-    let outcome = match outcome {
-        Ok(()) => Ok(()),
-        Err(fault) => Err(Stop::of_fault(fault)),
-    };
+    let outcome = use_core(alloc, &mut core, lines, out);
+    let (disk, stream_in, stream_out) = core.into_devices();
     Closed {
         disk,
         stream_in,
         stream_out,
         outcome,
+    }
+}
+
+// Runs the lines, and commits all where each of them was run.
+fn use_core<D: Disk, I, O, K: Sink>(
+    alloc: Global,
+    core: &mut Core<D, I, O>,
+    lines: Vec<Line>,
+    out: &mut K,
+) -> Result<(), Stop>
+    requires each { All IsServedLine lines.items }
+    requires rising { AreRising lines.items }
+    requires few { length lines.items ≤ MOST_SCRIPT_LINES }
+    requires start { (seen_core core.old).history ≡ [] }
+    requires flushed { IsFlushed (seen_core core.old) }
+    ensures ok { OnOk result (UsesAll lines.items (seen_core core.old)
+        (seen D.told D.faults (devices_of core.new).disk) (K.held out.old) (K.held out.new)) }
+    ensures err { IfErr result (StopsUsing lines.items (seen_core core.old)
+        (seen D.told D.faults (devices_of core.new).disk)
+        (seen K.held K.faults out.old) (seen K.held K.faults out.new)) }
+    ensures streams { KeepsStreams (devices_of core.old) (devices_of core.new) }
+    ensures counts { ((seen_core core.old).counts.disk ≤ (seen_core core.new).counts.disk)
+        × (K.faults out.old ≤ K.faults out.new) }
+{
+    match serve_script(alloc, core, lines, out) {
+        Ok(()) => commit_all(core),
+        Err(stop) => Err(stop),
+    }
+}
+
+// Makes the stages of the last flush, until all is committed.
+fn commit_all<D: Disk, I, O>(core: &mut Core<D, I, O>) -> Result<(), Stop>
+    ensures ok { OnOk result (Commits (seen_core core.old) (seen_core core.new)) }
+    ensures err { IfErr result (IsWriteCause (seen_core core.old).counts.disk (seen_core core.new).counts.disk) }
+    ensures streams { KeepsStreams (devices_of core.old) (devices_of core.new) }
+    ensures never_falls { (seen_core core.old).counts.disk ≤ (seen_core core.new).counts.disk }
+{
+    'flushing: loop {
+        match core.end_stage() {
+            Ok(true) => return Ok(()),
+            Ok(false) => {}
+            Err(fault) => return Err(Stop::of_fault(fault)),
+        }
     }
 }

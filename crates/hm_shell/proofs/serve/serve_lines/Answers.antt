@@ -1,7 +1,8 @@
 use Rattle.std.proofs.Common.{arith}
 use Rattle.hm_core.specs.Seen.{seen as seen_core}
 use Rattle.hm_shell.proofs.PrintLemmas.{on_err}
-use Rattle.hm_shell.proofs.ServeLemmas.{ServedInPart-stopped, Serving-more, streams_more}
+use Rattle.hm_shell.proofs.ServeLemmas.{ServedInPart-stopped, Serving-more}
+use Rattle.hm_shell.proofs.WaitLemmas.{streams_more}
 use Rattle.hm_shell.proofs.serve.serve_lines.Goals as goal
 
 pub loop-line-preserved : goal.loop-line-preserved

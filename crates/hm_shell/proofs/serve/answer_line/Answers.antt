@@ -1,0 +1,41 @@
+use Rattle.std.proofs.Common.{refl}
+use Rattle.hm_core.specs.Seen.{seen as seen_core}
+use Rattle.hm_shell.proofs.WaitLemmas.{again_is, answered_after, falls_after, refused_after, streams_more, waited_after}
+use Rattle.hm_shell.proofs.serve.answer_line.Goals as goal
+
+pub returns-in-Answered-clause-answers : goal.returns-in-Answered-clause-answers
+returns-in-Answered-clause-answers g c =
+    answered_after (seen_core c.args.core.now) (seen_core c.waiting.core) c.args.lane c.args.number c.last-since.result.0 c.args.command
+    c.waiting.waiting c.waiting.invariant.waited c.waiting.invariant.since_is c.waiting.invariant.command_is (seen_core c.call.new.self)
+    c.in-Answered.place c.in-Answered.ensures.steps
+
+pub returns-in-Refused-clause-answers : goal.returns-in-Refused-clause-answers
+returns-in-Refused-clause-answers g c =
+    refused_after (seen_core c.args.core.now) (seen_core c.waiting.core) c.args.lane c.args.number c.last-since.result.0 c.args.command
+    c.waiting.waiting c.waiting.invariant.waited c.waiting.invariant.since_is c.waiting.invariant.command_is (seen_core c.call.new.self)
+    (seen_core c.flush_stage.new.self) c.in-MustFlush.back c.in-MustFlush.ensures.steps c.in-Refused.place c.in-Refused.ensures.stages
+
+pub waiting-preserved : goal.waiting-preserved
+waiting-preserved g c =
+    let old = seen_core c.args.core.now in
+    let mid = seen_core c.waiting.core in
+    let same = seen_core c.call.new.self in
+    let new = seen_core c.flush_stage.new.self in
+    let waited = c.waiting.invariant.waited in
+    let since_is = c.waiting.invariant.since_is in
+    let command_is = c.waiting.invariant.command_is in
+    record {
+      waited = waited_after old mid c.args.lane c.args.number c.last-since.result.0 c.args.command c.waiting.waiting waited since_is command_is same new
+          c.in-MustFlush.back c.in-MustFlush.ensures.steps c.in-More.back c.in-More.ensures.stages;
+      streams = streams_more _ _ _ c.waiting.invariant.streams (streams_more _ _ _ (rw c.in-MustFlush.ensures.streams (record { input = refl; output = refl }))
+          c.flush_stage.ensures.streams);
+      since_is = since_is;
+      command_is = again_is old mid c.args.lane c.args.number c.last-since.result.0 c.args.command c.waiting.waiting waited since_is command_is same new
+          c.in-MustFlush.back c.in-MustFlush.ensures.steps c.in-More.back c.in-More.ensures.stages;
+    }
+
+pub waiting-smaller : goal.waiting-smaller
+waiting-smaller g c =
+    falls_after (seen_core c.args.core.now) (seen_core c.waiting.core) c.args.lane c.args.number c.last-since.result.0 c.args.command
+    c.waiting.waiting c.waiting.invariant.waited c.waiting.invariant.since_is c.waiting.invariant.command_is (seen_core c.call.new.self)
+    (seen_core c.flush_stage.new.self) c.in-MustFlush.back c.in-MustFlush.ensures.steps c.in-More.back c.in-More.ensures.stages refl

@@ -1,0 +1,38 @@
+use Rattle.std.proofs.Common.{Bool, refl, subst}
+use Rattle.std.specs.Prelude.{Ok}
+use Rattle.hm_core.specs.Seen.{seen as seen_core}
+use Rattle.hm_core.specs.Staged.{EndsBy}
+use Rattle.hm_shell.proofs.CommitLemmas.{commits_all, so_far_more, write_cause}
+use Rattle.hm_shell.proofs.FlushLemmas.{stages_fall, unflushed_open}
+use Rattle.hm_shell.proofs.WaitLemmas.{streams_more}
+use Rattle.hm_shell.proofs.volume.commit_all.Goals as goal
+
+pub returns-in-Ok-true-clause-ok : goal.returns-in-Ok-true-clause-ok
+returns-in-Ok-true-clause-ok g c =
+    let mid = seen_core c.flushing.core in
+    let new = seen_core c.end_stage.new.self in
+    commits_all (seen_core c.args.core.now) mid new c.flushing.invariant.so_far
+    (subst (λ (b : Bool). EndsBy mid new (Ok b)) c.in-Ok-true.field-0-test c.in-Ok-true.ensures.ends)
+    (c.in-Ok-true.ensures.committed c.in-Ok-true.field-0-test)
+
+pub flushing-preserved : goal.flushing-preserved
+flushing-preserved g c =
+    let mid = seen_core c.flushing.core in
+    let new = seen_core c.end_stage.new.self in
+    record {
+      so_far = so_far_more (seen_core c.args.core.now) mid new c.flushing.invariant.so_far
+          (subst (λ (b : Bool). EndsBy mid new (Ok b)) c.in-Ok-false.field-0-test c.in-Ok-false.ensures.ends);
+      streams = streams_more _ _ _ c.flushing.invariant.streams c.end_stage.ensures.streams;
+    }
+
+pub flushing-smaller : goal.flushing-smaller
+flushing-smaller g c =
+    let mid = seen_core c.flushing.core in
+    let new = seen_core c.end_stage.new.self in
+    let ends = subst (λ (b : Bool). EndsBy mid new (Ok b)) c.in-Ok-false.field-0-test c.in-Ok-false.ensures.ends in
+    stages_fall mid new ends.2 (unflushed_open mid refl ends.0)
+
+pub returns-in-Err-clause-err : goal.returns-in-Err-clause-err
+returns-in-Err-clause-err g c =
+    rw c.of_fault.ensures (write_cause (seen_core c.args.core.now) (seen_core c.flushing.core) (seen_core c.end_stage.new.self) (seen_core c.flushing.core).flush.at
+    c.in-Err.fault c.flushing.invariant.so_far c.in-Err.ensures.cause)
