@@ -223,7 +223,8 @@ class Volume(History):
         return f'ok {self.space.pool} {OPEN if free is None else free}'
 
     def sync(self):
-        # All that was done before it is on the disk: the boundary is the last id before this call.
+        # It waits until the boundary, the last id that is on the disk, is no earlier than the last id as it
+        # began. No other call goes on meanwhile, so that is the boundary then.
         self.boundary = self.last
         return 'ok'
 

@@ -26,7 +26,7 @@ BAD_PATHS = [
 BAD_LINES = [
     'frob /a', 'mkdir', 'mkdir /a /b', ' ls /', 'ls  /', 'ls / ', 'ls\t/', 'LS /', 'cat /a 0 0',
     'cat /a 0 16385', 'cat /a 00 1', 'fill /a 0 65537 00', 'fill /a 0 1 0', 'write /a 0 0', 'write /a 0 0g',
-    'truncate /a -1', 'truncate /a 18446744073709551616', 'sync', 'prune /', '1: ls /', 'progress',
+    'truncate /a -1', 'truncate /a 18446744073709551616', 'sync /', 'prune /', '1: ls /', 'progress',
     'ls /\x7f', 'df /', '\r',
 ]
 DEEPEST = 12
@@ -208,7 +208,7 @@ class Author:
         calls = {
             'mkdir': 7, 'touch': 8, 'symlink': 3, 'snapshot': 2, 'ln': 6, 'rm': 6, 'rmdir': 4, 'mv': 12,
             'ls': 6, 'stat': 7, 'readlink': 3, 'write': 10, 'fill': 8 + 10 * self.fills, 'truncate': 8,
-            'cat': 14, 'df': 2,
+            'cat': 14, 'df': 2, 'sync': 1, 'synctid': 1,
         }
         if self.on_bytes:
             calls |= {'write': 60, 'fill': 60, 'truncate': 60, 'cat': 80}

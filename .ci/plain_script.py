@@ -91,8 +91,8 @@ FORMS = {
 
 # The forms that the program reads, and does not serve yet: a line of one is a bad line there.
 PLANNED = {
-    'sync', 'synctid', 'prune', 'prune-everything', 'reblock', 'pfs-master', 'pfs-slave', 'pfs-status',
-    'pfs-upgrade', 'mirror-read', 'mirror-write', 'mirror-copy', 'progress',
+    'prune', 'prune-everything', 'reblock', 'pfs-master', 'pfs-slave', 'pfs-status', 'pfs-upgrade',
+    'mirror-read', 'mirror-write', 'mirror-copy', 'progress',
 }
 
 

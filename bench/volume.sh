@@ -1,6 +1,7 @@
 #!/usr/bin/env bash
 # Writing a volume: the writes and the syncs of a run that adds 1,000 directories to a volume of 24
-# big-blocks, as strace counts them: payloads as the lines are run, and pages and the header at the end.
+# big-blocks, as strace counts them: payloads as the lines are run, and the log, pages and two headers at
+# the end.
 . "$(dirname "${BASH_SOURCE[0]}")/common.bash"
 
 command -v strace >/dev/null || stop "strace is not there"
@@ -22,13 +23,14 @@ awk -v volume="$volume" -v directories="$directories" -v payloads="$payloads" '
         written = substr($0, RSTART + 2)
         writes++
         bytes += written
-        if (written == 4096) pages++; else small += written
+        if (written == 4096) pages++; else if (written == 4128) entries++; else small += written
     }
     fd != "" && ($0 ~ " f(data)?sync\\(" fd "\\)") { syncs++ }
     END {
         printf "directories       %d more, with %d bytes of inodes and entries\n", directories, payloads
         printf "writes            %d to the volume, %d bytes\n", writes, bytes
         printf "pages             %d of them, of 4,096 bytes\n", pages
+        printf "entries           %d of them, of 4,128 bytes\n", entries
         printf "the others        %d bytes\n", small
         printf "syncs             %d\n", syncs
     }' "$room/calls"
