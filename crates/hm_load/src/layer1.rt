@@ -43,6 +43,7 @@ pub(crate) fn check_layer1<D: Disk>(
     ensures damage { IfSome (D.told disk.old) (λ t.
         IfErr result (Tells (IsLayer1Damage t.bytes volume.now.bigblocks))) }
     ensures same { D.told disk.new ≡ D.told disk.old }
+    ensures crashes { D.past disk.new ≡ D.past disk.old }
     ensures cause { HasFaultCause (D.faults disk.old) (D.faults disk.new) result }
 {
     for piece in 0..PIECES {

@@ -61,6 +61,7 @@ pub(crate) fn load_layer2<D: Disk>(
     ensures damage { IfSome (D.told disk.old) (λ t.
         IfErr result (Tells (IsLayer2Damage t.bytes header.now))) }
     ensures same { D.told disk.new ≡ D.told disk.old }
+    ensures crashes { D.past disk.new ≡ D.past disk.old }
     ensures cause { HasFaultCause (D.faults disk.old) (D.faults disk.new) result }
 {
     for piece in 0..layer2_blocks(header.bigblocks) * PIECES {

@@ -36,6 +36,7 @@ pub(crate) fn check_payloads<D: Disk>(
     ensures damage { IfSome (D.told disk.old) (λ t. IfErr result
         (Tells (IsPayloadDamage t.bytes volume.now.bigblocks leaf.now.places.items))) }
     ensures same { D.told disk.new ≡ D.told disk.old }
+    ensures crashes { D.past disk.new ≡ D.past disk.old }
     ensures cause { HasFaultCause (D.faults disk.old) (D.faults disk.new) result }
 {
     for i in 0..leaf.places.len() {
@@ -64,6 +65,7 @@ fn is_payload<D: Disk>(
     ensures ok { IfOk result (λ is. IfSome (D.told disk.old) (λ t.
         IsTrue is ↔ HasPayload t.bytes volume.now.bigblocks element.now)) }
     ensures same { D.told disk.new ≡ D.told disk.old }
+    ensures crashes { D.past disk.new ≡ D.past disk.old }
     ensures cause { HasDiskCause (D.faults disk.old) (D.faults disk.new) result }
 {
     match element.base.rec_type {
@@ -87,6 +89,7 @@ fn is_read<D: Disk>(
     ensures ok { IfOk result (λ is. IfSome (D.told disk.old) (λ t.
         IsTrue is ↔ HasPayload t.bytes volume.now.bigblocks element.now)) }
     ensures same { D.told disk.new ≡ D.told disk.old }
+    ensures crashes { D.past disk.new ≡ D.past disk.old }
     ensures cause { HasDiskCause (D.faults disk.old) (D.faults disk.new) result }
 {
     if element.len > MOST_PAYLOAD_BYTES {

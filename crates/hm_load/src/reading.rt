@@ -24,7 +24,7 @@ use hm_types::Fault;
 use std::alloc::Global;
 
 /// Reads every page of both layers of the freemap and the whole tree of a volume into a store of
-/// pages, and each payload to check it.
+/// pages, and each payload to check it. It writes nothing: what a crash may have left stays.
 pub fn load<D: Disk>(alloc: Global, disk: &mut D, header: &Header) -> Result<PageStore, Fault>
     requires header { IsHeader header.now }
     requires space { IfSome (D.told disk.old) (HasSpace header.now.bigblocks) }
@@ -36,6 +36,7 @@ pub fn load<D: Disk>(alloc: Global, disk: &mut D, header: &Header) -> Result<Pag
     ensures damage { IfSome (D.told disk.old) (λ t.
         IfErr result (Tells (IsDamage t.bytes header.now))) }
     ensures same { D.told disk.new ≡ D.told disk.old }
+    ensures crashes { D.past disk.new ≡ D.past disk.old }
     ensures cause { HasFaultCause (D.faults disk.old) (D.faults disk.new) result }
 {
     let mut buffer = vec![in alloc; 0; MOST_CALL_BYTES]?;
@@ -62,6 +63,7 @@ fn load_into<D: Disk>(
     ensures damage { IfSome (D.told disk.old) (λ t.
         IfErr result (Tells (IsDamage t.bytes header.now))) }
     ensures same { D.told disk.new ≡ D.told disk.old }
+    ensures crashes { D.past disk.new ≡ D.past disk.old }
     ensures cause { HasFaultCause (D.faults disk.old) (D.faults disk.new) result }
 {
     let volume = Volume {
@@ -93,6 +95,7 @@ fn load_freemap<D: Disk>(
     ensures damage { IfSome (D.told disk.old) (λ t.
         IfErr result (Tells (IsDamage t.bytes header.now))) }
     ensures same { D.told disk.new ≡ D.told disk.old }
+    ensures crashes { D.past disk.new ≡ D.past disk.old }
     ensures cause { HasFaultCause (D.faults disk.old) (D.faults disk.new) result }
 {
     check_layer1(disk, volume, buffer)?;

@@ -44,6 +44,7 @@ pub(crate) fn load_below<D: Disk>(
     ensures damage { IfSome (D.told disk.old) (λ t. IfErr result
         (Tells (λ at kind. IsTreeDamage t.bytes volume.now.bigblocks at kind subtree.now))) }
     ensures same { D.told disk.new ≡ D.told disk.old }
+    ensures crashes { D.past disk.new ≡ D.past disk.old }
     ensures cause { HasFaultCause (D.faults disk.old) (D.faults disk.new) result }
 {
     let inner = match load_node(disk, volume, store, subtree)? {
@@ -77,6 +78,7 @@ fn load_node<D: Disk>(
     ensures damage { IfSome (D.told disk.old) (λ t. IfErr result
         (Tells (IsNodeDamage t.bytes volume.now.bigblocks subtree.now))) }
     ensures same { D.told disk.new ≡ D.told disk.old }
+    ensures crashes { D.past disk.new ≡ D.past disk.old }
     ensures cause { HasFaultCause (D.faults disk.old) (D.faults disk.new) result }
 {
     let mut page = Page::zero();

@@ -37,6 +37,7 @@ impl Volume {
         ensures past { OnOk result (start_of self.now.bigblocks ≤ place →
             buf.new ≡ replicate (length buf.old) 0) }
         ensures same { D.told disk.new ≡ D.told disk.old }
+        ensures crashes { D.past disk.new ≡ D.past disk.old }
         ensures cause { HasDiskCause (D.faults disk.old) (D.faults disk.new) result }
     {
         let end = u64::from(self.bigblocks) * BIGBLOCK_BYTES;
@@ -55,6 +56,7 @@ impl Volume {
         ensures past { OnOk result (start_of self.now.bigblocks ≤ byte_of at →
             page.new ≡ replicate PAGE_BYTES 0) }
         ensures same { D.told disk.new ≡ D.told disk.old }
+        ensures crashes { D.past disk.new ≡ D.past disk.old }
         ensures cause { HasDiskCause (D.faults disk.old) (D.faults disk.new) result }
     {
         let mut bytes = [0; PAGE_BYTES];
@@ -72,6 +74,7 @@ fn read_at<D: Disk>(disk: &mut D, place: u64, buf: &mut [u8]) -> Result<(), Faul
     ensures ok { OnOk result (IfSome (D.told disk.old) (λ t.
         buf.new ≡ slice_range t.bytes place (place + length buf.old))) }
     ensures same { D.told disk.new ≡ D.told disk.old }
+    ensures crashes { D.past disk.new ≡ D.past disk.old }
     ensures cause { HasDiskCause (D.faults disk.old) (D.faults disk.new) result }
 {
     if buf.is_empty() {

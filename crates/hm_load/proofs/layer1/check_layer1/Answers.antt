@@ -13,6 +13,7 @@ loop-piece-preserved g c =
     let long : length c.loop-piece.buffer ≡ 131072 = omega (arith, c.loop-piece.auto.buffer, c.requires.len) in
     record {
       told = c.read.ensures.same ∙ c.loop-piece.invariant.told;
+      crashes = c.read.ensures.crashes ∙ c.loop-piece.invariant.crashes;
       counted = omega (arith, c.loop-piece.invariant.counted, c.in_ok-read.ensures.cause.counted.never_falls);
       entries = told_both (g.D.Disk.told c.args.disk.now)
           (λ t before same. entries_more t.bytes c.read.new.buf c.args.volume.now.bigblocks c.loop-piece.piece place (length c.loop-piece.buffer)

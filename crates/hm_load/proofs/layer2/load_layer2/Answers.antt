@@ -20,6 +20,7 @@ loop-piece-preserved g c =
     let next : piece * 32 + 32 ≡ (piece + 1) * 32 = omega arith in
     record {
       told = c.read.ensures.same ∙ c.loop-piece.invariant.told;
+      crashes = c.read.ensures.crashes ∙ c.loop-piece.invariant.crashes;
       counted = omega (arith, c.loop-piece.invariant.counted, c.in_ok-read.ensures.cause.counted.never_falls);
       plain = c.in_ok-load_piece.ensures.ok.plain;
       layer = subst (λ (n : ℕ). HoldsLayer2 c.args.header.now n (contents c.load_piece.new.store).current) next c.in_ok-load_piece.ensures.ok.layer;

@@ -14,6 +14,7 @@ loop-i-preserved g c =
     let at : slice_get items c.loop-i.i ≡ Some e = slice_get_read items (length items) c.loop-i.i e refl low here in
     record {
       told = c.is_payload.ensures.same ∙ c.loop-i.invariant.told;
+      crashes = c.is_payload.ensures.crashes ∙ c.loop-i.invariant.crashes;
       counted = omega (arith, c.loop-i.invariant.counted, c.in_ok-is_payload.ensures.cause.counted.never_falls);
       payloads = told_both (g.D.Disk.told c.args.disk.now)
           (λ t before both. payloads_more t.bytes c.args.volume.now.bigblocks c.loop-i.i items e at before (both.0 c.if-not-branch.false))

@@ -7,6 +7,7 @@ use Rattle.hm_load.proofs.payload.check_payloads.Given as goal
 abbrev pub invariant-loop-i : goal.invariant-loop-i
 invariant-loop-i g l = record {
   told : g.D.Disk.told l.disk ≡ g.D.Disk.told l.fn.disk;
+  crashes : g.D.Disk.past l.disk ≡ g.D.Disk.past l.fn.disk;
   counted : g.D.Disk.faults l.fn.disk ≤ g.D.Disk.faults l.disk;
   payloads : IfSome (g.D.Disk.told l.fn.disk) (λ t. (j : ℕ) (e : Element) → j < l.i → slice_get l.leaf.places.items j ≡ Some e
       → HasPayload t.bytes l.volume.bigblocks e);

@@ -79,6 +79,7 @@ load_below-requires g t c κs within =
 pub loop-i-init : goal.loop-i-init
 loop-i-init g t c = record {
   told = c.load_node.ensures.same;
+  crashes = c.load_node.ensures.crashes;
   counted = c.load_node.ensures.cause.never_falls;
   plain = c.in_ok-leaf.ensures.ok.0;
   children = no_children c.in-Inner.inner (contents c.load_node.new.store).current;
@@ -89,6 +90,7 @@ loop-i-init g t c = record {
 pub loop-i-preserved : goal.loop-i-preserved
 loop-i-preserved g t c = record {
   told = c.load_below.ensures.same ∙ c.loop-i.invariant.told;
+  crashes = c.load_below.ensures.crashes ∙ c.loop-i.invariant.crashes;
   counted = omega (arith, c.loop-i.invariant.counted, c.load_below.ensures.cause.never_falls);
   plain = c.in_ok-load_below.ensures.ok.0;
   children = children_more c.in-Inner.inner c.loop-i.i c.child.result (contents c.load_node.new.store).current (contents c.loop-i.store).current

@@ -13,6 +13,7 @@ decreases-load_below g l = levels_below l.subtree.now
 abbrev pub invariant-loop-i : goal.invariant-loop-i
 invariant-loop-i g l = record {
   told : g.D.Disk.told l.disk ≡ g.D.Disk.told l.fn.disk;
+  crashes : g.D.Disk.past l.disk ≡ g.D.Disk.past l.fn.disk;
   counted : g.D.Disk.faults l.fn.disk ≤ g.D.Disk.faults l.disk;
   plain : IsPlain (contents l.store);
   children : AddsChildren l.inner l.i (contents l.initial.store).current (contents l.store).current;
