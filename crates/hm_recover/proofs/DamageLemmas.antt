@@ -83,7 +83,7 @@ damage-one image header one other is is' =
     is.place ∙ (ap (λ (i : ℕ). entry_offset header.bigblocks (entry_at header.undo_first i)) same ∙ sym is'.place)) (cases_lt is'.i is.i))
     (cases_lt is.i is'.i)
 
-same-header : (image : List ℕ) (a b : Header) (m n : ℕ) → HasHeader image a m → HasHeader image b n → a ≡ b
+pub same-header : (image : List ℕ) (a b : Header) (m n : ℕ) → HasHeader image a m → HasHeader image b n → a ≡ b
 same-header image a b m n is is' = (chosen_is_one (first_slot image) (second_slot image) (length image) a b m n is is').0
 
 pub damage-is-one : (image : List ℕ) (at kind at' kind' : ℕ) → HasRangeDamage image at kind → HasRangeDamage image at' kind' → (at ≡ at') × (kind ≡ kind')

@@ -1,4 +1,5 @@
 pub mod AnswerLemmas
+pub mod BoundaryLemmas
 pub mod DamageLemmas
 pub mod PageLemmas
 pub mod PutLemmas

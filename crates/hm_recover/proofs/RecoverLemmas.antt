@@ -29,8 +29,11 @@ use Rattle.hm_undo.proofs.PutBackLemmas.{length-put_back, put_back-leaves, same-
 use Rattle.hm_undo.proofs.RangeLemmas.{range-same}
 use Rattle.hm_undo.proofs.RecoveredLemmas.{pages-fit, recovered-again, recovery-is-one}
 use Rattle.hm_recover.specs.Put.{HasPutAll, MayPutAll}
-use Rattle.hm_recover.specs.Recovery.{IsRangeReady, IsRecovered, IsUntouched, KeepsRecovery, StillRecovers}
+use Rattle.hm_recover.specs.Recovery.{HasWholeRange, IsRangeReady, IsRecovered, IsUntouched, KeepsRecovery, StillRecovers}
+use Rattle.hm_recover.specs.Stop.{IsFailed, IsStopped}
 use Rattle.hm_recover.specs.declared.opened.Opened.{Opened}
+use Rattle.hm_recover.specs.declared.stop.Stop.{Stop}
+use Rattle.hm_recover.specs.declared.stop.Stop.TheVariants.{Failed, Refused}
 use Rattle.hm_recover.proofs.PutLemmas.{elapses-after-read}
 use Rattle.hm_recover.proofs.PageLemmas.{entry-small, header-stays, range-out}
 
@@ -228,6 +231,11 @@ untouched-keeps past since s t same =
           (Elapses-read _ past past since s s (Elapses-none _ past s) same.left);
     }
 
+-- the range that is undone is whole
+whole-range : (header : Header) (slot : ℕ) (t : Told) → IsRangeReady header slot t → HasWholeRange t.bytes
+whole-range header slot t ready =
+    record { header = header; slot = slot; counts = ready.counts; some = ready.some; olds = ready.olds; range = ready.range }
+
 module _ (header : Header) (slot : ℕ) (small : slot ≤ 1) (past : LeftSince) (s : Told) (ready : IsRangeReady header slot s) where
   abbrev at-last : List ℕ
   at-last = result s.bytes header slot small ready.counts ready.some ready.olds ready.range
@@ -288,7 +296,7 @@ module _ (header : Header) (slot : ℕ) (small : slot ≤ 1) (past : LeftSince) 
         recovers = subst (λ (bytes : List ℕ). RecoversTo s.bytes bytes) (sym last) is-last;
         counts = subst (λ (n : ℕ). HasHeader v.bytes opened.header n) (sym slot_is)
             (subst (λ (h : Header). HasHeader v.bytes h (1 - slot)) (sym header_is) changes.header_is);
-        how = inr (record { header = header; slot = slot; counts = ready.counts; some = ready.some }, changes.settled);
+        how = inr (whole-range header slot s ready, changes.settled);
       }
 
 -- the pages are put back and settled
@@ -385,3 +393,33 @@ module _ (past middle since : LeftSince) (old told new : Option Told) (same : to
         counts = is.counts;
         how = ⊎_elim (λ same. inl (same.0, record { told = same.1.told; left = SameLeft-then past middle since left same.1.left })) (λ range. inr range) is.how;
       }) both
+
+-- a header that counts names a range that was checked
+pub checked-whole : (old told : Option Told) (header : Header) (slot : ℕ) → told ≡ old → 0 < header.undo_count
+    → IfSome old (λ t. HasHeader t.bytes header slot) → IfSome told (λ t. (olds : List OldPage) × HasRange t.bytes header olds)
+    → IfSome old (λ t. HasWholeRange t.bytes)
+checked-whole old told header slot same some counts range =
+    at old counts (subst (λ (o : Option Told). IfSome o (λ t. (olds : List OldPage) × HasRange t.bytes header olds)) same range)
+  where
+    at : (o : Option Told) → IfSome o (λ t. HasHeader t.bytes header slot) → IfSome o (λ t. (olds : List OldPage) × HasRange t.bytes header olds)
+        → IfSome o (λ t. HasWholeRange t.bytes)
+    at None counts range = tt
+    at (Some t) counts range = record { header = header; slot = slot; counts = counts; some = some; olds = range.0; range = range.1 }
+
+-- the disk failed while the pages of a whole range were put back
+failed-stops : (past since : LeftSince) (s t : Told) (stop : Stop) → HasWholeRange s.bytes → IsFailed stop → IsStopped stop past since s t
+failed-stops past since s t Failed whole failed = inr whole
+failed-stops past since s t (Refused fault) whole failed = absurd failed
+
+pub range-stops : (past middle since : LeftSince) (old told new : Option Told) (stop : Stop) → told ≡ old → IfSome old (λ t. HasWholeRange t.bytes)
+    → BothTell told new (KeepsRecovery middle since) → IfSome told (λ _. IsFailed stop) → BothTell old new (IsStopped stop past since)
+range-stops past middle since old told new stop same whole both failed =
+    at old new (subst (λ (o : Option Told). BothTell o new (KeepsRecovery middle since)) same both) whole
+    (subst (λ (o : Option Told). IfSome o (λ _. IsFailed stop)) same failed)
+  where
+    at : (o n : Option Told) → BothTell o n (KeepsRecovery middle since) → IfSome o (λ t. HasWholeRange t.bytes) → IfSome o (λ _. IsFailed stop)
+        → BothTell o n (IsStopped stop past since)
+    at None None both whole failed = tt
+    at (Some s) (Some t) both whole failed = failed-stops past since s t stop whole failed
+    at None (Some t) both whole failed = absurd both
+    at (Some s) None both whole failed = absurd both

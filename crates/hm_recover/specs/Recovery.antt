@@ -20,12 +20,14 @@ use Rattle.hm_recover.specs.declared.opened.Opened.{Opened}
 abbrev pub HasSpaceFor : ℕ → Told → Type 0
 HasSpaceFor bigblocks t = HasRoom (length t.bytes) bigblocks
 
--- the header that counts names a range of entries
-pub record NamesRange (image : List ℕ) : Type 0 where
+-- the header that counts names a range of entries, and each of them is whole
+pub record HasWholeRange (image : List ℕ) : Type 0 where
   pub header : Header
   pub slot : ℕ
   pub counts : HasHeader image header slot
   pub some : 0 < header.undo_count
+  pub olds : List OldPage
+  pub range : HasRange image header olds
 
 -- the header of this slot counts, and names a range in which each entry is whole
 pub record IsRangeReady (header : Header) (slot : ℕ) (t : Told) : Type 0 where
@@ -51,13 +53,14 @@ pub record IsRecovered (opened : Opened) (past since : LeftSince) (old new : Tol
   pub recovers : RecoversTo old.bytes new.bytes
   pub counts : HasHeader new.bytes opened.header opened.slot
   pub how : (HasHeader old.bytes opened.header opened.slot × IsUntouched past since old new)
-      ⊎ (NamesRange old.bytes × (new.unsettled ≡ []))
+      ⊎ (HasWholeRange old.bytes × (new.unsettled ≡ []))
 
--- A disk was not recovered: it failed, or nothing was written, and this is why. No memory is taken.
+-- A disk was not recovered, and this is why: nothing was written, or the disk failed while the pages of a whole range were put back.
+-- No memory is taken.
 abbrev pub IsRecoveryRefused : OpenFault → LeftSince → LeftSince → Told → Told → Type 0
 IsRecoveryRefused NotVolume past since old new = IsUntouched past since old new × HasFault old.bytes no_volume
 IsRecoveryRefused (BadField place) past since old new = IsUntouched past since old new × HasFault old.bytes (bad_field place)
-IsRecoveryRefused (of_disk (Media before after)) past since old new = Unit {0}
+IsRecoveryRefused (of_disk (Media before after)) past since old new = IsUntouched past since old new ⊎ HasWholeRange old.bytes
 IsRecoveryRefused (of_disk (Damaged at kind)) past since old new = IsUntouched past since old new × HasRangeDamage old.bytes at kind
 IsRecoveryRefused (of_disk NoMemory) past since old new = ⊥
 

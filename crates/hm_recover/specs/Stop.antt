@@ -1,5 +1,5 @@
 -- Why a recovery did not come to its end.
-use Rattle.std.specs.Prelude.{◌≡◌, ℕ, ◌≤◌, List, Result, IfErr}
+use Rattle.std.specs.Prelude.{◌≡◌, ◌⊎◌, ℕ, ◌≤◌, List, Result, IfErr}
 use Rattle.hm_types.specs.Faults.{Rose}
 use Rattle.hm_types.specs.declared.damage.TheConstants.{BAD_UNDO}
 use Rattle.hm_types.specs.declared.fault.Fault.TheVariants.{Damaged, Media, NoMemory}
@@ -10,7 +10,7 @@ use Rattle.hm_header.specs.declared.fault.HeaderFault.TheVariants.{BadField as b
 use Rattle.hm_header.specs.declared.header.Header.{Header}
 use Rattle.hm_undo.specs.Range.{HasRange, OldPage}
 use Rattle.hm_recover.specs.Damage.{IsRangeDamage, IsWholeEntry}
-use Rattle.hm_recover.specs.Recovery.{IsRecoveryRefused}
+use Rattle.hm_recover.specs.Recovery.{HasWholeRange, IsRecoveryRefused, IsUntouched}
 use Rattle.hm_recover.specs.declared.fault.OpenFault.{OpenFault}
 use Rattle.hm_recover.specs.declared.fault.OpenFault.TheVariants.{BadField, Fault as of_disk, NotVolume}
 use Rattle.hm_recover.specs.declared.stop.Stop.{Stop}
@@ -65,7 +65,7 @@ IsNoDamage header entry stop t = IsWholeEntry t.bytes header entry → IsFailed 
 abbrev pub IsNoRange : Header → Stop → Told → Type 0
 IsNoRange header stop t = (olds : List OldPage) → HasRange t.bytes header olds → IsFailed stop
 
--- a recovery ended early: the disk failed, or nothing was written, and this is why
+-- a recovery ended early, and this is why: nothing was written, or the disk failed while the pages of a whole range were put back
 abbrev pub IsStopped : Stop → LeftSince → LeftSince → Told → Told → Type 0
-IsStopped Failed past since old new = Unit {0}
+IsStopped Failed past since old new = IsUntouched past since old new ⊎ HasWholeRange old.bytes
 IsStopped (Refused fault) past since old new = IsRecoveryRefused fault past since old new

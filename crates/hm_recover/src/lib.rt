@@ -13,7 +13,7 @@ mod stop;
 pub use fault::OpenFault;
 pub use laws::{
     an_image_that_recovers_has_no_damage, an_image_that_recovers_has_no_fault,
-    the_damage_of_a_range_is_one,
+    recovery_keeps_the_boundary, the_damage_of_a_range_is_one,
 };
 pub use opened::Opened;
 pub use recovery::recover;
