@@ -1,17 +1,16 @@
--- What no call of a space touches of its disk, nor unsettles: all before the pool, and the state that was committed last.
-use Rattle.std.proofs.Common.{◌≡◌, Bool, true, false, true≢false, ℕ, ◌+◌, ◌*◌, ◌<◌, ◌≤◌, List, Option, Some, None, IsSome, refl, sym, ap, subst, ◌∙◌}
-use Rattle.std.proofs.Common.{arith, cond, is_some, length, map, nat_lt, slice_index, slice_range}
-use Rattle.std.specs.Prelude.{IfSome, option_map, ◌&&◌, ◌||◌, ◌++◌}
+-- What no call of a space touches of its disk, nor unsettles: all before the pool, and what the committed and the frozen tree refer to.
+use Rattle.std.proofs.Common.{◌≡◌, Bool, true, false, true≢false, ℕ, ◌+◌, ◌*◌, ◌<◌, ◌≤◌, List, Option, Some, None, refl, sym, ap, subst, ◌∙◌}
+use Rattle.std.proofs.Common.{arith, cond, is_some, length, nat_lt, slice_index, slice_range}
+use Rattle.std.specs.Prelude.{option_map, ◌&&◌, ◌||◌, ◌++◌}
 use Rattle.std.specs.List.{All, Contains, list_any}
 use Rattle.std.proofs.lemmas.Bool.{le-leb, lt-ltb}
-use Rattle.std.proofs.lemmas.List.Elements.{All-contains, All-contains_itself, All-weaker}
+use Rattle.std.proofs.lemmas.List.Elements.{All-contains, All-contains_itself}
 use Rattle.std.proofs.lemmas.List.Folds.{list_any_at}
 use Rattle.hm_types.specs.Layout.{blocks_per_layer2, first_pool, first_undo, layer2_blocks, start_of}
 use Rattle.hm_types.specs.Offset.{byte_of}
 use Rattle.hm_types.specs.References.{Reference, begin_of}
 use Rattle.hm_types.specs.declared.limits.TheConstants.{PAGE_BYTES}
-use Rattle.hm_disk.specs.Crash.{Outside, Told, is_outside}
-use Rattle.hm_disk.proofs.CrashLemmas.{is_outside-from, is_outside-is}
+use Rattle.hm_disk.specs.Crash.{Told, is_outside}
 use Rattle.hm_fields.specs.Pages.{PageMap}
 use Rattle.hm_header.specs.Change.{HaveSameSlots}
 use Rattle.hm_header.specs.OnDisk.{HasHeader, first_slot, second_slot}
@@ -21,22 +20,11 @@ use Rattle.hm_header.specs.declared.header.TheConstants.{SLOT_BYTES}
 use Rattle.hm_freemap.specs.Places.{page_of}
 use Rattle.hm_freemap.specs.Stand.{all_of}
 use Rattle.hm_freemap.proofs.ListLemmas.{all_left, all_right}
-use Rattle.hm_btree.specs.Tree.{IsTreeSpace}
-use Rattle.hm_image.specs.Image.{bytes_at, pages_of, references_from, to_payload}
-use Rattle.hm_image.specs.Same.{HasSameBytes, HasSameFreemap, HasSameTree}
-use Rattle.hm_image.specs.Sound.{HasEntry, HasLayer1}
 use Rattle.hm_image.proofs.PartLemmas.{part_same}
-use Rattle.hm_search.specs.Tree.{elements_of}
-use Rattle.hm_stored.specs.Basis.{entry_outside, nodes, refers, states_of}
+use Rattle.hm_stored.specs.Basis.{refers, states_of}
 use Rattle.hm_stored.specs.Fixed.{does_name, fixed_with, is_fixed, refs_with}
 use Rattle.hm_stored.specs.Heap.{Frame, Heap, basis_with, content_of, content_with, frame_of, refs_begun}
-use Rattle.hm_stored.specs.Held.{AreOnlyOf}
 use Rattle.hm_stored.proofs.BasisLemmas.{bases_same}
-use Rattle.hm_state.specs.Backed.{IsBacked, committed_in}
-use Rattle.hm_state.specs.Durable.{AreSettled, IsDurable, IsSettledAt}
-use Rattle.hm_state.specs.Written.{IsWritten}
-use Rattle.hm_state.proofs.KeptLemmas.{nodes_keep, references_kept}
-use Rattle.hm_state.proofs.StaysLemmas.{written_stays}
 
 -- where the fixed bytes are the same, each of them is, and is settled where it was
 abbrev value_in : Option (ℕ → Option (ℕ × Bool)) → ℕ → Option (ℕ × Bool)
@@ -98,12 +86,6 @@ module _ (old new : Heap) (same : frame_of new ≡ frame_of old) where
   bigblocks_same : new.bigblocks ≡ old.bigblocks
   bigblocks_same = ap (λ (f : Frame). f.bigblocks) same
 
-  committed_same : new.pages.committed ≡ old.pages.committed
-  committed_same = ap (λ (f : Frame). f.pages.committed) same
-
-  root_same : new.roots.committed ≡ old.roots.committed
-  root_same = ap (λ (f : Frame). f.roots.committed) same
-
   refs_same : refs_begun new ≡ refs
   refs_same = ap refs_with (bases_same old new (record {
     pages = ap (λ (f : Frame). f.pages) same;
@@ -155,17 +137,13 @@ module _ (old new : Heap) (same : frame_of new ≡ frame_of old) where
     pub settled_same : (byte : ℕ) → is_fixed old.bigblocks known refs byte ≡ true → is_outside t.unsettled byte ≡ is_outside s.unsettled byte
     settled_same byte fixed = ap (λ (v : ℕ × Bool). v.1) (value_same byte fixed)
 
-    settled_stays : (byte : ℕ) → is_fixed old.bigblocks known refs byte ≡ true → Outside s.unsettled byte → Outside t.unsettled byte
-    settled_stays byte fixed settled =
-        is_outside-is t.unsettled byte (settled_same byte fixed ∙ is_outside-from s.unsettled byte settled)
-
     pub size_same : length t.bytes ≡ length s.bytes
     size_same =
         let sizes : Some (length t.bytes) ≡ Some (length s.bytes) =
         ap (option_map (λ (d : Told). length d.bytes)) (sym is) ∙ ap (λ (f : Frame). f.size) same ∙ ap (option_map (λ (d : Told). length d.bytes)) was in
         cc
 
-    pub low_same : (byte : ℕ) → byte < start_of (first_pool old.bigblocks) → slice_index t.bytes byte ≡ slice_index s.bytes byte
+    low_same : (byte : ℕ) → byte < start_of (first_pool old.bigblocks) → slice_index t.bytes byte ≡ slice_index s.bytes byte
     low_same byte low = byte_same byte (low_fixed old.bigblocks known refs byte low)
 
     range_same : (from to : ℕ) → to ≤ start_of (first_pool old.bigblocks) → slice_range t.bytes from to ≡ slice_range s.bytes from to
@@ -184,16 +162,6 @@ module _ (old new : Heap) (same : frame_of new ≡ frame_of old) where
         let Size : ℕ → Type 0 = λ n. IsChosen (first_slot s.bytes) (second_slot s.bytes) n header slot in
         subst First (sym first_same) (subst Second (sym second_same) (subst Size (sym size_same) counts))
 
-    freemap_same : HasSameFreemap s.bytes t.bytes old.bigblocks
-    freemap_same = record {
-      layer1 = λ i few. range_same (start_of 1 + 32 * i) (start_of 1 + 32 * i + 32) (omega (arith, few));
-      layer2 = λ block few.
-          let low = page_low old.bigblocks block few in
-          let bytes : bytes_at t.bytes (page_of block) PAGE_BYTES ≡ bytes_at s.bytes (page_of block) PAGE_BYTES =
-          range_same (byte_of (page_of block)) (byte_of (page_of block) + PAGE_BYTES) (omega (arith, low)) in
-          rw (size_same, bytes) refl;
-    }
-
     -- both slots are the same, whatever is known
     pub slots_same : HaveSameSlots s t
     slots_same = record {
@@ -201,82 +169,3 @@ module _ (old new : Heap) (same : frame_of new ≡ frame_of old) where
       bytes = λ byte low. low_same byte (omega (arith, low));
       settled = λ byte low. settled_same byte (low_fixed old.bigblocks known refs byte (omega (arith, low)));
     }
-
-    -- a byte that the committed tree names is fixed, where it is known
-    named_byte : known ≡ true → (r : Reference) → Contains committed_refs r → (byte : ℕ) → begin_of r ≤ byte → byte < begin_of r + r.len
-        → is_fixed old.bigblocks known refs byte ≡ true
-    named_byte told r there byte = named_fixed old.bigblocks known refs r byte told (committed_among told r there)
-
-    -- what was settled of it is
-    settled_on : known ≡ true → AreSettled old.bigblocks committed_refs s → AreSettled old.bigblocks committed_refs t
-    settled_on told settled = record {
-      freemap = λ byte from to. settled_stays byte (low_fixed old.bigblocks known refs byte (omega (arith, to))) (settled.freemap byte from to);
-      named = All-weaker (Contains committed_refs) (IsSettledAt t)
-          (λ r there byte from to. settled_stays byte (named_byte told r there byte from to)
-          (All-contains (IsSettledAt s) committed_refs r settled.named there byte from to)) committed_refs (All-contains_itself committed_refs);
-    }
-
-    -- all that the committed tree refers to is the same, where it is known
-    tree_same : known ≡ true → references_from (pages_of s.bytes) old.roots.committed ≡ committed_refs → HasSameTree s.bytes t.bytes old.roots.committed
-    tree_same told named = record {
-      size = size_same;
-      bytes = subst (All (HasSameBytes s.bytes t.bytes)) (sym named)
-          (All-weaker (Contains committed_refs) (HasSameBytes s.bytes t.bytes)
-          (λ r there. part_same s.bytes t.bytes (begin_of r) (begin_of r + r.len) size_same
-          (λ byte from to. byte_same byte (named_byte told r there byte from to))) committed_refs (All-contains_itself committed_refs));
-    }
-
-    written_on : known ≡ true → IsTreeSpace (nodes old.pages.committed) old.roots.committed → AreOnlyOf old.bigblocks old.pages.committed
-        → IsWritten (committed_in old) old.roots.committed s.bytes → IsWritten (committed_in old) old.roots.committed t.bytes
-    written_on told tree only written =
-        let named = references_kept (nodes old.pages.committed) (pages_of s.bytes) old.roots.committed
-        (nodes_keep old.pages.committed (pages_of s.bytes) written.pages) tree.sound in
-        written_stays (committed_in old) old.roots.committed tree only s.bytes t.bytes freemap_same (tree_same told named) written
-
-    -- and the new space has it
-    moved : IsWritten (committed_in old) old.roots.committed t.bytes → IsWritten (committed_in new) new.roots.committed t.bytes
-    moved written = record {
-      layer1 = subst (HasLayer1 t.bytes) (sym bigblocks_same) written.layer1;
-      pages = λ at page is. written.pages at page (ap (λ (m : PageMap). m at) (sym committed_same) ∙ is);
-      bytes = λ at page is. written.bytes at page (ap (λ (m : PageMap). m at) (sym committed_same) ∙ is);
-      past = λ block low none. subst (λ (n : ℕ). HasEntry t.bytes block (entry_outside n block)) (sym bigblocks_same)
-          (written.past block (subst (λ (n : ℕ). block < layer2_blocks n * blocks_per_layer2) bigblocks_same low)
-          (ap (λ (m : PageMap). m (page_of block)) (sym committed_same) ∙ none));
-      payloads = subst (λ (d : Option Told). IfSome d (λ u. All (HasSameBytes u.bytes t.bytes) (payloads_in new))) (sym is)
-          (All-weaker (Contains (payloads_in new)) (HasSameBytes t.bytes t.bytes) (λ r at. refl) (payloads_in new) (All-contains_itself (payloads_in new)));
-    } where
-      payloads_in : Heap → List Reference
-      payloads_in h = map to_payload (elements_of (nodes h.pages.committed) h.roots.committed)
-
-  -- the disk of one tells where that of the other does
-  pub backed_stays : IsSome (content_of old) → IsBacked old → IsBacked new
-  backed_stays told backed = record {
-    tree = subst (λ (r : ℕ). IsTreeSpace (nodes new.pages.committed) r) (sym root_same)
-        (subst (λ (m : PageMap). IsTreeSpace (nodes m) old.roots.committed) (sym committed_same) backed.tree);
-    pages = subst (λ (n : ℕ). AreOnlyOf n new.pages.committed) (sym bigblocks_same) (subst (AreOnlyOf old.bigblocks) (sym committed_same) backed.pages);
-    written = by_disk old.disk new.disk refl refl (ap (λ (f : Frame). f.size) same) backed.written;
-  } where
-    by_disk : (o n : Option Told) → old.disk ≡ o → new.disk ≡ n
-        → option_map (λ (d : Told). length d.bytes) n ≡ option_map (λ (d : Told). length d.bytes) o
-        → IfSome o (λ s. IsWritten (committed_in old) old.roots.committed s.bytes) → IfSome n (λ t. IsWritten (committed_in new) new.roots.committed t.bytes)
-    by_disk o None was is size written = tt
-    by_disk None (Some t) was is size written = absurd cc
-    by_disk (Some s) (Some t) was is size written = moved s t was is (written_on s t was is told backed.tree backed.pages written)
-
-  pub durable_stays : IsSome (content_of old) → IsDurable old → IsDurable new
-  durable_stays told durable = record {
-    backed = backed_stays told durable.backed;
-    settled = by_disk old.disk new.disk refl refl (ap (λ (f : Frame). f.size) same) durable.settled;
-  } where
-    moved_refs : (t : Told) → AreSettled old.bigblocks committed_refs t → AreSettled new.bigblocks (refers new.pages.committed new.roots.committed) t
-    moved_refs t settled =
-        subst (λ (n : ℕ). AreSettled n (refers new.pages.committed new.roots.committed) t) (sym bigblocks_same)
-        (subst (λ (m : PageMap). AreSettled old.bigblocks (refers m new.roots.committed) t) (sym committed_same)
-        (subst (λ (r : ℕ). AreSettled old.bigblocks (refers old.pages.committed r) t) (sym root_same) settled))
-
-    by_disk : (o n : Option Told) → old.disk ≡ o → new.disk ≡ n
-        → option_map (λ (d : Told). length d.bytes) n ≡ option_map (λ (d : Told). length d.bytes) o
-        → IfSome o (AreSettled old.bigblocks committed_refs) → IfSome n (AreSettled new.bigblocks (refers new.pages.committed new.roots.committed))
-    by_disk o None was is size settled = tt
-    by_disk None (Some t) was is size settled = absurd cc
-    by_disk (Some s) (Some t) was is size settled = moved_refs t (settled_on s t was is told settled)

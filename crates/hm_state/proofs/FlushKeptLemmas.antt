@@ -31,8 +31,7 @@ use Rattle.hm_model.specs.Volume.{Volume}
 use Rattle.hm_stored.specs.Basis.{nodes, refers}
 use Rattle.hm_stored.specs.Fixed.{is_fixed}
 use Rattle.hm_stored.specs.Heap.{Frame, Heap, content_of, frame_of}
-use Rattle.hm_state.specs.Durable.{IsSettledAt}
-use Rattle.hm_state.specs.Flushing.{ArePayloadsSettled, HoldsFlush, HoldsOutside, IsWholeState}
+use Rattle.hm_state.specs.Flushing.{ArePayloadsSettled, HoldsFlush, HoldsOutside, IsSettledAt, IsWholeState}
 use Rattle.hm_state.proofs.CommittedLemmas.{byte_same, committed_among, frozen_among, known, low_fixed, named_fixed, page_low, refs, settled_same, size_same}
 use Rattle.hm_state.proofs.CourseLemmas.{logged_flies, same_state}
 use Rattle.hm_state.proofs.KeptLemmas.{page_referred, payload_named}

@@ -7,11 +7,7 @@ pub mod MountedLemmas
 pub mod WrittenLemmas
 pub mod StaysLemmas
 pub mod ApartLemmas
-pub mod FrozenLemmas
-pub mod InPlaceLemmas
-pub mod ChangedLemmas
 pub mod CommittedLemmas
-pub mod BackedLemmas
 pub mod AtRestLemmas
 pub mod RecoveredLemmas
 pub mod JointLemmas

@@ -1,8 +1,9 @@
 -- What a recovered image has of a state, and which volume it stands for.
-use Rattle.std.proofs.Common.{◌≡◌, ◌⊎◌, ◌∙◌, inl, inr, ℕ, ◌+◌, ◌*◌, ◌<◌, ◌≤◌, List, None, Option, Some, IsSome}
-use Rattle.std.proofs.Common.{ap, arith, is_some, map as map_list, refl, subst}
+use Rattle.std.proofs.Common.{◌≡◌, ◌⊎◌, ◌∙◌, inl, inr, Bool, ℕ, ◌+◌, ◌*◌, ◌<◌, ◌≤◌, List, None, Option, Some, IsSome}
+use Rattle.std.proofs.Common.{ap, arith, cond, is_some, length, map as map_list, refl, subst}
 use Rattle.std.specs.Prelude.{slice_range}
 use Rattle.std.specs.List.{Contains}
+use Rattle.std.proofs.lemmas.Bool.{le-leb}
 use Rattle.std.proofs.lemmas.List.Elements.{All-contains, All-contains_itself, All-map, All-weaker}
 use Rattle.hm_types.specs.Layout.{blocks_per_layer2, layer2_blocks, start_of}
 use Rattle.hm_types.specs.Offset.{byte_of}
@@ -33,8 +34,12 @@ use Rattle.hm_stored.specs.Standing.{basis_now}
 use Rattle.hm_state.specs.AtRest.{HasBeside, HoldsAtRest, at_rest}
 use Rattle.hm_state.specs.Written.{HasSamePayloads, IsHeaderOf, IsWritten}
 use Rattle.hm_state.proofs.ApartLemmas.{pages_within, past_apart, payload_referred, payloads_apart, placed}
-use Rattle.hm_state.proofs.InPlaceLemmas.{page_whole}
 use Rattle.hm_state.proofs.WrittenLemmas.{written_stands}
+
+-- the page at an offset whose page ends within an image
+page_whole : (image : List ℕ) (at : ℕ) → byte_of at + PAGE_BYTES ≤ length image → pages_of image at ≡ Some (bytes_at image at PAGE_BYTES)
+page_whole image at within =
+    ap (λ (b : Bool). cond b (Some (bytes_at image at PAGE_BYTES)) None) (le-leb (byte_of at + PAGE_BYTES) (length image) within)
 
 module _ (t : Told) (header : Header) (map : PageMap) (volume : Volume) (image result : List ℕ) (holds : HoldsAtRest t header map volume)
     (only : AreOnlyOf header.bigblocks map) (bytes : (at : ℕ) (page : List ℕ) → map at ≡ Some page → AreBytes page)

@@ -40,8 +40,7 @@ use Rattle.hm_stored.specs.Basis.{entry_outside, nodes}
 use Rattle.hm_stored.specs.Flushed.{FlushesSpace}
 use Rattle.hm_stored.specs.Heap.{Heap}
 use Rattle.hm_state.specs.AtRest.{HasBeside}
-use Rattle.hm_state.specs.Durable.{IsSettledAt}
-use Rattle.hm_state.specs.Flushing.{HoldsFlush, IsLogged, IsWholeState, RecoversToVolume}
+use Rattle.hm_state.specs.Flushing.{HoldsFlush, IsLogged, IsSettledAt, IsWholeState, RecoversToVolume}
 use Rattle.hm_state.specs.Volume.{HoldsVolume}
 use Rattle.hm_state.proofs.BesideLemmas.{IsOutsideAll, layer1_left, named_left, past_left}
 use Rattle.hm_state.proofs.CourseLemmas.{logged_flies, logged_tried, same_state}

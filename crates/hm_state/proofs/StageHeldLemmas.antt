@@ -37,8 +37,7 @@ use Rattle.hm_stored.specs.Flushed.{FlushesSpace}
 use Rattle.hm_stored.specs.Heap.{Heap}
 use Rattle.hm_stored.specs.Held.{AreOnlyOf}
 use Rattle.hm_state.specs.AtRest.{HoldsAtRest, at_rest}
-use Rattle.hm_state.specs.Durable.{IsSettledAt}
-use Rattle.hm_state.specs.Flushing.{ArePayloadsSettled, HoldsFlush, HoldsOutside, IsLogged, IsWholeState, committed_after, frozen_after}
+use Rattle.hm_state.specs.Flushing.{ArePayloadsSettled, HoldsFlush, HoldsOutside, IsLogged, IsSettledAt, IsWholeState, committed_after, frozen_after}
 use Rattle.hm_state.specs.Volume.{HoldsVolume}
 use Rattle.hm_state.specs.Written.{IsHeaderOf}
 use Rattle.hm_state.proofs.AtRestLemmas.{rest_held}

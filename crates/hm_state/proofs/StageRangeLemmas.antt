@@ -35,6 +35,7 @@ use Rattle.hm_flush.specs.Flush.{IsFlush, IsGroupAt, due_change}
 use Rattle.hm_flush.specs.Group.{group_of, next_live}
 use Rattle.hm_flush.specs.Recoverable.{IsInPages}
 use Rattle.hm_flush.specs.Stages.{due_stage_at, range_of, stage_range}
+use Rattle.hm_flush.proofs.MoveLemmas.{place-member}
 use Rattle.hm_search.specs.Tree.{elements_of}
 use Rattle.hm_image.specs.Image.{to_node, to_payload}
 use Rattle.hm_image.specs.Sound.{IsAmongPayloads}
@@ -46,7 +47,6 @@ use Rattle.hm_stored.specs.Heap.{Heap}
 use Rattle.hm_stored.specs.Standing.{HoldsBy, basis_now}
 use Rattle.hm_state.specs.Flushing.{HoldsFlush}
 use Rattle.hm_state.specs.Volume.{HoldsVolume}
-use Rattle.hm_state.proofs.FrozenLemmas.{place_member}
 use Rattle.hm_state.proofs.KeptLemmas.{page_referred, payload_named}
 
 -- no byte that a reference names lies in a range
@@ -135,7 +135,7 @@ module _ (f : Flush) (h : Heap) (flush : IsFlush f) (ready : IsFlushReady f h.pa
   committed_named r there = committed_among r (subst (λ (x : ℕ). Contains (refers h.pages.committed x) r) (sym holds.committed_root) there)
 
   frozen_there : (i : ℕ) → i < length h.pages.frozen_group → IsSome (h.pages.frozen (slice_index h.pages.frozen_group i))
-  frozen_there i below = sound.sound.flush.frozen (slice_index h.pages.frozen_group i) (place_member h.pages.frozen_group i below)
+  frozen_there i below = sound.sound.flush.frozen (slice_index h.pages.frozen_group i) (place-member h.pages.frozen_group i below)
 
   -- a payload that one of them refers to, and the place of a frozen page
   node_beside : f.at ≢ Idle → (i : ℕ) → i < length h.pages.frozen_group → (r : Reference) → Contains all r → IsPayloadZone (zone_of r.at)

@@ -1,6 +1,7 @@
 -- What a space and its disk have of the volumes that are committed and frozen, however far a flush has come.
-use Rattle.std.specs.Prelude.{◌≡◌, ◌≢◌, ◌⊎◌, ℕ, ◌*◌, ◌<◌, ◌≤◌, true, List, None, Result, Ok, Err, All, length, map}
+use Rattle.std.specs.Prelude.{◌≡◌, ◌≢◌, ◌⊎◌, ℕ, ◌+◌, ◌*◌, ◌<◌, ◌≤◌, true, List, None, Result, Ok, Err, All, length, map}
 use Rattle.hm_types.specs.Layout.{blocks_per_layer2, first_undo, layer2_blocks, start_of}
+use Rattle.hm_types.specs.References.{Reference, begin_of}
 use Rattle.hm_types.specs.declared.fault.Fault.{Fault}
 use Rattle.hm_disk.specs.Crash.{Outside, Told}
 use Rattle.hm_fields.specs.Pages.{PageMap}
@@ -24,7 +25,10 @@ use Rattle.hm_stored.specs.Flushed.{ArePages}
 use Rattle.hm_stored.specs.Heap.{Heap}
 use Rattle.hm_stored.specs.Held.{AreOnlyOf}
 use Rattle.hm_state.specs.AtRest.{HoldsAtRest}
-use Rattle.hm_state.specs.Durable.{IsSettledAt}
+
+-- no unsettled range meets the bytes of a reference
+abbrev pub IsSettledAt : Told → Reference → Type 0
+IsSettledAt t r = (byte : ℕ) → begin_of r ≤ byte → byte < begin_of r + r.len → Outside t.unsettled byte
 
 -- the payloads of the tree that begins at a root are settled
 abbrev pub ArePayloadsSettled : Told → PageMap → ℕ → Type 0

@@ -1,9 +1,5 @@
 pub mod Volume
 pub mod Written
-pub mod Backed
-pub mod Durable
-pub mod Placed
-pub mod Frozen
 pub mod Free
 pub mod AtRest
 pub mod Flushing

@@ -1,18 +1,17 @@
 // What follows from the definitions alone: each function states one law, and does nothing.
-ghost use Rattle.std.specs.Prelude.{◌≡◌, ◌≢◌, ℕ, ◌+◌, ◌-◌, ◌<◌, ◌≤◌, IsSome, List, Option, Some};
-ghost use Rattle.std.specs.Prelude.{length, slice_index};
+ghost use Rattle.std.specs.Prelude.{◌≡◌, ◌≢◌, ℕ, ◌+◌, ◌≤◌, IsSome, List, Option, Some};
 ghost use Rattle.std.specs.List.{Contains};
 ghost use Rattle.hm_types.specs.Elements.{FullElement};
-ghost use Rattle.hm_types.specs.Layout.{first_layer2, first_pool, start_of};
+ghost use Rattle.hm_types.specs.Layout.{first_layer2, start_of};
 ghost use Rattle.hm_types.specs.Offset.{byte_of};
 ghost use Rattle.hm_types.specs.declared.limits.TheConstants.{PAGE_BYTES};
 ghost use Rattle.hm_disk.specs.Crash.{Told};
 ghost use Rattle.hm_fields.specs.Fields.{AreBytes};
 ghost use Rattle.hm_fields.specs.Pages.{PageMap};
 ghost use Rattle.hm_header.specs.declared.header.Header.{Header};
-ghost use Rattle.hm_header.specs.Change.{Changes, HaveSameSlots};
+ghost use Rattle.hm_header.specs.Change.{HaveSameSlots};
 ghost use Rattle.hm_header.specs.OnDisk.{HasHeader};
-ghost use Rattle.hm_header.specs.Range.{IsRoot, IsSize};
+ghost use Rattle.hm_header.specs.Range.{IsSize};
 ghost use Rattle.hm_flush.specs.Recoverable.{RecoversToState};
 ghost use Rattle.hm_freemap.specs.Extents.{IsApart};
 ghost use Rattle.hm_undo.specs.Recovered.{RecoversTo};
@@ -27,16 +26,12 @@ ghost use Rattle.hm_load.specs.Held.{HoldsImage};
 ghost use Rattle.hm_load.specs.Loaded.{IsLoaded};
 ghost use Rattle.hm_stored.specs.declared.books.Books.{Books};
 ghost use Rattle.hm_stored.specs.Basis.{IsFirm, elements_in, nodes};
-ghost use Rattle.hm_stored.specs.Heap.{Heap, content_of, frame_of, free_of, heap_of};
+ghost use Rattle.hm_stored.specs.Heap.{Heap, frame_of, free_of, heap_of};
 ghost use Rattle.hm_stored.specs.Held.{AreOfVolume, AreOnlyOf};
 ghost use Rattle.hm_stored.specs.Mounted.{IsBooksOf};
 ghost use Rattle.hm_stored.specs.Standing.{Holds, basis_now};
 ghost use Rattle.hm_state.specs.AtRest.{HasBeside, HoldsAtRest};
-ghost use Rattle.hm_state.specs.Backed.{IsBacked};
-ghost use Rattle.hm_state.specs.Durable.{IsDurable};
 ghost use Rattle.hm_state.specs.Free.{free_in};
-ghost use Rattle.hm_state.specs.Frozen.{HasFrozen};
-ghost use Rattle.hm_state.specs.Placed.{ArePlaces, PutsPages};
 ghost use Rattle.hm_state.specs.Volume.{HoldsVolume};
 ghost use Rattle.hm_state.specs.Written.{HasSamePayloads, IsHeaderOf, IsWritten};
 
@@ -89,33 +84,14 @@ pub fn what_was_written_stays()
         HasSameTree old new root → IsWritten h root new }
 {}
 
-/// Where the bytes of a disk stand for a volume, they have all of the state that was committed last in
-/// the space over the pages that were loaded from them: what was loaded is what was committed.
-pub fn a_mounted_volume_is_backed()
-    ensures { (t : Told) (header : Header) (slot : ℕ) (s : Store) (books : Books)
-        (volume : Volume) → StandsFor t.bytes volume → HasHeader t.bytes header slot →
-        IsLoaded header s → HoldsImage t.bytes header s → IsBooksOf header books →
-        ((at : ℕ) (page : List ℕ) → s.current at ≡ Some page → AreBytes page) →
-        IsBacked (heap_of s (Some t) books) }
-{}
-
-/// Calls of a space, which leave its frame, leave on its disk all that stands before the pool, so that
-/// the header that counts is the same one, and both header slots, settled where they were; and where the
-/// content at the call's beginning is known, all of the state that was committed last, settled as it was.
-pub fn what_was_committed_stays()
-    ensures slots { (old new : Heap) (s t : Told) → frame_of new ≡ frame_of old →
-        old.disk ≡ Some s → new.disk ≡ Some t → (length t.bytes ≡ length s.bytes) ×
-        ((byte : ℕ) → byte < start_of (first_pool old.bigblocks) →
-        slice_index t.bytes byte ≡ slice_index s.bytes byte) }
+/// Calls of a space, which leave its frame, leave both header slots of its disk as they were, settled
+/// where they were, so that the header that counts is the same one.
+pub fn what_calls_keep_of_the_slots()
     ensures header { (old new : Heap) (s t : Told) (header : Header) (slot : ℕ) →
         frame_of new ≡ frame_of old → old.disk ≡ Some s → new.disk ≡ Some t →
         HasHeader s.bytes header slot → HasHeader t.bytes header slot }
     ensures same_slots { (old new : Heap) (s t : Told) → frame_of new ≡ frame_of old →
         old.disk ≡ Some s → new.disk ≡ Some t → HaveSameSlots s t }
-    ensures backed { (old new : Heap) → frame_of new ≡ frame_of old → IsSome (content_of old) →
-        IsBacked old → IsBacked new }
-    ensures durable { (old new : Heap) → frame_of new ≡ frame_of old → IsSome (content_of old) →
-        IsDurable old → IsDurable new }
 {}
 
 /// The pages of a space lie within its volume, behind layer 1 of the freemap, and share no byte with
@@ -130,25 +106,6 @@ pub fn pages_of_a_space_are_apart()
     ensures within { (h : Heap) (root : ℕ) → IsFirm (basis_now h root) → AreOfVolume h →
         IsSize h.bigblocks → (at : ℕ) → IsSome (h.pages.current at) →
         (start_of first_layer2 ≤ byte_of at) × (byte_of at + PAGE_BYTES ≤ start_of h.bigblocks) }
-{}
-
-/// The frozen pages of a space may each be written where it stands: their places lie within its volume,
-/// behind layer 1 of the freemap, and are apart. Its root is one that a header may name. Where the disk
-/// had all that was committed last, it has all of the space then, and once the next header was written
-/// too, it stands for the volume.
-pub fn a_volume_written_in_place_stands()
-    ensures places { (h : Heap) (root size : ℕ) (f : Store) → HasFrozen h root f →
-        start_of h.bigblocks ≤ size → ArePlaces size f.frozen_group }
-    ensures root { (h : Heap) (root : ℕ) → IsFirm (basis_now h root) → IsRoot h.bigblocks root }
-    ensures written { (h : Heap) (root : ℕ) (f : Store) (old new : Told) → HasFrozen h root f →
-        h.disk ≡ Some old → start_of h.bigblocks ≤ length old.bytes → IsBacked h →
-        PutsPages f.frozen f.frozen_group (length f.frozen_group) old new →
-        ((at : ℕ) (page : List ℕ) → h.pages.current at ≡ Some page → AreBytes page) →
-        IsWritten h root new.bytes }
-    ensures stands { (h : Heap) (root last : ℕ) (volume : Volume) (header : Header) (slot : ℕ)
-        (old new : Told) → HoldsVolume h root last volume → AreOfVolume h →
-        IsWritten h root old.bytes → IsHeaderOf h root last header →
-        Changes header (1 - slot) old new → StandsFor new.bytes volume }
 {}
 
 /// What a space holds between two calls is a state by itself: the one that its header and its current

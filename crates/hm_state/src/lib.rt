@@ -11,8 +11,7 @@ pub use flushing::{
     what_a_flush_holds_is_recovered,
 };
 pub use laws::{
-    a_mounted_volume_is_backed, a_mounted_volume_is_held, a_recovered_image_stands,
-    a_state_at_rest_is_held, a_volume_written_in_place_stands, a_written_volume_stands,
-    pages_of_a_space_are_apart, payloads_are_all_that_matters_of_a_disk, what_was_committed_stays,
-    what_was_written_stays,
+    a_mounted_volume_is_held, a_recovered_image_stands, a_state_at_rest_is_held,
+    a_written_volume_stands, pages_of_a_space_are_apart, payloads_are_all_that_matters_of_a_disk,
+    what_calls_keep_of_the_slots, what_was_written_stays,
 };
