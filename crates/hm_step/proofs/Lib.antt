@@ -19,3 +19,4 @@ pub mod LegalLemmas
 pub mod ObjectValueLemmas
 pub mod TreeValueLemmas
 pub mod SubstituteLemmas
+pub mod PrunedLemmas

@@ -3,3 +3,4 @@ pub mod Step
 pub mod Served
 pub mod Next
 pub mod Causes
+pub mod Pruned

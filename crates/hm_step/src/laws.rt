@@ -4,6 +4,7 @@ ghost use Rattle.std.specs.List.{All};
 ghost use Rattle.hm_types.specs.Elements.{FullElement};
 ghost use Rattle.hm_types.specs.declared.limits.TheConstants.{GREATEST_ID};
 ghost use Rattle.hm_cursor.specs.Told.{IsBroken, Lists, fulls};
+ghost use Rattle.hm_key.specs.Balance.{LosesDead};
 ghost use Rattle.hm_model.specs.After.{Event};
 ghost use Rattle.hm_model.specs.Caused.{Counts, HasCause, HasNumbers, Known, counts_after, known_after, known_at};
 ghost use Rattle.hm_model.specs.Legal.{IsAllowed, MayFollow, Setting, call_after, state_after};
@@ -19,6 +20,7 @@ ghost use Rattle.hm_calls.specs.Commands.{IsOnTrees};
 ghost use Rattle.hm_calls.specs.Known.{AreOlderOrSlaves};
 ghost use Rattle.hm_calls.specs.Possible.{MayReply};
 ghost use Rattle.hm_step.specs.Causes.{IsNextOf, TellsFault};
+ghost use Rattle.hm_step.specs.Pruned.{FollowIn, KeepsWithin};
 ghost use Rattle.hm_step.specs.Seen.{AreGiven};
 ghost use Rattle.hm_step.specs.Served.{IsServed};
 ghost use Rattle.hm_image.specs.StandFor.{StandFor};
@@ -55,6 +57,18 @@ pub fn sound_payloads_are_not_broken()
 pub fn drawing_an_id_leaves_what_stands()
     ensures { (es : List FullElement) (volume : Volume) → StandFor es volume →
         volume.last < GREATEST_ID → StandFor es (drawn (volume.last + 1) volume) }
+{}
+
+/// Elements that stand for a volume stand for it still where dead ones went, if what the volume keeps
+/// of each pseudo file system was kept in it or is above all that was. It is said of elements that
+/// follow one another where trees are certain, and so do those that are left.
+pub fn a_prune_leaves_what_stands()
+    ensures stands { (es es' : List FullElement) (volume : Volume)
+        (kept : ℕ → Option (List (ℕ × ℕ))) → StandFor es volume → FollowIn es volume →
+        LosesDead kept es es' → KeepsWithin kept volume → StandFor es' volume }
+    ensures follows { (es es' : List FullElement) (volume : Volume)
+        (kept : ℕ → Option (List (ℕ × ℕ))) → StandFor es volume → FollowIn es volume →
+        LosesDead kept es es' → KeepsWithin kept volume → FollowIn es' volume }
 {}
 
 /// One step. Where elements stand for the volume of a history, and a call on names or on the bytes of
