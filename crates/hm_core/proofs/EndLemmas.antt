@@ -1,23 +1,22 @@
 -- Once all is committed, the disk stands for the volume; and the last stage of a flush leaves nothing unsettled.
-use Rattle.std.proofs.Common.{◌≡◌, ◌≢◌, ℕ, ◌+◌, List, [], Option, None, Some, Result, Ok, Err, refl, ap, subst, ◌∙◌, arith, inr, Bool, true, false, sym, true≢false}
-use Rattle.std.specs.Prelude.{◌↔◌, IfSome, IsTrue}
+use Rattle.std.proofs.Common.{◌≡◌, ℕ, ◌+◌, List, [], Option, None, Some, Result, Ok, Err, refl, ap, subst, ◌∙◌, arith, true, sym}
+use Rattle.std.specs.Prelude.{IfOk, IfSome}
 use Rattle.hm_types.specs.Told.{BothTell}
 use Rattle.hm_types.specs.declared.fault.Fault.{Fault}
 use Rattle.hm_disk.specs.Crash.{Told}
 use Rattle.hm_disk.specs.Moments.{LeftSince}
 use Rattle.hm_header.specs.declared.header.Header.{Header}
 use Rattle.hm_header.specs.OnDisk.{HasHeader}
-use Rattle.hm_flush.specs.declared.change.Change.{Change}
 use Rattle.hm_flush.specs.declared.change.Change.TheVariants.{Close, Write, Open}
 use Rattle.hm_flush.specs.declared.flush.Flush.{Flush}
 use Rattle.hm_flush.specs.declared.flush.Position.{Position}
 use Rattle.hm_flush.specs.declared.flush.Position.TheVariants.{Idle, Undoing, Arming, Placing, Committing}
 use Rattle.hm_flush.specs.declared.stage.Stage.{Stage}
-use Rattle.hm_flush.specs.Calls.{FlushStands, HeaderStands, IsMoved, LeftFalls, StageSucceeds}
-use Rattle.hm_flush.specs.Ends.{StageDoes, StageTells, as_read}
+use Rattle.hm_flush.specs.Calls.{FlushStands, HeaderStands, IsMoved, LeftFalls}
+use Rattle.hm_flush.specs.Ends.{StageEnds, StageTells, as_read}
 use Rattle.hm_flush.specs.Flush.{IsFlush, left, left_at}
 use Rattle.hm_flush.specs.Group.{Group, group_of}
-use Rattle.hm_flush.specs.Stages.{due_stage, due_stage_at, is_synced}
+use Rattle.hm_flush.specs.Stages.{due_stage_at, is_synced}
 use Rattle.hm_model.specs.After.{Event}
 use Rattle.hm_model.specs.Foreign.{Foreigners}
 use Rattle.hm_model.specs.Volume.{Volume}
@@ -27,26 +26,28 @@ use Rattle.hm_state.proofs.RecoveredVolumeLemmas.{idle_stands}
 use Rattle.hm_core.specs.Core.{HoldsUpTo, StandsOver}
 use Rattle.hm_core.specs.Finished.{IsCommittedOn}
 use Rattle.hm_core.specs.History.{up_to, volume_of}
-use Rattle.hm_core.specs.Inside.{AreDrawnBy}
-use Rattle.hm_core.specs.Staged.{EndsBy, IsFlushed, MakesStage}
+use Rattle.hm_core.specs.Inside.{IsInOrder}
+use Rattle.hm_core.specs.Staged.{IsFlushed}
 use Rattle.hm_core.specs.State.{CoreState}
-use Rattle.hm_core.proofs.KeptLemmas.{if_told}
+use Rattle.hm_core.proofs.StepLemmas.{each_drawn, flushed_now}
 use Rattle.hm_core.proofs.UpToLemmas.{up_to_all}
 
 module _ (core : CoreState) (flushed : IsFlushed core) (same : core.boundary ≡ core.flush.header.last.0) (sound : IsFlush core.flush)
-    (drawn : AreDrawnBy core.last core.history) where
+    (ordered : ∥ IsInOrder core.flush core.last core.mounted.free core.heap core.history ∥₁) where
   -- what is committed is all
   all_up_to : (opening : Volume) (foreigners : Foreigners) (events : List Event) → StandsOver core opening foreigners events
       → volume_of opening foreigners (up_to core.flush.header.last.0 events) ≡ volume_of opening foreigners events
   all_up_to opening foreigners events stands =
       ap (λ (id : ℕ). volume_of opening foreigners (up_to id events)) (sym same ∙ flushed.last)
-      ∙ ap (λ (es : List Event). volume_of opening foreigners es) (up_to_all core.last core.history events stands.legal.entries drawn)
+      ∙ ap (λ (es : List Event). volume_of opening foreigners es)
+      (up_to_all core.last core.history events stands.legal.entries
+      (each_drawn core.flush core.last core.mounted.free core.heap core.history ordered))
 
   counts_now : (t : Told) → FlushStands core.flush t → HasHeader t.bytes core.flush.header core.flush.slot
   counts_now t stands = subst (λ (p : Position). HeaderStands p core.flush t) flushed.idle stands.header
 
-  pub committed_on : IfSome core.heap.disk (FlushStands core.flush) → IfSome core.heap.disk (IsCommittedOn core)
-  committed_on stands = by core.heap.disk refl stands where
+  pub committed_on : IfSome core.heap.disk (IsCommittedOn core)
+  committed_on = by core.heap.disk refl (flushed_now core.flush core.last core.mounted.free core.heap core.history ordered).stands where
     by : (o : Option Told) → core.heap.disk ≡ o → IfSome o (FlushStands core.flush) → IfSome o (IsCommittedOn core)
     by None is here = tt
     by (Some t) is here = record {
@@ -89,18 +90,13 @@ ends_synced (Placing i) now stage f f' s s' here moved falls idle = last_synced 
 ends_synced (Committing change) now stage f f' s s' here moved falls idle =
     last_synced (Committing change) f (group_of s) (one f f' (Committing change) here falls idle)
 
-pub stage_settles : (now : Header) (stage : Stage) (f f' : Flush) (s s' : Store) (past since : LeftSince) (old new : Option Told)
-    → StageSucceeds now stage f f' s s' → f'.at ≡ Idle → (result : Result Stage Fault) → result ≡ Ok stage
-    → BothTell old new (StageTells f f' s s' result past since) → IfSome new (λ t. t.unsettled ≡ [])
-stage_settles now stage f f' s s' past since None None succeeds idle result is tells = tt
-stage_settles now stage f f' s s' past since None (Some t) succeeds idle result is tells = absurd tells
-stage_settles now stage f f' s s' past since (Some u) None succeeds idle result is tells = absurd tells
-stage_settles now stage f f' s s' past since (Some u) (Some t) succeeds idle result is tells =
-    (subst (λ (r : Result Stage Fault). StageDoes f (group_of s) r u t) is tells.does).settled
-    (ends_synced f.at now stage f f' s s' refl succeeds.flush succeeds.left idle)
-
--- what a stage of the last flush tells
-pub ends_by : (old new : CoreState) (all : Bool) → (IsTrue all ↔ IsFlushed new) → (IsFlushed old → ⊥) → MakesStage old new
-    → (IsFlushed new → IfSome new.heap.disk (λ t. t.unsettled ≡ [])) → EndsBy old new (Ok all)
-ends_by old new true tells not_yet makes settled = (tells.0 refl, inr (record { makes = makes; settled = settled (tells.0 refl) }))
-ends_by old new false tells not_yet makes settled = (not_yet, λ flushed. absurd (true≢false (sym (tells.1 flushed))), makes)
+-- and leaves nothing unsettled
+pub stage_settles : (now : Header) (f f' : Flush) (s s' : Store) (past since : LeftSince) (old new : Option Told) (result : Result Stage Fault)
+    → StageEnds now f f' s s' result → BothTell old new (StageTells f f' s s' result past since)
+    → IfOk result (λ _. f'.at ≡ Idle → IfSome new (λ t. t.unsettled ≡ []))
+stage_settles now f f' s s' past since old new (Err fault) ends tells = tt
+stage_settles now f f' s s' past since None None (Ok stage) ends tells = λ idle. tt
+stage_settles now f f' s s' past since None (Some t) (Ok stage) ends tells = absurd tells
+stage_settles now f f' s s' past since (Some u) None (Ok stage) ends tells = absurd tells
+stage_settles now f f' s s' past since (Some u) (Some t) (Ok stage) ends tells =
+    λ idle. tells.does.settled (ends_synced f.at now stage f f' s s' refl ends.flush ends.left idle)

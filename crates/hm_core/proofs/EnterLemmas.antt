@@ -1,8 +1,9 @@
 -- A core goes on with the entry of a call.
-use Rattle.std.proofs.Common.{◌≡◌, ◌≢◌, ◌⊎◌, inl, inr, ℕ, ◌+◌, ◌≤◌, List, [], ◌∷◌, ◌++◌, Option, None, Some, Bool, true, false, refl, sym, ap, subst, ◌∙◌, arith, nat_lt}
+use Rattle.std.proofs.Common.{◌≡◌, ◌≢◌, ◌⊎◌, inl, inr, ℕ, ◌+◌, ◌≤◌, List, [], ◌∷◌, ◌++◌, Bool, true, false, refl, sym, ap, subst, ◌∙◌, arith, nat_lt}
 use Rattle.std.specs.Prelude.{IfSome}
 use Rattle.std.proofs.lemmas.Bool.Decides.{nat_tests}
 use Rattle.hm_disk.specs.Crash.{Told}
+use Rattle.hm_disk.specs.Moments.{LeftSince}
 use Rattle.hm_flush.specs.declared.flush.Flush.{Flush}
 use Rattle.hm_flush.specs.declared.flush.Position.{Position}
 use Rattle.hm_flush.specs.declared.flush.Position.TheVariants.{Idle, Undoing, Arming, Placing, Committing}
@@ -15,9 +16,8 @@ use Rattle.hm_model.specs.declared.command.Command.{Command}
 use Rattle.hm_model.specs.declared.entry.Entry.{Entry}
 use Rattle.hm_stored.specs.Heap.{Heap}
 use Rattle.hm_state.specs.Flushing.{HoldsFlush}
-use Rattle.hm_state.specs.Volume.{HoldsVolume}
-use Rattle.hm_core.specs.Answer.{KeepsFlush}
 use Rattle.hm_core.specs.Core.{GoesOnBy, HoldsUpTo, IsGuarded, NeedsFlush, StandsOver}
+use Rattle.hm_core.specs.Crash.{IsBetween, LeavesPrefixes}
 use Rattle.hm_core.specs.Served.{IsSync}
 use Rattle.hm_core.specs.History.{IsLegalBeyond, IsLegalOver, up_to, volume_of}
 use Rattle.hm_core.specs.State.{CoreState}
@@ -48,10 +48,11 @@ module _ (f : Flush) (h : Heap) (last : ℕ) (history : List Entry) (entry : Ent
   up id es = volume_of opening foreigners (up_to id es)
 
   -- the events up to an id before it are the same
+  pub events_stay : (id : ℕ) → id ≤ last → up_to id (events ++ more) ≡ up_to id events
+  events_stay id before = up_to_stays last id events more entry (more_drawn history events more entry entries entered) own before
+
   stay : (id : ℕ) → id ≤ last → up id events ≡ up id (events ++ more)
-  stay id before =
-      ap (λ (es : List Event). volume_of opening foreigners es)
-      (sym (up_to_stays last id events more entry (more_drawn history events more entry entries entered) own before))
+  stay id before = ap (λ (es : List Event). volume_of opening foreigners es) (sym (events_stay id before))
 
   pub held_more : (t : Told) → HoldsFlush f h t (up f.header.last.0 events) (up f.target.last.0 events)
       → HoldsFlush f h t (up f.header.last.0 (events ++ more)) (up f.target.last.0 (events ++ more))
@@ -64,42 +65,27 @@ module _ (f : Flush) (h : Heap) (last : ℕ) (history : List Entry) (entry : Ent
       ])
 
 -- a core that enters the next id's entry
-module _ (core new : CoreState) (entry : Entry) (entered : new.history ≡ core.history ++ entry ∷ []) (own : entry.id.0 ≡ core.last + 1)
-    (mounted : new.mounted ≡ core.mounted) (opening : Volume) (foreigners : Foreigners) (events : List Event)
+module _ (past since : LeftSince) (core new : CoreState) (entry : Entry) (entered : new.history ≡ core.history ++ entry ∷ [])
+    (own : entry.id.0 ≡ core.last + 1) (mounted : new.mounted ≡ core.mounted) (opening : Volume) (foreigners : Foreigners) (events : List Event)
     (stands : StandsOver core opening foreigners events)
     (next : IsLegalBeyond core.mounted.free core.mounted.counts new.counts new.history new.heap new.root new.last opening foreigners events) where
-  -- over a flush that went on
   pub entered_by : new.flush.header.last.0 ≤ core.last → (new.flush.at ≢ Idle → new.flush.target.last.0 ≤ core.last)
       → IfSome new.heap.disk (λ t. HoldsUpTo new opening foreigners events (as_read t))
       → (IsGuarded core opening foreigners events → IfSome new.heap.disk (HoldsUpTo new opening foreigners events))
-      → GoesOnBy core new opening foreigners events
-  entered_by later target read guarded =
+      → (IsGuarded core opening foreigners events → LeavesPrefixes past since (IsBetween core.boundary new.last) opening foreigners (events ++ next.0))
+      → GoesOnBy past since core new opening foreigners events
+  entered_by later target read guarded crashed =
       let held = held_more new.flush new.heap core.last core.history entry opening foreigners events next.0 stands.legal.entries
       (next.1.entries ∙ entered) own later target in
       record {
         more = next.0;
+        stay = events_stay new.flush new.heap core.last core.history entry opening foreigners events next.0 stands.legal.entries
+            (next.1.entries ∙ entered) own later target;
         stands = record {
           legal = subst (λ m. IsLegalOver m.free m.counts new.counts new.history new.heap new.root new.last opening foreigners (events ++ next.0))
               (sym mounted) next.1;
           read = if_told new.heap.disk (λ t. held (as_read t)) read;
         };
         guarded = λ was. if_told new.heap.disk held (guarded was);
+        crashed = crashed;
       }
-
-  -- over the flush being where it was
-  pub entered_goes_on : new.flush ≡ core.flush → core.flush.header.last.0 ≤ core.last
-      → (core.flush.at ≢ Idle → (core.flush.header.last.0 ≤ core.flush.target.last.0) × (core.flush.target.last.0 ≤ core.last))
-      → KeepsFlush ((volume : Volume) × HoldsVolume core.heap core.root core.last volume) core.heap new.heap
-      → GoesOnBy core new opening foreigners events
-  entered_goes_on same later target keeps =
-      let known : (volume : Volume) × HoldsVolume core.heap core.root core.last volume = (_, stands.legal.held.holds) in
-      let committed = volume_of opening foreigners (up_to core.flush.header.last.0 events) in
-      let frozen = volume_of opening foreigners (up_to core.flush.target.last.0 events) in
-      let there : (t : Told) → HoldsFlush core.flush new.heap t committed frozen → HoldsUpTo new opening foreigners events t =
-      λ t held. subst
-      (λ (f : Flush). HoldsFlush f new.heap t (volume_of opening foreigners (up_to f.header.last.0 events))
-      (volume_of opening foreigners (up_to f.target.last.0 events))) (sym same) held in
-      entered_by (subst (λ (f : Flush). f.header.last.0 ≤ core.last) (sym same) later)
-      (subst (λ (f : Flush). f.at ≢ Idle → f.target.last.0 ≤ core.last) (sym same) (λ flies. (target flies).1))
-      (if_told new.heap.disk (λ t. there (as_read t)) (keeps.read known core.flush committed frozen stands.read))
-      (λ was. if_told new.heap.disk there (keeps.guarded known core.flush committed frozen was))

@@ -1,5 +1,5 @@
 -- A call leaves what a flush holds, as reads give it and as a crash may leave it.
-use Rattle.std.proofs.Common.{◌≡◌, ℕ, Option, None, Some, length, refl, sym, ap, subst, ◌∙◌}
+use Rattle.std.proofs.Common.{◌≡◌, Option, None, Some, length, refl, sym, ap, subst, ◌∙◌}
 use Rattle.std.specs.Prelude.{IfSome, IsSome, option_map}
 use Rattle.hm_disk.specs.Crash.{Told}
 use Rattle.hm_flush.specs.declared.flush.Flush.{Flush}

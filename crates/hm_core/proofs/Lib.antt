@@ -3,12 +3,15 @@ pub mod CountLemmas
 pub mod WordLemmas
 pub mod BeginLemmas
 pub mod OpeningLemmas
+pub mod ReadLemmas
+pub mod RecoveredLemmas
 pub mod MountingLemmas
 pub mod FitLemmas
 pub mod ReplyLemmas
 pub mod FloorLemmas
 pub mod StateLemmas
 pub mod CallLemmas
+pub mod CrashLemmas
 pub mod CoreLemmas
 pub mod UpToLemmas
 pub mod BoundaryLemmas
@@ -28,6 +31,7 @@ pub mod LookedLemmas
 pub mod TellLemmas
 pub mod SyncLemmas
 pub mod EnterLemmas
+pub mod CallLeavesLemmas
 pub mod RefusalLemmas
 pub mod EndLemmas
 pub mod TargetLemmas

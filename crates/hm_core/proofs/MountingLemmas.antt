@@ -1,11 +1,13 @@
 -- The space of a volume that was read.
-use Rattle.std.proofs.Common.{◌≡◌, ℕ, ◌≤◌, List, [], Option, Some, None, refl, sym, ap, subst, ◌∙◌, arith}
+use Rattle.std.proofs.Common.{◌≡◌, ⊎_elim, ℕ, ◌≤◌, List, [], Option, Some, None, refl, sym, ap, subst, ◌∙◌, arith}
 use Rattle.std.specs.Prelude.{IfSome}
 use Rattle.hm_types.specs.Faults.{IsCaused}
 use Rattle.hm_types.specs.Layout.{IsPool}
+use Rattle.hm_types.specs.Told.{BothTell}
 use Rattle.hm_types.specs.declared.fault.Fault.{Fault}
 use Rattle.hm_types.specs.declared.fault.Fault.TheVariants.{Damaged, Media, NoMemory}
 use Rattle.hm_disk.specs.Crash.{Told}
+use Rattle.hm_disk.specs.Moments.{LeftSince}
 use Rattle.hm_fields.specs.Fields.{AreBytes}
 use Rattle.hm_fields.specs.Pages.{PageMap}
 use Rattle.hm_fields.specs.declared.states.State.{State}
@@ -37,19 +39,20 @@ use Rattle.hm_state.specs.Flushing.{HoldsFlush}
 use Rattle.hm_state.specs.Volume.{HoldsVolume}
 use Rattle.hm_state.proofs.MountedFlushLemmas.{mounted_committed}
 use Rattle.hm_state.proofs.MountedLemmas.{mounted, mounted_free}
-use Rattle.hm_core.specs.Core.{HoldsUpTo, IsGuarded, StandsOver}
+use Rattle.hm_core.specs.Core.{HoldsUpTo, IsGuarded, IsSoundCore, StandsOver}
 use Rattle.hm_core.specs.Counts.{AreLater}
+use Rattle.hm_core.specs.Crash.{LeavesPrefixes}
 use Rattle.hm_core.specs.History.{IsLegalOver, up_to}
 use Rattle.hm_core.specs.Inside.{IsInOrder}
 use Rattle.hm_core.specs.Ledger.{IsPaid}
 use Rattle.hm_core.specs.Mounting.{CommitsWhatStands, CountsFree, HoldsWhatStands, IsHeaderOn, IsReadFrom}
-use Rattle.hm_core.specs.Opened.{IsMounted}
+use Rattle.hm_core.specs.Opened.{IsMounted, MountsDisk}
 use Rattle.hm_core.specs.State.{CoreState}
-use Rattle.hm_core.proofs.CausedLemmas.{caused_first}
 use Rattle.hm_core.proofs.BeginLemmas.{first}
 use Rattle.hm_core.proofs.LedgerLemmas.{paid_first}
 use Rattle.hm_core.proofs.CountLemmas.{later_same}
 use Rattle.hm_core.proofs.LookedLemmas.{looked_closed, looked_flush, looked_free, looked_held}
+use Rattle.hm_core.proofs.RecoveredLemmas.{AfterReads}
 
 abbrev maps_with : PageMap → PageMap → PageMap → Maps
 maps_with committed frozen current = record { committed = committed; frozen = frozen; current = current }
@@ -212,46 +215,66 @@ module _ (core : CoreState) (header : Header) (slot : ℕ) (flush : core.flush �
   unfolding up_to
   holds_first opening foreigners t holds = subst (λ (f : Flush). HoldsFlush f core.heap t opening opening) (sym flush) holds
 
-  stands_over : (told : Option Told) → core.heap.disk ≡ told → IfSome told (λ t. HasHeader t.bytes header slot)
-      → IfSome told (CommitsWhatStands core.heap header) → IfSome told (HoldsWhatStands core.heap header)
-      → IfSome told (λ t. (opening : Volume) (foreigners : Foreigners) → StandsFor t.bytes opening
-      → StandsOver core opening foreigners [])
-  stands_over None disk chosen committed holds = tt
-  stands_over (Some t) disk chosen committed holds = λ opening foreigners stands.
-      let held : HoldsVolume core.heap core.root core.last opening =
-      subst (λ (n : ℕ). HoldsVolume core.heap n core.last opening) (sym root)
-      (subst (λ (n : ℕ). HoldsVolume core.heap header.root n opening) (sym ids.0) (holds opening stands)) in
-      record {
-        legal = subst
-            (λ (l : List Entry). IsLegalOver core.mounted.free core.mounted.counts core.counts l core.heap core.root core.last opening foreigners [])
-            (sym new)
-            (first core.mounted.free core.mounted.counts core.counts core.heap core.root core.last opening foreigners later held);
-        read = subst (λ (d : Option Told). IfSome d (λ u. HoldsUpTo core opening foreigners [] (as_read u))) (sym disk)
-            (holds_first opening foreigners (as_read t) (committed slot opening chosen stands).0);
-      }
+  -- on a disk that tells
+  module _ (t : Told) (disk : core.heap.disk ≡ Some t) (counts : HasHeader t.bytes header slot) (committed : CommitsWhatStands core.heap header t) where
+    stands_over : HoldsWhatStands core.heap header t → (opening : Volume) (foreigners : Foreigners) → StandsFor t.bytes opening
+        → StandsOver core opening foreigners []
+    stands_over holds opening foreigners stands =
+        let held : HoldsVolume core.heap core.root core.last opening =
+        subst (λ (n : ℕ). HoldsVolume core.heap n core.last opening) (sym root)
+        (subst (λ (n : ℕ). HoldsVolume core.heap header.root n opening) (sym ids.0) (holds opening stands)) in
+        record {
+          legal = subst
+              (λ (l : List Entry). IsLegalOver core.mounted.free core.mounted.counts core.counts l core.heap core.root core.last opening foreigners [])
+              (sym new)
+              (first core.mounted.free core.mounted.counts core.counts core.heap core.root core.last opening foreigners later held);
+          read = subst (λ (d : Option Told). IfSome d (λ u. HoldsUpTo core opening foreigners [] (as_read u))) (sym disk)
+              (holds_first opening foreigners (as_read t) (committed slot opening counts stands).0);
+        }
 
-  guarded_over : (told : Option Told) → core.heap.disk ≡ told → IfSome told (λ t. HasHeader t.bytes header slot)
-      → IfSome told (CommitsWhatStands core.heap header)
-      → IfSome told (λ t. t.unsettled ≡ [] → (opening : Volume) (foreigners : Foreigners) → StandsFor t.bytes opening
-      → IsGuarded core opening foreigners [])
-  guarded_over None disk chosen committed = tt
-  guarded_over (Some t) disk chosen committed = λ settled opening foreigners stands.
-      subst (λ (d : Option Told). IfSome d (HoldsUpTo core opening foreigners [])) (sym disk)
-      (holds_first opening foreigners t ((committed slot opening chosen stands).1 settled))
+    guarded_over : t.unsettled ≡ [] → (opening : Volume) (foreigners : Foreigners) → StandsFor t.bytes opening → IsGuarded core opening foreigners []
+    guarded_over settled opening foreigners stands =
+        subst (λ (d : Option Told). IfSome d (HoldsUpTo core opening foreigners [])) (sym disk)
+        (holds_first opening foreigners t ((committed slot opening counts stands).1 settled))
 
   pub is_mounted : (told : Option Told) (faults : ℕ) → faults ≤ core.counts.disk → header.undo_count ≡ 0
-      → IfSome told (λ t. HasHeader t.bytes header slot) → IsReadFrom told header core.mounted.free core.heap → IsMounted told faults core
-  is_mounted told faults counted unarmed chosen read = record {
+      → IsReadFrom told header core.mounted.free core.heap → IsSoundCore core → IsMounted faults core
+  is_mounted told faults counted unarmed read sound = record {
     history = new;
-    told = read.disk;
     counts = (counted, start);
     ids = (ids.0 ∙ sym bounded, ids.1 ∙ sym bounded, boundary);
     idle = (ap (λ (f : Flush). f.at) flush, ap (λ (x : Header). x.undo_count) header_is ∙ unarmed);
-    caused = ∣ caused_first core.mounted.first core.mounted.counts core.counts core.last core.history new later (ids.0 ∙ sym ids.1) ∣₁;
     free = read.free_is;
-    counted = subst (λ (x : Header). IfSome told (CountsFree core.mounted.free x)) (sym header_is) read.counted;
-    counting = subst (λ (f : Flush). IfSome told (λ t. HasHeader t.bytes f.header f.slot)) (sym flush) chosen;
-    whole = subst (λ (x : Header). IfSome told (λ t. IsWhole t.bytes x)) (sym header_is) read.whole;
-    stands = stands_over told read.disk chosen read.committed read.holds;
-    guarded = guarded_over told read.disk chosen read.committed;
+    sound = sound;
   }
+
+  mounts_over : (past since : LeftSince) (s t : Told) → core.heap.disk ≡ Some t → AfterReads header slot past since s t
+      → CommitsWhatStands core.heap header t → HoldsWhatStands core.heap header t → IsWhole t.bytes header → CountsFree core.mounted.free header t
+      → MountsDisk core past since s t
+  mounts_over past since s t disk after committed holds whole counted = record {
+    recovers = after.recovers;
+    written = after.written;
+    counts = subst (λ (f : Flush). HasHeader t.bytes f.header f.slot) (sym flush) after.counts;
+    whole = subst (IsWhole t.bytes) (sym header_is) whole;
+    counted = subst (λ (x : Header). CountsFree core.mounted.free x t) (sym header_is) counted;
+    stands = stands_over t disk after.counts committed holds;
+    guarded = λ none. guarded_over t disk after.counts committed
+        (⊎_elim (λ same. ap (λ (u : Told). u.unsettled) same ∙ none) (λ range. range.1) after.written);
+    crashed = subst
+        (λ (n : ℕ). s.unsettled ≡ [] → (opening : Volume) (foreigners : Foreigners) → StandsFor t.bytes opening
+        → LeavesPrefixes past since (λ b. b ≡ n) opening foreigners []) (sym bounded) after.crashed;
+  }
+
+  pub mounts_disk : (past since : LeftSince) (old told : Option Told) → BothTell old told (AfterReads header slot past since)
+      → IsReadFrom told header core.mounted.free core.heap → BothTell old core.heap.disk (MountsDisk core past since)
+  mounts_disk past since old told after read =
+      subst (λ (o : Option Told). BothTell old o (MountsDisk core past since)) (sym read.disk)
+      (by old told read.disk after read.committed read.holds read.whole read.counted)
+    where
+      by : (o n : Option Told) → core.heap.disk ≡ n → BothTell o n (AfterReads header slot past since) → IfSome n (CommitsWhatStands core.heap header)
+          → IfSome n (HoldsWhatStands core.heap header) → IfSome n (λ t. IsWhole t.bytes header) → IfSome n (CountsFree core.mounted.free header)
+          → BothTell o n (MountsDisk core past since)
+      by None None disk after committed holds whole counted = tt
+      by None (Some t) disk after committed holds whole counted = absurd after
+      by (Some s) None disk after committed holds whole counted = absurd after
+      by (Some s) (Some t) disk after committed holds whole counted = mounts_over past since s t disk after committed holds whole counted

@@ -1,61 +1,111 @@
 -- A stage that failed refuses the call for which it was made.
-use Rattle.std.proofs.Common.{◌≡◌, ◌≢◌, ℕ, ◌+◌, ◌<◌, ◌≤◌, List, [], ◌∷◌, ◌++◌, Result, refl, sym, ap, subst, ◌∙◌}
-use Rattle.hm_types.specs.Elements.{FullElement}
-use Rattle.hm_types.specs.Told.{BothTell}
+use Rattle.std.proofs.Common.{◌≡◌, ◌≢◌, inl, ℕ, ◌+◌, ◌<◌, ◌≤◌, List, [], ◌∷◌, ◌++◌, refl, sym, ap, subst, ◌∙◌, arith}
+use Rattle.std.specs.Prelude.{Err}
+use Rattle.std.proofs.Math.Logic.{∥∥₁_map}
 use Rattle.hm_types.specs.declared.fault.Fault.{Fault}
 use Rattle.hm_types.specs.declared.limits.TheConstants.{GREATEST_ID}
 use Rattle.hm_disk.specs.Moments.{LeftSince}
-use Rattle.hm_flush.specs.declared.flush.Position.TheVariants.{Idle}
 use Rattle.hm_flush.specs.declared.stage.Stage.{Stage}
-use Rattle.hm_flush.specs.Ends.{StageTells}
-use Rattle.hm_model.specs.After.{Event}
-use Rattle.hm_model.specs.Foreign.{Foreigners}
-use Rattle.hm_model.specs.Volume.{Volume}
+use Rattle.hm_flush.specs.Calls.{HasStageCause}
+use Rattle.hm_model.specs.declared.command.Command.{Command}
 use Rattle.hm_model.specs.declared.entry.Entry.{Entry}
-use Rattle.hm_stored.specs.Flushed.{FlushesSpace}
-use Rattle.hm_stored.specs.Heap.{Heap}
-use Rattle.hm_stored.specs.Standing.{Holds}
-use Rattle.hm_core.specs.Core.{GoesOn, StandsOver}
-use Rattle.hm_core.specs.Counts.{AreLater}
-use Rattle.hm_core.specs.History.{IsLegalBeyond, IsLegalOver}
-use Rattle.hm_core.specs.Inside.{AreDrawnBy}
+use Rattle.hm_model.specs.declared.reply.Reply.{Reply}
+use Rattle.hm_core.specs.Caused.{IsCausedFrom}
+use Rattle.hm_core.specs.Core.{Follows, GoesOn, IsCausedRun, IsSoundCore}
+use Rattle.hm_core.specs.History.{IsLegalOver}
+use Rattle.hm_core.specs.Inside.{IsInOrder}
 use Rattle.hm_core.specs.Served.{IsServed}
-use Rattle.hm_core.specs.Staged.{header_now}
-use Rattle.hm_core.specs.State.{CoreState}
-use Rattle.hm_core.specs.Told.{TellsFailure}
+use Rattle.hm_core.specs.Staged.{FailsStage, Refuses}
+use Rattle.hm_core.specs.State.{CoreState, Mounted}
+use Rattle.hm_core.specs.Told.{reply_to}
+use Rattle.hm_core.proofs.CausedLemmas.{refused_goes_on as caused_refused}
+use Rattle.hm_core.proofs.CoreLemmas.{goes_on_further}
 use Rattle.hm_core.proofs.EnterLemmas.{entered_by}
-use Rattle.hm_core.proofs.OpenLemmas.{held_once}
 use Rattle.hm_core.proofs.RefusedLemmas.{refused_call}
-use Rattle.hm_core.proofs.StageLemmas.{after, ids_after}
+use Rattle.hm_core.proofs.StepLemmas.{IsStageFault, boundary_drawn, entry_of, fault_untold, greatest_drawn, ordered_refused, stage_failure, target_drawn, untold_since}
 
-module _ (core new : CoreState) (entry : Entry) (result : Result Stage Fault) (past since : LeftSince)
-    (flushes : FlushesSpace (header_now core) core.flush new.flush core.heap new.heap result)
-    (tells : BothTell core.heap.disk new.heap.disk (StageTells core.flush new.flush core.heap.pages new.heap.pages result past since))
-    (counted : AreLater core.counts new.counts) (size : core.flush.header.bigblocks ≡ core.heap.bigblocks) (drawn : AreDrawnBy core.last core.history)
-    (later : core.flush.header.last.0 ≤ core.last)
-    (target : core.flush.at ≢ Idle → (core.flush.header.last.0 ≤ core.flush.target.last.0) × (core.flush.target.last.0 ≤ core.last))
-    (mounted : new.mounted ≡ core.mounted) (root : new.root ≡ core.root) (last : new.last ≡ core.last + 1)
-    (entered : new.history ≡ core.history ++ entry ∷ []) (own : entry.id.0 ≡ core.last + 1) (left : core.last < GREATEST_ID)
-    (served : IsServed entry.call) (fails : TellsFailure core.counts.disk new.counts.disk entry.reply) where
-  pub refused_goes_on : GoesOn core new
-  refused_goes_on opening foreigners events stands =
-      let came = after core new.flush new.heap new.counts result past since flushes tells counted size drawn opening foreigners events stands in
-      let ids = ids_after core new.flush new.heap new.counts result past since flushes tells counted size later target in
-      let next = refused_call core.mounted.free core.mounted.counts core.counts new.counts core.history core.heap core.root core.last opening foreigners
-      events stands.legal counted left entry served own new.heap core.root (record {
-        told = fails;
-        holds = λ es there.
-            subst (λ (l : List FullElement). Holds new.heap core.root l)
-            (held_once core.heap core.root stands.legal.held.holds.elements.0 es stands.legal.held.holds.elements.1 there) came.held;
-        size = ap (λ (h : Heap). h.bigblocks) flushes.rest;
-      }) in
-      entered_by core new entry entered own mounted opening foreigners events stands (
-        next.0,
-        subst (λ (n : ℕ). IsLegalOver core.mounted.free core.mounted.counts new.counts new.history new.heap new.root n opening foreigners (events ++ next.0))
-            (sym last)
-            (subst (λ (n : ℕ). IsLegalOver core.mounted.free core.mounted.counts new.counts new.history new.heap n (core.last + 1) opening foreigners (events ++ next.0))
-            (sym root)
-            (subst (λ (l : List Entry). IsLegalOver core.mounted.free core.mounted.counts new.counts l new.heap core.root (core.last + 1) opening foreigners
-            (events ++ next.0)) (sym entered) next.1)),
-      )
-      ids.later (λ flies. (ids.target flies).1) came.read came.guarded
+-- A stage made of the one core the other, and failed, and the call is entered with its fault.
+module _ (past since : LeftSince) (old mid : CoreState) (fails : FailsStage old mid) (follows : Follows past since old mid) (fault : Fault)
+    (cause : HasStageCause {T = Stage} old.flush.at old.counts.disk mid.counts.disk (Err fault))
+    (ordered : ∥ IsInOrder mid.flush mid.last mid.mounted.free mid.heap mid.history ∥₁) (more : mid.last ≢ GREATEST_ID)
+    (lane line : ℕ) (command : Command) (served : IsServed command) (reply : Reply) (told : reply ≡ reply_to fault)
+    (history : List Entry) (entered : history ≡ mid.history ++ entry_of (mid.last + 1) lane line command reply ∷ []) where
+  abbrev entry : Entry
+  entry = entry_of (mid.last + 1) lane line command reply
+
+  left : mid.last < GREATEST_ID
+  left = (let most = greatest_drawn mid.flush mid.last mid.mounted.free mid.heap mid.history ordered in omega (arith, most, more))
+
+  failure : IsStageFault old.counts.disk mid.counts.disk fault reply
+  failure = stage_failure old.flush.at old.counts.disk mid.counts.disk (Err fault) fault reply refl cause told
+
+  history_is : history ≡ old.history ++ entry ∷ []
+  history_is = entered ∙ ap (λ (l : List Entry). l ++ entry ∷ []) fails.waits.history
+
+  last_is : mid.last + 1 ≡ old.last + 1
+  last_is = ap (λ (n : ℕ). n + 1) fails.waits.last
+
+  pub refused_ordered : ∥ IsInOrder mid.flush (mid.last + 1) mid.mounted.free mid.heap history ∥₁
+  refused_ordered = ∥∥₁_map ordered (λ o.
+      subst (λ (l : List Entry). IsInOrder mid.flush (mid.last + 1) mid.mounted.free mid.heap l) (sym entered)
+      (ordered_refused mid.flush mid.last mid.mounted.free mid.heap mid.history entry left refl (fault_untold mid.flush.header.last.0 fault reply told) o))
+
+  module _ (spare : ℕ) where
+    -- the core with the entry
+    abbrev pub new : CoreState
+    new = record mid { history = history; spare = spare; last = mid.last + 1 }
+
+    pub refused_caused : IsCausedRun old → IsCausedRun new
+    refused_caused run = ∥∥₁_map run (λ from.
+        subst (λ (m : Mounted). IsCausedFrom m.first m.counts mid.counts new.last history) (sym follows.mounted)
+        (subst (λ (n : ℕ). IsCausedFrom old.mounted.first old.mounted.counts mid.counts n history) (sym last_is)
+        (subst (λ (l : List Entry). IsCausedFrom old.mounted.first old.mounted.counts mid.counts (old.last + 1) l) (sym history_is)
+        (caused_refused old.mounted.first old.mounted.counts old.counts mid.counts old.last old.history from follows.never_falls entry
+        (subst (λ (n : ℕ). n < GREATEST_ID) fails.waits.last left) last_is served fault told failure.caused))))
+
+    module _ (is : mid.boundary ≡ mid.flush.header.last.0) where
+      later : mid.flush.header.last.0 ≤ mid.last
+      later = boundary_drawn mid.flush mid.last mid.mounted.free mid.heap mid.history ordered
+
+      pub refuses : old.spare ≤ spare + 1 → Refuses old new lane line command
+      refuses room = record {
+        failed = fails.failed;
+        enters = record {
+          left = subst (λ (n : ℕ). n < GREATEST_ID) fails.waits.last left;
+          entry = entry;
+          history = history_is;
+          of_line = (refl, refl, refl);
+          told = untold_since old.last mid.boundary fault reply told;
+          id = (last_is, last_is);
+          before = omega (arith, is, later);
+          spare = room;
+        };
+        cause = failure.told;
+      }
+
+      -- By the count of before the fault was not told yet, so the call may tell it.
+      abbrev uncounted : CoreState
+      uncounted = record mid { counts = old.counts }
+
+      enters : GoesOn since since uncounted new
+      enters opening foreigners events stands =
+          let next = refused_call mid.mounted.free mid.mounted.counts old.counts mid.counts mid.history mid.heap mid.root mid.last opening foreigners events
+          stands.legal follows.never_falls left entry served refl mid.heap mid.root (record { told = failure.told; holds = λ es there. there; size = refl }) in
+          entered_by since since uncounted new entry entered refl refl opening foreigners events stands (
+            next.0,
+            subst (λ (l : List Entry). IsLegalOver mid.mounted.free mid.mounted.counts mid.counts l mid.heap mid.root (mid.last + 1) opening foreigners
+                (events ++ next.0)) (sym entered) next.1,
+          )
+          later (λ flies. (target_drawn mid.flush mid.last mid.mounted.free mid.heap mid.history ordered flies).1) stands.read (λ was. was)
+          (λ was moment image before. inl before)
+
+      pub refused_follows : GoesOn past since old uncounted → IsSoundCore new → Follows past since old new
+      refused_follows staged sound = record {
+        mounted = follows.mounted;
+        history = (entry ∷ [], history_is);
+        last = omega (arith, last_is);
+        boundary = follows.boundary;
+        never_falls = follows.never_falls;
+        sound = sound;
+        goes_on = goes_on_further past since since old uncounted new follows.last (omega arith) follows.boundary staged enters;
+      }

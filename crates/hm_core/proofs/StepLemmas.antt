@@ -1,5 +1,5 @@
 -- One step of a core.
-use Rattle.std.proofs.Common.{inl, inr, ℕ, ◌+◌, ◌-◌, ◌≤◌, ◌<◌, Bool, true, false, List, [], ◌∷◌, ◌++◌, length, length-append, refl, sym, ap, subst, ◌∙◌, ◌≡◌, ◌≢◌, arith, cond}
+use Rattle.std.proofs.Common.{inl, inr, ℕ, ◌+◌, ◌-◌, ◌≤◌, ◌<◌, Bool, true, false, List, [], ◌∷◌, ◌++◌, length, length-append, refl, sym, subst, ◌∙◌, ◌≡◌, ◌≢◌, arith, cond}
 use Rattle.std.specs.Option.{option_map_or}
 use Rattle.std.specs.Prelude.{IfSome, None, Option, Some, Result, Err}
 use Rattle.std.proofs.Math.Logic.{∥∥₁_elim}
@@ -43,12 +43,6 @@ use Rattle.hm_core.proofs.PropLemmas.{flushed_prop}
 -- the entry of a call with these
 abbrev pub entry_of : ℕ → ℕ → ℕ → Command → Reply → Entry
 entry_of id lane line command reply = record { id = record { 0 = id }; lane = lane; line = line; call = command; reply = reply }
-
--- a history with an entry is not empty
-pub no_entry : (history : List Entry) (entry : Entry) → history ++ entry ∷ [] ≡ [] → ⊥
-no_entry history entry none = (let long = length-append history (entry ∷ []) in
-    let empty = ap (λ (l : List Entry). length l) none in
-    omega (arith, long, empty))
 
 -- a boundary that a reply tells is the committed one, and a sync waits until that is no earlier than an id
 pub told_since : (since boundary : ℕ) (command : Command) (reply : Reply) → (IsSync command → since ≤ boundary)
@@ -125,6 +119,9 @@ module _ (f : Flush) (last free : ℕ) (h : Heap) (history : List Entry) where
 
   pub target_drawn : ∥ IsInOrder f last free h history ∥₁ → f.at ≢ Idle → (f.header.last.0 ≤ f.target.last.0) × (f.target.last.0 ≤ last)
   target_drawn ordered = ∥∥₁_elim ordered (hlevel props) (λ o. o.target)
+
+  pub greatest_drawn : ∥ IsInOrder f last free h history ∥₁ → last ≤ GREATEST_ID
+  greatest_drawn ordered = ∥∥₁_elim ordered (hlevel props) (λ o. o.greatest)
 
   pub size_now : ∥ IsInOrder f last free h history ∥₁ → f.header.bigblocks ≡ h.bigblocks
   size_now ordered = ∥∥₁_elim ordered (hlevel props) (λ o. o.ready.bigblocks)

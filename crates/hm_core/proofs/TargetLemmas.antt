@@ -1,11 +1,11 @@
 -- The header of the state of now may be committed.
-use Rattle.std.proofs.Common.{◌≡◌, ◌≢◌, ℕ, zero, suc, ◌<◌, List, [], ◌∷◌, None, refl, sym, ap, subst, ◌∙◌, arith, length, slice_index, take}
+use Rattle.std.proofs.Common.{◌≡◌, ◌≢◌, ℕ, zero, suc, ◌<◌, List, [], ◌∷◌, None, refl, sym, subst, ◌∙◌, arith, length, slice_index, take}
 use Rattle.std.specs.List.{AllByRecursion}
 use Rattle.std.proofs.Math.Logic.{∥∥₁_elim}
 use Rattle.std.proofs.Props.{props}
 use Rattle.hm_types.specs.Layout.{IsPool}
 use Rattle.hm_freemap.specs.Stand.{AreDistinct}
-use Rattle.hm_header.specs.Range.{IsHeader, IsRoot}
+use Rattle.hm_header.specs.Range.{IsRoot}
 use Rattle.hm_header.specs.declared.header.Header.{Header}
 use Rattle.hm_flush.specs.declared.flush.Flush.{Flush}
 use Rattle.hm_flush.specs.Calls.{IsTarget}
@@ -30,7 +30,10 @@ none_before (a ∷ b ∷ c ∷ d ∷ []) four apart (suc (suc zero)) low = (
 )
 none_before (a ∷ b ∷ c ∷ d ∷ []) four apart (suc (suc (suc zero))) low = (
   λ same. absurd (omega (arith, apart 3 0 (omega arith) (omega arith) same)),
-  (λ same. absurd (omega (arith, apart 3 1 (omega arith) (omega arith) same)), (λ same. absurd (omega (arith, apart 3 2 (omega arith) (omega arith) same)), tt)),
+  (
+    λ same. absurd (omega (arith, apart 3 1 (omega arith) (omega arith) same)),
+    (λ same. absurd (omega (arith, apart 3 2 (omega arith) (omega arith) same)), tt),
+  ),
 )
 none_before append four apart (suc (suc (suc (suc k)))) low = absurd (omega (arith, low))
 none_before [] four apart k low = absurd (omega (arith, four))

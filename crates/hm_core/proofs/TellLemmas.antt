@@ -1,6 +1,5 @@
 -- A call that tells the space is the next one of each history.
-use Rattle.std.proofs.Common.{◌≡◌, ℕ, ◌+◌, ◌-◌, ◌^◌, ◌≤◌, ◌<◌, Bool, true, List, [], ◌∷◌, ◌++◌, refl, sym, ap, subst, ◌∙◌, cond, count_by, length, arith}
-use Rattle.std.specs.Prelude.{IsSome}
+use Rattle.std.proofs.Common.{◌≡◌, ℕ, ◌+◌, ◌-◌, ◌^◌, ◌≤◌, ◌<◌, Bool, List, [], ◌∷◌, ◌++◌, refl, sym, ap, subst, ◌∙◌, cond, length, arith}
 use Rattle.std.proofs.lemmas.List.FromFn.{length-range_with_len}
 use Rattle.std.proofs.lemmas.List.Sums.{count_by-le-length}
 use Rattle.hm_types.specs.Faults.{IsCaused}
@@ -15,11 +14,9 @@ use Rattle.hm_freemap.proofs.GoodLemmas.{good_block}
 use Rattle.hm_model.specs.After.{Event}
 use Rattle.hm_model.specs.Caused.{Counts}
 use Rattle.hm_model.specs.Foreign.{Foreigners}
-use Rattle.hm_model.specs.Needs.{floor}
 use Rattle.hm_model.specs.Volume.{Volume}
 use Rattle.hm_model.specs.declared.command.Command.TheVariants.{Df}
 use Rattle.hm_model.specs.declared.entry.Entry.{Entry}
-use Rattle.hm_model.specs.declared.reply.Reply.{Reply}
 use Rattle.hm_model.specs.declared.reply.Reply.TheVariants.{NoMemory, Space}
 use Rattle.hm_stored.specs.Basis.{IsFirm, states_of}
 use Rattle.hm_stored.specs.Heap.{Heap, free_of, maps_of, room_of}

@@ -1,8 +1,10 @@
 -- What the calls of a core do.
 use Rattle.std.specs.Prelude.{◌≡◌, ◌⊎◌, ℕ, ◌+◌, ◌<◌, ◌≤◌, List, [], ◌∷◌, ◌++◌, IfSome, length}
 use Rattle.hm_types.specs.declared.limits.TheConstants.{FULL_GROUP_PAGES, GREATEST_ID}
-use Rattle.hm_disk.specs.Crash.{Told}
+use Rattle.hm_disk.specs.Crash.{MayLeave, Told}
+use Rattle.hm_disk.specs.Moments.{Each, LeftSince}
 use Rattle.hm_flush.specs.Ends.{as_read}
+use Rattle.hm_flush.specs.Flush.{tried}
 use Rattle.hm_model.specs.After.{Event}
 use Rattle.hm_model.specs.Foreign.{Foreigners}
 use Rattle.hm_model.specs.Reply.{told_boundary}
@@ -14,6 +16,8 @@ use Rattle.hm_state.specs.Flushing.{HoldsFlush}
 use Rattle.hm_core.specs.Caused.{IsCausedFrom}
 use Rattle.hm_core.specs.History.{IsLegalOver, up_to, volume_of}
 use Rattle.hm_core.specs.Counts.{AreLater}
+use Rattle.hm_core.specs.Crash.{IsBetween, IsLeftBoundary, LeavesPrefixes, RecoversToPrefix}
+use Rattle.hm_core.specs.Inside.{AreUpTo}
 use Rattle.hm_core.specs.Served.{IsSync}
 use Rattle.hm_core.specs.State.{CoreDevices, CoreState}
 use Rattle.hm_core.specs.declared.step.Step.{Step}
@@ -37,26 +41,57 @@ pub record StandsOver (core : CoreState) (opening : Volume) (foreigners : Foreig
 abbrev pub IsGuarded : CoreState → Volume → Foreigners → List Event → Type 0
 IsGuarded core opening foreigners events = IfSome core.heap.disk (HoldsUpTo core opening foreigners events)
 
--- A core stands for it by these events and more; and where it was guarded it is so still.
-pub record GoesOnBy (old new : CoreState) (opening : Volume) (foreigners : Foreigners) (events : List Event) : Type 0 where
+-- A core stands for it by these events and more, and the events up to each id that was drawn before stay. Where it was guarded it is
+-- so still, and what a crash since a moment may have left was so before, or it recovers to the volume after a prefix of the events,
+-- no shorter than the one that was committed.
+pub record GoesOnBy (past since : LeftSince) (old new : CoreState) (opening : Volume) (foreigners : Foreigners) (events : List Event)
+    : Type 0 where
   pub more : List Event
+  pub stay : (id : ℕ) → id ≤ old.last → up_to id (events ++ more) ≡ up_to id events
   pub stands : StandsOver new opening foreigners (events ++ more)
   pub guarded : IsGuarded old opening foreigners events → IsGuarded new opening foreigners (events ++ more)
+  pub crashed : IsGuarded old opening foreigners events
+      → LeavesPrefixes past since (IsBetween old.boundary new.last) opening foreigners (events ++ more)
 
 -- For each volume on which the run may have begun, it stands for it still, by the events of before and more: what it had
 -- answered by then was right over the same trees.
-abbrev pub GoesOn : CoreState → CoreState → Type 0
-GoesOn old new = (opening : Volume) (foreigners : Foreigners) (events : List Event) → StandsOver old opening foreigners events
-    → GoesOnBy old new opening foreigners events
+abbrev pub GoesOn : LeftSince → LeftSince → CoreState → CoreState → Type 0
+GoesOn past since old new = (opening : Volume) (foreigners : Foreigners) (events : List Event) → StandsOver old opening foreigners events
+    → GoesOnBy past since old new opening foreigners events
 
 -- each reply of its history has its cause, from the last id and the counts of faults as it was mounted on: so it is of every core
 abbrev pub IsCausedRun : CoreState → Type 0
 IsCausedRun core = ∥ IsCausedFrom core.mounted.first core.mounted.counts core.counts core.last core.history ∥₁
 
--- what a core began with is as before, and the committed boundary never falls
-pub record KeepsRest (old new : CoreState) : Type 0 where
+-- What is so of every core. Each reply has its cause, none told a boundary past the committed one, and each boundary that a crash
+-- within a stage may leave is drawn. Where it stands for a volume, its disk recovers to the volume after a prefix of the events, up to
+-- a boundary that a crash may leave; and where it is guarded, so does each image that a crash now may leave.
+pub record IsSoundCore (core : CoreState) : Type 0 where
+  pub caused : IsCausedRun core
+  pub told : AreUpTo core.boundary core.history
+  pub between : (boundary : ℕ) → IsLeftBoundary (tried core.flush) boundary → IsBetween core.boundary core.last boundary
+  pub read : (opening : Volume) (foreigners : Foreigners) (events : List Event) → StandsOver core opening foreigners events
+      → IfSome core.heap.disk (λ t. RecoversToPrefix (IsLeftBoundary core.flush) opening foreigners events t.bytes)
+  pub now : (opening : Volume) (foreigners : Foreigners) (events : List Event) → IsGuarded core opening foreigners events
+      → IfSome core.heap.disk (λ t. Each (MayLeave t.bytes t.unsettled)
+      (RecoversToPrefix (IsLeftBoundary core.flush) opening foreigners events))
+
+-- A core follows one of an earlier moment, where what a crash since a moment may have left is this before and that now: what there was
+-- at mounting stays, the history goes on, no id, no boundary and no count of faults falls, and it goes on from each volume for which
+-- the earlier one stood.
+pub record Follows (past since : LeftSince) (old new : CoreState) : Type 0 where
   pub mounted : new.mounted ≡ old.mounted
+  pub history : (more : List Entry) × (new.history ≡ old.history ++ more)
+  pub last : old.last ≤ new.last
   pub boundary : old.boundary ≤ new.boundary
+  pub never_falls : AreLater old.counts new.counts
+  pub sound : IsSoundCore new
+  pub goes_on : GoesOn past since old new
+
+-- Each image that a crash within a step may have left recovers to the committed volume or to the frozen one, and to none between.
+abbrev pub LeavesHeld : LeftSince → LeftSince → CoreState → Type 0
+LeavesHeld past since old = (opening : Volume) (foreigners : Foreigners) (events : List Event) → StandsOver old opening foreigners events
+    → IsGuarded old opening foreigners events → LeavesPrefixes past since (IsLeftBoundary (tried old.flush)) opening foreigners events
 
 -- a boundary that a reply tells is on the disk, and is no earlier than this id
 abbrev pub TellsBoundary : ℕ → ℕ → Reply → Type 0
@@ -74,20 +109,12 @@ pub record Enters (old new : CoreState) (lane line since : ℕ) (command : Comma
   pub id : (entry.id.0 ≡ old.last + 1) × (new.last ≡ old.last + 1)
   pub before : new.boundary < new.last
   pub spare : old.spare ≤ new.spare + 1
-  pub rest : KeepsRest old new
-  pub never_falls : AreLater old.counts new.counts
-  pub caused : IsCausedRun new
-  pub goes_on : GoesOn old new
 
--- Nothing was entered: the history, the ids and the volume are as before. A flush may have gone on.
+-- Nothing was entered: the history and the ids are as before. A flush may have gone on.
 pub record Waits (old new : CoreState) : Type 0 where
   pub history : new.history ≡ old.history
   pub last : new.last ≡ old.last
   pub spare : new.spare ≡ old.spare
-  pub rest : KeepsRest old new
-  pub never_falls : AreLater old.counts new.counts
-  pub caused : IsCausedRun new
-  pub goes_on : GoesOn old new
 
 -- A call waits for a flush: the current group has as many pages as fill it, or it is a sync, and the boundary is before this id.
 abbrev pub NeedsFlush : CoreState → ℕ → Command → Type 0

@@ -9,6 +9,7 @@ pub mod Served
 pub mod Answer
 pub mod State
 pub mod Seen
+pub mod Crash
 pub mod Core
 pub mod Staged
 pub mod Opened

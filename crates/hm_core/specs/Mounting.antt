@@ -1,12 +1,15 @@
 -- What a volume is read from, and the space that comes of it.
 use Rattle.std.specs.Prelude.{◌≡◌, ℕ, [], None, Option, IfSome}
+use Rattle.hm_types.specs.Faults.{IsUndamaged}
+use Rattle.hm_types.specs.declared.fault.Fault.{Fault}
 use Rattle.hm_disk.specs.Crash.{Told}
 use Rattle.hm_flush.specs.Ends.{as_read}
 use Rattle.hm_flush.specs.Flush.{idle_flush}
 use Rattle.hm_header.specs.OnDisk.{HasHeader}
 use Rattle.hm_header.specs.declared.header.Header.{Header}
 use Rattle.hm_image.specs.Stands.{StandsFor}
-use Rattle.hm_load.specs.Damage.{IsWhole}
+use Rattle.hm_load.specs.Damage.{IsDamage, IsWhole}
+use Rattle.hm_load.specs.Faults.{Tells}
 use Rattle.hm_model.specs.Volume.{Volume}
 use Rattle.hm_state.specs.Flushing.{HoldsFlush}
 use Rattle.hm_state.specs.Free.{free_in}
@@ -45,3 +48,9 @@ pub record IsReadFrom (told : Option Told) (header : Header) (free : ℕ) (h : H
   pub whole : IfSome told (λ t. IsWhole t.bytes header)
   pub bigblocks : header.bigblocks ≡ h.bigblocks
   pub idle : h.pages.boundary ≡ None
+
+-- No space was read of the volume with this header from a disk that told this, and tells that, and this is why.
+pub record IsNotRead (header : Header) (fault : Fault) (old new : Option Told) : Type 0 where
+  pub told : new ≡ old
+  pub damage : IfSome old (λ t. Tells (IsDamage t.bytes header) fault)
+  pub whole : IfSome old (λ t. (volume : Volume) → StandsFor t.bytes volume → IsUndamaged fault)

@@ -32,6 +32,15 @@ pub record FailsStage (old new : CoreState) : Type 0 where
   pub failed : StageFails old.flush new.flush old.heap.pages new.heap.pages
   pub waits : Waits old new
 
+-- what a stage made of a core, by its result
+abbrev pub IsStaged : CoreState → CoreState → Result Stage Fault → Type 0
+IsStaged old new (Ok stage) = MakesStage old new
+IsStaged old new (Err fault) = FailsStage old new
+
+-- where no flush is in flight, nothing is unsettled: so it is once the last stage of one was made
+abbrev pub Settles : CoreState → Type 0
+Settles core = core.flush.at ≡ Idle → IfSome core.heap.disk (λ t. t.unsettled ≡ [])
+
 -- It failed, and the call for which it was made was answered so: the disk failed within it, or memory was refused as a group was to
 -- be frozen.
 pub record Refuses (old new : CoreState) (lane line : ℕ) (command : Command) : Type 0 where

@@ -6,19 +6,21 @@ ghost use Rattle.hm_calls.specs.Commands.{IsOnTrees};
 ghost use Rattle.hm_stored.specs.Space.{heap};
 ghost use Rattle.hm_stored.specs.Turn.{IsClosed};
 ghost use Rattle.hm_core.specs.Answer.{Answers};
+ghost use Rattle.hm_core.specs.Crash.{LeavesNow};
 ghost use Rattle.hm_core.specs.Told.{reply_to};
 
 use hm_disk::Disk;
 use hm_model::{Command, Reply};
 use hm_step::answer_next;
-use hm_stored::Stored;
+use hm_stored::{Stored, what_a_crash_leaves_over_calls};
 use hm_types::{Fault, Id};
 use std::alloc::Global;
 
 /// Answers a call on names or file bytes by the id after `last`, over the store of a volume in which no
 /// call is open, and keeps what it changed, or drops it all where the device failed, memory was
-/// refused, or the root of the tree would stand outside the pool: that is answered as want of memory. Each history that was legal over an opening volume goes on legally with the entry of the
-/// call, where no fewer big-blocks are free than its least.
+/// refused, or the root of the tree would stand outside the pool: that is answered as want of memory.
+/// Each history that was legal over an opening volume goes on legally with the entry of the call, where no
+/// fewer big-blocks are free than its least. What a crash within it may have left, one afterwards may.
 pub fn answer_over<D: Disk>(
     alloc: Global,
     stored: &mut Stored<D>,
@@ -28,9 +30,13 @@ pub fn answer_over<D: Disk>(
     requires closed { IsClosed (heap stored.old.space) }
     requires served { IsOnTrees command.now × IsInRange command.now }
     requires left { last.0 < GREATEST_ID }
-    ensures answers { (boundary : ℕ) → Answers boundary (D.faults stored.old.space.disk) (D.faults stored.new.space.disk) last.0 command.now
+    ensures answers { (boundary : ℕ) → Answers boundary (D.faults stored.old.space.disk)
+        (D.faults stored.new.space.disk) last.0 command.now
         (heap stored.old.space) (heap stored.new.space) stored.old.root stored.new.root result }
+    ensures crashes { LeavesNow (D.left_since stored.old.space.disk) (D.left_since stored.new.space.disk)
+        (D.told stored.new.space.disk) }
 {
+    what_a_crash_leaves_over_calls::<D>();
     stored.begin(last);
     match answer_next(alloc, stored, command, last, None) {
         Ok(reply) if stored.can_keep() => {

@@ -30,7 +30,7 @@ ghost use Rattle.hm_stored.specs.Known.{AreKnown, is_known};
 ghost use Rattle.hm_stored.specs.Standing.{Holds};
 ghost use Rattle.hm_stored.specs.Told.{elements_told};
 ghost use Rattle.hm_core.specs.Calls.{Fails, IsNextCall, Serves};
-ghost use Rattle.hm_core.specs.Core.{GoesOn};
+ghost use Rattle.hm_core.specs.Core.{Follows, IsSoundCore};
 ghost use Rattle.hm_core.specs.Counts.{AreLater};
 ghost use Rattle.hm_core.specs.History.{IsLegalBeyond, IsLegalOver, setting_of, up_to};
 ghost use Rattle.hm_core.specs.Inside.{AreDrawnBy, AreUpTo};
@@ -40,12 +40,17 @@ ghost use Rattle.hm_core.specs.State.{CoreState};
 ghost use Rattle.hm_core.specs.Told.{ArePages, HoldsSame, HoldsTold, OpensStore, TellsFailure, TellsHeld, TellsSpace, reply_to};
 ghost use Rattle.hm_state.specs.Volume.{HoldsVolume};
 
+use hm_disk::Disk;
 use hm_key::{ElementStore, Extents};
 
-/// A core goes on from itself, and from what one that it goes on from went on from.
-pub fn a_core_goes_on_from_what_came_before()
-    ensures itself { (core : CoreState) → GoesOn core core }
-    ensures further { (a b c : CoreState) → GoesOn a b → GoesOn b c → GoesOn a c }
+/// A core follows itself, and what a core that it follows followed.
+pub fn a_core_follows_what_it_followed_before<D: Disk>()
+    ensures itself { (disk : D) (core : CoreState) → IsSoundCore core →
+        Follows (D.left_since disk) (D.left_since disk) core core }
+    ensures further { (one two three : D) (a b c : CoreState) →
+        Follows (D.left_since one) (D.left_since two) a b →
+        Follows (D.left_since two) (D.left_since three) b c →
+        Follows (D.left_since one) (D.left_since three) a c }
 {}
 
 /// A core begins with the empty history, over each volume that its space holds, whatever foreign

@@ -3,9 +3,7 @@ ghost use Rattle.std.specs.Prelude.{◌≡◌, ◌≤◌, IfErr, IfOk, IfSome};
 ghost use Rattle.hm_types.specs.Faults.{IsCaused};
 ghost use Rattle.hm_header.specs.Range.{IsHeader};
 ghost use Rattle.hm_stored.specs.Space.{heap};
-ghost use Rattle.hm_core.specs.Mounting.{IsHeaderOn, IsReadFrom};
-ghost use Rattle.hm_core.specs.Opened.{IsNotMounted};
-ghost use Rattle.hm_core.specs.declared.fault.OpenFault.TheVariants.{Fault as of_disk};
+ghost use Rattle.hm_core.specs.Mounting.{IsHeaderOn, IsNotRead, IsReadFrom};
 
 use hm_disk::Disk;
 use hm_header::Header;
@@ -27,7 +25,9 @@ pub(crate) fn open_space<D: Disk>(
     requires unarmed { header.now.undo_count ≡ 0 }
     ensures ok { IfOk result (λ opened. IsReadFrom (D.told disk) header.now opened.1 (heap opened.0)) }
     ensures faults { IfOk result (λ opened. D.faults disk ≤ D.faults opened.0.disk) }
-    ensures err { IfErr result (λ e. IsNotMounted (D.told disk) (D.told e.0) (of_disk e.1)) }
+    ensures past { IfOk result (λ opened. D.past opened.0.disk ≡ D.past disk) }
+    ensures err { IfErr result (λ e. IsNotRead header.now e.1 (D.told disk) (D.told e.0)) }
+    ensures err_past { IfErr result (λ e. D.past e.0 ≡ D.past disk) }
     ensures cause { IfErr result (λ e. (D.faults disk ≤ D.faults e.0)
         × IsCaused (D.faults disk) (D.faults e.0) e.1) }
 {

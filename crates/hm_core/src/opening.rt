@@ -2,18 +2,19 @@
 ghost use Rattle.std.specs.Prelude.{◌≡◌, ◌≤◌, IfErr, IfOk, OnOk};
 ghost use Rattle.hm_types.specs.Told.{BothTell};
 ghost use Rattle.hm_header.specs.Range.{IsSize};
-ghost use Rattle.hm_core.specs.Opened.{HasOpenCause, IsMade, IsMounted, IsNotMade, IsNotMounted, IsOpenCaused};
+ghost use Rattle.hm_types.specs.declared.fault.Fault.TheVariants.{Media};
+ghost use Rattle.hm_recover.specs.declared.fault.OpenFault.TheVariants.{Fault as of_disk};
+ghost use Rattle.hm_core.specs.Opened.{HasOpenCause, IsMade, IsMounted, IsNotMade, IsNotMounted, IsOpenCaused, MountsDisk};
 ghost use Rattle.hm_core.specs.Seen.{devices, seen};
 
-use crate::fault::OpenFault;
 use crate::mounting::open_space;
-use crate::slots::{disk_fault, read_header};
 use crate::volume::Core;
 use hm_disk::Disk;
 use hm_flush::Flusher;
 use hm_newfs::write_volume;
+use hm_recover::{OpenFault, Opened, recover};
 use hm_stored::Stored;
-use hm_types::{BIGBLOCK_BYTES, Failed};
+use hm_types::{BIGBLOCK_BYTES, Failed, Fault};
 use std::alloc::Global;
 
 // Where the number of big-blocks stands in a header slot, in bytes.
@@ -42,43 +43,62 @@ pub fn newfs<D: Disk>(disk: &mut D, bigblocks: u32) -> Result<(), OpenFault>
     }
 }
 
+/// The fault of a disk that failed, whose faults were counted so many before.
+fn disk_fault<D: Disk>(disk: &D, before: u64) -> OpenFault
+    ensures { result ≡ of_disk (Media before (D.faults disk.now)) }
+{
+    OpenFault::Fault(Fault::Media {
+        before,
+        after: disk.faults(),
+    })
+}
+
 impl<D: Disk, I, O> Core<D, I, O> {
-    /// Opens the volume on a disk, and keeps two streams for it. It reads both header slots, the
-    /// freemap, the tree and each payload, and writes nothing. An error hands back the disk and the
-    /// streams, and says why: that the disk has no volume, that a field of its header is out of range, or
-    /// that it names entries of the UNDO log (`BadField` with place 44: recovery is not served yet),
-    /// the first damage of its freemap or its tree, a fault of reading, or want of memory.
+    /// Opens the volume on a disk, and keeps two streams for it. Where the disk was cut off in a flush it
+    /// is recovered first: the old pages that its header names are put back. Then it reads the freemap, the
+    /// tree and each payload, and writes nothing.
+    ///
+    /// An error hands back the disk and the streams, and says why: that the disk has no volume, that a
+    /// field of its header is out of range, the first damage of its UNDO entries, its freemap or its tree,
+    /// a fault of the disk, or want of memory. What the disk recovers to stays the same.
     pub fn mount(
         alloc: Global,
         disk: D,
         input: I,
         output: O,
     ) -> Result<Core<D, I, O>, (D, I, O, OpenFault)>
-        ensures ok { IfOk result (λ core. IsMounted (D.told disk) (D.faults disk) (seen core)) }
+        ensures ok { IfOk result (λ core. IsMounted (D.faults disk) (seen core)) }
+        ensures disk { IfOk result (λ core. BothTell (D.told disk) (seen core).heap.disk
+            (MountsDisk (seen core) (D.left_since disk) (D.left_since (devices core).disk))) }
         ensures streams { IfOk result (λ core. ((devices core).input ≡ input) × ((devices core).output ≡ output)) }
-        ensures err { IfErr result (λ e. IsNotMounted (D.told disk) (D.told e.0) e.3
-            × (e.1 ≡ input) × (e.2 ≡ output)) }
+        ensures err { IfErr result (λ e. BothTell (D.told disk) (D.told e.0)
+            (IsNotMounted e.3 (D.left_since disk) (D.left_since e.0))) }
+        ensures back { IfErr result (λ e. (e.1 ≡ input) × (e.2 ≡ output)) }
         ensures cause { IfErr result (λ e. (D.faults disk ≤ D.faults e.0)
             × IsOpenCaused (D.faults disk) (D.faults e.0) e.3) }
     {
         let mut disk = disk;
-        let (header, slot) = match read_header(&mut disk) {
-            Ok(answer) => answer,
+        let Opened { header, slot } = match recover(&mut disk) {
+            Ok(opened) => opened,
             Err(fault) => return Err((disk, input, output, fault)),
         };
         match open_space(alloc, disk, &header) {
-            Ok((space, free)) => Ok(Core {
-                alloc,
-                input,
-                output,
-                flusher: Flusher::new(&header, slot),
-                last: header.last,
-                first: header.last,
-                free,
-                start: space.disk().faults(),
-                history: Vec::new(alloc),
-                stored: Stored::over(space, header.root),
-            }),
+            Ok((space, free)) => {
+                let core = Core {
+                    alloc,
+                    input,
+                    output,
+                    flusher: Flusher::new(&header, slot),
+                    last: header.last,
+                    first: header.last,
+                    free,
+                    start: space.disk().faults(),
+                    history: Vec::new(alloc),
+                    stored: Stored::over(space, header.root),
+                };
+                core.core_is_sound();
+                Ok(core)
+            }
             Err((disk, fault)) => Err((disk, input, output, OpenFault::Fault(fault))),
         }
     }

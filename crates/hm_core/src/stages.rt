@@ -1,16 +1,17 @@
 // The stages of a flush, between the calls of a core.
 ghost use Rattle.std.specs.Prelude.{◌≡◌, ◌≤◌, ◌↔◌, IfOk, IfSome, IsTrue};
 ghost use Rattle.hm_flush.specs.Calls.{HasStageCause, IsTarget};
-ghost use Rattle.hm_core.specs.Core.{KeepsStreams};
+ghost use Rattle.hm_core.specs.Core.{Follows, GoesOn, KeepsStreams, LeavesHeld};
 ghost use Rattle.hm_core.specs.Finished.{IsCommittedOn};
 ghost use Rattle.hm_core.specs.Seen.{devices, seen};
 ghost use Rattle.hm_core.specs.Served.{IsAsked};
-ghost use Rattle.hm_core.specs.Staged.{EndsBy, IsFlushed, Stages, header_now};
+ghost use Rattle.hm_core.specs.Staged.{EndsBy, IsFlushed, IsStaged, Settles, Stages, header_now};
 
 use crate::calls::failure;
 use crate::staged::Staged;
 use crate::volume::Core;
 use hm_disk::Disk;
+use hm_flush::Stage;
 use hm_header::Header;
 use hm_model::{Command, Entry};
 use hm_types::{Fault, GREATEST_ID, Id};
@@ -24,10 +25,13 @@ impl<D: Disk, I, O> Core<D, I, O> {
         requires room { 2 ≤ (seen self.old).spare }
         requires asked { IsAsked command }
         ensures stages { Stages (seen self.old) (seen self.new) lane line command result }
+        ensures follows { Follows (D.left_since (devices self.old).disk) (D.left_since (devices self.new).disk)
+            (seen self.old) (seen self.new) }
+        ensures crashes { LeavesHeld (D.left_since (devices self.old).disk) (D.left_since (devices self.new).disk)
+            (seen self.old) }
         ensures streams { KeepsStreams (devices self.old) (devices self.new) }
     {
-        let now = self.header_now();
-        match self.stored.flush_stage(&mut self.flusher, &now) {
+        match self.make_stage() {
             Ok(_) => Staged::More(command),
             Err(_) if self.last.0 == GREATEST_ID => Staged::Spent,
             Err(fault) => {
@@ -41,6 +45,7 @@ impl<D: Disk, I, O> Core<D, I, O> {
                     call: command,
                     reply: failure(fault),
                 });
+                self.core_is_sound();
                 Staged::Refused(place)
             }
         }
@@ -51,30 +56,51 @@ impl<D: Disk, I, O> Core<D, I, O> {
     /// made again next time: `Media` where the disk failed, and `NoMemory` as a group is frozen.
     pub fn end_stage(&mut self) -> Result<bool, Fault>
         ensures ends { EndsBy (seen self.old) (seen self.new) result }
+        ensures follows { Follows (D.left_since (devices self.old).disk) (D.left_since (devices self.new).disk)
+            (seen self.old) (seen self.new) }
+        ensures crashes { LeavesHeld (D.left_since (devices self.old).disk) (D.left_since (devices self.new).disk)
+            (seen self.old) }
         ensures committed { IfOk result (λ all. IsTrue all →
             IfSome (seen self.new).heap.disk (IsCommittedOn (seen self.new))) }
         ensures streams { KeepsStreams (devices self.old) (devices self.new) }
         ensures cause { HasStageCause (seen self.old).flush.at (seen self.old).counts.disk
             (seen self.new).counts.disk result }
     {
-        self.flusher.flush_is_sound();
         if self.is_flushed() {
+            self.core_is_sound();
             return Ok(true);
         }
-        let now = self.header_now();
-        match self.stored.flush_stage(&mut self.flusher, &now) {
-            Ok(_) => {
-                self.flusher.flush_is_sound();
-                Ok(self.is_flushed())
-            }
-            Err(fault) => Err(fault),
-        }
+        self.make_stage()?;
+        Ok(self.is_flushed())
     }
 
-    // Whether all that was answered is committed.
-    fn is_flushed(&self) -> bool
-        ensures { IsTrue result ↔ IsFlushed (seen self.now) }
+    // Makes the stage that is due. The core goes on also as if no fault had been counted meanwhile: so the
+    // call for which it was made can be refused with one.
+    fn make_stage(&mut self) -> Result<Stage, Fault>
+        ensures stage { IsStaged (seen self.old) (seen self.new) result }
+        ensures follows { Follows (D.left_since (devices self.old).disk) (D.left_since (devices self.new).disk)
+            (seen self.old) (seen self.new) }
+        ensures uncounted { GoesOn (D.left_since (devices self.old).disk) (D.left_since (devices self.new).disk)
+            (seen self.old) (record (seen self.new) { counts = (seen self.old).counts }) }
+        ensures crashes { LeavesHeld (D.left_since (devices self.old).disk) (D.left_since (devices self.new).disk)
+            (seen self.old) }
+        ensures settled { IfOk result (λ _. Settles (seen self.new)) }
+        ensures streams { KeepsStreams (devices self.old) (devices self.new) }
+        ensures cause { HasStageCause (seen self.old).flush.at (seen self.old).counts.disk
+            (seen self.new).counts.disk result }
     {
+        let now = self.header_now();
+        let result = self.stored.flush_stage(&mut self.flusher, &now);
+        self.core_is_sound();
+        result
+    }
+
+    // Whether all that was answered is committed. Then the disk stands for the volume.
+    fn is_flushed(&self) -> bool
+        ensures is { IsTrue result ↔ IsFlushed (seen self.now) }
+        ensures committed { IsTrue result → IfSome (seen self.now).heap.disk (IsCommittedOn (seen self.now)) }
+    {
+        self.flusher.flush_is_sound();
         self.flusher.is_idle() && self.flusher.boundary() == self.last
     }
 

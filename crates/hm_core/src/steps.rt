@@ -1,6 +1,6 @@
 // The calls of a core.
 ghost use Rattle.std.specs.Prelude.{◌≡◌, ◌≤◌, ◌↔◌, IsTrue};
-ghost use Rattle.hm_core.specs.Core.{LeavesDevices, NeedsFlush, Steps};
+ghost use Rattle.hm_core.specs.Core.{Follows, IsSoundCore, LeavesDevices, LeavesHeld, NeedsFlush, Steps};
 ghost use Rattle.hm_core.specs.Inside.{AreUpTo};
 ghost use Rattle.hm_core.specs.Seen.{devices, seen};
 ghost use Rattle.hm_core.specs.Served.{IsAsked};
@@ -23,8 +23,13 @@ impl<D: Disk, I, O> Core<D, I, O> {
         requires since { since.0 ≤ (seen self.old).last }
         requires asked { IsAsked command }
         ensures steps { Steps (seen self.old) (seen self.new) lane line since.0 command result }
+        ensures follows { Follows (D.left_since (devices self.old).disk) (D.left_since (devices self.new).disk)
+            (seen self.old) (seen self.new) }
+        ensures crashes { LeavesHeld (D.left_since (devices self.old).disk) (D.left_since (devices self.new).disk)
+            (seen self.old) }
         ensures streams { LeavesDevices (devices self.old) (devices self.new) result }
     {
+        self.core_is_sound();
         if self.last.0 == GREATEST_ID {
             return Step::Spent;
         }
@@ -48,6 +53,7 @@ impl<D: Disk, I, O> Core<D, I, O> {
             call: command,
             reply,
         });
+        self.core_is_sound();
         Step::Answered(place)
     }
 
@@ -57,6 +63,13 @@ impl<D: Disk, I, O> Core<D, I, O> {
     {
         self.stored.space().group_len() >= FULL_GROUP_PAGES
             || (is_sync(command) && self.boundary().0 < since.0)
+    }
+
+    /// Does nothing, and says what is so of every core.
+    pub fn core_is_sound(&self)
+        ensures { IsSoundCore (seen self.now) }
+    {
+        self.flusher.flush_is_sound();
     }
 
     /// The last id that was drawn.

@@ -1,8 +1,7 @@
 -- The command is told apart.
-use Rattle.std.proofs.Common.{inl, inr, subst, sym, ap, ◌≡◌, ◌⊎◌, ⊎_elim}
+use Rattle.std.proofs.Common.{inl, subst, sym}
 use Rattle.hm_types.specs.declared.id.Id.{Id}
 use Rattle.hm_model.specs.declared.command.Command.{Command}
-use Rattle.hm_model.specs.declared.command.Command.TheVariants.{Sync, Synctid}
 use Rattle.hm_model.specs.declared.reply.Reply.TheVariants.{Synced}
 use Rattle.hm_pages.specs.Store.{contents}
 use Rattle.hm_stored.specs.Heap.{heap_of}
@@ -20,10 +19,14 @@ returns-in-Df g c =
           (heap_of (contents s.space.pages.store) (g.D.Disk.told s.space.disk) s.space.books)
           (heap_of (contents t.space.pages.store) (g.D.Disk.told t.space.disk) t.space.books) s.root t.root c.tell_space.result)
           (sym c.in-Df.is) (c.tell_space.ensures.answers c.args.flusher.now.header.last.0 c.args.last.0 c.requires.left);
+      crashes = c.tell_space.ensures.crashes;
     }
 
 pub returns-in_default : goal.returns-in_default
-returns-in_default g c = record { answers = c.answer_over.ensures.answers c.args.flusher.now.header.last.0 }
+returns-in_default g c = record {
+  answers = c.answer_over.ensures.answers c.args.flusher.now.header.last.0;
+  crashes = c.answer_over.ensures.crashes;
+}
 
 pub returns-in-Sync : goal.returns-in-Sync
 returns-in-Sync g c =
@@ -33,4 +36,5 @@ returns-in-Sync g c =
     record {
       answers = subst (λ (id : Id). Answers id.0 faults faults c.args.last.0 c.args.command.now h h s.root s.root (Synced c.boundary.result)) c.boundary.ensures
           (sync_answers c.boundary.result faults c.args.last.0 c.args.command.now h s.root c.in-Sync.is c.requires.closed c.requires.left);
+      crashes = λ moment image left. inl left;
     }

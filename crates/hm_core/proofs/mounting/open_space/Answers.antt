@@ -7,17 +7,16 @@ use Rattle.hm_disk.specs.Crash.{Told}
 use Rattle.hm_pages.specs.Store.{contents}
 use Rattle.hm_stored.specs.Heap.{heap_of}
 use Rattle.hm_stored.proofs.SpotLemmas.{none_placed}
-use Rattle.hm_core.specs.declared.fault.OpenFault.TheVariants.{Fault as of_disk}
 use Rattle.hm_state.proofs.MountedLemmas.{mounted_pages}
-use Rattle.hm_core.specs.Opened.{IsNotMounted}
+use Rattle.hm_core.specs.Mounting.{IsNotRead}
 use Rattle.hm_core.proofs.MountingLemmas.{closed_first, no_damage, read_from}
-use Rattle.hm_core.proofs.OpeningLemmas.{not_loaded, room_on, told_nothing}
+use Rattle.hm_core.proofs.OpeningLemmas.{not_loaded, refused_memory, room_on}
 use Rattle.hm_core.proofs.mounting.open_space.Goals as goal
 
 pub returns-in-Err-clause-err : goal.returns-in-Err-clause-err
 returns-in-Err-clause-err g c =
     not_loaded (g.D.Disk.told c.args.disk) (g.D.Disk.told c.load.new.disk) c.args.header.now c.in-Err.fault c.load.ensures.same
-    c.requires.unarmed c.requires.counts c.in-Err.ensures.sound c.in-Err.ensures.damage
+    c.requires.counts c.in-Err.ensures.sound c.in-Err.ensures.damage
 
 pub over-space-requires-clause-closed : goal.over-space-requires-clause-closed
 over-space-requires-clause-closed g c =
@@ -54,5 +53,12 @@ returns-in-Err-free_blocks-clause-err g c =
     opened c.in-Err-free_blocks.fault c.over-space.ensures.heap c.in-Err-free_blocks.ensures.cause c.in-Err-free_blocks.ensures.no_media in
     let same : new ≡ old =
     ap g.D.Disk.told (c.into_disk.ensures ∙ c.free_blocks.ensures.disk ∙ c.over-space.ensures.disk) ∙ c.load.ensures.same in
-    subst (λ (fault : Fault). IsNotMounted old new (of_disk fault)) (sym none)
-    (told_nothing old new (of_disk no_memory) same (λ bytes. tt) tt)
+    subst (λ (fault : Fault). IsNotRead c.args.header.now fault old new) (sym none) (refused_memory old new c.args.header.now same)
+
+pub returns-in-Ok-free_blocks-clause-past : goal.returns-in-Ok-free_blocks-clause-past
+returns-in-Ok-free_blocks-clause-past g c =
+    ap g.D.Disk.past (c.free_blocks.ensures.disk ∙ c.over-space.ensures.disk) ∙ c.load.ensures.crashes
+
+pub returns-in-Err-free_blocks-clause-err_past : goal.returns-in-Err-free_blocks-clause-err_past
+returns-in-Err-free_blocks-clause-err_past g c =
+    ap g.D.Disk.past (c.into_disk.ensures ∙ c.free_blocks.ensures.disk ∙ c.over-space.ensures.disk) ∙ c.load.ensures.crashes

@@ -7,6 +7,7 @@ use Rattle.hm_pages.specs.Store.{contents}
 use Rattle.hm_stored.specs.Heap.{heap_of}
 use Rattle.hm_stored.specs.declared.books.Books.{Books}
 use Rattle.hm_core.specs.Answer.{Answers}
+use Rattle.hm_core.proofs.CrashLemmas.{leaves_same}
 use Rattle.hm_core.proofs.TellLemmas.{failed_answers, told_answers}
 use Rattle.hm_core.proofs.space.tell_space.Goals as goal
 
@@ -24,6 +25,7 @@ returns-in-Ok g c =
           (ap g.D.Disk.faults c.free_blocks.ensures.rest.1) last left boundary (c.books.result.now.bigblocks - c.first_pool.result) c.in-Ok.free
           (ap (λ (n : ℕ). c.books.result.now.bigblocks - n) c.first_pool.ensures.value
           ∙ ap (λ (n : ℕ). n - first_pool n) blocks) c.in-Ok.ensures.ok;
+      crashes = leaves_same g.D.Disk.left_since g.D.Disk.told s.space.disk t.space.disk c.free_blocks.ensures.rest.1;
     }
 
 pub returns-in-Err : goal.returns-in-Err
@@ -40,4 +42,5 @@ returns-in-Err g c =
           (failed_answers h h' s.root t.root (g.D.Disk.faults s.space.disk) (g.D.Disk.faults t.space.disk) c.requires.closed
           c.free_blocks.ensures.same c.free_blocks.ensures.rest.0 (ap g.D.Disk.faults c.free_blocks.ensures.rest.1) last left boundary c.in-Err.fault
           c.in-Err.ensures.cause c.in-Err.ensures.no_media);
+      crashes = leaves_same g.D.Disk.left_since g.D.Disk.told s.space.disk t.space.disk c.free_blocks.ensures.rest.1;
     }

@@ -1,7 +1,5 @@
 -- The header of the state of now.
 use Rattle.std.proofs.Common.{◌≡◌, rules, refl, sym, ap, subst, ◌∙◌, length}
-use Rattle.hm_header.specs.Range.{IsRoot}
-use Rattle.hm_header.specs.declared.header.Header.{Header}
 use Rattle.hm_pages.specs.Store.{contents}
 use Rattle.hm_stored.specs.Heap.{heap_of}
 use Rattle.hm_flush.specs.Calls.{IsTarget}
