@@ -1,8 +1,20 @@
-//! Tests of `hm_core`: volumes that are made, mounted, used, and mounted again, on disks in memory.
+//! Tests of `hm_core`: volumes that are made, mounted, used, flushed, cut off and recovered, on disks in memory.
 //!
 //! They stand in a crate of their own, so that the proofs of the core are not done once more with
 //! them.
 #![tactic(auto)]
 
 #[cfg(test)]
+mod asks;
+#[cfg(test)]
+mod crash_tests;
+#[cfg(test)]
+mod flush_tests;
+#[cfg(test)]
+mod sync_tests;
+#[cfg(test)]
+mod test_disk;
+#[cfg(test)]
 mod tests;
+#[cfg(test)]
+mod volume;
