@@ -1,9 +1,10 @@
 -- How a run ended, and what its status says.
 use Rattle.std.proofs.Common.{◌≡◌, ◌≢◌, ◌↔◌, ℕ, List, [], refl, sym, ◌∙◌, ap, subst, inl, inr, arith, lit<}
 use Rattle.std.specs.Prelude.{◌⊎◌, Err, IfErr, Ok, OnOk, Result}
-use Rattle.hm_core.specs.declared.fault.OpenFault.{OpenFault}
-use Rattle.hm_core.specs.declared.fault.OpenFault.TheVariants.{BadField as bad_field, Fault as of_disk, NotVolume as no_volume}
+use Rattle.hm_recover.specs.declared.fault.OpenFault.{OpenFault}
+use Rattle.hm_recover.specs.declared.fault.OpenFault.TheVariants.{BadField as bad_field, Fault as of_disk, NotVolume as no_volume}
 use Rattle.hm_types.specs.declared.fault.Fault.TheVariants.{Damaged as damage, Media as media, NoMemory as no_memory}
+use Rattle.hm_disk.specs.Moments.{LeftSince}
 use Rattle.hm_shell.specs.declared.stop.Stop.{Stop}
 use Rattle.hm_shell.specs.declared.stop.Stop.TheVariants.{Usage, NotVolume, BadField, DiskFault, Damaged, ScriptFault, OutFault, NoMemory, BadLine, TooLong}
 use Rattle.hm_shell.specs.Devices.{Sight}
@@ -15,15 +16,16 @@ use Rattle.hm_shell.specs.Stop.{last_line, of_open, status_of}
 use Rattle.hm_shell.specs.Words.{HasPlan, IsUsageFault}
 
 -- how a run ended
-abbrev pub HasEnded : List (List ℕ) → Sight → Sight → ℕ → Type 0
-HasEnded words old new status = ((status ≡ 0) × Completes words old new) ⊎ StopsWith words status old new
+abbrev pub HasEnded : List (List ℕ) → LeftSince → LeftSince → Sight → Sight → ℕ → Type 0
+HasEnded words past since old new status = ((status ≡ 0) × Completes words since old new) ⊎ StopsWith words status past since old new
 
 -- from what was done, and the last line
-pub HasEnded-from : (words : List (List ℕ)) (old mid new : Sight) (outcome : Result (Unit {0}) Stop) (status : ℕ) → OnOk outcome (Completes words old mid)
-    → IfErr outcome (Stops words old mid) → OnOk outcome ((status ≡ 0) × (new.out.told ≡ mid.out.told))
+pub HasEnded-from : (words : List (List ℕ)) (past since : LeftSince) (old mid new : Sight) (outcome : Result (Unit {0}) Stop) (status : ℕ)
+    → OnOk outcome (Completes words since old mid) → IfErr outcome (Stops words past since old mid)
+    → OnOk outcome ((status ≡ 0) × (new.out.told ≡ mid.out.told))
     → IfErr outcome (λ stop. (status ≡ status_of stop) × Prints [] (last_line stop) mid.out new.out) → new.disk ≡ mid.disk → new.script ≡ mid.script
-    → HasEnded words old new status
-HasEnded-from words old mid new (Ok done) status completes stops ended line disk script =
+    → HasEnded words past since old new status
+HasEnded-from words past since old mid new (Ok done) status completes stops ended line disk script =
     inl (
       ended.0,
       record {
@@ -33,11 +35,11 @@ HasEnded-from words old mid new (Ok done) status completes stops ended line disk
         runs = rw (disk, ended.1) completes.runs;
       },
     )
-HasEnded-from words old mid new (Err stop) status completes stops ended line disk script =
+HasEnded-from words past since old mid new (Err stop) status completes stops ended line disk script =
     let there : Sight = record { disk = new.disk; script = new.script; out = mid.out } in
     let make : Seen _ → Seen _ → Sight = λ d s. record { disk = d; script = s; out = mid.out } in
     let same : mid ≡ there = ap (λ d. make d mid.script) (sym disk) ∙ ap (λ s. make new.disk s) (sym script) in
-    inr (stop, line.0, record { out = mid.out; stops = subst (λ m. Stops words old m stop) same stops; line = line.1 })
+    inr (stop, line.0, record { out = mid.out; stops = subst (λ m. Stops words past since old m stop) same stops; line = line.1 })
 
 not_zero : (stop : Stop) → status_of stop ≡ 0 → ⊥
 not_zero Usage is = absurd (omega (arith, is))
@@ -51,13 +53,10 @@ not_zero NoMemory is = absurd (omega (arith, is))
 not_zero (BadLine number) is = absurd (omega (arith, is))
 not_zero TooLong is = absurd (omega (arith, is))
 
-pub done_from : (words : List (List ℕ)) (old new : Sight) (status : ℕ) → HasEnded words old new status → status ≡ 0 → Completes words old new
-done_from words old new status (inl done) is = done.1
-done_from words old new status (inr stopped) is = absurd (not_zero stopped.0 (sym stopped.1 ∙ is))
-
-pub stopped_from : (words : List (List ℕ)) (old new : Sight) (status : ℕ) → HasEnded words old new status → status ≢ 0 → StopsWith words status old new
-stopped_from words old new status (inl done) other = absurd (other done.0)
-stopped_from words old new status (inr stopped) other = stopped
+pub stopped_from : (words : List (List ℕ)) (past since : LeftSince) (old new : Sight) (status : ℕ)
+    → HasEnded words past since old new status → status ≢ 0 → StopsWith words status past since old new
+stopped_from words past since old new status (inl done) other = absurd (other done.0)
+stopped_from words past since old new status (inr stopped) other = stopped
 
 -- opening a volume tells no fault of usage
 no_usage : (fault : OpenFault) → Usage ≡ of_open fault → ⊥
@@ -68,12 +67,12 @@ no_usage (of_disk (damage at kind)) is = absurd (cc)
 no_usage (of_disk no_memory) is = absurd (cc)
 
 -- the words of a run that stopped elsewhere keep the rule
-plan_or_usage : (words : List (List ℕ)) (old new : Sight) (stop : Stop) → Stops words old new stop
+plan_or_usage : (words : List (List ℕ)) (past since : LeftSince) (old new : Sight) (stop : Stop) → Stops words past since old new stop
     → (IsUsageFault words × (stop ≡ Usage)) ⊎ (HasPlan words × (status_of stop ≢ 2))
-plan_or_usage words old new stop (inr later) =
+plan_or_usage words past since old new stop (inr later) =
     inr ((later.prepared.volume, later.newfs, later.prepared.plan), λ is. none stop is later)
   where
-    none : (stop : Stop) → status_of stop ≡ 2 → StopsLater words old new stop → ⊥
+    none : (stop : Stop) → status_of stop ≡ 2 → StopsLater words past since old new stop → ⊥
     none Usage is later = elim later.stopped [
       | inl opening ↦ absurd (no_usage opening.0.fault opening.0.stop_is)
       | inr using ↦ elim using.stops [
@@ -90,28 +89,16 @@ plan_or_usage words old new stop (inr later) =
     none NoMemory is later = absurd (omega (arith, is))
     none (BadLine number) is later = absurd (omega (arith, is))
     none TooLong is later = absurd (omega (arith, is))
-plan_or_usage words old new Usage (inl before) = inl (before.0.0, refl)
-plan_or_usage words old new (BadLine number) (inl before) = inr (before.0.0, λ is. absurd (omega (arith, is)))
-plan_or_usage words old new (ScriptFault b a) (inl before) = inr (before.0.0, λ is. absurd (omega (arith, is)))
-plan_or_usage words old new TooLong (inl before) = inr (before.0.0, λ is. absurd (omega (arith, is)))
-plan_or_usage words old new NoMemory (inl before) = inr (before.0.0, λ is. absurd (omega (arith, is)))
-plan_or_usage words old new NotVolume (inl before) = absurd before.0
-plan_or_usage words old new (BadField place) (inl before) = absurd before.0
-plan_or_usage words old new (DiskFault b a) (inl before) = absurd before.0
-plan_or_usage words old new (Damaged at kind) (inl before) = absurd before.0
-plan_or_usage words old new OutFault (inl before) = absurd before.0
-
--- status 2 comes exactly where the words break the rule
-pub usage_from : (words : List (List ℕ)) (old new : Sight) (status : ℕ) → HasEnded words old new status → (status ≡ 2) ↔ IsUsageFault words
-usage_from words old new status (inl done) = (
-  λ is. absurd (omega (arith, is, done.0)),
-  λ usage. absurd (usage done.1.prepared.volume done.1.newfs done.1.prepared.plan),
-)
-usage_from words old new status (inr stopped) =
-    elim (plan_or_usage words old (record new { out = stopped.2.out }) stopped.0 stopped.2.stops) [
-      | inl usage ↦ (λ is. usage.0, λ u. stopped.1 ∙ ap status_of usage.1)
-      | inr other ↦ (λ is. absurd (other.1 (sym stopped.1 ∙ is)), λ u. absurd (u other.0.0 other.0.1 other.0.2))
-    ]
+plan_or_usage words past since old new Usage (inl before) = inl (before.0.0, refl)
+plan_or_usage words past since old new (BadLine number) (inl before) = inr (before.0.0, λ is. absurd (omega (arith, is)))
+plan_or_usage words past since old new (ScriptFault b a) (inl before) = inr (before.0.0, λ is. absurd (omega (arith, is)))
+plan_or_usage words past since old new TooLong (inl before) = inr (before.0.0, λ is. absurd (omega (arith, is)))
+plan_or_usage words past since old new NoMemory (inl before) = inr (before.0.0, λ is. absurd (omega (arith, is)))
+plan_or_usage words past since old new NotVolume (inl before) = absurd before.0
+plan_or_usage words past since old new (BadField place) (inl before) = absurd before.0
+plan_or_usage words past since old new (DiskFault b a) (inl before) = absurd before.0
+plan_or_usage words past since old new (Damaged at kind) (inl before) = absurd before.0
+plan_or_usage words past since old new OutFault (inl before) = absurd before.0
 
 -- each stop has one of the statuses
 IsStatus-status_of : (stop : Stop) → IsStatus (status_of stop)
@@ -126,6 +113,7 @@ IsStatus-status_of (BadLine number) = (7, lit< tt, refl)
 IsStatus-status_of TooLong = (8, lit< tt, refl)
 IsStatus-status_of (Damaged at kind) = (9, lit< tt, refl)
 
-pub status_from : (words : List (List ℕ)) (old new : Sight) (status : ℕ) → HasEnded words old new status → IsStatus status
-status_from words old new status (inl done) = rw done.0 (0, lit< tt, refl)
-status_from words old new status (inr stopped) = rw stopped.1 (IsStatus-status_of stopped.0)
+pub status_from : (words : List (List ℕ)) (past since : LeftSince) (old new : Sight) (status : ℕ)
+    → HasEnded words past since old new status → IsStatus status
+status_from words past since old new status (inl done) = rw done.0 (0, lit< tt, refl)
+status_from words past since old new status (inr stopped) = rw stopped.1 (IsStatus-status_of stopped.0)

@@ -7,27 +7,32 @@ use Rattle.hm_types.specs.Told.{BothTell}
 use Rattle.hm_types.specs.declared.fault.Fault.TheVariants.{Damaged as damage, Media as media, NoMemory as no_memory}
 use Rattle.hm_pipe.specs.Pipe.{Gives, IsAtEnd}
 use Rattle.hm_disk.specs.Crash.{Told}
-use Rattle.hm_header.specs.OnDisk.{HasFault, HasHeader, first_slot, second_slot}
+use Rattle.hm_disk.specs.Moments.{LeftSince}
+use Rattle.hm_header.specs.OnDisk.{HasFault, first_slot, second_slot}
 use Rattle.hm_header.specs.declared.fault.HeaderFault.{HeaderFault}
 use Rattle.hm_header.specs.declared.fault.HeaderFault.TheVariants.{BadField as header_field, NotVolume as header_none}
-use Rattle.hm_header.specs.declared.header.Header.{Header}
-use Rattle.hm_header.proofs.SlotLemmas.{chosen_has_none, chosen_is_one}
+use Rattle.hm_header.proofs.SlotLemmas.{chosen_has_none}
 use Rattle.hm_load.specs.Damage.{IsDamage}
 use Rattle.hm_load.proofs.OnceLemmas.{whole_is_undamaged}
-use Rattle.hm_image.specs.Stands.{StandsFor}
+use Rattle.hm_undo.specs.Recovered.{RecoversTo}
+use Rattle.hm_undo.proofs.RecoveredLemmas.{recovery-is-one}
+use Rattle.hm_recover.specs.Damage.{HasRangeDamage}
+use Rattle.hm_recover.specs.declared.fault.OpenFault.{OpenFault}
+use Rattle.hm_recover.specs.declared.fault.OpenFault.TheVariants.{BadField as bad_field, Fault as of_disk, NotVolume as no_volume}
+use Rattle.hm_recover.proofs.DamageLemmas.{recovers-faultless, recovers-whole, same-header}
 use Rattle.hm_model.specs.declared.line.Line.{Line}
 use Rattle.hm_model.specs.Lines.{texts_of}
 use Rattle.hm_model.specs.Script.{IsTooLong}
-use Rattle.hm_model.specs.Volume.{Volume, fresh}
-use Rattle.hm_core.specs.Opened.{HasDamage, IsArmed, IsFailure, IsMade, IsNotMade, IsNotMounted, IsTooSmall}
-use Rattle.hm_core.specs.declared.fault.OpenFault.{OpenFault}
-use Rattle.hm_core.specs.declared.fault.OpenFault.TheVariants.{BadField as bad_field, Fault as of_disk, NotVolume as no_volume}
+use Rattle.hm_model.specs.Volume.{Volume}
+use Rattle.hm_core.specs.Crash.{StandsRecovered}
+use Rattle.hm_core.specs.Opened.{HasDamage, IsFailure, IsMade, IsNotMade, IsNotMounted, IsTooSmall}
 use Rattle.hm_shell.specs.declared.stop.Stop.{Stop}
 use Rattle.hm_shell.specs.declared.stop.Stop.TheVariants.{Usage, NotVolume, BadField, DiskFault, Damaged, ScriptFault, OutFault, NoMemory, BadLine, TooLong}
 use Rattle.hm_shell.specs.Devices.{Sight}
 use Rattle.hm_shell.specs.Exact.{Brings, DiskBrings, NewBrings, OldBrings, ScriptBrings}
 use Rattle.hm_shell.specs.Lines.{IsFirstBad, IsGoodScript, IsServedText}
-use Rattle.hm_shell.specs.Opening.{HasWhole, IsUnopened, OpensOn, StoppedOpening}
+use Rattle.hm_shell.specs.Making.{MakesVolume}
+use Rattle.hm_shell.specs.Opening.{HasWhole, IsUnopened, Opens, StoppedOpening}
 use Rattle.hm_shell.specs.Preparing.{IsPrepared, StoppedPreparing}
 use Rattle.hm_shell.specs.Reading.{WasRead}
 use Rattle.hm_shell.specs.Run.{Stops}
@@ -83,21 +88,18 @@ no_bad script number good bad =
     subst (AllByRecursion IsServedText) bad.texts (recursion_from_All IsServedText (texts_of script) good) in
     bad.outside (served_after bad.before (bad.bad ∷ bad.rest) all).0
 
--- a header that counts leaves no fault, and what is whole no damage
-headed_has_none : (bytes : List ℕ) (header : Header) (slot : ℕ) (fault : HeaderFault) → HasHeader bytes header slot → HasFault bytes fault → ⊥
-headed_has_none bytes header slot fault counts = chosen_has_none (first_slot bytes) (second_slot bytes) (length bytes) header slot fault counts
+-- a damaged range names a header that counts, and what is whole, once it is recovered, has no damage
+range_has_header : (bytes : List ℕ) (at kind : ℕ) (fault : HeaderFault) → HasRangeDamage bytes at kind → HasFault bytes fault → ⊥
+range_has_header bytes at kind fault damaged =
+    chosen_has_none (first_slot bytes) (second_slot bytes) (length bytes) damaged.header damaged.slot fault damaged.counts
 
-whole_has_none : (bytes : List ℕ) (at kind : ℕ) → HasWhole bytes → HasDamage bytes at kind → ⊥
-whole_has_none bytes at kind whole damaged =
-    let same : damaged.header ≡ whole.header =
-    (chosen_is_one (first_slot bytes) (second_slot bytes) (length bytes) damaged.header whole.header damaged.slot whole.slot damaged.counts whole.counts).0 in
-    whole_is_undamaged bytes whole.header at kind whole.whole (subst (λ h. IsDamage bytes h at kind) same damaged.damage)
-
--- a header that names no entries is the one that counts
-not_armed : (bytes : List ℕ) (header : Header) (slot : ℕ) → HasHeader bytes header slot → header.undo_count ≡ 0 → IsArmed bytes → ⊥
-not_armed bytes header slot counts zero armed =
-    let same = chosen_is_one (first_slot bytes) (second_slot bytes) (length bytes) armed.header header armed.slot slot armed.counts counts in
-    armed.armed (ap (λ (h : Header). h.undo_count) same.0 ∙ zero)
+whole_has_none : (bytes result : List ℕ) (at kind : ℕ) → RecoversTo bytes result → HasWhole result → HasDamage bytes at kind → ⊥
+whole_has_none bytes result at kind recovers whole damaged =
+    let same : damaged.result ≡ result = recovery-is-one bytes damaged.result result damaged.recovers recovers in
+    let here : HasWhole damaged.result = subst HasWhole (sym same) whole in
+    let header : damaged.header ≡ here.header =
+    same-header damaged.result damaged.header here.header damaged.slot here.slot damaged.counts here.counts in
+    whole_is_undamaged damaged.result here.header at kind here.whole (subst (λ h. IsDamage damaged.result h at kind) header damaged.damage)
 
 -- the statuses that a whole disk brings are some of those that any disk with a header does
 wider : (status : ℕ) → Contains (0 ∷ 4 ∷ 5 ∷ 6 ∷ 7 ∷ []) status → Contains (0 ∷ 4 ∷ 5 ∷ 6 ∷ 7 ∷ 10 ∷ []) status
@@ -108,11 +110,11 @@ any_disk : (newfs : Option ℕ) (t : Told) (status : ℕ) → Contains (3 ∷ 4 
     → Contains (10 ∷ 4 ∷ 5 ∷ 7 ∷ []) status → DiskBrings newfs t status
 any_disk None t status three whole ten = record {
   none = λ _ _. three;
-  armed = λ _. three;
+  range = λ _ _ _. ten;
   damaged = λ _ _ _. ten;
-  stands = λ _ _ _. whole;
-  whole = λ _. whole;
-  headed = λ _ _ _ _. wider status whole;
+  stands = λ _ _. whole;
+  whole = λ _ _ _. whole;
+  recovers = λ _ _. wider status whole;
 }
 any_disk (Some size) t status three whole ten = record { small = λ _. three; made = λ _. whole }
 
@@ -126,70 +128,74 @@ seven_anyway : (newfs : Option ℕ) (o : Option Told) → IfSome o (λ t. DiskBr
 seven_anyway newfs o = told_gives o (λ t. DiskBrings newfs t 7) (λ t _. any_disk newfs t 7 (3, lit< tt, refl) (4, lit< tt, refl) (3, lit< tt, refl))
 
 -- with a volume that was opened
-opened_brings : (newfs : Option ℕ) (disk opened : Option Told) (status : ℕ) → OpensOn newfs disk opened → Contains (0 ∷ 4 ∷ 5 ∷ 6 ∷ 7 ∷ []) status
-    → IfSome disk (λ t. DiskBrings newfs t status)
-opened_brings None disk opened status opens has = each_gives disk (λ t. HasWhole t.bytes) (λ t. OldBrings t status) (λ t whole. record {
-  none = λ fault is. absurd (headed_has_none t.bytes whole.header whole.slot fault whole.counts is);
-  armed = λ is. absurd (not_armed t.bytes whole.header whole.slot whole.counts whole.unarmed is);
-  damaged = λ at kind is. absurd (whole_has_none t.bytes at kind whole is);
-  stands = λ _ _ _. has;
-  whole = λ _. has;
-  headed = λ _ _ _ _. wider status has;
-}) opens.1
-opened_brings (Some size) disk opened status opens has = both_gives disk opened (IsMade size) (λ t. NewBrings size t status) (λ s t made. record {
-  small = λ small. absurd (made.room small);
-  made = λ _. has;
-}) opens
+old_opened : (s t : Told) (status : ℕ) → Opens s t → Contains (0 ∷ 4 ∷ 5 ∷ 6 ∷ 7 ∷ []) status → OldBrings s status
+old_opened s t status opens has = record {
+  none = λ fault is. absurd (recovers-faultless s.bytes t.bytes fault opens.recovers is);
+  range = λ at kind is. absurd (recovers-whole s.bytes t.bytes at kind opens.recovers is);
+  damaged = λ at kind is. absurd (whole_has_none s.bytes t.bytes at kind opens.recovers opens.whole is);
+  stands = λ _ _. has;
+  whole = λ _ _ _. has;
+  recovers = λ _ _. wider status has;
+}
+
+opened_brings : (newfs : Option ℕ) (disk began opened : Option Told) (status : ℕ) → MakesVolume newfs disk began → BothTell began opened Opens
+    → Contains (0 ∷ 4 ∷ 5 ∷ 6 ∷ 7 ∷ []) status → IfSome disk (λ t. DiskBrings newfs t status)
+opened_brings None disk began opened status makes opens has =
+    both_gives disk opened Opens (λ t. OldBrings t status) (λ s t opens. old_opened s t status opens has)
+    (subst (λ (o : Option Told). BothTell o opened Opens) makes opens)
+opened_brings (Some size) disk began opened status makes opens has =
+    both_gives disk began (IsMade size) (λ t. NewBrings size t status) (λ s t made. record {
+      small = λ small. absurd (made.room small);
+      made = λ _. has;
+    }) makes
 
 -- with a disk that has no volume
-none_brings : (t : Told) (fault : HeaderFault) → HasFault t.bytes fault → ((volume : Volume) → StandsFor t.bytes volume → ¬ IsArmed t.bytes → ⊥)
-    → OldBrings t 3
-none_brings t fault is never = record {
+none_brings : (t : Told) (fault : HeaderFault) → HasFault t.bytes fault → OldBrings t 3
+none_brings t fault is = record {
   none = λ _ _. (0, lit< tt, refl);
-  armed = λ _. (0, lit< tt, refl);
-  damaged = λ at kind damaged. absurd (headed_has_none t.bytes damaged.header damaged.slot fault damaged.counts is);
-  stands = λ volume stands unarmed. absurd (never volume stands unarmed);
-  whole = λ whole. absurd (headed_has_none t.bytes whole.header whole.slot fault whole.counts is);
-  headed = λ header slot counts _. absurd (headed_has_none t.bytes header slot fault counts is);
+  range = λ at kind damaged. absurd (range_has_header t.bytes at kind fault damaged is);
+  damaged = λ at kind damaged. absurd (recovers-faultless t.bytes damaged.result fault damaged.recovers is);
+  stands = λ volume stands. absurd (recovers-faultless t.bytes stands.result fault stands.recovers is);
+  whole = λ result recovers whole. absurd (recovers-faultless t.bytes result fault recovers is);
+  recovers = λ result recovers. absurd (recovers-faultless t.bytes result fault recovers is);
 }
 
--- with one whose header names entries of the log
-armed_brings : (t : Told) → IsArmed t.bytes → OldBrings t 3
-armed_brings t is = record {
-  none = λ _ _. (0, lit< tt, refl);
-  armed = λ _. (0, lit< tt, refl);
-  damaged = λ at kind damaged. absurd (not_armed t.bytes damaged.header damaged.slot damaged.counts damaged.unarmed is);
-  stands = λ volume stands unarmed. absurd (unarmed is);
-  whole = λ whole. absurd (not_armed t.bytes whole.header whole.slot whole.counts whole.unarmed is);
-  headed = λ header slot counts unarmed. absurd (not_armed t.bytes header slot counts unarmed is);
-}
-
--- with one that is damaged
-ten_brings : (t : Told) (at kind : ℕ) → HasDamage t.bytes at kind → ((volume : Volume) → StandsFor t.bytes volume → ¬ IsArmed t.bytes → ⊥)
-    → OldBrings t 10
-ten_brings t at kind damaged never = record {
-  none = λ fault is. absurd (headed_has_none t.bytes damaged.header damaged.slot fault damaged.counts is);
-  armed = λ is. absurd (not_armed t.bytes damaged.header damaged.slot damaged.counts damaged.unarmed is);
+-- with one whose range is damaged
+range_brings : (t : Told) (at kind : ℕ) → HasRangeDamage t.bytes at kind → OldBrings t 10
+range_brings t at kind is = record {
+  none = λ fault faulty. absurd (range_has_header t.bytes at kind fault is faulty);
+  range = λ _ _ _. (0, lit< tt, refl);
   damaged = λ _ _ _. (0, lit< tt, refl);
-  stands = λ volume stands unarmed. absurd (never volume stands unarmed);
-  whole = λ whole. absurd (whole_has_none t.bytes at kind whole damaged);
-  headed = λ _ _ _ _. (5, lit< tt, refl);
+  stands = λ volume stands. absurd (recovers-whole t.bytes stands.result at kind stands.recovers is);
+  whole = λ result recovers whole. absurd (recovers-whole t.bytes result at kind recovers is);
+  recovers = λ _ _. (5, lit< tt, refl);
+}
+
+-- with one that is damaged once it is recovered
+damage_brings : (t : Told) (at kind : ℕ) → HasDamage t.bytes at kind → ((volume : Volume) → StandsRecovered t.bytes volume → ⊥) → OldBrings t 10
+damage_brings t at kind damaged never = record {
+  none = λ fault is. absurd (recovers-faultless t.bytes damaged.result fault damaged.recovers is);
+  range = λ _ _ _. (0, lit< tt, refl);
+  damaged = λ _ _ _. (0, lit< tt, refl);
+  stands = λ volume stands. absurd (never volume stands);
+  whole = λ result recovers whole. absurd (whole_has_none t.bytes result at kind recovers whole damaged);
+  recovers = λ _ _. (5, lit< tt, refl);
 }
 
 small_brings : (size : ℕ) (t : Told) → IsTooSmall size t → NewBrings size t 3
 small_brings size t small = record { small = λ _. (0, lit< tt, refl); made = λ fits. absurd (fits small) }
 
 -- with one on which none was opened
-unmounted_brings : (old new : Option Told) (fault : OpenFault) → IsNotMounted old new fault → IfSome old (λ t. OldBrings t (status_of (of_open fault)))
-unmounted_brings None new fault not = tt
-unmounted_brings (Some t) new no_volume not = none_brings t header_none not.why not.whole
-unmounted_brings (Some t) new (bad_field place) not = elim not.why [
-  | inl has ↦ none_brings t (header_field place) has not.whole
-  | inr armed ↦ armed_brings t armed.1
+unmounted_brings : (past since : LeftSince) (s t : Told) (fault : OpenFault) → IsNotMounted fault past since s t
+    → OldBrings s (status_of (of_open fault))
+unmounted_brings past since s t no_volume not = none_brings s header_none not.why
+unmounted_brings past since s t (bad_field place) not = none_brings s (header_field place) not.why
+unmounted_brings past since s t (of_disk (damage at kind)) not = elim not.why [
+  | inl range ↦ range_brings s at kind range
+  | inr damaged ↦ damage_brings s at kind damaged not.whole
 ]
-unmounted_brings (Some t) new (of_disk (damage at kind)) not = ten_brings t at kind not.why not.whole
-unmounted_brings (Some t) new (of_disk (media before after)) not = any_disk None t 4 (1, lit< tt, refl) (1, lit< tt, refl) (1, lit< tt, refl)
-unmounted_brings (Some t) new (of_disk no_memory) not = any_disk None t 7 (3, lit< tt, refl) (4, lit< tt, refl) (3, lit< tt, refl)
+unmounted_brings past since s t (of_disk (media before after)) not = any_disk None s 4 (1, lit< tt, refl) (1, lit< tt, refl) (1, lit< tt, refl)
+unmounted_brings past since s t (of_disk no_memory) not = any_disk None s 7 (3, lit< tt, refl) (4, lit< tt, refl) (3, lit< tt, refl)
 
 -- with one on which none was made
 unmade_brings : (size : ℕ) (old new : Option Told) (fault : OpenFault) → IsNotMade size old new fault
@@ -212,11 +218,13 @@ unopened_brings size old new (of_disk (damage at kind)) made =
     both_gives old new (λ s t. IsMade size s t × IsFailure (of_disk (damage at kind))) (λ t. NewBrings size t 10) (λ s t made. absurd made.1) made
 unopened_brings size old new (of_disk no_memory) made = seven_anyway (Some size) old
 
-not_opened_brings : (newfs : Option ℕ) (old new : Option Told) (fault : OpenFault) → IsUnopened newfs old new fault
+not_opened_brings : (newfs : Option ℕ) (past since : LeftSince) (old new : Option Told) (fault : OpenFault) → IsUnopened newfs past since old new fault
     → IfSome old (λ t. DiskBrings newfs t (status_of (of_open fault)))
-not_opened_brings None old new fault not = unmounted_brings old new fault not
-not_opened_brings (Some size) old new fault (inl not) = unmade_brings size old new fault not
-not_opened_brings (Some size) old new fault (inr made) = unopened_brings size old new fault made
+not_opened_brings None past since old new fault not =
+    both_gives old new (IsNotMounted fault past since) (λ t. OldBrings t (status_of (of_open fault)))
+    (λ s t not. unmounted_brings past since s t fault not) not
+not_opened_brings (Some size) past since old new fault (inl not) = unmade_brings size old new fault not
+not_opened_brings (Some size) past since old new fault (inr made) = unopened_brings size old new fault made
 
 abbrev MayCome : Option ℕ → Option Told → ℕ → Type 0
 MayCome newfs disk status = Contains (0 ∷ 3 ∷ 4 ∷ 5 ∷ 6 ∷ 7 ∷ 10 ∷ []) status × IfSome disk (λ t. DiskBrings newfs t status)
@@ -228,35 +236,33 @@ open_status (of_disk (media before after)) = (2, lit< tt, refl)
 open_status (of_disk (damage at kind)) = (6, lit< tt, refl)
 open_status (of_disk no_memory) = (5, lit< tt, refl)
 
-opening_brings : (newfs : Option ℕ) (old new : Seen Told) (stop : Stop) → StoppedOpening newfs old new stop → MayCome newfs old.told (status_of stop)
-opening_brings newfs old new stop stopped =
+opening_brings : (newfs : Option ℕ) (past since : LeftSince) (old new : Seen Told) (stop : Stop) → StoppedOpening newfs past since old new stop
+    → MayCome newfs old.told (status_of stop)
+opening_brings newfs past since old new stop stopped =
     subst (λ s. MayCome newfs old.told (status_of s)) (sym stopped.stop_is)
-    (open_status stopped.fault, not_opened_brings newfs old.told new.told stopped.fault stopped.unopened)
+    (open_status stopped.fault, not_opened_brings newfs past since old.told new.told stopped.fault stopped.unopened)
 
-using_brings : (newfs : Option ℕ) (lines : List Line) (old_disk new_disk : Seen Told) (old_out new_out : Seen (List ℕ)) (stop : Stop)
-    → StoppedUsing newfs lines old_disk new_disk old_out new_out stop → MayCome newfs old_disk.told (status_of stop)
-using_brings newfs lines old_disk new_disk old_out new_out OutFault using =
-    ((4, lit< tt, refl), opened_brings newfs old_disk.told using.opened 6 using.opens (3, lit< tt, refl))
-using_brings newfs lines old_disk new_disk old_out new_out NoMemory using = ((5, lit< tt, refl), seven_anyway newfs old_disk.told)
-using_brings newfs lines old_disk new_disk old_out new_out (DiskFault before after) using = ((2, lit< tt, refl), four_anyway newfs old_disk.told)
-using_brings newfs lines old_disk new_disk old_out new_out (Damaged at kind) using =
-    elim using.stops [ inl line ↦ absurd line.cause | inr writing ↦ absurd writing.cause ]
-using_brings newfs lines old_disk new_disk old_out new_out Usage using = elim using.stops [ inl line ↦ absurd line.cause | inr writing ↦ absurd writing.cause ]
-using_brings newfs lines old_disk new_disk old_out new_out NotVolume using =
-    elim using.stops [ inl line ↦ absurd line.cause | inr writing ↦ absurd writing.cause ]
-using_brings newfs lines old_disk new_disk old_out new_out (BadField place) using =
-    elim using.stops [ inl line ↦ absurd line.cause | inr writing ↦ absurd writing.cause ]
-using_brings newfs lines old_disk new_disk old_out new_out (ScriptFault b a) using =
-    elim using.stops [ inl line ↦ absurd line.cause | inr writing ↦ absurd writing.cause ]
-using_brings newfs lines old_disk new_disk old_out new_out (BadLine number) using =
-    elim using.stops [ inl line ↦ absurd line.cause | inr writing ↦ absurd writing.cause ]
-using_brings newfs lines old_disk new_disk old_out new_out TooLong using =
-    elim using.stops [ inl line ↦ absurd line.cause | inr writing ↦ absurd writing.cause ]
+module _ (newfs : Option ℕ) (lines : List Line) (past since : LeftSince) (old_disk new_disk : Seen Told) (old_out new_out : Seen (List ℕ)) where
+  abbrev Used : Stop → Type 0
+  Used stop = StoppedUsing newfs lines since old_disk new_disk old_out new_out stop
 
-running_brings : (newfs : Option ℕ) (lines : List Line) (old_disk new_disk : Seen Told) (old_out new_out : Seen (List ℕ)) (stop : Stop)
-    → StoppedRunning newfs lines old_disk new_disk old_out new_out stop → MayCome newfs old_disk.told (status_of stop)
-running_brings newfs lines old_disk new_disk old_out new_out stop (inl opening) = opening_brings newfs old_disk new_disk stop opening.0
-running_brings newfs lines old_disk new_disk old_out new_out stop (inr using) = using_brings newfs lines old_disk new_disk old_out new_out stop using
+  using_brings : (stop : Stop) → Used stop → MayCome newfs old_disk.told (status_of stop)
+  using_brings OutFault using =
+      ((4, lit< tt, refl), opened_brings newfs old_disk.told using.began using.opened 6 using.makes using.opens (3, lit< tt, refl))
+  using_brings NoMemory using = ((5, lit< tt, refl), seven_anyway newfs old_disk.told)
+  using_brings (DiskFault before after) using = ((2, lit< tt, refl), four_anyway newfs old_disk.told)
+  using_brings (Damaged at kind) using = elim using.stops [ inl line ↦ absurd line.cause | inr writing ↦ absurd writing.cause ]
+  using_brings Usage using = elim using.stops [ inl line ↦ absurd line.cause | inr writing ↦ absurd writing.cause ]
+  using_brings NotVolume using = elim using.stops [ inl line ↦ absurd line.cause | inr writing ↦ absurd writing.cause ]
+  using_brings (BadField place) using = elim using.stops [ inl line ↦ absurd line.cause | inr writing ↦ absurd writing.cause ]
+  using_brings (ScriptFault b a) using = elim using.stops [ inl line ↦ absurd line.cause | inr writing ↦ absurd writing.cause ]
+  using_brings (BadLine number) using = elim using.stops [ inl line ↦ absurd line.cause | inr writing ↦ absurd writing.cause ]
+  using_brings TooLong using = elim using.stops [ inl line ↦ absurd line.cause | inr writing ↦ absurd writing.cause ]
+
+  running_brings : (stop : Stop) → StoppedRunning newfs lines past since old_disk new_disk old_out new_out stop
+      → MayCome newfs old_disk.told (status_of stop)
+  running_brings stop (inl opening) = opening_brings newfs past since old_disk new_disk stop opening.0
+  running_brings stop (inr using) = using_brings stop using
 
 -- a script that was found good
 good_brings : (words : List (List ℕ)) (old : Sight) (new_script : Seen (List ℕ)) (newfs : Option ℕ) (lines : List Line) (status : ℕ)
@@ -266,7 +272,8 @@ good_brings words old new_script newfs lines status prepared may plan = (
   newfs,
   prepared.plan,
   told_gives old.script.told (λ bytes. ScriptBrings newfs old.disk.told bytes status)
-      (λ bytes is. subst (λ b. ScriptBrings newfs old.disk.told b status) (sym (same_script old.script new_script prepared.script bytes prepared.read is)) (record {
+      (λ bytes is. subst (λ b. ScriptBrings newfs old.disk.told b status)
+      (sym (same_script old.script new_script prepared.script bytes prepared.read is)) (record {
         too_long = λ long. absurd (short_enough old.script new_script prepared.script prepared.read long);
         bad = λ number _ bad. absurd (no_bad prepared.script number prepared.good bad);
         good = λ _ _. may;
@@ -325,16 +332,18 @@ preparing_brings words old new (DiskFault b a) stopped plan = absurd stopped
 preparing_brings words old new (Damaged at kind) stopped plan = absurd stopped
 preparing_brings words old new OutFault stopped plan = absurd stopped
 
-stops_bring : (words : List (List ℕ)) (old new : Sight) (stop : Stop) → Stops words old new stop → Brings words old (status_of stop)
-stops_bring words old new stop (inl before) = preparing_brings words old new.script stop before.0
-stops_bring words old new stop (inr later) =
-    good_brings words old new.script later.newfs later.lines (status_of stop) later.prepared
-    (running_brings later.newfs later.lines old.disk new.disk old.out new.out stop later.stopped)
+module _ (words : List (List ℕ)) (past since : LeftSince) (old new : Sight) where
+  stops_bring : (made : Sight) (stop : Stop) → Stops words past since old made stop → Brings words old (status_of stop)
+  stops_bring made stop (inl before) = preparing_brings words old made.script stop before.0
+  stops_bring made stop (inr later) =
+      good_brings words old made.script later.newfs later.lines (status_of stop) later.prepared
+      (running_brings later.newfs later.lines past since old.disk made.disk old.out made.out stop later.stopped)
 
--- what a run brings, however it ended
-pub Brings-ended : (words : List (List ℕ)) (old new : Sight) (status : ℕ) → HasEnded words old new status → Brings words old status
-Brings-ended words old new status (inl done) =
-    subst (Brings words old) (sym done.0) (good_brings words old new.script done.1.newfs done.1.lines 0 done.1.prepared
-    ((0, lit< tt, refl), opened_brings done.1.newfs old.disk.told done.1.runs.opened 0 done.1.runs.opens (0, lit< tt, refl)))
-Brings-ended words old new status (inr stopped) =
-    subst (Brings words old) (sym stopped.1) (stops_bring words old (record new { out = stopped.2.out }) stopped.0 stopped.2.stops)
+  -- what a run brings, however it ended
+  pub Brings-ended : (status : ℕ) → HasEnded words past since old new status → Brings words old status
+  Brings-ended status (inl done) =
+      let runs = done.1.runs in
+      subst (Brings words old) (sym done.0) (good_brings words old new.script done.1.newfs done.1.lines 0 done.1.prepared
+      ((0, lit< tt, refl), opened_brings done.1.newfs old.disk.told runs.began runs.opened 0 runs.makes runs.opens (0, lit< tt, refl)))
+  Brings-ended status (inr stopped) =
+      subst (Brings words old) (sym stopped.1) (stops_bring (record new { out = stopped.2.out }) stopped.0 stopped.2.stops)

@@ -1,18 +1,20 @@
 -- Making and opening a volume.
-use Rattle.std.proofs.Common.{◌≡◌, ℕ, ◌≤◌, refl, sym, ◌∙◌, subst, arith, inl, inr}
-use Rattle.std.specs.Prelude.{Err, IfSome, None, Ok, OnOk, Option, Result, Some}
+use Rattle.std.proofs.Common.{◌≡◌, ℕ, ◌≤◌, List, refl, sym, ◌∙◌, ap, subst, arith, inl, inr, ⊎_elim}
+use Rattle.std.specs.Prelude.{Err, None, Ok, OnOk, Option, Result, Some}
 use Rattle.hm_types.specs.Told.{BothTell}
 use Rattle.hm_types.specs.declared.fault.Fault.TheVariants.{Media as media, Damaged as damage, NoMemory as no_memory}
 use Rattle.hm_disk.specs.Crash.{Told}
-use Rattle.hm_model.specs.Volume.{Volume, fresh}
-use Rattle.hm_image.specs.Stands.{StandsFor}
-use Rattle.hm_core.specs.Opened.{IsArmed, IsFailure, IsMade, IsMounted, IsNotMade, IsNotMounted, IsOpenCaused}
-use Rattle.hm_core.specs.State.{CoreState}
-use Rattle.hm_core.specs.declared.fault.OpenFault.{OpenFault}
-use Rattle.hm_core.specs.declared.fault.OpenFault.TheVariants.{NotVolume as no_volume, BadField as bad_field, Fault as of_disk}
+use Rattle.hm_disk.specs.Moments.{LeftSince}
+use Rattle.hm_header.specs.declared.header.Header.{Header}
+use Rattle.hm_model.specs.Volume.{fresh}
+use Rattle.hm_recover.specs.Recovery.{HasWholeRange}
+use Rattle.hm_recover.specs.declared.fault.OpenFault.{OpenFault}
+use Rattle.hm_recover.specs.declared.fault.OpenFault.TheVariants.{NotVolume as no_volume, BadField as bad_field, Fault as of_disk}
+use Rattle.hm_recover.proofs.DamageLemmas.{same-header}
+use Rattle.hm_core.specs.Opened.{IsFailure, IsMade, IsNotMade, IsNotMounted, IsOpenCaused, IsUnarmed}
 use Rattle.hm_shell.specs.declared.stop.Stop.{Stop}
 use Rattle.hm_shell.specs.Making.{MakesVolume}
-use Rattle.hm_shell.specs.Opening.{HasWhole, IsUnopened, OpensOn, StoppedOpening}
+use Rattle.hm_shell.specs.Opening.{IsUnopened, StoppedOpening}
 use Rattle.hm_shell.specs.Seen.{Seen}
 use Rattle.hm_shell.specs.Stop.{of_open}
 
@@ -21,11 +23,6 @@ pub made_not_err : (newfs : Option ℕ) (old new : Option Told) (r : Result (Uni
     → ((stop : Stop) → r ≡ Err stop → ⊥) → MakesVolume newfs old new
 made_not_err newfs old new (Ok done) made not_err = made
 made_not_err newfs old new (Err stop) made not_err = absurd (not_err stop refl)
-
--- a volume was not made
-pub StoppedOpening-made : (size : ℕ) (old new : Seen Told) (fault : OpenFault) → IsNotMade size old.told new.told fault
-    → IsOpenCaused old.faults new.faults fault → StoppedOpening (Some size) old new (of_open fault)
-StoppedOpening-made size old new fault not_made caused = record { fault = fault; stop_is = refl; unopened = inl not_made; caused = caused }
 
 -- what is caused within a call is caused within a longer one
 caused_longer : (a b c : ℕ) (fault : OpenFault) → a ≤ b → IsOpenCaused b c fault → IsOpenCaused a c fault
@@ -36,47 +33,54 @@ caused_longer a b c (of_disk (media before after)) earlier caused =
 caused_longer a b c (of_disk (damage at kind)) earlier caused = tt
 caused_longer a b c (of_disk no_memory) earlier caused = tt
 
--- a new volume is opened, unless the disk or memory fails
-made_fails : (size : ℕ) (a b : Option Told) (fault : OpenFault) → BothTell a b (IsMade size)
-    → IfSome b (λ t. (volume : Volume) → StandsFor t.bytes volume → ¬ IsArmed t.bytes → IsFailure fault)
-    → BothTell a b (λ s t. IsMade size s t × IsFailure fault)
-made_fails size None None fault made whole = tt
-made_fails size None (Some t) fault made whole = absurd made
-made_fails size (Some s) None fault made whole = absurd made
-made_fails size (Some s) (Some t) fault made whole = (made, whole (fresh size) made.stands.stands made.unarmed)
+-- a header that names no entries has no whole range
+no_range : (bytes : List ℕ) → IsUnarmed bytes → ¬ HasWholeRange bytes
+no_range bytes unarmed range =
+    let same = ap (λ (h : Header). h.undo_count) (same-header bytes range.header unarmed.header range.slot unarmed.slot range.counts unarmed.counts) in
+    let none = unarmed.none in
+    let some = range.some in
+    absurd (omega (arith, same, none, some))
 
-unopened : (newfs : Option ℕ) (a b c : Option Told) (fault : OpenFault) → MakesVolume newfs a b → IsNotMounted b c fault → IsUnopened newfs a c fault
-unopened None a b c fault made not_mounted = subst (λ (o : Option Told). IsNotMounted o c fault) made not_mounted
-unopened (Some size) a b c fault made not_mounted =
-    inr (subst (λ (o : Option Told). BothTell a o (λ s t. IsMade size s t × IsFailure fault)) (sym not_mounted.told)
-    (made_fails size a b fault made not_mounted.whole))
+module _ (past left since : LeftSince) (fault : OpenFault) where
+  -- A new volume is opened, unless the disk or memory fails, and nothing is written to it then.
+  made_fails : (size : ℕ) (s t u : Told) → IsMade size s t → IsNotMounted fault left since t u → IsMade size s u × IsFailure fault
+  made_fails size s t u made not_mounted = (
+    subst (λ (x : Told). IsMade size s x) (sym (not_mounted.untouched (no_range t.bytes made.unarmed)).0) made,
+    not_mounted.whole (fresh size) (record {
+      result = t.bytes;
+      recovers = record {
+        header = made.unarmed.header;
+        slot = made.unarmed.slot;
+        counts = made.unarmed.counts;
+        how = inl (made.unarmed.none, refl);
+      };
+      stands = made.stands.stands;
+    }),
+  )
 
--- a disk on which a volume was made or not, and none was opened
-pub StoppedOpening-mount : (newfs : Option ℕ) (a b c : Seen Told) (fault : OpenFault) → MakesVolume newfs a.told b.told → IsNotMounted b.told c.told fault
-    → a.faults ≤ b.faults
-    → IsOpenCaused b.faults c.faults fault → StoppedOpening newfs a c (of_open fault)
-StoppedOpening-mount newfs a b c fault made not_mounted earlier caused = record {
-  fault = fault;
-  stop_is = refl;
-  unopened = unopened newfs a.told b.told c.told fault made not_mounted;
-  caused = caused_longer a.faults b.faults c.faults fault earlier caused;
-}
+  unmounted : (size : ℕ) (a b c : Option Told) → BothTell a b (IsMade size) → BothTell b c (IsNotMounted fault left since)
+      → BothTell a c (λ s t. IsMade size s t × IsFailure fault)
+  unmounted size None None None made not_mounted = tt
+  unmounted size None None (Some u) made not_mounted = absurd not_mounted
+  unmounted size None (Some t) c made not_mounted = absurd made
+  unmounted size (Some s) None c made not_mounted = absurd made
+  unmounted size (Some s) (Some t) None made not_mounted = absurd not_mounted
+  unmounted size (Some s) (Some t) (Some u) made not_mounted = made_fails size s t u made not_mounted
 
-has_whole : (told : Option Told) (faults : ℕ) (core : CoreState) → IsMounted told faults core
-    → IfSome told (λ t. HasWhole t.bytes)
-has_whole None faults core mounted = tt
-has_whole (Some t) faults core mounted = record {
-  header = core.flush.header;
-  slot = core.flush.slot;
-  counts = mounted.counting;
-  whole = mounted.whole;
-  unarmed = mounted.idle.1;
-}
+  unopened : (newfs : Option ℕ) (a b c : Option Told) → MakesVolume newfs a b → (newfs ≡ None → left ≡ past)
+      → BothTell b c (IsNotMounted fault left since) → IsUnopened newfs past since a c fault
+  unopened None a b c made as_was not_mounted =
+      subst (λ (before : LeftSince). BothTell a c (IsNotMounted fault before since)) (as_was refl)
+      (subst (λ (o : Option Told). BothTell o c (IsNotMounted fault left since)) made not_mounted)
+  unopened (Some size) a b c made as_was not_mounted = inr (unmounted size a b c made not_mounted)
 
--- a volume was opened
-pub OpensOn-mounted : (newfs : Option ℕ) (a b : Option Told) (faults : ℕ) (core : CoreState) → MakesVolume newfs a b
-    → IsMounted b faults core → OpensOn newfs a core.heap.disk
-OpensOn-mounted None a b faults core made mounted =
-    (mounted.told ∙ made, subst (λ (o : Option Told). IfSome o (λ t. HasWhole t.bytes)) made (has_whole b faults core mounted))
-OpensOn-mounted (Some size) a b faults core made mounted =
-    subst (λ (o : Option Told). BothTell a o (IsMade size)) (sym mounted.told) made
+  -- a disk on which a volume was made or not, and none was opened
+  pub StoppedOpening-mount : (newfs : Option ℕ) (a b c : Seen Told) → MakesVolume newfs a.told b.told → (newfs ≡ None → left ≡ past)
+      → BothTell b.told c.told (IsNotMounted fault left since) → a.faults ≤ b.faults
+      → IsOpenCaused b.faults c.faults fault → StoppedOpening newfs past since a c (of_open fault)
+  StoppedOpening-mount newfs a b c made as_was not_mounted earlier caused = record {
+    fault = fault;
+    stop_is = refl;
+    unopened = unopened newfs a.told b.told c.told made as_was not_mounted;
+    caused = caused_longer a.faults b.faults c.faults fault earlier caused;
+  }

@@ -6,15 +6,15 @@ use Rattle.std.proofs.lemmas.Option.{IfSome_then, get_or_from_slice_get}
 use Rattle.hm_image.proofs.ListLemmas.{only_one}
 use Rattle.hm_model.specs.Reply.{told_boundary}
 use Rattle.hm_types.specs.declared.limits.TheConstants.{GREATEST_ID}
+use Rattle.hm_disk.specs.Moments.{LeftSince}
 use Rattle.hm_pipe.specs.Pipe.{Gains}
 use Rattle.hm_pipe.proofs.PipeLemmas.{Gains-none, Gains-append}
 use Rattle.hm_model.specs.declared.entry.Entry.{Entry}
 use Rattle.hm_model.specs.declared.line.Line.{Line}
 use Rattle.hm_model.specs.Out.{IsOf, entry_words, printed_line, spent_words}
-use Rattle.hm_core.specs.Core.{Enters, KeepsRest}
+use Rattle.hm_core.specs.Core.{Enters, Follows, IsSoundCore}
 use Rattle.hm_core.specs.State.{CoreState}
-use Rattle.hm_core.proofs.CoreLemmas.{goes_on_by_none, goes_on_further, goes_on_itself}
-use Rattle.hm_core.proofs.CountLemmas.{later_same, later_still}
+use Rattle.hm_core.proofs.CoreLemmas.{follows_further, follows_itself, follows_spare}
 use Rattle.hm_shell.specs.declared.stop.Stop.{Stop}
 use Rattle.hm_shell.specs.declared.stop.Stop.TheVariants.{Usage, NotVolume, BadField, DiskFault, Damaged, ScriptFault, OutFault, NoMemory, BadLine, TooLong}
 use Rattle.hm_shell.specs.Alone.{Answers, IsAlone, TellsAfter, line_text, out_text}
@@ -22,10 +22,9 @@ use Rattle.hm_shell.specs.Lines.{AreRising, IsServedLine}
 use Rattle.hm_shell.specs.Printing.{StoppedPrinting}
 use Rattle.hm_shell.specs.Running.{IsOutCause}
 use Rattle.hm_shell.specs.Seen.{Seen}
-use Rattle.hm_shell.specs.Serving.{AnswersLine, GoesFrom, IsBehind, RunsLine, Served, ServedInPart, ServesLine, Serving, StoppedServing}
+use Rattle.hm_shell.specs.Serving.{AnswersLine, IsBehind, RunsLine, Served, ServedInPart, ServesLine, Serving, StoppedServing}
 use Rattle.hm_shell.proofs.AloneMoreLemmas.{answers_more, answers_none, answers_spent}
 use Rattle.hm_shell.proofs.TextLemmas.{out_before, out_spent, out_answered, text_answered, text_spent}
-use Rattle.hm_shell.proofs.WaitLemmas.{KeepsRest-more}
 
 -- a line that was not printed was printed in part
 stopped_front : (line : List ℕ) (old new : Seen (List ℕ)) (stop : Stop) → StoppedPrinting line old new stop → (k : ℕ) × Gains old.told (take k line) new.told
@@ -78,49 +77,18 @@ entry_there history e found place there is =
     sym (get_or_from_slice_get (history ++ e ∷ []) (length history) found e (subst (λ (k : ℕ). slice_get (history ++ e ∷ []) k ≡ Some found) there is))
     ∙ last_entry history e e
 
-KeepsRest-none : (core : CoreState) → KeepsRest core core
-KeepsRest-none core = record { mounted = refl; boundary = omega arith }
-
-GoesFrom-none : (core : CoreState) → GoesFrom core core
-GoesFrom-none core = record {
-  rest = KeepsRest-none core;
-  never_falls = later_same core.counts;
-  goes_on = goes_on_itself core;
-  idle = λ none. refl;
-}
-
--- room was made in a core
-GoesFrom-reserved : (core : CoreState) (spare : ℕ) → GoesFrom core (record core { spare = spare })
-GoesFrom-reserved core spare = record {
-  rest = record { mounted = refl; boundary = omega arith };
-  never_falls = later_same core.counts;
-  goes_on = λ opening foreigners events stands. goes_on_by_none core (record core { spare = spare }) opening foreigners events
-      (record { legal = stands.legal; read = stands.read }) (λ was. was);
-  idle = λ none. refl;
-}
-
--- and a call was entered
-GoesFrom-entered : (a b c : CoreState) (lane number since : ℕ) (command : _) → GoesFrom a b → Enters b c lane number since command → GoesFrom a c
-GoesFrom-entered a b c lane number since command so_far enters = record {
-  rest = KeepsRest-more a b c so_far.rest enters.rest;
-  never_falls = later_still a.counts b.counts c.counts so_far.never_falls enters.never_falls;
-  goes_on = goes_on_further a b c so_far.goes_on enters.goes_on;
-  idle = λ none. absurd (not_empty b.history enters.entry (sym enters.history ∙ none));
-}
-
 -- What comes of one line more: the history answers it, it prints its text, and those before it print what they did.
 record HasRun (lines : List Line) (line : Line) (begun old new : CoreState) (text : List ℕ) : Type 0 where
-  pub from : GoesFrom begun new
   pub answers : Answers new.last (lines ++ line ∷ []) new.history
   pub up_to : (e : Entry) → Contains new.history e → e.id.0 ≤ new.last
-  pub behind : IsBehind old → IsBehind new
+  pub behind : IsBehind begun old → IsBehind begun new
   pub earlier : out_text lines new.history ≡ out_text lines old.history
   pub own : out_text (line ∷ []) new.history ≡ text
   pub both : out_text (lines ++ line ∷ []) new.history ≡ out_text lines old.history ++ text
   pub spare : old.spare ≤ new.spare + 1
 
 module _ (lines : List Line) (line : Line) (later : (l : Line) → Contains lines l → l.number < line.number) (alone : IsAlone line)
-    (begun old : CoreState) (held holds : Option (List ℕ)) (served : Served lines begun old held holds) where
+    (past mid : LeftSince) (begun old : CoreState) (held holds : Option (List ℕ)) (served : Served lines past mid begun old held holds) where
   module _ (new : CoreState) (enters : Enters old new line.lane line.number old.last line.command) where
     own_entry : IsOf line enters.entry
     own_entry = record { lane = enters.of_line.0; number = enters.of_line.1; command = enters.of_line.2 }
@@ -142,11 +110,13 @@ module _ (lines : List Line) (line : Line) (later : (l : Line) → Contains line
 
     has_entered : HasRun lines line begun old new (printed_line (entry_words enters.entry))
     has_entered = record {
-      from = GoesFrom-entered begun old new line.lane line.number old.last line.command served.from enters;
       answers = rw enters.history
           (answers_more lines old.history line later old.last enters.entry served.answers enters.left own_entry tells above new.last);
       up_to = up_to_entered;
-      behind = λ was some. enters.before;
+      behind = λ was. record {
+        behind = λ some. enters.before;
+        idle = λ none. absurd (not_empty old.history enters.entry (sym enters.history ∙ none));
+      };
       earlier = rw enters.history (out_before lines old.history line later old.last served.answers enters.entry own_entry alone.single);
       own = rw enters.history (append-nil (line_text (old.history ++ enters.entry ∷ []) line)
           ∙ text_answered lines old.history line later old.last served.answers enters.entry own_entry alone.single);
@@ -156,7 +126,6 @@ module _ (lines : List Line) (line : Line) (later : (l : Line) → Contains line
 
   has_spent : old.last ≡ GREATEST_ID → HasRun lines line begun old old (printed_line spent_words)
   has_spent greatest = record {
-    from = served.from;
     answers = answers_spent lines old.history line later old.last greatest served.answers;
     up_to = served.up_to;
     behind = λ was. was;
@@ -170,66 +139,67 @@ module _ (lines : List Line) (line : Line) (later : (l : Line) → Contains line
   has_run new text (inl entered) = rw entered.1 (has_entered new entered.0)
   has_run new text (inr spent) = rw (spent.1, spent.2) (has_spent spent.0)
 
-  -- one more line was run and printed
-  Served-line : (new : CoreState) (gained : Option (List ℕ)) → ServesLine old new line holds gained → Served (lines ++ line ∷ []) begun new held gained
-  Served-line new gained serves =
-      let run = has_run new serves.text serves.runs in
-      record {
-        from = run.from;
+  module _ (since : LeftSince) (new : CoreState) (follows : Follows mid since old new) where
+    from : Follows past since begun new
+    from = follows_further past mid since begun old new served.from follows
+
+    -- one more line was run and printed
+    module _ (gained : Option (List ℕ)) (serves : ServesLine old new line holds gained) where
+      run : HasRun lines line begun old new serves.text
+      run = has_run new serves.text serves.runs
+
+      Served-line : Served (lines ++ line ∷ []) past since begun new held gained
+      Served-line = record {
+        from = from;
         answers = run.answers;
         up_to = run.up_to;
         gained = rw run.both (Gains-append held holds gained (out_text lines old.history) serves.text served.gained serves.gained);
       }
 
-  spare_left : (new : CoreState) (gained : Option (List ℕ)) → ServesLine old new line holds gained → old.spare ≤ new.spare + 1
-  spare_left new gained serves = (has_run new serves.text serves.runs).spare
+      spare_left : old.spare ≤ new.spare + 1
+      spare_left = run.spare
 
-  behind_left : (new : CoreState) (gained : Option (List ℕ)) → ServesLine old new line holds gained → IsBehind old → IsBehind new
-  behind_left new gained serves = (has_run new serves.text serves.runs).behind
+      behind_left : IsBehind begun old → IsBehind begun new
+      behind_left = run.behind
 
-  -- one more line was run, and printed in part or not at all
-  part_line : (all rest : List Line) (new : CoreState) (second third : Seen (List ℕ)) (stop : Stop) → holds ≡ second.told
-      → all ≡ lines ++ line ∷ rest → StoppedServing old new line second third stop → ServedInPart all begun new held third.told
-  part_line all rest new second third stop same split stopped =
-      let run = has_run new stopped.text stopped.runs in
-      let part = stopped_front stopped.text second third stop stopped.printing in
-      record {
-        before = lines;
-        last = line ∷ [];
-        rest = rest;
-        split = split;
-        one = omega arith;
-        from = run.from;
-        answers = run.answers;
-        printed = part.0;
-        gained = rw (run.earlier, run.own)
-            (Gains-append held holds third.told (out_text lines old.history) (take part.0 stopped.text) served.gained (rw same part.1));
-      }
+    -- one more line was run, and printed in part or not at all
+    part_line : (all rest : List Line) (second third : Seen (List ℕ)) (stop : Stop) → holds ≡ second.told → all ≡ lines ++ line ∷ rest
+        → StoppedServing old new line second third stop → ServedInPart all past since begun new held third.told
+    part_line all rest second third stop same split stopped =
+        let run = has_run new stopped.text stopped.runs in
+        let part = stopped_front stopped.text second third stop stopped.printing in
+        record {
+          before = lines;
+          last = line ∷ [];
+          rest = rest;
+          split = split;
+          one = omega arith;
+          from = from;
+          answers = run.answers;
+          printed = part.0;
+          gained = rw (run.earlier, run.own)
+              (Gains-append held holds third.told (out_text lines old.history) (take part.0 stopped.text) served.gained (rw same part.1));
+        }
 
 -- no line was served yet
-Served-none : (begun core : CoreState) (held : Option (List ℕ)) → GoesFrom begun core → core.history ≡ [] → Served [] begun core held held
-Served-none begun core held from none = record {
-  from = from;
-  answers = rw none (answers_none core.last);
-  up_to = λ e has. (let lt = (subst (λ (h : List Entry). Contains h e) none has).1 in absurd (omega (arith, lt)));
-  gained = Gains-none held;
-}
-
-pub Serving-none : (lines : List Line) (core : CoreState) (held : Option (List ℕ)) → core.history ≡ [] → 2 * length lines ≤ core.spare
-    → Serving lines [] lines core core held held
-Serving-none lines core held none room = record {
+pub Serving-none : (lines : List Line) (left : LeftSince) (core : CoreState) (held : Option (List ℕ)) → IsSoundCore core → core.history ≡ []
+    → 2 * length lines ≤ core.spare → Serving lines [] lines left left core core held held
+Serving-none lines left core held sound none room = record {
   split = refl;
-  served = Served-none core core held (GoesFrom-none core) none;
-  behind = λ some. absurd (some none);
+  served = record {
+    from = follows_itself left core sound;
+    answers = rw none (answers_none core.last);
+    up_to = λ e has. (let lt = (subst (λ (h : List Entry). Contains h e) none has).1 in absurd (omega (arith, lt)));
+    gained = Gains-none held;
+  };
+  behind = record { behind = λ some. absurd (some none); idle = λ _. refl };
   room = room;
 }
 
 -- nothing was served
-pub ServedInPart-none : (lines : List Line) (begun core : CoreState) (held : Option (List ℕ)) → core ≡ record begun { spare = core.spare }
-    → begun.history ≡ []
-    → ServedInPart lines begun core held held
-ServedInPart-none lines begun core held keeps none =
-    let from : GoesFrom begun core = subst (λ (c : CoreState). GoesFrom begun c) (sym keeps) (GoesFrom-reserved begun core.spare) in
+pub ServedInPart-none : (lines : List Line) (left : LeftSince) (begun core : CoreState) (held : Option (List ℕ)) → IsSoundCore begun
+    → core ≡ record begun { spare = core.spare } → begun.history ≡ [] → ServedInPart lines left left begun core held held
+ServedInPart-none lines left begun core held sound keeps none =
     let empty : core.history ≡ [] = ap (λ (c : CoreState). c.history) keeps ∙ none in
     record {
       before = [];
@@ -237,94 +207,74 @@ ServedInPart-none lines begun core held keeps none =
       rest = lines;
       split = refl;
       one = omega arith;
-      from = from;
+      from = subst (λ (c : CoreState). Follows left left begun c) (sym keeps) (follows_spare left begun core.spare sound);
       answers = rw empty (answers_none core.last);
       printed = 0;
       gained = Gains-none held;
     }
 
--- the next line is a served one, and there is room for it
-pub room_next : (lines before rest : List Line) (line : Line) (begun core : CoreState) (held holds : Option (List ℕ))
-    → Serving lines before (line ∷ rest) begun core held holds → 2 ≤ core.spare
-room_next lines before rest line begun core held holds so_far = (let room = so_far.room in omega (arith, room))
-
 module _ (lines before rest : List Line) (line : Line) (each : All IsServedLine lines) (rising : AreRising lines)
-    (begun old new : CoreState) where
-  pub Serving-more : (held holds gained : Option (List ℕ)) → Serving lines before (line ∷ rest) begun old held holds → ServesLine old new line holds gained
-      → Serving lines (before ++ line ∷ []) rest begun new held gained
+    (past mid since : LeftSince) (begun old new : CoreState) (follows : Follows mid since old new) where
+  pub Serving-more : (held holds gained : Option (List ℕ)) → Serving lines before (line ∷ rest) past mid begun old held holds
+      → ServesLine old new line holds gained → Serving lines (before ++ line ∷ []) rest past since begun new held gained
   Serving-more held holds gained so_far serves =
       let later = below_next lines before rest line rising so_far.split in
       let is_alone = (served_next lines before rest line each so_far.split).by_itself in
+      let left = spare_left before line later is_alone past mid begun old held holds so_far.served since new follows gained serves in
       record {
         split = so_far.split ∙ sym (append_assoc before (line ∷ []) rest);
-        served = Served-line before line later is_alone begun old held holds so_far.served new gained serves;
-        behind = behind_left before line later is_alone begun old held holds so_far.served new gained serves so_far.behind;
-        room = (let room = so_far.room in let left = spare_left before line later is_alone begun old held holds so_far.served new gained serves in omega
-            (arith, room, left));
+        served = Served-line before line later is_alone past mid begun old held holds so_far.served since new follows gained serves;
+        behind = behind_left before line later is_alone past mid begun old held holds so_far.served since new follows gained serves so_far.behind;
+        room = (let room = so_far.room in omega (arith, room, left));
       }
 
   -- the lines before were served when this one stopped
   pub ServedInPart-stopped : (held : Option (List ℕ)) (second third : Seen (List ℕ)) (stop : Stop)
-      → Serving lines before (line ∷ rest) begun old held second.told
-      → StoppedServing old new line second third stop → ServedInPart lines begun new held third.told
+      → Serving lines before (line ∷ rest) past mid begun old held second.told
+      → StoppedServing old new line second third stop → ServedInPart lines past since begun new held third.told
   ServedInPart-stopped held second third stop so_far stopped =
       part_line before line (below_next lines before rest line rising so_far.split) (served_next lines before rest line each so_far.split).by_itself
-      begun old held second.told so_far.served lines rest new second third stop refl so_far.split stopped
-
-  -- and this is why
-  pub IsOutCause-stopped : (second third : Seen (List ℕ)) (stop : Stop) → StoppedServing old new line second third stop
-      → IsOutCause second.faults third.faults stop
-  IsOutCause-stopped second third stop stopped = IsOutCause-printing stopped.text second third stop stopped.printing
-
--- all were served
-pub Served-all : (lines before : List Line) (begun core : CoreState) (held holds : Option (List ℕ)) → Serving lines before [] begun core held holds
-    → Served lines begun core held holds
-Served-all lines before begun core held holds so_far =
-    subst (λ (ls : List Line). Served ls begun core held holds) (sym (append-nil before) ∙ sym so_far.split) so_far.served
+      past mid begun old held second.told so_far.served since new follows lines rest second third stop refl so_far.split stopped
 
 -- what was served from a core in which room was made was served from it
-GoesFrom-after : (a c : CoreState) (spare : ℕ) → GoesFrom (record a { spare = spare }) c → GoesFrom a c
-GoesFrom-after a c spare from = record {
-  rest = record { mounted = from.rest.mounted; boundary = from.rest.boundary };
-  never_falls = from.never_falls;
-  goes_on = goes_on_further a (record a { spare = spare }) c (GoesFrom-reserved a spare).goes_on from.goes_on;
-  idle = from.idle;
-}
+module _ (lines : List Line) (past since : LeftSince) (a b c : CoreState) (held holds : Option (List ℕ)) (sound : IsSoundCore a)
+    (keeps : b ≡ record a { spare = b.spare }) where
+  from_before : Follows past since b c → Follows past since a c
+  from_before follows =
+      follows_further past past since a (record a { spare = b.spare }) c (follows_spare past a b.spare sound)
+      (subst (λ (x : CoreState). Follows past since x c) keeps follows)
 
-pub Served-after : (lines : List Line) (a b c : CoreState) (held holds : Option (List ℕ)) → b ≡ record a { spare = b.spare }
-    → Served lines b c held holds → Served lines a c held holds
-Served-after lines a b c held holds keeps served = record {
-  from = GoesFrom-after a c b.spare (subst (λ (x : CoreState). GoesFrom x c) keeps served.from);
-  answers = served.answers;
-  up_to = served.up_to;
-  gained = served.gained;
-}
+  -- the same where there was no error, and where there was one
+  pub served_after : (r : Result (Unit {0}) Stop) → OnOk r (Served lines past since b c held holds) → OnOk r (Served lines past since a c held holds)
+  served_after (Ok done) served = record {
+    from = from_before served.from;
+    answers = served.answers;
+    up_to = served.up_to;
+    gained = served.gained;
+  }
+  served_after (Err stop) served = tt
 
-pub ServedInPart-after : (lines : List Line) (a b c : CoreState) (held holds : Option (List ℕ)) → b ≡ record a { spare = b.spare }
-    → ServedInPart lines b c held holds → ServedInPart lines a c held holds
-ServedInPart-after lines a b c held holds keeps part = record {
-  before = part.before;
-  last = part.last;
-  rest = part.rest;
-  split = part.split;
-  one = part.one;
-  from = GoesFrom-after a c b.spare (subst (λ (x : CoreState). GoesFrom x c) keeps part.from);
-  answers = part.answers;
-  printed = part.printed;
-  gained = part.gained;
-}
+  pub behind_after : (r : Result (Unit {0}) Stop) → OnOk r (IsBehind b c) → OnOk r (IsBehind a c)
+  behind_after (Ok done) behind = record {
+    behind = behind.behind;
+    idle = λ none. behind.idle none ∙ ap (λ (x : CoreState). record x { spare = c.spare }) keeps;
+  }
+  behind_after (Err stop) behind = tt
 
--- the same where there was no error, and where there was one
-pub served_after : (lines : List Line) (a b c : CoreState) (held holds : Option (List ℕ)) (r : Result (Unit {0}) Stop)
-    → b ≡ record a { spare = b.spare }
-    → OnOk r (Served lines b c held holds) → OnOk r (Served lines a c held holds)
-served_after lines a b c held holds (Ok done) keeps served = Served-after lines a b c held holds keeps served
-served_after lines a b c held holds (Err stop) keeps served = tt
-
-pub part_after : (lines : List Line) (a b c : CoreState) (held holds : Option (List ℕ)) (r : Result (Unit {0}) Stop) → b ≡ record a { spare = b.spare }
-    → OnErr r (ServedInPart lines b c held holds) → OnErr r (ServedInPart lines a c held holds)
-part_after lines a b c held holds (Ok done) keeps part = tt
-part_after lines a b c held holds (Err stop) keeps part = ServedInPart-after lines a b c held holds keeps part
+  pub part_after : (r : Result (Unit {0}) Stop) → OnErr r (ServedInPart lines past since b c held holds)
+      → OnErr r (ServedInPart lines past since a c held holds)
+  part_after (Ok done) part = tt
+  part_after (Err stop) part = record {
+    before = part.before;
+    last = part.last;
+    rest = part.rest;
+    split = part.split;
+    one = part.one;
+    from = from_before part.from;
+    answers = part.answers;
+    printed = part.printed;
+    gained = part.gained;
+  }
 
 module _ (old new : CoreState) (line : Line) where
   -- a line was answered, and this is to be printed

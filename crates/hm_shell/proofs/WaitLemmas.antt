@@ -1,14 +1,14 @@
 -- A core that waits for a flush, and is then entered.
 use Rattle.std.proofs.Common.{◌≡◌, ◌⊎◌, ℕ, ◌+◌, ◌<◌, Some, length, [], ◌∷◌, ◌++◌, refl, sym, ◌∙◌, ap, subst, inl, inr, arith}
 use Rattle.hm_types.specs.declared.limits.TheConstants.{GREATEST_ID}
+use Rattle.hm_disk.specs.Moments.{LeftSince}
 use Rattle.hm_model.specs.declared.command.Command.{Command}
-use Rattle.hm_core.specs.Core.{Enters, KeepsRest, KeepsStreams, Steps, Waits}
+use Rattle.hm_core.specs.Core.{Enters, Follows, KeepsStreams, Steps, Waits}
 use Rattle.hm_core.specs.Staged.{MakesStage, Stages}
 use Rattle.hm_core.specs.declared.staged.Staged.TheVariants.{More, Refused}
 use Rattle.hm_core.specs.declared.step.Step.TheVariants.{Answered, MustFlush}
 use Rattle.hm_core.specs.State.{CoreDevices, CoreState}
-use Rattle.hm_core.proofs.CoreLemmas.{goes_on_further}
-use Rattle.hm_core.proofs.CountLemmas.{later_still}
+use Rattle.hm_core.proofs.CoreLemmas.{follows_further}
 use Rattle.hm_shell.specs.Serving.{AnswersLine, Waited}
 use Rattle.hm_shell.proofs.FlushLemmas.{stages_fall, stages_left, waiting_open}
 
@@ -16,21 +16,11 @@ use Rattle.hm_shell.proofs.FlushLemmas.{stages_fall, stages_left, waiting_open}
 pub streams_more : {D I O : Type 0} (a b c : CoreDevices D I O) → KeepsStreams a b → KeepsStreams b c → KeepsStreams a c
 streams_more a b c first second = record { input = second.input ∙ first.input; output = second.output ∙ first.output }
 
-pub KeepsRest-more : (a b c : CoreState) → KeepsRest a b → KeepsRest b c → KeepsRest a c
-KeepsRest-more a b c first second = record {
-  mounted = second.mounted ∙ first.mounted;
-  boundary = (let one = first.boundary in let two = second.boundary in omega (arith, one, two));
-}
-
 pub waits_more : (a b c : CoreState) → Waits a b → Waits b c → Waits a c
 waits_more a b c first second = record {
   history = second.history ∙ first.history;
   last = second.last ∙ first.last;
   spare = second.spare ∙ first.spare;
-  rest = KeepsRest-more a b c first.rest second.rest;
-  never_falls = later_still a.counts b.counts c.counts first.never_falls second.never_falls;
-  caused = second.caused;
-  goes_on = goes_on_further a b c first.goes_on second.goes_on;
 }
 
 -- what was waited for so far, and one stage more
@@ -60,10 +50,6 @@ module _ (lane line since : ℕ) (command : Command) where
         id = (enters.id.0 ∙ ap (λ n. n + 1) same, enters.id.1 ∙ ap (λ n. n + 1) same);
         before = enters.before;
         spare = (let was = waits.spare in let least = enters.spare in omega (arith, was, least));
-        rest = KeepsRest-more a b c waits.rest enters.rest;
-        never_falls = later_still a.counts b.counts c.counts waits.never_falls enters.never_falls;
-        caused = enters.caused;
-        goes_on = goes_on_further a b c waits.goes_on enters.goes_on;
       }
 
   waited_enters : (a b c : CoreState) → Waited a b → Enters b c lane line since command → Enters a c lane line since command

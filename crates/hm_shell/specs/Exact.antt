@@ -1,13 +1,14 @@
 -- Which status the words, the script and the disk bring, where nothing fails.
 use Rattle.std.specs.Prelude.{◌≡◌, ℕ, List, [], ◌∷◌, Option, None, Some, IfSome, Contains}
 use Rattle.hm_disk.specs.Crash.{Told}
-use Rattle.hm_header.specs.OnDisk.{HasFault, HasHeader}
+use Rattle.hm_header.specs.OnDisk.{HasFault}
 use Rattle.hm_header.specs.declared.fault.HeaderFault.{HeaderFault}
-use Rattle.hm_header.specs.declared.header.Header.{Header}
-use Rattle.hm_image.specs.Stands.{StandsFor}
+use Rattle.hm_undo.specs.Recovered.{RecoversTo}
+use Rattle.hm_recover.specs.Damage.{HasRangeDamage}
 use Rattle.hm_model.specs.Script.{IsTooLong}
 use Rattle.hm_model.specs.Volume.{Volume}
-use Rattle.hm_core.specs.Opened.{HasDamage, IsArmed, IsTooSmall}
+use Rattle.hm_core.specs.Crash.{StandsRecovered}
+use Rattle.hm_core.specs.Opened.{HasDamage, IsTooSmall}
 use Rattle.hm_shell.specs.Devices.{Sight}
 use Rattle.hm_shell.specs.Lines.{IsFirstBad, IsGoodScript}
 use Rattle.hm_shell.specs.Opening.{HasWhole}
@@ -23,16 +24,15 @@ pub record NewBrings (size : ℕ) (t : Told) (status : ℕ) : Type 0 where
   pub small : IsTooSmall size t → Contains (3 ∷ 4 ∷ 5 ∷ 7 ∷ []) status
   pub made : (IsTooSmall size t → ⊥) → Contains (0 ∷ 4 ∷ 5 ∷ 6 ∷ 7 ∷ []) status
 
--- The same of a disk as it is: no header counts, or the one that does names entries of the UNDO log, or what stands below it is
--- damaged, or the lines are run on it. Where what it holds is whole no damage is told, also where it stands for no volume.
+-- The same of a disk as it is: no header counts, or an entry of the UNDO log that it names is damaged, or, once it is recovered, what
+-- stands below it is; or the lines are run on it. Where what it holds then is whole no damage is told, also where it stands for no volume.
 pub record OldBrings (t : Told) (status : ℕ) : Type 0 where
   pub none : (fault : HeaderFault) → HasFault t.bytes fault → Contains (3 ∷ 4 ∷ 5 ∷ 7 ∷ []) status
-  pub armed : IsArmed t.bytes → Contains (3 ∷ 4 ∷ 5 ∷ 7 ∷ []) status
+  pub range : (at kind : ℕ) → HasRangeDamage t.bytes at kind → Contains (10 ∷ 4 ∷ 5 ∷ 7 ∷ []) status
   pub damaged : (at kind : ℕ) → HasDamage t.bytes at kind → Contains (10 ∷ 4 ∷ 5 ∷ 7 ∷ []) status
-  pub stands : (volume : Volume) → StandsFor t.bytes volume → ¬ IsArmed t.bytes → Contains (0 ∷ 4 ∷ 5 ∷ 6 ∷ 7 ∷ []) status
-  pub whole : HasWhole t.bytes → Contains (0 ∷ 4 ∷ 5 ∷ 6 ∷ 7 ∷ []) status
-  pub headed : (header : Header) (slot : ℕ) → HasHeader t.bytes header slot → header.undo_count ≡ 0
-      → Contains (0 ∷ 4 ∷ 5 ∷ 6 ∷ 7 ∷ 10 ∷ []) status
+  pub stands : (volume : Volume) → StandsRecovered t.bytes volume → Contains (0 ∷ 4 ∷ 5 ∷ 6 ∷ 7 ∷ []) status
+  pub whole : (result : List ℕ) → RecoversTo t.bytes result → HasWhole result → Contains (0 ∷ 4 ∷ 5 ∷ 6 ∷ 7 ∷ []) status
+  pub recovers : (result : List ℕ) → RecoversTo t.bytes result → Contains (0 ∷ 4 ∷ 5 ∷ 6 ∷ 7 ∷ 10 ∷ []) status
 
 abbrev pub DiskBrings : Option ℕ → Told → ℕ → Type 0
 DiskBrings None t status = OldBrings t status

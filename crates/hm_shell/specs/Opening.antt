@@ -1,11 +1,14 @@
 -- What making and opening a volume on a disk came to.
-use Rattle.std.specs.Prelude.{◌≡◌, ◌⊎◌, ℕ, List, Option, None, Some, IfSome}
+use Rattle.std.specs.Prelude.{◌≡◌, ◌⊎◌, ℕ, List, [], Option, None, Some}
 use Rattle.hm_types.specs.Told.{BothTell}
 use Rattle.hm_disk.specs.Crash.{Told}
+use Rattle.hm_disk.specs.Moments.{LeftSince}
 use Rattle.hm_header.specs.OnDisk.{HasHeader}
 use Rattle.hm_header.specs.declared.header.Header.{Header}
 use Rattle.hm_load.specs.Damage.{IsWhole}
-use Rattle.hm_core.specs.declared.fault.OpenFault.{OpenFault}
+use Rattle.hm_undo.specs.Recovered.{RecoversTo}
+use Rattle.hm_recover.specs.Recovery.{HasWholeRange}
+use Rattle.hm_recover.specs.declared.fault.OpenFault.{OpenFault}
 use Rattle.hm_core.specs.Opened.{IsFailure, IsMade, IsNotMade, IsNotMounted, IsOpenCaused}
 use Rattle.hm_shell.specs.declared.stop.Stop.{Stop}
 use Rattle.hm_shell.specs.Seen.{Seen}
@@ -19,22 +22,23 @@ pub record HasWhole (bytes : List ℕ) : Type 0 where
   pub whole : IsWhole bytes header
   pub unarmed : header.undo_count ≡ 0
 
--- What a disk told as a volume was opened on it: what it told before, and then nothing was written and what it told is
--- whole; or, with `--newfs`, what it told once a volume of this size was made.
-abbrev pub OpensOn : Option ℕ → Option Told → Option Told → Type 0
-OpensOn None old opened = (opened ≡ old) × IfSome old (λ t. HasWhole t.bytes)
-OpensOn (Some size) old opened = BothTell old opened (IsMade size)
+-- A volume was opened on a disk that told this, and tells that: it was recovered, and nothing was written but where its header named
+-- entries of the UNDO log, and then all is settled. What it tells now is whole.
+pub record Opens (old new : Told) : Type 0 where
+  pub recovers : RecoversTo old.bytes new.bytes
+  pub written : (new ≡ old) ⊎ (HasWholeRange old.bytes × (new.unsettled ≡ []))
+  pub whole : HasWhole new.bytes
 
--- No volume was opened on a disk that told this, and tells that. Without `--newfs` nothing was written, and this is why.
--- With it none was made; or it was made, and is on the disk as it was made, and the disk or memory failed after that.
-abbrev pub IsUnopened : Option ℕ → Option Told → Option Told → OpenFault → Type 0
-IsUnopened None old new fault = IsNotMounted old new fault
-IsUnopened (Some size) old new fault =
+-- No volume was opened on a disk that told this, and tells that. Without `--newfs` what it recovers to stays, and this is why. With
+-- it none was made; or it was made, and is on the disk as it was made, and the disk or memory failed after that.
+abbrev pub IsUnopened : Option ℕ → LeftSince → LeftSince → Option Told → Option Told → OpenFault → Type 0
+IsUnopened None past since old new fault = BothTell old new (IsNotMounted fault past since)
+IsUnopened (Some size) past since old new fault =
     IsNotMade size old new fault ⊎ BothTell old new (λ s t. IsMade size s t × IsFailure fault)
 
 -- a run stopped before a volume was open
-pub record StoppedOpening (newfs : Option ℕ) (old new : Seen Told) (stop : Stop) : Type 0 where
+pub record StoppedOpening (newfs : Option ℕ) (past since : LeftSince) (old new : Seen Told) (stop : Stop) : Type 0 where
   pub fault : OpenFault
   pub stop_is : stop ≡ of_open fault
-  pub unopened : IsUnopened newfs old.told new.told fault
+  pub unopened : IsUnopened newfs past since old.told new.told fault
   pub caused : IsOpenCaused old.faults new.faults fault

@@ -1,8 +1,10 @@
 -- The run of a script's lines on the volume of a disk.
 use Rattle.std.specs.Prelude.{◌≡◌, ◌≢◌, ◌⊎◌, ℕ, ◌≤◌, List, [], ◌++◌, Option, IfSome, IsSomeAnd, length, take}
 use Rattle.hm_types.specs.Faults.{IsMedia, Rose}
+use Rattle.hm_types.specs.Told.{BothTell}
 use Rattle.hm_pipe.specs.Pipe.{Gains}
-use Rattle.hm_disk.specs.Crash.{Told}
+use Rattle.hm_disk.specs.Crash.{MayLeave, Told}
+use Rattle.hm_disk.specs.Moments.{Each, LeftSince}
 use Rattle.hm_header.specs.OnDisk.{HasHeader}
 use Rattle.hm_header.specs.declared.header.Header.{Header}
 use Rattle.hm_image.specs.Stands.{StandsFor}
@@ -17,11 +19,14 @@ use Rattle.hm_model.specs.Volume.{Volume}
 use Rattle.hm_state.specs.Free.{free_in}
 use Rattle.hm_core.specs.Caused.{IsCausedFrom}
 use Rattle.hm_core.specs.Counts.{AreLater}
+use Rattle.hm_core.specs.Crash.{IsBetween, RecoversToPrefix}
+use Rattle.hm_core.specs.Inside.{AreUpTo}
 use Rattle.hm_core.specs.History.{setting_of}
 use Rattle.hm_shell.specs.declared.stop.Stop.{Stop}
 use Rattle.hm_shell.specs.declared.stop.Stop.TheVariants.{Usage, NotVolume, BadField, DiskFault, Damaged, ScriptFault, OutFault, NoMemory, BadLine, TooLong}
 use Rattle.hm_shell.specs.Alone.{alone, out_text}
-use Rattle.hm_shell.specs.Opening.{OpensOn, StoppedOpening}
+use Rattle.hm_shell.specs.Making.{MakesVolume}
+use Rattle.hm_shell.specs.Opening.{Opens, StoppedOpening}
 use Rattle.hm_shell.specs.Seen.{Seen}
 
 -- What a core tells of a run: its history, the last id as it began and at its end, how many big-blocks were free as it began,
@@ -33,6 +38,18 @@ pub record Ran : Type 0 where
   pub free : ℕ
   pub start : Counts
   pub counts : Counts
+
+-- a boundary that is no earlier than the last id as the run began and each that a sync of its history told, and no later than its last id
+pub record HoldsSyncs (ran : Ran) (boundary : ℕ) : Type 0 where
+  pub between : IsBetween ran.first ran.last boundary
+  pub synced : AreUpTo boundary ran.history
+
+-- Over a disk that told the one as mounting began and tells the other now: each image that a crash since then may have left recovers to
+-- the volume after a prefix of these events; and each that a crash now may leave to one that has all that a sync acknowledged.
+pub record SurvivesCrashes (ran : Ran) (since : LeftSince) (opening : Volume) (foreigners : Foreigners) (events : List Event)
+    (began new : Told) : Type 0 where
+  pub mounted : Each (since began.moment) (RecoversToPrefix (IsBetween ran.first ran.last) opening foreigners events)
+  pub now : Each (MayLeave new.bytes new.unsettled) (RecoversToPrefix (HoldsSyncs ran) opening foreigners events)
 
 -- its counts lie between two counts of the disk's faults, and none fell
 pub record IsCounted (old new : ℕ) (ran : Ran) : Type 0 where
@@ -72,40 +89,47 @@ pub record AnswersInPart (lines : List Line) (text : List ℕ) (ran : Ran) : Typ
   pub printed : ℕ
   pub text_is : text ≡ out_text before ran.history ++ take printed (out_text last ran.history)
 
--- The history of a run is a legal one over an opening volume, with these foreign masters, and leaves its last id.
-pub record HasHistory (ran : Ran) (opening : Volume) (foreigners : Foreigners) : Type 0 where
+-- The history of a run is a legal one over an opening volume, with these foreign masters, and leaves its last id. The disk, as it reads
+-- now, recovers to the volume after a prefix of it that has all that a sync acknowledged; and where nothing was unsettled as mounting
+-- began, each image that a crash since then may have left recovers to the volume after such a prefix, or an earlier one.
+pub record HasHistory (ran : Ran) (since : LeftSince) (began new : Option Told) (opening : Volume) (foreigners : Foreigners) : Type 0 where
   pub events : List Event
   pub entries : entries_of events ≡ ran.history
   pub legal : IsLegal (setting_of ran.free ran.start ran.counts opening foreigners) events
   pub last : (after opening foreigners events).volume.last ≡ ran.last
+  pub read : IfSome new (λ t. RecoversToPrefix (HoldsSyncs ran) opening foreigners events t.bytes)
+  pub crashed : BothTell began new (λ s t. s.unsettled ≡ [] → SurvivesCrashes ran since opening foreigners events s t)
 
--- the same, and a disk that tells this stands for the volume after that history
-pub record LeavesVolume (ran : Ran) (new : Option Told) (opening : Volume) (foreigners : Foreigners) : Type 0 where
-  pub has : HasHistory ran opening foreigners
+-- the same, and the disk stands for the volume after that history
+pub record LeavesVolume (ran : Ran) (since : LeftSince) (began new : Option Told) (opening : Volume) (foreigners : Foreigners) : Type 0 where
+  pub has : HasHistory ran since began new opening foreigners
   pub stands : IsSomeAnd new (λ t. StandsFor t.bytes (after opening foreigners has.events).volume)
 
 -- a fact of each volume that a disk stands for which tells this, and of all foreign masters
 abbrev pub OverEach : Option Told → (Volume → Foreigners → Type 0) → Type 0
 OverEach opened P = IfSome opened (λ t. (opening : Volume) (foreigners : Foreigners) → StandsFor t.bytes opening → P opening foreigners)
 
--- What came of a disk that told this as a volume was opened on it, and tells that: it stands for the volume after the
--- history, over each that it stood for. Where the history has no entry nothing was written, and else all is settled.
-pub record IsKept (opened new : Option Told) (ran : Ran) : Type 0 where
+-- What came of a disk that told the one as mounting began, the next once a volume was opened on it, and tells the last now: it stands
+-- for the volume after the history, over each that it stood for. Where the history has no entry nothing was written since it was
+-- opened, and else all is settled.
+pub record IsKept (since : LeftSince) (began opened new : Option Told) (ran : Ran) : Type 0 where
   pub unwritten : ran.history ≡ [] → new ≡ opened
   pub settled : ran.history ≢ [] → IfSome new (λ t. t.unsettled ≡ [])
-  pub volume : OverEach opened (LeavesVolume ran new)
+  pub volume : OverEach opened (LeavesVolume ran since began new)
 
 -- The whole run of a script's lines: a volume is made or not, opened and used, and all is committed. Each reply has its cause.
-pub record RunsAll (newfs : Option ℕ) (lines : List Line) (old_disk new_disk : Seen Told)
+pub record RunsAll (newfs : Option ℕ) (lines : List Line) (since : LeftSince) (old_disk new_disk : Seen Told)
     (old_out new_out : Option (List ℕ)) : Type 0 where
+  pub began : Option Told
+  pub makes : MakesVolume newfs old_disk.told began
   pub opened : Option Told
-  pub opens : OpensOn newfs old_disk.told opened
+  pub opens : BothTell began opened Opens
   pub ran : Ran
   pub begins : IfSome opened (BeginsOn ran)
   pub counted : IsCounted old_disk.faults new_disk.faults ran
   pub caused : HasCauses ran
   pub answered : AnswersAll lines ran old_out new_out
-  pub kept : IsKept opened new_disk.told ran
+  pub kept : IsKept since began opened new_disk.told ran
 
 -- what made the run stop at a line: the sink failed, or memory ran out
 abbrev pub IsOutCause : ℕ → ℕ → Stop → Type 0
@@ -140,28 +164,31 @@ IsWriteCause before after OutFault = ⊥
 IsWriteCause before after (BadLine number) = ⊥
 IsWriteCause before after TooLong = ⊥
 
--- all lines were answered and printed, and a stage of the last flush failed
-pub record StopsWriting (lines : List Line) (opened : Option Told) (ran : Ran) (faults : ℕ)
-    (old_out new_out : Option (List ℕ)) (stop : Stop) : Type 0 where
+-- all lines were answered and printed, and a stage of the last flush failed, over which the count of faults went from one to another
+pub record StopsWriting (lines : List Line) (ran : Ran) (faults : ℕ) (old_out new_out : Option (List ℕ)) (stop : Stop) : Type 0 where
   pub answered : AnswersAll lines ran old_out new_out
-  pub cause : IsWriteCause ran.counts.disk faults stop
+  pub before : ℕ
+  pub later : ran.start.disk ≤ before
+  pub cause : IsWriteCause before faults stop
 
 -- A run stopped with an open volume: at a line, or in the last flush. Each reply of its history has its cause,
 -- and it is a legal one over each volume that the disk stood for as it was opened.
-pub record StoppedUsing (newfs : Option ℕ) (lines : List Line) (old_disk new_disk : Seen Told)
+pub record StoppedUsing (newfs : Option ℕ) (lines : List Line) (since : LeftSince) (old_disk new_disk : Seen Told)
     (old_out new_out : Seen (List ℕ)) (stop : Stop) : Type 0 where
+  pub began : Option Told
+  pub makes : MakesVolume newfs old_disk.told began
   pub opened : Option Told
-  pub opens : OpensOn newfs old_disk.told opened
+  pub opens : BothTell began opened Opens
   pub ran : Ran
   pub begins : IfSome opened (BeginsOn ran)
   pub counted : IsCounted old_disk.faults new_disk.faults ran
   pub caused : HasCauses ran
-  pub legal : OverEach opened (HasHistory ran)
+  pub legal : OverEach opened (HasHistory ran since began new_disk.told)
   pub stops : StopsAtLine lines ran old_out new_out stop
-      ⊎ StopsWriting lines opened ran new_disk.faults old_out.told new_out.told stop
+      ⊎ StopsWriting lines ran new_disk.faults old_out.told new_out.told stop
 
 -- a run stopped before a volume was open, and nothing was printed, or with an open volume
-abbrev pub StoppedRunning : Option ℕ → List Line → Seen Told → Seen Told → Seen (List ℕ) → Seen (List ℕ) → Stop → Type 0
-StoppedRunning newfs lines old_disk new_disk old_out new_out stop =
-    (StoppedOpening newfs old_disk new_disk stop × (new_out ≡ old_out))
-    ⊎ StoppedUsing newfs lines old_disk new_disk old_out new_out stop
+abbrev pub StoppedRunning : Option ℕ → List Line → LeftSince → LeftSince → Seen Told → Seen Told → Seen (List ℕ) → Seen (List ℕ) → Stop → Type 0
+StoppedRunning newfs lines past since old_disk new_disk old_out new_out stop =
+    (StoppedOpening newfs past since old_disk new_disk stop × (new_out ≡ old_out))
+    ⊎ StoppedUsing newfs lines since old_disk new_disk old_out new_out stop

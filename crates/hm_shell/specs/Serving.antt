@@ -2,13 +2,13 @@
 use Rattle.std.specs.Prelude.{◌≡◌, ◌≢◌, ◌⊎◌, ℕ, ◌*◌, ◌<◌, ◌≤◌, List, [], ◌++◌, Option, None, Some, Contains, IfSome, length, take}
 use Rattle.hm_types.specs.declared.limits.TheConstants.{GREATEST_ID}
 use Rattle.hm_disk.specs.Crash.{Told}
+use Rattle.hm_disk.specs.Moments.{LeftSince}
 use Rattle.hm_pipe.specs.Pipe.{Gains}
 use Rattle.hm_model.specs.declared.command.Command.{Command}
 use Rattle.hm_model.specs.declared.entry.Entry.{Entry}
 use Rattle.hm_model.specs.declared.line.Line.{Line}
 use Rattle.hm_model.specs.Out.{entry_words, printed_line, spent_words}
-use Rattle.hm_core.specs.Core.{Enters, GoesOn, IsCausedRun, KeepsRest, Waits}
-use Rattle.hm_core.specs.Counts.{AreLater}
+use Rattle.hm_core.specs.Core.{Enters, Follows, Waits}
 use Rattle.hm_core.specs.Finished.{IsCommittedOn}
 use Rattle.hm_core.specs.Staged.{IsFlushed}
 use Rattle.hm_core.specs.State.{CoreState}
@@ -18,41 +18,35 @@ use Rattle.hm_shell.specs.Printing.{StoppedPrinting}
 use Rattle.hm_shell.specs.Running.{IsOutCause, IsWriteCause}
 use Rattle.hm_shell.specs.Seen.{Seen}
 
--- What has come of a core: what it began with stays, it stands for each volume for which it stood, and where its history has no
--- entry all but its room is as it was.
-pub record GoesFrom (begun core : CoreState) : Type 0 where
-  pub rest : KeepsRest begun core
-  pub never_falls : AreLater begun.counts core.counts
-  pub goes_on : GoesOn begun core
+-- Where a history has an entry, not all of it is committed; and where it has none, all of the core but its room is as it was.
+pub record IsBehind (begun core : CoreState) : Type 0 where
+  pub behind : core.history ≢ [] → core.boundary < core.last
   pub idle : core.history ≡ [] → core ≡ record begun { spare = core.spare }
 
--- where a history has an entry, not all of it is committed
-abbrev pub IsBehind : CoreState → Type 0
-IsBehind core = core.history ≢ [] → core.boundary < core.last
-
 -- The core's history answers the lines, by ids up to its last one, and the sink gained what the lines print.
-pub record Served (lines : List Line) (begun core : CoreState) (old new : Option (List ℕ)) : Type 0 where
-  pub from : GoesFrom begun core
+pub record Served (lines : List Line) (past since : LeftSince) (begun core : CoreState) (old new : Option (List ℕ)) : Type 0 where
+  pub from : Follows past since begun core
   pub answers : Answers core.last lines core.history
   pub up_to : (e : Entry) → Contains core.history e → e.id.0 ≤ core.last
   pub gained : Gains old (out_text lines core.history) new
 
 -- the lines before the rest were served, and there is room for the rest
-pub record Serving (lines before rest : List Line) (begun core : CoreState) (old new : Option (List ℕ)) : Type 0 where
+pub record Serving (lines before rest : List Line) (past since : LeftSince) (begun core : CoreState) (old new : Option (List ℕ))
+    : Type 0 where
   pub split : lines ≡ before ++ rest
-  pub served : Served before begun core old new
-  pub behind : IsBehind core
+  pub served : Served before past since begun core old new
+  pub behind : IsBehind begun core
   pub room : 2 * length rest ≤ core.spare
 
 -- The lines before the rest were served; all of them but at most the last were printed whole, and a front of what the last
 -- one prints.
-pub record ServedInPart (lines : List Line) (begun core : CoreState) (old new : Option (List ℕ)) : Type 0 where
+pub record ServedInPart (lines : List Line) (past since : LeftSince) (begun core : CoreState) (old new : Option (List ℕ)) : Type 0 where
   pub before : List Line
   pub last : List Line
   pub rest : List Line
   pub split : lines ≡ before ++ (last ++ rest)
   pub one : length last ≤ 1
-  pub from : GoesFrom begun core
+  pub from : Follows past since begun core
   pub answers : Answers core.last (before ++ last) core.history
   pub printed : ℕ
   pub gained : Gains old (out_text before core.history ++ take printed (out_text last core.history)) new
@@ -89,45 +83,46 @@ pub record StoppedServing (old new : CoreState) (line : Line) (old_out new_out :
 pub record Commits (old new : CoreState) : Type 0 where
   pub flushed : IsFlushed new
   pub committed : IfSome new.heap.disk (IsCommittedOn new)
-  pub made : (new ≡ old) ⊎ (Waits old new × (¬ IsFlushed old) × IfSome new.heap.disk (λ t. t.unsettled ≡ []))
+  pub made : (new ≡ old) ⊎ ((¬ IsFlushed old) × IfSome new.heap.disk (λ t. t.unsettled ≡ []))
 
--- A core by its end: the disk has its volume, and, where its history has an entry, nothing is unsettled.
-pub record IsEnded (core : CoreState) : Type 0 where
+-- A core by its end: the disk has its volume. Where its history has an entry, nothing is unsettled, and else the disk is as it was.
+pub record IsEnded (begun core : CoreState) : Type 0 where
   pub committed : IfSome core.heap.disk (IsCommittedOn core)
   pub settled : core.history ≢ [] → IfSome core.heap.disk (λ t. t.unsettled ≡ [])
+  pub unwritten : core.history ≡ [] → core.heap.disk ≡ begun.heap.disk
 
 -- the disk of a core, as it was handed back
 pub record IsDiskOf (core : CoreState) (disk : Seen Told) : Type 0 where
   pub told : disk.told ≡ core.heap.disk
   pub faults : disk.faults ≡ core.counts.disk
 
--- All lines were served on an open volume, and all is committed. Each reply has its cause.
-pub record UsesAll (lines : List Line) (begun : CoreState) (disk : Seen Told) (old new : Option (List ℕ)) : Type 0 where
-  pub core : CoreState
-  pub served : Served lines begun core old new
-  pub caused : IsCausedRun core
-  pub ended : IsEnded core
-  pub disk_is : IsDiskOf core disk
-
--- A line was not served to its end, and the volume was left as it was then. Each reply has its cause.
-pub record LeavesAtLine (lines : List Line) (begun : CoreState) (disk : Seen Told) (old new : Seen (List ℕ)) (stop : Stop)
+-- all lines were served on an open volume, and all is committed
+pub record UsesAll (lines : List Line) (past since : LeftSince) (begun : CoreState) (disk : Seen Told) (old new : Option (List ℕ))
     : Type 0 where
   pub core : CoreState
-  pub served : ServedInPart lines begun core old.told new.told
-  pub caused : IsCausedRun core
+  pub served : Served lines past since begun core old new
+  pub ended : IsEnded begun core
+  pub disk_is : IsDiskOf core disk
+
+-- a line was not served to its end, and the volume was left as it was then
+pub record LeavesAtLine (lines : List Line) (past since : LeftSince) (begun : CoreState) (disk : Seen Told) (old new : Seen (List ℕ))
+    (stop : Stop) : Type 0 where
+  pub core : CoreState
+  pub served : ServedInPart lines past since begun core old.told new.told
   pub cause : IsOutCause old.faults new.faults stop
   pub disk_is : IsDiskOf core disk
 
--- All lines were served, and a stage of the last flush failed. Each reply has its cause.
-pub record FailsWriting (lines : List Line) (begun : CoreState) (disk : Seen Told) (old new : Option (List ℕ)) (stop : Stop)
-    : Type 0 where
+-- all lines were served, and a stage of the last flush failed, over which the count of faults went from one to another
+pub record FailsWriting (lines : List Line) (past since : LeftSince) (begun : CoreState) (disk : Seen Told) (old new : Option (List ℕ))
+    (stop : Stop) : Type 0 where
   pub core : CoreState
-  pub served : Served lines begun core old new
-  pub caused : IsCausedRun core
-  pub counted : core.counts.disk ≤ disk.faults
-  pub cause : IsWriteCause core.counts.disk disk.faults stop
+  pub served : Served lines past since begun core old new
+  pub before : ℕ
+  pub later : begun.counts.disk ≤ before
+  pub cause : IsWriteCause before disk.faults stop
+  pub disk_is : IsDiskOf core disk
 
 -- the use of an open volume stopped
-abbrev pub StopsUsing : List Line → CoreState → Seen Told → Seen (List ℕ) → Seen (List ℕ) → Stop → Type 0
-StopsUsing lines begun disk old new stop =
-    LeavesAtLine lines begun disk old new stop ⊎ FailsWriting lines begun disk old.told new.told stop
+abbrev pub StopsUsing : List Line → LeftSince → LeftSince → CoreState → Seen Told → Seen (List ℕ) → Seen (List ℕ) → Stop → Type 0
+StopsUsing lines past since begun disk old new stop =
+    LeavesAtLine lines past since begun disk old new stop ⊎ FailsWriting lines past since begun disk old.told new.told stop

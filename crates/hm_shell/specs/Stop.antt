@@ -4,8 +4,8 @@ use Rattle.hm_types.specs.Id.{hex16}
 use Rattle.hm_types.specs.declared.fault.Fault.{Fault}
 use Rattle.hm_types.specs.declared.fault.Fault.TheVariants.{Media as media, Damaged as damage, NoMemory as no_memory}
 use Rattle.hm_model.specs.Lines.{line_feed}
-use Rattle.hm_core.specs.declared.fault.OpenFault.{OpenFault}
-use Rattle.hm_core.specs.declared.fault.OpenFault.TheVariants.{NotVolume as no_volume, BadField as bad_field, Fault as of_disk}
+use Rattle.hm_recover.specs.declared.fault.OpenFault.{OpenFault}
+use Rattle.hm_recover.specs.declared.fault.OpenFault.TheVariants.{NotVolume as no_volume, BadField as bad_field, Fault as of_disk}
 use Rattle.hm_shell.specs.declared.stop.Stop.{Stop}
 use Rattle.hm_shell.specs.declared.stop.Stop.TheVariants.{Usage, NotVolume, BadField, DiskFault, Damaged, ScriptFault, OutFault, NoMemory, BadLine, TooLong}
 

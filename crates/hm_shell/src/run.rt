@@ -30,12 +30,12 @@ use std::thread::Threads;
 /// at the first of these that it meets: words that break the rule (2), a fault of the script's
 /// source (5), a script that is too long (9), a line that is outside the grammar, or has a lane, or is
 /// of a call that is not served (8), a disk that fails (4), that has no volume or one whose header is
-/// out of range or names entries of the UNDO log, as of a volume that was cut off in a flush (3), or a
-/// volume that is damaged (10), a fault of the sink (6), and want of memory outside a call's own
-/// reply (7). A disk that fails in a stage for a line refuses that line alone. A last line is printed
-/// then, but for a fault of the sink, which ends the run in silence. A fault of the sink in the last line
-/// leaves the status as it is. Nothing is written to the disk before words and script were found good,
-/// and nothing is flushed after a fault of the sink.
+/// out of range (3), or a volume that is damaged (10), a fault of the sink (6), and want of memory outside
+/// a call's own reply (7). A volume that was cut off in a flush is recovered as it is opened. A disk that
+/// fails in a stage for a line refuses that line alone. A last line is printed then, but for a fault of the
+/// sink, which ends the run in silence. A fault of the sink in the last line leaves the status as it is.
+/// Nothing is written to the disk before words and script were found good, and nothing is flushed after a
+/// fault of the sink.
 ///
 /// The streams are handed back as they are, and the gate is not called.
 pub fn run<
@@ -48,13 +48,15 @@ pub fn run<
     G: Gate + Sync,
 >(rt: &R, words: &[String], devices: Devices<D, S, K, I, O>, _gate: &G) -> Ended<D, S, K, I, O>
     // Each line of the script was answered, and whatever volume the disk stood for, it stands for that
-    // after these answers.
-    ensures done { result.status ≡ 0 →
-        Completes (texts words.now) (sight devices) (sight result.devices) }
+    // after these answers. Each image that a crash may have left recovers to a prefix of them.
+    ensures done { result.status ≡ 0 → Completes (texts words.now)
+        (D.left_since result.devices.disk) (sight devices) (sight result.devices) }
 
-    // Any other status has its cause, tells it in the last line, and says how far the run came.
+    // Any other status has its cause, tells it in the last line, and says how far the run came. What the
+    // disk recovers to is a prefix of that.
     ensures stopped { result.status ≢ 0 →
-        StopsWith (texts words.now) result.status (sight devices) (sight result.devices) }
+        StopsWith (texts words.now) result.status (D.left_since devices.disk)
+        (D.left_since result.devices.disk) (sight devices) (sight result.devices) }
 
     // The words break the rule, exactly there.
     ensures usage { (result.status ≡ 2) ↔ IsUsageFault (texts words.now) }
@@ -79,8 +81,10 @@ fn perform<D: Disk, S: Source, K: Sink, I, O>(
     words: &[String],
     devices: Devices<D, S, K, I, O>,
 ) -> (Devices<D, S, K, I, O>, Result<(), Stop>)
-    ensures ok { OnOk result.1 (Completes (texts words.now) (sight devices) (sight result.0)) }
-    ensures err { IfErr result.1 (Stops (texts words.now) (sight devices) (sight result.0)) }
+    ensures ok { OnOk result.1 (Completes (texts words.now) (D.left_since result.0.disk)
+        (sight devices) (sight result.0)) }
+    ensures err { IfErr result.1 (Stops (texts words.now) (D.left_since devices.disk)
+        (D.left_since result.0.disk) (sight devices) (sight result.0)) }
     ensures streams { (result.0.stream_in ≡ devices.stream_in)
         × (result.0.stream_out ≡ devices.stream_out) }
     ensures counts { NeverFall (sight devices) (sight result.0) }

@@ -1,7 +1,7 @@
 // The lines of a script, run one after another.
 ghost use Rattle.std.specs.Prelude.{◌≡◌, ◌*◌, ◌≤◌, [], IfErr, OnErr, OnOk, All, length};
 ghost use Rattle.hm_types.specs.declared.limits.TheConstants.{MOST_SCRIPT_LINES};
-ghost use Rattle.hm_core.specs.Core.{KeepsStreams};
+ghost use Rattle.hm_core.specs.Core.{Follows, KeepsStreams};
 ghost use Rattle.hm_core.specs.Seen.{devices as devices_of, seen as seen_core};
 ghost use Rattle.hm_core.specs.Served.{IsAsked};
 ghost use Rattle.hm_shell.specs.Lines.{AreRising, IsServedLine};
@@ -29,15 +29,18 @@ pub(crate) fn serve_script<D: Disk, I, O, K: Sink>(
     requires rising { AreRising lines.items }
     requires few { length lines.items ≤ MOST_SCRIPT_LINES }
     requires start { (seen_core core.old).history ≡ [] }
-    ensures ok { OnOk result (Served lines.items (seen_core core.old) (seen_core core.new)
+    ensures ok { OnOk result (Served lines.items (D.left_since (devices_of core.old).disk)
+        (D.left_since (devices_of core.new).disk) (seen_core core.old) (seen_core core.new)
         (K.held out.old) (K.held out.new)) }
-    ensures behind { OnOk result (IsBehind (seen_core core.new)) }
-    ensures err { OnErr result (ServedInPart lines.items (seen_core core.old) (seen_core core.new)
+    ensures behind { OnOk result (IsBehind (seen_core core.old) (seen_core core.new)) }
+    ensures err { OnErr result (ServedInPart lines.items (D.left_since (devices_of core.old).disk)
+        (D.left_since (devices_of core.new).disk) (seen_core core.old) (seen_core core.new)
         (K.held out.old) (K.held out.new)) }
     ensures streams { KeepsStreams (devices_of core.old) (devices_of core.new) }
     ensures cause { IfErr result (IsOutCause (K.faults out.old) (K.faults out.new)) }
     ensures never_falls { K.faults out.old ≤ K.faults out.new }
 {
+    core.core_is_sound();
     core.reserve(2 * lines.len() as u32)?;
     serve_lines(alloc, core, lines, out)
 }
@@ -52,15 +55,18 @@ fn serve_lines<D: Disk, I, O, K: Sink>(
     requires rising { AreRising lines.items }
     requires start { (seen_core core.old).history ≡ [] }
     requires room { 2 * length lines.items ≤ (seen_core core.old).spare }
-    ensures ok { OnOk result (Served lines.items (seen_core core.old) (seen_core core.new)
+    ensures ok { OnOk result (Served lines.items (D.left_since (devices_of core.old).disk)
+        (D.left_since (devices_of core.new).disk) (seen_core core.old) (seen_core core.new)
         (K.held out.old) (K.held out.new)) }
-    ensures behind { OnOk result (IsBehind (seen_core core.new)) }
-    ensures err { OnErr result (ServedInPart lines.items (seen_core core.old) (seen_core core.new)
+    ensures behind { OnOk result (IsBehind (seen_core core.old) (seen_core core.new)) }
+    ensures err { OnErr result (ServedInPart lines.items (D.left_since (devices_of core.old).disk)
+        (D.left_since (devices_of core.new).disk) (seen_core core.old) (seen_core core.new)
         (K.held out.old) (K.held out.new)) }
     ensures streams { KeepsStreams (devices_of core.old) (devices_of core.new) }
     ensures cause { IfErr result (IsOutCause (K.faults out.old) (K.faults out.new)) }
     ensures never_falls { K.faults out.old ≤ K.faults out.new }
 {
+    core.core_is_sound();
     for line in lines {
         serve_line(alloc, core, line, out)?;
     }
@@ -80,6 +86,8 @@ fn serve_line<D: Disk, I, O, K: Sink>(
         (K.held out.old) (K.held out.new)) }
     ensures err { IfErr result (StoppedServing (seen_core core.old) (seen_core core.new) line
         (seen K.held K.faults out.old) (seen K.held K.faults out.new)) }
+    ensures follows { Follows (D.left_since (devices_of core.old).disk)
+        (D.left_since (devices_of core.new).disk) (seen_core core.old) (seen_core core.new) }
     ensures streams { KeepsStreams (devices_of core.old) (devices_of core.new) }
     ensures never_falls { K.faults out.old ≤ K.faults out.new }
 {
@@ -94,8 +102,8 @@ fn serve_line<D: Disk, I, O, K: Sink>(
     }
 }
 
-// Calls until the call is answered, and makes a stage of a flush each time that it waits for one. Tells where its entry stands, unless
-// no id was left.
+// Calls until the call is answered, and makes a stage of a flush each time that it waits for one. Tells
+// where its entry stands, unless no id was left.
 fn answer_line<D: Disk, I, O>(
     core: &mut Core<D, I, O>,
     lane: u8,
@@ -105,8 +113,11 @@ fn answer_line<D: Disk, I, O>(
     requires asked { IsAsked command }
     requires room { 2 ≤ (seen_core core.old).spare }
     ensures answers { AnswersLine (seen_core core.old) (seen_core core.new) lane number command result }
+    ensures follows { Follows (D.left_since (devices_of core.old).disk)
+        (D.left_since (devices_of core.new).disk) (seen_core core.old) (seen_core core.new) }
     ensures streams { KeepsStreams (devices_of core.old) (devices_of core.new) }
 {
+    core.core_is_sound();
     let since = core.last();
     let mut waiting = command;
     'waiting: loop {

@@ -1,8 +1,8 @@
 // A script's lines, run on the volume of a disk.
-ghost use Rattle.std.specs.Prelude.{◌≡◌, ◌≤◌, [], IfErr, IfSome, OnErr, OnOk, All, length};
+ghost use Rattle.std.specs.Prelude.{◌≡◌, ◌≤◌, [], IfErr, IfSome, None, OnErr, OnOk, All, length};
 ghost use Rattle.hm_header.specs.Range.{IsSize};
 ghost use Rattle.hm_types.specs.declared.limits.TheConstants.{MOST_SCRIPT_LINES};
-ghost use Rattle.hm_core.specs.Core.{KeepsStreams};
+ghost use Rattle.hm_core.specs.Core.{Follows, KeepsStreams, Waits};
 ghost use Rattle.hm_core.specs.Seen.{devices as devices_of, seen as seen_core};
 ghost use Rattle.hm_core.specs.Staged.{IsFlushed};
 ghost use Rattle.hm_shell.specs.Lines.{AreRising, IsServedLine};
@@ -33,7 +33,7 @@ pub(crate) struct Closed<D, I, O> {
 }
 
 /// Makes a volume where that is asked for, opens the volume of the disk, runs the script's lines,
-/// and writes the volume back. All reads and writes of the run go through one buffer.
+/// and commits what is left. All reads and writes of the run go through one buffer.
 pub(crate) fn run_job<D: Disk, I, O, K: Sink>(
     alloc: Global,
     job: Job,
@@ -43,9 +43,10 @@ pub(crate) fn run_job<D: Disk, I, O, K: Sink>(
     out: &mut K,
 ) -> Closed<D, I, O>
     requires due { IsDue job }
-    ensures ok { OnOk result.outcome (RunsAll job.newfs job.lines.items
+    ensures ok { OnOk result.outcome (RunsAll job.newfs job.lines.items (D.left_since result.disk)
         (seen D.told D.faults disk) (seen D.told D.faults result.disk) (K.held out.old) (K.held out.new)) }
     ensures err { IfErr result.outcome (StoppedRunning job.newfs job.lines.items
+        (D.left_since disk) (D.left_since result.disk)
         (seen D.told D.faults disk) (seen D.told D.faults result.disk)
         (seen K.held K.faults out.old) (seen K.held K.faults out.new)) }
     ensures streams { (result.stream_in ≡ stream_in) × (result.stream_out ≡ stream_out) }
@@ -76,9 +77,10 @@ fn run_on<D: Disk, I, O, K: Sink>(
     out: &mut K,
 ) -> Closed<D, I, O>
     requires due { IsDue job }
-    ensures ok { OnOk result.outcome (RunsAll job.newfs job.lines.items
+    ensures ok { OnOk result.outcome (RunsAll job.newfs job.lines.items (D.left_since result.disk)
         (seen D.told D.faults disk) (seen D.told D.faults result.disk) (K.held out.old) (K.held out.new)) }
     ensures err { IfErr result.outcome (StoppedRunning job.newfs job.lines.items
+        (D.left_since disk) (D.left_since result.disk)
         (seen D.told D.faults disk) (seen D.told D.faults result.disk)
         (seen K.held K.faults out.old) (seen K.held K.faults out.new)) }
     ensures streams { (result.stream_in ≡ stream_in) × (result.stream_out ≡ stream_out) }
@@ -109,8 +111,9 @@ fn run_on<D: Disk, I, O, K: Sink>(
 fn make_volume<D: Disk>(disk: &mut D, bigblocks: Option<u32>) -> Result<(), Stop>
     requires size { IfSome bigblocks IsSize }
     ensures ok { OnOk result (MakesVolume bigblocks (D.told disk.old) (D.told disk.new)) }
-    ensures err { IfErr result (StoppedOpening bigblocks
+    ensures err { IfErr result (StoppedOpening bigblocks (D.left_since disk.old) (D.left_since disk.new)
         (seen D.told D.faults disk.old) (seen D.told D.faults disk.new)) }
+    ensures as_was { (bigblocks ≡ None) → disk.new ≡ disk.old }
     ensures never_falls { D.faults disk.old ≤ D.faults disk.new }
 {
     let Some(bigblocks) = bigblocks else {
@@ -134,9 +137,11 @@ fn run_lines<D: Disk, I, O, K: Sink>(
     requires few { length lines.items ≤ MOST_SCRIPT_LINES }
     requires start { (seen_core core).history ≡ [] }
     requires flushed { IsFlushed (seen_core core) }
-    ensures ok { OnOk result.outcome (UsesAll lines.items (seen_core core)
+    ensures ok { OnOk result.outcome (UsesAll lines.items (D.left_since (devices_of core).disk)
+        (D.left_since result.disk) (seen_core core)
         (seen D.told D.faults result.disk) (K.held out.old) (K.held out.new)) }
-    ensures err { IfErr result.outcome (StopsUsing lines.items (seen_core core)
+    ensures err { IfErr result.outcome (StopsUsing lines.items (D.left_since (devices_of core).disk)
+        (D.left_since result.disk) (seen_core core)
         (seen D.told D.faults result.disk) (seen K.held K.faults out.old) (seen K.held K.faults out.new)) }
     ensures streams { (result.stream_in ≡ (devices_of core).input)
         × (result.stream_out ≡ (devices_of core).output) }
@@ -166,9 +171,11 @@ fn use_core<D: Disk, I, O, K: Sink>(
     requires few { length lines.items ≤ MOST_SCRIPT_LINES }
     requires start { (seen_core core.old).history ≡ [] }
     requires flushed { IsFlushed (seen_core core.old) }
-    ensures ok { OnOk result (UsesAll lines.items (seen_core core.old)
+    ensures ok { OnOk result (UsesAll lines.items (D.left_since (devices_of core.old).disk)
+        (D.left_since (devices_of core.new).disk) (seen_core core.old)
         (seen D.told D.faults (devices_of core.new).disk) (K.held out.old) (K.held out.new)) }
-    ensures err { IfErr result (StopsUsing lines.items (seen_core core.old)
+    ensures err { IfErr result (StopsUsing lines.items (D.left_since (devices_of core.old).disk)
+        (D.left_since (devices_of core.new).disk) (seen_core core.old)
         (seen D.told D.faults (devices_of core.new).disk)
         (seen K.held K.faults out.old) (seen K.held K.faults out.new)) }
     ensures streams { KeepsStreams (devices_of core.old) (devices_of core.new) }
@@ -184,10 +191,15 @@ fn use_core<D: Disk, I, O, K: Sink>(
 // Makes the stages of the last flush, until all is committed.
 fn commit_all<D: Disk, I, O>(core: &mut Core<D, I, O>) -> Result<(), Stop>
     ensures ok { OnOk result (Commits (seen_core core.old) (seen_core core.new)) }
-    ensures err { IfErr result (IsWriteCause (seen_core core.old).counts.disk (seen_core core.new).counts.disk) }
+    ensures err { IfErr result (IsWriteCause (seen_core core.old).counts.disk
+        (seen_core core.new).counts.disk) }
+    ensures waits { Waits (seen_core core.old) (seen_core core.new) }
+    ensures follows { Follows (D.left_since (devices_of core.old).disk)
+        (D.left_since (devices_of core.new).disk) (seen_core core.old) (seen_core core.new) }
     ensures streams { KeepsStreams (devices_of core.old) (devices_of core.new) }
     ensures never_falls { (seen_core core.old).counts.disk ≤ (seen_core core.new).counts.disk }
 {
+    core.core_is_sound();
     'flushing: loop {
         match core.end_stage() {
             Ok(true) => return Ok(()),

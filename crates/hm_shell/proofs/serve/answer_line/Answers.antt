@@ -1,7 +1,29 @@
-use Rattle.std.proofs.Common.{refl}
+use Rattle.std.proofs.Common.{inl, refl}
 use Rattle.hm_core.specs.Seen.{seen as seen_core}
+use Rattle.hm_core.proofs.CoreLemmas.{follows_further, follows_itself}
 use Rattle.hm_shell.proofs.WaitLemmas.{again_is, answered_after, falls_after, refused_after, streams_more, waited_after}
 use Rattle.hm_shell.proofs.serve.answer_line.Goals as goal
+
+pub waiting-init : goal.waiting-init
+waiting-init g c = record {
+  waited = inl refl;
+  follows = follows_itself _ (seen_core c.args.core.now) c.core_is_sound.ensures;
+  streams = record { input = refl; output = refl };
+  since_is = c.last-since.ensures;
+  command_is = refl;
+}
+
+pub returns-in-Answered-clause-follows : goal.returns-in-Answered-clause-follows
+returns-in-Answered-clause-follows g c =
+    follows_further _ _ _ (seen_core c.args.core.now) (seen_core c.waiting.core) (seen_core c.call.new.self) c.waiting.invariant.follows
+    c.call.ensures.follows
+
+pub returns-in-Refused-clause-follows : goal.returns-in-Refused-clause-follows
+returns-in-Refused-clause-follows g c =
+    let old = seen_core c.args.core.now in
+    let same = seen_core c.call.new.self in
+    follows_further _ _ _ old same (seen_core c.flush_stage.new.self)
+    (follows_further _ _ _ old (seen_core c.waiting.core) same c.waiting.invariant.follows c.call.ensures.follows) c.flush_stage.ensures.follows
 
 pub returns-in-Answered-clause-answers : goal.returns-in-Answered-clause-answers
 returns-in-Answered-clause-answers g c =
@@ -27,6 +49,8 @@ waiting-preserved g c =
     record {
       waited = waited_after old mid c.args.lane c.args.number c.last-since.result.0 c.args.command c.waiting.waiting waited since_is command_is same new
           c.in-MustFlush.back c.in-MustFlush.ensures.steps c.in-More.back c.in-More.ensures.stages;
+      follows = follows_further _ _ _ old same new (follows_further _ _ _ old mid same c.waiting.invariant.follows c.call.ensures.follows)
+          c.flush_stage.ensures.follows;
       streams = streams_more _ _ _ c.waiting.invariant.streams (streams_more _ _ _ (rw c.in-MustFlush.ensures.streams (record { input = refl; output = refl }))
           c.flush_stage.ensures.streams);
       since_is = since_is;
