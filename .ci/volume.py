@@ -16,10 +16,12 @@ failures = 0
 BIGBLOCK = 8_388_608
 PAGE = 4_096
 SLOT = 16_384
+LOG_ENTRY, LOG_ENTRIES = 4_128, 16_256  # bytes of an entry of the UNDO log, and how many it has
 OPEN = 2**64 - 1  # an open end, and the greatest number of eight bytes
 TREE = 8 << 60  # offsets in zone 8, of nodes
 META = 9 << 60
 FREEMAP = 4 << 60
+UNDO = 3 << 60
 OUTSIDE = 1 << 40  # a byte beyond each volume here, where all reads as zero
 INODE, BYTES, ENTRY, TARGET, RECORD = 0x01, 0x10, 0x11, 0x14, 0x15
 
@@ -69,6 +71,128 @@ def name_hash(name):
 def name_key(name):
     """The first key of a name: its hash without the lowest bit, and 16 bits of its own, 0 here."""
     return name_hash(name) >> 17 << 16
+
+
+class Disk:
+    """Bytes like those of a file that has holes: pieces by their numbers, and zeros elsewhere."""
+
+    PIECE = 65_536
+    ZERO = bytes(PIECE)
+
+    def __init__(self, pieces=()):
+        self.pieces = dict(pieces)
+
+    @classmethod
+    def of(cls, path):
+        """The bytes of a file, of which no hole is read."""
+        disk, end = cls(), 0
+        with open(path, 'rb', buffering=0) as file:
+            while True:
+                try:
+                    begin = os.lseek(file.fileno(), end, os.SEEK_DATA) // cls.PIECE
+                except OSError:  # only a hole is left
+                    return disk
+                end = os.lseek(file.fileno(), begin * cls.PIECE, os.SEEK_HOLE)
+                end = max(end, (begin + 1) * cls.PIECE)
+                for number in range(begin, -(-end // cls.PIECE)):
+                    piece = os.pread(file.fileno(), cls.PIECE, number * cls.PIECE)
+                    disk.set(number, piece.ljust(cls.PIECE, b'\0'))
+
+    def put(self, path):
+        """Gives a file these bytes, and leaves its size."""
+        stood = Disk.of(path)
+        with open(path, 'r+b', buffering=0) as file:
+            for number in stood.pieces.keys() | self.pieces.keys():
+                if stood.piece(number) != self.piece(number):
+                    os.pwrite(file.fileno(), self.piece(number), number * self.PIECE)
+
+    def copy(self):
+        return Disk(self.pieces)
+
+    def piece(self, number):
+        return self.pieces.get(number, self.ZERO)
+
+    def set(self, number, piece):
+        if piece == self.ZERO:
+            self.pieces.pop(number, None)
+        else:
+            self.pieces[number] = piece
+
+    def read(self, at, count):
+        first, begin = divmod(at, self.PIECE)
+        last = (at + count - 1) // self.PIECE
+        return b''.join(map(self.piece, range(first, last + 1)))[begin:begin + count]
+
+    def write(self, at, data):
+        while data:
+            number, begin = divmod(at, self.PIECE)
+            part, old = data[:self.PIECE - begin], self.piece(number)
+            self.set(number, old[:begin] + part + old[begin + len(part):])
+            at, data = at + len(part), data[len(part):]
+
+    def difference(self, other):
+        """The first byte that is another one there, or nothing."""
+        for number in sorted(self.pieces.keys() | other.pieces.keys()):
+            came, wanted = self.piece(number), other.piece(number)
+            if came != wanted:
+                return number * self.PIECE + next(i for i in range(self.PIECE) if came[i] != wanted[i])
+        return None
+
+
+# ---- recovery, as docs/FORMAT.md has it
+
+def number_in(data, at, width):
+    return int.from_bytes(data[at:at + width], 'little')
+
+
+def log_begin(bigblocks):
+    """The first big-block of the UNDO log, which has eight: the one after those of layer 2."""
+    return 3 if bigblocks <= 524_288 else 4
+
+
+def counting_slot(disk):
+    """The number of the header slot that counts, of a disk that holds a volume."""
+    slots = [disk.read(SLOT * i, SLOT) for i in (0, 1)]
+    takes_part = [slot[-1] == 0xA5 and slot[:8] == b'HMRPROF1' for slot in slots]
+    first, second = (number_in(slot, 16, 8) for slot in slots)
+    return int(takes_part[1] and (not takes_part[0] or second == (first + 1) % 2**64))
+
+
+def last_id(disk):
+    """The last id of the header that counts."""
+    return number_in(disk.read(SLOT * counting_slot(disk) + 24, 8), 0, 8)
+
+
+def undo_entry(at, generation, page):
+    """The bytes of an entry of the UNDO log."""
+    return b'HMRUNDO1' + b''.join(n.to_bytes(8, 'little') for n in (at, generation, 0)) + page
+
+
+def is_undo_entry(entry, bigblocks, generation):
+    """Whether these bytes are an entry of a header with this generation."""
+    at, log = number_in(entry, 8, 8), log_begin(bigblocks)
+    blocks = {TREE >> 52: range(log + 8, bigblocks), FREEMAP >> 52: range(2, log)}.get(at >> 52, ())
+    return entry[:8] == b'HMRUNDO1' and at % 2**52 // BIGBLOCK in blocks and at % PAGE == 0 \
+        and number_in(entry, 16, 8) == generation and number_in(entry, 24, 8) == 0
+
+
+def recovered(disk):
+    """What a disk recovers to; or, where an entry is damaged, the offset of the one that is told."""
+    slot, disk = counting_slot(disk), disk.copy()
+    body = bytearray(disk.read(SLOT * slot, SLOT - 1))
+    bigblocks, generation = number_in(body, 12, 4), number_in(body, 16, 8)
+    first, count = number_in(body, 40, 4), number_in(body, 44, 4)
+    entries = [log_begin(bigblocks) * BIGBLOCK + (first + i) % LOG_ENTRIES * LOG_ENTRY for i in range(count)]
+    for place in reversed(entries):
+        entry = disk.read(place, LOG_ENTRY)
+        if not is_undo_entry(entry, bigblocks, generation):
+            return UNDO + place
+        disk.write(number_in(entry, 8, 8) % 2**52, entry[32:])
+    if count:
+        body[16:24] = ((generation + 1) % 2**64).to_bytes(8, 'little')
+        body[44:48] = bytes(4)
+        disk.write(SLOT * (1 - slot), bytes(body) + b'\xa5')
+    return disk
 
 
 class Volume:
