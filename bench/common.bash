@@ -53,3 +53,54 @@ unit = 1 if sys.platform == "darwin" else 1024
 print(resource.getrusage(resource.RUSAGE_CHILDREN).ru_maxrss * unit)' "$@")
     fi
 }
+
+# Runs a program over $volume with an empty script or one from a file, and writes the calls that it makes on
+# the volume to $room/calls, as bench/plain_calls.c reads them. The file descriptor is that of the last file
+# that was opened to be written.
+record_calls() {
+    strace -s 0 -e trace=openat,read,write,pread64,pwrite64,fsync,fdatasync -o "$room/trace" \
+        "$1" "$volume" <"$2" >"$room/out" 2>"$room/err" || stop 'the run under strace failed'
+    awk -F'[(), ]+' '
+        $1 == "openat" && /O_RDWR/ { file = $NF }
+        $1 == "write" && $2 == 1 { print "a" }
+        $2 != file { next }
+        $1 == "pread64" { print "r", $5, $4 }
+        $1 == "pwrite64" { print "w", $5, $4 }
+        $1 == "fsync" || $1 == "fdatasync" { print "s" }' "$room/trace" >"$room/calls"
+}
+
+# The least processor time and the least time by the clock of five runs of some words, each after $1, into
+# $best and $clock, in seconds.
+least_after() {
+    local prepare_one=$1 round before after
+    shift
+    best='' clock=''
+    for round in 1 2 3 4 5; do
+        "$prepare_one"
+        before=$(date +%s%N)
+        measure "$@"
+        after=$(date +%s%N)
+        [ "$status" -eq 0 ] || stop "$*: status $status"
+        best=$(awk -v a="${best:-1e9}" -v b="$seconds" 'BEGIN { printf "%.3f", (a < b) ? a : b }')
+        clock=$(awk -v a="${clock:-1e9}" -v b=$((after - before)) 'BEGIN { b /= 1e9; printf "%.3f", (a < b) ? a : b }')
+    done
+}
+
+# Compares a run with a plain program that makes its calls again, each after $2, and counts the calls.
+beside_plain_calls() {
+    local what=$1 prepare_one=$2 mine my_clock
+    shift 2
+    least_after "$prepare_one" "$@"
+    mine=$best my_clock=$clock
+    least_after "$prepare_one" "$room/plain_calls" "$volume" "$room/calls"
+    awk -v what="$what" -v a="$mine" -v b="$best" -v c="$my_clock" -v d="$clock" 'BEGIN {
+        printf "%-28s %10s %10s %7s\n", what, "hammer", "plain C", "ratio"
+        printf "%-28s %10.3f %10.3f %7.2f\n", "processor time", a, b, a / b
+        printf "%-28s %10.3f %10.3f %7.2f\n", "by the clock", c, d, c / d
+    }'
+    awk '
+        $1 == "r" { reads++; in_bytes += $3 }
+        $1 == "w" { writes++; out_bytes += $3 }
+        $1 == "s" { syncs++ }
+        END { printf "%d reads of %d bytes, %d writes of %d bytes, %d syncs\n", reads, in_bytes, writes, out_bytes, syncs }' "$room/calls"
+}

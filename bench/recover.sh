@@ -33,47 +33,14 @@ with open(path, 'r+b', buffering=0) as file:
     os.pwrite(file.fileno(), bytes(body), SLOT * slot)
 END
 
-# What opening it asks of the volume, by the calls of the system.
-cp "$room/armed" "$volume"
-strace -s 0 -e trace=openat,pread64,pwrite64,fsync,fdatasync -o "$room/trace" \
-    "$hammer" "$volume" <"$room/nothing" >"$room/out" 2>"$room/err" || stop 'the run under strace failed'
-awk -F'[(), ]+' '
-    $1 == "openat" && /O_RDWR/ { file = $NF }
-    $2 != file { next }
-    $1 == "pread64" { print "r", $5, $4 }
-    $1 == "pwrite64" { print "w", $5, $4 }
-    $1 == "fsync" || $1 == "fdatasync" { print "s" }' "$room/trace" >"$room/calls"
+take_armed() { cp "$room/armed" "$volume" && sync "$volume"; }
+take_recovered() { cp "$room/recovered" "$volume" && sync "$volume"; }
+open_it() { "$hammer" "$volume" <"$room/nothing"; }
+
+take_armed
+record_calls "$hammer" "$room/nothing"
 [ "$(grep -c '^w' "$room/calls")" -ge 16128 ] || stop 'no range was put back'
 cp "$volume" "$room/recovered"
-
-# The least processor time and the least time by the clock of some words, each run on a copy of this volume.
-least() {
-    local from=$1 round before after
-    shift
-    best='' clock=''
-    for round in 1 2 3 4 5; do
-        cp "$from" "$volume" && sync "$volume"
-        before=$(date +%s%N)
-        measure "$@"
-        after=$(date +%s%N)
-        [ "$status" -eq 0 ] || stop "$*: status $status"
-        best=$(awk -v a="${best:-1e9}" -v b="$seconds" 'BEGIN { printf "%.3f", (a < b) ? a : b }')
-        clock=$(awk -v a="${clock:-1e9}" -v b=$((after - before)) 'BEGIN { b /= 1e9; printf "%.3f", (a < b) ? a : b }')
-    done
-}
-open_it() { "$hammer" "$volume" <"$room/nothing"; }
-least "$room/recovered" open_it
+least_after take_recovered open_it
 echo "opened without a range: $best s of the processor, $clock s by the clock"
-least "$room/armed" open_it
-hammer_best=$best hammer_clock=$clock
-least "$room/armed" "$room/plain_calls" "$volume" "$room/calls"
-awk -v a="$hammer_best" -v b="$best" -v c="$hammer_clock" -v d="$clock" 'BEGIN {
-    printf "%-28s %10s %10s %7s\n", "16,128 entries", "hammer", "plain C", "ratio"
-    printf "%-28s %10.3f %10.3f %7.2f\n", "processor time", a, b, a / b
-    printf "%-28s %10.3f %10.3f %7.2f\n", "by the clock", c, d, c / d
-}'
-awk '
-    $1 == "r" { reads++; in_bytes += $3 }
-    $1 == "w" { writes++; out_bytes += $3 }
-    $1 == "s" { syncs++ }
-    END { printf "%d reads of %d bytes, %d writes of %d bytes, %d syncs\n", reads, in_bytes, writes, out_bytes, syncs }' "$room/calls"
+beside_plain_calls '16,128 entries' take_armed open_it
