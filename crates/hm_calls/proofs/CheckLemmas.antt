@@ -35,7 +35,7 @@ use Rattle.hm_records.proofs.PfsLemmas.{one_record}
 use Rattle.hm_volume.specs.Records.{is_master as is_master_role}
 use Rattle.hm_volume.specs.Shown.{ShowsAs}
 use Rattle.hm_volume.proofs.RecordLemmas.{system_none, system_some}
-use Rattle.hm_cursor.specs.Names.{IsFirstEntry, IsHash, IsNextName}
+use Rattle.hm_cursor.specs.Names.{IsFirstEntry, IsHash, IsPreviousName}
 use Rattle.hm_cursor.specs.Told.{IsRecordNow, Lists, OnBalanced, fulls}
 use Rattle.hm_cursor.proofs.PayloadLemmas.{full_sorted}
 use Rattle.hm_dirs.specs.Names.{IsLookedUp, IsSpot, IsSpotFor, OnNamed, first_key, names_of_hash}
@@ -158,7 +158,7 @@ key_below hash es t pfs key directory name object hashes fit has =
 
 pub names_told : (lists : Lists) (hash : List ℕ → ℕ) (t pfs : ℕ) (directory : Obj) (tree : FileTree) (found : Option (ℕ × DirEntry)) → IsHash hash
     → KeysFit hash (fulls lists) → IsViewOf (fulls lists) pfs t tree
-    → IsNextName (Counts (fulls lists) t) pfs directory 0 (2 ^ 64 - 1) found
+    → IsPreviousName (Counts (fulls lists) t) pfs directory 0 (2 ^ 64 - 1) found
     → nat_lt 0 (length (entries_in tree directory)) ≡ is_some found
 names_told lists hash t pfs directory tree None hashes fit view none =
     unfilled (entries_in tree directory) (λ u has.
@@ -189,12 +189,12 @@ looked_named es xs content hash t pfs directory name (Ok found) told =
 -- whether a directory with names is refused
 pub refuses_names : (es : Option (List Element)) (xs : Option (List Extent)) (t pfs : ℕ) (directory : Obj) (found : Option (ℕ × DirEntry)) (some : Bool)
     → OnBalanced es xs (λ lists. (hash : List ℕ → ℕ) → KeysFit hash (fulls lists)
-    → IsNextName (Counts (fulls lists) t) pfs directory 0 (2 ^ 64 - 1) found)
+    → IsPreviousName (Counts (fulls lists) t) pfs directory 0 (2 ^ 64 - 1) found)
     → is_some found ≡ some
     → OnBalanced es xs (λ lists. (hash : List ℕ → ℕ) (tree : FileTree) → IsHash hash → KeysFit hash (fulls lists) → IsViewOf (fulls lists) pfs t tree
     → refuse_if (nat_lt 0 (length (entries_in tree directory))) not_empty ≡ refuse_if some not_empty)
 refuses_names es xs t pfs directory found some told is =
-    told_step es xs (λ lists. (hash : List ℕ → ℕ) → KeysFit hash (fulls lists) → IsNextName (Counts (fulls lists) t) pfs directory 0 (2 ^ 64 - 1) found)
+    told_step es xs (λ lists. (hash : List ℕ → ℕ) → KeysFit hash (fulls lists) → IsPreviousName (Counts (fulls lists) t) pfs directory 0 (2 ^ 64 - 1) found)
     (λ lists. (hash : List ℕ → ℕ) (tree : FileTree) → IsHash hash → KeysFit hash (fulls lists) → IsViewOf (fulls lists) pfs t tree
     → refuse_if (nat_lt 0 (length (entries_in tree directory))) not_empty ≡ refuse_if some not_empty) told
     (λ lists next hash tree hashes fit view.

@@ -28,7 +28,7 @@ ghost use Rattle.hm_cursor.specs.Names.{IsHash};
 ghost use Rattle.hm_calls.specs.Stop.{Answers, Decides, HasStopCause, IfRefused};
 
 use crate::stop::Stop;
-use hm_cursor::{find_record, next_name};
+use hm_cursor::{find_record, previous_name};
 use hm_dirs::{NameHash, Spot, Stand, find_spot, look_up};
 use hm_key::{ElementStore, Extents, HasElements, HasRoom};
 use hm_model::Reply;
@@ -147,7 +147,7 @@ pub(crate) fn check_empty<T: ElementStore + Extents>(
         (T.faults store.old) (T.faults store.new) result }
 {
     let (pfs, object) = (directory.at.pfs, directory.at.object);
-    let name = next_name(alloc, store, pfs, object, 0, u64::MAX, directory.as_of)?;
+    let name = previous_name(alloc, store, pfs, object, 0, u64::MAX, directory.as_of)?;
     if name.is_some() {
         return Err(Stop::Refused(Reply::NotEmpty));
     }

@@ -61,13 +61,20 @@ fn a_call_that_makes_a_name_writes_four_times(rt: HostRuntime) -> Result<(), Fai
     Ok(())
 }
 
+// The record and the root of PFS 0, and of each component its entry and its inode.
 #[test]
-fn a_walk_takes_a_few_searches_for_each_component(rt: HostRuntime) -> Result<(), Fail> {
-    let lines = ["mkdir /d", "touch /d/f"];
-    let one = counts_after(rt.alloc(), &lines, "readlink /d")?;
-    let two = counts_after(rt.alloc(), &lines, "readlink /d/f")?;
-    assert!(rt; two.searches <= 12);
-    assert!(rt; two.searches <= one.searches.saturating_add(5));
+fn a_walk_takes_two_searches_and_two_for_each_component(rt: HostRuntime) -> Result<(), Fail> {
+    let lines = [
+        "mkdir /d",
+        "mkdir /d/e",
+        "touch /f",
+        "touch /d/f",
+        "touch /d/e/f",
+    ];
+    for (line, searches) in [("stat /f", 4), ("stat /d/f", 6), ("stat /d/e/f", 8)] {
+        let counts = counts_after(rt.alloc(), &lines, line)?;
+        assert_eq!(rt; counts.searches, searches, "{line}");
+    }
     Ok(())
 }
 
@@ -84,10 +91,11 @@ fn counts_of_versions(alloc: Global, versions: u64) -> Result<Counts, Fail> {
 }
 
 #[test]
-fn a_name_of_1000_versions_takes_at_most_40_searches_more(rt: HostRuntime) -> Result<(), Fail> {
-    let few = counts_of_versions(rt.alloc(), 1)?;
-    let many = counts_of_versions(rt.alloc(), 1_000)?;
-    assert!(rt; many.searches <= few.searches.saturating_add(40));
+fn a_name_of_1000_versions_takes_no_search_more(rt: HostRuntime) -> Result<(), Fail> {
+    for versions in [1, 2, 1_000] {
+        let counts = counts_of_versions(rt.alloc(), versions)?;
+        assert_eq!(rt; counts.searches, 4, "{versions}");
+    }
     Ok(())
 }
 
@@ -101,15 +109,12 @@ fn counts_of_gone(alloc: Global, times: u64, line: &str) -> Result<Counts, Fail>
     counts_after(alloc, &lines, line)
 }
 
-// Each look at the name halves create ids, of which there are 4,000.
 #[test]
-fn a_name_that_came_and_went_2000_times_takes_at_most_100_searches_more(
-    rt: HostRuntime,
-) -> Result<(), Fail> {
+fn a_name_that_came_and_went_2000_times_takes_no_search_more(rt: HostRuntime) -> Result<(), Fail> {
     for line in ["stat /a", "touch /a", "mkdir /a"] {
         let few = counts_of_gone(rt.alloc(), 1, line)?;
         let many = counts_of_gone(rt.alloc(), 2_000, line)?;
-        assert!(rt; many.searches <= few.searches.saturating_add(100), "{line}");
+        assert_eq!(rt; many.searches, few.searches, "{line}");
     }
     Ok(())
 }
@@ -126,11 +131,11 @@ fn counts_of_listing(alloc: Global, names: u64) -> Result<Counts, Fail> {
 }
 
 #[test]
-fn a_listing_takes_a_few_searches_for_each_name(rt: HostRuntime) -> Result<(), Fail> {
-    let none = counts_of_listing(rt.alloc(), 0)?;
-    let hundred = counts_of_listing(rt.alloc(), 100)?;
-    assert!(rt; none.searches <= 8);
-    assert!(rt; hundred.searches <= 408);
+fn a_listing_takes_two_searches_for_each_name(rt: HostRuntime) -> Result<(), Fail> {
+    for (names, searches) in [(0, 3), (1, 5), (100, 203)] {
+        let counts = counts_of_listing(rt.alloc(), names)?;
+        assert!(rt; counts.searches <= searches, "{names}");
+    }
     Ok(())
 }
 
@@ -138,10 +143,10 @@ fn a_listing_takes_a_few_searches_for_each_name(rt: HostRuntime) -> Result<(), F
 fn file_bytes_take_a_few_searches_for_each_block(rt: HostRuntime) -> Result<(), Fail> {
     let lines = ["touch /f", "fill /f 0 65536 61", "touch /g"];
     for (line, searches, writes) in [
-        ("cat /f 0 16384", 12, 0),
-        ("write /f 0 61", 18, 3),
-        ("fill /f 0 65536 61", 30, 12),
-        ("rm /f", 40, 6),
+        ("cat /f 0 16384", 7, 0),
+        ("write /f 0 61", 10, 3),
+        ("fill /f 0 65536 61", 14, 12),
+        ("rm /f", 26, 6),
     ] {
         let counts = counts_after(rt.alloc(), &lines, line)?;
         assert!(rt; counts.searches <= searches, "{line}");

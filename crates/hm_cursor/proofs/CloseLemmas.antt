@@ -11,7 +11,7 @@ use Rattle.hm_key.specs.Extents.{Extent}
 use Rattle.hm_key.specs.declared.element.Element.{Element}
 use Rattle.hm_records.proofs.MemberLemmas.{has_map, map_has}
 use Rattle.hm_cursor.specs.Told.{fulls}
-use Rattle.hm_cursor.specs.Version.{IsFirstMade, IsMadeIn, IsNewestMade}
+use Rattle.hm_cursor.specs.Version.{IsMadeUpTo, IsNewestMade, IsNewestMadeOf}
 use Rattle.hm_cursor.specs.Write.{IsFresh, Rewrites}
 use Rattle.hm_cursor.proofs.RewriteLemmas.{IsLatest, Shuts, rewrites_shut, shuts_made}
 use Rattle.hm_cursor.proofs.FullLemmas.{closed_has, element_at-changed, element_at-has, has-element_at}
@@ -34,35 +34,32 @@ IsShut s i es = AreMadeBelow es s i → (y : Element) → Contains es y → subj
 
 -- where none was made by an id there is none
 pub shut_none : (s : Subject) (i : ℕ) (found : Option Element) (es es' : Option (List Element)) → es' ≡ es → found ≡ None
-    → IfSome es (λ list. IsFirstMade list s 0 i found) → IfSome es' (IsShut s i)
-shut_none s i found es es' same is none = rw same (by_told es (subst (λ (o : Option Element). IfSome es (λ list. IsFirstMade list s 0 i o)) is none)) where
-  by_told : (told : Option (List Element)) → IfSome told (λ list. IsFirstMade list s 0 i None) → IfSome told (IsShut s i)
+    → IfSome es (λ list. IsNewestMade list s i found) → IfSome es' (IsShut s i)
+shut_none s i found es es' same is none = rw same (by_told es (subst (λ (o : Option Element). IfSome es (λ list. IsNewestMade list s i o)) is none)) where
+  by_told : (told : Option (List Element)) → IfSome told (λ list. IsNewestMade list s i None) → IfSome told (IsShut s i)
   by_told None none = tt
-  by_told (Some list) none = λ made y has about last. absurd (none y has about (omega arith) (omega (arith, made y has about)))
+  by_told (Some list) none = λ made y has about last. absurd (none y has about (omega (arith, made y has about)))
 
 -- one that was made at an id or later was not made below it
 pub shut_late : (s : Subject) (i : ℕ) (this : Element) (es es' : Option (List Element)) → es' ≡ es → subject_of (element_key this) ≡ s → i ≤ this.base.create
-    → IfSome es (λ list. IsNewestMade list s i this) → IfSome es' (IsShut s i)
+    → IfSome es (λ list. IsNewestMadeOf list s i this) → IfSome es' (IsShut s i)
 shut_late s i this es es' same about late newest = rw same (by_told es newest) where
-  by_told : (told : Option (List Element)) → IfSome told (λ list. IsNewestMade list s i this) → IfSome told (IsShut s i)
+  by_told : (told : Option (List Element)) → IfSome told (λ list. IsNewestMadeOf list s i this) → IfSome told (IsShut s i)
   by_told None newest = tt
   by_told (Some list) newest = λ made y has about' last. absurd (omega (arith, late, made this newest.there about))
 
-module _ (s : Subject) (i : ℕ) (found : Option Element) (oldest newest : Element) (is : found ≡ Some oldest) (made : IfSome found (IsMadeIn s 0 i)) where
-  -- the oldest version that a search found, and the newest one, are about the subject
-  about_oldest : subject_of (element_key oldest) ≡ s
-  about_oldest = (subst (λ (o : Option Element). IfSome o (IsMadeIn s 0 i)) is made).about
-
-  pub about_newest : IsMadeIn (subject_of (element_key oldest)) 0 i newest → subject_of (element_key newest) ≡ s
-  about_newest here = here.about ∙ about_oldest
-
-  pub newest_told : (es : Option (List Element)) → IfSome es (λ list. IsNewestMade list (subject_of (element_key oldest)) i newest)
-      → IfSome es (λ list. IsNewestMade list s i newest)
-  newest_told es = subst (λ (u : Subject). IfSome es (λ list. IsNewestMade list u i newest)) about_oldest
+-- what a search for the newest version found is about the subject, and is the newest
+pub newest_told : (s : Subject) (i : ℕ) (found : Option Element) (newest : Element) (es : Option (List Element)) → found ≡ Some newest
+    → IfSome found (IsMadeUpTo s i) → IfSome es (λ list. IsNewestMade list s i found)
+    → (subject_of (element_key newest) ≡ s) × IfSome es (λ list. IsNewestMadeOf list s i newest)
+newest_told s i found newest es is made read = (
+  (subst (λ (o : Option Element). IfSome o (IsMadeUpTo s i)) is made).about,
+  subst (λ (o : Option Element). IfSome es (λ list. IsNewestMade list s i o)) is read,
+)
 
 -- the newest version stands at its key
 pub newest_stands : (s : Subject) (i : ℕ) (newest : Element) (es : Option (List Element)) → IfSome es IsContent
-    → IfSome es (λ list. IsNewestMade list s i newest) → IfSome es (λ list. element_at (element_key newest) list ≡ Some newest)
+    → IfSome es (λ list. IsNewestMadeOf list s i newest) → IfSome es (λ list. element_at (element_key newest) list ≡ Some newest)
 newest_stands s i newest es = told_both es (λ list content is. has-element_at newest list content.rising is.there)
 
 -- what follows of a call that succeeded
@@ -96,7 +93,7 @@ module _ (s : Subject) (i : ℕ) (this : Element) (about_this : subject_of (elem
         some_same : (a b : Element) → Some a ≡ Some b → a ≡ b
         some_same a b is = cc
 
-  shut_newest : (es : List Element) → this.base.create < i → IsContent es → IsContent (if_closed this i es) → IsNewestMade es s i this
+  shut_newest : (es : List Element) → this.base.create < i → IsContent es → IsContent (if_closed this i es) → IsNewestMadeOf es s i this
       → IsShut s i (if_closed this i es)
   shut_newest es later content content' newest = by_test (this.base.delete == 0) refl content' where
     found : element_at (element_key this) es ≡ Some this
@@ -121,7 +118,7 @@ module _ (s : Subject) (i : ℕ) (this : Element) (about_this : subject_of (elem
         shut_this es this y content found (λ gone. eqb-false this.base.delete 0 is gone) has about (omega (arith, up, down))
 
   pub shut_closed : (es es' : Option (List Element)) → this.base.create < i → IfSome es IsContent → IfSome es' IsContent
-      → es' ≡ option_map (if_closed this i) es → IfSome es (λ list. IsNewestMade list s i this) → IfSome es' (IsShut s i)
+      → es' ≡ option_map (if_closed this i) es → IfSome es (λ list. IsNewestMadeOf list s i this) → IfSome es' (IsShut s i)
   shut_closed None es' later content content' list newest = rw list tt
   shut_closed (Some es) es' later content content' list newest = rw list (shut_newest es later content (rw list at content') newest)
 

@@ -18,7 +18,7 @@ use Rattle.hm_records.proofs.EntryLemmas.{length-entry}
 use Rattle.hm_cursor.specs.Names.{IsNoEntry}
 use Rattle.hm_cursor.specs.Read.{IsTooLong}
 use Rattle.hm_cursor.specs.Told.{HasReadingCause, IsPayloadDamage, OnBalanced}
-use Rattle.hm_cursor.specs.Version.{IsCountedIn, IsFirst, IsFirstIn, IsFoundIn, IsInSpan, IsNewestOf}
+use Rattle.hm_cursor.specs.Version.{IsCountedIn, IsFirst, IsFirstIn, IsFoundIn, IsInSpan, IsLastIn, IsNewestOf, numbered}
 use Rattle.hm_cursor.proofs.PayloadLemmas.{length-payload}
 use Rattle.hm_cursor.proofs.ToldLemmas.{counts_newest, newest_counted}
 
@@ -29,6 +29,13 @@ pub found_between : (at : Key) (pfs : ℕ) (directory : Obj) (key last t : ℕ) 
 found_between at pfs directory key last t found e here is known =
     let place = (subst (λ (o : Option Element). IfSome o (IsFoundIn at last t)) is known).seen.place in
     (omega (arith, place.from, ap (λ (s : Subject). s.key) here), place.to)
+
+pub found_down : (at : Key) (pfs : ℕ) (directory : Obj) (key first t : ℕ) (found : Option Element) (e : Element)
+    → subject_of at ≡ entry_subject pfs directory.0 key → found ≡ Some e → IfSome found (IsFoundIn (numbered at first) at.key t)
+    → (first ≤ e.base.key) × (e.base.key ≤ key)
+found_down at pfs directory key first t found e here is known =
+    let place = (subst (λ (o : Option Element). IfSome o (IsFoundIn (numbered at first) at.key t)) is known).seen.place in
+    (place.from, omega (arith, place.to, ap (λ (s : Subject). s.key) here))
 
 module _ (es : List Element) (xs : List Extent) (at : Key) (pfs : ℕ) (directory : Obj) (key last t : ℕ)
     (here : subject_of at ≡ entry_subject pfs directory.0 key) where
@@ -77,12 +84,33 @@ module _ (es : List Element) (xs : List Extent) (at : Key) (pfs : ℕ) (director
       let s = counted_in k from (omega (arith, is.place.to, before)) bytes counts in
       absurd (omega (arith, is.first s.0 s.1, s.2, before))
 
-  -- and the payload of that one counts
+  -- none counts after the last one
+  pub none_after : (e : Element) → IsLastIn es at last t e → (k : ℕ) → e.base.key < k → k ≤ last
+      → CountsNothing (Counts (full_elements es xs) t) (entry_subject pfs directory.0 k)
+  none_after e is k after to bytes counts =
+      let s = counted_in k (omega (arith, from_key e is.place, after)) to bytes counts in
+      absurd (omega (arith, is.most s.0 s.1, s.2, after))
+
+  -- and the payload of one that counts in the span does
+  pub placed_counts : (e : Element) → IsInSpan at last (element_key e) → IsNewestOf es (subject_of (element_key e)) t e
+      → Counts (full_elements es xs) t (entry_subject pfs directory.0 e.base.key) (payload_of xs e)
+  placed_counts e place counts =
+      subst (λ (s : Subject). Counts (full_elements es xs) t s (payload_of xs e)) (about_entry e place)
+      (counts_newest es xs (subject_of (element_key e)) t e counts)
+
   pub first_counts : (e : Element) → IsFirstIn es at last t e
       → Counts (full_elements es xs) t (entry_subject pfs directory.0 e.base.key) (payload_of xs e)
-  first_counts e is =
-      subst (λ (s : Subject). Counts (full_elements es xs) t s (payload_of xs e)) (about_entry e is.place)
-      (counts_newest es xs (subject_of (element_key e)) t e is.counts)
+  first_counts e is = placed_counts e is.place is.counts
+
+-- a key of an entry's kind is about the entry with its number
+pub numbered_entry : (at : Key) (pfs : ℕ) (directory : Obj) (key first : ℕ) → subject_of at ≡ entry_subject pfs directory.0 key
+    → subject_of (numbered at first) ≡ entry_subject pfs directory.0 first
+numbered_entry at pfs directory key first here = λ i. record {
+  localization = (here i).localization;
+  obj = (here i).obj;
+  rec_type = (here i).rec_type;
+  key = first;
+}
 
 -- a payload that is longer than any entry spells none
 pub long_entry : (read : Option (List Extent)) (e : Element) (fault : Fault) → IfSome read AreExtents → IfSome read (λ xs. IsHeld xs e)

@@ -1,13 +1,8 @@
 -- The order of keys, by the numbers in them.
-use Rattle.std.proofs.Common.{◌≡◌, ◌≢◌, ℕ, ◌<◌, ◌≤◌, refl, ap, sym, inl, inr, true≢false, arith}
-use Rattle.std.specs.Prelude.{◌⊎◌}
-use Rattle.std.specs.Ordering.{nat_cmp, ordering_then, is_lt, is_gt}
-use Rattle.std.specs.declared.cmp.Ordering.{Ordering}
-use Rattle.std.specs.declared.cmp.Ordering.TheVariants.{Less, Equal, Greater}
-use Rattle.std.proofs.lemmas.Cmp.{by_ranked, ranked}
-use Rattle.hm_types.specs.Elements.{Key, key_cmp}
+use Rattle.std.proofs.Common.{◌≡◌, ◌≤◌, ap, sym, arith}
+use Rattle.hm_types.specs.Elements.{Key}
 use Rattle.hm_key.specs.Counts.{subject_of}
-use Rattle.hm_key.specs.Key.{IsBefore, IsFrom}
+use Rattle.hm_key.specs.Key.{IsFrom}
 use Rattle.hm_key.proofs.KeyLemmas.{key_from_fields}
 use Rattle.hm_key.proofs.RiseLemmas.{from_rises}
 use Rattle.hm_cursor.specs.Version.{AreOfOneKind}

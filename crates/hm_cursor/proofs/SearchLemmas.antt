@@ -1,17 +1,18 @@
 -- What a search in a list in order finds.
-use Rattle.std.proofs.Common.{◌≡◌, zero, suc, arith, List, [], ◌∷◌, true, false, Bool, Some, None, refl, ap, sym, ◌∙◌, subst, true≢false, inl, inr}
+use Rattle.std.proofs.Common.{◌≡◌, zero, suc, arith, List, [], ◌∷◌, true, false, Bool, Option, Some, None, refl, ap, sym, ◌∙◌, subst, true≢false, inl, inr}
 use Rattle.std.specs.Prelude.{◌⊎◌, if◌then◌else◌}
 use Rattle.std.specs.List.{Contains}
 use Rattle.std.specs.List.Sorted.{IsStrictlySortedBy}
+use Rattle.std.specs.Option.{option_or}
 use Rattle.std.specs.Ordering.{is_lt}
 use Rattle.std.specs.declared.cmp.Ordering.{Ordering}
 use Rattle.std.specs.declared.cmp.Ordering.TheVariants.{Less, Equal, Greater}
 use Rattle.std.proofs.lemmas.List.Elements.{All-from_recursion, All-contains, Contains-append_right, Contains-append_cases}
 use Rattle.hm_types.specs.Elements.{Key, key_cmp}
-use Rattle.hm_key.specs.Elements.{element_key, element_cmp, stands_before, first_from}
+use Rattle.hm_key.specs.Elements.{element_key, element_cmp, first_from, last_to, stands_after, stands_before}
 use Rattle.hm_key.specs.Key.{IsBefore, IsFrom}
 use Rattle.hm_key.specs.declared.element.Element.{Element}
-use Rattle.hm_key.proofs.KeyLemmas.{key_not_before}
+use Rattle.hm_key.proofs.KeyLemmas.{key_from_before, key_not_before}
 
 -- this is the first element from a key on: each other one from there on stands after it
 pub record IsFirstFrom (es : List Element) (at : Key) (e : Element) : Type 0 where
@@ -72,6 +73,59 @@ found_none at (x ∷ es) found other has = by_test (stands_before at x) refl fou
     | inr later ↦ more none other later
   ]
   by_test false is none more = absurd (cc)
+
+-- this is the last element up to a key: each other one up to there stands before it
+pub record IsLastTo (es : List Element) (at : Key) (e : Element) : Type 0 where
+  pub there : Contains es e
+  pub to : IsFrom (element_key e) at
+  pub rest : (other : Element) → Contains es other → IsFrom (element_key other) at → IsFrom (element_key other) (element_key e)
+
+-- where a search up to a key finds none, each element stands after the key
+pub none_to : (at : Key) (es : List Element) → last_to at es ≡ None → (other : Element) → Contains es other → IsBefore at (element_key other)
+none_to at [] found other (k, inside, is) = absurd (omega arith)
+none_to at (x ∷ es) found other has = by_later (last_to at es) refl found (none_to at es) where
+  by_test : (b : Bool) → stands_after at x ≡ b → (if b then None else Some x) ≡ None → IsBefore at (element_key x)
+  by_test true is none = is_before (key_cmp at (element_key x)) is
+  by_test false is none = absurd (cc)
+
+  by_later : (o : Option Element) → last_to at es ≡ o → option_or o (if stands_after at x then None else Some x) ≡ None
+      → (last_to at es ≡ None → (z : Element) → Contains es z → IsBefore at (element_key z)) → IsBefore at (element_key other)
+  by_later (Some y) is none more = absurd (cc)
+  by_later None is none more = elim (first_or_later x es other has) [
+    | inl same ↦ subst (λ (y : Element). IsBefore at (element_key y)) same (by_test (stands_after at x) refl none)
+    | inr later ↦ more is other later
+  ]
+
+-- what a search up to a key finds is the last one up to there
+pub found_last : (at : Key) (e : Element) (es : List Element) → IsStrictlySortedBy element_cmp es → last_to at es ≡ Some e → IsLastTo es at e
+unfolding IsStrictlySortedBy
+found_last at e [] rising found = absurd (cc)
+found_last at e (x ∷ es) rising found = by_later (last_to at es) refl found (found_last at e es rising.1) where
+  by_test : (b : Bool) → stands_after at x ≡ b → last_to at es ≡ None → (if b then None else Some x) ≡ Some e → IsLastTo (x ∷ es) at e
+  by_test true is none found = absurd (cc)
+  by_test false is none found = let same : x ≡ e = cc in record {
+    there = (0, omega arith, same);
+    to = λ before. true≢false (sym (ap is_lt before) ∙ subst (λ (y : Element). stands_after at y ≡ false) same is);
+    rest = λ other has to. elim (first_or_later x es other has) [
+      | inl first ↦ subst (λ (y : Element). IsFrom (element_key y) (element_key e)) (sym same ∙ first) (key_not_before (element_key e))
+      | inr later ↦ absurd (to (none_to at es none other later))
+    ];
+  }
+
+  by_later : (o : Option Element) → last_to at es ≡ o → option_or o (if stands_after at x then None else Some x) ≡ Some e
+      → (last_to at es ≡ Some e → IsLastTo es at e) → IsLastTo (x ∷ es) at e
+  by_later None is found more = by_test (stands_after at x) refl is found
+  by_later (Some y) is found more = let last = more (is ∙ found) in record {
+    there = Contains-append_right (x ∷ []) es e last.there;
+    to = last.to;
+    rest = λ other has to. elim (first_or_later x es other has) [
+      | inl first ↦
+          let after : element_cmp x e ≡ Less =
+          All-contains (λ y. element_cmp x y ≡ Less) es e (All-from_recursion (λ y. element_cmp x y ≡ Less) es rising.0) last.there in
+          subst (λ (y : Element). IsFrom (element_key y) (element_key e)) first (key_from_before (element_key x) (element_key e) after)
+      | inr later ↦ last.rest other later to
+    ];
+  }
 
 -- elements of a list in order with one key are one
 pub one_at_key : (es : List Element) (x y : Element) → IsStrictlySortedBy element_cmp es → Contains es x → Contains es y → element_key x ≡ element_key y

@@ -10,13 +10,13 @@ use Rattle.hm_key.specs.Balance.{IsBalanced, payload_of}
 use Rattle.hm_key.specs.Counts.{Counts}
 use Rattle.hm_key.specs.Extents.{Extent}
 use Rattle.hm_key.specs.Stores.{Same}
-use Rattle.hm_key.specs.Elements.{IsContent, first_from}
+use Rattle.hm_key.specs.Elements.{IsContent, first_from, last_to}
 use Rattle.hm_key.specs.declared.element.Element.{Element}
 use Rattle.hm_records.specs.declared.entry.DirEntry.{DirEntry}
 use Rattle.hm_cursor.specs.Names.{IsBehind, LeadsAt, IsObjectNamed}
 use Rattle.hm_cursor.specs.Told.{Lists, OnBalanced, fulls}
-use Rattle.hm_cursor.specs.Version.{IsFirst}
-use Rattle.hm_cursor.proofs.SearchLemmas.{IsFirstFrom, found_first}
+use Rattle.hm_cursor.specs.Version.{IsFirst, IsLast}
+use Rattle.hm_cursor.proofs.SearchLemmas.{IsFirstFrom, IsLastTo, found_first, found_last}
 
 module _ {A : Type 0} where
   -- what follows from what is known of told content
@@ -41,6 +41,12 @@ pub told_first : (now was : Option (List Element)) (at : Key) (found : Option El
     → IfSome now (λ es. found ≡ first_from at es) → found ≡ Some e → IfSome was (λ es. IsFirstFrom es at e)
 told_first now was at found e same content read is =
     told_both was (λ es sorted here. found_first at e es sorted.rising (sym here ∙ is)) content (told_still now was (λ es. found ≡ first_from at es) same read)
+
+-- a search over a store that stayed finds the last element up to its key
+pub told_last : (now was : Option (List Element)) (at : Key) (found : Option Element) (e : Element) → now ≡ was → IfSome was IsContent
+    → IfSome now (λ es. found ≡ last_to at es) → found ≡ Some e → IfSome was (λ es. IsLastTo es at e)
+told_last now was at found e same content read is =
+    told_both was (λ es sorted here. found_last at e es sorted.rising (sym here ∙ is)) content (told_still now was (λ es. found ≡ last_to at es) same read)
 
 -- what two calls in turn keep, both keep
 pub same_both : {S : Type 0} {elements_of : S → Option (List Element)} {mark_of : S → Key → ℕ} {extents_of : S → Option (List Extent)}
@@ -74,6 +80,12 @@ nothing_known None = tt
 nothing_known (Some x) = tt
 
 -- what a search answered in a store that stayed
+pub last_still : (now was : Option (List Element)) (at : Key) (last t : ℕ) (found answer : Option Element) → now ≡ was → found ≡ answer
+    → IfSome now (λ es. IsLast es at last t found) → IfSome was (λ es. IsLast es at last t answer)
+last_still now was at last t found answer same is read =
+    subst (λ (o : Option (List Element)). IfSome o (λ es. IsLast es at last t answer)) same
+    (subst (λ (f : Option Element). IfSome now (λ es. IsLast es at last t f)) is read)
+
 pub first_still : (now was : Option (List Element)) (at : Key) (last t : ℕ) (found answer : Option Element) → now ≡ was → found ≡ answer
     → IfSome now (λ es. IsFirst es at last t found) → IfSome was (λ es. IsFirst es at last t answer)
 first_still now was at last t found answer same is read =

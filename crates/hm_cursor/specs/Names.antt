@@ -55,19 +55,19 @@ pub record IsFirstEntry (counts : Content) (pfs : ℕ) (directory : Obj) (name :
   pub there : HasEntry counts pfs directory key name object
   pub first : (other : ℕ) (object' : Obj) → HasEntry counts pfs directory other name object' → key ≤ other
 
--- of the entries that lead with keys from `first` to `last` this is the first
-pub record IsNextEntry (counts : Content) (pfs : ℕ) (directory : Obj) (first last : ℕ) (found : ℕ × DirEntry) : Type 0 where
+-- of the entries that lead with keys from `first` to `last` this is the last
+pub record IsPreviousEntry (counts : Content) (pfs : ℕ) (directory : Obj) (first last : ℕ) (found : ℕ × DirEntry) : Type 0 where
   pub leads : IsFirstEntry counts pfs directory found.1.name found.0 found.1.obj
   pub ranges : IsEntry found.1
   pub from : first ≤ found.0
   pub to : found.0 ≤ last
-  pub least : (key : ℕ) (name : List ℕ) (object : Obj) → first ≤ key → IsFirstEntry counts pfs directory name key object → found.0 ≤ key
+  pub most : (key : ℕ) (name : List ℕ) (object : Obj) → key ≤ last → IsFirstEntry counts pfs directory name key object → key ≤ found.0
 
--- the first one that leads with its key, and none exactly where none leads
-abbrev pub IsNextName : Content → ℕ → Obj → ℕ → ℕ → Option (ℕ × DirEntry) → Type 0
-IsNextName counts pfs directory first last None =
+-- the last one that leads with its key, and none exactly where none leads
+abbrev pub IsPreviousName : Content → ℕ → Obj → ℕ → ℕ → Option (ℕ × DirEntry) → Type 0
+IsPreviousName counts pfs directory first last None =
     (key : ℕ) (name : List ℕ) (object : Obj) → first ≤ key → key ≤ last → IsFirstEntry counts pfs directory name key object → ⊥
-IsNextName counts pfs directory first last (Some found) = IsNextEntry counts pfs directory first last found
+IsPreviousName counts pfs directory first last (Some found) = IsPreviousEntry counts pfs directory first last found
 
 -- an entry of a name stands before a key, or none does of those under the keys of one hash
 abbrev pub IsBehind : Content → ℕ → Obj → ℕ → List ℕ → Bool → Type 0

@@ -1,5 +1,5 @@
 -- What a cursor shows: the elements of a localization that are seen as of an id.
-use Rattle.std.specs.Prelude.{◌≡◌, ◌↔◌, ℕ, ◌^◌, ◌<◌, List, Option, None, Some, IsSomeAnd}
+use Rattle.std.specs.Prelude.{◌≡◌, ◌↔◌, ℕ, List, Option, None, Some, IsSomeAnd}
 use Rattle.std.specs.List.{Contains}
 use Rattle.hm_types.specs.Elements.{Key, Sees}
 use Rattle.hm_key.specs.Elements.{element_key}

@@ -1,5 +1,5 @@
 -- Which element counts about a subject, as of an id.
-use Rattle.std.specs.Prelude.{◌≡◌, ℕ, ◌≤◌, List, Option, None, Some, IfSome}
+use Rattle.std.specs.Prelude.{◌≡◌, ℕ, ◌≤◌, List, Option, None, Some}
 use Rattle.std.specs.List.{Contains}
 use Rattle.hm_types.specs.Elements.{Key, Sees}
 use Rattle.hm_key.specs.Counts.{Subject, subject_of}
@@ -58,51 +58,47 @@ abbrev pub IsFirst : List Element → Key → ℕ → ℕ → Option Element →
 IsFirst es at last t None = (e : Element) → IsCountedIn es at last t e → ⊥
 IsFirst es at last t (Some e) = IsFirstIn es at last t e
 
--- an element that may be answered as the first one in a span, over any store
+-- of those this is the last
+pub record IsLastIn (es : List Element) (at : Key) (last t : ℕ) (e : Element) : Type 0 where
+  pub counts : IsNewestOf es (subject_of (element_key e)) t e
+  pub place : IsInSpan at last (element_key e)
+  pub most : (other : Element) → IsCountedIn es at last t other → other.base.key ≤ e.base.key
+
+-- the last element in a span that counts, and none exactly where none counts there
+abbrev pub IsLast : List Element → Key → ℕ → ℕ → Option Element → Type 0
+IsLast es at last t None = (e : Element) → IsCountedIn es at last t e → ⊥
+IsLast es at last t (Some e) = IsLastIn es at last t e
+
+-- a key with another number
+abbrev pub numbered : Key → ℕ → Key
+numbered at number = record at { key = number }
+
+-- an element that may be answered as the first one in a span, or the last one, over any store
 pub record IsFoundIn (at : Key) (last t : ℕ) (e : Element) : Type 0 where
   pub element : IsElement e
   pub seen : IsSeenIn at last t e
 
--- an element is a version of a subject that was made from one id to another
-pub record IsMadeIn (s : Subject) (create last : ℕ) (e : Element) : Type 0 where
+-- an element is a version of a subject that was made by `t`
+pub record IsMadeUpTo (s : Subject) (t : ℕ) (e : Element) : Type 0 where
   pub element : IsElement e
   pub about : subject_of (element_key e) ≡ s
-  pub from : create ≤ e.base.create
-  pub to : e.base.create ≤ last
-
--- of the versions of a subject that were made from an id on this is the first
-pub record IsFirstMadeOf (es : List Element) (s : Subject) (create : ℕ) (e : Element) : Type 0 where
-  pub there : Contains es e
-  pub first : (other : Element) → Contains es other → subject_of (element_key other) ≡ s → create ≤ other.base.create
-      → e.base.create ≤ other.base.create
-
--- the first version of a subject that was made from one id to another, and none exactly where there is none
-abbrev pub IsFirstMade : List Element → Subject → ℕ → ℕ → Option Element → Type 0
-IsFirstMade es s create last None =
-    (e : Element) → Contains es e → subject_of (element_key e) ≡ s → create ≤ e.base.create → e.base.create ≤ last → ⊥
-IsFirstMade es s create last (Some e) = IsFirstMadeOf es s create e
+  pub made : e.base.create ≤ t
 
 -- of the versions of a subject that were made by `t` this is the newest
-pub record IsNewestMade (es : List Element) (s : Subject) (t : ℕ) (e : Element) : Type 0 where
+pub record IsNewestMadeOf (es : List Element) (s : Subject) (t : ℕ) (e : Element) : Type 0 where
   pub there : Contains es e
   pub newest : (other : Element) → Contains es other → subject_of (element_key other) ≡ s → other.base.create ≤ t
       → other.base.create ≤ e.base.create
 
--- an element is the oldest version of what it is about, over a store that may tell its elements
-pub record IsOldest (told : Option (List Element)) (e : Element) : Type 0 where
-  pub element : IsElement e
-  pub first : IfSome told (λ es. IsFirstMadeOf es (subject_of (element_key e)) 0 e)
+-- the newest version of a subject that was made by `t`, and none exactly where none was made by then
+abbrev pub IsNewestMade : List Element → Subject → ℕ → Option Element → Type 0
+IsNewestMade es s t None = (e : Element) → Contains es e → subject_of (element_key e) ≡ s → e.base.create ≤ t → ⊥
+IsNewestMade es s t (Some e) = IsNewestMadeOf es s t e
 
--- it is, and was made by `t`
-pub record IsOldestBy (told : Option (List Element)) (t : ℕ) (e : Element) : Type 0 where
-  pub oldest : IsOldest told e
-  pub made : e.base.create ≤ t
-
--- an element was made by `t`, and stands in a store that may tell its elements
-pub record IsKnownBy (told : Option (List Element)) (t : ℕ) (e : Element) : Type 0 where
-  pub element : IsElement e
-  pub there : IfSome told (λ es. Contains es e)
-  pub made : e.base.create ≤ t
+-- of the versions of a subject this is the oldest
+pub record IsOldestOf (es : List Element) (s : Subject) (e : Element) : Type 0 where
+  pub there : Contains es e
+  pub first : (other : Element) → Contains es other → subject_of (element_key other) ≡ s → e.base.create ≤ other.base.create
 
 -- two keys are about one object of one localization, and of one type
 pub record AreOfOneKind (a b : Key) : Type 0 where

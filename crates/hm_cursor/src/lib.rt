@@ -12,8 +12,8 @@ mod write;
 
 pub use cursor::Cursor;
 pub use find::{find_inode, find_payload, find_record};
-pub use names::{find_name, next_name, object_named};
+pub use names::{find_name, object_named, previous_name};
 pub use payload::read_payload;
 pub use subject::{entry_base, inode_base, record_base, target_base};
-pub use version::{first_version, version_at};
-pub use write::{add_version, close_versions, renew_version};
+pub use version::{first_version, last_version, version_at};
+pub use write::{add_version, close_versions, insert_with_payload, renew_version};

@@ -9,16 +9,16 @@ ghost use Rattle.hm_cursor.specs.Names.{
   IsBehind,
   LeadsAt,
   IsNameIn,
-  IsNextName,
   IsNoEntry,
   IsObjectNamed,
+  IsPreviousName,
 };
 ghost use Rattle.hm_cursor.specs.Told.{HasReadingCause, OnBalanced, fulls};
 ghost use Rattle.hm_cursor.specs.Version.{IsNewestOf};
 
 use crate::payload::read_payload;
 use crate::subject::entry_base;
-use crate::version::first_version;
+use crate::version::last_version;
 use hm_key::{Element, ElementStore, Extents, HasElements, HasRoom};
 use hm_records::{DirEntry, entry_parts};
 use hm_types::{BAD_PAYLOAD, Counted, Fault, Id, Name, Obj, Pfs};
@@ -61,7 +61,8 @@ pub fn object_named<T: Extents>(
 
 /// The key of a directory's first entry of a name as of an id, among those with a key from `first`
 /// to `last`, and the object that it leads to. None exactly where none of them has the name. It
-/// reads the entries up to the one that it answers, and takes no memory of its own.
+/// goes from the last key down to the first, and takes no memory of its own. For each entry it takes
+/// the searches of `last_version` and one read, and one search more where none stands under `first`.
 ///
 /// `Damaged` at the payload of one of these entries, of kind 6, where that spells none. The other
 /// faults are those of the store.
@@ -84,33 +85,34 @@ pub fn find_name<T: ElementStore + Extents>(
     ensures cause { HasReadingCause (T.elements store.old) (T.extents store.old)
         (T.faults store.old) (T.faults store.new) result }
 {
-    let mut key = first;
-    while key <= last {
+    let mut found = None;
+    let mut key = last;
+    while first <= key {
         let at = entry_base(pfs, directory, key);
-        let Some(entry) = first_version(store, &at, last, as_of)? else {
-            return Ok(None);
+        let Some(entry) = last_version(store, &at, first, as_of)? else {
+            return Ok(found);
         };
         if let Some(object) = object_named(store, &entry, name)? {
-            return Ok(Some((entry.base.key, object)));
+            found = Some((entry.base.key, object));
         }
-        if entry.base.key == last {
-            return Ok(None);
+        if entry.base.key == first {
+            return Ok(found);
         }
-        key = entry.base.key + 1;
+        key = entry.base.key - 1;
     }
-    Ok(None)
+    Ok(found)
 }
 
-/// The first name of a directory as of an id, in the order of keys, among the entries that lead
-/// with a key from `first` to `last`: the entry, and its key. Of several entries of one name the
-/// first in the order of keys leads, and the others are hidden behind it. None exactly where none
-/// of them leads. It holds where the keys of all entries fit their names. An entry with collision
-/// number 0 leads without a further look; for another one the entries of its hash that stand before
-/// it are read.
+/// The last name of a directory as of an id, in the order of keys, among the entries that lead with
+/// a key from `first` to `last`: the entry, and its key. Of several entries of one name the first in
+/// the order of keys leads, and the others are hidden behind it. None exactly where none of them
+/// leads. It holds where the keys of all entries fit their names. An entry with collision number 0
+/// leads without a further look; for another one the entries of its hash that stand before it are
+/// read.
 ///
 /// `Damaged` at the payload of an entry, of kind 6, where that spells none, and `NoMemory` where an
 /// allocation was refused. The other faults are those of the store.
-pub fn next_name<T: ElementStore + Extents>(
+pub fn previous_name<T: ElementStore + Extents>(
     alloc: Global,
     store: &mut T,
     pfs: Pfs,
@@ -122,26 +124,26 @@ pub fn next_name<T: ElementStore + Extents>(
     requires balanced { Balanced (T.elements store.old) (T.extents store.old) }
     ensures ok { IfOk result (λ found. OnBalanced (T.elements store.old) (T.extents store.old)
         (λ lists. (hash : List ℕ → ℕ) → KeysFit hash (fulls lists) →
-        IsNextName (Counts (fulls lists) as_of.0) pfs.0 directory first last found)) }
+        IsPreviousName (Counts (fulls lists) as_of.0) pfs.0 directory first last found)) }
     ensures keeps { Same T.elements T.mark T.extents T.room T.free store.old store.new }
     ensures borrowed { (T.name store.new ≡ T.name store.old)
         × (T.frame store.new ≡ T.frame store.old) }
     ensures cause { HasReadingCause (T.elements store.old) (T.extents store.old)
         (T.faults store.old) (T.faults store.new) result }
 {
-    let mut key = first;
-    while key <= last {
+    let mut key = last;
+    while first <= key {
         let at = entry_base(pfs, directory, key);
-        let Some(element) = first_version(store, &at, last, as_of)? else {
+        let Some(element) = last_version(store, &at, first, as_of)? else {
             return Ok(None);
         };
         if let Some(entry) = leading_entry(alloc, store, pfs, directory, &element, as_of)? {
             return Ok(Some((element.base.key, entry)));
         }
-        if element.base.key == last {
+        if element.base.key == first {
             return Ok(None);
         }
-        key = element.base.key + 1;
+        key = element.base.key - 1;
     }
     Ok(None)
 }

@@ -1,22 +1,23 @@
 // The element that counts about a subject as of an id: the newest of its versions that were made by
 // then, where it is seen.
-ghost use Rattle.std.specs.Prelude.{◌≡◌, ◌↔◌, ◌+◌, IfSome, IfOk, IsTrue};
+ghost use Rattle.std.specs.Prelude.{◌≡◌, ◌↔◌, ◌≤◌, IfSome, IfOk, IsTrue};
 ghost use Rattle.hm_types.specs.Faults.{HasStoreCause};
 ghost use Rattle.hm_key.specs.Counts.{subject_of};
+ghost use Rattle.hm_key.specs.Element.{IsElement};
 ghost use Rattle.hm_key.specs.Key.{key_of};
 ghost use Rattle.hm_key.specs.Stores.{Same};
 ghost use Rattle.hm_cursor.specs.Version.{
   AreOfOneKind,
   IsFirst,
-  IsFirstMade,
   IsFoundAbout,
   IsFoundIn,
-  IsKnownBy,
-  IsMadeIn,
+  IsLast,
+  IsMadeUpTo,
   IsNewestMade,
-  IsOldest,
-  IsOldestBy,
+  IsNewestMadeOf,
+  IsOldestOf,
   IsVersion,
+  numbered,
 };
 
 use crate::cursor::is_seen;
@@ -27,8 +28,7 @@ use hm_types::{Counted, Fault, Id};
 /// object, type and key, whatever their create ids, the newest one that was made by then, where it
 /// is seen. None exactly where that one is closed, whatever the older ones are, or none was made.
 ///
-/// It takes two searches where there is one version. Where there are many it halves create ids, at
-/// most as many times as an id has bits. The faults are those of the store.
+/// It takes one search, however many versions there are. The faults are those of the store.
 pub fn version_at<T: ElementStore>(
     store: &mut T,
     at: &Base,
@@ -44,16 +44,19 @@ pub fn version_at<T: ElementStore>(
     ensures cause { HasStoreCause (T.elements store.old)
         (T.faults store.old) (T.faults store.new) result }
 {
-    match version_from(store, at, 0, as_of)? {
-        Some(oldest) => seen_from(store, &oldest, as_of),
-        None => Ok(None),
+    let Some(newest) = newest_made(store, at, as_of)? else {
+        return Ok(None);
+    };
+    if is_seen(&newest.base, as_of) {
+        return Ok(Some(newest));
     }
+    Ok(None)
 }
 
 /// The first element that counts as of an id among those about the object and of the type of `at`
-/// with a key from its own to `last`. None exactly where none of them counts. It takes the
-/// searches of `version_at` for each key in the span up to the one that is found. The faults are
-/// those of the store.
+/// with a key from its own to `last`. None exactly where none of them counts. It takes two searches
+/// for each key in the span up to the one that is found, and one where all was made later. The
+/// faults are those of the store.
 pub fn first_version<T: ElementStore>(
     store: &mut T,
     at: &Base,
@@ -86,10 +89,54 @@ pub fn first_version<T: ElementStore>(
         if let Some(seen) = seen_from(store, &oldest, as_of)? {
             return Ok(Some(seen));
         }
-        if oldest.base.key == u64::MAX {
+        if oldest.base.key == last {
             return Ok(None);
         }
         key = oldest.base.key + 1;
+    }
+    Ok(None)
+}
+
+/// The last element that counts as of an id among those about the object and of the type of `at`
+/// with a key from `first` to its own. None exactly where none of them counts. For each key in the
+/// span down to the one that is found it takes one search, and one more where a version was made
+/// later. The faults are those of the store.
+pub fn last_version<T: ElementStore>(
+    store: &mut T,
+    at: &Base,
+    first: u64,
+    as_of: Id,
+) -> Result<Option<Element>, Fault>
+    ensures ok { IfSome (T.elements store.old) (λ es.
+        IfOk result (IsLast es (numbered (key_of at.now) first) at.now.key as_of.0)) }
+    ensures found { IfOk result (λ found.
+        IfSome found (IsFoundIn (numbered (key_of at.now) first) at.now.key as_of.0)) }
+    ensures keeps { Same T.elements T.mark T.extents T.room T.free store.old store.new }
+    ensures borrowed { (T.name store.new ≡ T.name store.old)
+        × (T.frame store.new ≡ T.frame store.old) }
+    ensures cause { HasStoreCause (T.elements store.old)
+        (T.faults store.old) (T.faults store.new) result }
+{
+    let mut key = at.key;
+    while first <= key {
+        let to = Base {
+            key,
+            create: as_of.0,
+            ..*at
+        };
+        let Some(newest) = store.last_at_or_before(&to)? else {
+            return Ok(None);
+        };
+        if !is_of_one_kind(&newest.base, at) || newest.base.key < first {
+            return Ok(None);
+        }
+        if let Some(seen) = seen_to(store, &newest, as_of)? {
+            return Ok(Some(seen));
+        }
+        if newest.base.key == first {
+            return Ok(None);
+        }
+        key = newest.base.key - 1;
     }
     Ok(None)
 }
@@ -100,7 +147,8 @@ fn seen_from<T: ElementStore>(
     oldest: &Element,
     as_of: Id,
 ) -> Result<Option<Element>, Fault>
-    requires { IsOldest (T.elements store.old) oldest.now }
+    requires { IfSome (T.elements store.old) (λ es.
+        IsOldestOf es (subject_of (key_of oldest.now.base)) oldest.now) }
     ensures ok { IfSome (T.elements store.old) (λ es.
         IfOk result (IsVersion es (subject_of (key_of oldest.now.base)) as_of.0)) }
     ensures found { IfOk result (λ found.
@@ -114,106 +162,61 @@ fn seen_from<T: ElementStore>(
     if oldest.base.create > as_of.0 {
         return Ok(None);
     }
-    let newest = newest_made(store, oldest, as_of)?;
-    if is_seen(&newest.base, as_of) {
-        return Ok(Some(newest));
+    version_at(store, &oldest.base, as_of)
+}
+
+// The version that counts, of those up to the latest one.
+fn seen_to<T: ElementStore>(
+    store: &mut T,
+    latest: &Element,
+    as_of: Id,
+) -> Result<Option<Element>, Fault>
+    requires element { IsElement latest.now }
+    requires newest { IfSome (T.elements store.old) (λ es. latest.now.base.create ≤ as_of.0 →
+        IsNewestMadeOf es (subject_of (key_of latest.now.base)) as_of.0 latest.now) }
+    ensures ok { IfSome (T.elements store.old) (λ es.
+        IfOk result (IsVersion es (subject_of (key_of latest.now.base)) as_of.0)) }
+    ensures found { IfOk result (λ found.
+        IfSome found (IsFoundAbout (subject_of (key_of latest.now.base)) as_of.0)) }
+    ensures keeps { Same T.elements T.mark T.extents T.room T.free store.old store.new }
+    ensures borrowed { (T.name store.new ≡ T.name store.old)
+        × (T.frame store.new ≡ T.frame store.old) }
+    ensures cause { HasStoreCause (T.elements store.old)
+        (T.faults store.old) (T.faults store.new) result }
+{
+    if latest.base.create > as_of.0 {
+        return version_at(store, &latest.base, as_of);
+    }
+    if is_seen(&latest.base, as_of) {
+        return Ok(Some(*latest));
     }
     Ok(None)
 }
 
-// The newest version made by an id. Most subjects have one version, so the next one is asked for
-// before create ids are halved.
+// The newest version of what `at` is about, of those made by an id.
 pub(crate) fn newest_made<T: ElementStore>(
     store: &mut T,
-    oldest: &Element,
+    at: &Base,
     as_of: Id,
-) -> Result<Element, Fault>
-    requires { IsOldestBy (T.elements store.old) as_of.0 oldest.now }
-    ensures ok { IfSome (T.elements store.old) (λ es.
-        IfOk result (IsNewestMade es (subject_of (key_of oldest.now.base)) as_of.0)) }
-    ensures found { IfOk result
-        (IsMadeIn (subject_of (key_of oldest.now.base)) 0 as_of.0) }
-    ensures keeps { Same T.elements T.mark T.extents T.room T.free store.old store.new }
-    ensures borrowed { (T.name store.new ≡ T.name store.old)
-        × (T.frame store.new ≡ T.frame store.old) }
-    ensures cause { HasStoreCause (T.elements store.old)
-        (T.faults store.old) (T.faults store.new) result }
-{
-    match version_after(store, &oldest.base, as_of)? {
-        Some(next) => halve(store, &next, as_of),
-        None => Ok(*oldest),
-    }
-}
-
-// The newest version made by an id, from one that was made by then on.
-fn halve<T: ElementStore>(store: &mut T, known: &Element, as_of: Id) -> Result<Element, Fault>
-    requires { IsKnownBy (T.elements store.old) as_of.0 known.now }
-    ensures ok { IfSome (T.elements store.old) (λ es.
-        IfOk result (IsNewestMade es (subject_of (key_of known.now.base)) as_of.0)) }
-    ensures found { IfOk result
-        (IsMadeIn (subject_of (key_of known.now.base)) 0 as_of.0) }
-    ensures keeps { Same T.elements T.mark T.extents T.room T.free store.old store.new }
-    ensures borrowed { (T.name store.new ≡ T.name store.old)
-        × (T.frame store.new ≡ T.frame store.old) }
-    ensures cause { HasStoreCause (T.elements store.old)
-        (T.faults store.old) (T.faults store.new) result }
-{
-    let mut newest = *known;
-    let mut end = as_of.0;
-    while newest.base.create < end {
-        let middle = end - (end - newest.base.create) / 2;
-        match version_from(store, &newest.base, middle, Id(end))? {
-            Some(later) => newest = later,
-            None => end = middle - 1,
-        }
-    }
-    Ok(newest)
-}
-
-// The next version of what `at` is about, of those made by an id.
-fn version_after<T: ElementStore>(
-    store: &mut T,
-    at: &Base,
-    last: Id,
 ) -> Result<Option<Element>, Fault>
     ensures ok { IfSome (T.elements store.old) (λ es.
-        IfOk result (IsFirstMade es (subject_of (key_of at.now)) (at.now.create + 1) last.0)) }
+        IfOk result (IsNewestMade es (subject_of (key_of at.now)) as_of.0)) }
     ensures found { IfOk result (λ found.
-        IfSome found (IsMadeIn (subject_of (key_of at.now)) (at.now.create + 1) last.0)) }
+        IfSome found (IsMadeUpTo (subject_of (key_of at.now)) as_of.0)) }
     ensures keeps { Same T.elements T.mark T.extents T.room T.free store.old store.new }
     ensures borrowed { (T.name store.new ≡ T.name store.old)
         × (T.frame store.new ≡ T.frame store.old) }
     ensures cause { HasStoreCause (T.elements store.old)
         (T.faults store.old) (T.faults store.new) result }
 {
-    if at.create >= last.0 {
-        return Ok(None);
-    }
-    version_from(store, at, at.create + 1, last)
-}
-
-// The first version of what `at` is about that was made from an id to another one.
-pub(crate) fn version_from<T: ElementStore>(
-    store: &mut T,
-    at: &Base,
-    create: u64,
-    last: Id,
-) -> Result<Option<Element>, Fault>
-    ensures ok { IfSome (T.elements store.old) (λ es.
-        IfOk result (IsFirstMade es (subject_of (key_of at.now)) create last.0)) }
-    ensures found { IfOk result (λ found.
-        IfSome found (IsMadeIn (subject_of (key_of at.now)) create last.0)) }
-    ensures keeps { Same T.elements T.mark T.extents T.room T.free store.old store.new }
-    ensures borrowed { (T.name store.new ≡ T.name store.old)
-        × (T.frame store.new ≡ T.frame store.old) }
-    ensures cause { HasStoreCause (T.elements store.old)
-        (T.faults store.old) (T.faults store.new) result }
-{
-    let from = Base { create, ..*at };
-    let Some(found) = store.first_at_or_after(&from)? else {
+    let to = Base {
+        create: as_of.0,
+        ..*at
+    };
+    let Some(found) = store.last_at_or_before(&to)? else {
         return Ok(None);
     };
-    if !is_about(&found.base, at) || found.base.create > last.0 {
+    if !is_about(&found.base, at) {
         return Ok(None);
     }
     Ok(Some(found))

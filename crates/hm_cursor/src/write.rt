@@ -22,7 +22,7 @@ ghost use Rattle.hm_cursor.specs.Write.{
   taken,
 };
 
-use crate::version::{newest_made, version_from};
+use crate::version::newest_made;
 use hm_key::{Base, Element, ElementStore, Extents, HasElements, HasRoom};
 use hm_types::{Counted, Fault, Id};
 
@@ -89,7 +89,7 @@ pub fn renew_version<T: ElementStore + Extents>(
 
 /// Closes the newest version of what `at` is about at an id above those of all, whatever the create
 /// id of `at`, if it is open. From that id on nothing counts about it, and each payload stays where it
-/// stands. It takes the searches of `version_at`. The faults are those of the store; after one nothing
+/// stands. It takes one search. The faults are those of the store; after one nothing
 /// is known of the content.
 pub fn close_versions<T: ElementStore + Extents>(
     store: &mut T,
@@ -109,19 +109,19 @@ pub fn close_versions<T: ElementStore + Extents>(
     ensures cause { HasStoreCause (content_of (T.elements store.old) (T.extents store.old))
         (T.faults store.old) (T.faults store.new) result }
 {
-    let Some(oldest) = version_from(store, at, 0, id)? else {
+    let Some(newest) = newest_made(store, at, id)? else {
         return Ok(());
     };
-    let newest = newest_made(store, &oldest, id)?;
     if newest.base.create >= id.0 {
         return Ok(());
     }
     close_if_open(store, &newest, id)
 }
 
-// Puts bytes into a new extent of a zone, and adds an element that refers to it. No element stands
-// at its key.
-fn insert_with_payload<T: ElementStore + Extents>(
+/// Puts bytes into a new extent of a zone, and adds an element that refers to it. No element stands
+/// at its key; whether others about its subject are older is not asked. The faults are those of the
+/// store; after one nothing is known of the content.
+pub fn insert_with_payload<T: ElementStore + Extents>(
     store: &mut T,
     base: &Base,
     zone: u8,

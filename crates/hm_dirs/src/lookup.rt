@@ -12,8 +12,8 @@ use hm_types::{Counted, Fault, Id, Obj, Pfs};
 
 /// The key of a directory's entry of a name as of an id, and the object that it leads to. None
 /// exactly where the directory has no such entry. Of several entries of one name the first in the
-/// order of keys leads. It reads the entries under the keys of the name's hash alone: two searches
-/// where there is one, and it takes no memory of its own.
+/// order of keys leads. It reads the entries under the keys of the name's hash, and no others: one
+/// search where there is one, with collision number 0. It takes no memory of its own.
 ///
 /// `Damaged` at the payload of one of these entries, of kind 6, where that spells none. The other
 /// faults are those of the store.

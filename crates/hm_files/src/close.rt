@@ -13,8 +13,9 @@ use hm_key::{ElementStore, Extents, HasElements, HasRoom};
 use hm_types::{Counted, Fault, Id, Obj, Pfs};
 
 /// Closes all bytes of an object that is removed, at an id above theirs: each that counts then. It
-/// takes the searches of `version_at` twice for each of them. No payload moves, and no space is
-/// taken. The faults are those of the store; after one nothing is known of the content.
+/// takes three searches for each of them, and two for each key under which none counts. No payload
+/// moves, and no space is taken. The faults are those of the store; after one nothing is known of
+/// the content.
 pub fn remove_bytes<T: ElementStore + Extents>(
     store: &mut T,
     pfs: Pfs,

@@ -1,6 +1,6 @@
 // What counts and what is shown over a store in memory, on tables worked out by hand.
 use crate::metered::Metered;
-use hm_cursor::{Cursor, first_version, inode_base, target_base, version_at};
+use hm_cursor::{Cursor, first_version, inode_base, last_version, target_base, version_at};
 use hm_key::{
     Base, DIRECTORY_ENTRY, ELEMENT, Element, ElementStore, MemStore, OTHER_PART, is_element,
 };
@@ -200,12 +200,11 @@ fn a_cursor_goes_on_from_the_key_that_it_is_set_to(rt: HostRuntime) -> Result<()
     Ok(())
 }
 
-#[test]
-fn the_first_version_of_a_span_is_that_of_its_first_key_that_counts(
-    rt: HostRuntime,
-) -> Result<(), Fail> {
-    let mut store = store_of(
-        rt.alloc(),
+// Object 2's entries with three keys, of which the second one has two versions, and another
+// object's.
+fn three_keys(alloc: Global) -> Result<MemStore, Fail> {
+    store_of(
+        alloc,
         &[
             entry(OTHER_PART, 2, 10, 5, 7),
             entry(OTHER_PART, 2, 20, 4, 6),
@@ -213,7 +212,14 @@ fn the_first_version_of_a_span_is_that_of_its_first_key_that_counts(
             entry(OTHER_PART, 2, u64::MAX, 3, 9),
             entry(OTHER_PART, 3, 15, 2, 0),
         ],
-    )?;
+    )
+}
+
+#[test]
+fn the_first_version_of_a_span_is_that_of_its_first_key_that_counts(
+    rt: HostRuntime,
+) -> Result<(), Fail> {
+    let mut store = three_keys(rt.alloc())?;
     for (key, last, as_of, wanted) in [
         (10, 20, 6, 5),
         (10, 20, 7, 6),
@@ -236,12 +242,45 @@ fn the_first_version_of_a_span_is_that_of_its_first_key_that_counts(
     Ok(())
 }
 
+// The searches are one for each key that is looked at, and one more where a version is newer.
 #[test]
-fn one_version_takes_two_searches_and_a_thousand_sixteen(rt: HostRuntime) -> Result<(), Fail> {
+fn the_last_version_of_a_span_is_that_of_its_last_key_that_counts(
+    rt: HostRuntime,
+) -> Result<(), Fail> {
+    let mut inner = three_keys(rt.alloc())?;
+    for (first, key, as_of, wanted, searches) in [
+        (10, 20, 6, 6, 1),
+        (10, 19, 6, 5, 1),
+        (10, 19, 7, 0, 1),
+        (9, 19, 7, 0, 2),
+        (10, 20, 5, 4, 1),
+        (10, 21, 5, 4, 2),
+        (10, 21, 3, 0, 4),
+        (20, 20, 8, 6, 1),
+        (20, 19, 8, 0, 0),
+        (21, u64::MAX, 8, 3, 1),
+        (21, u64::MAX, 9, 0, 2),
+        (u64::MAX, u64::MAX, 9, 0, 1),
+        (0, u64::MAX, 2, 0, 5),
+        (0, u64::MAX, 3, 3, 1),
+        (0, u64::MAX, 9, 6, 2),
+        (0, 9, 9, 0, 1),
+    ] {
+        let mut store = Metered::new(&mut inner);
+        let at = entry(OTHER_PART, 2, key, 99, 0).base;
+        let found = last_version(&mut store, &at, first, Id(as_of))?;
+        assert_eq!(rt; made_by(found), wanted, "{first} to {key} as of {as_of}");
+        assert_eq!(rt; store.searches, searches, "{first} to {key} as of {as_of}");
+    }
+    Ok(())
+}
+
+#[test]
+fn a_version_takes_one_search_of_one_and_of_a_thousand(rt: HostRuntime) -> Result<(), Fail> {
     let at = entry(OTHER_PART, 2, 20, 0, 0).base;
     let mut one = Metered::new(versions_of(rt.alloc(), &[(5, 0)])?);
     assert_eq!(rt; made_by(version_at(&mut one, &at, Id(1_000_000))?), 5);
-    assert_eq!(rt; one.searches, 2);
+    assert_eq!(rt; one.searches, 1);
     let mut inner = MemStore::new(rt.alloc(), 0);
     let mut id: u64 = 10;
     for _ in 0..1_000 {
@@ -258,7 +297,7 @@ fn one_version_takes_two_searches_and_a_thousand_sixteen(rt: HostRuntime) -> Res
     ] {
         let mut store = Metered::new(&mut inner);
         assert_eq!(rt; made_by(version_at(&mut store, &at, Id(as_of))?), wanted);
-        assert!(rt; store.searches <= 16, "{as_of}");
+        assert_eq!(rt; store.searches, 1, "{as_of}");
     }
     Ok(())
 }
@@ -285,7 +324,7 @@ fn came_and_went(alloc: Global, about: &Base, times: u64) -> Result<MemStore, Fa
 }
 
 #[test]
-fn what_came_and_went_2000_times_takes_17_searches(rt: HostRuntime) -> Result<(), Fail> {
+fn what_came_and_went_2000_times_takes_one_search(rt: HostRuntime) -> Result<(), Fail> {
     for about in [
         entry(OTHER_PART, 2, 20, 0, 0).base,
         inode_base(Pfs(0), Obj(2)),
@@ -302,7 +341,7 @@ fn what_came_and_went_2000_times_takes_17_searches(rt: HostRuntime) -> Result<()
         ] {
             let mut store = Metered::new(&mut inner);
             assert_eq!(rt; made_by(version_at(&mut store, &about, Id(as_of))?), wanted);
-            assert!(rt; store.searches <= 17, "{as_of}");
+            assert_eq!(rt; store.searches, 1, "{as_of}");
         }
     }
     Ok(())

@@ -4,7 +4,7 @@ ghost use Rattle.hm_key.specs.Balance.{Balanced};
 
 use crate::metered::Metered;
 use crate::stores::add;
-use hm_cursor::{entry_base, find_name, next_name};
+use hm_cursor::{entry_base, find_name, previous_name};
 use hm_key::{HasElements, HasRoom, MemStore};
 use hm_types::{BAD_PAYLOAD, Fault, HOff, Id, Obj, Pfs};
 use std::alloc::Global;
@@ -45,8 +45,8 @@ fn store_of(alloc: Global, entries: &[(u64, u64, u64, &[u8])]) -> Result<(MemSto
     Ok((store, at))
 }
 
-// Whether the next name of a directory is this one: its key, its object and the name.
-fn next_is(
+// Whether the last name of a directory is this one: its key, its object and the name.
+fn previous_is(
     alloc: Global,
     directory: u64,
     first: u64,
@@ -56,7 +56,7 @@ fn next_is(
 ) -> Result<bool, Fail> {
     let (mut store, _) = store_of(alloc, &ENTRIES)?;
     let directory = Obj(directory);
-    let found = next_name(alloc, &mut store, PFS, directory, first, last, Id(as_of))?;
+    let found = previous_name(alloc, &mut store, PFS, directory, first, last, Id(as_of))?;
     Ok(match (found, wanted) {
         (Some((key, entry)), Some((at, object, name))) => {
             key == at && entry.obj == Obj(object) && entry.name.bytes() == name
@@ -67,7 +67,7 @@ fn next_is(
 }
 
 #[test]
-fn the_next_name_is_that_of_the_first_entry_that_leads(rt: HostRuntime) -> Result<(), Fail> {
+fn the_previous_name_is_that_of_the_last_entry_that_leads(rt: HostRuntime) -> Result<(), Fail> {
     let a = Some((ONE, 7, b"a".as_slice()));
     let b = Some((ONE + 1, 8, b"b".as_slice()));
     let ab = Some((ONE + 5, 10, b"ab".as_slice()));
@@ -77,22 +77,25 @@ fn the_next_name_is_that_of_the_first_entry_that_leads(rt: HostRuntime) -> Resul
     for (directory, first, last, as_of, wanted) in [
         (2, 0, u64::MAX, 1, None),
         (2, 0, u64::MAX, 2, a),
+        (2, 0, u64::MAX, 3, b),
+        (2, 0, u64::MAX, 7, d),
+        (2, 0, u64::MAX, 8, e),
         (2, ONE, ONE, 8, a),
-        (2, ONE + 1, u64::MAX, 2, None),
-        (2, ONE + 1, u64::MAX, 8, b),
-        (2, ONE + 2, u64::MAX, 8, ab),
+        (2, 0, ONE - 1, 8, None),
+        (2, 0, ONE + 4, 8, b),
         (2, ONE + 2, ONE + 4, 8, None),
-        (2, ONE + 6, u64::MAX, 8, d),
-        (2, TWO + 2, u64::MAX, 7, None),
-        (2, TWO + 2, u64::MAX, 8, e),
-        (2, TWO, u64::MAX, 9, late_d),
+        (2, 0, ONE + 5, 8, ab),
+        (2, 0, TWO, 8, ab),
+        (2, 0, TWO + 3, 8, d),
+        (2, 0, u64::MAX - 1, 9, late_d),
+        (2, TWO + 2, u64::MAX - 1, 8, None),
         (2, u64::MAX, u64::MAX, 9, e),
         (2, u64::MAX, 0, 9, None),
         (1, 0, u64::MAX, 9, None),
         (3, 0, u64::MAX, 9, None),
     ] {
         assert!(rt;
-            next_is(rt.alloc(), directory, first, last, as_of, wanted)?,
+            previous_is(rt.alloc(), directory, first, last, as_of, wanted)?,
             "{first} to {last} of {directory} as of {as_of}"
         );
     }
@@ -139,8 +142,8 @@ fn is_damage(alloc: Global, bytes: &[u8]) -> Result<bool, Fail> {
         kind: BAD_PAYLOAD,
     });
     let found = find_name(&mut store, PFS, DIRECTORY, 0, TWO, b"b", Id(9)).err();
-    let next = next_name(alloc, &mut store, PFS, DIRECTORY, ONE + 1, TWO, Id(9)).err();
-    Ok(found == damage && next == damage)
+    let previous = previous_name(alloc, &mut store, PFS, DIRECTORY, ONE + 1, TWO, Id(9)).err();
+    Ok(found == damage && previous == damage)
 }
 
 #[test]
@@ -153,12 +156,37 @@ fn a_payload_that_spells_no_entry_is_damage_there(rt: HostRuntime) -> Result<(),
 }
 
 #[test]
-fn a_name_with_collision_number_0_takes_two_searches(rt: HostRuntime) -> Result<(), Fail> {
-    for (first, searches) in [(ONE, 2), (ONE + 1, 4)] {
+fn a_name_with_collision_number_0_takes_one_search(rt: HostRuntime) -> Result<(), Fail> {
+    for (last, searches) in [(ONE, 1), (ONE + 1, 2)] {
         let (inner, _) = store_of(rt.alloc(), &ENTRIES)?;
         let mut store = Metered::new(inner);
-        let _found = next_name(rt.alloc(), &mut store, PFS, DIRECTORY, first, TWO, Id(9))?;
-        assert_eq!(rt; store.searches, searches, "from {first}");
+        let _found = previous_name(rt.alloc(), &mut store, PFS, DIRECTORY, 0, last, Id(9))?;
+        assert_eq!(rt; store.searches, searches, "to {last}");
+    }
+    Ok(())
+}
+
+#[test]
+fn a_name_is_looked_up_by_one_search_for_each_entry_of_its_hash(
+    rt: HostRuntime,
+) -> Result<(), Fail> {
+    for (first, last, name, as_of, searches) in [
+        (ONE, ONE + 65_535, "a", 2, 5),
+        (ONE, ONE + 65_535, "a", 9, 4),
+        (ONE, ONE + 65_535, "zz", 9, 4),
+        (ONE, ONE, "a", 9, 1),
+        (TWO, TWO + 65_535, "d", 9, 3),
+        (3 * ONE, 3 * ONE + 65_535, "a", 9, 1),
+    ] {
+        let (inner, _) = store_of(rt.alloc(), &ENTRIES)?;
+        let mut store = Metered::new(inner);
+        let name = name.as_bytes();
+        let _found = find_name(&mut store, PFS, DIRECTORY, first, last, name, Id(as_of))?;
+        assert_eq!(rt;
+            store.searches,
+            searches,
+            "{name:?} from {first} as of {as_of}"
+        );
     }
     Ok(())
 }

@@ -176,8 +176,8 @@ fn limited(alloc: Global, left: u64, offset: u64) -> Result<Result<usize, Fault>
 
 #[test]
 fn a_read_takes_a_search_for_what_it_shows_and_few_more(rt: HostRuntime) -> Result<(), Fail> {
-    // The closed bytes that end at 5, and that they have no newer version; those that end with the
-    // block, their next version, and its payload.
+    // The closed bytes that end at 5, and the newest that end there; those that end with the block,
+    // the newest that do, and its payload.
     for left in 0..=4 {
         assert_eq!(rt;
             limited(rt.alloc(), left, 1)?,

@@ -8,7 +8,7 @@ use hm_cursor::{entry_base, find_inode, inode_base, record_base, target_base};
 use hm_key::{Base, HasElements, HasRoom, MemStore};
 use hm_records::{DIRECTORY, FILE, Inode, PFS_LINK, SOFTLINK};
 use hm_types::{BAD_PAYLOAD, Fault, HOff, Id, Names, Obj, Pfs};
-use hm_view::{list, size, target};
+use hm_view::{list, size, snapshot_ids, target};
 use std::alloc::Global;
 use std::test::Fail;
 
@@ -194,6 +194,80 @@ fn a_target_is_that_of_the_link(rt: HostRuntime) -> Result<(), Fail> {
     Ok(())
 }
 
+// The ids that the root directory of these items names, one after the other.
+fn ids_of(
+    alloc: Global,
+    items: &[(Item<'_>, u64, u64)],
+    as_of: u64,
+    shown: u64,
+) -> Result<Vec<Id>, Fail> {
+    let (mut store, _) = store_of(alloc, items)?;
+    Ok(snapshot_ids(alloc, &mut store, PFS, ROOT, Id(as_of), Id(shown))?)
+}
+
+#[test]
+fn the_first_id_in_a_target_counts(rt: HostRuntime) -> Result<(), Fail> {
+    let rows: [(&[u8], u64, Option<u64>); 12] = [
+        (b"@@0x0000000000000004", 4, Some(4)),
+        (b"x@@0x00000000000000aAz", 900, Some(0xaa)),
+        (b"@@0x0000000000000004@@0x0000000000000003", 900, Some(4)),
+        (b"@@0x0000000000000003", 2, None),
+        (b"@@0x000000000000003", 900, None),
+        (b"@@0x00000000000000031", 900, Some(3)),
+        (b"@@0x000000000000000g@@0x0000000000000009", 900, Some(9)),
+        (b"@@@0x0000000000000005", 900, Some(5)),
+        (b"@@0x0000000000000000", 0, Some(0)),
+        (b"@@0xffffffffffffffff", u64::MAX, Some(u64::MAX)),
+        (b"@@0X0000000000000005", 900, None),
+        (b"@@-1:00001", 900, None),
+    ];
+    for (target, shown, wanted) in rows {
+        let items = [
+            (Item::Object(2, SOFTLINK, 1, 0), 2, 0),
+            (Item::Target(2, target), 2, 0),
+            (Item::Entry(5, b"a", 2), 2, 0),
+        ];
+        let ids = ids_of(rt.alloc(), &items, 9, shown)?;
+        assert_eq!(rt; ids.first().copied(), wanted.map(Id), "{target:?}");
+        assert!(rt; ids.len() <= 1, "{target:?}");
+    }
+    Ok(())
+}
+
+#[test]
+fn each_name_of_a_softlink_counts_as_of_the_id(rt: HostRuntime) -> Result<(), Fail> {
+    // Two names of one link, one hidden behind another name, a file, a link without a target, a
+    // name without an object, and a link that was closed.
+    let items = [
+        (Item::Object(2, SOFTLINK, 20, 0), 2, 0),
+        (Item::Target(2, b"@@0x0000000000000005"), 2, 0),
+        (Item::Object(3, FILE, 0, 0), 2, 0),
+        (Item::Object(4, SOFTLINK, 20, 0), 2, 0),
+        (Item::Target(4, b"@@0x0000000000000007"), 2, 0),
+        (Item::Object(6, SOFTLINK, 20, 0), 2, 0),
+        (Item::Object(8, SOFTLINK, 20, 0), 2, 4),
+        (Item::Target(8, b"@@0x0000000000000003"), 2, 4),
+        (Item::Entry(5, b"b", 2), 2, 0),
+        (Item::Entry(6, b"c", 2), 2, 0),
+        (Item::Entry(7, b"b", 4), 2, 0),
+        (Item::Entry(ONE, b"a", 3), 2, 0),
+        (Item::Entry(ONE + 1, b"e", 10), 2, 0),
+        (Item::Entry(2 * ONE, b"f", 6), 2, 0),
+        (Item::Entry(3 * ONE, b"g", 8), 2, 0),
+    ];
+    let rows: [(u64, u64, &[Id]); 4] = [
+        (1, 9, &[]),
+        (2, 9, &[Id(3), Id(5), Id(5)]),
+        (2, 4, &[Id(3)]),
+        (4, 9, &[Id(5), Id(5)]),
+    ];
+    for (as_of, shown, wanted) in rows {
+        let ids = ids_of(rt.alloc(), &items, as_of, shown)?;
+        assert!(rt; ids.as_slice() == wanted, "{as_of} {shown}");
+    }
+    Ok(())
+}
+
 // The size of a softlink with a target of so many bytes, and whether that is damage.
 fn target_of_bytes(alloc: Global, len: usize) -> Result<(u64, bool), Fail> {
     let bytes = Vec::from_elem(alloc, b'x', len)?;
@@ -274,9 +348,7 @@ fn store_of_100(alloc: Global) -> Result<MemStore, Fail>
 }
 
 #[test]
-fn a_listing_takes_one_pass_and_three_searches_at_most_for_a_kind(
-    rt: HostRuntime,
-) -> Result<(), Fail> {
+fn a_listing_takes_two_searches_for_each_name(rt: HostRuntime) -> Result<(), Fail> {
     let root = Inode {
         kind: DIRECTORY,
         size: 0,
@@ -289,8 +361,7 @@ fn a_listing_takes_one_pass_and_three_searches_at_most_for_a_kind(
     let names = list(rt.alloc(), &mut store, PFS, ROOT, Id(2))?;
     let listing = store.searches.saturating_sub(pass);
     assert_eq!(rt; (count, names.list().len()), (100, 100));
-    assert!(rt; pass <= 2 * 100 + 1, "{pass}");
-    assert!(rt; listing <= pass.saturating_add(3 * 100), "{listing}");
+    assert_eq!(rt; (pass, listing), (100, 200));
     Ok(())
 }
 

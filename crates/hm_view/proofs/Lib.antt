@@ -4,3 +4,5 @@ mod OrderLemmas
 mod ListingLemmas
 mod SizeLemmas
 mod LinkLemmas
+mod NamedLemmas
+mod SnapshotLemmas

@@ -1,5 +1,5 @@
 -- The names of a directory, with the kinds of their objects.
-use Rattle.std.proofs.Common.{◌≡◌, ℕ, ◌+◌, List, [], ◌∷◌, ◌++◌, length, map, Bool, true, false, Option, None, Some, refl, sym, ap, subst, ◌∙◌, arith}
+use Rattle.std.proofs.Common.{◌≡◌, ℕ, ◌+◌, ◌^◌, ◌<◌, List, [], ◌∷◌, ◌++◌, length, map, Bool, true, false, Option, None, Some, refl, sym, ap, subst, ◌∙◌, arith}
 use Rattle.std.specs.Prelude.{◌==◌, IfSome, if◌then◌else◌}
 use Rattle.std.specs.Option.{option_map_or}
 use Rattle.std.specs.List.Sorted.{IsPermutation, IsSortedBy}
@@ -18,16 +18,18 @@ use Rattle.hm_key.specs.Extents.{Extent}
 use Rattle.hm_key.specs.declared.element.Element.{Element}
 use Rattle.hm_model.specs.Answer.{entry_kind, kind_number, listing}
 use Rattle.hm_records.specs.Laws.{triple_of}
-use Rattle.hm_records.specs.View.{AreInOrder, IsView, kind_number as stored_kind}
+use Rattle.hm_records.specs.KeysFit.{KeysFit}
+use Rattle.hm_records.specs.View.{AreInOrder, HasEntry, IsView, kind_number as stored_kind}
 use Rattle.hm_records.specs.declared.entry.DirEntry.{DirEntry}
 use Rattle.hm_records.specs.declared.inode.Inode.{Inode}
 use Rattle.hm_records.proofs.MemberLemmas.{filter_has, order_filter}
 use Rattle.hm_volume.proofs.MadeLemmas.{found, not_found}
-use Rattle.hm_cursor.specs.Told.{IsInodeThen, OnBalanced, fulls}
+use Rattle.hm_cursor.specs.Names.{IsHash}
+use Rattle.hm_cursor.specs.Told.{IsInodeThen, Lists, OnBalanced, fulls}
 use Rattle.hm_view.specs.Pass.{ArePassed, Passes}
 use Rattle.hm_view.specs.Trees.{OnTrees}
 use Rattle.hm_view.proofs.OrderLemmas.{Item, is_name_before, sorted_names, triples_rise}
-use Rattle.hm_view.proofs.PassLemmas.{none_passed}
+use Rattle.hm_view.proofs.PassLemmas.{few_keys, none_passed}
 use Rattle.hm_view.proofs.TreesLemmas.{OnTree, nothing_told, own_keys, still, trees_both, trees_of, trees_one}
 
 -- ---- the kind of an object
@@ -64,16 +66,16 @@ module _ (es : Option (List Element)) (xs : Option (List Extent)) (pfs t : ℕ) 
 abbrev pub item_of : FileTree → Triple → Item
 item_of tree t = (entry_kind tree t.object, t.name)
 
--- the names before a key, with the kinds of their objects, in some order
-pub record HasListed (counts : Content) (pfs : ℕ) (directory : Obj) (end : ℕ) (items : List Item) (tree : FileTree) : Type 0 where
+-- the names from a key on, with the kinds of their objects, in some order
+pub record HasListed (counts : Content) (pfs : ℕ) (directory : Obj) (first : ℕ) (items : List Item) (tree : FileTree) : Type 0 where
   pub passed : List Triple
-  pub are : ArePassed counts pfs directory end passed
+  pub are : ArePassed counts pfs directory first passed
   pub is : IsPermutation (map (item_of tree) passed) items
 
--- the number of names before a key
-pub record HasCounted (counts : Content) (pfs : ℕ) (directory : Obj) (end count : ℕ) : Type 0 where
+-- the number of names from a key on
+pub record HasCounted (counts : Content) (pfs : ℕ) (directory : Obj) (first count : ℕ) : Type 0 where
   pub passed : List Triple
-  pub are : ArePassed counts pfs directory end passed
+  pub are : ArePassed counts pfs directory first passed
   pub is : count ≡ length passed
 
 insert_mixes : (t : Triple) (ts : List Triple) → IsPermutation (t ∷ ts) (insert_by is_triple_before t ts)
@@ -109,37 +111,42 @@ listing_rises counts pfs tree directory view =
 
 module _ (es : Option (List Element)) (xs : Option (List Extent)) (pfs t : ℕ) (directory : Obj) (content : IfSome es IsContent) where
   abbrev pub Listed : ℕ → List Item → Type 0
-  Listed end items = OnTrees es xs pfs t (λ lists tree. HasListed (Counts (fulls lists) t) pfs directory end items tree)
+  Listed first items = OnTrees es xs pfs t (λ lists tree. HasListed (Counts (fulls lists) t) pfs directory first items tree)
 
   abbrev pub Counted : ℕ → ℕ → Type 0
-  Counted end count = OnTrees es xs pfs t (λ lists tree. HasCounted (Counts (fulls lists) t) pfs directory end count)
+  Counted first count = OnTrees es xs pfs t (λ lists tree. HasCounted (Counts (fulls lists) t) pfs directory first count)
 
-  -- what the next name makes of those before it
+  -- what the name before makes of those from its key on
   abbrev pub Step : ℕ → Option (ℕ × DirEntry) → Option (List Element) → Option (List Extent) → Type 0
   Step first answer es' xs' = OnTrees es' xs' pfs t (λ lists tree. (passed : List Triple)
       → ArePassed (Counts (fulls lists) t) pfs directory first passed → Passes (Counts (fulls lists) t) pfs directory tree passed answer)
 
-  step_on : (first next : ℕ) (entry : DirEntry) (answer : Option (ℕ × DirEntry)) (es' : Option (List Element)) (xs' : Option (List Extent))
+  pub step_on : (first next : ℕ) (entry : DirEntry) (answer : Option (ℕ × DirEntry)) (es' : Option (List Element)) (xs' : Option (List Extent))
       → es' ≡ es → xs' ≡ xs → answer ≡ Some (next, entry) → Step first answer es' xs' → Step first (Some (next, entry)) es xs
   step_on first next entry answer es' xs' same same' is step =
       subst (λ (o : Option (List Extent)). Step first (Some (next, entry)) es o) same'
       (subst (λ (o : Option (List Element)). Step first (Some (next, entry)) o xs') same
       (subst (λ (a : Option (ℕ × DirEntry)). Step first a es' xs') is step))
 
-  step_over : (first : ℕ) (answer : Option (ℕ × DirEntry)) (es' : Option (List Element)) (xs' : Option (List Extent)) → es' ≡ es → xs' ≡ xs
+  pub step_over : (first : ℕ) (answer : Option (ℕ × DirEntry)) (es' : Option (List Element)) (xs' : Option (List Extent)) → es' ≡ es → xs' ≡ xs
       → answer ≡ None → Step first answer es' xs' → Step first None es xs
   step_over first answer es' xs' same same' is step =
       subst (λ (o : Option (List Extent)). Step first None es o) same'
       (subst (λ (o : Option (List Element)). Step first None o xs') same
       (subst (λ (a : Option (ℕ × DirEntry)). Step first a es' xs') is step))
 
+  pub no_keys_above : (hash : List ℕ → ℕ) (lists : Lists) → IsHash hash → KeysFit hash (fulls lists) → (key : ℕ) (name : List ℕ) (object : Obj)
+      → HasEntry (Counts (fulls lists) t) pfs directory key name object → key < 2 ^ 63
+  no_keys_above hash lists small fit key name object = few_keys hash (fulls lists) t pfs directory key name object small fit
+
   -- ---- a list of them
 
-  pub listed_none : Listed 0 []
+  pub listed_none : Listed (2 ^ 63) []
   listed_none =
-      trees_of es xs pfs t content (λ _. Unit {0}) (λ lists tree. HasListed (Counts (fulls lists) t) pfs directory 0 [] tree)
+      trees_of es xs pfs t content (λ _. Unit {0}) (λ lists tree. HasListed (Counts (fulls lists) t) pfs directory (2 ^ 63) [] tree)
       (λ lists tree content balanced hash small fit view _.
-      record { passed = []; are = none_passed (Counts (fulls lists) t) pfs directory; is = IsPermutation-refl [] })
+      let few = no_keys_above hash lists small fit in
+      record { passed = []; are = none_passed (Counts (fulls lists) t) pfs directory few; is = IsPermutation-refl [] })
       (nothing_told es xs)
 
   pub listed_more : (first next kind : ℕ) (items : List Item) (entry : DirEntry) (answer : Option (ℕ × DirEntry))
@@ -189,10 +196,12 @@ module _ (es : Option (List Element)) (xs : Option (List Extent)) (pfs t : ℕ) 
 
   -- ---- their number
 
-  pub counted_none : Counted 0 0
+  pub counted_none : Counted (2 ^ 63) 0
   counted_none =
-      trees_of es xs pfs t content (λ _. Unit {0}) (λ lists tree. HasCounted (Counts (fulls lists) t) pfs directory 0 0)
-      (λ lists tree content balanced hash small fit view _. record { passed = []; are = none_passed (Counts (fulls lists) t) pfs directory; is = refl })
+      trees_of es xs pfs t content (λ _. Unit {0}) (λ lists tree. HasCounted (Counts (fulls lists) t) pfs directory (2 ^ 63) 0)
+      (λ lists tree content balanced hash small fit view _.
+      let few = no_keys_above hash lists small fit in
+      record { passed = []; are = none_passed (Counts (fulls lists) t) pfs directory few; is = refl })
       (nothing_told es xs)
 
   pub counted_more : (first next count : ℕ) (entry : DirEntry) (answer : Option (ℕ × DirEntry)) (es' : Option (List Element)) (xs' : Option (List Extent))

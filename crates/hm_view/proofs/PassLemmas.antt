@@ -20,7 +20,7 @@ use Rattle.hm_records.specs.declared.entry.DirEntry.{DirEntry}
 use Rattle.hm_records.proofs.MemberLemmas.{filter_has, has_filter, has_insert, has_none, insert_has, order_filter, order_insert, order_one}
 use Rattle.hm_records.proofs.NameLemmas.{entry_one, same_obj}
 use Rattle.hm_records.proofs.OrderLemmas.{triple_apart, triple_strict, triple_trans}
-use Rattle.hm_cursor.specs.Names.{IsFirstEntry, IsHash, IsNextName}
+use Rattle.hm_cursor.specs.Names.{IsFirstEntry, IsHash, IsPreviousName}
 use Rattle.hm_cursor.specs.Told.{Lists, OnBalanced, fulls}
 use Rattle.hm_view.specs.Pass.{ArePassed, IsPassed, Passes}
 use Rattle.hm_view.specs.Trees.{OnTrees}
@@ -39,13 +39,17 @@ few_keys hash es t pfs directory key name object few fit has =
     omega (arith, number, fits, small)
 
 module _ (counts : Content) (pfs : ℕ) (directory : Obj) where
-  -- nothing stands before the first key
-  pub none_passed : ArePassed counts pfs directory 0 []
-  none_passed = record { rise = tt; each = λ t. (λ has. absurd (has_none t has), λ is. absurd (omega (arith, is.before))) }
+  -- nothing stands above the keys
+  pub none_passed : ((key : ℕ) (name : List ℕ) (object : Obj) → HasEntry counts pfs directory key name object → key < 2 ^ 63)
+      → ArePassed counts pfs directory (2 ^ 63) []
+  none_passed few = record {
+    rise = tt;
+    each = λ t. (λ has. absurd (has_none t has), λ is. absurd (omega (arith, is.from, few is.key t.name t.object is.leads.there)));
+  }
 
   module _ (first key : ℕ) (name : List ℕ) (object : Obj) (passed : List Triple) (settled : IsSettled counts)
-      (are : ArePassed counts pfs directory first passed) (leads : IsFirstEntry counts pfs directory name key object) (from : first ≤ key)
-      (least : (k : ℕ) (n : List ℕ) (o : Obj) → first ≤ k → IsFirstEntry counts pfs directory n k o → key ≤ k) where
+      (are : ArePassed counts pfs directory first passed) (leads : IsFirstEntry counts pfs directory name key object) (before : key < first)
+      (most : (k : ℕ) (n : List ℕ) (o : Obj) → k < first → IsFirstEntry counts pfs directory n k o → k ≤ key) where
     abbrev new : Triple
     new = triple_of directory name object
 
@@ -53,19 +57,19 @@ module _ (counts : Content) (pfs : ℕ) (directory : Obj) where
     apart : (y : Triple) → Contains passed y → is_triple_before new y ≡ false → IsTrue (is_triple_before y new)
     apart y has = triple_apart new y (λ here same.
         let p = (are.each y).0 has in
-        let there = subst (λ (n : List ℕ). HasEntry counts pfs directory p.key n y.object) (sym same) p.leads.there in
-        omega (arith, leads.first p.key y.object there, p.before, from))
+        let there = subst (λ (n : List ℕ). HasEntry counts pfs directory key n object) same leads.there in
+        omega (arith, p.leads.first key object there, p.from, before))
 
-    to_passed : (z : Triple) → (z ≡ new) ⊎ Contains passed z → IsPassed counts pfs directory (key + 1) z
+    to_passed : (z : Triple) → (z ≡ new) ⊎ Contains passed z → IsPassed counts pfs directory key z
     to_passed z (inl one) =
-        subst (λ (t : Triple). IsPassed counts pfs directory (key + 1) t) (sym one)
-        (record { key = key; leads = leads; is_of = refl; before = omega arith })
+        subst (λ (t : Triple). IsPassed counts pfs directory key t) (sym one)
+        (record { key = key; leads = leads; is_of = refl; from = omega arith })
     to_passed z (inr has) =
         let p = (are.each z).0 has in
-        record { key = p.key; leads = p.leads; is_of = p.is_of; before = omega (arith, p.before, from) }
+        record { key = p.key; leads = p.leads; is_of = p.is_of; from = omega (arith, p.from, before) }
 
     -- under one key stands one entry
-    same_name : (z : Triple) → (p : IsPassed counts pfs directory (key + 1) z) → p.key ≡ key → z ≡ new
+    same_name : (z : Triple) → (p : IsPassed counts pfs directory key z) → p.key ≡ key → z ≡ new
     same_name z p one =
         let mine : DirEntry = record { obj = z.object; name = z.name } in
         let other : DirEntry = record { obj = object; name = name } in
@@ -75,14 +79,14 @@ module _ (counts : Content) (pfs : ℕ) (directory : Obj) where
         (settled (entry_subject pfs directory.0 key) (entry_bytes mine) (entry_bytes other) there leads.there.there) in
         λ i. record { directory = p.is_of i; name = (same i).name; object = (same i).obj }
 
-    of_passed : (z : Triple) → IsPassed counts pfs directory (key + 1) z → (z ≡ new) ⊎ Contains passed z
+    of_passed : (z : Triple) → IsPassed counts pfs directory key z → (z ≡ new) ⊎ Contains passed z
     of_passed z p = elim (cases_lt p.key first) [
-      | inl below ↦ inr ((are.each z).1 (record { key = p.key; leads = p.leads; is_of = p.is_of; before = below }))
-      | inr later ↦ inl (same_name z p (omega (arith, least p.key z.name z.object later p.leads, p.before)))
+      | inl below ↦ inl (same_name z p (omega (arith, most p.key z.name z.object below p.leads, p.from)))
+      | inr later ↦ inr ((are.each z).1 (record { key = p.key; leads = p.leads; is_of = p.is_of; from = later }))
     ]
 
-    -- with the next name they are those before the key after it
-    pub passed_more : ArePassed counts pfs directory (key + 1) (insert_by is_triple_before new passed)
+    -- with the name before they are those from its key on
+    pub passed_more : ArePassed counts pfs directory key (insert_by is_triple_before new passed)
     passed_more = record {
       rise = order_insert is_triple_before triple_trans new passed are.rise apart;
       each = λ t. (
@@ -93,9 +97,9 @@ module _ (counts : Content) (pfs : ℕ) (directory : Obj) where
 
   -- ---- all names
 
-  module _ (tree : FileTree) (view : IsView counts pfs tree) (end : ℕ) (passed : List Triple) (are : ArePassed counts pfs directory end passed)
+  module _ (tree : FileTree) (view : IsView counts pfs tree) (first : ℕ) (passed : List Triple) (are : ArePassed counts pfs directory first passed)
       (few : (t : Triple) → IsTriple counts pfs t → t.directory ≡ directory → Contains passed t) where
-    triple_there : (t : Triple) → IsPassed counts pfs directory end t → IsTriple counts pfs t
+    triple_there : (t : Triple) → IsPassed counts pfs directory first t → IsTriple counts pfs t
     triple_there t p = record {
       key = p.key;
       there = subst (λ (d : Obj). HasEntry counts pfs d p.key t.name t.object) (sym p.is_of) p.leads.there;
@@ -123,57 +127,55 @@ module _ (counts : Content) (pfs : ℕ) (directory : Obj) where
 
 -- ---- what a store tells
 
-module _ (es : Option (List Element)) (xs : Option (List Extent)) (pfs t : ℕ) (directory : Obj) (first last : ℕ) (content : IfSome es IsContent) where
-  -- what follows from the next name, or from there being none
+module _ (es : Option (List Element)) (xs : Option (List Extent)) (pfs t : ℕ) (directory : Obj) (end last : ℕ) (content : IfSome es IsContent) where
+  -- what follows from the name before, or from there being none
   abbrev pub Goes : Option (ℕ × DirEntry) → Type 0
-  Goes found = OnTrees es xs pfs t (λ lists tree. (passed : List Triple) → ArePassed (Counts (fulls lists) t) pfs directory first passed
+  Goes found = OnTrees es xs pfs t (λ lists tree. (passed : List Triple) → ArePassed (Counts (fulls lists) t) pfs directory end passed
       → Passes (Counts (fulls lists) t) pfs directory tree passed found)
 
-  abbrev pub NextIn : Option (ℕ × DirEntry) → Lists → Type 0
-  NextIn found lists = (hash : List ℕ → ℕ) → KeysFit hash (fulls lists) → IsNextName (Counts (fulls lists) t) pfs directory first last found
+  abbrev pub PreviousIn : Option (ℕ × DirEntry) → Lists → Type 0
+  PreviousIn found lists = (hash : List ℕ → ℕ) → KeysFit hash (fulls lists) → IsPreviousName (Counts (fulls lists) t) pfs directory 0 last found
 
-  abbrev pub Next : Option (ℕ × DirEntry) → Type 0
-  Next found = OnBalanced es xs (NextIn found)
+  abbrev pub Previous : Option (ℕ × DirEntry) → Type 0
+  Previous found = OnBalanced es xs (PreviousIn found)
 
   -- no key is left
-  pub goes_over : 2 ^ 63 ≤ first → Goes None
+  pub goes_over : end ≡ 0 → Goes None
   goes_over over =
       trees_of es xs pfs t content (λ _. Unit {0})
-      (λ lists tree. (passed : List Triple) → ArePassed (Counts (fulls lists) t) pfs directory first passed → passed ≡ entries_in tree directory)
+      (λ lists tree. (passed : List Triple) → ArePassed (Counts (fulls lists) t) pfs directory end passed → passed ≡ entries_in tree directory)
       (λ lists tree content balanced hash small fit view _ passed are.
-      passed_all (Counts (fulls lists) t) pfs directory tree view first passed are (λ u is same.
+      passed_all (Counts (fulls lists) t) pfs directory tree view end passed are (λ u is same.
       let leads = leads_of (Counts (fulls lists) t) pfs directory u same is in
-      let few = few_keys hash (fulls lists) t pfs directory is.key u.name u.object small fit leads.there in
-      (are.each u).1 (record { key = is.key; leads = leads; is_of = same; before = omega (arith, over, few) })))
+      (are.each u).1 (record { key = is.key; leads = leads; is_of = same; from = omega (arith, over) })))
       (nothing_told es xs)
 
   -- no name is left
-  pub goes_none : (found : Option (ℕ × DirEntry)) → 2 ^ 63 ≤ last + 1 → found ≡ None → Next found → Goes None
+  pub goes_none : (found : Option (ℕ × DirEntry)) → last + 1 ≡ end → found ≡ None → Previous found → Goes None
   goes_none found whole is told =
-      trees_of es xs pfs t content (NextIn None)
-      (λ lists tree. (passed : List Triple) → ArePassed (Counts (fulls lists) t) pfs directory first passed → passed ≡ entries_in tree directory)
+      trees_of es xs pfs t content (PreviousIn None)
+      (λ lists tree. (passed : List Triple) → ArePassed (Counts (fulls lists) t) pfs directory end passed → passed ≡ entries_in tree directory)
       (λ lists tree content balanced hash small fit view none passed are.
-      passed_all (Counts (fulls lists) t) pfs directory tree view first passed are (λ u is same.
+      passed_all (Counts (fulls lists) t) pfs directory tree view end passed are (λ u is same.
       let leads = leads_of (Counts (fulls lists) t) pfs directory u same is in
-      let few = few_keys hash (fulls lists) t pfs directory is.key u.name u.object small fit leads.there in
-      elim (cases_lt is.key first) [
-        | inl below ↦ (are.each u).1 (record { key = is.key; leads = leads; is_of = same; before = below })
-        | inr later ↦ absurd (none hash fit is.key u.name u.object later (omega (arith, whole, few)) leads)
+      elim (cases_lt is.key end) [
+        | inl below ↦ absurd (none hash fit is.key u.name u.object (omega arith) (omega (arith, whole, below)) leads)
+        | inr later ↦ (are.each u).1 (record { key = is.key; leads = leads; is_of = same; from = later })
       ]))
-      (subst Next is told)
+      (subst Previous is told)
 
   -- a name is left
-  pub goes_on : (found : Option (ℕ × DirEntry)) (key end : ℕ) (entry : DirEntry) → (first ≤ key → key ≤ last → end ≡ key + 1) → found ≡ Some (key, entry)
-      → Next found → Goes (Some (end, entry))
-  goes_on found key end entry after is told =
+  pub goes_on : (found : Option (ℕ × DirEntry)) (key first : ℕ) (entry : DirEntry) → last + 1 ≡ end → (key ≤ last → first ≡ key)
+      → found ≡ Some (key, entry) → Previous found → Goes (Some (first, entry))
+  goes_on found key first entry whole after is told =
       trees_of es xs pfs t content
-      (NextIn (Some (key, entry)))
-      (λ lists tree. (passed : List Triple) → ArePassed (Counts (fulls lists) t) pfs directory first passed
-      → ArePassed (Counts (fulls lists) t) pfs directory end (insert_by is_triple_before (triple_of directory entry.name entry.obj) passed))
-      (λ lists tree content balanced hash small fit view next passed are.
-      let one = next hash fit in
+      (PreviousIn (Some (key, entry)))
+      (λ lists tree. (passed : List Triple) → ArePassed (Counts (fulls lists) t) pfs directory end passed
+      → ArePassed (Counts (fulls lists) t) pfs directory first (insert_by is_triple_before (triple_of directory entry.name entry.obj) passed))
+      (λ lists tree content balanced hash small fit view previous passed are.
+      let one = previous hash fit in
       subst (λ (n : ℕ). ArePassed (Counts (fulls lists) t) pfs directory n (insert_by is_triple_before (triple_of directory entry.name entry.obj) passed))
-      (sym (after one.from one.to))
-      (passed_more (Counts (fulls lists) t) pfs directory first key entry.name entry.obj passed (settled_told lists t content) are
-      one.leads one.from one.least))
-      (subst Next is told)
+      (sym (after one.to))
+      (passed_more (Counts (fulls lists) t) pfs directory end key entry.name entry.obj passed (settled_told lists t content) are
+      one.leads (omega (arith, one.to, whole)) (λ k n o below leads. one.most k n o (omega (arith, whole, below)) leads)))
+      (subst Previous is told)

@@ -1,3 +1,4 @@
 pub mod Trees
 pub mod Pass
 pub mod Volumes
+pub mod Snapshots

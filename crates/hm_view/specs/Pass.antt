@@ -1,5 +1,5 @@
--- A pass over the names of a directory, in the order of the keys of their entries.
-use Rattle.std.specs.Prelude.{◌≡◌, ◌↔◌, ℕ, ◌<◌, List, Option, None, Some}
+-- A pass over the names of a directory, from the greatest key of their entries down.
+use Rattle.std.specs.Prelude.{◌≡◌, ◌↔◌, ℕ, ◌≤◌, List, Option, None, Some}
 use Rattle.std.specs.List.{Contains}
 use Rattle.hm_types.specs.Tree.{FileTree, entries_in, insert_by, is_triple_before}
 use Rattle.hm_types.specs.declared.id.Obj.{Obj}
@@ -10,20 +10,20 @@ use Rattle.hm_records.specs.View.{AreInOrder}
 use Rattle.hm_records.specs.declared.entry.DirEntry.{DirEntry}
 use Rattle.hm_cursor.specs.Names.{IsFirstEntry}
 
--- a name of a directory, whose entry leads and stands before a key
-pub record IsPassed (counts : Content) (pfs : ℕ) (directory : Obj) (end : ℕ) (t : Triple) : Type 0 where
+-- a name of a directory, whose entry leads and stands at a key or after it
+pub record IsPassed (counts : Content) (pfs : ℕ) (directory : Obj) (first : ℕ) (t : Triple) : Type 0 where
   pub key : ℕ
   pub leads : IsFirstEntry counts pfs directory t.name key t.object
   pub is_of : t.directory ≡ directory
-  pub before : key < end
+  pub from : first ≤ key
 
--- these are the names of a directory whose entries stand before a key, in the order of the names
-pub record ArePassed (counts : Content) (pfs : ℕ) (directory : Obj) (end : ℕ) (passed : List Triple) : Type 0 where
+-- these are the names of a directory whose entries stand at a key or after it, in the order of the names
+pub record ArePassed (counts : Content) (pfs : ℕ) (directory : Obj) (first : ℕ) (passed : List Triple) : Type 0 where
   pub rise : AreInOrder is_triple_before passed
-  pub each : (t : Triple) → Contains passed t ↔ IsPassed counts pfs directory end t
+  pub each : (t : Triple) → Contains passed t ↔ IsPassed counts pfs directory first t
 
--- What the next name makes of those that were passed: with it they are those before the key after it. Where there is none
--- they are all that the tree has.
+-- What the name before makes of those that were passed: with it they are those from its key on. Where there is none they
+-- are all that the tree has.
 abbrev pub Passes : Content → ℕ → Obj → FileTree → List Triple → Option (ℕ × DirEntry) → Type 0
 Passes counts pfs directory tree passed None = passed ≡ entries_in tree directory
 Passes counts pfs directory tree passed (Some found) =

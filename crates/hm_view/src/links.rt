@@ -49,8 +49,8 @@ pub fn target<T: ElementStore + Extents>(
     }
 }
 
-// The target of a softlink, which is empty where it has none.
-fn softlink_target<T: ElementStore + Extents>(
+/// The target of a softlink, which is empty where it has none.
+pub(crate) fn softlink_target<T: ElementStore + Extents>(
     alloc: Global,
     store: &mut T,
     pfs: Pfs,

@@ -7,7 +7,7 @@ ghost use Rattle.hm_model.specs.Answer.{entry_kind, listing};
 ghost use Rattle.hm_cursor.specs.Told.{HasReadingCause};
 ghost use Rattle.hm_view.specs.Trees.{OnTrees};
 
-use crate::pass::name_from;
+use crate::pass::{END_OF_KEYS, name_before};
 use hm_cursor::find_inode;
 use hm_key::{ElementStore, Extents, HasElements, HasRoom};
 use hm_types::{Counted, Fault, Id, Name, Names, Obj, Pfs};
@@ -42,7 +42,7 @@ pub fn list<T: ElementStore + Extents>(
     Ok(Names::of(names))
 }
 
-// The names of a directory with the kinds of their objects, in the order of the keys.
+// The names of a directory with the kinds of their objects, from the greatest key down.
 fn names_by_key<T: ElementStore + Extents>(
     alloc: Global,
     store: &mut T,
@@ -61,11 +61,11 @@ fn names_by_key<T: ElementStore + Extents>(
         (T.faults store.old) (T.faults store.new) result }
 {
     let mut names = Vec::new(alloc);
-    let mut first = 0;
-    while let Some((next, entry)) = name_from(alloc, store, pfs, directory, first, as_of)? {
+    let mut end = END_OF_KEYS;
+    while let Some((key, entry)) = name_before(alloc, store, pfs, directory, end, as_of)? {
         let kind = kind_of(store, pfs, entry.obj, as_of)?;
         names.push((kind, entry.name))?;
-        first = next;
+        end = key;
     }
     Ok(names)
 }

@@ -8,7 +8,7 @@ ghost use Rattle.hm_records.specs.View.{IsTargetOf};
 ghost use Rattle.hm_cursor.specs.Told.{HasReadingCause, OnBalanced, fulls};
 ghost use Rattle.hm_view.specs.Trees.{IsSize, OnTrees};
 
-use crate::pass::name_from;
+use crate::pass::{END_OF_KEYS, name_before};
 use hm_cursor::{target_base, version_at};
 use hm_key::{ElementStore, Extents, HasElements, HasRoom};
 use hm_records::{DIRECTORY, Inode, PFS_LINK, SOFTLINK};
@@ -67,10 +67,10 @@ fn count_names<T: ElementStore + Extents>(
         (T.faults store.old) (T.faults store.new) result }
 {
     let mut count = 0;
-    let mut first = 0;
-    while let Some((next, _)) = name_from(alloc, store, pfs, directory, first, as_of)? {
+    let mut end = END_OF_KEYS;
+    while let Some((key, _)) = name_before(alloc, store, pfs, directory, end, as_of)? {
         count += 1;
-        first = next;
+        end = key;
     }
     Ok(count)
 }

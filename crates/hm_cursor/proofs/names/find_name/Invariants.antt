@@ -1,16 +1,18 @@
-use Rattle.std.proofs.Common.{◌≡◌, ◌≤◌, ◌+◌, ◌-◌}
+use Rattle.std.proofs.Common.{◌≡◌, ◌≤◌, ◌+◌, None}
+use Rattle.std.specs.Prelude.{◌⊎◌}
 use Rattle.hm_key.specs.Counts.{Counts}
 use Rattle.hm_key.specs.Stores.{Same}
-use Rattle.hm_cursor.specs.Names.{LacksNameIn}
+use Rattle.hm_cursor.specs.Names.{IsNameIn}
 use Rattle.hm_cursor.specs.Told.{OnBalanced, fulls}
 use Rattle.hm_cursor.proofs.names.find_name.Given as goal
 
--- no entry so far has the name
+-- the first entry of the name so far
 abbrev pub invariant-loop-key : goal.invariant-loop-key
 invariant-loop-key g l = record {
-  from : l.fn.first ≤ l.key;
-  lacks : OnBalanced (g.T.HasElements.elements l.fn.store) (g.T.HasRoom.extents l.fn.store)
-      (λ lists. LacksNameIn (Counts (fulls lists) l.fn.as_of.0) l.fn.pfs.0 l.fn.directory l.fn.name l.fn.first l.key);
+  to : l.key ≤ l.fn.last;
+  inside : (l.fn.first ≤ l.key) ⊎ (l.found ≡ None);
+  known : OnBalanced (g.T.HasElements.elements l.fn.store) (g.T.HasRoom.extents l.fn.store)
+      (λ lists. IsNameIn (Counts (fulls lists) l.fn.as_of.0) l.fn.pfs.0 l.fn.directory (l.key + 1) l.fn.last l.fn.name l.found);
   keeps : Same g.T.HasElements.elements g.T.HasElements.mark g.T.HasRoom.extents g.T.HasRoom.room g.T.HasRoom.free l.fn.store l.store;
   name : g.T.Counted.name l.store ≡ g.T.Counted.name l.fn.store;
   frame : g.T.Counted.frame l.store ≡ g.T.Counted.frame l.fn.store;
@@ -18,4 +20,4 @@ invariant-loop-key g l = record {
 }
 
 abbrev pub decreases-loop-key : goal.decreases-loop-key
-decreases-loop-key g l = l.last + 1 - l.key
+decreases-loop-key g l = l.key

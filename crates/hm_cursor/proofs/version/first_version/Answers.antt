@@ -46,16 +46,11 @@ seen_from-requires g c =
     let oldest = c.in-Some.oldest in
     let start = span_start (key_of c.args.at.now) c.loop-key.key in
     let now = c.first_at_or_after.new.self in
-    let found =
-    told_first (elements c.loop-key.store) (elements now) start c.in_ok-oldest.field-0 oldest (sym c.in_ok-oldest.ensures.keeps.elements)
-    (g.met.T.ElementStore.sorted now) c.in_ok-oldest.ensures.ok c.in-Some.is in
-    let element : IfSome (Some oldest) (IsFound start) = subst (λ (o : Option Element). IfSome o (IsFound start)) c.in-Some.is c.in_ok-oldest.ensures.found in
-    record {
-      element = element.element;
-      first = told (elements now)
-          (λ es search. span_oldest es (key_of c.args.at.now) c.args.last c.args.as_of.0 c.loop-key.key oldest search
-          (c.is_of_one_kind.ensures.0 c.if-not-is_of_one_kind.false)) found;
-    }
+    told (elements now)
+    (λ es search. span_oldest es (key_of c.args.at.now) c.args.last c.args.as_of.0 c.loop-key.key oldest search
+    (c.is_of_one_kind.ensures.0 c.if-not-is_of_one_kind.false))
+    (told_first (elements c.loop-key.store) (elements now) start c.in_ok-oldest.field-0 oldest (sym c.in_ok-oldest.ensures.keeps.elements)
+    (g.met.T.ElementStore.sorted now) c.in_ok-oldest.ensures.ok c.in-Some.is)
 
 pub returns-in-Some-2-clause-ok : goal.returns-in-Some-2-clause-ok
 returns-in-Some-2-clause-ok g c =
@@ -80,8 +75,8 @@ returns-in-Some-2-clause-ok g c =
     invariant.low c.if-oldest-last.false c.in-Some-2.seen (subst (λ (o : Option Element). IsVersion es s t o) c.in-Some-2.is counts) below)
     found version invariant.below
 
-pub returns-then-oldest-clause-ok : goal.returns-then-oldest-clause-ok
-returns-then-oldest-clause-ok g c =
+pub returns-then-oldest-last-2-clause-ok : goal.returns-then-oldest-last-2-clause-ok
+returns-then-oldest-last-2-clause-ok g c =
     let elements = g.T.HasElements.elements in
     let was = c.args.store.now in
     let now = c.first_at_or_after.new.self in
@@ -99,7 +94,7 @@ returns-then-oldest-clause-ok g c =
     told_still (elements now) (elements was) (λ es. IsVersion es s t c.in_ok-seen.field-0)
     (c.in_ok-oldest.ensures.keeps.elements ∙ invariant.keeps.elements) read in
     told_three (elements was)
-    (λ es search none below. span_over es at c.args.last t (oldest.base.key + 1) (omega (arith, c.ranges.last.fits))
+    (λ es search none below. span_over es at c.args.last t (oldest.base.key + 1) (omega (arith, c.if-oldest-last-2.true))
     (span_passed es at c.args.last t c.loop-key.key oldest search (c.is_of_one_kind.ensures.0 c.if-not-is_of_one_kind.false)
     (subst (λ (o : Option Element). IsVersion es s t o) c.in_default-2.is none) below))
     found version invariant.below

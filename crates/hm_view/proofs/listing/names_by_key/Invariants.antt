@@ -1,13 +1,13 @@
-use Rattle.std.proofs.Common.{◌≡◌, ◌≤◌, ◌-◌, ◌^◌}
+use Rattle.std.proofs.Common.{◌≡◌, ◌≤◌}
 use Rattle.hm_key.specs.Stores.{Same}
 use Rattle.hm_view.proofs.ListingLemmas.{Listed}
 use Rattle.hm_view.proofs.listing.names_by_key.Given as goal
 
--- the names before the next key are listed
+-- the names from a key on are listed
 abbrev pub invariant-loop-names : goal.invariant-loop-names
 invariant-loop-names g l = record {
   listed : Listed (g.T.HasElements.elements l.fn.store) (g.T.HasRoom.extents l.fn.store) l.fn.pfs.0 l.fn.as_of.0 l.fn.directory
-      (g.met.T.ElementStore.sorted l.fn.store) l.first l.names.items;
+      (g.met.T.ElementStore.sorted l.fn.store) l.end l.names.items;
   keeps : Same g.T.HasElements.elements g.T.HasElements.mark g.T.HasRoom.extents g.T.HasRoom.room g.T.HasRoom.free l.fn.store l.store;
   name : g.T.Counted.name l.store ≡ g.T.Counted.name l.fn.store;
   frame : g.T.Counted.frame l.store ≡ g.T.Counted.frame l.fn.store;
@@ -15,4 +15,4 @@ invariant-loop-names g l = record {
 }
 
 abbrev pub decreases-loop-names : goal.decreases-loop-names
-decreases-loop-names g l = 2 ^ 64 - l.first
+decreases-loop-names g l = l.end
