@@ -1,6 +1,7 @@
 #!/usr/bin/env bash
-# Calls of the tree beside the standard library's ordered map: inserts, lookups and removals of 10,000,
-# 100,000 and 1,000,000 elements, in random and in rising order, and what a call reads and writes.
+# Calls of the tree beside the standard library's ordered map: inserts, lookups, searches for the last element
+# up to a key, and removals of 10,000, 100,000 and 1,000,000 elements, in random and in rising order, and what a
+# call reads and writes.
 #
 # A program that looks up or removes inserts first, so the time of its inserts is taken off.
 . "$(dirname "${BASH_SOURCE[0]}")/common.bash"
@@ -36,7 +37,7 @@ told() {
 
 echo "| Calls | Order | Elements | Tree, µs | BTreeMap, µs | Ratio | Read a call (most) | Written a call (most) | Levels |"
 echo "|---|---|---|---|---|---|---|---|---|"
-for operation in insert lookup remove; do
+for operation in insert lookup last remove; do
     for order in random rising; do
         for elements in 10000 100000 1000000; do
             took "$map" "$operation" "$order" "$elements"

@@ -36,7 +36,7 @@ fn key(order: &str, i: u64) -> Key {
 fn main() {
     let words: Vec<String> = args().skip(1).collect();
     let [operation, order, elements] = words.as_slice() else {
-        panic!("usage: btree_map insert|lookup|remove random|rising ELEMENTS");
+        panic!("usage: btree_map insert|lookup|last|remove random|rising ELEMENTS");
     };
     let elements: u64 = elements.parse().expect("a number");
     let value = Value { delete: 0, obj_type: 1, payload: 1 << 60, len: 8 };
@@ -50,6 +50,12 @@ fn main() {
             for i in 0..elements {
                 let first = map.range(key(order, i)..).next();
                 found += first.map_or(0, |(_, v)| u64::from(v.len) + v.delete + v.payload % 3);
+            }
+        }
+        "last" => {
+            for i in 0..elements {
+                let last = map.range(..=key(order, i)).next_back();
+                found += last.map_or(0, |(_, v)| u64::from(v.len) + v.delete + v.payload % 3);
             }
         }
         "remove" => {

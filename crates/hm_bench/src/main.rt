@@ -2,8 +2,9 @@
 //!
 //! `hm_bench OPERATION ORDER ELEMENTS` makes a tree of so many elements in memory, with keys in the
 //! order `random` or `rising`. `insert` counts the calls that make it, `lookup` one search for each
-//! element, and `remove` the removal of all but one in a hundred. It prints counts alone, so that a
-//! run prints the same every time; how long it takes is for another program to tell.
+//! element, `last` one for the last element up to each, and `remove` the removal of all but one in a
+//! hundred. It prints counts alone, so that a run prints the same every time; how long it takes is for
+//! another program to tell.
 #![tactic(auto)]
 
 mod order;
@@ -16,7 +17,7 @@ use std::process::ExitCode;
 use std::{env, io};
 use work::{Operation, Outcome, count};
 
-const USAGE: &str = "usage: hm_bench insert|lookup|remove random|rising ELEMENTS";
+const USAGE: &str = "usage: hm_bench insert|lookup|last|remove random|rising ELEMENTS";
 
 // What to do, and with how many elements.
 #[derive(Clone, Copy)]

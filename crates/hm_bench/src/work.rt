@@ -14,6 +14,7 @@ use std::alloc::Global;
 pub enum Operation {
     Insert,
     Lookup,
+    Last,
     Remove,
 }
 
@@ -23,6 +24,7 @@ impl Operation {
         match name {
             "insert" => Some(Operation::Insert),
             "lookup" => Some(Operation::Lookup),
+            "last" => Some(Operation::Last),
             "remove" => Some(Operation::Remove),
             _ => None,
         }
@@ -62,6 +64,9 @@ impl Counted {
             Operation::Lookup => {
                 self.tree.first_at_or_after(&element.base)?;
             }
+            Operation::Last => {
+                self.tree.last_at_or_before(&element.base)?;
+            }
             Operation::Remove => self.tree.remove(&element.base)?,
         }
         self.reads
@@ -99,7 +104,7 @@ pub fn count(
     }
     let calls = match operation {
         Operation::Insert => 0,
-        Operation::Lookup => elements,
+        Operation::Lookup | Operation::Last => elements,
         Operation::Remove => elements - elements / 100,
     };
     if operation != Operation::Insert {

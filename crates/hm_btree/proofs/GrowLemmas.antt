@@ -1,5 +1,5 @@
 -- Nodes that grow, and may become two.
-use Rattle.std.proofs.Common.{◌≡◌, Bool, true, false, ℕ, suc, ◌+◌, ◌≤◌, List, [], ◌∷◌, ◌++◌, length, take, drop, refl, sym, ap, subst, ◌∙◌}
+use Rattle.std.proofs.Common.{◌≡◌, Bool, true, false, ℕ, suc, ◌+◌, ◌-◌, ◌≤◌, List, [], ◌∷◌, ◌++◌, length, take, drop, refl, sym, ap, subst, ◌∙◌}
 use Rattle.std.proofs.Common.{arith, max, Some, None, length-append, length-take-le, length-drop, take-append-drop}
 use Rattle.std.specs.Prelude.{Option, IsNone, if◌then◌else◌}
 use Rattle.std.specs.List.{AllByRecursion}
@@ -84,27 +84,30 @@ module _ (e : Element) (place : Subtree) (height : ℕ) (map : PageMap) (leaf af
         subst (λ (l : Leaf). Changed (inserted e) (element_key e) (Writes (last_id e)) place height map map (leaf_node leaf) (leaf_node l)) (sym becomes.0)
         (changed_leaf (inserted e) (element_key e) (Writes (last_id e)) place height map leaf (leaf_of raised grown) tree refl
         content offsets insides uptos becomes.1 (count place.parent) (writes_leaf (element_key e) (last_id e) leaf.mirror raised refl))
-    grown_leaf (Some upper) becomes = by_drop (drop 32 grown) refl
-        (subst (λ (n : Node). n ≡ leaf_node (leaf_of raised (drop 32 grown))) refl becomes.1) becomes.2 where
-          by_drop : (l : List Element) → drop 32 grown ≡ l → upper.node ≡ leaf_node (leaf_of raised (drop 32 grown)) → FirstAt (drop 32 grown) upper.left
-              → Split (inserted e) (element_key e) (Writes (last_id e)) place height map map (leaf_node leaf) (leaf_node after) upper.node upper.left
-          by_drop [] cut node first = absurd (subst (λ (l : List Element). FirstAt l upper.left) cut first)
-          by_drop (x ∷ hi) cut node first =
-              let lo : List Element = take 32 grown in
-              let parts : grown ≡ lo ++ x ∷ hi = sym (take-append-drop 32 grown) ∙ ap (λ (l : List Element). lo ++ l) cut in
-              let low : length lo ≡ 32 = length-take-le 32 grown (omega (arith, becomes.3)) in
-              let high : length (x ∷ hi) ≡ 32 = ap length (sym cut) ∙ length-drop 32 grown ∙ omega (arith, becomes.3) in
-              subst (λ (l : Leaf). Split (inserted e) (element_key e) (Writes (last_id e)) place height map map (leaf_node leaf)
-              (leaf_node l) upper.node upper.left) (sym becomes.0)
-              (subst (λ (n : Node). Split (inserted e) (element_key e) (Writes (last_id e)) place height map map (leaf_node leaf)
-              (leaf_node (leaf_of raised lo)) n upper.left) (sym (node ∙ ap (λ (l : List Element). leaf_node (leaf_of raised l)) cut))
-              (split_leaf (inserted e) (element_key e) (Writes (last_id e)) place height map leaf raised lo x hi upper.left tree
-              (sym parts) (subst (λ (l : List Element). IsContent l) parts content)
-              (subst (λ (l : List Element). AllByRecursion (λ y. IsOffset y.payload) l) parts offsets)
-              (subst (λ (l : List Element). AllByRecursion (λ y. IsInside place.left place.right (element_key y)) l) parts insides)
-              (subst (λ (l : List Element). AllByRecursion (IsUpTo raised) l) parts uptos) (omega (arith, low)) (omega (arith, low))
-              (omega (arith, high)) (writes_leaf (element_key e) (last_id e) leaf.mirror raised refl)
-              (subst (λ (l : List Element). FirstAt l upper.left) cut first)))
+    grown_leaf (Some upper) becomes = by_drop (drop n grown) refl becomes.4 becomes.5 where
+      n : ℕ
+      n = becomes.0
+
+      by_drop : (l : List Element) → drop n grown ≡ l → upper.node ≡ leaf_node (leaf_of raised (drop n grown)) → FirstAt (drop n grown) upper.left
+          → Split (inserted e) (element_key e) (Writes (last_id e)) place height map map (leaf_node leaf) (leaf_node after) upper.node upper.left
+      by_drop [] cut node first = absurd (subst (λ (l : List Element). FirstAt l upper.left) cut first)
+      by_drop (x ∷ hi) cut node first =
+          let lo : List Element = take n grown in
+          let parts : grown ≡ lo ++ x ∷ hi = sym (take-append-drop n grown) ∙ ap (λ (l : List Element). lo ++ l) cut in
+          let low : length lo ≡ n = length-take-le n grown (omega (arith, becomes.1, becomes.2)) in
+          let high : length (x ∷ hi) ≡ 64 - n = ap length (sym cut) ∙ length-drop n grown ∙ ap (λ (k : ℕ). k - n) becomes.2 in
+          subst (λ (l : Leaf). Split (inserted e) (element_key e) (Writes (last_id e)) place height map map (leaf_node leaf)
+          (leaf_node l) upper.node upper.left) (sym becomes.3)
+          (subst (λ (n : Node). Split (inserted e) (element_key e) (Writes (last_id e)) place height map map (leaf_node leaf)
+          (leaf_node (leaf_of raised lo)) n upper.left) (sym (node ∙ ap (λ (l : List Element). leaf_node (leaf_of raised l)) cut))
+          (split_leaf (inserted e) (element_key e) (Writes (last_id e)) place height map leaf raised lo x hi upper.left tree
+          (sym parts) (subst (λ (l : List Element). IsContent l) parts content)
+          (subst (λ (l : List Element). AllByRecursion (λ y. IsOffset y.payload) l) parts offsets)
+          (subst (λ (l : List Element). AllByRecursion (λ y. IsInside place.left place.right (element_key y)) l) parts insides)
+          (subst (λ (l : List Element). AllByRecursion (IsUpTo raised) l) parts uptos)
+          (omega (arith, low, becomes.1)) (omega (arith, low, becomes.1)) (omega (arith, high, becomes.1))
+          (writes_leaf (element_key e) (last_id e) leaf.mirror raised refl)
+          (subst (λ (l : List Element). FirstAt l upper.left) cut first)))
 
 -- a node of which one child became two
 module _ (key : Key) (place : Subtree) (height level mirror : ℕ) (right : Base) (old : PageMap) (pre : List Child) (c : Child)
@@ -167,18 +170,21 @@ module _ (key : Key) (place : Subtree) (height level mirror : ℕ) (right : Base
             (changed_above f key marking place height old new2 level mirror more right (pre ++ c ∷ post) cs tree all
             (All-from_recursion (λ d. d.mirror ≤ more) cs each)
             (omega (arith, long)) becomes.1 (counts place.parent more cs long tree.fits.count))
-        finish f marking new2 inner' (Some upper) more cs all each long becomes = by_drop (drop 32 cs) refl becomes.0 becomes.1 becomes.2 where
-          by_drop : (l : List Child) → drop 32 cs ≡ l → inner' ≡ inner_of level more (take 32 cs) (left_of (drop 32 cs) right)
-              → upper.node ≡ inner_node (inner_of level more (drop 32 cs) right) → upper.left ≡ left_of (drop 32 cs) right
+        finish f marking new2 inner' (Some upper) more cs all each long becomes = by_drop (drop n cs) refl becomes.3 becomes.4 becomes.5 where
+          n : ℕ
+          n = becomes.0
+
+          by_drop : (l : List Child) → drop n cs ≡ l → inner' ≡ inner_of level more (take n cs) (left_of (drop n cs) right)
+              → upper.node ≡ inner_node (inner_of level more (drop n cs) right) → upper.left ≡ left_of (drop n cs) right
               → Split f key marking place (suc height) old new2 (whole key place height level mirror right old pre c post)
               (inner_node inner') upper.node upper.left
-          by_drop [] cut inner node left = absurd (omega (arith, ap length (sym cut), length-drop 32 cs, becomes.3))
+          by_drop [] cut inner node left = absurd (omega (arith, ap length (sym cut), length-drop n cs, becomes.1, becomes.2))
           by_drop (x ∷ hi) cut inner node left =
-              let lo : List Child = take 32 cs in
-              let parts : cs ≡ lo ++ x ∷ hi = sym (take-append-drop 32 cs) ∙ ap (λ (l : List Child). lo ++ l) cut in
-              let low : length lo ≡ 32 = length-take-le 32 cs (omega (arith, becomes.3)) in
-              let high : length (x ∷ hi) ≡ 31 = ap length (sym cut) ∙ length-drop 32 cs ∙ omega (arith, becomes.3) in
-              let begins : left_of (drop 32 cs) right ≡ x.left = ap (λ (l : List Child). left_of l right) cut in
+              let lo : List Child = take n cs in
+              let parts : cs ≡ lo ++ x ∷ hi = sym (take-append-drop n cs) ∙ ap (λ (l : List Child). lo ++ l) cut in
+              let low : length lo ≡ n = length-take-le n cs (omega (arith, becomes.1, becomes.2)) in
+              let high : length (x ∷ hi) ≡ 63 - n = ap length (sym cut) ∙ length-drop n cs ∙ ap (λ (k : ℕ). k - n) becomes.2 in
+              let begins : left_of (drop n cs) right ≡ x.left = ap (λ (l : List Child). left_of l right) cut in
               let was : Node = whole key place height level mirror right old pre c post in
               subst (λ (n : Inner). Split f key marking place (suc height) old new2 was (inner_node n) upper.node upper.left)
               (sym (inner ∙ ap (λ (r : Base). inner_of level more lo r) begins))
@@ -189,5 +195,5 @@ module _ (key : Key) (place : Subtree) (height level mirror : ℕ) (right : Base
               (inner_node (inner_of level more lo x.left)) (inner_node (inner_of level more (x ∷ hi) right)) r) (sym (left ∙ begins))
               (split_above f key marking place height old new2 level mirror more right (pre ++ c ∷ post) lo x hi tree
               (subst (λ (l : List Child). ChangedUnder f key marking level right height old new2 (pre ++ c ∷ post) l) parts all)
-              (subst (λ (l : List Child). AllByRecursion (λ d. d.mirror ≤ more) l) parts each) (omega (arith, low))
-              (omega (arith, low)) (omega (arith, high)) (omega (arith, high)))))
+              (subst (λ (l : List Child). AllByRecursion (λ d. d.mirror ≤ more) l) parts each)
+              (omega (arith, low, becomes.1)) (omega (arith, low, becomes.1)) (omega (arith, high, becomes.1)) (omega (arith, high, becomes.1)))))

@@ -1,5 +1,5 @@
 -- What an insertion finds and spends.
-use Rattle.std.proofs.Common.{◌≡◌, Bool, true, false, ℕ, ◌+◌, ◌-◌, ◌*◌, ◌<◌, ◌≤◌, List, [], ◌∷◌, length, drop, get_or, ap, subst}
+use Rattle.std.proofs.Common.{◌≡◌, Bool, true, false, ℕ, ◌+◌, ◌-◌, ◌*◌, ◌/◌, ◌<◌, ◌≤◌, List, [], ◌∷◌, length, drop, get_or, ap, subst}
 use Rattle.std.proofs.Common.{◌∙◌, arith, nat_eq, Some, length-drop, length-set}
 use Rattle.std.specs.Prelude.{if◌then◌else◌, slice_index_or}
 use Rattle.hm_key.specs.Key.{key_of, IsBoundary}
@@ -17,32 +17,39 @@ use Rattle.hm_node.specs.declared.inner.Inner.{Inner}
 use Rattle.hm_node.specs.declared.leaf.Leaf.{Leaf}
 use Rattle.hm_node.specs.declared.node.Node.{Node}
 use Rattle.hm_node.specs.declared.node.Node.TheVariants.{Leaf as leaf_node, Inner as inner_node}
-use Rattle.hm_btree.specs.Edits.{LeafGrown, ChildChange}
+use Rattle.hm_btree.specs.Edits.{lower_count, LeafGrown, LeavesBoth, ChildChange}
 use Rattle.hm_btree.specs.Grow.{FirstAt, LeafBecomes}
 use Rattle.hm_btree.specs.declared.space.TheConstants.{NODE_BYTES}
 use Rattle.hm_btree.proofs.SpendLemmas.{SameRoom, Within}
+
+-- both parts of a full node have as many places as a node below the root must have
+pub both_many : (count at : ℕ) (ends : Bool) → 31 ≤ count → LeavesBoth (count + 1) (lower_count count at ends)
+both_many count at true many = (omega arith, omega arith)
+both_many count at false many = (omega arith, omega arith)
 
 -- the first of some elements
 pub first_at : (l : List Element) (x : Element) (b : Base) → 0 < length l → x ≡ get_or l 0 x → IsBoundary b (key_of x.base) → FirstAt l b
 first_at [] x b some is bound = absurd (omega arith)
 first_at (e ∷ es) x b some is bound = subst (λ (y : Element). IsBoundary b (element_key y)) is bound
 
--- a leaf that was halved, and its upper part
-module _ (mirror : ℕ) (es : List Element) (after upper : Leaf) (grown : LeafGrown mirror es after (Some upper)) (xs : List Element)
-    (same : xs ≡ upper.places.items) where
-  whole : xs ≡ drop 32 es
+-- a leaf that was cut in two, and its upper part
+module _ (lower mirror : ℕ) (both : LeavesBoth 64 lower) (es : List Element) (after upper : Leaf)
+    (grown : LeafGrown lower mirror es after (Some upper)) (xs : List Element) (same : xs ≡ upper.places.items) where
+  whole : xs ≡ drop lower es
   whole = same ∙ ap (λ (l : Leaf). l.places.items) grown.1
 
   pub some_upper : 0 < length xs
-  some_upper = omega (arith, ap length whole, length-drop 32 es, grown.2)
+  some_upper = omega (arith, ap length whole, length-drop lower es, grown.2, both)
 
   pub becomes_two : (x : Element) (b : Base) (node : Node) → x ≡ get_or xs 0 x → IsBoundary b (key_of x.base) → node ≡ leaf_node upper
       → LeafBecomes mirror es after (Some (record { left = b; node = node }))
   becomes_two x b node is bound here = (
+    lower,
+    both,
+    grown.2,
     grown.0,
     here ∙ ap leaf_node grown.1,
-    first_at (drop 32 es) x b (omega (arith, length-drop 32 es, grown.2)) (subst (λ (l : List Element). x ≡ get_or l 0 x) whole is) bound,
-    grown.2,
+    first_at (drop lower es) x b (omega (arith, length-drop lower es, grown.2, both)) (subst (λ (l : List Element). x ≡ get_or l 0 x) whole is) bound,
   )
 
 -- a place after a child whose `mirror` was set

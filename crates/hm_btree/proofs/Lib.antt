@@ -1,5 +1,6 @@
 pub mod BesideLemmas
 pub mod ChangeLemmas
+pub mod ChoiceLemmas
 pub mod CutLemmas
 pub mod EditLemmas
 pub mod EmptyLemmas

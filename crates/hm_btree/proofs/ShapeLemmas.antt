@@ -99,15 +99,16 @@ leaf_becomes mirror es leaf None each becomes = record {
   above = tt;
 }
 leaf_becomes mirror es leaf (Some upper) each becomes =
-    let low = length-take 32 es in
-    let high = length-drop 32 es in
+    let n : ℕ = becomes.0 in
+    let low = length-take n es in
+    let high = length-drop n es in
     record {
-      shape = subst (λ (l : Leaf). IsShaped (leaf_node l)) (sym becomes.0) (leaf_shaped mirror (take 32 es)
-          (omega (arith, low, becomes.3)) (each_take IsPlaced 32 es each));
+      shape = subst (λ (l : Leaf). IsShaped (leaf_node l)) (sym becomes.3) (leaf_shaped mirror (take n es)
+          (omega (arith, low, becomes.1.1, becomes.2)) (each_take IsPlaced n es each));
       above = record {
-        node = subst (λ (n : Node). IsShaped n) (sym becomes.1) (leaf_shaped mirror (drop 32 es) (omega (arith, high, becomes.3))
-            (each_drop IsPlaced 32 es each));
-        left = first_bound (drop 32 es) upper.left becomes.2;
+        node = subst (λ (n : Node). IsShaped n) (sym becomes.4) (leaf_shaped mirror (drop n es)
+            (omega (arith, high, becomes.1.0, becomes.2)) (each_drop IsPlaced n es each));
+        left = first_bound (drop n es) upper.left becomes.5;
       };
     }
 
@@ -120,17 +121,18 @@ inner_becomes level mirror cs right inner None within some each bound becomes = 
   above = tt;
 }
 inner_becomes level mirror cs right inner (Some upper) within some each bound becomes =
-    let low = length-take 32 cs in
-    let high = length-drop 32 cs in
-    let left = left_bound (drop 32 cs) right (each_drop IsChild 32 cs each) bound in
+    let n : ℕ = becomes.0 in
+    let low = length-take n cs in
+    let high = length-drop n cs in
+    let left = left_bound (drop n cs) right (each_drop IsChild n cs each) bound in
     record {
-      shape = subst (λ (n : Inner). IsShaped (inner_node n)) (sym becomes.0)
-          (inner_shaped level mirror (take 32 cs) (left_of (drop 32 cs) right) within (omega (arith, low, becomes.3))
-          (omega (arith, low, becomes.3)) (each_take IsChild 32 cs each) left);
+      shape = subst (λ (n : Inner). IsShaped (inner_node n)) (sym becomes.3)
+          (inner_shaped level mirror (take n cs) (left_of (drop n cs) right) within (omega (arith, low, becomes.1, becomes.2))
+          (omega (arith, low, becomes.1, becomes.2)) (each_take IsChild n cs each) left);
       above = record {
-        node = subst (λ (n : Node). IsShaped n) (sym becomes.1) (inner_shaped level mirror (drop 32 cs) right within
-            (omega (arith, high, becomes.3)) (omega (arith, high, becomes.3)) (each_drop IsChild 32 cs each) bound);
-        left = subst (λ (b : Base). IsBound b) (sym becomes.2) left;
+        node = subst (λ (n : Node). IsShaped n) (sym becomes.4) (inner_shaped level mirror (drop n cs) right within
+            (omega (arith, high, becomes.1, becomes.2)) (omega (arith, high, becomes.1, becomes.2)) (each_drop IsChild n cs each) bound);
+        left = subst (λ (b : Base). IsBound b) (sym becomes.5) left;
       };
     }
 

@@ -1,4 +1,5 @@
 pub mod Change
+pub mod Choice
 pub mod Insert
 pub mod Move
 pub mod Remove

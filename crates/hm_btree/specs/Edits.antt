@@ -1,5 +1,6 @@
 -- What edits make of one node or of two neighbours, as lists of their places.
-use Rattle.std.specs.Prelude.{◌≡◌, ℕ, ◌+◌, ◌/◌, ◌≤◌, List, [], ◌∷◌, length, take, drop, slice_set, slice_index_or, Option, Some, None}
+use Rattle.std.specs.Prelude.{◌≡◌, ℕ, ◌+◌, ◌-◌, ◌/◌, ◌≤◌, Bool, if◌then◌else◌, min, max, List, [], ◌∷◌, length, take, drop, slice_set, slice_index_or}
+use Rattle.std.specs.Prelude.{Option, Some, None}
 use Rattle.hm_key.specs.declared.base.Base.{Base}
 use Rattle.hm_key.specs.declared.element.Element.{Element}
 use Rattle.hm_node.specs.declared.leaf.Leaf.{Leaf}
@@ -19,23 +20,29 @@ abbrev pub left_of : List Child → Base → Base
 left_of [] right = right
 left_of (c ∷ cs) right = c.left
 
--- how many of so many places the left one of two halves gets, with one more
-abbrev pub half_of : ℕ → ℕ
-half_of count = count / 2 + 1
+-- Of a full node with so many places that gets one more at a place: how many the lower one of its two parts keeps. Where
+-- that one ends a range whose keys rise, the lower part is cut behind it, as far as each part keeps the least that a node
+-- below the root may have; and else it gets a half.
+abbrev pub lower_count : ℕ → ℕ → Bool → ℕ
+lower_count count at ends = if ends then min (count - 15) (max (at + 1) 16) else count / 2 + 1
 
--- A leaf that shall have these elements has them, or has half of them where they are too many for
+-- of so many places in all, the lower part has so many, and each part has as many as a node below the root must have
+abbrev pub LeavesBoth : ℕ → ℕ → Type 0
+LeavesBoth all lower = (16 ≤ lower) × (lower + 16 ≤ all)
+
+-- A leaf that shall have these elements has them, or has so many of them where they are too many for
 -- one; a new leaf then has the others. Both have one `mirror`.
-abbrev pub LeafGrown : ℕ → List Element → Leaf → Option Leaf → Type 0
-LeafGrown mirror es leaf None = (leaf ≡ leaf_of mirror es) × (length es ≤ 63)
-LeafGrown mirror es leaf (Some upper) =
-    (leaf ≡ leaf_of mirror (take 32 es)) × (upper ≡ leaf_of mirror (drop 32 es)) × (length es ≡ 64)
+abbrev pub LeafGrown : ℕ → ℕ → List Element → Leaf → Option Leaf → Type 0
+LeafGrown lower mirror es leaf None = (leaf ≡ leaf_of mirror es) × (length es ≤ 63)
+LeafGrown lower mirror es leaf (Some upper) =
+    (leaf ≡ leaf_of mirror (take lower es)) × (upper ≡ leaf_of mirror (drop lower es)) × (length es ≡ 64)
 
--- The same for an inner node. The boundary between the halves is that of the first child of the new one.
-abbrev pub InnerGrown : ℕ → ℕ → List Child → Base → Inner → Option Inner → Type 0
-InnerGrown level mirror cs right inner None = (inner ≡ inner_of level mirror cs right) × (length cs ≤ 62)
-InnerGrown level mirror cs right inner (Some upper) =
-    (inner ≡ inner_of level mirror (take 32 cs) (left_of (drop 32 cs) right))
-    × (upper ≡ inner_of level mirror (drop 32 cs) right) × (length cs ≡ 63)
+-- The same for an inner node. The boundary between the parts is that of the first child of the new one.
+abbrev pub InnerGrown : ℕ → ℕ → ℕ → List Child → Base → Inner → Option Inner → Type 0
+InnerGrown lower level mirror cs right inner None = (inner ≡ inner_of level mirror cs right) × (length cs ≤ 62)
+InnerGrown lower level mirror cs right inner (Some upper) =
+    (inner ≡ inner_of level mirror (take lower cs) (left_of (drop lower cs) right))
+    × (upper ≡ inner_of level mirror (drop lower cs) right) × (length cs ≡ 63)
 
 -- the element at a place changed, and no other
 abbrev pub ElementChange : (Element → Element) → List Element → ℕ → List Element → Type 0

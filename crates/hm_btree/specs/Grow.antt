@@ -21,7 +21,7 @@ use Rattle.hm_search.specs.Tree.{elements_in, mark_in, reaches, IsTree}
 use Rattle.hm_search.specs.declared.subtree.Subtree.{Subtree}
 use Rattle.hm_btree.specs.Marking.{Marking, MarksWithin}
 use Rattle.hm_btree.specs.Below.{Replaces, Changed, placed}
-use Rattle.hm_btree.specs.Edits.{leaf_of, inner_of, left_of}
+use Rattle.hm_btree.specs.Edits.{leaf_of, inner_of, left_of, LeavesBoth}
 use Rattle.hm_btree.specs.Space.{HasAdded, IsSpot}
 use Rattle.hm_btree.specs.declared.upper.Upper.{Upper}
 
@@ -69,18 +69,19 @@ abbrev pub FirstAt : List Element → Base → Type 0
 FirstAt [] left = ⊥
 FirstAt (e ∷ es) left = IsBoundary left (element_key e)
 
--- a leaf that shall have these elements has them, or half of them, and its upper part has the others
+-- a leaf that shall have these elements has them, or so many of them, and its upper part has the others
 abbrev pub LeafBecomes : ℕ → List Element → Leaf → Option Upper → Type 0
 LeafBecomes mirror es leaf None = (leaf ≡ leaf_of mirror es) × (length es ≤ 63)
 LeafBecomes mirror es leaf (Some upper) =
-    (leaf ≡ leaf_of mirror (take 32 es)) × (upper.node ≡ leaf_node (leaf_of mirror (drop 32 es))) × FirstAt (drop 32 es) upper.left × (length es ≡ 64)
+    (lower : ℕ) × LeavesBoth 64 lower × (length es ≡ 64) × (leaf ≡ leaf_of mirror (take lower es))
+    × (upper.node ≡ leaf_node (leaf_of mirror (drop lower es))) × FirstAt (drop lower es) upper.left
 
 -- the same of an inner node and its children
 abbrev pub InnerBecomes : ℕ → ℕ → List Child → Base → Inner → Option Upper → Type 0
 InnerBecomes level mirror cs right inner None = (inner ≡ inner_of level mirror cs right) × (length cs ≤ 62)
 InnerBecomes level mirror cs right inner (Some upper) =
-    (inner ≡ inner_of level mirror (take 32 cs) (left_of (drop 32 cs) right)) × (upper.node ≡ inner_node (inner_of level mirror (drop 32 cs) right))
-    × (upper.left ≡ left_of (drop 32 cs) right) × (length cs ≡ 63)
+    (lower : ℕ) × LeavesBoth 63 lower × (length cs ≡ 63) × (inner ≡ inner_of level mirror (take lower cs) (left_of (drop lower cs) right))
+    × (upper.node ≡ inner_node (inner_of level mirror (drop lower cs) right)) × (upper.left ≡ left_of (drop lower cs) right)
 
 -- the root above two nodes, of which the upper one stands at an offset of its own
 abbrev pub top_of : Subtree → Node → Upper → ℕ → Node

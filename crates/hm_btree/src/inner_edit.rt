@@ -1,7 +1,7 @@
 // Edits of inner nodes.
-ghost use Rattle.std.specs.Prelude.{◌≡◌, ◌+◌, ◌/◌, ◌≤◌, ◌<◌, ◌++◌, if◌then◌else◌, false, max, take, drop, insert, remove, nat_lt};
+ghost use Rattle.std.specs.Prelude.{◌≡◌, ◌+◌, ◌/◌, ◌≤◌, ◌<◌, ◌++◌, if◌then◌else◌, false, max, take, drop, insert, remove, nat_eq, nat_lt};
 ghost use Rattle.arrayvec.specs.ArrayVec.{array_vec_len};
-ghost use Rattle.hm_btree.specs.Edits.{inner_of, left_of, with_child, with_mirror, with_left, InnerGrown, ChildChange};
+ghost use Rattle.hm_btree.specs.Edits.{inner_of, left_of, lower_count, with_child, with_mirror, with_left, InnerGrown, ChildChange};
 ghost use Rattle.hm_node.specs.Edits.{IsInnerPage};
 ghost use Rattle.hm_node.specs.Head.{head_in};
 ghost use Rattle.hm_node.specs.Inner.{IsNodeOffset};
@@ -75,15 +75,16 @@ pub fn set_child_in(page: &mut Page, at: usize, to: HOff)
 }
 
 /// Puts a child in before the place `at`, and raises the node's `mirror` to the child's. A node
-/// that is full keeps half of them, and gives a new one with the others.
+/// that is full becomes two: it keeps the lower part, and gives a new one with the others.
 pub fn insert_child(inner: &mut Inner, at: usize, child: Child) -> Option<Inner>
     requires { at ≤ array_vec_len inner.old.places }
-    ensures { InnerGrown inner.old.level (max inner.old.mirror child.mirror)
+    ensures { InnerGrown (lower_count 62 at (nat_eq at 62)) inner.old.level (max inner.old.mirror child.mirror)
         (insert inner.old.places.items at child) inner.old.right inner.new result }
 {
     inner.mirror = inner.mirror.max(child.mirror);
     if inner.places.is_full() {
-        let places = insert_and_split(&mut inner.places, at, child);
+        let ends = at == inner.places.len();
+        let places = insert_and_split(&mut inner.places, at, child, ends);
         let right = inner.right;
         inner.right = first_left(places.as_slice(), right);
         Some(Inner {

@@ -1,7 +1,8 @@
 // Insertion of an element below a node.
-ghost use Rattle.std.specs.Prelude.{◌≡◌, ◌*◌, ◌-◌, ◌≤◌, max, insert, IfOk};
+ghost use Rattle.std.specs.Prelude.{◌≡◌, ◌≢◌, ◌↔◌, ◌*◌, ◌-◌, ◌≤◌, Some, length, max, insert, slice_get, IfOk, IsTrue};
 ghost use Rattle.hm_types.specs.Faults.{HasStoreCause};
 ghost use Rattle.hm_key.specs.Elements.{last_id};
+ghost use Rattle.hm_key.specs.declared.element.Element.{Element as Elem};
 ghost use Rattle.hm_types.specs.Space.{in_zone};
 ghost use Rattle.hm_fields.specs.Pages.{page_in};
 ghost use Rattle.hm_node.specs.Edits.{IsLeafPage, IsInnerPage};
@@ -16,7 +17,7 @@ ghost use Rattle.hm_btree.specs.Calls.Space.{StaysWithin};
 ghost use Rattle.hm_btree.specs.Below.{HasPassCause};
 
 use crate::inner_edit::insert_child;
-use crate::leaf_edit::insert_and_halve;
+use crate::leaf_edit::insert_and_cut;
 use crate::node_edit::{add_page, mirror_in, update_page};
 use crate::space::{NODE_BYTES, NodeSpace};
 use crate::upper::Grown;
@@ -140,7 +141,8 @@ fn split_leaf(
         (insert (leaf_in page.old).places.items at element.now) page.new (page_in upper.new) result }
 {
     let mut leaf = Leaf::of(page);
-    let more = insert_and_halve(&mut leaf, at, element);
+    let ends = ends_kind(leaf.places.as_slice(), at, element);
+    let more = insert_and_cut(&mut leaf, at, element, ends);
     leaf.write(page);
     match more {
         None => None,
@@ -150,6 +152,20 @@ fn split_leaf(
             *upper = Some(above);
             Some(more.places[0].base.boundary())
         }
+    }
+}
+
+// Whether an element that comes in before a place is the last one of its localization there. The numbers
+// of objects rise, so an inode that is new comes behind all others, and before what else its pseudo file
+// system has.
+fn ends_kind(elements: &[Element], at: usize, element: &Element) -> bool
+    ensures last { length elements.now ≤ at → IsTrue result }
+    ensures next { (next : Elem) → slice_get elements.now at ≡ Some next →
+        IsTrue result ↔ (next.base.localization ≢ element.now.base.localization) }
+{
+    match elements.get(at) {
+        Some(next) => next.base.localization != element.base.localization,
+        None => true,
     }
 }
 

@@ -2,17 +2,18 @@
 ghost use Rattle.std.specs.Prelude.{◌≡◌, ◌+◌, ◌/◌, ◌≤◌, ◌++◌, if◌then◌else◌, max, take, drop, insert, nat_lt};
 ghost use Rattle.arrayvec.specs.ArrayVec.{array_vec_len};
 ghost use Rattle.hm_key.specs.Elements.{last_id};
-ghost use Rattle.hm_btree.specs.Edits.{leaf_of, LeafGrown};
+ghost use Rattle.hm_btree.specs.Edits.{leaf_of, lower_count, LeafGrown};
 
 use crate::places::{append, insert_and_split, share_out};
 use hm_key::Element;
 use hm_node::Leaf;
 
 /// Puts an element in before the place `at`, and raises the leaf's `mirror` to its ids. A leaf that
-/// is full keeps half of them, and gives a new one with the others.
-pub fn insert_and_halve(leaf: &mut Leaf, at: usize, element: &Element) -> Option<Leaf>
+/// is full becomes two: it keeps the lower part, and gives a new one with the others. It is said whether
+/// the element ends a range whose keys rise.
+pub fn insert_and_cut(leaf: &mut Leaf, at: usize, element: &Element, ends: bool) -> Option<Leaf>
     requires { at ≤ array_vec_len leaf.old.places }
-    ensures { LeafGrown (max leaf.old.mirror (last_id element.now))
+    ensures { LeafGrown (lower_count 63 at ends) (max leaf.old.mirror (last_id element.now))
         (insert leaf.old.places.items at element.now) leaf.new result }
 {
     leaf.mirror = leaf
@@ -21,7 +22,7 @@ pub fn insert_and_halve(leaf: &mut Leaf, at: usize, element: &Element) -> Option
     if leaf.places.is_full() {
         Some(Leaf {
             mirror: leaf.mirror,
-            places: insert_and_split(&mut leaf.places, at, *element),
+            places: insert_and_split(&mut leaf.places, at, *element, ends),
         })
     } else {
         leaf.places.insert(at, *element);

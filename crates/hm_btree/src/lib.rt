@@ -10,6 +10,7 @@ mod leaf_edit;
 mod mem_space;
 mod move_node;
 mod node_edit;
+mod node_in;
 mod node_table;
 mod places;
 mod remove;

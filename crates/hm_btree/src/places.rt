@@ -1,9 +1,10 @@
 // Moves of places between the vectors of two nodes.
-ghost use Rattle.std.specs.Prelude.{◌≡◌, ◌+◌, ◌≤◌, ◌<◌, ◌++◌, length, take, drop, insert};
+ghost use Rattle.std.specs.Prelude.{◌≡◌, ◌+◌, ◌≤◌, ◌++◌, length, take, drop, insert};
 ghost use Rattle.arrayvec.specs.ArrayVec.{array_vec_len};
-ghost use Rattle.hm_btree.specs.Edits.{half_of};
+ghost use Rattle.hm_btree.specs.Edits.{lower_count};
 
 use arrayvec::ArrayVec;
+use hm_types::LEAST_PLACES;
 
 /// Appends these places, for which there must be room.
 pub fn append<T: Copy + Default, const N: usize>(to: &mut ArrayVec<T, N>, more: &[T])
@@ -31,28 +32,44 @@ pub fn split_off<T: Copy + Default, const N: usize>(
     upper
 }
 
-/// Puts a place into a vector that is full, keeps the lower half and gives the upper one.
+/// Puts a place into a vector that is full, keeps the lower part and gives the upper one. Where the
+/// new place ends a range whose keys rise, the lower part ends with it, as far as it may.
 #[tactic(auto, using(crate::proofs::ListLemmas::halves))]
 pub fn insert_and_split<T: Copy + Default, const N: usize>(
     places: &mut ArrayVec<T, N>,
     at: usize,
     value: T,
+    ends: bool,
 ) -> ArrayVec<T, N>
     requires full { array_vec_len places.old ≡ N }
-    requires some { 1 < N }
+    requires many { 31 ≤ N }
     requires within { at ≤ N }
-    ensures lower { places.new.items ≡ take (half_of N) (insert places.old.items at value) }
-    ensures upper { result.items ≡ drop (half_of N) (insert places.old.items at value) }
+    ensures lower { places.new.items ≡ take (lower_count N at ends) (insert places.old.items at value) }
+    ensures upper { result.items ≡ drop (lower_count N at ends) (insert places.old.items at value) }
 {
-    let half = places.len() / 2 + 1;
-    if at < half {
-        let upper = split_off(places, half - 1);
+    let kept = kept_below(places.len(), at, ends);
+    if at < kept {
+        let upper = split_off(places, kept - 1);
         places.insert(at, value);
         upper
     } else {
-        let mut upper = split_off(places, half);
-        upper.insert(at - half, value);
+        let mut upper = split_off(places, kept);
+        upper.insert(at - kept, value);
         upper
+    }
+}
+
+// How many places the lower part of a full node keeps that gets one more at a place. Where that one ends a
+// range whose keys rise, little comes below it any more.
+fn kept_below(count: usize, at: usize, ends: bool) -> usize
+    requires many { 31 ≤ count }
+    requires within { at ≤ count }
+    ensures { result ≡ lower_count count at ends }
+{
+    if ends {
+        (count - LEAST_PLACES).min(at.max(LEAST_PLACES - 1)) + 1
+    } else {
+        count / 2 + 1
     }
 }
 

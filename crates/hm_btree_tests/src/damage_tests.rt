@@ -42,13 +42,13 @@ const DAMAGES: [(Damage, u8); 7] = [
     (Damage::LowMirror, BAD_MIRROR),
 ];
 
-// A tree of the even keys below 4,032, made by id 2. Its 63 leaves have 32 of them each, the one of
+// A tree of the even keys below 4,032, which came in falling order, made by id 2. Its 63 leaves have 32 of them each, the one of
 // number i from 64 i on, and below the root stand an inner node over the first 32 and one over the
 // others.
 fn tall(alloc: Global) -> Result<BTree<NodeTable>, Fail> {
     let mut tree = empty(alloc)?;
     for i in 0..2_016u64 {
-        insert(&mut tree, &element(2 * i, 2))?;
+        insert(&mut tree, &element(2 * (2_015 - i), 2))?;
     }
     Ok(tree)
 }

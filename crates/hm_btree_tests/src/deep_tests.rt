@@ -12,7 +12,7 @@ use std::test::Fail;
 
 // Adds a sound node to a space.
 #[tactic(auto, using(hm_node::proofs::LawLemmas::holds_node))]
-fn add(space: &mut NodeTable, node: &Node) -> Result<HOff, Fail> {
+pub(crate) fn add(space: &mut NodeTable, node: &Node) -> Result<HOff, Fail> {
     let mut page = Page::zero();
     encode(node, &mut page);
     if broken_rule(&page).is_some() || space.room() < u64::from(NODE_BYTES) {

@@ -36,7 +36,7 @@ fn wanted(key: u64, keys: u64) -> Option<Element> {
 
 #[test]
 fn the_last_element_up_to_each_key_is_found(rt: HostRuntime) -> Result<(), Fail> {
-    for keys in [0u64, 2, 40, 700, 2_500] {
+    for keys in [0u64, 2, 40, 700, 3_500] {
         let mut tree = evens(rt.alloc(), keys)?;
         for key in 0..keys.saturating_mul(2).saturating_add(4) {
             let mut at = element(key, 1).base;
@@ -122,15 +122,15 @@ fn search(
 
 #[test]
 fn a_search_whose_read_is_refused_says_so_or_has_read_enough(rt: HostRuntime) -> Result<(), Fail> {
-    let (table, root) = evens(rt.alloc(), 2_500)?.into_parts();
+    let (table, root) = evens(rt.alloc(), 3_500)?.into_parts();
     let mut failing = Failing { table, left: 0 };
-    for key in 0..5_004u64 {
+    for key in 0..7_004u64 {
         let at = element(key, 1).base;
         let mut failed: u64 = 0;
         for left in 0..6u64 {
             failing.left = left;
             match search(&mut failing, root, &at)? {
-                Ok(found) => assert_eq!(rt; found, wanted(key, 2_500), "{key}"),
+                Ok(found) => assert_eq!(rt; found, wanted(key, 3_500), "{key}"),
                 Err(fault) => {
                     assert_eq!(rt; fault, Fault::NoMemory);
                     assert_eq!(rt; failed, left, "{key}");

@@ -6,10 +6,14 @@
 #![tactic(auto)]
 
 #[cfg(test)]
+mod choice_tests;
+#[cfg(test)]
 mod damage_tests;
 #[cfg(test)]
 mod deep_tests;
 #[cfg(test)]
 mod last_tests;
+#[cfg(test)]
+mod split_tests;
 #[cfg(test)]
 mod tests;

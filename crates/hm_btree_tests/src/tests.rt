@@ -17,7 +17,7 @@ use std::process::Abort;
 use std::test::Fail;
 
 // The key of the element that comes after so many.
-fn key(before: u64) -> u64 {
+pub(crate) fn key(before: u64) -> u64 {
     before.wrapping_mul(6_364_136_223_846_793_005)
 }
 
@@ -62,7 +62,10 @@ pub(crate) fn insert(tree: &mut BTree<NodeTable>, e: &Element) -> Result<(), Fau
 }
 
 // Whether a store gives the elements of a map, one after the other, and no other.
-fn is_same<T: ElementStore>(store: &mut T, map: &BTreeMap<u64, Element>) -> Result<bool, Fault> {
+pub(crate) fn is_same<T: ElementStore>(
+    store: &mut T,
+    map: &BTreeMap<u64, Element>,
+) -> Result<bool, Fault> {
     let mut at = Base::least();
     for (_, want) in map.iter() {
         match store.first_at_or_after(&at)? {
@@ -196,7 +199,7 @@ fn a_tree_whose_nodes_move_is_the_same_list(rt: HostRuntime) -> Result<(), Fail>
 }
 
 // A tree, and how many levels it has.
-fn levels_of(tree: BTree<NodeTable>) -> Result<(BTree<NodeTable>, u64), Fault> {
+pub(crate) fn levels_of(tree: BTree<NodeTable>) -> Result<(BTree<NodeTable>, u64), Fault> {
     let (mut space, root) = tree.into_parts();
     let node = read_node(&mut space, &Subtree::root(root))?;
     let levels = match &node {
@@ -283,12 +286,12 @@ fn marks_reach_each_id_that_was_written(rt: HostRuntime) -> Result<(), Fail> {
     Ok(())
 }
 
-// A tree of the keys below 1,000, all made by id 1. Its leaves have 32 of them each, and so begin at
-// 0, 32, 64 and so on, but for the last one. The leaf of key 500, from 480 on, was written by id 9.
+// A tree of the keys below 1,024, which came in falling order, all made by id 1. Its leaves have 32 of them
+// each, and so begin at 0, 32, 64 and so on. The leaf of key 500, from 480 on, was written by id 9.
 fn marked(alloc: Global) -> Result<BTree<NodeTable>, Fail> {
     let mut tree = empty(alloc)?;
-    for i in 0..1_000u64 {
-        insert(&mut tree, &element(i, 1))?;
+    for i in 0..1_024u64 {
+        insert(&mut tree, &element(1_023 - i, 1))?;
     }
     tree.set_delete(&element(500, 1).base, 9)?;
     Ok(tree)
@@ -316,9 +319,9 @@ fn a_node_whose_bytes_stay_is_not_written(rt: HostRuntime) -> Result<(), Fail> {
     let before = tree.space().writes();
     tree.readdress(&element(10, 1).base, HOff::default())?;
     assert_eq!(rt; written(&tree, before), 1);
-    insert(&mut tree, &element(1_000, 1))?;
+    insert(&mut tree, &element(1_024, 1))?;
     assert_eq!(rt; written(&tree, before), 2);
-    tree.remove(&element(1_000, 1).base)?;
+    tree.remove(&element(1_024, 1).base)?;
     assert_eq!(rt; written(&tree, before), 3);
     // The leaf of key 500 has this id already, and so has the root.
     tree.set_delete(&element(501, 1).base, 9)?;

@@ -37,7 +37,7 @@ pub record InsertsBelow {S : Type 0} (pages_of : S → Option PageMap) (extents_
   pub kept : HasKept pages_of extents_of old new
   pub same : grown.changed ≡ false → (after ≡ before) × IsNone grown.left
 
--- a leaf that shall have these elements has them, or half of them, and the page of its upper part has the others
+-- a leaf that shall have these elements has them, or so many of them, and the page of its upper part has the others
 pub record SplitsLeaf (mirror : ℕ) (es : List Element) (after upper : List ℕ) (left : Option Base) : Type 0 where
   pub held : IsLeafPage after
   pub becomes : LeafBecomes mirror es (leaf_in after) (upper_of left upper)
