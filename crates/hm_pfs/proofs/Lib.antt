@@ -1,0 +1,5 @@
+mod KeyLemmas
+mod MadeLemmas
+mod RecordLemmas
+mod SystemLemmas
+mod UnusedLemmas
