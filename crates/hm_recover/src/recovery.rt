@@ -1,6 +1,9 @@
 // Recovery.
-ghost use Rattle.std.specs.Prelude.{◌≡◌, ◌≤◌, ◌<◌, IfErr, IfOk, IfSome};
+ghost use Rattle.std.specs.Prelude.{◌≡◌, ◌≤◌, ◌<◌, IfErr, IfOk, IfSome, OnErr, OnOk};
+ghost use Rattle.hm_types.specs.Faults.{HasCause};
 ghost use Rattle.hm_types.specs.Told.{BothTell};
+ghost use Rattle.hm_disk.specs.Disk.{Synced};
+ghost use Rattle.hm_disk.specs.Moments.{SyncElapses};
 ghost use Rattle.hm_header.specs.Range.{IsHeader};
 ghost use Rattle.hm_recover.specs.Recovery.{HasRecoveryCause, IsOpenedHeader, IsRangeReady, IsRecovered, IsRecoveryRefused, KeepsRecovery};
 ghost use Rattle.hm_recover.specs.Stop.{HasEndCause, IsFailed, IsOfHeader, IsStopped};
@@ -11,7 +14,7 @@ use crate::range::{check_range, put_back};
 use crate::stop::Stop;
 use hm_disk::Disk;
 use hm_header::{Header, HeaderFault, change_header};
-use hm_types::Fault;
+use hm_types::{Failed, Fault};
 
 /// Recovers a disk after a crash, and tells the header that counts then, which names no range of entries.
 /// Where the header that counted named none, nothing is written. Else the entries of its range are read and
@@ -90,7 +93,7 @@ fn undo_range<D: Disk>(disk: &mut D, header: &Header, slot: u8) -> Result<Opened
     ensures cause { HasEndCause (D.faults disk.old) (D.faults disk.new) result }
 {
     put_back(disk, header)?;
-    disk.sync()?;
+    settle(disk)?;
     let next = Header {
         generation: header.next_generation(),
         undo_count: 0,
@@ -101,4 +104,15 @@ fn undo_range<D: Disk>(disk: &mut D, header: &Header, slot: u8) -> Result<Opened
         header: next,
         slot: 1 - slot,
     })
+}
+
+/// Settles the pages that were put back. Until then the header has to name their entries.
+fn settle<D: Disk>(disk: &mut D) -> Result<(), Failed>
+    ensures ok { OnOk result (BothTell (D.told disk.old) (D.told disk.new) Synced) }
+    ensures err { OnErr result (D.told disk.new ≡ D.told disk.old) }
+    ensures any_moment { BothTell (D.told disk.old) (D.told disk.new)
+        (SyncElapses (D.left_since disk.old) (D.left_since disk.new)) }
+    ensures cause { HasCause (D.faults disk.old) (D.faults disk.new) result }
+{
+    disk.sync()
 }

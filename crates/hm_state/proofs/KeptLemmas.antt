@@ -21,7 +21,7 @@ use Rattle.hm_load.proofs.TreeLemmas.{Keeps, elements_kept, same_below, same_nod
 use Rattle.hm_stored.specs.Basis.{nodes, refers}
 
 -- the nodes of a map are pages of it
-node_there : (pages : PageMap) (at : ℕ) (bytes : List ℕ) → nodes pages at ≡ Some bytes → pages at ≡ Some bytes
+pub node_there : (pages : PageMap) (at : ℕ) (bytes : List ℕ) → nodes pages at ≡ Some bytes → pages at ≡ Some bytes
 node_there pages at bytes is = by_test (zone_of at == TREE_ZONE) is where
   by_test : (b : Bool) → cond b (pages at) None ≡ Some bytes → pages at ≡ Some bytes
   by_test true there = there

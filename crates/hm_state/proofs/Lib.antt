@@ -20,3 +20,6 @@ pub mod CurrentLemmas
 pub mod RecoveredVolumeLemmas
 pub mod FlushKeptLemmas
 pub mod MountedFlushLemmas
+pub mod LiveLemmas
+pub mod NodeLemmas
+pub mod SettledLemmas

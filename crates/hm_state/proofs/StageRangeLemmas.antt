@@ -1,7 +1,6 @@
 -- Where a stage of a flush writes there is no payload of the three trees, and nothing of the freemap but pages that are committed.
 use Rattle.std.proofs.Common.{◌≡◌, ◌≢◌, ◌⊎◌, inl, inr, ℕ, ◌+◌, ◌-◌, ◌<◌, ◌≤◌, Bool, true, false, true≢false, List, [], ◌∷◌, ◌++◌, Option, None, Some, IsSome}
 use Rattle.std.proofs.Common.{refl, sym, ap, subst, arith, if◌then◌else◌, is_some, length, map, nat_lt, slice_index}
-use Rattle.std.specs.Prelude.{IsSomeAnd}
 use Rattle.std.specs.List.{All, Contains}
 use Rattle.std.proofs.lemmas.Bool.{cases_lt, ltb-true}
 use Rattle.std.proofs.lemmas.List.Elements.{All-contains, All-contains_itself, All-map, All-weaker, Contains-append_left, Contains-append_right}
@@ -44,10 +43,11 @@ use Rattle.hm_model.specs.Volume.{Volume}
 use Rattle.hm_stored.specs.Basis.{IsFirm, elements_in, nodes, refers, states_of}
 use Rattle.hm_stored.specs.Flushed.{AreSoundPages}
 use Rattle.hm_stored.specs.Heap.{Heap}
-use Rattle.hm_stored.specs.Standing.{HoldsBy, basis_now}
+use Rattle.hm_stored.specs.Standing.{basis_now}
 use Rattle.hm_state.specs.Flushing.{HoldsFlush}
 use Rattle.hm_state.specs.Volume.{HoldsVolume}
 use Rattle.hm_state.proofs.KeptLemmas.{page_referred, payload_named}
+use Rattle.hm_state.proofs.SameLemmas.{held_firm}
 
 -- no byte that a reference names lies in a range
 abbrev pub IsBesideRange : ℕ × ℕ → Reference → Type 0
@@ -57,11 +57,11 @@ IsBesideRange range r = (byte : ℕ) → begin_of r ≤ byte → byte < begin_of
 
 module _ (f : Flush) (s : Store) where
   -- before layer 1, in the log, or where a frozen page belongs
-  abbrev Kind : Position → ℕ × ℕ → Type 0
+  abbrev pub Kind : Position → ℕ × ℕ → Type 0
   Kind at range =
       (range.0 + range.1 ≤ start_of 1)
       ⊎ ((start_of (first_undo f.header.bigblocks) ≤ range.0) × (range.0 + range.1 ≤ start_of (first_pool f.header.bigblocks)))
-      ⊎ ((at ≢ Idle) × (i : ℕ) × (i < length s.frozen_group) × (range ≡ (byte_of (slice_index s.frozen_group i), PAGE_BYTES)))
+      ⊎ ((i : ℕ) × (at ≡ Placing i) × (i < length s.frozen_group) × (range ≡ (byte_of (slice_index s.frozen_group i), PAGE_BYTES)))
 
   in_slots : (at : Position) (change : Change) → Kind at (change_range change f.slot)
   in_slots at Close = inl (omega arith)
@@ -77,9 +77,9 @@ module _ (f : Flush) (s : Store) where
   placing : (i : ℕ) (b : Bool) → nat_lt i f.pages ≡ b → length s.frozen_group ≡ f.pages
       → Kind (Placing i) (stage_range (if b then Place i else PlaceSync) f (group_of s))
   placing i false is len = inl (omega arith)
-  placing i true is len = inr (inr ((λ idle. absurd (cc)), i, omega (arith, len, ltb-true _ _ is), refl))
+  placing i true is len = inr (inr (i, refl, omega (arith, len, ltb-true _ _ is), refl))
 
-  kind_at : (p : Position) → IsGroupAt p f s → Kind p (stage_range (due_stage_at p f (group_of s)) f (group_of s))
+  pub kind_at : (p : Position) → IsGroupAt p f s → Kind p (stage_range (due_stage_at p f (group_of s)) f (group_of s))
   kind_at Idle group = inl (omega arith)
   kind_at (Undoing from) group =
       let next = next_live (group_of s).was_live from (f.pages - from) in
@@ -87,6 +87,10 @@ module _ (f : Flush) (s : Store) where
   kind_at (Arming change) group = in_slots (Arming change) (due_change f.at)
   kind_at (Placing i) group = placing i (nat_lt i f.pages) refl group.pages
   kind_at (Committing change) group = in_slots (Committing change) (due_change f.at)
+
+-- while pages are placed a flush is in flight
+not_idle : (p : Position) (i : ℕ) → p ≡ Placing i → p ≢ Idle
+not_idle p i placing idle = absurd (cc)
 
 -- ---- what stands beside it
 
@@ -99,12 +103,8 @@ module _ (f : Flush) (h : Heap) (flush : IsFlush f) (ready : IsFlushReady f h.pa
   abbrev es : List FullElement
   es = held.elements.0
 
-  by_disk : (o : Option Told) → IsSomeAnd o (λ d. HoldsBy h root d.bytes es) → IsFirm (basis_now h root)
-  by_disk None is = absurd is
-  by_disk (Some d) is = is.firm
-
   firm : IsFirm (basis_now h root)
-  firm = by_disk h.disk held.elements.1
+  firm = held_firm h root es held.elements.1
 
   -- what the three trees refer to
   abbrev all : List Reference
@@ -172,8 +172,8 @@ module _ (f : Flush) (h : Heap) (flush : IsFlush f) (ready : IsFlushReady f h.pa
     by_kind : Kind f h.pages f.at range → Outside (range ∷ []) byte
     by_kind (inl slots) = (inr (omega (arith, slots, low, from)), tt)
     by_kind (inr (inl log)) = (inr (omega (arith, log.1, low, from, holds.bigblocks)), tt)
-    by_kind (inr (inr (moving, i, below, is))) =
-        subst (λ (x : ℕ × ℕ). Outside (x ∷ []) byte) (sym is) (node_beside moving i below r there zone low byte from to)
+    by_kind (inr (inr (i, placing, below, is))) =
+        subst (λ (x : ℕ × ℕ). Outside (x ∷ []) byte) (sym is) (node_beside (not_idle f.at i placing) i below r there zone low byte from to)
 
   payloads_beside : (pages : PageMap) (x : ℕ) → ((r : Reference) → Contains (refers pages x) r → Contains all r)
       → All IsAmongPayloads (elements_of (nodes pages) x) → All (IsBesideRange range) (map to_payload (elements_of (nodes pages) x))
@@ -237,4 +237,5 @@ module _ (f : Flush) (h : Heap) (flush : IsFlush f) (ready : IsFlushReady f h.pa
     by_kind : Kind f h.pages f.at range → Outside (range ∷ []) byte
     by_kind (inl slots) = (inr (omega (arith, slots, from)), tt)
     by_kind (inr (inl log)) = (inl (omega (arith, log.0, to, holds.bigblocks)), tt)
-    by_kind (inr (inr (moving, i, below, is))) = subst (λ (x : ℕ × ℕ). Outside (x ∷ []) byte) (sym is) (entries_beside moving i below byte to none)
+    by_kind (inr (inr (i, placing, below, is))) =
+        subst (λ (x : ℕ × ℕ). Outside (x ∷ []) byte) (sym is) (entries_beside (not_idle f.at i placing) i below byte to none)

@@ -3,3 +3,4 @@ pub mod Written
 pub mod Free
 pub mod AtRest
 pub mod Flushing
+pub mod Live

@@ -5,7 +5,7 @@
 //! [`Stored`] has the same, and keeps the root of the tree beside.
 //!
 //! ```text
-//!   recovering (planned)
+//!   mounted, once recovery is done
 //!        |
 //!        |  over
 //!        v

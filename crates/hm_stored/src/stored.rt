@@ -4,6 +4,7 @@ ghost use Rattle.std.proofs.Props.{props};
 ghost use Rattle.hm_btree.specs.Tree.{HoldsTree};
 ghost use Rattle.hm_fields.specs.Fields.{AreBytes};
 ghost use Rattle.hm_header.specs.Range.{IsRoot};
+ghost use Rattle.hm_pages.specs.Sound.{IsSound};
 ghost use Rattle.hm_stored.specs.Heap.{pages_of};
 ghost use Rattle.hm_stored.specs.Held.{AreOfVolume, ArePlaced, IsRooted};
 ghost use Rattle.hm_stored.specs.Space.{heap};
@@ -13,7 +14,7 @@ use crate::places::is_tree_place;
 use crate::space::Space;
 use hm_disk::Disk;
 use hm_key::{HasElements, HasRoom};
-use hm_pages::pages_are_bytes;
+use hm_pages::{pages_are_bytes, store_is_sound};
 use hm_types::{Counted, Fault, HOff, Id};
 
 /// A volume in use, as the calls on names read and change it: its elements, which the tree over its
@@ -98,6 +99,14 @@ impl<D: Disk> Stored<D> {
             AreBytes page }
     {
         pages_are_bytes(&self.space.pages.store);
+    }
+
+    /// Does nothing, and says what always holds of the pages in their three states: where these differ, and
+    /// that each page which a flush has to place is a frozen one.
+    pub fn pages_are_sound(&self)
+        ensures { IsSound (heap self.now.space).pages }
+    {
+        store_is_sound(&self.space.pages.store);
     }
 
     /// Does nothing, and says that each page is a node, or has entries of layer 2 for big-blocks of the
