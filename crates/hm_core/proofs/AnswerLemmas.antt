@@ -6,10 +6,12 @@ use Rattle.std.specs.Prelude.{IfSome, IsSome}
 use Rattle.hm_types.specs.Elements.{FullElement}
 use Rattle.hm_types.specs.Faults.{IsCaused}
 use Rattle.hm_types.specs.Space.{reserve_of}
+use Rattle.hm_types.specs.Told.{BothTell}
 use Rattle.hm_types.specs.declared.fault.Fault.{Fault}
 use Rattle.hm_types.specs.declared.id.Id.{Id}
 use Rattle.hm_types.specs.declared.fault.Fault.TheVariants.{Damaged as damage, Media as device, NoMemory as no_memory}
 use Rattle.hm_types.specs.declared.limits.TheConstants.{GREATEST_ID}
+use Rattle.hm_disk.specs.Crash.{Told}
 use Rattle.hm_btree.specs.Tree.{HoldsTree, told_elements}
 use Rattle.hm_fields.specs.Pages.{PageMap}
 use Rattle.hm_key.specs.Balance.{Balanced, IsBalanced, content_of as lists_of}
@@ -29,8 +31,10 @@ use Rattle.hm_model.specs.declared.command.Command.{Command}
 use Rattle.hm_model.specs.declared.command.Command.TheVariants.{Fill, Truncate, Write}
 use Rattle.hm_model.specs.declared.entry.Entry.{Entry}
 use Rattle.hm_model.specs.declared.reply.Reply.{Reply}
+use Rattle.hm_state.specs.Live.{KeepsLiveBut, NoByte}
 use Rattle.hm_state.specs.Volume.{HoldsVolume}
-use Rattle.hm_step.specs.Next.{IsStep}
+use Rattle.hm_state.proofs.LiveLemmas.{calls_keep_live}
+use Rattle.hm_step.specs.Next.{IsDueOver, IsStep}
 use Rattle.hm_step.proofs.EarlyLemmas.{no_boundary}
 use Rattle.hm_stored.specs.Content.{HaveContent, KeepsContent, OpensContent}
 use Rattle.hm_stored.specs.Basis.{nodes}
@@ -46,15 +50,18 @@ use Rattle.hm_core.specs.Answer.{Answers, IsEntryOf, KeepsFlush}
 use Rattle.hm_core.specs.Calls.{IsNextCall}
 use Rattle.hm_core.specs.Counts.{AreLater, with_disk}
 use Rattle.hm_core.specs.Ledger.{IsPaid, calls_in}
+use Rattle.hm_core.specs.Live.{KeepsLiveOver}
+use Rattle.hm_core.specs.Replied.{TellsMedia}
 use Rattle.hm_core.specs.Served.{IsSync}
 use Rattle.hm_core.specs.Told.{ArePages, HoldsSame, HoldsTold, TellsFailure, TellsHeld, reply_to}
 use Rattle.hm_core.proofs.CallLemmas.{failed_call, served_call}
 use Rattle.hm_core.proofs.CausedLemmas.{fault_goes_on, reply_goes_on}
-use Rattle.hm_core.proofs.KeptLemmas.{IsSameBeside, kept_framed, kept_same, kept_then}
+use Rattle.hm_core.proofs.KeptLemmas.{IsSameBeside, framed_both, kept_framed, kept_same, kept_then}
 use Rattle.hm_core.proofs.CountLemmas.{disk_later}
 use Rattle.hm_core.proofs.FaultLemmas.{no_damage_told}
 use Rattle.hm_core.proofs.LedgerLemmas.{paid_call}
 use Rattle.hm_core.proofs.OpenLemmas.{dropped_holds, held_known, kept_holds, opened_tells}
+use Rattle.hm_core.proofs.RepliedLemmas.{due_held, fault_media, own_media, room_is}
 use Rattle.hm_core.proofs.WordLemmas.{words_are_read}
 
 -- the free big-blocks and the room of two spaces with the same maps
@@ -231,6 +238,9 @@ module _ {S : Type 0} (heap : S → Heap) (root_of : S → ℕ) (h : Heap) (root
   room_old : (zone : ℕ) → room old zone ≡ room_of h zone
   room_old = room_begun h (heap old) root (root_of old) last closed kept opens same
 
+  rooms_old : room old ≡ room_of h
+  rooms_old = room_is h (heap old) (ap (λ (x : Heap). x.whole) opens.rest) (ap (λ (x : Heap). x.append) opens.rest) opens.pages.current
+
   -- the entry of the call is the next one
   is_next : (entry : Entry) → IsEntryOf last command reply entry → IsNextCall last entry
   is_next entry is = record { served = subst IsOnTrees (sym is.call_is) served; left = left; own = is.own }
@@ -257,6 +267,14 @@ module _ {S : Type 0} (heap : S → Heap) (root_of : S → ℕ) (h : Heap) (root
       kept_then h (heap old) h' content_told (kept_same h (heap old) begun_beside)
       (kept_then (heap old) (heap new) h' (λ known. known) (kept_framed (heap old) (heap new) frame) (kept_same (heap new) h' same))
 
+  -- no byte that was live is written: those are in the frame
+  live_end : h'.disk ≡ (heap new).disk → KeepsLiveOver NoByte root last h h'
+  live_end ends volume holds =
+      subst (λ (o : Option Told). BothTell h.disk o (KeepsLiveBut NoByte h root)) (sym ends)
+      (subst (λ (o : Option Told). BothTell o (heap new).disk (KeepsLiveBut NoByte h root)) (ap (λ (x : Heap). x.disk) opens.rest)
+      (framed_both (heap old) (heap new) frame (KeepsLiveBut NoByte h root)
+      (λ s t was is. calls_keep_live h (heap old) (heap new) root last opens frame s t was is (content_told (volume, holds)))))
+
   bigblocks : (heap new).bigblocks ≡ h.bigblocks
   bigblocks = ap (λ (f : Frame). f.bigblocks) frame ∙ ap (λ (x : Heap). x.bigblocks) opens.rest
 
@@ -264,12 +282,20 @@ module _ {S : Type 0} (heap : S → Heap) (root_of : S → ℕ) (h : Heap) (root
   module _ (whole : (heap new).whole ≡ true) (keeps : IsKeptOf (heap new) h') (content : KeepsContent (heap new) h') (root_is : root' ≡ root_of new)
       (pages : ArePages h') (tree : HoldsTree (pages_of (heap new)) (root_of new))
       (step : IsStep elements extents free (record { command = command; last = last; busy = None }) old new reply)
-      (charges : Charges room free (reserves_for command) old new) (may : MayReply last None command reply) where
+      (charges : Charges room free (reserves_for command) old new) (may : MayReply last None command reply)
+      (due : IsDueOver elements extents room free (record { command = command; last = last; busy = None }) old reply) where
     pub kept_answers : (boundary : ℕ) → Answers boundary faults faults' last command h h' root root' reply
     kept_answers boundary = record {
       closed = record { begin = keeps.pages.begin; whole = ap (λ (x : Heap). x.whole) keeps.rest ∙ whole };
       counted = counted;
       told = none_told boundary command reply (no_boundary last None command (words_are_read command).0 reply served (words_are_read command).1 may);
+      replied = record {
+        media = own_media faults faults' reply may.own;
+        due = λ of_trees volume held call shown asks.
+            inl (due_held last command reply (elements old) (extents old) (room old) (free old) h root held.elements.0 rooms_old free_old closed
+            held.elements.1 (tells volume held) due call shown asks);
+        space = λ is. absurd (subst IsOnTrees is served);
+      };
       caused = λ first start counts history entry is told before so_far.
           reply_goes_on first start (with_disk counts faults) (with_disk counts faults') last history so_far (later counts) entry left is.own (subst IsOnTrees (sym is.call_is) served)
           (subst (λ (c : Command). MayReply last None c entry.reply) (sym is.call_is)
@@ -281,6 +307,7 @@ module _ {S : Type 0} (heap : S → Heap) (root_of : S → ℕ) (h : Heap) (root
         committed = ap (λ (x : Heap). x.roots.committed) keeps.rest;
         frozen = ap (λ (x : Heap). x.roots.frozen) keeps.rest;
       });
+      live = live_end (ap (λ (x : Heap). x.disk) keeps.rest);
       paid = λ first calls paid.
           paid_as (heap new) h' first (calls + 1)
           (free_same (heap new) h' (ap (λ (x : Heap). x.whole) keeps.rest) (ap (λ (x : Heap). x.bigblocks) keeps.rest)
@@ -328,6 +355,11 @@ module _ {S : Type 0} (heap : S → Heap) (root_of : S → ℕ) (h : Heap) (root
       closed = record { begin = drops.pages.begin; whole = ap (λ (x : Heap). x.whole) drops.rest };
       counted = counted;
       told = none_told boundary command reply (ap told_boundary tells_fault ∙ fault_silent fault);
+      replied = record {
+        media = subst (TellsMedia faults faults') (sym tells_fault) (fault_media faults faults' fault fault_is);
+        due = λ of_trees volume held call shown asks. inr (fails volume held);
+        space = λ is volume held. inr (fails volume held);
+      };
       caused = λ first start counts history entry is told before so_far.
           fault_goes_on first start (with_disk counts faults) (with_disk counts faults') last history so_far (later counts) entry left is.own (subst IsOnTrees (sym is.call_is) served) fault
           (is.reply_is ∙ tells_fault) fault_is;
@@ -338,6 +370,7 @@ module _ {S : Type 0} (heap : S → Heap) (root_of : S → ℕ) (h : Heap) (root
         committed = ap (λ (x : Heap). x.roots.committed) drops.rest;
         frozen = ap (λ (x : Heap). x.roots.frozen) drops.rest;
       });
+      live = live_end (ap (λ (x : Heap). x.disk) drops.rest);
       paid = λ first calls paid.
           paid_later first (free_of h') calls (room_of h')
           (paid_as h h' first calls

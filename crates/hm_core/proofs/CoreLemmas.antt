@@ -70,6 +70,7 @@ follows_spare past core spare sound =
         between = sound.between;
         read = λ opening foreigners events stands. sound.read opening foreigners events (record { legal = stands.legal; read = stands.read });
         now = sound.now;
+        settled = sound.settled;
       };
       goes_on = λ opening foreigners events stands.
           goes_on_by_none past past core new opening foreigners events (record { legal = stands.legal; read = stands.read }) (λ was. was)

@@ -17,9 +17,11 @@ use Rattle.hm_model.specs.After.{Event}
 use Rattle.hm_model.specs.Foreign.{Foreigners}
 use Rattle.hm_model.specs.Volume.{Volume}
 use Rattle.hm_recover.proofs.BoundaryLemmas.{boundary-kept}
+use Rattle.hm_pages.specs.Sound.{IsSound}
 use Rattle.hm_stored.specs.Heap.{Heap}
 use Rattle.hm_state.specs.Flushing.{HoldsFlush, RecoversToVolume}
 use Rattle.hm_state.proofs.RecoveredVolumeLemmas.{left_recovers}
+use Rattle.hm_state.proofs.SettledLemmas.{live_settled}
 use Rattle.hm_core.specs.Core.{HoldsUpTo, IsCausedRun, IsSoundCore}
 use Rattle.hm_core.specs.Crash.{IsBetween, IsLeftBoundary, LeavesNow, LeavesPrefixes, RecoversToPrefix}
 use Rattle.hm_core.specs.History.{up_to, volume_of}
@@ -95,8 +97,8 @@ left_tried f boundary (inr (opened, is)) = inr (ap tried_at opened, is)
 -- what is so of every core
 pub sound_core : (core : CoreState) → IsFlush core.flush → core.boundary ≡ core.flush.header.last.0 → core.flush.header.last.0 ≤ core.last
     → (core.flush.at ≢ Idle → (core.flush.header.last.0 ≤ core.flush.target.last.0) × (core.flush.target.last.0 ≤ core.last))
-    → IsCausedRun core → AreUpTo core.boundary core.history → IsSoundCore core
-sound_core core flush boundary later target caused told = record {
+    → IsCausedRun core → AreUpTo core.boundary core.history → IsSound core.heap.pages → IsSoundCore core
+sound_core core flush boundary later target caused told sound = record {
   caused = caused;
   told = told;
   between = λ at left. subst (λ (least : ℕ). IsBetween least core.last at) (sym boundary) (left_between core.flush core.last later target at left);
@@ -104,6 +106,10 @@ sound_core core flush boundary later target caused told = record {
       if_told core.heap.disk
       (λ t held. now_is_prefix core flush opening foreigners events (as_read t) held t.bytes (MayLeave-same t.bytes (as_read t).unsettled)) stands.read;
   now = λ opening foreigners events guarded. if_told core.heap.disk (now_is_prefix core flush opening foreigners events) guarded;
+  settled = λ opening foreigners events guarded.
+      if_told core.heap.disk
+      (λ t held. live_settled core.flush core.heap t (volume_of opening foreigners (up_to core.flush.header.last.0 events))
+      (volume_of opening foreigners (up_to core.flush.target.last.0 events)) sound held) guarded;
 }
 
 -- a prefix up to a boundary of one kind is one up to a boundary of another, by more events

@@ -1,6 +1,7 @@
 -- A call leaves what a flush holds, as reads give it and as a crash may leave it.
 use Rattle.std.proofs.Common.{◌≡◌, Option, None, Some, length, refl, sym, ap, subst, ◌∙◌}
 use Rattle.std.specs.Prelude.{IfSome, IsSome, option_map}
+use Rattle.hm_types.specs.Told.{BothTell}
 use Rattle.hm_disk.specs.Crash.{Told}
 use Rattle.hm_flush.specs.declared.flush.Flush.{Flush}
 use Rattle.hm_flush.specs.Calls.{FlushStands}
@@ -53,6 +54,16 @@ module _ (a b : Heap) (frame : frame_of b ≡ frame_of a) where
     by o None was is size on = tt
     by None (Some t) was is size on = absurd cc
     by (Some s) (Some t) was is size on = step s t was is on
+
+  -- both tell, or neither does
+  pub framed_both : (R : Told → Told → Type 0) → ((s t : Told) → a.disk ≡ Some s → b.disk ≡ Some t → R s t) → BothTell a.disk b.disk R
+  framed_both R step = by a.disk b.disk refl refl (ap (λ (f : Frame). f.size) frame) where
+    by : (o n : Option Told) → a.disk ≡ o → b.disk ≡ n
+        → option_map (λ (t : Told). length t.bytes) n ≡ option_map (λ (t : Told). length t.bytes) o → BothTell o n R
+    by None None was is size = tt
+    by None (Some t) was is size = absurd cc
+    by (Some s) None was is size = absurd cc
+    by (Some s) (Some t) was is size = step s t was is
 
   pub kept_framed : KeepsFlush (IsSome (content_of a)) a b
   kept_framed = record {

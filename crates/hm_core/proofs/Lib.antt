@@ -22,12 +22,13 @@ pub mod CausedLemmas
 pub mod FaultLemmas
 pub mod KnownLemmas
 pub mod OpenLemmas
+pub mod LookedLemmas
+pub mod RepliedLemmas
 pub mod AnswerLemmas
 pub mod PropLemmas
 pub mod StepLemmas
 pub mod KeptLemmas
 pub mod StageLemmas
-pub mod LookedLemmas
 pub mod TellLemmas
 pub mod SyncLemmas
 pub mod EnterLemmas

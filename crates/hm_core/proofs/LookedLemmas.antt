@@ -25,13 +25,6 @@ use Rattle.hm_state.proofs.FlushKeptLemmas.{holds_same_flush}
 use Rattle.hm_core.specs.History.{IsLegalOver, setting_of}
 use Rattle.hm_core.proofs.KeptLemmas.{IsSameBeside}
 
--- a space that holds something has its books in order
-pub held_firm : (h : Heap) (root : ℕ) (es : List FullElement) → Holds h root es → IsFirm (basis_now h root)
-held_firm h root es holds = by h.disk holds where
-  by : (d : Option Told) → IsSomeAnd d (λ t. HoldsBy h root t.bytes es) → IsFirm (basis_now h root)
-  by None holds = absurd holds
-  by (Some t) holds = holds.firm
-
 module _ (old new : Heap) (looks : LooksSame old new) where
   bigblocks_same : new.bigblocks ≡ old.bigblocks
   bigblocks_same = ap (λ (h : Heap). h.bigblocks) looks.rest

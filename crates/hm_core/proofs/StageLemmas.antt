@@ -25,11 +25,13 @@ use Rattle.hm_model.specs.Volume.{Volume}
 use Rattle.hm_stored.specs.Flushed.{FlushesSpace, IsFlushedBy}
 use Rattle.hm_stored.specs.Heap.{Heap, free_of, room_of}
 use Rattle.hm_stored.specs.Standing.{HoldsBy}
+use Rattle.hm_state.specs.Live.{IsInPlace, KeepsLiveBut}
 use Rattle.hm_state.specs.Flushing.{HoldsFlush, RecoversToVolume, committed_after, frozen_after}
 use Rattle.hm_state.specs.Volume.{HoldsVolume}
 use Rattle.hm_state.specs.Written.{IsHeaderOf}
 use Rattle.hm_state.proofs.CourseLemmas.{Course, commits, course, freezes, stays}
 use Rattle.hm_state.proofs.CurrentLemmas.{current_held}
+use Rattle.hm_state.proofs.LiveLemmas.{stage_keeps_live}
 use Rattle.hm_state.proofs.MovedLemmas.{free_less, room_same}
 use Rattle.hm_state.proofs.RecoveredVolumeLemmas.{left_recovers, within_recovers}
 use Rattle.hm_state.proofs.StageHeldLemmas.{held_after, stage_touches, touches_as_read}
@@ -39,6 +41,7 @@ use Rattle.hm_core.specs.Crash.{IsBetween, IsLeftBoundary, LeavesPrefixes, Recov
 use Rattle.hm_core.specs.History.{setting_of, up_to, volume_of}
 use Rattle.hm_core.specs.Inside.{IsInOrder}
 use Rattle.hm_core.specs.Ledger.{IsPaid, calls_in}
+use Rattle.hm_core.specs.Live.{StageKeepsLive}
 use Rattle.hm_core.specs.Staged.{header_now}
 use Rattle.hm_core.specs.State.{CoreState}
 use Rattle.hm_core.proofs.CoreLemmas.{goes_on_by_none}
@@ -294,6 +297,18 @@ module _ (core : CoreState) (f' : Flush) (h' : Heap) (counts : Counts) (result :
       };
       read = after.read;
     }
+
+  -- and no byte that is live is written but where a page is placed
+  pub stage_live : StageKeepsLive core new
+  stage_live volume holds = by core.heap.disk h'.disk tells where
+    by : (o n : Option Told) → BothTell o n (StageTells core.flush f' core.heap.pages h'.pages result past since)
+        → BothTell o n (KeepsLiveBut (IsInPlace core.flush.at core.heap.pages) core.heap core.root)
+    by None None both = tt
+    by None (Some t) both = absurd both
+    by (Some s) None both = absurd both
+    by (Some s) (Some t) both =
+        stage_keeps_live core.flush core.heap flushes.ready (size_now core.flush core.last core.mounted.free core.heap core.history ordered) core.root
+        core.last volume holds result s t both.does
 
   pub stage_leaves : LeavesHeld past since core
   stage_leaves opening foreigners events stands = (after opening foreigners events stands).leaves

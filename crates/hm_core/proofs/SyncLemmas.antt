@@ -6,6 +6,8 @@ use Rattle.hm_model.specs.declared.command.Command.{Command}
 use Rattle.hm_model.specs.declared.reply.Reply.TheVariants.{Synced}
 use Rattle.hm_stored.specs.Heap.{Heap, free_of, room_of}
 use Rattle.hm_stored.specs.Turn.{IsClosed}
+use Rattle.hm_state.specs.Live.{NoByte}
+use Rattle.hm_state.proofs.LiveLemmas.{live_same}
 use Rattle.hm_core.specs.Answer.{Answers}
 use Rattle.hm_core.specs.Counts.{with_disk}
 use Rattle.hm_core.specs.Served.{IsSync}
@@ -13,6 +15,7 @@ use Rattle.hm_core.proofs.AnswerLemmas.{paid_later}
 use Rattle.hm_core.proofs.CausedLemmas.{sync_goes_on}
 use Rattle.hm_core.proofs.CountLemmas.{later_same}
 use Rattle.hm_core.proofs.KeptLemmas.{kept_same}
+use Rattle.hm_core.proofs.RepliedLemmas.{sync_alone, sync_no_space}
 use Rattle.hm_core.proofs.SpaceLemmas.{sync_told}
 
 pub sync_answers : (boundary : Id) (faults last : ℕ) (command : Command) (h : Heap) (root : ℕ) → IsSync command → IsClosed h → last < GREATEST_ID
@@ -21,6 +24,11 @@ sync_answers boundary faults last command h root sync closed left = record {
   closed = closed;
   counted = omega arith;
   told = (sync, refl);
+  replied = record {
+    media = tt;
+    due = λ of_trees. absurd (sync_alone command sync of_trees);
+    space = λ is. absurd (sync_no_space command sync is);
+  };
   flush = kept_same h h (record {
     bigblocks = refl;
     disk = refl;
@@ -28,6 +36,7 @@ sync_answers boundary faults last command h root sync closed left = record {
     committed = refl;
     frozen = refl;
   });
+  live = λ volume holds. live_same NoByte h root h.disk refl;
   paid = λ first calls paid. paid_later first (free_of h) calls (room_of h) paid;
   caused = λ first start counts history entry is told before so_far.
       sync_goes_on first start (with_disk counts faults) (with_disk counts faults) last history so_far (later_same (with_disk counts faults)) entry left is.own

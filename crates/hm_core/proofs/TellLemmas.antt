@@ -1,5 +1,5 @@
 -- A call that tells the space is the next one of each history.
-use Rattle.std.proofs.Common.{◌≡◌, ℕ, ◌+◌, ◌-◌, ◌^◌, ◌≤◌, ◌<◌, Bool, List, [], ◌∷◌, ◌++◌, refl, sym, ap, subst, ◌∙◌, cond, length, arith}
+use Rattle.std.proofs.Common.{◌≡◌, inl, inr, ℕ, ◌+◌, ◌-◌, ◌^◌, ◌≤◌, ◌<◌, Bool, List, [], ◌∷◌, ◌++◌, refl, sym, ap, subst, ◌∙◌, cond, length, arith}
 use Rattle.std.proofs.lemmas.List.FromFn.{length-range_with_len}
 use Rattle.std.proofs.lemmas.List.Sums.{count_by-le-length}
 use Rattle.hm_types.specs.Faults.{IsCaused}
@@ -22,16 +22,21 @@ use Rattle.hm_stored.specs.Basis.{IsFirm, states_of}
 use Rattle.hm_stored.specs.Heap.{Heap, free_of, maps_of, room_of}
 use Rattle.hm_stored.specs.Standing.{basis_now}
 use Rattle.hm_stored.specs.Turn.{IsClosed, LooksSame}
+use Rattle.hm_state.specs.Live.{NoByte}
+use Rattle.hm_state.proofs.LiveLemmas.{live_same}
+use Rattle.hm_state.proofs.SameLemmas.{held_firm}
 use Rattle.hm_core.specs.Answer.{Answers, KeepsFlush}
 use Rattle.hm_core.specs.Counts.{AreLater, with_disk}
 use Rattle.hm_core.specs.History.{IsLegalBeyond, IsLegalOver}
 use Rattle.hm_core.specs.Ledger.{IsPaid}
+use Rattle.hm_core.specs.Live.{KeepsLiveOver}
 use Rattle.hm_core.specs.Told.{reply_to}
 use Rattle.hm_core.proofs.AnswerLemmas.{fault_silent, none_told}
 use Rattle.hm_core.proofs.CausedLemmas.{space_fault_goes_on, space_goes_on}
 use Rattle.hm_core.proofs.KeptLemmas.{kept_same}
 use Rattle.hm_core.proofs.CountLemmas.{disk_later}
-use Rattle.hm_core.proofs.LookedLemmas.{held_firm, looked_beside, looked_closed, looked_free, looked_legal, looked_room}
+use Rattle.hm_core.proofs.LookedLemmas.{looked_beside, looked_closed, looked_free, looked_legal, looked_room}
+use Rattle.hm_core.proofs.RepliedLemmas.{fault_media, free_counted}
 use Rattle.hm_core.proofs.SpaceLemmas.{space_refused, space_told}
 
 module _ (old new : Heap) (root root' faults faults' : ℕ) (closed : IsClosed old) (looks : LooksSame old new) (stays : root' ≡ root) (same : faults' ≡ faults) where
@@ -85,6 +90,10 @@ module _ (old new : Heap) (root root' faults faults' : ℕ) (closed : IsClosed o
   kept : {Known : Type 0} → KeepsFlush Known old new
   kept = kept_same old new (looked_beside old new looks)
 
+  -- a look writes nothing
+  live_looked : (last : ℕ) → KeepsLiveOver NoByte root last old new
+  live_looked last volume holds = live_same NoByte old root new.disk (looked_beside old new looks).disk
+
   module _ (last : ℕ) (left : last < GREATEST_ID) where
     -- what was legal before the look is so after it
     there : (first : ℕ) (start counts : Counts) (history : List Entry) (opening : Volume) (foreigners : Foreigners) (events : List Event)
@@ -98,18 +107,26 @@ module _ (old new : Heap) (root root' faults faults' : ℕ) (closed : IsClosed o
 
     pub told_answers : (boundary space free : ℕ) → space ≡ old.bigblocks - first_pool old.bigblocks → free ≡ free_of old
         → Answers boundary faults faults' last Df old new root root' (Space space free)
-    told_answers boundary space free pool_is is = record {
+    told_answers boundary space free pool_is is_free = record {
       closed = looked_closed old new looks closed;
       counted = counted;
       told = tt;
+      replied = record {
+        media = tt;
+        due = λ of_trees. absurd of_trees;
+        space = λ is volume held.
+            inl (ap (λ (n : ℕ). Space n free) pool_is
+            ∙ ap (Space (old.bigblocks - first_pool old.bigblocks)) (is_free ∙ free_counted old root held.elements.0 closed held.elements.1));
+      };
       caused = λ first start counts history entry of told before so_far.
           space_goes_on first start (with_disk counts faults) (with_disk counts faults') last history so_far (later counts) entry left of.own of.call_is space free of.reply_is;
       flush = kept;
+      live = live_looked last;
       paid = paid_same;
       legal = λ first start counts history opening foreigners events entry enough of told before so_far.
           there first start (with_disk counts faults') (history ++ entry ∷ []) opening foreigners events (space_told first start (with_disk counts faults) (with_disk counts faults') history old root last opening
           foreigners events so_far (later counts) left entry of.call_is of.own
-          (space, free, of.reply_is, pool_is, omega (arith, is, enough), omega (arith, is, pool_is, free_most)));
+          (space, free, of.reply_is, pool_is, omega (arith, is_free, enough), omega (arith, is_free, pool_is, free_most)));
     }
 
     pub failed_answers : (boundary : ℕ) (fault : Fault) → IsFreemapDamage old.bigblocks old.append (IsPool old.bigblocks) (maps_of old) fault → IsCaused 0 0 fault
@@ -118,10 +135,16 @@ module _ (old new : Heap) (root root' faults faults' : ℕ) (closed : IsClosed o
       closed = looked_closed old new looks closed;
       counted = counted;
       told = none_told boundary Df (reply_to fault) (fault_silent fault);
+      replied = record {
+        media = fault_media faults faults' fault (no_device fault caused);
+        due = λ of_trees. absurd of_trees;
+        space = λ is volume held. inr (inr (memory_alone fault bad caused (held_firm old root held.elements.0 held.elements.1)));
+      };
       caused = λ first start counts history entry of told before so_far.
           space_fault_goes_on first start (with_disk counts faults) (with_disk counts faults') last history so_far (later counts) entry left of.own of.call_is fault of.reply_is
           (no_device fault caused);
       flush = kept;
+      live = live_looked last;
       paid = paid_same;
       legal = λ first start counts history opening foreigners events entry enough of told before so_far.
           let firm = held_firm old root so_far.held.holds.elements.0 so_far.held.holds.elements.1 in

@@ -16,12 +16,15 @@ use Rattle.hm_pages.specs.Calls.{IsSameFlush}
 use Rattle.hm_stored.specs.Heap.{Heap, free_of, room_of}
 use Rattle.hm_stored.specs.Turn.{IsClosed}
 use Rattle.hm_state.specs.Flushing.{HoldsFlush}
+use Rattle.hm_state.specs.Live.{NoByte}
 use Rattle.hm_state.specs.Volume.{HoldsVolume}
 use Rattle.hm_core.specs.Caused.{IsCausedFrom}
 use Rattle.hm_core.specs.Counts.{with_disk}
 use Rattle.hm_core.specs.History.{IsLegalBeyond, IsLegalOver}
 use Rattle.hm_core.specs.Inside.{AreUpTo}
 use Rattle.hm_core.specs.Ledger.{IsPaid}
+use Rattle.hm_core.specs.Live.{KeepsLiveOver}
+use Rattle.hm_core.specs.Replied.{IsReplied}
 use Rattle.hm_core.specs.Served.{IsSync}
 
 -- the entry of a call with this reply, by the id after the last one
@@ -42,14 +45,17 @@ pub record KeepsFlush (Known : Type 0) (h h' : Heap) : Type 0 where
       → IfSome h'.disk (λ t. HoldsFlush f h' t committed frozen)
 
 -- A call was answered so, where this boundary is committed, and over which the count of the disk's faults went from one to another.
--- Only a sync tells a boundary, and that is this one; no call is open, the big-blocks that were begun are paid for, what a flush
--- holds is still there, and each history that was legal goes on legally with the entry of the call, and keeps the events of those
--- before it. Whatever the space holds, the reply has its cause.
+-- Only a sync tells a boundary, and that is this one; what it tells of space and of the device is exact; no call is open, the
+-- big-blocks that were begun are paid for, what a flush holds is still there, no byte that was live is written, and each history that
+-- was legal goes on legally with the entry of the call, and keeps the events of those before it. Whatever the space holds, the reply
+-- has its cause.
 pub record Answers (boundary faults faults' last : ℕ) (command : Command) (h h' : Heap) (root root' : ℕ) (reply : Reply) : Type 0 where
   pub closed : IsClosed h'
   pub counted : faults ≤ faults'
   pub told : IfSome (told_boundary reply) (λ id. IsSync command × (id.0 ≡ boundary))
+  pub replied : IsReplied faults faults' last command h root reply
   pub flush : KeepsFlush ((volume : Volume) × HoldsVolume h root last volume) h h'
+  pub live : KeepsLiveOver NoByte root last h h'
   pub paid : (first calls : ℕ) → IsPaid first (free_of h) calls (room_of h) → IsPaid first (free_of h') (calls + 1) (room_of h')
   pub caused : (first : ℕ) (start counts : Counts) (history : List Entry) (entry : Entry) → IsEntryOf last command reply entry
       → AreUpTo boundary history → boundary ≤ last → IsCausedFrom first start (with_disk counts faults) last history

@@ -13,6 +13,7 @@ use Rattle.hm_model.specs.declared.command.Command.{Command}
 use Rattle.hm_model.specs.declared.entry.Entry.{Entry}
 use Rattle.hm_model.specs.declared.reply.Reply.{Reply}
 use Rattle.hm_state.specs.Flushing.{HoldsFlush}
+use Rattle.hm_state.specs.Live.{AreLiveSettled}
 use Rattle.hm_core.specs.Caused.{IsCausedFrom}
 use Rattle.hm_core.specs.History.{IsLegalOver, up_to, volume_of}
 use Rattle.hm_core.specs.Counts.{AreLater}
@@ -65,7 +66,8 @@ IsCausedRun core = ∥ IsCausedFrom core.mounted.first core.mounted.counts core.
 
 -- What is so of every core. Each reply has its cause, none told a boundary past the committed one, and each boundary that a crash
 -- within a stage may leave is drawn. Where it stands for a volume, its disk recovers to the volume after a prefix of the events, up to
--- a boundary that a crash may leave; and where it is guarded, so does each image that a crash now may leave.
+-- a boundary that a crash may leave; and where it is guarded, so does each image that a crash now may leave, and no unsettled range meets
+-- what such an image needs.
 pub record IsSoundCore (core : CoreState) : Type 0 where
   pub caused : IsCausedRun core
   pub told : AreUpTo core.boundary core.history
@@ -75,6 +77,8 @@ pub record IsSoundCore (core : CoreState) : Type 0 where
   pub now : (opening : Volume) (foreigners : Foreigners) (events : List Event) → IsGuarded core opening foreigners events
       → IfSome core.heap.disk (λ t. Each (MayLeave t.bytes t.unsettled)
       (RecoversToPrefix (IsLeftBoundary core.flush) opening foreigners events))
+  pub settled : (opening : Volume) (foreigners : Foreigners) (events : List Event) → IsGuarded core opening foreigners events
+      → IfSome core.heap.disk (AreLiveSettled core.flush.at core.heap)
 
 -- A core follows one of an earlier moment, where what a crash since a moment may have left is this before and that now: what there was
 -- at mounting stays, the history goes on, no id, no boundary and no count of faults falls, and it goes on from each volume for which

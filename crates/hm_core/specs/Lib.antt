@@ -6,8 +6,10 @@ pub mod Told
 pub mod Calls
 pub mod Inside
 pub mod Served
-pub mod Answer
+pub mod Live
 pub mod State
+pub mod Replied
+pub mod Answer
 pub mod Seen
 pub mod Crash
 pub mod Core

@@ -1,5 +1,5 @@
 // What a core that answers by a store over a space rests on: each function states one law, and does nothing.
-ghost use Rattle.std.specs.Prelude.{◌≡◌, ℕ, ◌+◌, ◌^◌, ◌<◌, ◌≤◌, [], ◌∷◌, ◌++◌};
+ghost use Rattle.std.specs.Prelude.{◌≡◌, ◌⊎◌, ℕ, ◌+◌, ◌^◌, ◌<◌, ◌≤◌, [], ◌∷◌, ◌++◌};
 ghost use Rattle.std.specs.Prelude.{IfErr, IfSome, IsTrue, true, List, Option, Result, length};
 ghost use Rattle.hm_types.specs.Elements.{FullElement};
 ghost use Rattle.hm_types.specs.Space.{reserve_of};
@@ -14,8 +14,9 @@ ghost use Rattle.hm_key.specs.declared.element.Element.{Element};
 ghost use Rattle.hm_cursor.specs.Told.{HasReadingCause};
 ghost use Rattle.hm_model.specs.After.{Event};
 ghost use Rattle.hm_model.specs.Caused.{Counts};
+ghost use Rattle.hm_model.specs.Due.{ReadsPaths};
 ghost use Rattle.hm_model.specs.Foreign.{Foreigners};
-ghost use Rattle.hm_model.specs.Legal.{IsLegal, entries_of};
+ghost use Rattle.hm_model.specs.Legal.{IsLegal, call_after, entries_of};
 ghost use Rattle.hm_model.specs.Needs.{floor};
 ghost use Rattle.hm_model.specs.Sites.{Parsed, ReadsWords};
 ghost use Rattle.hm_model.specs.Volume.{Volume};
@@ -24,17 +25,22 @@ ghost use Rattle.hm_model.specs.declared.command.Command.TheVariants.{Df};
 ghost use Rattle.hm_model.specs.declared.entry.Entry.{Entry};
 ghost use Rattle.hm_model.specs.declared.reply.Reply.TheVariants.{Synced};
 ghost use Rattle.hm_image.specs.StandFor.{StandFor};
+ghost use Rattle.hm_calls.specs.Commands.{IsOnTrees};
+ghost use Rattle.hm_calls.specs.Due.{due_over};
+ghost use Rattle.hm_step.specs.Seen.{AreGiven};
 ghost use Rattle.hm_stored.specs.Content.{DropsContent, KeepsContent, OpensContent};
-ghost use Rattle.hm_stored.specs.Heap.{Heap, content_of, extents_in, pages_of};
+ghost use Rattle.hm_stored.specs.Heap.{Heap, content_of, extents_in, free_of, pages_of, room_of};
 ghost use Rattle.hm_stored.specs.Known.{AreKnown, is_known};
 ghost use Rattle.hm_stored.specs.Standing.{Holds};
 ghost use Rattle.hm_stored.specs.Told.{elements_told};
+ghost use Rattle.hm_stored.specs.Turn.{IsClosed};
 ghost use Rattle.hm_core.specs.Calls.{Fails, IsNextCall, Serves};
 ghost use Rattle.hm_core.specs.Core.{Follows, IsSoundCore};
 ghost use Rattle.hm_core.specs.Counts.{AreLater};
-ghost use Rattle.hm_core.specs.History.{IsLegalBeyond, IsLegalOver, setting_of, up_to};
+ghost use Rattle.hm_core.specs.History.{IsLegalBeyond, IsLegalOver, setting_of, up_to, volume_of};
 ghost use Rattle.hm_core.specs.Inside.{AreDrawnBy, AreUpTo};
 ghost use Rattle.hm_core.specs.Ledger.{IsPaid};
+ghost use Rattle.hm_core.specs.Replied.{IsReplied, free_now};
 ghost use Rattle.hm_core.specs.Served.{IsServed, IsSync};
 ghost use Rattle.hm_core.specs.State.{CoreState};
 ghost use Rattle.hm_core.specs.Told.{ArePages, HoldsSame, HoldsTold, OpensStore, TellsFailure, TellsHeld, TellsSpace, reply_to};
@@ -208,6 +214,29 @@ pub fn ids_of_a_volume_are_known()
         AreKnown volume.last es }
     ensures tested { (es : List FullElement) (volume : Volume) → StandFor es volume →
         IsTrue (is_known volume.last es) }
+{}
+
+/// As many big-blocks are free by the freemap of a space as the trees of its three states leave, where it
+/// holds elements and no call is open.
+pub fn as_many_are_free_as_the_trees_leave()
+    ensures { (h : Heap) (root : ℕ) (es : List FullElement) → IsClosed h → Holds h root es →
+        free_of h ≡ free_now h root }
+{}
+
+/// What a reply tells of space is exact in its history too: over each volume on which this may have begun,
+/// it is the one that the next call is due over the room and the free big-blocks of the space, in the
+/// trees that the space has, or it tells a failure.
+pub fn a_reply_is_due_in_its_history()
+    ensures { (free : ℕ) (start counts : Counts) (history : List Entry) (h : Heap) (root last : ℕ)
+        (opening : Volume) (foreigners : Foreigners) (events : List Event) (event : Event) (faults faults' : ℕ) →
+        IsLegalOver free start counts history h root last opening foreigners events →
+        IsOnTrees event.entry.call →
+        ((es : List FullElement) → Holds h root es →
+        AreGiven es (volume_of opening foreigners events) event.substitutes) →
+        ReadsPaths (call_after (setting_of free start counts opening foreigners) events event) →
+        IsReplied faults faults' last event.entry.call h root event.entry.reply →
+        (event.entry.reply ≡ due_over (call_after (setting_of free start counts opening foreigners) events event)
+        (room_of h) (free_now h root)) ⊎ TellsFailure faults faults' event.entry.reply }
 {}
 
 /// The ledger of a run is in order as it begins, and what it leaves is no less than the least of the

@@ -3,6 +3,7 @@ ghost use Rattle.std.specs.Prelude.{◌≡◌, ◌≤◌, ◌↔◌, IfOk, IfSom
 ghost use Rattle.hm_flush.specs.Calls.{HasStageCause, IsTarget};
 ghost use Rattle.hm_core.specs.Core.{Follows, GoesOn, KeepsStreams, LeavesHeld};
 ghost use Rattle.hm_core.specs.Finished.{IsCommittedOn};
+ghost use Rattle.hm_core.specs.Live.{StageKeepsLive};
 ghost use Rattle.hm_core.specs.Seen.{devices, seen};
 ghost use Rattle.hm_core.specs.Served.{IsAsked};
 ghost use Rattle.hm_core.specs.Staged.{EndsBy, IsFlushed, IsStaged, Settles, Stages, header_now};
@@ -29,6 +30,7 @@ impl<D: Disk, I, O> Core<D, I, O> {
             (seen self.old) (seen self.new) }
         ensures crashes { LeavesHeld (D.left_since (devices self.old).disk) (D.left_since (devices self.new).disk)
             (seen self.old) }
+        ensures live { StageKeepsLive (seen self.old) (seen self.new) }
         ensures streams { KeepsStreams (devices self.old) (devices self.new) }
     {
         match self.make_stage() {
@@ -60,6 +62,7 @@ impl<D: Disk, I, O> Core<D, I, O> {
             (seen self.old) (seen self.new) }
         ensures crashes { LeavesHeld (D.left_since (devices self.old).disk) (D.left_since (devices self.new).disk)
             (seen self.old) }
+        ensures live { StageKeepsLive (seen self.old) (seen self.new) }
         ensures committed { IfOk result (λ all. IsTrue all →
             IfSome (seen self.new).heap.disk (IsCommittedOn (seen self.new))) }
         ensures streams { KeepsStreams (devices self.old) (devices self.new) }
@@ -84,6 +87,7 @@ impl<D: Disk, I, O> Core<D, I, O> {
             (seen self.old) (record (seen self.new) { counts = (seen self.old).counts }) }
         ensures crashes { LeavesHeld (D.left_since (devices self.old).disk) (D.left_since (devices self.new).disk)
             (seen self.old) }
+        ensures live { StageKeepsLive (seen self.old) (seen self.new) }
         ensures settled { IfOk result (λ _. Settles (seen self.new)) }
         ensures streams { KeepsStreams (devices self.old) (devices self.new) }
         ensures cause { HasStageCause (seen self.old).flush.at (seen self.old).counts.disk

@@ -2,6 +2,8 @@
 ghost use Rattle.std.specs.Prelude.{◌≡◌, ◌≤◌, ◌↔◌, IsTrue};
 ghost use Rattle.hm_core.specs.Core.{Follows, IsSoundCore, LeavesDevices, LeavesHeld, NeedsFlush, Steps};
 ghost use Rattle.hm_core.specs.Inside.{AreUpTo};
+ghost use Rattle.hm_core.specs.Live.{CallKeepsLive};
+ghost use Rattle.hm_core.specs.Replied.{RepliesExactly};
 ghost use Rattle.hm_core.specs.Seen.{devices, seen};
 ghost use Rattle.hm_core.specs.Served.{IsAsked};
 
@@ -23,10 +25,12 @@ impl<D: Disk, I, O> Core<D, I, O> {
         requires since { since.0 ≤ (seen self.old).last }
         requires asked { IsAsked command }
         ensures steps { Steps (seen self.old) (seen self.new) lane line since.0 command result }
+        ensures replied { RepliesExactly (seen self.old) (seen self.new) command result }
         ensures follows { Follows (D.left_since (devices self.old).disk) (D.left_since (devices self.new).disk)
             (seen self.old) (seen self.new) }
         ensures crashes { LeavesHeld (D.left_since (devices self.old).disk) (D.left_since (devices self.new).disk)
             (seen self.old) }
+        ensures live { CallKeepsLive (seen self.old) (seen self.new) }
         ensures streams { LeavesDevices (devices self.old) (devices self.new) result }
     {
         self.core_is_sound();
@@ -70,6 +74,7 @@ impl<D: Disk, I, O> Core<D, I, O> {
         ensures { IsSoundCore (seen self.now) }
     {
         self.flusher.flush_is_sound();
+        self.stored.pages_are_sound();
     }
 
     /// The last id that was drawn.

@@ -11,6 +11,8 @@ mod crash_tests;
 #[cfg(test)]
 mod flush_tests;
 #[cfg(test)]
+mod many_tests;
+#[cfg(test)]
 mod sync_tests;
 #[cfg(test)]
 mod test_disk;

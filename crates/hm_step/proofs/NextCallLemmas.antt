@@ -19,7 +19,7 @@ use Rattle.hm_model.specs.Call.{Call}
 use Rattle.hm_model.specs.Legal.{Setting, call_after, state_after}
 use Rattle.hm_model.specs.declared.reply.Reply.{Reply}
 use Rattle.hm_records.proofs.CountsLemmas.{own_keys-sorted}
-use Rattle.hm_step.specs.Next.{Asked, GoesOn, IsEventOf, IsStep}
+use Rattle.hm_step.specs.Next.{Asked, GoesOn, IsDueOver, IsEventOf, IsStep}
 use Rattle.hm_step.specs.Served.{IsServed}
 use Rattle.hm_step.specs.Step.{IsNext}
 use Rattle.hm_step.proofs.HistoryLemmas.{allowed, stands}
@@ -155,3 +155,7 @@ module _ {S : Type 0} (elements_of : S → Option (List Element)) (mark_of : S �
       → IfOk result (IsStep elements_of extents_of free_of asked old new)
   each_step (Ok reply) content answered = is_step reply content answered
   each_step (Err fault) content answered = tt
+
+  pub each_due : (result : Result Reply Fault) → IfOk result Answered → IfOk result (IsDueOver elements_of extents_of room_of free_of asked old)
+  each_due (Ok reply) answered = answered.due
+  each_due (Err fault) answered = tt

@@ -1,5 +1,6 @@
 -- A call over any store, as the next one of a history.
-use Rattle.std.specs.Prelude.{◌≡◌, ℕ, ◌^◌, List, [], ◌∷◌, ◌++◌, Option, IsSomeAnd, option_map}
+use Rattle.std.specs.Prelude.{◌≡◌, ℕ, ◌+◌, ◌^◌, List, [], ◌∷◌, ◌++◌, Option, IsSomeAnd, option_map}
+use Rattle.hm_types.specs.Hash.{name_hash}
 use Rattle.hm_types.specs.declared.id.Id.{Id}
 use Rattle.hm_key.specs.Balance.{IsBalanced, content_of}
 use Rattle.hm_key.specs.Extents.{Extent}
@@ -12,6 +13,9 @@ use Rattle.hm_model.specs.Legal.{IsAllowed, MayFollow, Setting, state_after}
 use Rattle.hm_model.specs.Volume.{Volume}
 use Rattle.hm_model.specs.declared.command.Command.{Command}
 use Rattle.hm_model.specs.declared.reply.Reply.{Reply}
+use Rattle.hm_calls.specs.Call.{OnCalls}
+use Rattle.hm_calls.specs.Due.{due_over}
+use Rattle.hm_calls.specs.Replies.{Asks}
 use Rattle.hm_step.specs.Step.{IsNext}
 
 -- A call that was asked: its command, the last id that was drawn before it, and the opening id of the mirror or upgrade
@@ -48,3 +52,11 @@ IsStep elements_of extents_of free_of asked old new reply =
     OnBalanced (elements_of old) (extents_of old) (λ was. (run : Setting) (before : List Event) (event : Event)
     → IsEventOf asked reply run before event → IsNext run before event (free_of old) (fulls was)
     → GoesOn run before event (elements_of new) (extents_of new))
+
+-- A reply is the one that each such call is due whose trees the elements of a store show, over the room and the free big-blocks
+-- that the store told: the check on space is the last one.
+abbrev pub IsDueOver : {S : Type 0} → (S → Option (List Element)) → (S → Option (List Extent)) → (S → ℕ → ℕ) → (S → ℕ) → Asked → S
+    → Reply → Type 0
+IsDueOver elements_of extents_of room_of free_of asked store reply =
+    OnCalls name_hash (asked.last + 1) (elements_of store) (extents_of store)
+    (λ _ call. Asks asked.command asked.busy call → reply ≡ due_over call (room_of store) (free_of store))

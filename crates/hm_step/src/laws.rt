@@ -2,11 +2,13 @@
 ghost use Rattle.std.specs.Prelude.{◌≡◌, ℕ, ◌+◌, ◌<◌, List, [], ◌∷◌, ◌++◌, None, Option};
 ghost use Rattle.std.specs.List.{All};
 ghost use Rattle.hm_types.specs.Elements.{FullElement};
+ghost use Rattle.hm_types.specs.Hash.{name_hash};
 ghost use Rattle.hm_types.specs.declared.limits.TheConstants.{GREATEST_ID};
 ghost use Rattle.hm_cursor.specs.Told.{IsBroken, Lists, fulls};
 ghost use Rattle.hm_key.specs.Balance.{LosesDead};
 ghost use Rattle.hm_model.specs.After.{Event};
 ghost use Rattle.hm_model.specs.Caused.{Counts, HasCause, HasNumbers, Known, counts_after, known_after, known_at};
+ghost use Rattle.hm_model.specs.Due.{ReadsPaths};
 ghost use Rattle.hm_model.specs.Legal.{IsAllowed, MayFollow, Setting, call_after, state_after};
 ghost use Rattle.hm_model.specs.Reply.{passed_ids, told_boundary};
 ghost use Rattle.hm_model.specs.Sites.{Parsed, ReadsWords};
@@ -16,6 +18,7 @@ ghost use Rattle.hm_model.specs.declared.command.Command.{Command};
 ghost use Rattle.hm_model.specs.declared.reply.Reply.{Reply};
 ghost use Rattle.hm_records.specs.Payload.{IsPayload};
 ghost use Rattle.hm_volume.specs.Shown.{ShowsAs};
+ghost use Rattle.hm_calls.specs.Call.{IsCall};
 ghost use Rattle.hm_calls.specs.Commands.{IsOnTrees};
 ghost use Rattle.hm_calls.specs.Known.{AreOlderOrSlaves};
 ghost use Rattle.hm_calls.specs.Possible.{MayReply};
@@ -32,6 +35,16 @@ pub fn elements_show_their_volume()
     ensures { (es : List FullElement) (volume : Volume) (substitutes : List Substitute) →
         StandFor es volume → AreGiven es volume substitutes →
         ShowsAs es volume (view_of volume substitutes) }
+{}
+
+/// Elements that stand for the volume of a history show the call that comes next: what is said of each
+/// call that elements show is said of it.
+pub fn elements_show_the_next_call()
+    ensures { (run : Setting) (before : List Event) (event : Event) (es : List FullElement) →
+        StandFor es (state_after run before).volume →
+        AreGiven es (state_after run before).volume event.substitutes →
+        ReadsPaths (call_after run before event) →
+        IsCall name_hash ((state_after run before).volume.last + 1) es (call_after run before event) }
 {}
 
 /// Elements that stand for a volume make a tree of each pseudo file system, now and as of each id

@@ -9,7 +9,7 @@ ghost use Rattle.hm_model.specs.Forms.{IsInRange};
 ghost use Rattle.hm_calls.specs.Commands.{IsOnTrees, LowersRoomFor, reserves_for};
 ghost use Rattle.hm_calls.specs.Known.{AreKnown};
 ghost use Rattle.hm_calls.specs.Possible.{MayReply};
-ghost use Rattle.hm_step.specs.Next.{IsStep};
+ghost use Rattle.hm_step.specs.Next.{IsDueOver, IsStep};
 
 use hm_calls::answer;
 use hm_dirs::Fnv;
@@ -20,9 +20,11 @@ use std::alloc::Global;
 
 /// Answers a call on names or on the bytes of files by the id after `last`, the last one that was
 /// drawn: the reply is a step of each history for whose volume the elements of the store stand, so
-/// that those that it leaves stand for the volume after it. Whatever the store tells, the reply is one
-/// that the call may have by its words. What else it promises, and which faults it has, are those of
-/// `answer` of hm_calls. After a fault nothing is known of the content.
+/// that those that it leaves stand for the volume after it. It is the reply that the call is due over
+/// the space of the store: where space lacks, `NoSpace` with what is free and what is needed. Whatever
+/// the store tells, the reply is one that the call may have by its words. What else it promises, and
+/// which faults it has, are those of `answer` of hm_calls. After a fault nothing is known of the
+/// content.
 pub fn answer_next<T: ElementStore + Extents>(
     alloc: Global,
     store: &mut T,
@@ -36,6 +38,8 @@ pub fn answer_next<T: ElementStore + Extents>(
     requires known { AreKnown (T.elements store.old) (T.extents store.old) (last.0 + 1) }
     ensures step { IfOk result (IsStep T.elements T.extents T.free
         (record { command = command.now; last = last.0; busy = busy }) store.old store.new) }
+    ensures due { IfOk result (IsDueOver T.elements T.extents T.room T.free
+        (record { command = command.now; last = last.0; busy = busy }) store.old) }
     ensures possible { IfOk result (MayReply last.0 (option_map (λ i. i.0) busy) command.now) }
     ensures known { OnOk result (AreKnown (T.elements store.new) (T.extents store.new)
         (last.0 + 2)) }

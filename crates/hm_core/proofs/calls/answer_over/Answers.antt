@@ -79,7 +79,7 @@ returns-in-Ok g c =
           (caused_over _ _ _ _ (g.D.Disk.faults s.space.disk) (g.D.Disk.faults s3.space.disk) c.answer_next.result
           (ap g.D.Disk.faults c.begin.ensures.disk) (ap g.D.Disk.faults c.keep.ensures.disk) c.answer_next.ensures.cause)
           (c.can_keep.ensures.0 c.if-can_keep.true).whole c.keep.ensures.turn c.keep.ensures.content c.keep.ensures.root c.pages_are_bytes.ensures s2.tree
-          c.in-Ok.ensures.step c.in-Ok.ensures.charges c.in-Ok.ensures.possible;
+          c.in-Ok.ensures.step c.in-Ok.ensures.charges c.in-Ok.ensures.possible c.in-Ok.ensures.due;
       crashes = leaves_around g.D.Disk.left_since g.D.Disk.told s.space.disk s1.space.disk s2.space.disk s3.space.disk c.begin.ensures.disk
           c.keep.ensures.disk (c.what_a_crash_leaves_over_calls.ensures s1 s2 c.answer_next.ensures.borrowed.1);
     }

@@ -1,17 +1,21 @@
 -- A call is answered and entered.
-use Rattle.std.proofs.Common.{rules, List, ◌+◌, refl, sym, subst, arith}
+use Rattle.std.proofs.Common.{rules, ◌≡◌, List, Some, ◌+◌, refl, sym, slice_get, subst, arith}
 use Rattle.std.proofs.Math.Logic.{∥∥₁_map}
 use Rattle.hm_model.specs.declared.entry.Entry.{Entry}
 use Rattle.hm_pages.specs.Store.{contents}
 use Rattle.hm_stored.specs.Heap.{heap_of}
+use Rattle.hm_state.specs.Live.{NoByte}
+use Rattle.hm_state.proofs.LiveLemmas.{live_same}
 use Rattle.hm_core.specs.Caused.{IsCausedFrom}
 use Rattle.hm_core.specs.Core.{NeedsFlush}
 use Rattle.hm_core.specs.Counts.{disk_counts}
 use Rattle.hm_core.specs.Inside.{IsInOrder}
+use Rattle.hm_core.specs.Replied.{IsReplied}
 use Rattle.hm_core.specs.Seen.{seen}
 use Rattle.hm_core.proofs.CallLeavesLemmas.{call_follows, call_leaves_held}
 use Rattle.hm_core.proofs.CoreLemmas.{follows_itself}
 use Rattle.hm_core.proofs.EnterLemmas.{waited_for}
+use Rattle.hm_core.proofs.RepliedLemmas.{entry_there}
 use Rattle.hm_core.proofs.StepLemmas.{boundary_drawn, boundary_told, closed_now, entry_of, greatest_drawn, least_left, ordered_next, target_drawn, told_since}
 use Rattle.hm_core.proofs.volume.Core.call.Goals as goal
 
@@ -31,6 +35,16 @@ returns-then-must_flush-clause-steps g c =
     let h = heap_of (contents s.stored.space.pages.store) (g.D.Disk.told s.stored.space.disk) s.stored.space.books in
     let greatest = greatest_drawn s.flusher s.last.0 s.free h s.history.items s.ordered in
     (refl, refl, omega (arith, greatest), c.must_flush.ensures.0 c.if-must_flush.true)
+
+pub returns-then-self-eq-GREATEST_ID-clause-live : goal.returns-then-self-eq-GREATEST_ID-clause-live
+returns-then-self-eq-GREATEST_ID-clause-live g c =
+    let s = seen c.args.self.now in
+    λ volume holds. live_same NoByte s.heap s.root s.heap.disk refl
+
+pub returns-then-must_flush-clause-live : goal.returns-then-must_flush-clause-live
+returns-then-must_flush-clause-live g c =
+    let s = seen c.args.self.now in
+    λ volume holds. live_same NoByte s.heap s.root s.heap.disk refl
 
 pub answer_asked-reply-requires-clause-closed : goal.answer_asked-reply-requires-clause-closed
 answer_asked-reply-requires-clause-closed g c =
@@ -99,6 +113,18 @@ returns-clause-steps g c =
       none,
     )
 
+pub returns-clause-replied : goal.returns-clause-replied
+returns-clause-replied g c =
+    let s = c.args.self.now in
+    let t = c.answer_asked-reply.new.stored in
+    let h = heap_of (contents s.stored.space.pages.store) (g.D.Disk.told s.stored.space.disk) s.stored.space.books in
+    let entry = entry_of (s.last.0 + 1) c.args.lane c.args.line c.args.command c.answer_asked-reply.result in
+    λ found there.
+    subst (λ (e : Entry). IsReplied (g.D.Disk.faults s.stored.space.disk) (g.D.Disk.faults t.space.disk) s.last.0 c.args.command h s.stored.root e.reply)
+    (sym (entry_there s.history.items entry found c.len-place.result (omega (arith, c.len-place.ensures, s.history.ok))
+    (subst (λ (l : List Entry). slice_get l c.len-place.result ≡ Some found) c.push_reserved.ensures.items there)))
+    c.answer_asked-reply.ensures.answers.replied
+
 pub returns-clause-follows : goal.returns-clause-follows
 unfolding heap_of
 returns-clause-follows g c =
@@ -123,3 +149,7 @@ returns-clause-crashes g c =
     (target_drawn f s.last.0 s.free h s.history.items s.ordered) (least_left f s.last.0 s.free h s.history.items s.ordered)
     (record { history = c.push_reserved.ensures.items; last = refl; boundary = refl; mounted = refl; counts = refl; flush = refl })
     (record { call_is = refl; reply_is = refl; own = refl }) c.answer_asked-reply.ensures.answers c.answer_asked-reply.ensures.crashes
+
+pub returns-clause-live : goal.returns-clause-live
+unfolding heap_of
+returns-clause-live g c = c.answer_asked-reply.ensures.answers.live

@@ -12,4 +12,5 @@ returns g c =
     let s = c.args.self.now in
     let h = heap_of (contents s.stored.space.pages.store) (g.D.Disk.told s.stored.space.disk) s.stored.space.books in
     sound_core (seen s) c.flush_is_sound.ensures refl (boundary_drawn s.flusher s.last.0 s.free h s.history.items s.ordered)
-    (target_drawn s.flusher s.last.0 s.free h s.history.items s.ordered) s.caused (boundary_told s.flusher s.last.0 s.free h s.history.items s.ordered)
+    (target_drawn s.flusher s.last.0 s.free h s.history.items s.ordered) s.caused
+    (boundary_told s.flusher s.last.0 s.free h s.history.items s.ordered) c.pages_are_sound.ensures

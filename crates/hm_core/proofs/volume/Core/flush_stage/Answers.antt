@@ -41,5 +41,6 @@ returns-in-Err-2 g c =
           c.if-self-eq-GREATEST_ID.false a.lane a.line a.command c.requires.asked.served c.failure.result c.failure.ensures c.push_reserved.new.self.items
           c.push_reserved.ensures.items _ refl stage.uncounted c.core_is_sound.ensures;
       crashes = search rules;
+      live = stage.live;
       streams = search rules;
     }

@@ -10,7 +10,7 @@ use Rattle.hm_core.specs.Seen.{seen}
 use Rattle.hm_core.proofs.CausedLemmas.{caused_later}
 use Rattle.hm_core.proofs.CountLemmas.{disk_later, later_same}
 use Rattle.hm_core.proofs.EndLemmas.{stage_settles}
-use Rattle.hm_core.proofs.StageLemmas.{IsLeftBy, ordered_staged, stage_follows, stage_goes_on, stage_leaves}
+use Rattle.hm_core.proofs.StageLemmas.{IsLeftBy, ordered_staged, stage_follows, stage_goes_on, stage_leaves, stage_live}
 use Rattle.hm_core.proofs.StepLemmas.{flushed_now}
 use Rattle.hm_core.proofs.volume.Core.make_stage.Goals as goal
 
@@ -59,6 +59,7 @@ returns g c =
       uncounted = stage_goes_on (seen s) f' h' (seen s).counts result past since flushes made.disk left (later_same (seen s).counts) s.ordered refl t.root
           made.root;
       crashes = stage_leaves (seen s) f' h' counts result past since flushes made.disk left later s.ordered;
+      live = stage_live (seen s) f' h' counts result past since flushes made.disk left later s.ordered;
       settled = stage_settles c.header_now-now.result s.flusher f' h.pages h'.pages past since h.disk h'.disk result made.ends.ends made.disk;
       streams = search rules;
       cause = search rules;
