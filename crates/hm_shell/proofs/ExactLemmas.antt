@@ -256,7 +256,7 @@ module _ (newfs : Option ℕ) (lines : List Line) (past since : LeftSince) (old_
   using_brings NotVolume using = elim using.stops [ inl line ↦ absurd line.cause | inr writing ↦ absurd writing.cause ]
   using_brings (BadField place) using = elim using.stops [ inl line ↦ absurd line.cause | inr writing ↦ absurd writing.cause ]
   using_brings (ScriptFault b a) using = elim using.stops [ inl line ↦ absurd line.cause | inr writing ↦ absurd writing.cause ]
-  using_brings (BadLine number) using = elim using.stops [ inl line ↦ absurd line.cause | inr writing ↦ absurd writing.cause ]
+  using_brings (BadLine number why) using = elim using.stops [ inl line ↦ absurd line.cause | inr writing ↦ absurd writing.cause ]
   using_brings TooLong using = elim using.stops [ inl line ↦ absurd line.cause | inr writing ↦ absurd writing.cause ]
 
   running_brings : (stop : Stop) → StoppedRunning newfs lines past since old_disk new_disk old_out new_out stop
@@ -315,7 +315,7 @@ preparing_brings words old new TooLong stopped plan = (
         good = λ short _. absurd (short long);
       }),
 )
-preparing_brings words old new (BadLine number) stopped plan = (
+preparing_brings words old new (BadLine number why) stopped plan = (
   plan.0,
   plan.1,
   plan.2,

@@ -1,8 +1,8 @@
 -- Lines that are served from the front.
-use Rattle.std.proofs.Common.{◌≡◌, ℕ, ◌+◌, ◌*◌, ◌<◌, ◌≤◌, List, [], ◌∷◌, ◌++◌, get_or, length, take, refl, subst, sym, ◌∙◌, ap, inl, inr, arith, append_assoc, append-nil, length-append}
+use Rattle.std.proofs.Common.{◌≡◌, ℕ, ◌+◌, ◌*◌, ◌<◌, ◌≤◌, List, [], ◌∷◌, ◌++◌, length, take, refl, subst, sym, ◌∙◌, ap, inl, inr, arith, append_assoc, append-nil, length-append}
 use Rattle.std.specs.Prelude.{All, Contains, IfErr, OnErr, OnOk, Option, None, Some, Result, Ok, Err, slice_get}
 use Rattle.std.proofs.lemmas.List.Elements.{All-contains, Contains-append_cases, Contains-append_right}
-use Rattle.std.proofs.lemmas.Option.{IfSome_then, get_or_from_slice_get}
+use Rattle.std.proofs.lemmas.Option.{IfSome_then}
 use Rattle.hm_image.proofs.ListLemmas.{only_one}
 use Rattle.hm_model.specs.Reply.{told_boundary}
 use Rattle.hm_types.specs.declared.limits.TheConstants.{GREATEST_ID}
@@ -15,6 +15,7 @@ use Rattle.hm_model.specs.Out.{IsOf, entry_words, printed_line, spent_words}
 use Rattle.hm_core.specs.Core.{Enters, Follows, IsSoundCore}
 use Rattle.hm_core.specs.State.{CoreState}
 use Rattle.hm_core.proofs.CoreLemmas.{follows_further, follows_itself, follows_spare}
+use Rattle.hm_core.proofs.RepliedLemmas.{entry_there}
 use Rattle.hm_shell.specs.declared.stop.Stop.{Stop}
 use Rattle.hm_shell.specs.declared.stop.Stop.TheVariants.{Usage, NotVolume, BadField, DiskFault, Damaged, ScriptFault, OutFault, NoMemory, BadLine, TooLong}
 use Rattle.hm_shell.specs.Alone.{Answers, IsAlone, TellsAfter, line_text, out_text}
@@ -36,7 +37,7 @@ stopped_front line old new (BadField place) stopped = absurd stopped
 stopped_front line old new (DiskFault before after) stopped = absurd stopped
 stopped_front line old new (Damaged at kind) stopped = absurd stopped
 stopped_front line old new (ScriptFault before after) stopped = absurd stopped
-stopped_front line old new (BadLine number) stopped = absurd stopped
+stopped_front line old new (BadLine number why) stopped = absurd stopped
 stopped_front line old new TooLong stopped = absurd stopped
 
 -- why a line was not printed is why lines are not served
@@ -49,7 +50,7 @@ IsOutCause-printing line old new (BadField place) stopped = absurd stopped
 IsOutCause-printing line old new (DiskFault before after) stopped = absurd stopped
 IsOutCause-printing line old new (Damaged at kind) stopped = absurd stopped
 IsOutCause-printing line old new (ScriptFault before after) stopped = absurd stopped
-IsOutCause-printing line old new (BadLine number) stopped = absurd stopped
+IsOutCause-printing line old new (BadLine number why) stopped = absurd stopped
 IsOutCause-printing line old new TooLong stopped = absurd stopped
 
 -- the lines before one that stands in rising lines have lower numbers
@@ -66,16 +67,6 @@ served_next lines before rest line each split =
 -- a history with one entry more has one
 not_empty : (history : List Entry) (e : Entry) → history ++ e ∷ [] ≡ [] → ⊥
 not_empty history e none = (let length_is = ap length none in let more = length-append history (e ∷ []) in absurd (omega (arith, length_is, more)))
-
--- the entry at the end of a history
-last_entry : (history : List Entry) (e d : Entry) → get_or (history ++ e ∷ []) (length history) d ≡ e
-last_entry [] e d = refl
-last_entry (x ∷ xs) e d = last_entry xs e d
-
-entry_there : (history : List Entry) (e found : Entry) (place : ℕ) → place ≡ length history → slice_get (history ++ e ∷ []) place ≡ Some found → found ≡ e
-entry_there history e found place there is =
-    sym (get_or_from_slice_get (history ++ e ∷ []) (length history) found e (subst (λ (k : ℕ). slice_get (history ++ e ∷ []) k ≡ Some found) there is))
-    ∙ last_entry history e e
 
 -- What comes of one line more: the history answers it, it prints its text, and those before it print what they did.
 record HasRun (lines : List Line) (line : Line) (begun old new : CoreState) (text : List ℕ) : Type 0 where

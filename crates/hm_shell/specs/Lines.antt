@@ -51,7 +51,7 @@ pub record AreServedLines (script : List ℕ) (lines : List Line) : Type 0 where
 
 -- why there are no such lines
 abbrev pub IsLinesStop : List ℕ → Stop → Type 0
-IsLinesStop script (BadLine number) = IsFirstBad script number
+IsLinesStop script (BadLine number why) = IsFirstBad script number
 IsLinesStop script TooLong = IsTooLong script
 IsLinesStop script NoMemory = Unit {0}
 IsLinesStop script Usage = ⊥

@@ -37,7 +37,7 @@ pub record WasPrepared (words : List (List ℕ)) (old new : Seen (List ℕ)) (jo
 -- is not served, and this is the first; or memory ran out.
 abbrev pub StoppedPreparing : List (List ℕ) → Seen (List ℕ) → Seen (List ℕ) → Stop → Type 0
 StoppedPreparing words old new Usage = IsUsageFault words × (new ≡ old)
-StoppedPreparing words old new (BadLine number) =
+StoppedPreparing words old new (BadLine number why) =
     HasPlan words × (script : List ℕ) × WasRead old new script × IsFirstBad script number
 StoppedPreparing words old new (ScriptFault before after) =
     HasPlan words × StoppedReading old new (ScriptFault before after)

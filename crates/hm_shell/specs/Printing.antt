@@ -34,5 +34,5 @@ StoppedPrinting line old new (BadField place) = ⊥
 StoppedPrinting line old new (DiskFault before after) = ⊥
 StoppedPrinting line old new (Damaged at kind) = ⊥
 StoppedPrinting line old new (ScriptFault before after) = ⊥
-StoppedPrinting line old new (BadLine number) = ⊥
+StoppedPrinting line old new (BadLine number why) = ⊥
 StoppedPrinting line old new TooLong = ⊥

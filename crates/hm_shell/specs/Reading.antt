@@ -36,4 +36,4 @@ StoppedReading old new (BadField place) = ⊥
 StoppedReading old new (DiskFault before after) = ⊥
 StoppedReading old new (Damaged at kind) = ⊥
 StoppedReading old new OutFault = ⊥
-StoppedReading old new (BadLine number) = ⊥
+StoppedReading old new (BadLine number why) = ⊥

@@ -141,7 +141,7 @@ IsOutCause before after (BadField place) = ⊥
 IsOutCause before after (DiskFault b a) = ⊥
 IsOutCause before after (Damaged at kind) = ⊥
 IsOutCause before after (ScriptFault b a) = ⊥
-IsOutCause before after (BadLine number) = ⊥
+IsOutCause before after (BadLine number why) = ⊥
 IsOutCause before after TooLong = ⊥
 
 -- a run stopped at a line, before the last flush, and the sink gained what was printed
@@ -161,7 +161,7 @@ IsWriteCause before after NotVolume = ⊥
 IsWriteCause before after (BadField place) = ⊥
 IsWriteCause before after (ScriptFault b a) = ⊥
 IsWriteCause before after OutFault = ⊥
-IsWriteCause before after (BadLine number) = ⊥
+IsWriteCause before after (BadLine number why) = ⊥
 IsWriteCause before after TooLong = ⊥
 
 -- all lines were answered and printed, and a stage of the last flush failed, over which the count of faults went from one to another

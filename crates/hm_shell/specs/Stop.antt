@@ -18,7 +18,7 @@ status_of (DiskFault before after) = 4
 status_of (ScriptFault before after) = 5
 status_of OutFault = 6
 status_of NoMemory = 7
-status_of (BadLine number) = 8
+status_of (BadLine number why) = 8
 status_of TooLong = 9
 status_of (Damaged at kind) = 10
 
@@ -42,7 +42,7 @@ last_line (Damaged at kind) = damage_line at kind
 last_line (ScriptFault before after) = counts_line (codes "script fault ") before after
 last_line OutFault = []
 last_line NoMemory = codes "no memory" ++ line_feed ∷ []
-last_line (BadLine number) = codes "bad line " ++ (decimal number ++ line_feed ∷ [])
+last_line (BadLine number why) = codes "bad line " ++ (decimal number ++ line_feed ∷ [])
 last_line TooLong = codes "script too long" ++ line_feed ∷ []
 
 -- the stop that a fault of a disk, of what it holds, or of memory makes

@@ -1,6 +1,7 @@
 // What a run is given, and what it hands back.
 ghost use Rattle.std.specs.Prelude.{◌≤◌};
 
+use crate::why::BadLine;
 use hm_disk::Disk;
 use hm_pipe::{Sink, Source};
 
@@ -22,9 +23,11 @@ pub struct Devices<D: Disk, S: Source, K: Sink, I, O> {
         × (K.faults out ≤ K.faults out) },
 }
 
-/// How a run ended: the exit status, and the devices that it was given.
+/// How a run ended: the exit status, the devices that it was given, and, where a line was bad, what is
+/// wrong with it.
 #[derive(Drop)]
 pub struct Ended<D: Disk, S: Source, K: Sink, I, O> {
     pub status: u8,
     pub devices: Devices<D, S, K, I, O>,
+    pub bad_line: Option<BadLine>,
 }

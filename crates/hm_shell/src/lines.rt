@@ -5,6 +5,7 @@ ghost use Rattle.hm_model.specs.Script.{IsFirstBadLine};
 ghost use Rattle.hm_shell.specs.Lines.{AreServedLines, IsFirstUnserved, IsLinesStop, IsServable};
 
 use crate::stop::Stop;
+use crate::why::Why;
 use hm_core::is_served;
 use hm_model::Line;
 use hm_script::{Script, ScriptFault, first_lines, read};
@@ -19,7 +20,10 @@ pub(crate) fn served_lines(alloc: Global, script: &[u8]) -> Result<Vec<Line>, St
 {
     match read(alloc, script) {
         Ok(blocks) => match first_unserved(&blocks) {
-            Some(number) => Err(Stop::BadLine { number }),
+            Some(number) => Err(Stop::BadLine {
+                number,
+                why: Why::of_line(script, number),
+            }),
             None => Ok(lines_of(alloc, blocks)?),
         },
         Err(ScriptFault::BadLine { number }) => Err(first_bad(alloc, script, number)),
@@ -38,8 +42,14 @@ fn first_bad(alloc: Global, script: &[u8], number: u32) -> Stop
         return Stop::NoMemory;
     };
     match first_unserved(&blocks) {
-        Some(earlier) => Stop::BadLine { number: earlier },
-        None => Stop::BadLine { number },
+        Some(earlier) => Stop::BadLine {
+            number: earlier,
+            why: Why::of_line(script, earlier),
+        },
+        None => Stop::BadLine {
+            number,
+            why: Why::of_line(script, number),
+        },
     }
 }
 

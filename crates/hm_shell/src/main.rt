@@ -15,6 +15,7 @@ mod serve;
 mod stop;
 mod streams;
 mod volume;
+mod why;
 mod words;
 
 use devices::{Devices, Ended};
@@ -22,7 +23,7 @@ use hm_disk_forms::FileDisk;
 use hm_pipe::{FileSink, FileSource, NoGate, StdSink, StdSource};
 use plan::{Plan, PlanFault};
 use print::print_last;
-use reason::tell_reason;
+use reason::{tell_bad_line, tell_reason};
 use run::run;
 use std::io::ErrorKind;
 use std::process::ExitCode;
@@ -79,7 +80,12 @@ fn main(rt: HostRuntime) -> ExitCode {
         stream_in: FileSource::named(rt, stream_in),
         stream_out: FileSink::named(rt, stream_out),
     };
-    let Ended { status, devices } = run(&rt, &words, devices, &NoGate);
+    let Ended {
+        status,
+        devices,
+        bad_line,
+    } = run(&rt, &words, devices, &NoGate);
+    tell_bad_line(&rt, bad_line);
     tell_reason(&rt, devices.disk.name(), devices.disk.last_error());
     tell_reason(&rt, "standard input", devices.script.last_error());
     tell_reason(&rt, "standard output", devices.out.last_error());

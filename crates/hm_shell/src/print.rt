@@ -87,7 +87,7 @@ fn put_last<K: Sink>(stop: Stop, out: &mut K) -> Result<(), Failed>
         Stop::ScriptFault { before, after } => put_counts(b"script fault ", before, after, out),
         Stop::OutFault => Ok(()),
         Stop::NoMemory => out.put(b"no memory\n"),
-        Stop::BadLine { number } => put_number(b"bad line ", u64::from(number), out),
+        Stop::BadLine { number, .. } => put_number(b"bad line ", u64::from(number), out),
         Stop::TooLong => out.put(b"script too long\n"),
     }
 }

@@ -1,5 +1,6 @@
-// Why a device failed, told on standard error.
+// Why a device failed, and what is wrong with a bad line, told on standard error.
 
+use crate::why::BadLine;
 use std::io;
 
 /// Tells why a device failed, where it did: `hammer: ` and the device's name, and what the system says.
@@ -13,6 +14,15 @@ pub(crate) fn tell_reason(rt: &HostRuntime, device: &str, error: Option<io::Erro
     };
     let words = without_number(text.as_str());
     let _ = eprintln!(rt; "hammer: {device}: {words}");
+}
+
+/// Tells what is wrong with a line that was bad, where one was: `hammer: line `, its number, and the reason.
+pub(crate) fn tell_bad_line(rt: &HostRuntime, line: Option<BadLine>) {
+    let Some(BadLine { number, why }) = line else {
+        return;
+    };
+    let words = why.text();
+    let _ = eprintln!(rt; "hammer: line {number} {words}");
 }
 
 // What the system says, without the number that std puts behind it.

@@ -13,6 +13,7 @@ use crate::job::prepare;
 use crate::print::print_last;
 use crate::stop::Stop;
 use crate::volume::{Closed, run_job};
+use crate::why::BadLine;
 use hm_disk::Disk;
 use hm_pipe::{Gate, Sink, Source};
 use std::alloc::Global;
@@ -71,8 +72,13 @@ pub fn run<
     ensures counts { NeverFall (sight devices) (sight result.devices) }
 {
     let (mut devices, outcome) = perform(rt.alloc(), words, devices);
+    let bad_line = bad_line_of(&outcome);
     let status = end(outcome, &mut devices.out);
-    Ended { status, devices }
+    Ended {
+        status,
+        devices,
+        bad_line,
+    }
 }
 
 // Runs up to the last line that is due where the run stops early.
@@ -119,6 +125,17 @@ fn perform<D: Disk, S: Source, K: Sink, I, O>(
         stream_out,
     };
     (devices, outcome)
+}
+
+// The bad line at which a run stopped, if it did at one.
+fn bad_line_of(outcome: &Result<(), Stop>) -> Option<BadLine> {
+    match outcome {
+        Err(Stop::BadLine { number, why }) => Some(BadLine {
+            number: *number,
+            why: *why,
+        }),
+        _ => None,
+    }
 }
 
 // Prints the last line of a run that stopped, and gives the exit status.

@@ -2,6 +2,7 @@
 ghost use Rattle.std.specs.Prelude.{◌≡◌};
 ghost use Rattle.hm_shell.specs.Stop.{of_fault, of_open, status_of};
 
+use crate::why::Why;
 use hm_core::OpenFault;
 use hm_types::{Fault, NoMemory};
 use std::alloc::{AllocError, AllocFailed};
@@ -28,7 +29,7 @@ pub(crate) enum Stop {
     NoMemory,
     /// The line with this number, counted from 1, is outside the grammar, or has a lane, or is of a call
     /// that is not served.
-    BadLine { number: u32 },
+    BadLine { number: u32, why: Why },
     /// The script has more bytes or more lines than it may have.
     TooLong,
 }

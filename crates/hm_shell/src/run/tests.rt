@@ -11,6 +11,7 @@ mod failing;
 mod faults;
 mod files;
 mod gate;
+mod syncs;
 
 type Memory = Ended<MemDisk, MemSource, MemSink, MemSource, MemSink>;
 
@@ -63,7 +64,11 @@ fn in_memory(
 
 // The status of a run that ended, what was printed, and the disk that it left.
 fn parts(ended: Memory) -> (u8, MemSink, MemDisk) {
-    let Ended { status, devices } = ended;
+    let Ended {
+        status,
+        devices,
+        bad_line: _,
+    } = ended;
     let Devices {
         disk,
         script: _,
@@ -87,4 +92,17 @@ fn ends<R: AllocGlobal + Threads + Wait + Sync>(
     let (told, out, disk) = parts(run_over(rt, words, disk, script, &[], &[])?);
     let is_so = told == status && out.bytes() == printed.as_bytes();
     Ok((is_so, disk))
+}
+
+// A disk with the directory `a`.
+fn made<R: AllocGlobal + Threads + Wait + Sync>(rt: &R) -> Result<MemDisk, AllocError> {
+    let (_, disk) = ends(
+        rt,
+        &MAKES,
+        blank(rt),
+        "mkdir /a\n",
+        0,
+        "0x0000000000000002 ok\n",
+    )?;
+    Ok(disk)
 }

@@ -5,19 +5,6 @@ use super::*;
 // What `ls /` prints on the volume as it was before the run that fails.
 const OLD: &str = "0x0000000000000003 ok 1 d:a\n";
 
-// A disk with the directory `a`.
-fn made<R: AllocGlobal + Threads + Wait + Sync>(rt: &R) -> Result<MemDisk, AllocError> {
-    let (_, disk) = ends(
-        rt,
-        &MAKES,
-        blank(rt),
-        "mkdir /a\n",
-        0,
-        "0x0000000000000002 ok\n",
-    )?;
-    Ok(disk)
-}
-
 // Which of some texts `ls /` prints on the volume of a disk, or in place of it where there is none.
 fn which<R: AllocGlobal + Threads + Wait + Sync>(
     rt: &R,
