@@ -37,10 +37,11 @@ impl Counted for Numbers {
     ghost frame = { λ _. tt };
 }
 
+// In each zone there is more than any call takes.
 impl HasRoom for Numbers {
-    ghost use Rattle.std.specs.Prelude.{None};
+    ghost use Rattle.std.specs.Prelude.{◌^◌, None};
 
-    ghost room = { λ _ _. 0 };
+    ghost room = { λ _ _. 2 ^ 20 };
 
     ghost free = { λ _. 0 };
 
