@@ -8,7 +8,7 @@ use Rattle.hm_key.specs.declared.rec_type.TheConstants.{FILE_BYTES}
 use Rattle.hm_key.specs.Counts.{Counts, IsSeen, Subject, bytes_subject, inodes_of, others_of, subject_of}
 use Rattle.hm_key.specs.Versions.{Adds, HaveOwnKeys}
 use Rattle.hm_records.specs.Changes.{CountsNothing}
-use Rattle.hm_records.specs.Follows.{AreMadeBy, Follows, HasByte, HasWay, HaveAged, IsClosedBy, IsOf, IsOver, Meet, StillFollow, VersionsFollow}
+use Rattle.hm_records.specs.Follows.{AreMadeBy, Follows, HasByte, HasWay, HaveAged, IsClosedBy, IsOf, EndedBy, Meet, StillFollow, VersionsFollow}
 use Rattle.hm_records.specs.Follows.{bytes, of_bytes, of_entry, of_inode, of_target, versions}
 use Rattle.hm_records.proofs.ChangeLemmas.{not_closed}
 
@@ -84,10 +84,10 @@ open_counts pfs t i es x follow within has of made open' = record {
   ];
 }
 
--- where nothing counts about a subject, each version that was made before the id and closed by it at most is over
-pub nothing_over : (pfs t i : ℕ) (es : List FullElement) (x : FullElement) → Follows pfs t es → i ≤ t → Contains es x → IsOf pfs (subject_of x.key)
-    → x.key.create < i → x.delete ≤ i → CountsNothing (Counts es i) (subject_of x.key) → IsOver i x
-nothing_over pfs t i es x follow within has of made early none = record {
+-- where nothing counts about a subject, each version that was made before the id and closed by then has ended
+pub nothing_ended : (pfs t i : ℕ) (es : List FullElement) (x : FullElement) → Follows pfs t es → i ≤ t → Contains es x → IsOf pfs (subject_of x.key)
+    → x.key.create < i → x.delete ≤ i → CountsNothing (Counts es i) (subject_of x.key) → EndedBy i x
+nothing_ended pfs t i es x follow within has of made early none = record {
   made = made;
   closed = record {
     closed = λ open'. none x.bytes (open_counts pfs t i es x follow within has of (omega (arith, made)) open');
@@ -156,7 +156,7 @@ module _ (e : FullElement) (es es' : List FullElement) (adds : Adds e es es') (p
     create : {x : FullElement} → x ≡ e → x.key.create ≡ e.key.create
     create is = ap (λ (z : FullElement). z.key.create) is
 
-  -- where all that it meets is over
+  -- where all that it meets has ended
   pub adds_way : HasWay pfs e es → Follows pfs t es'
   adds_way way = record {
     closed = λ old new has has' meet less early. elim ((adds old).0 has) [

@@ -58,13 +58,13 @@ abbrev pub HaveAged : ℕ → List FullElement → List FullElement → Type 0
 HaveAged i es es' = (x : FullElement) → Contains es' x → (e : FullElement) × Contains es e × IsAged i e x
 
 -- an element was made before an id, and closed by it
-pub record IsOver (i : ℕ) (e : FullElement) : Type 0 where
+pub record EndedBy (i : ℕ) (e : FullElement) : Type 0 where
   pub made : e.key.create < i
   pub closed : IsClosedBy i e
 
--- all that meets an element is over by the id that makes that one
+-- all that meets an element has ended by the id that makes that one
 abbrev pub HasWay : ℕ → FullElement → List FullElement → Type 0
-HasWay pfs e es = (x : FullElement) → Contains es x → Meet pfs e x → IsOver e.key.create x
+HasWay pfs e es = (x : FullElement) → Contains es x → Meet pfs e x → EndedBy e.key.create x
 
 -- the elements of a pseudo file system were made by `t`
 abbrev pub AreMadeBy : ℕ → ℕ → List FullElement → Type 0

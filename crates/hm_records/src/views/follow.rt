@@ -14,7 +14,7 @@ ghost use Rattle.hm_records.specs.Follows.{
   HaveAged,
   IsAbove,
   IsOf,
-  IsOver,
+  EndedBy,
   IsSeenWith,
   LosesDead,
   LosesUnseen,
@@ -52,7 +52,7 @@ pub fn what_follows_goes_on()
     ensures nothing { (pfs t i : ℕ) (es : List FullElement) (x : FullElement) →
         Follows pfs t es → i ≤ t → Contains es x → IsOf pfs (subject_of x.key) →
         x.key.create < i → x.delete ≤ i → CountsNothing (Counts es i) (subject_of x.key) →
-        IsOver i x }
+        EndedBy i x }
     ensures later { (pfs t u : ℕ) (es : List FullElement) →
         AreMadeBy pfs t es → Follows pfs t es → Follows pfs u es }
 {}

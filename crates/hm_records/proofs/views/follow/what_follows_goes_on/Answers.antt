@@ -1,4 +1,4 @@
-use Rattle.hm_records.proofs.MeetLemmas.{adds_way, aged_follow, follows_later, nothing_over}
+use Rattle.hm_records.proofs.MeetLemmas.{adds_way, aged_follow, follows_later, nothing_ended}
 use Rattle.hm_records.proofs.views.follow.what_follows_goes_on.Goals as goal
 
 pub returns-clause-closed : goal.returns-clause-closed
@@ -8,7 +8,7 @@ pub returns-clause-added : goal.returns-clause-added
 returns-clause-added c = adds_way
 
 pub returns-clause-nothing : goal.returns-clause-nothing
-returns-clause-nothing c = nothing_over
+returns-clause-nothing c = nothing_ended
 
 pub returns-clause-later : goal.returns-clause-later
 returns-clause-later c = follows_later
