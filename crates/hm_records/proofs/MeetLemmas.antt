@@ -40,7 +40,7 @@ of_place pfs s (of_bytes obj end is) = inr (ap (λ (z : Subject). z.localization
 of_place pfs s (of_target obj is) = inr (ap (λ (z : Subject). z.localization) is)
 of_place pfs s (of_entry directory key is) = inr (ap (λ (z : Subject). z.localization) is)
 
-meet_of : (pfs : ℕ) (a b : FullElement) → Meet pfs a b → IsOf pfs (subject_of a.key)
+pub meet_of : (pfs : ℕ) (a b : FullElement) → Meet pfs a b → IsOf pfs (subject_of a.key)
 meet_of pfs a b (versions of about) = of
 meet_of pfs a b (bytes obj x first second) = of_bytes obj a.key.key first.about
 
@@ -136,8 +136,8 @@ aged_none i es x has = (x, has, record { key = λ j. x.key; bytes = λ j. x.byte
 
 module _ (e : FullElement) (es es' : List FullElement) (adds : Adds e es es') (pfs t : ℕ) (follow : Follows pfs t es) where
   -- up to an id before the new one
-  pub adds_past : t < e.key.create → Follows pfs t es'
-  adds_past before = record {
+  pub follows_past : t < e.key.create → Follows pfs t es'
+  follows_past before = record {
     closed = λ old new has has' meet less early. elim ((adds old).0 has) [
       | inl is ↦ absurd (omega (arith, before, less, early, create is))
       | inr there ↦ elim ((adds new).0 has') [
@@ -157,8 +157,8 @@ module _ (e : FullElement) (es es' : List FullElement) (adds : Adds e es es') (p
     create is = ap (λ (z : FullElement). z.key.create) is
 
   -- where all that it meets has ended
-  pub adds_way : HasWay pfs e es → Follows pfs t es'
-  adds_way way = record {
+  pub follows_way : HasWay pfs e es → Follows pfs t es'
+  follows_way way = record {
     closed = λ old new has has' meet less early. elim ((adds old).0 has) [
       | inl is ↦ elim ((adds new).0 has') [
         | inl is' ↦ absurd (omega (arith, less, create is, create is'))
