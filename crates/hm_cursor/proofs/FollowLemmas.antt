@@ -1,22 +1,25 @@
 -- A version that is renewed is closed as the next one is made, so that what followed before follows still.
-use Rattle.std.proofs.Common.{◌≡◌, ◌∙◌, ℕ, List, Option, None, Some, ap, refl, sym, subst, inl, inr, arith}
+use Rattle.std.proofs.Common.{◌≡◌, ◌≢◌, ◌∙◌, ℕ, List, Option, None, Some, ap, refl, sym, subst, inl, inr, arith}
 use Rattle.std.specs.Prelude.{IfSome, IsSomeAnd, OnOk, Result, Ok, Err}
 use Rattle.std.specs.List.{Contains}
 use Rattle.std.proofs.lemmas.Bool.{cases_lt}
 use Rattle.hm_types.specs.Elements.{FullElement, Key}
 use Rattle.hm_key.specs.Balance.{full_of}
-use Rattle.hm_key.specs.Counts.{subject_of}
+use Rattle.hm_key.specs.declared.rec_type.TheConstants.{FILE_BYTES}
+use Rattle.hm_key.specs.Counts.{Counts, Subject, subject_of}
 use Rattle.hm_key.specs.Elements.{element_at, element_key}
 use Rattle.hm_key.specs.Extents.{Extent}
 use Rattle.hm_key.specs.Key.{key_of}
 use Rattle.hm_key.specs.Versions.{Adds}
 use Rattle.hm_key.specs.declared.base.Base.{Base}
 use Rattle.hm_key.specs.declared.element.Element.{Element}
-use Rattle.hm_records.specs.Follows.{EndedBy, IsClosedBy, IsOf, versions}
+use Rattle.hm_records.specs.Changes.{CountsNothing}
+use Rattle.hm_records.specs.Follows.{StillFollow, EndedBy, IsClosedBy, IsOf, versions}
 use Rattle.hm_records.proofs.CountsLemmas.{same_key}
+use Rattle.hm_records.proofs.MeetLemmas.{meet_bytes}
 use Rattle.hm_records.proofs.MemberLemmas.{has_map, map_has}
 use Rattle.hm_cursor.specs.Told.{Lists, fulls}
-use Rattle.hm_cursor.specs.Write.{FollowWith, IsClosedIn, IsFresh, IsFreshFor, Writes, full_with}
+use Rattle.hm_cursor.specs.Write.{FollowWith, IsClosedIn, IsFresh, IsFreshFor, OthersEnded, Rewrites, Writes, full_with}
 use Rattle.hm_cursor.proofs.FullLemmas.{element_at-has}
 use Rattle.hm_cursor.proofs.RewriteLemmas.{Shuts, closed_stays, follows_added, like}
 use Rattle.hm_cursor.proofs.WriteLemmas.{Became, IsOpenAt}
@@ -38,7 +41,8 @@ follows_renewed e old es mid es' shuts adds fresh has about open' closed pfs t o
           (record { made = made; closed = record { closed = gone.closed; early = fresh.closed x there same } })
       | inr from ↦ elim (cases_lt old.key.create x.key.create) [
         | inl newer ↦
-            absurd ((follow.closed old x has there (versions (subst (IsOf pfs) (same ∙ sym about) of) (same ∙ sym about)) newer (omega (arith, made, within))).closed open')
+            let meet = versions (subst (IsOf pfs) (same ∙ sym about) of) (same ∙ sym about) in
+            absurd ((follow.closed old x has there meet newer (omega (arith, made, within))).closed open')
         | inr to ↦
             let key : y.key ≡ old.key = alike.key ∙ same_key x.key old.key (same ∙ sym about) (omega (arith, from, to)) in
             let now = closed y ((adds y).1 (inr here)) key in
@@ -88,3 +92,27 @@ module _ (at : Key) (base : Base) (bytes : List ℕ) (about : subject_of at ≡ 
   renewed_follow elements_of extents_of old mid new (Err error) fresh open' first second closed = tt
   renewed_follow elements_of extents_of old mid new (Ok value) fresh open' first second closed =
       renewed_told (elements_of old) (elements_of mid) (elements_of new) (extents_of old) (extents_of mid) (extents_of new) fresh open' first second closed
+
+-- ---- what the calls above this crate use
+
+none_new : (bytes : List ℕ) → None ≡ Some bytes → ⊥
+none_new bytes is = cc
+
+-- elements that are no bytes of a file meet versions of their subject alone
+pub no_others : (pfs i : ℕ) (s : Subject) (now : Option (List ℕ)) (es : List FullElement) → s.rec_type ≢ FILE_BYTES → OthersEnded pfs s now i es
+no_others pfs i s now es other e x about is has differ meet =
+    absurd (other (ap (λ (z : Subject). z.rec_type) (sym about) ∙ meet_bytes pfs e x meet (λ same. differ (same ∙ about))))
+
+pub closing_follows : (s : Subject) (i : ℕ) (es es' : List FullElement) → Rewrites s None i es es' → StillFollow es es'
+closing_follows s i es es' rewrites pfs t = rewrites.follows pfs t (inl refl) (λ e x about is. absurd (none_new e.bytes is))
+
+pub adding_follows : (s : Subject) (now : Option (List ℕ)) (i : ℕ) (es es' : List FullElement) → s.rec_type ≢ FILE_BYTES → CountsNothing (Counts es i) s
+    → Rewrites s now i es es' → StillFollow es es'
+adding_follows s now i es es' other none rewrites pfs t = rewrites.follows pfs t (inr none) (no_others pfs i s now es other)
+
+pub renewing_follows : (s : Subject) (bytes : List ℕ) (i : ℕ) (es es' : List FullElement) → s.rec_type ≢ FILE_BYTES → FollowWith s bytes i es es'
+    → StillFollow es es'
+renewing_follows s bytes i es es' other follows pfs t = follows pfs t (no_others pfs i s (Some bytes) es other)
+
+pub follow_twice : (es mid es' : List FullElement) → StillFollow es mid → StillFollow mid es' → StillFollow es es'
+follow_twice es mid es' first second pfs t follow = second pfs t (first pfs t follow)
