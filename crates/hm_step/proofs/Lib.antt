@@ -23,3 +23,4 @@ pub mod PrunedLemmas
 pub mod FollowLemmas
 pub mod RecordLemmas
 pub mod CutLemmas
+pub mod AddedLemmas
