@@ -4,7 +4,7 @@ use Rattle.std.specs.Prelude.{Some, option_map, if◌then◌else◌}
 use Rattle.std.specs.Bool.{nat_le}
 use Rattle.std.specs.List.{All, Contains}
 use Rattle.std.proofs.lemmas.Bool.{cases_lt}
-use Rattle.std.proofs.lemmas.List.Elements.{All-contains, All-head, All-push, All-tail, All-weaker}
+use Rattle.std.proofs.lemmas.List.Elements.{All-contains, All-head, All-push, All-tail}
 use Rattle.hm_types.specs.Elements.{FullElement, Key}
 use Rattle.hm_types.specs.Hash.{name_hash}
 use Rattle.hm_types.specs.Intervals.{Keeps}
@@ -14,12 +14,13 @@ use Rattle.hm_key.specs.Counts.{Counts}
 use Rattle.hm_key.specs.Element.{pfs_of}
 use Rattle.hm_key.specs.Versions.{HaveOwnKeys, IsBelow}
 use Rattle.hm_cursor.specs.Write.{AreUpTo as AreWrittenTo}
+use Rattle.hm_model.specs.After.{of_pfs}
 use Rattle.hm_model.specs.Call.{Call, own_id}
 use Rattle.hm_model.specs.Change.{changed_pfs}
 use Rattle.hm_model.specs.Laws.{adds_pfs}
 use Rattle.hm_model.specs.Volume.{Master, PseudoFileSystem, Volume, add_version, as_of, at, system_of}
 use Rattle.hm_model.proofs.DueLemmas.{of_test}
-use Rattle.hm_model.proofs.GrowthLemmas.{as_of-grown}
+use Rattle.hm_model.proofs.GrowthLemmas.{KeepsNumber, as_of-grown}
 use Rattle.hm_model.proofs.VersionLemmas.{as_of-push}
 use Rattle.hm_records.specs.KeysFit.{KeysFit}
 use Rattle.hm_records.specs.Payload.{HasGrammar, IsPayload, SpellsEntry, SpellsInode, SpellsPfs}
@@ -35,10 +36,10 @@ use Rattle.hm_volume.specs.Shown.{ShowsAs}
 use Rattle.hm_calls.specs.Changes.{ChangesTree, tree_now}
 use Rattle.hm_calls.specs.Writes.{IsNewIn}
 use Rattle.hm_image.specs.StandFor.{AreAtMost, AreBegun, AreUpTo, HasIds, HasMasterIds, HasSlaveIds, HasViews, StandFor}
-use Rattle.hm_step.specs.Step.{after_call}
+use Rattle.hm_step.specs.Step.{after_call, drawn}
 use Rattle.hm_step.proofs.NextLemmas.{slave_later, system_at, versions_later, view_next}
 use Rattle.hm_step.proofs.NumberLemmas.{changed_numbers, number_is_new}
-use Rattle.hm_step.proofs.SystemLemmas.{all_after, becomes, becomes_own, found_beside, found_here, new_tree, on_each, still_there}
+use Rattle.hm_step.proofs.SystemLemmas.{all_after, changed_one, found_beside, found_here, new_tree, on_each, own_after, still_there}
 
 -- the tree of the newest version that is shown is one of the versions', or none
 at_most_shown : (most t : ℕ) (tree : FileTree) (versions : List (ℕ × FileTree)) → AreAtMost most tree
@@ -51,7 +52,7 @@ at_most_shown most t tree (v ∷ vs) here all =
 
 module _ (call : Call) (es es' : List FullElement) (stand : StandFor es call.volume) (shows : ShowsAs es call.volume call.view)
     (changes : ChangesTree call es es') (one : PseudoFileSystem) (found : system_of call.volume (changed_pfs call) ≡ Some one)
-    (master : one.role ≡ Master) (adds : adds_pfs call.command ≡ false) where
+    (master : one.role ≡ Master) where
   abbrev volume : Volume
   volume = call.volume
 
@@ -64,8 +65,15 @@ module _ (call : Call) (es es' : List FullElement) (stand : StandFor es call.vol
   abbrev tree : FileTree
   tree = tree_now call
 
+  -- the PFS gets a version more, and the id is drawn
+  abbrev newer : PseudoFileSystem → PseudoFileSystem
+  newer = add_version id (new_tree call)
+
   abbrev after : Volume
-  after = after_call true call
+  after = drawn id (of_pfs volume pfs newer)
+
+  newer_keeps : KeepsNumber newer
+  newer_keeps s = refl
 
   -- ---- the tree that changes
 
@@ -94,7 +102,7 @@ module _ (call : Call) (es es' : List FullElement) (stand : StandFor es call.vol
         let late : v.0 ≤ volume.last = All-contains (λ (w : ℕ × FileTree). w.0 ≤ volume.last) one.versions v ids.versions there in
         omega (arith, own, late))))
 
-    new_view : (t : ℕ) → id ≤ t → IsViewOf es' pfs t (new_tree call adds)
+    new_view : (t : ℕ) → id ≤ t → IsViewOf es' pfs t (new_tree call)
     new_view t late = changes.tree (number_is_new call tree few) t late
 
   -- ---- what stays
@@ -142,19 +150,25 @@ module _ (call : Call) (es es' : List FullElement) (stand : StandFor es call.vol
       (λ x e there key bytes.
       let (s, is) = system_at es volume e stand.of_systems there in
       let same : pfs_of x.key.localization ≡ pfs_of e.key.localization = ap (λ (k : Key). pfs_of k.localization) key in
-      subst (λ (n : ℕ). (s : PseudoFileSystem) × (system_of after n ≡ Some s)) (sym same) (still_there call adds (pfs_of e.key.localization) s is))
-      (λ x is. subst (λ (n : ℕ). (s : PseudoFileSystem) × (system_of after n ≡ Some s)) (sym is.place) (still_there call adds pfs one found))
+      subst (λ (n : ℕ). (s : PseudoFileSystem) × (system_of after n ≡ Some s)) (sym same)
+      (still_there volume pfs newer newer_keeps (pfs_of e.key.localization) s is))
+      (λ x is.
+      subst (λ (n : ℕ). (s : PseudoFileSystem) × (system_of after n ≡ Some s)) (sym is.place)
+      (still_there volume pfs newer newer_keeps pfs one found))
+
+  abbrev Recorded : PseudoFileSystem → Type 0
+  Recorded s = (r : PfsRecord) × HasRecord es' s.number r × IsRecordFor s r
 
   records : HaveRecords es' after
   records = record {
-    each = all_after call adds (λ s. (r : PfsRecord) × HasRecord es' s.number r × IsRecordFor s r)
-        (All-weaker (λ s. (r : PfsRecord) × HasRecord es s.number r × IsRecordFor s r) _
-        (λ s its. becomes call adds (λ s'. (r : PfsRecord) × HasRecord es' s'.number r × IsRecordFor s' r) s (kept s its) (kept s its))
-        volume.systems stand.records.each);
+    each = all_after volume pfs newer newer_keeps Recorded stand.own (λ s has differ. kept s (its s has)) (λ s has number is. kept s (its s has));
     no_other = λ other r has.
         let (s, is) = stand.records.no_other other r (record_before other r has) in
-        still_there call adds other s is;
+        still_there volume pfs newer newer_keeps other s is;
   } where
+    its : (s : PseudoFileSystem) → Contains volume.systems s → (r : PfsRecord) × HasRecord es s.number r × IsRecordFor s r
+    its s has = All-contains (λ (x : PseudoFileSystem). (r : PfsRecord) × HasRecord es x.number r × IsRecordFor x r) volume.systems s stand.records.each has
+
     kept : (s : PseudoFileSystem) → (r : PfsRecord) × HasRecord es s.number r × IsRecordFor s r
         → (r : PfsRecord) × HasRecord es' s.number r × IsRecordFor s r
     kept s (r, has, for) = (r, record_kept s.number r has, for)
@@ -182,13 +196,13 @@ module _ (call : Call) (es es' : List FullElement) (stand : StandFor es call.vol
         slave = λ role. slave_later volume.last id s (omega arith) (old.slave role);
       }
 
-  ids_here : (s : PseudoFileSystem) → system_of volume pfs ≡ Some s → HasIds es' id pfs (add_version id (new_tree call adds) s)
+  ids_here : (s : PseudoFileSystem) → system_of volume pfs ≡ Some s → HasIds es' id pfs (newer s)
   ids_here s is =
       let old : HasIds es volume.last pfs s = stand.ids pfs s is in
       record {
         master = λ role. record {
           elements = up_to pfs (old.master role).elements;
-          versions = All-push (λ (v : ℕ × FileTree). v.0 ≤ id) s.versions (id, new_tree call adds)
+          versions = All-push (λ (v : ℕ × FileTree). v.0 ≤ id) s.versions (id, new_tree call)
               (versions_later volume.last id s.versions (omega arith) (old.master role).versions) (omega arith);
           keeps = λ t from to. (old.master role).keeps t (omega (arith, from)) to;
         };
@@ -197,8 +211,8 @@ module _ (call : Call) (es es' : List FullElement) (stand : StandFor es call.vol
             record { drawn = later.drawn; keeps = later.keeps; no_later = later.no_later };
       }
 
-  begun_here : (s : PseudoFileSystem) → system_of volume pfs ≡ Some s → AreBegun (add_version id (new_tree call adds) s)
-  begun_here s is = All-push (λ (v : ℕ × FileTree). 1 ≤ v.0) s.versions (id, new_tree call adds) (stand.begun pfs s is) (omega arith)
+  begun_here : (s : PseudoFileSystem) → system_of volume pfs ≡ Some s → AreBegun (newer s)
+  begun_here s is = All-push (λ (v : ℕ × FileTree). 1 ≤ v.0) s.versions (id, new_tree call) (stand.begun pfs s is) (omega arith)
 
   -- ---- the views
 
@@ -210,7 +224,7 @@ module _ (call : Call) (es es' : List FullElement) (stand : StandFor es call.vol
         numbered = old.numbered;
         views = λ t le keeps.
             let before : IsViewOf es other t (as_of t no_tree s.versions) = view_next es volume stand other s is old t le keeps in
-            let there : system_of after other ≡ Some s = found_beside call adds other differ ∙ is in
+            let there : system_of after other ≡ Some s = found_beside volume pfs newer newer_keeps other differ ∙ is in
             let here : at after other t ≡ as_of t no_tree s.versions = rw there refl in
             subst (λ (shown : FileTree). IsViewOf es' other t shown) (sym here) (elim (cases_lt t id) [
               | inl early ↦ past_view other t (as_of t no_tree s.versions) early before
@@ -219,42 +233,47 @@ module _ (call : Call) (es es' : List FullElement) (stand : StandFor es call.vol
       }
 
   views_here : (s : PseudoFileSystem) → system_of volume pfs ≡ Some s → s.clear ≡ true
-      → HasViews es' after pfs (add_version id (new_tree call adds) s)
+      → HasViews es' after pfs (newer s)
   views_here s is clear =
       let same : s ≡ one = cc in
       let certain : one.clear ≡ true = subst (λ (x : PseudoFileSystem). x.clear ≡ true) same clear in
       let old : HasViews es volume pfs s = stand.views pfs s is clear in
-      let there : system_of after pfs ≡ Some (add_version id (new_tree call adds) s) =
-      found_here call adds ∙ ap (option_map (add_version id (new_tree call adds))) is in
+      let there : system_of after pfs ≡ Some (newer s) =
+      found_here volume pfs newer newer_keeps ∙ ap (option_map newer) is in
       record {
-        numbered = All-push (λ (v : ℕ × FileTree). AreAtMost v.0 v.1) s.versions (id, new_tree call adds) old.numbered
+        numbered = All-push (λ (v : ℕ × FileTree). AreAtMost v.0 v.1) s.versions (id, new_tree call) old.numbered
             (changed_numbers call tree (few certain));
         views = λ t le keeps.
-            let here : at after pfs t ≡ as_of t no_tree (s.versions ++ (id, new_tree call adds) ∷ []) = rw there refl in
+            let here : at after pfs t ≡ as_of t no_tree (s.versions ++ (id, new_tree call) ∷ []) = rw there refl in
             subst (λ (shown : FileTree). IsViewOf es' pfs t shown) (sym here) (elim (cases_lt t id) [
               | inl early ↦
                   let before : IsViewOf es pfs t (as_of t no_tree s.versions) = view_next es volume stand pfs s is old t le keeps in
                   subst (λ (shown : FileTree). IsViewOf es' pfs t shown)
-                  (sym (as_of-grown t id no_tree s.versions ((id, new_tree call adds) ∷ []) early (refl, tt)))
+                  (sym (as_of-grown t id no_tree s.versions ((id, new_tree call) ∷ []) early (refl, tt)))
                   (past_view pfs t (as_of t no_tree s.versions) early before)
               | inr late ↦
                   subst (λ (shown : FileTree). IsViewOf es' pfs t shown)
-                  (sym (as_of-push t no_tree s.versions id (new_tree call adds) late)) (new_view certain t late)
+                  (sym (as_of-push t no_tree s.versions id (new_tree call) late)) (new_view certain t late)
             ]);
       }
 
-  pub stand_changed : call.volume.last < GREATEST_ID → call.hash ≡ name_hash → HaveOwnKeys es' → IsBelow (2 ^ 64) es' → StandFor es' after
-  stand_changed left hash keys fit = record {
+  pub stand_newer : call.volume.last < GREATEST_ID → call.hash ≡ name_hash → HaveOwnKeys es' → IsBelow (2 ^ 64) es' → StandFor es' after
+  stand_newer left hash keys fit = record {
     keys = keys;
     fit = fit;
     payloads = payloads;
     names = subst (λ (h : List ℕ → ℕ). KeysFit h es') hash changes.keys;
     records = records;
     drawn = omega (arith, left);
-    own = all_after call adds (λ s. system_of after s.number ≡ Some s)
-        (All-weaker (λ s. system_of volume s.number ≡ Some s) _ (λ s is. becomes_own call adds s is) volume.systems stand.own);
+    own = own_after volume pfs newer newer_keeps stand.own;
     of_systems = of_systems;
-    ids = on_each call adds (HasIds es' id) ids_beside ids_here;
-    begun = on_each call adds (λ other s. AreBegun s) (λ other s differ is. stand.begun other s is) begun_here;
-    views = on_each call adds (λ other s. s.clear ≡ true → HasViews es' after other s) views_beside views_here;
+    ids = on_each volume pfs newer newer_keeps (HasIds es' id) ids_beside ids_here;
+    begun = on_each volume pfs newer newer_keeps (λ other s. AreBegun s) (λ other s differ is. stand.begun other s is) begun_here;
+    views = on_each volume pfs newer newer_keeps (λ other s. s.clear ≡ true → HasViews es' after other s) views_beside views_here;
   }
+
+  -- a call that adds no PFS does no more
+  pub stand_changed : adds_pfs call.command ≡ false → call.volume.last < GREATEST_ID → call.hash ≡ name_hash → HaveOwnKeys es'
+      → IsBelow (2 ^ 64) es' → StandFor es' (after_call true call)
+  stand_changed adds left hash keys fit =
+      subst (λ (v : Volume). StandFor es' (drawn id v)) (sym (changed_one call adds)) (stand_newer left hash keys fit)

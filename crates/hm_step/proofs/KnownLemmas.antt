@@ -32,7 +32,7 @@ of_found P pfs (x ∷ xs) s all is = by (eqb x.number pfs) refl is (of_found P p
   by false other is rest = rest is
 
 module _ (es : List FullElement) (volume : Volume) (stand : StandFor es volume) where
-  record_at : (pfs : ℕ) (s : PseudoFileSystem) → system_of volume pfs ≡ Some s → (r : PfsRecord) × HasRecord es pfs r × IsRecordFor s r
+  pub record_at : (pfs : ℕ) (s : PseudoFileSystem) → system_of volume pfs ≡ Some s → (r : PfsRecord) × HasRecord es pfs r × IsRecordFor s r
   record_at pfs s is =
       let ((r, has, for), number) =
       of_found (λ (x : PseudoFileSystem). (r : PfsRecord) × HasRecord es x.number r × IsRecordFor x r) pfs volume.systems s stand.records.each is in

@@ -20,3 +20,7 @@ pub mod ObjectValueLemmas
 pub mod TreeValueLemmas
 pub mod SubstituteLemmas
 pub mod PrunedLemmas
+pub mod FollowLemmas
+pub mod RecordLemmas
+pub mod CutLemmas
+pub mod AddedLemmas

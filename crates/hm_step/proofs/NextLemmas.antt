@@ -9,7 +9,7 @@ use Rattle.hm_types.specs.Intervals.{Keeps}
 use Rattle.hm_types.specs.Tree.{FileTree, no_tree}
 use Rattle.hm_types.specs.declared.limits.TheConstants.{GREATEST_ID}
 use Rattle.hm_key.specs.Element.{pfs_of}
-use Rattle.hm_model.specs.Volume.{Master, PseudoFileSystem, Role, Slave, Volume, as_of, at, system_of}
+use Rattle.hm_model.specs.Volume.{Master, PseudoFileSystem, Role, Slave, Volume, as_of, at, shown_id, system_of}
 use Rattle.hm_model.proofs.VersionLemmas.{as_of-later}
 use Rattle.hm_records.specs.View.{IsViewOf}
 use Rattle.hm_volume.specs.Records.{AreOfSystems}
@@ -19,9 +19,16 @@ use Rattle.hm_image.specs.StandFor.{AreUpTo, HasIds, HasMasterIds, HasSlaveIds, 
 use Rattle.hm_step.specs.Step.{drawn}
 
 -- a master is no slave
-role_is : (role : Role) → (role ≡ Master) ⊎ (role ≡ Slave)
+pub role_is : (role : Role) → (role ≡ Master) ⊎ (role ≡ Slave)
 role_is Master = inl refl
 role_is Slave = inr refl
+
+-- as of when a PFS is shown now
+pub shown_of_master : (last : ℕ) (s : PseudoFileSystem) → s.role ≡ Master → shown_id last s ≡ last
+shown_of_master last s role = rw role refl
+
+pub shown_of_slave : (last : ℕ) (s : PseudoFileSystem) → s.role ≡ Slave → shown_id last s ≡ s.sync_end
+shown_of_slave last s role = rw role refl
 
 -- ids that were drawn are drawn still
 pub up_to_later : (last later pfs : ℕ) (es : List FullElement) → last ≤ later → AreUpTo last pfs es → AreUpTo later pfs es
@@ -95,6 +102,14 @@ module _ (es : List FullElement) (volume : Volume) (stand : StandFor es volume) 
 
     before : t ≤ volume.last → IsViewOf es pfs t (as_of t no_tree s.versions)
     before drawn = subst (λ (tree : FileTree). IsViewOf es pfs t tree) here (has.views t drawn keeps)
+
+  -- of the ids up to the last one a PFS keeps none above the one as of which it is shown
+  pub kept_shown : (pfs : ℕ) (s : PseudoFileSystem) → system_of volume pfs ≡ Some s → (t : ℕ) → t ≤ volume.last → Keeps s.retention t
+      → t ≤ shown_id volume.last s
+  kept_shown pfs s is t le keeps = elim (role_is s.role) [
+    | inl master ↦ omega (arith, le, shown_of_master volume.last s master)
+    | inr slave ↦ omega (arith, ((stand.ids pfs s is).slave slave).no_later t keeps, shown_of_slave volume.last s slave)
+  ]
 
   ids_next : (pfs : ℕ) (s : PseudoFileSystem) → HasIds es volume.last pfs s → HasIds es (volume.last + 1) pfs s
   ids_next pfs s ids = record {

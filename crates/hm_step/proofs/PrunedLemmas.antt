@@ -1,18 +1,15 @@
 -- Elements that stand for a volume, from which dead ones went.
-use Rattle.std.proofs.Common.{◌≡◌, ◌∙◌, ℕ, ◌<◌, ◌≤◌, true, List, ◌∷◌, Option, Some, None, ap, sym, subst, refl, inl, inr, arith}
+use Rattle.std.proofs.Common.{◌≡◌, ◌∙◌, ℕ, ◌≤◌, List, ◌∷◌, Option, Some, None, ap, sym, subst, refl, inl, inr, arith}
 use Rattle.std.specs.Prelude.{◌↔◌, ◌⊎◌, IfSome, IsSomeAnd}
 use Rattle.std.specs.List.{All, Contains}
 use Rattle.std.proofs.lemmas.List.Elements.{All-contains}
-use Rattle.hm_types.specs.Elements.{FullElement, IsDead, Key}
-use Rattle.hm_types.specs.Hash.{name_hash}
+use Rattle.hm_types.specs.Elements.{FullElement, IsDead}
 use Rattle.hm_types.specs.Intervals.{Keeps}
 use Rattle.hm_types.specs.Tree.{FileTree}
-use Rattle.hm_types.specs.declared.id.Obj.{Obj}
 use Rattle.hm_key.specs.Balance.{LosesDead, MayGo, keep, lose, none}
-use Rattle.hm_key.specs.Counts.{Counts, IsRecordOf, IsSeen, Subject, bytes_subject, entry_subject, inode_subject, record_subject, subject_of, target_subject}
+use Rattle.hm_key.specs.Counts.{Counts, IsRecordOf, IsSeen, Subject, bytes_subject, entry_subject, inode_subject, record_subject, target_subject}
 use Rattle.hm_key.specs.Element.{pfs_of}
-use Rattle.hm_key.specs.Versions.{HaveOwnKeys, IsBelow}
-use Rattle.hm_model.specs.Volume.{Master, PseudoFileSystem, Slave, Volume, at, system_of}
+use Rattle.hm_model.specs.Volume.{PseudoFileSystem, Volume, at, shown_id, system_of}
 use Rattle.hm_records.specs.Entry.{entry_bytes}
 use Rattle.hm_records.specs.Follows.{Follows, IsAbove, IsOf, VersionsFollow, of_bytes, of_entry, of_inode, of_target}
 use Rattle.hm_records.specs.Payload.{IsPayload}
@@ -24,8 +21,9 @@ use Rattle.hm_records.proofs.MeetLemmas.{follows_versions}
 use Rattle.hm_records.proofs.MemberLemmas.{All-from_has, has_cases, has_head, has_tail}
 use Rattle.hm_records.proofs.ViewLemmas.{view_kept}
 use Rattle.hm_volume.specs.Records.{HasRecord, HaveRecords, IsRecordFor}
-use Rattle.hm_image.specs.StandFor.{AreUpTo, HasIds, HasViews, StandFor}
+use Rattle.hm_image.specs.StandFor.{HasIds, StandFor}
 use Rattle.hm_step.specs.Pruned.{FollowIn, KeepsWithin}
+use Rattle.hm_step.proofs.NextLemmas.{kept_shown}
 
 -- an element that is the head of a list stands in it
 has_first : (e x : FullElement) (es : List FullElement) → x ≡ e → Contains (e ∷ es) x
@@ -95,14 +93,14 @@ module _ (kept : ℕ → Option (List (ℕ × ℕ))) (es es' : List FullElement)
     by_kept (Some ids) all dead = dead_hidden ids t x dead (all t keeps) seen
 
   module _ (pfs : ℕ) (s : PseudoFileSystem) (t : ℕ) (found : system_of volume pfs ≡ Some s) (keeps : Keeps s.retention t)
-      (follow : Follows pfs volume.last es) (early : t ≤ volume.last) where
+      (until : ℕ) (follow : Follows pfs until es) (early : t ≤ until) where
     -- for what is in the PFS the same counts
-    same_counts : (subject : Subject) → pfs_of subject.localization ≡ pfs → VersionsFollow subject volume.last es → (bytes : List ℕ)
+    same_counts : (subject : Subject) → pfs_of subject.localization ≡ pfs → VersionsFollow subject until es → (bytes : List ℕ)
         → Counts es' t subject bytes ↔ Counts es t subject bytes
     same_counts subject here follows bytes = (
-      λ c. (follows_counts subject volume.last t es bytes follows early).1
+      λ c. (follows_counts subject until t es bytes follows early).1
           (record { element = c.element; there = left c.element c.there; about = c.about; holds = c.holds; seen = c.seen }),
-      λ c. (follows_counts subject volume.last t es' bytes (λ old new has has'. follows old new (left old has) (left new has')) early).1
+      λ c. (follows_counts subject until t es' bytes (λ old new has has'. follows old new (left old has) (left new has')) early).1
           (record {
             element = c.element;
             there = seen_stays pfs s t found keeps c.element c.there (ap (λ (about : Subject). pfs_of about.localization) c.about ∙ here) c.seen;
@@ -203,9 +201,11 @@ module _ (kept : ℕ → Option (List (ℕ × ℕ))) (es es' : List FullElement)
     begun = stand.begun;
     views = λ pfs s found clear. let was = stand.views pfs s found clear in record {
       numbered = was.numbered;
-      views = λ t early keeps. view_left pfs s t found keeps (follow pfs s found clear) early (at volume pfs t) (was.views t early keeps);
+      views = λ t early keeps.
+          view_left pfs s t found keeps (shown_id volume.last s) (follow pfs s found clear) (kept_shown es volume stand pfs s found t early keeps)
+          (at volume pfs t) (was.views t early keeps);
     };
   }
 
   pub follow_pruned : FollowIn es volume → FollowIn es' volume
-  follow_pruned follow pfs s found clear = follows_still pfs volume.last es es' left (follow pfs s found clear)
+  follow_pruned follow pfs s found clear = follows_still pfs (shown_id volume.last s) es es' left (follow pfs s found clear)

@@ -1,12 +1,13 @@
--- The pseudo file systems of a volume after a call that changes the tree of one of them.
+-- The pseudo file systems of a volume after a change of one of them.
 use Rattle.std.proofs.Common.{◌≡◌, ◌≢◌, ℕ, Bool, true, false, List, [], ◌∷◌, eqb, refl, sym, ap, subst, ◌∙◌, inl, inr, arith}
 use Rattle.std.specs.Prelude.{Option, None, Some, option_map, if◌then◌else◌}
-use Rattle.std.specs.List.{All}
+use Rattle.std.specs.List.{All, Contains}
 use Rattle.std.specs.Option.{option_map_or}
 use Rattle.std.proofs.lemmas.Bool.{eqb-true}
 use Rattle.std.proofs.lemmas.Bool.Decides.{nat_tests}
-use Rattle.std.proofs.lemmas.List.Elements.{All-map}
+use Rattle.std.proofs.lemmas.List.Elements.{All-contains, All-map}
 use Rattle.hm_types.specs.Tree.{FileTree, root_tree}
+use Rattle.hm_model.specs.After.{of_pfs}
 use Rattle.hm_model.specs.Call.{Call, own_id}
 use Rattle.hm_model.specs.Change.{change, changed, changed_pfs, new_slave, with_system}
 use Rattle.hm_model.specs.Due.{new_pfs}
@@ -16,102 +17,113 @@ use Rattle.hm_model.specs.Volume.{PseudoFileSystem, Volume, add_version, new_mas
 use Rattle.hm_model.specs.declared.command.Command.{Command}
 use Rattle.hm_model.specs.declared.command.Command.TheVariants.{PfsMaster, PfsSlave}
 use Rattle.hm_model.proofs.ChangeLemmas.{versioned}
-use Rattle.hm_model.proofs.DueLemmas.{of_test}
-use Rattle.hm_model.proofs.GrowthLemmas.{changed_in, found-changed, found-other, found_in, same_or_not}
+use Rattle.hm_model.proofs.GrowthLemmas.{KeepsNumber, changed_in, found-changed, found-other, found_in, same_or_not}
+use Rattle.hm_records.proofs.MemberLemmas.{All-from_has}
 use Rattle.hm_image.specs.StandFor.{OnEach}
 
-module _ (call : Call) (adds : adds_pfs call.command ≡ false) where
-  abbrev id : ℕ
-  id = own_id call
-
-  abbrev changed_one : ℕ
-  changed_one = changed_pfs call
-
-  -- the new tree
-  abbrev pub new_tree : FileTree
-  new_tree = changed call (call.view (changed_pfs call) Now)
-
-  abbrev renewed : PseudoFileSystem → PseudoFileSystem
-  renewed s = add_version id new_tree s
-
+module _ (volume : Volume) (one : ℕ) (f : PseudoFileSystem → PseudoFileSystem) (keeps : KeepsNumber f) where
   -- what becomes of a PFS
   abbrev become : PseudoFileSystem → PseudoFileSystem
-  become s = if eqb s.number changed_one then renewed s else s
-
-  -- one that is no call for a PFS adds none
-  none_added : (command : Command) → adds_pfs command ≡ false → (elim command as (λ c. Volume) [
-    | PfsMaster path shared ↦ with_system (versioned call) (new_master (new_pfs call.volume) shared ((own_id call, root_tree) ∷ []))
-    | PfsSlave path shared ↦ with_system (versioned call) (new_slave (new_pfs call.volume) shared)
-    | other ↦ versioned call
-  ]) ≡ versioned call
-  none_added (PfsMaster path shared) adds = absurd (cc)
-  none_added (PfsSlave path shared) adds = absurd (cc)
-  none_added other adds = refl
-
-  pub systems_after : (change call).systems ≡ changed_in changed_one renewed call.volume.systems
-  systems_after = ap (λ (v : Volume). v.systems) (none_added call.command adds)
+  become s = if eqb s.number one then f s else s
 
   -- what is found under each number
-  pub found_beside : (pfs : ℕ) → pfs ≢ changed_one → system_of (change call) pfs ≡ system_of call.volume pfs
-  found_beside pfs differ =
-      ap (λ (systems : List PseudoFileSystem). found_in systems pfs) systems_after
-      ∙ found-other pfs changed_one renewed call.volume.systems (λ s. refl) (λ same. differ (sym same))
+  pub found_beside : (pfs : ℕ) → pfs ≢ one → system_of (of_pfs volume one f) pfs ≡ system_of volume pfs
+  found_beside pfs differ = found-other pfs one f volume.systems keeps (λ same. differ (sym same))
 
-  pub found_here : system_of (change call) changed_one ≡ option_map renewed (system_of call.volume changed_one)
-  found_here =
-      ap (λ (systems : List PseudoFileSystem). found_in systems changed_one) systems_after
-      ∙ (found-changed changed_one renewed call.volume.systems (λ s. refl) ∙ by (system_of call.volume changed_one))
-    where
-      by : (found : Option PseudoFileSystem) → option_map_or (λ (s : PseudoFileSystem). Some (renewed s)) found None ≡ option_map renewed found
-      by None = refl
-      by (Some s) = refl
+  pub found_here : system_of (of_pfs volume one f) one ≡ option_map f (system_of volume one)
+  found_here = found-changed one f volume.systems keeps ∙ by (system_of volume one) where
+    by : (found : Option PseudoFileSystem) → option_map_or (λ (s : PseudoFileSystem). Some (f s)) found None ≡ option_map f found
+    by None = refl
+    by (Some s) = refl
 
   -- a fact of each PFS afterwards
   pub on_each : (P : ℕ → PseudoFileSystem → Type 0)
-      → ((pfs : ℕ) (s : PseudoFileSystem) → pfs ≢ changed_one → system_of call.volume pfs ≡ Some s → P pfs s)
-      → ((s : PseudoFileSystem) → system_of call.volume changed_one ≡ Some s → P changed_one (renewed s))
-      → OnEach (change call) P
-  on_each P beside here pfs s is = elim (same_or_not pfs changed_one) [
+      → ((pfs : ℕ) (s : PseudoFileSystem) → pfs ≢ one → system_of volume pfs ≡ Some s → P pfs s)
+      → ((s : PseudoFileSystem) → system_of volume one ≡ Some s → P one (f s))
+      → OnEach (of_pfs volume one f) P
+  on_each P beside here pfs s is = elim (same_or_not pfs one) [
     | inl same ↦ subst (λ (n : ℕ). P n s) (sym same)
-        (by (system_of call.volume changed_one) refl (sym found_here ∙ subst (λ (n : ℕ). system_of (change call) n ≡ Some s) same is))
+        (by (system_of volume one) refl (sym found_here ∙ subst (λ (n : ℕ). system_of (of_pfs volume one f) n ≡ Some s) same is))
     | inr differ ↦ beside pfs s differ (sym (found_beside pfs differ) ∙ is)
   ] where
-    by : (found : Option PseudoFileSystem) → system_of call.volume changed_one ≡ found → option_map renewed found ≡ Some s → P changed_one s
+    by : (found : Option PseudoFileSystem) → system_of volume one ≡ found → option_map f found ≡ Some s → P one s
     by None found is = absurd (cc)
     by (Some old) found is =
-        let same : renewed old ≡ s = cc in
-        subst (λ (x : PseudoFileSystem). P changed_one x) same (here old found)
+        let same : f old ≡ s = cc in
+        subst (λ (x : PseudoFileSystem). P one x) same (here old found)
 
   -- one that was there is there still
-  pub still_there : (pfs : ℕ) (s : PseudoFileSystem) → system_of call.volume pfs ≡ Some s
-      → (s' : PseudoFileSystem) × (system_of (change call) pfs ≡ Some s')
-  still_there pfs s is = elim (same_or_not pfs changed_one) [
+  pub still_there : (pfs : ℕ) (s : PseudoFileSystem) → system_of volume pfs ≡ Some s
+      → (s' : PseudoFileSystem) × (system_of (of_pfs volume one f) pfs ≡ Some s')
+  still_there pfs s is = elim (same_or_not pfs one) [
     | inl same ↦ (
-      renewed s,
-      subst (λ (n : ℕ). system_of (change call) n ≡ Some (renewed s)) (sym same)
-          (found_here ∙ ap (option_map renewed) (subst (λ (n : ℕ). system_of call.volume n ≡ Some s) same is)),
+      f s,
+      subst (λ (n : ℕ). system_of (of_pfs volume one f) n ≡ Some (f s)) (sym same)
+          (found_here ∙ ap (option_map f) (subst (λ (n : ℕ). system_of volume n ≡ Some s) same is)),
     )
     | inr differ ↦ (s, found_beside pfs differ ∙ is)
   ]
 
-  -- a fact of all in the list
-  pub all_after : (P : PseudoFileSystem → Type 0) → All (λ s. P (become s)) call.volume.systems → All P (change call).systems
-  all_after P all =
-      subst (λ (systems : List PseudoFileSystem). All P systems) (sym systems_after) (All-map P become call.volume.systems all)
+  -- a fact of all in the list, by what becomes of each
+  pub all_after : (P : PseudoFileSystem → Type 0) → All (λ s. system_of volume s.number ≡ Some s) volume.systems
+      → ((s : PseudoFileSystem) → Contains volume.systems s → s.number ≢ one → P s)
+      → ((s : PseudoFileSystem) → Contains volume.systems s → s.number ≡ one → system_of volume one ≡ Some s → P (f s))
+      → All P (of_pfs volume one f).systems
+  all_after P own beside here =
+      All-map P become volume.systems (All-from_has (λ s. P (become s)) volume.systems (λ s has. by s has (eqb s.number one) refl))
+    where
+      by : (s : PseudoFileSystem) → Contains volume.systems s → (test : Bool) → eqb s.number one ≡ test → P (if test then f s else s)
+      by s has true same =
+          let number : s.number ≡ one = eqb-true s.number one same in
+          let there : system_of volume s.number ≡ Some s =
+          All-contains (λ (x : PseudoFileSystem). system_of volume x.number ≡ Some x) volume.systems s own has in
+          here s has number (subst (λ (n : ℕ). system_of volume n ≡ Some s) number there)
+      by s has false other = beside s has (grind (arith, nat_tests, other))
 
-  -- what becomes of a PFS has its number, and is what is found there
-  pub becomes_own : (s : PseudoFileSystem) → system_of call.volume s.number ≡ Some s → system_of (change call) (become s).number ≡ Some (become s)
-  becomes_own s is = by (eqb s.number changed_one) refl where
-    by : (test : Bool) → eqb s.number changed_one ≡ test
-        → system_of (change call) (if test then renewed s else s).number ≡ Some (if test then renewed s else s)
-    by true same =
-        let one : s.number ≡ changed_one = eqb-true s.number changed_one same in
-        subst (λ (n : ℕ). system_of (change call) n ≡ Some (renewed s)) (sym one)
-        (found_here ∙ ap (option_map renewed) (subst (λ (n : ℕ). system_of call.volume n ≡ Some s) one is))
-    by false other =
-        let differ : s.number ≢ changed_one = grind (arith, nat_tests, other) in
-        found_beside s.number differ ∙ is
+  -- each is what is found under its number
+  pub own_after : All (λ s. system_of volume s.number ≡ Some s) volume.systems
+      → All (λ s. system_of (of_pfs volume one f) s.number ≡ Some s) (of_pfs volume one f).systems
+  own_after own =
+      all_after (λ s. system_of (of_pfs volume one f) s.number ≡ Some s) own
+      (λ s has differ.
+      found_beside s.number differ
+      ∙ All-contains (λ (x : PseudoFileSystem). system_of volume x.number ≡ Some x) volume.systems s own has)
+      (λ s has number is.
+      subst (λ (n : ℕ). system_of (of_pfs volume one f) n ≡ Some (f s)) (sym (keeps s ∙ number)) (found_here ∙ ap (option_map f) is))
 
-  -- a fact that a new version leaves
-  pub becomes : (P : PseudoFileSystem → Type 0) (s : PseudoFileSystem) → P s → P (renewed s) → P (become s)
-  becomes P s old new = of_test P (eqb s.number changed_one) (renewed s) s new old
+-- where there is no such PFS nothing changes
+none_changed : (one : ℕ) (f : PseudoFileSystem → PseudoFileSystem) (systems : List PseudoFileSystem) → found_in systems one ≡ None
+    → changed_in one f systems ≡ systems
+none_changed one f [] none = refl
+none_changed one f (s ∷ ss) none = by (eqb s.number one) refl (none_changed one f ss) where
+  by : (test : Bool) → eqb s.number one ≡ test → (found_in ss one ≡ None → changed_in one f ss ≡ ss) → changed_in one f (s ∷ ss) ≡ s ∷ ss
+  by true is rest = absurd (let some : Some s ≡ None = rw is at none in cc)
+  by false is rest =
+      let later : found_in ss one ≡ None = rw is at none in
+      rw is (ap (λ (more : List PseudoFileSystem). s ∷ more) (rest later))
+
+pub of_none : (volume : Volume) (one : ℕ) (f : PseudoFileSystem → PseudoFileSystem) → system_of volume one ≡ None → of_pfs volume one f ≡ volume
+of_none volume one f none =
+    ap (λ (systems : List PseudoFileSystem). with_systems systems) (none_changed one f volume.systems none)
+  where
+    with_systems : List PseudoFileSystem → Volume
+    with_systems systems = record volume { systems = systems }
+
+-- one that is no call for a PFS adds none
+none_added : (call : Call) (command : Command) → adds_pfs command ≡ false → (elim command as (λ c. Volume) [
+  | PfsMaster path shared ↦ with_system (versioned call) (new_master (new_pfs call.volume) shared ((own_id call, root_tree) ∷ []))
+  | PfsSlave path shared ↦ with_system (versioned call) (new_slave (new_pfs call.volume) shared)
+  | other ↦ versioned call
+]) ≡ versioned call
+none_added call (PfsMaster path shared) adds = absurd (cc)
+none_added call (PfsSlave path shared) adds = absurd (cc)
+none_added call other adds = refl
+
+-- the new tree
+abbrev pub new_tree : Call → FileTree
+new_tree call = changed call (call.view (changed_pfs call) Now)
+
+-- a call that adds no PFS gives the one that it changes a version more
+pub changed_one : (call : Call) → adds_pfs call.command ≡ false
+    → change call ≡ of_pfs call.volume (changed_pfs call) (add_version (own_id call) (new_tree call))
+changed_one call adds = none_added call call.command adds

@@ -4,3 +4,4 @@ pub mod Served
 pub mod Next
 pub mod Causes
 pub mod Pruned
+pub mod Cut

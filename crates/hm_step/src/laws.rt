@@ -1,19 +1,23 @@
 // What follows from the definitions alone: each function states one law, and does nothing.
-ghost use Rattle.std.specs.Prelude.{◌≡◌, ℕ, ◌+◌, ◌<◌, List, [], ◌∷◌, ◌++◌, None, Option};
-ghost use Rattle.std.specs.List.{All};
+ghost use Rattle.std.specs.Prelude.{◌≡◌, ℕ, ◌+◌, ◌^◌, ◌<◌, ◌≤◌, List, [], ◌∷◌, ◌++◌, None, Option, length};
+ghost use Rattle.std.specs.List.{All, Contains};
 ghost use Rattle.hm_types.specs.Elements.{FullElement};
 ghost use Rattle.hm_types.specs.Hash.{name_hash};
-ghost use Rattle.hm_types.specs.declared.limits.TheConstants.{GREATEST_ID};
+ghost use Rattle.hm_types.specs.declared.limits.TheConstants.{GREATEST_ID, MOST_INTERVALS};
+ghost use Rattle.hm_types.specs.Tree.{root_tree};
 ghost use Rattle.hm_cursor.specs.Told.{IsBroken, Lists, fulls};
+ghost use Rattle.hm_key.specs.Element.{pfs_of};
 ghost use Rattle.hm_key.specs.Balance.{LosesDead};
-ghost use Rattle.hm_model.specs.After.{Event};
+ghost use Rattle.hm_model.specs.After.{Event, of_pfs, present_only, retaining};
 ghost use Rattle.hm_model.specs.Caused.{Counts, HasCause, HasNumbers, Known, counts_after, known_after, known_at};
 ghost use Rattle.hm_model.specs.Due.{ReadsPaths};
 ghost use Rattle.hm_model.specs.Legal.{IsAllowed, MayFollow, Setting, call_after, state_after};
 ghost use Rattle.hm_model.specs.Reply.{passed_ids, told_boundary};
 ghost use Rattle.hm_model.specs.Sites.{Parsed, ReadsWords};
 ghost use Rattle.hm_model.specs.View.{Substitute, view_of};
-ghost use Rattle.hm_model.specs.Volume.{Volume};
+ghost use Rattle.hm_model.specs.Change.{new_slave, with_system};
+ghost use Rattle.hm_model.specs.Cut.{pruned};
+ghost use Rattle.hm_model.specs.Volume.{PseudoFileSystem, Volume, new_master, shown_id, system_of};
 ghost use Rattle.hm_model.specs.declared.command.Command.{Command};
 ghost use Rattle.hm_model.specs.declared.reply.Reply.{Reply};
 ghost use Rattle.hm_records.specs.Payload.{IsPayload};
@@ -22,8 +26,10 @@ ghost use Rattle.hm_calls.specs.Call.{IsCall};
 ghost use Rattle.hm_calls.specs.Commands.{IsOnTrees};
 ghost use Rattle.hm_calls.specs.Known.{AreOlderOrSlaves};
 ghost use Rattle.hm_calls.specs.Possible.{MayReply};
+ghost use Rattle.hm_pfs.specs.Systems.{AddsMaster, AddsSlave, IsUnusedNumber, made_record, slave_record};
 ghost use Rattle.hm_step.specs.Causes.{IsNextOf, TellsFault};
-ghost use Rattle.hm_step.specs.Pruned.{FollowIn, KeepsWithin};
+ghost use Rattle.hm_step.specs.Cut.{IsCutTo, SetsRecordBy};
+ghost use Rattle.hm_step.specs.Pruned.{FollowIn, KeepsWithin, StandAfter};
 ghost use Rattle.hm_step.specs.Seen.{AreGiven};
 ghost use Rattle.hm_step.specs.Served.{IsServed};
 ghost use Rattle.hm_image.specs.StandFor.{StandFor};
@@ -66,10 +72,11 @@ pub fn sound_payloads_are_not_broken()
     ensures { (lists : Lists) (at : ℕ) → All IsPayload (fulls lists) → IsBroken lists at → ⊥ }
 {}
 
-/// Elements stand for a volume still once an id more is drawn and nothing else happens.
+/// Elements stand for a volume still once an id more is drawn and nothing else happens, and they
+/// follow one another, if they did.
 pub fn drawing_an_id_leaves_what_stands()
     ensures { (es : List FullElement) (volume : Volume) → StandFor es volume →
-        volume.last < GREATEST_ID → StandFor es (drawn (volume.last + 1) volume) }
+        volume.last < GREATEST_ID → StandAfter es volume es (drawn (volume.last + 1) volume) }
 {}
 
 /// Elements that stand for a volume stand for it still where dead ones went, if what the volume keeps
@@ -82,6 +89,51 @@ pub fn a_prune_leaves_what_stands()
     ensures follows { (es es' : List FullElement) (volume : Volume)
         (kept : ℕ → Option (List (ℕ × ℕ))) → StandFor es volume → FollowIn es volume →
         LosesDead kept es es' → KeepsWithin kept volume → FollowIn es' volume }
+{}
+
+/// Elements that stand for a volume stand for it still, with fewer ids to show, where the record of a
+/// pseudo file system was replaced by one that tells of a smaller retention: one with each id as of
+/// which the pseudo file system is shown from now on. Such is what a prune leaves by ids that are
+/// shown, and what is left where all but the present goes. The elements follow one another, if they
+/// did. Where a volume has no such pseudo file system, a cut changes nothing of it.
+pub fn a_cut_leaves_what_stands()
+    ensures cut { (es es' : List FullElement) (volume : Volume) (pfs : ℕ) (s : PseudoFileSystem)
+        (kept : List (ℕ × ℕ)) → StandFor es volume →
+        SetsRecordBy volume pfs s (retaining kept) es es' → IsCutTo volume.last s kept →
+        StandAfter es volume es' (of_pfs volume pfs (retaining kept)) }
+    ensures pruned { (es es' : List FullElement) (volume : Volume) (pfs : ℕ) (s : PseudoFileSystem)
+        (ids : List ℕ) → StandFor es volume →
+        SetsRecordBy volume pfs s (λ s. retaining (pruned s.retention ids) s) es es' →
+        All (λ id. id ≤ shown_id volume.last s) ids →
+        length (pruned s.retention ids) ≤ MOST_INTERVALS →
+        StandAfter es volume es' (of_pfs volume pfs (λ s. retaining (pruned s.retention ids) s)) }
+    ensures present { (es es' : List FullElement) (volume : Volume) (pfs : ℕ)
+        (s : PseudoFileSystem) → StandFor es volume →
+        SetsRecordBy volume pfs s (present_only volume.last) es es' →
+        StandAfter es volume es' (of_pfs volume pfs (present_only volume.last)) }
+    ensures absent { (volume : Volume) (pfs : ℕ) (change : PseudoFileSystem → PseudoFileSystem) →
+        system_of volume pfs ≡ None → of_pfs volume pfs change ≡ volume }
+{}
+
+/// A number that a volume does not have is unused among elements that stand for it. Where a pseudo
+/// file system with that number was added by an id that is drawn, they stand for the volume with it:
+/// a new master shows the root directory from that id on and no object before, and a new slave has no
+/// sync end and no element but its record. They follow one another, if they did.
+pub fn a_new_system_stands_with_the_others()
+    ensures unused { (es : List FullElement) (volume : Volume) (pfs : ℕ) → StandFor es volume →
+        system_of volume pfs ≡ None → IsUnusedNumber pfs es }
+    ensures master { (es es' : List FullElement) (volume : Volume) (pfs shared i : ℕ) →
+        StandFor es volume → system_of volume pfs ≡ None → shared < 2 ^ 64 → 1 ≤ i →
+        i ≤ volume.last → AddsMaster pfs shared i es es' →
+        StandAfter es volume es' (with_system volume (new_master pfs shared ((i, root_tree) ∷ []))) }
+    ensures slave { (es es' : List FullElement) (volume : Volume) (pfs shared i : ℕ) →
+        StandFor es volume → system_of volume pfs ≡ None → shared < 2 ^ 64 → i ≤ volume.last →
+        AddsSlave pfs shared i es es' →
+        StandAfter es volume es' (with_system volume (new_slave pfs shared)) }
+    ensures alone { (es es' : List FullElement) (volume : Volume) (pfs shared i : ℕ) →
+        StandFor es volume → system_of volume pfs ≡ None → AddsSlave pfs shared i es es' →
+        (x : FullElement) → Contains es' x → pfs_of x.key.localization ≡ pfs →
+        x ≡ made_record pfs (slave_record shared) i }
 {}
 
 /// One step. Where elements stand for the volume of a history, and a call on names or on the bytes of

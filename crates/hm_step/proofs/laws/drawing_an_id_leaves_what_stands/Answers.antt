@@ -1,5 +1,5 @@
-use Rattle.hm_step.proofs.NextLemmas.{stand_next}
+use Rattle.hm_step.proofs.FollowLemmas.{after_next}
 use Rattle.hm_step.proofs.laws.drawing_an_id_leaves_what_stands.Goals as goal
 
 pub returns : goal.returns
-returns c = λ es volume stand left. stand_next es volume stand left
+returns c = λ es volume stand left. after_next es volume stand left
