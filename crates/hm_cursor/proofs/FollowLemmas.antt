@@ -104,15 +104,15 @@ no_others pfs i s now es other e x about is has differ meet =
     absurd (other (ap (λ (z : Subject). z.rec_type) (sym about) ∙ meet_bytes pfs e x meet (λ same. differ (same ∙ about))))
 
 pub closing_follows : (s : Subject) (i : ℕ) (es es' : List FullElement) → Rewrites s None i es es' → StillFollow es es'
-closing_follows s i es es' rewrites pfs t = rewrites.follows pfs t (inl refl) (λ e x about is. absurd (none_new e.bytes is))
+closing_follows s i es es' rewrites pfs t = rewrites.follows pfs t (inl refl) (λ within e x about is. absurd (none_new e.bytes is))
 
 pub adding_follows : (s : Subject) (now : Option (List ℕ)) (i : ℕ) (es es' : List FullElement) → s.rec_type ≢ FILE_BYTES → CountsNothing (Counts es i) s
     → Rewrites s now i es es' → StillFollow es es'
-adding_follows s now i es es' other none rewrites pfs t = rewrites.follows pfs t (inr none) (no_others pfs i s now es other)
+adding_follows s now i es es' other none rewrites pfs t = rewrites.follows pfs t (inr none) (λ within. no_others pfs i s now es other)
 
 pub renewing_follows : (s : Subject) (bytes : List ℕ) (i : ℕ) (es es' : List FullElement) → s.rec_type ≢ FILE_BYTES → FollowWith s bytes i es es'
     → StillFollow es es'
-renewing_follows s bytes i es es' other follows pfs t = follows pfs t (no_others pfs i s (Some bytes) es other)
+renewing_follows s bytes i es es' other follows pfs t = follows pfs t (λ within. no_others pfs i s (Some bytes) es other)
 
 pub follow_twice : (es mid es' : List FullElement) → StillFollow es mid → StillFollow mid es' → StillFollow es es'
 follow_twice es mid es' first second pfs t follow = second pfs t (first pfs t follow)

@@ -209,7 +209,7 @@ closed_stays s i e _ (closed about open') not = absurd (not open')
 closed_stays s i e _ stays not = refl
 
 module _ (e : FullElement) (es mid es' : List FullElement) (shuts : Shuts (subject_of e.key) e.key.create es mid) (adds : Adds e mid es')
-    (pfs t : ℕ) (others : OthersEnded pfs (subject_of e.key) (Some e.bytes) e.key.create es) (follow : Follows pfs t es) where
+    (pfs t : ℕ) (others : e.key.create ≤ t → OthersEnded pfs (subject_of e.key) (Some e.bytes) e.key.create es) (follow : Follows pfs t es) where
   -- Versions of the subject that were there have ended, where each of them has that stays in the list.
   pub follows_added : (e.key.create ≤ t → (x y : FullElement) → Contains es x → Contains mid y → Shut (subject_of e.key) e.key.create x y
       → subject_of y.key ≡ subject_of e.key → IsOf pfs (subject_of x.key) → EndedBy e.key.create y) → Follows pfs t es'
@@ -222,7 +222,7 @@ module _ (e : FullElement) (es mid es' : List FullElement) (shuts : Shuts (subje
     where
       way : e.key.create ≤ t → HasWay pfs e mid
       way within x has meet = elim (same_subject (subject_of x.key) (subject_of e.key)) [
-        | inr differ ↦ others e x refl refl ((shuts_beside (subject_of e.key) e.key.create es mid shuts x differ).0 has) differ meet
+        | inr differ ↦ others within e x refl refl ((shuts_beside (subject_of e.key) e.key.create es mid shuts x differ).0 has) differ meet
         | inl about ↦
             let (y, there, step) = shuts.back x has in
             let of = subst (IsOf pfs) (ap subject_of (like (subject_of e.key) e.key.create y x step).key) (meet_of pfs x e (meet_back pfs e x meet)) in
