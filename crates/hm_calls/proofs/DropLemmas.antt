@@ -11,6 +11,7 @@ use Rattle.hm_cursor.specs.Told.{Lists, fulls}
 use Rattle.hm_cursor.specs.Views.{WritesIn}
 use Rattle.hm_cursor.specs.Write.{Writes}
 use Rattle.hm_cursor.proofs.CallLemmas.{Change, told_by}
+use Rattle.hm_cursor.proofs.FollowLemmas.{follow_twice}
 use Rattle.hm_cursor.proofs.ViewsLemmas.{keys_fit_still, shows_twice, writes_again, writes_wider}
 use Rattle.hm_key.specs.Extents.{Extent}
 use Rattle.hm_key.specs.declared.element.Element.{Element}
@@ -53,6 +54,7 @@ object_dropped pfs i obj es mid es' changes gone removes = record {
     entries = entries_twice pfs es mid es' changes.entries
         (λ t directory key bytes. removes.closes.beside t (entry_subject pfs directory key) bytes
         (apart_from_bytes pfs obj.0 (entry_subject pfs directory key) (λ is. omega (arith, is))));
+    follows = follow_twice es mid es' changes.follows removes.closes.follows;
   };
   leaves = record {
     gone = record {
