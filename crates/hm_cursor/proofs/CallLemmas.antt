@@ -1,6 +1,6 @@
 -- Calls that write, one after another.
 use Rattle.std.proofs.Common.{◌≡◌, List, Option, Some, None, refl, true≢false, subst, sym}
-use Rattle.std.specs.Prelude.{is_some, IfSome, IsSomeAnd}
+use Rattle.std.specs.Prelude.{is_some, Err, IfSome, IsSomeAnd, Ok, OnOk, Result}
 use Rattle.hm_types.specs.Elements.{FullElement}
 use Rattle.hm_key.specs.Balance.{IsBalanced, content_of}
 use Rattle.hm_key.specs.Extents.{Extent}
@@ -39,6 +39,11 @@ does_both A B (Some was) None p first second = λ balanced. absurd (first balanc
 does_both A B (Some was) (Some mid) None first second = λ balanced. second (first balanced).0
 does_both A B (Some was) (Some mid) (Some now) first second =
     λ balanced. ((second (first balanced).0).0, (fulls mid, (first balanced).1, (second (first balanced).0).1))
+
+does_and : (A B : Change) (o p : Option Lists) → Does A o p → Does B o p → Does (λ es es'. A es es' × B es es') o p
+does_and A B None p one other = tt
+does_and A B (Some was) None one other = one
+does_and A B (Some was) (Some now) one other = λ balanced. ((one balanced).0, ((one balanced).1, (other balanced).1))
 
 does_leave : (A : Change) (Known : Lists → Type 0) (Left : List FullElement → Type 0) (o m : Option Lists) → is_some m ≡ is_some o
     → IfSome o (λ was. IsBalanced was.0 was.1) → IfSome o Known → Leaves Known A Left → Does A o m → IfSome m (λ now. Left (fulls now))
@@ -79,6 +84,16 @@ module _ {S : Type 0} (elements_of : S → Option (List Element)) (extents_of : 
   pub writes_both : (A B : Change) (old mid new : S) → Writes elements_of extents_of A old mid → Writes elements_of extents_of B mid new
       → Writes elements_of extents_of (Then A B) old new
   writes_both A B old mid new = does_both A B (told_by old) (told_by mid) (told_by new)
+
+  -- two facts of one call
+  writes_and : (A B : Change) (old new : S) → Writes elements_of extents_of A old new → Writes elements_of extents_of B old new
+      → Writes elements_of extents_of (λ es es'. A es es' × B es es') old new
+  writes_and A B old new = does_and A B (told_by old) (told_by new)
+
+  pub writes_ok : {T E : Type 0} (A B : Change) (old new : S) (result : Result T E) → OnOk result (Writes elements_of extents_of A old new)
+      → OnOk result (Writes elements_of extents_of B old new) → OnOk result (Writes elements_of extents_of (λ es es'. A es es' × B es es') old new)
+  writes_ok A B old new (Ok value) one other = writes_and A B old new one other
+  writes_ok A B old new (Err error) one other = tt
 
   -- what the next call may know
   pub known_after : (A : Change) (Known : Lists → Type 0) (Left : List FullElement → Type 0) (old mid : S)

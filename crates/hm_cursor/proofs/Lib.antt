@@ -14,4 +14,5 @@ pub mod ToldLemmas
 pub mod VersionLemmas
 pub mod ViewsLemmas
 pub mod WriteLemmas
+pub mod FollowLemmas
 pub mod HashLemmas

@@ -2,12 +2,16 @@
 use Rattle.std.proofs.Common.{◌≡◌, ◌≢◌, ℕ, ◌<◌, ◌≤◌, List, refl, sym, ap, subst, ◌∙◌, inl, inr, arith}
 use Rattle.std.specs.Prelude.{◌↔◌, ◌⊎◌, Option, Some, None}
 use Rattle.std.specs.List.{Contains}
+use Rattle.std.proofs.lemmas.Bool.{cases_lt}
 use Rattle.hm_types.specs.Elements.{FullElement, Key}
 use Rattle.hm_key.specs.Counts.{Counts, IsSeen, Subject, subject_of}
 use Rattle.hm_key.specs.Versions.{Adds}
-use Rattle.hm_records.specs.Changes.{CountSame, Overrides}
+use Rattle.hm_records.specs.Changes.{CountSame, CountsNothing, Overrides}
+use Rattle.hm_records.specs.Follows.{EndedBy, Follows, HasWay, HaveAged, IsAged, IsOf}
 use Rattle.hm_records.proofs.ChangeLemmas.{Shows, StandsFor, itself, shown}
-use Rattle.hm_cursor.specs.Write.{AreUpTo, CameFrom, IsFreshFor, Rewrites}
+use Rattle.hm_records.proofs.MeetLemmas.{aged_follow, follows_past, follows_way, meet_back, meet_of, nothing_ended}
+use Rattle.hm_records.proofs.SubjectLemmas.{same_subject}
+use Rattle.hm_cursor.specs.Write.{AreUpTo, CameFrom, OthersEnded, IsFreshFor, Rewrites}
 
 -- ---- closing
 
@@ -188,6 +192,51 @@ module _ (s : Subject) (i : ℕ) (es es' : List FullElement) (shuts : Shuts s i 
 none_some : (b : List ℕ) → None ≡ Some b → ⊥
 none_some b is = cc
 
+-- ---- what followed before
+
+aged : (s : Subject) (i : ℕ) (e x : FullElement) → Shut s i e x → IsAged i e x
+aged s i e _ (closed about open') = record { key = refl; bytes = refl; delete = inr (open', refl) }
+aged s i e _ stays = record { key = refl; bytes = refl; delete = inl refl }
+
+pub shuts_aged : (s : Subject) (i : ℕ) (es es' : List FullElement) → Shuts s i es es' → HaveAged i es es'
+shuts_aged s i es es' shuts x has =
+    let (e, there, step) = shuts.back x has in
+    (e, there, aged s i e x step)
+
+-- a version that was closed had not been open
+pub closed_stays : (s : Subject) (i : ℕ) (e x : FullElement) → Shut s i e x → e.delete ≢ 0 → e ≡ x
+closed_stays s i e _ (closed about open') not = absurd (not open')
+closed_stays s i e _ stays not = refl
+
+module _ (e : FullElement) (es mid es' : List FullElement) (shuts : Shuts (subject_of e.key) e.key.create es mid) (adds : Adds e mid es')
+    (pfs t : ℕ) (others : e.key.create ≤ t → OthersEnded pfs (subject_of e.key) (Some e.bytes) e.key.create es) (follow : Follows pfs t es) where
+  -- Versions of the subject that were there have ended, where each of them has that stays in the list.
+  pub follows_added : (e.key.create ≤ t → (x y : FullElement) → Contains es x → Contains mid y → Shut (subject_of e.key) e.key.create x y
+      → subject_of y.key ≡ subject_of e.key → IsOf pfs (subject_of x.key) → EndedBy e.key.create y) → Follows pfs t es'
+  follows_added ended =
+      let after = aged_follow e.key.create es mid (shuts_aged (subject_of e.key) e.key.create es mid shuts) pfs t follow in
+      elim (cases_lt t e.key.create) [
+        | inl before ↦ follows_past e mid es' adds pfs t after before
+        | inr within ↦ follows_way e mid es' adds pfs t after (way within)
+      ]
+    where
+      way : e.key.create ≤ t → HasWay pfs e mid
+      way within x has meet = elim (same_subject (subject_of x.key) (subject_of e.key)) [
+        | inr differ ↦ others within e x refl refl ((shuts_beside (subject_of e.key) e.key.create es mid shuts x differ).0 has) differ meet
+        | inl about ↦
+            let (y, there, step) = shuts.back x has in
+            let of = subst (IsOf pfs) (ap subject_of (like (subject_of e.key) e.key.create y x step).key) (meet_of pfs x e (meet_back pfs e x meet)) in
+            ended within y x there has step about of
+      ]
+
+  -- where nothing counted about it
+  pub follows_unused : CountsNothing (Counts es e.key.create) (subject_of e.key) → IsFreshFor (subject_of e.key) e.key.create es → Follows pfs t es'
+  follows_unused none fresh = follows_added (λ within x y there has step about of.
+      let about' = ap subject_of (sym (like (subject_of e.key) e.key.create x y step).key) ∙ about in
+      let over = nothing_ended pfs t e.key.create es x follow within there of (fresh.made x there about') (fresh.closed x there about')
+      (subst (λ (s : Subject). CountsNothing (Counts es e.key.create) s) (sym about') none) in
+      subst (EndedBy e.key.create) (closed_stays (subject_of e.key) e.key.create x y step over.closed.closed) over)
+
 -- of the versions of a subject none was made after this one
 abbrev pub IsLatest : List FullElement → Subject → FullElement → Type 0
 IsLatest es s y = (other : FullElement) → Contains es other → subject_of other.key ≡ s → other.key.create ≤ y.key.create
@@ -205,6 +254,7 @@ rewrites_shut s i es es' shuts fresh gone = record {
   closed = λ _ was. shuts_closed s i es es' shuts was;
   up_to = shuts_up_to s i es es' shuts;
   came = shuts_came s i es es' shuts None;
+  follows = λ pfs t unused others. aged_follow i es es' (shuts_aged s i es es' shuts) pfs t;
 } where
   none : (t : ℕ) → i ≤ t → (bytes : List ℕ) → Counts es' t s bytes → ⊥
   none t late bytes c =
@@ -323,4 +373,8 @@ rewrites_added e es mid es' shuts adds open' fresh = record {
   up_to = λ localization below.
       adds_up_to e mid es' adds open' localization (shuts_up_to (subject_of e.key) e.key.create es mid shuts localization below);
   came = adds_came e mid es' adds es (shuts_came (subject_of e.key) e.key.create es mid shuts (Some e.bytes));
+  follows = λ pfs t unused others follow. elim unused [
+    | inl is ↦ absurd (some_none e.bytes is)
+    | inr none ↦ follows_unused e es mid es' shuts adds pfs t others follow none fresh
+  ];
 }

@@ -13,7 +13,8 @@ use Rattle.hm_key.specs.Extents.{Extent}
 use Rattle.hm_key.specs.Key.{key_of}
 use Rattle.hm_key.specs.declared.base.Base.{Base}
 use Rattle.hm_key.specs.declared.element.Element.{Element}
-use Rattle.hm_records.specs.Changes.{CountSame, Overrides}
+use Rattle.hm_records.specs.Changes.{CountSame, CountsNothing, Overrides}
+use Rattle.hm_records.specs.Follows.{EndedBy, Follows, Meet}
 use Rattle.hm_cursor.specs.Told.{Lists, fulls}
 
 -- a subject's versions were made before `i`, and none was closed later than `i`
@@ -32,8 +33,14 @@ CameFrom s now i es x =
     ((subject_of x.key ≡ s) × (x.key.create ≡ i) × (now ≡ Some x.bytes))
     ⊎ ((e : FullElement) × Contains es e × (x.key ≡ e.key) × (x.obj_type ≡ e.obj_type) × (x.bytes ≡ e.bytes))
 
+-- what meets a new element with these bytes and is about another subject has ended by `i`
+abbrev pub OthersEnded : ℕ → Subject → Option (List ℕ) → ℕ → List FullElement → Type 0
+OthersEnded pfs s now i es =
+    (e x : FullElement) → subject_of e.key ≡ s → now ≡ Some e.bytes → Contains es x → subject_of x.key ≢ s → Meet pfs e x
+    → EndedBy i x
+
 -- From `i` on these bytes count for a subject, or nothing does. Before `i` there counts what counted, and for other
--- subjects at any time: their elements stay.
+-- subjects at any time: their elements stay. What followed before follows still, where no open version is left behind.
 pub record Rewrites (s : Subject) (now : Option (List ℕ)) (i : ℕ) (es es' : List FullElement) : Type 0 where
   pub past : (t : ℕ) → t < i → CountSame (Counts es t) (Counts es' t)
   pub present : (t : ℕ) → i ≤ t → Overrides s now (Counts es t) (Counts es' t)
@@ -41,6 +48,12 @@ pub record Rewrites (s : Subject) (now : Option (List ℕ)) (i : ℕ) (es es' : 
   pub came : (x : FullElement) → Contains es' x → CameFrom s now i es x
   pub closed : now ≡ None → IsFreshFor s i es → IsFreshFor s i es'
   pub up_to : (localization : ℕ) → AreUpTo localization i es → AreUpTo localization i es'
+  pub follows : (pfs t : ℕ) → (now ≡ None) ⊎ CountsNothing (Counts es i) s → (i ≤ t → OthersEnded pfs s now i es) → Follows pfs t es
+      → Follows pfs t es'
+
+-- a new version came by `i`, and what followed before follows still, whatever counted about its subject
+abbrev pub FollowWith : Subject → List ℕ → ℕ → List FullElement → List FullElement → Type 0
+FollowWith s bytes i es es' = (pfs t : ℕ) → (i ≤ t → OthersEnded pfs s (Some bytes) i es) → Follows pfs t es → Follows pfs t es'
 
 -- A call that wrote left a balanced store that tells its content, where it found one, and did this to the elements with
 -- their payloads.

@@ -11,6 +11,7 @@ ghost use Rattle.hm_key.specs.Versions.{Adds};
 ghost use Rattle.hm_cursor.specs.Write.{
   ClosesAt,
   ClosesIfOpen,
+  FollowWith,
   HasRoomFor,
   IsClosedIn,
   IsFresh,
@@ -55,7 +56,7 @@ pub fn add_version<T: ElementStore + Extents>(
 
 /// Closes the open version at the key of `old` and adds an element about the same subject with its
 /// payload, as `add_version` does. From the new one's create id on it counts, and at that id the old
-/// one is closed.
+/// one is closed, so that versions which followed one another do so still.
 pub fn renew_version<T: ElementStore + Extents>(
     store: &mut T,
     old: &Base,
@@ -73,6 +74,9 @@ pub fn renew_version<T: ElementStore + Extents>(
     requires room { HasRoomFor (T.room store.old) zone bytes.now }
     ensures ok { OnOk result (Writes T.elements T.extents
         (Rewrites (subject_of (key_of base.now)) (Some bytes.now) base.now.create)
+        store.old store.new) }
+    ensures follows { OnOk result (Writes T.elements T.extents
+        (FollowWith (subject_of (key_of base.now)) bytes.now base.now.create)
         store.old store.new) }
     ensures closed { OnOk result (IsClosedIn (T.elements store.new) (key_of old.now)
         base.now.create) }

@@ -14,6 +14,7 @@ use Rattle.hm_key.specs.declared.element.Element.{Element}
 use Rattle.hm_key.specs.declared.rec_type.TheConstants.{DIRECTORY_ENTRY}
 use Rattle.hm_records.specs.Changes.{AgreeOnObject, LacksName, Overrides}
 use Rattle.hm_records.specs.Entry.{entry_bytes}
+use Rattle.hm_records.specs.Follows.{StillFollow}
 use Rattle.hm_records.specs.KeysFit.{KeysFit}
 use Rattle.hm_records.specs.Laws.{LosesEntry, triple_of}
 use Rattle.hm_records.specs.Payload.{SpellsEntry}
@@ -28,6 +29,7 @@ use Rattle.hm_cursor.specs.Version.{IsFirst}
 use Rattle.hm_cursor.specs.Views.{WritesIn}
 use Rattle.hm_cursor.specs.Write.{IsFreshFor, KeepPlaces, Rewrites}
 use Rattle.hm_cursor.proofs.EntryLemmas.{about_entry, first_counts}
+use Rattle.hm_cursor.proofs.FollowLemmas.{closing_follows, follow_twice}
 use Rattle.hm_cursor.proofs.NameLemmas.{lacks_before, lacks_more, none_lacks, settled_content}
 use Rattle.hm_cursor.proofs.ViewsLemmas.{fresh_beside, fresh_later, keys_fit_still, nothing_written, writes_again, writes_within}
 use Rattle.hm_dirs.specs.Names.{AreOlder, IsNothing, TakesName, first_key}
@@ -39,6 +41,7 @@ pub record HaveGone (pfs : ℕ) (directory : Obj) (name : List ℕ) (i first end
   pub balanced : IsBalanced now.0 now.1
   pub placed : KeepPlaces was now
   pub writes : WritesIn pfs i IsNothing (fulls was) (fulls now)
+  pub follows : StillFollow (fulls was) (fulls now)
   pub older : AreOlder pfs directory i (fulls now)
   pub others : (t : ℕ) → i ≤ t → OthersAgree pfs directory name (Counts (fulls was) t) (Counts (fulls now) t)
   pub objects : (t : ℕ) → i ≤ t → (obj : ℕ) → AgreeOnObject pfs obj (Counts (fulls was) t) (Counts (fulls now) t)
@@ -51,6 +54,7 @@ none_gone pfs directory name i first was balanced older = record {
   balanced = balanced;
   placed = record { extents = refl; elements = λ x has. (x, has, refl, refl, refl) };
   writes = nothing_written pfs i IsNothing (fulls was);
+  follows = λ other t follow. follow;
   older = older;
   others = λ t late triple not key object. (λ h. h, λ h. h);
   objects = λ t late obj. record {
@@ -145,6 +149,7 @@ module _ (at : Key) (pfs : ℕ) (directory : Obj) (key last i : ℕ) (here : sub
     balanced = gone.balanced;
     placed = gone.placed;
     writes = gone.writes;
+    follows = gone.follows;
     older = gone.older;
     others = gone.others;
     objects = gone.objects;
@@ -161,6 +166,8 @@ module _ (at : Key) (pfs : ℕ) (directory : Obj) (key last i : ℕ) (here : sub
     placed = placed_both was mid now gone.placed placed;
     writes = writes_again pfs i IsNothing (fulls was) (fulls mid) (fulls now) (λ x y same kind bytes new. new) gone.writes
         (closed_writes pfs directory e.base.key i (fulls mid) (fulls now) wrote);
+    follows = follow_twice (fulls was) (fulls mid) (fulls now) gone.follows
+        (closing_follows (entry_subject pfs directory.0 e.base.key) i (fulls mid) (fulls now) wrote);
     older = closed_older pfs directory e.base.key i (fulls mid) (fulls now) wrote gone.older;
     others = λ t late. others_both pfs directory name (Counts (fulls was) t) (Counts (fulls mid) t) (Counts (fulls now) t) (gone.others t late)
         (agree_loses pfs directory e.base.key entry (Counts (fulls mid) t) (Counts (fulls now) t) (loses t late) (settled_content mid.0 mid.1 t content));
@@ -193,6 +200,7 @@ module _ (at : Key) (pfs : ℕ) (directory : Obj) (key last i : ℕ) (here : sub
     balanced = gone.balanced;
     placed = gone.placed;
     writes = gone.writes;
+    follows = gone.follows;
     older = gone.older;
     others = gone.others;
     objects = gone.objects;
@@ -234,6 +242,7 @@ pub name_taken : (hash : List ℕ → ℕ) (pfs : ℕ) (directory : Obj) (name :
     → TakesName hash pfs directory name i (fulls was) (fulls now)
 name_taken hash pfs directory name i first end was now number size before after gone = record {
   writes = gone.writes;
+  follows = gone.follows;
   shows = λ fit t tree late has. record {
     settled = settled_content now.0 now.1 t after;
     view = name_gone pfs tree (Counts (fulls was) t) (Counts (fulls now) t) directory name has.view (gone.others t late) (gone.objects t late)

@@ -17,6 +17,7 @@ use Rattle.hm_key.specs.declared.element.Element.{Element}
 use Rattle.hm_key.specs.declared.rec_type.TheConstants.{DIRECTORY_ENTRY, OTHER_PART}
 use Rattle.hm_records.specs.Entry.{IsEntry, entry_bytes}
 use Rattle.hm_records.specs.Changes.{CountSame, CountsNothing, LacksName, Overrides}
+use Rattle.hm_records.specs.Follows.{StillFollow}
 use Rattle.hm_records.specs.Laws.{HasView}
 use Rattle.hm_records.specs.Payload.{KeyFits}
 use Rattle.hm_records.specs.View.{HasEntry}
@@ -29,6 +30,7 @@ use Rattle.hm_records.proofs.EntryLemmas.{length-entry}
 use Rattle.hm_cursor.specs.Told.{Lists, fulls}
 use Rattle.hm_cursor.specs.Write.{IsNew, Rewrites, Writes, most_payload}
 use Rattle.hm_cursor.specs.Views.{Shows, WritesIn}
+use Rattle.hm_cursor.proofs.FollowLemmas.{adding_follows, closing_follows, follow_twice}
 use Rattle.hm_cursor.proofs.ViewsLemmas.{IsSteady, IsWithin, fresh_later, keys_fit_still, writes_again, writes_within}
 use Rattle.hm_dirs.specs.Entries.{Clears}
 use Rattle.hm_dirs.specs.Names.{AddsName, AreOlder, CanTakeAt, IsEntryAt}
@@ -233,6 +235,23 @@ module _ (pfs : ℕ) (directory : Obj) (key i : ℕ) (entry : DirEntry) (is : Is
             (entry_bytes (record { obj = object; name = entry.name })) there.there;
       }
 
+  -- what followed before follows still, since no open entry is left behind
+  all_follow : (hidden : Bool) → Clears hidden (entry_subject pfs directory.0 key) i es mid → CanTakeAt (Counts es i) pfs directory key hidden
+      → StillFollow es es'
+  all_follow hidden clears takes =
+      follow_twice es mid es' (first hidden clears)
+      (adding_follows (entry_subject pfs directory.0 key) (Some (entry_bytes entry)) i mid es' (λ is. absurd (omega (arith, is)))
+      (unused hidden clears takes) wrote)
+    where
+      first : (hidden : Bool) → Clears hidden (entry_subject pfs directory.0 key) i es mid → StillFollow es mid
+      first false same = subst (λ (l : List FullElement). StillFollow es l) (sym same) (λ other t follow. follow)
+      first true closed = closing_follows (entry_subject pfs directory.0 key) i es mid closed
+
+      unused : (hidden : Bool) → Clears hidden (entry_subject pfs directory.0 key) i es mid → CanTakeAt (Counts es i) pfs directory key hidden
+          → CountsNothing (Counts mid i) (entry_subject pfs directory.0 key)
+      unused false same takes = subst (λ (l : List FullElement). CountsNothing (Counts l i) (entry_subject pfs directory.0 key)) (sym same) takes
+      unused true closed takes = λ bytes counts. none_some bytes (((closed.present i (omega arith)).about bytes).0 counts)
+
 pub adds_name : (pfs : ℕ) (directory : Obj) (spot : Spot) (i : ℕ) (entry : DirEntry) (s : Subject) (bytes : List ℕ) (es mid es' : List FullElement)
     → s ≡ entry_subject pfs directory.0 spot.key → bytes ≡ entry_bytes entry → IsEntry entry → AreOlder pfs directory i es
     → Clears spot.hidden s i es mid → Rewrites s (Some bytes) i mid es' → AddsName pfs directory spot i entry es es'
@@ -240,6 +259,7 @@ adds_name pfs directory spot i entry s bytes es mid es' here spelled is older cl
   writes = writes;
   shows = all_shows pfs directory spot.key i entry is es mid es' wrote spot.hidden cleared older;
   fits = λ hash fit. keys_fit_still pfs i (IsEntryAt pfs directory spot.key i entry) hash es es' writes (new_fits hash fit);
+  follows = all_follow pfs directory spot.key i entry is es mid es' wrote spot.hidden cleared;
 } where
   wrote : Rewrites (entry_subject pfs directory.0 spot.key) (Some (entry_bytes entry)) i mid es'
   wrote =

@@ -1,19 +1,12 @@
 -- What the name of one entry is, and what is known of the entries under some keys: which are taken, and how many lead.
-use Rattle.std.specs.Prelude.{◌≡◌, ◌≢◌, ℕ, ◌+◌, ◌*◌, ◌/◌, ◌^◌, ◌<◌, ◌≤◌, Bool, true, false, List, [], ◌∷◌, ◌++◌, length, Option, None, Some}
+use Rattle.std.specs.Prelude.{◌≡◌, ℕ, ◌+◌, ◌*◌, ◌/◌, ◌^◌, ◌<◌, ◌≤◌, Bool, true, false, List, [], ◌∷◌, ◌++◌, length, Option, None, Some}
 use Rattle.std.specs.List.{Contains}
 use Rattle.hm_types.specs.Elements.{FullElement}
-use Rattle.hm_types.specs.declared.damage.TheConstants.{BAD_PAYLOAD}
-use Rattle.hm_types.specs.declared.fault.Fault.{Fault}
-use Rattle.hm_types.specs.declared.fault.Fault.TheVariants.{Media, Damaged, NoMemory}
 use Rattle.hm_types.specs.declared.id.Obj.{Obj}
-use Rattle.hm_key.specs.Balance.{payload_of}
 use Rattle.hm_key.specs.Counts.{Content, Counts, Subject, entry_subject}
-use Rattle.hm_key.specs.Extents.{Extent}
-use Rattle.hm_key.specs.declared.element.Element.{Element}
 use Rattle.hm_records.specs.Changes.{CountsNothing}
-use Rattle.hm_records.specs.Entry.{IsEntry, IsSpelled, entry_bytes}
+use Rattle.hm_records.specs.Entry.{IsSpelled, entry_bytes}
 use Rattle.hm_records.specs.Laws.{IsFirstOf}
-use Rattle.hm_records.specs.Payload.{SpellsEntry}
 use Rattle.hm_records.specs.View.{HasEntry}
 use Rattle.hm_records.specs.declared.entry.DirEntry.{DirEntry}
 use Rattle.hm_cursor.specs.Told.{Lists, fulls}

@@ -10,6 +10,7 @@ use Rattle.hm_key.specs.Extents.{Extent}
 use Rattle.hm_key.specs.declared.element.Element.{Element}
 use Rattle.hm_records.specs.Changes.{CountsNothing, LacksName}
 use Rattle.hm_records.specs.Entry.{IsEntry, entry_bytes}
+use Rattle.hm_records.specs.Follows.{StillFollow}
 use Rattle.hm_records.specs.KeysFit.{KeysFit}
 use Rattle.hm_records.specs.Laws.{HasEarlier}
 use Rattle.hm_records.specs.Payload.{KeyFits}
@@ -86,15 +87,16 @@ abbrev pub IsNothing : FullElement → Type 0
 IsNothing x = ⊥
 
 -- A name is added by `i`, under a key that can take it as of `i`: where the directory has no entry of the name, the tree
--- gets the name. An entry that was hidden there goes, which no tree shows.
+-- gets the name. An entry that was hidden there goes, which no tree shows. What followed before follows still.
 pub record AddsName (pfs : ℕ) (directory : Obj) (spot : Spot) (i : ℕ) (entry : DirEntry) (es es' : List FullElement) : Type 0 where
   pub writes : WritesIn pfs i (IsEntryAt pfs directory spot.key i entry) es es'
   pub shows : CanTake (Counts es i) pfs directory spot → LacksName (Counts es i) pfs directory entry.name
       → Shows pfs i (λ tree. with_name tree directory entry.name entry.obj) es es'
   pub fits : (hash : List ℕ → ℕ) → KeyFits hash spot.key entry.name → KeysFit hash es → KeysFit hash es'
+  pub follows : CanTake (Counts es i) pfs directory spot → StillFollow es es'
 
 -- A name is taken away by `i`, with each entry of it: the tree loses the name, nothing counts under the keys of its
--- entries, and entries of other names stay.
+-- entries, and entries of other names stay. What followed before follows still.
 pub record TakesName (hash : List ℕ → ℕ) (pfs : ℕ) (directory : Obj) (name : List ℕ) (i : ℕ) (es es' : List FullElement) : Type 0 where
   pub writes : WritesIn pfs i IsNothing es es'
   pub shows : KeysFit hash es → Shows pfs i (λ tree. without_name tree directory name) es es'
@@ -105,6 +107,7 @@ pub record TakesName (hash : List ℕ → ℕ) (pfs : ℕ) (directory : Obj) (na
   pub only : (t : ℕ) (s : Subject) (bytes : List ℕ) → i ≤ t → Counts es' t s bytes → Counts es t s bytes
   pub beside : (t key : ℕ) (other : Obj) (name' : List ℕ) (object : Obj) → i ≤ t → (other ≡ directory → name' ≡ name → ⊥)
       → HasEntry (Counts es t) pfs other key name' object → HasEntry (Counts es' t) pfs other key name' object
+  pub follows : StillFollow es es'
 
 -- the entries of a directory are older than `i`
 abbrev pub AreOlder : ℕ → Obj → ℕ → List FullElement → Type 0

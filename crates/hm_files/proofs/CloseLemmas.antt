@@ -1,23 +1,22 @@
 -- The bytes of a file, as they are closed one after another.
 use Rattle.std.proofs.Common.{◌≡◌, ◌≢◌, ℕ, ◌+◌, ◌<◌, ◌≤◌, List, None, Some, refl, ap, sym, subst, ◌∙◌, inl, inr, arith}
 use Rattle.std.specs.Prelude.{◌↔◌, ◌⊎◌}
-use Rattle.std.specs.List.{Contains}
 use Rattle.std.proofs.lemmas.Bool.{cases_lt}
 use Rattle.hm_types.specs.Elements.{FullElement, Key}
 use Rattle.hm_types.specs.declared.object.Object.{Object}
-use Rattle.hm_key.specs.Balance.{IsBalanced, full_of}
-use Rattle.hm_key.specs.Counts.{Content, Counts, IsSeen, Subject, bytes_subject, entry_subject, inode_subject, subject_of, target_subject}
+use Rattle.hm_key.specs.Balance.{IsBalanced}
+use Rattle.hm_key.specs.Counts.{Content, Counts, Subject, bytes_subject, entry_subject, inode_subject, subject_of, target_subject}
 use Rattle.hm_key.specs.Elements.{element_key}
 use Rattle.hm_key.specs.declared.element.Element.{Element}
 use Rattle.hm_records.specs.Changes.{AgreeButObject, CountsNothing, IsSettled}
 use Rattle.hm_records.specs.Inode.{inode_bytes}
 use Rattle.hm_records.specs.View.{IsObject}
-use Rattle.hm_records.proofs.MemberLemmas.{map_has}
 use Rattle.hm_records.proofs.ObjectChangeLemmas.{object_same_view}
 use Rattle.hm_records.proofs.SubjectLemmas.{same_subject}
 use Rattle.hm_cursor.specs.Told.{Lists, fulls}
 use Rattle.hm_cursor.specs.Version.{IsCountedIn, IsFirst}
 use Rattle.hm_cursor.specs.Write.{IsFreshFor, KeepPlaces, Rewrites}
+use Rattle.hm_cursor.proofs.FollowLemmas.{closing_follows, follow_twice}
 use Rattle.hm_cursor.proofs.ToldLemmas.{newest_counted}
 use Rattle.hm_cursor.proofs.ViewsLemmas.{IsWithin, fresh_later, nothing_written, writes_again, writes_within}
 use Rattle.hm_files.specs.Close.{AreOlder, ClosesBytes, IsApart, IsNothing, RemovesBytes}
@@ -48,6 +47,7 @@ none_closed pfs obj i first was balanced = record {
     writes = nothing_written pfs i IsNothing (fulls was);
     gone = λ t n late from below. absurd (omega (arith, from, below));
     beside = λ t s bytes apart. (λ h. h, λ h. h);
+    follows = λ other t follow. follow;
   };
 }
 
@@ -101,6 +101,8 @@ module _ (at : Key) (pfs obj key last i : ℕ) (here : subject_of at ≡ bytes_s
             (λ x about made now. none_some x.bytes now) wrote);
         gone = λ t n late from below. by_place t n late from (cases_lt n key) (cases_lt n e.base.key) below;
         beside = λ t s bytes apart. both t s bytes apart (cases_lt t i);
+        follows = follow_twice (fulls was) (fulls mid) (fulls now) gone.closes.follows
+            (closing_follows (bytes_subject pfs obj e.base.key) i (fulls mid) (fulls now) wrote);
       };
     } where
       up : key ≤ e.base.key
@@ -146,6 +148,7 @@ module _ (at : Key) (pfs obj key last i : ℕ) (here : subject_of at ≡ bytes_s
         writes = gone.closes.writes;
         gone = λ t n late from below. by_place t n late from (cases_lt n key) below;
         beside = λ t s bytes apart. gone.closes.beside t s bytes (λ n from below. apart n from (omega (arith, below, more)));
+        follows = gone.closes.follows;
       };
     } where
       by_place : (t n : ℕ) → i ≤ t → first ≤ n → (n < key) ⊎ (key ≤ n) → n < last + 1 → CountsNothing (Counts (fulls mid) t) (bytes_subject pfs obj n)

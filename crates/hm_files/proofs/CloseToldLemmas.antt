@@ -74,6 +74,7 @@ module _ (pfs obj i first : ℕ) where
       writes = closed.closes.writes;
       gone = λ t n late from below. absurd (omega (arith, from, below, none));
       beside = λ t s bytes apart. closed.closes.beside t s bytes (λ n from below. absurd (omega (arith, from, below)));
+      follows = closed.closes.follows;
     };
   }
 

@@ -13,6 +13,7 @@ use Rattle.hm_records.specs.Changes.{CountsNothing, IsSettled}
 use Rattle.hm_records.specs.View.{AreFileBytes, IsFileByte, IsFirstAfter, covered, hole, past}
 use Rattle.hm_records.proofs.SearchLemmas.{first_or_none}
 use Rattle.hm_cursor.specs.Views.{CameAs, WritesIn}
+use Rattle.hm_cursor.proofs.FollowLemmas.{follow_twice}
 use Rattle.hm_cursor.proofs.ViewsLemmas.{fresh_later, writes_again}
 use Rattle.hm_files.specs.Bytes.{AreBytesFrom}
 use Rattle.hm_files.specs.Close.{AreOlder, ClosesBytes}
@@ -130,6 +131,7 @@ module _ (pfs obj i end : ℕ) (es mid : List FullElement) (aligned : end % BLOC
     zero = λ t x late from small. zero_from t keep x late from small (λ n above low. none t n late above low);
     fresh = λ n differ older. closes.writes.fresh (bytes_subject pfs obj n) (λ x new. absurd new) older;
     others = closed_others;
+    follows = closes.follows;
   }
 
   -- where the block is put with what it had before the cut
@@ -202,6 +204,7 @@ module _ (pfs obj i end : ℕ) (es mid : List FullElement) (aligned : end % BLOC
           let one = closed_others t s bytes differ in
           let two = puts.beside t s bytes (λ n up down is. differ (is ∙ ap (bytes_subject pfs obj) (sym (ap (λ (z : Subject). z.key) is)))) in
           (λ h. one.0 (two.0 h), λ h. two.1 (one.1 h));
+      follows = follow_twice es mid es' closes.follows puts.follows;
     }
 
 -- ---- a file of another size
@@ -237,4 +240,5 @@ module _ (pfs obj i size new : ℕ) (es es' : List FullElement) (small : new ≤
     };
     zero = cuts.zero;
     others = cuts.others;
+    follows = cuts.follows;
   }

@@ -11,3 +11,4 @@ pub mod TellLemmas
 mod CutToldLemmas
 mod WriteLemmas
 mod MergeLemmas
+mod FollowLemmas

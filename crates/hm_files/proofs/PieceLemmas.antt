@@ -5,15 +5,14 @@ use Rattle.std.specs.List.{Contains}
 use Rattle.std.proofs.lemmas.Bool.{cases_lt}
 use Rattle.std.proofs.lemmas.List.{get_or-replicate, length-replicate}
 use Rattle.std.proofs.lemmas.List.Elements.{All-contains}
-use Rattle.hm_types.specs.Elements.{FullElement, Key}
-use Rattle.hm_key.specs.Balance.{IsBalanced, IsHeld, full_elements, full_of, payload_of}
-use Rattle.hm_key.specs.Counts.{Counts, IsSeen, Subject, bytes_subject, subject_of}
+use Rattle.hm_types.specs.Elements.{Key}
+use Rattle.hm_key.specs.Balance.{IsBalanced, IsHeld, full_elements, payload_of}
+use Rattle.hm_key.specs.Counts.{Counts, Subject, bytes_subject, subject_of}
 use Rattle.hm_key.specs.Element.{IsElement, IsInBlock}
 use Rattle.hm_key.specs.Elements.{IsContent, element_key}
 use Rattle.hm_key.specs.Extents.{AreExtents, Extent}
 use Rattle.hm_key.specs.declared.element.Element.{Element}
 use Rattle.hm_records.specs.View.{IsFileByte, IsFirstAfter, covered, hole, past}
-use Rattle.hm_records.proofs.MemberLemmas.{map_has}
 use Rattle.hm_records.proofs.SearchLemmas.{first_or_none}
 use Rattle.hm_cursor.specs.Version.{IsCountedIn, IsFirst, IsFirstIn, IsInSpan, IsNewestOf}
 use Rattle.hm_cursor.proofs.PayloadLemmas.{length-payload}

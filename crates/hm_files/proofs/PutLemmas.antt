@@ -13,6 +13,7 @@ use Rattle.hm_key.specs.declared.base.Base.{Base}
 use Rattle.hm_key.specs.declared.base.TheConstants.{ELEMENT}
 use Rattle.hm_key.specs.declared.rec_type.TheConstants.{FILE_BYTES, OTHER_PART}
 use Rattle.hm_records.specs.declared.kind.TheConstants.{FILE}
+use Rattle.hm_records.specs.Follows.{StillFollow}
 use Rattle.hm_records.specs.Payload.{IsPayload}
 use Rattle.hm_records.specs.View.{IsFileByte, IsFirstAfter, covered, hole, past}
 use Rattle.hm_cursor.specs.Views.{WritesIn}
@@ -114,7 +115,7 @@ module _ (pfs obj i begin : ℕ) (bytes : List ℕ) (es low high es' : List Full
     (some : 1 ≤ length bytes) (few : length bytes ≤ BLOCK_BYTES)
     (first : ClosesBytes pfs obj i (begin + 1) (begin + length bytes) es low)
     (second : ClosesBytes pfs obj i (begin + length bytes + 1) (begin + BLOCK_BYTES + 1) low high)
-    (third : Rewrites (bytes_subject pfs obj (begin + length bytes)) (Some bytes) i high es') where
+    (third : Rewrites (bytes_subject pfs obj (begin + length bytes)) (Some bytes) i high es') (follows : StillFollow es es') where
   pub block_put : PutsBlock pfs obj i begin bytes es es'
   block_put = record {
     writes = writes_again pfs i (IsBytesOf pfs obj i) es high es' (steady pfs obj i)
@@ -131,6 +132,7 @@ module _ (pfs obj i begin : ℕ) (bytes : List ℕ) (es low high es' : List Full
         fresh_beside (bytes_subject pfs obj (begin + length bytes)) (bytes_subject pfs obj n) (Some bytes) i i high es' third
         (ends_apart pfs obj n (begin + length bytes) differ)
         (second.writes.fresh (bytes_subject pfs obj n) (λ x new. absurd new) (first.writes.fresh (bytes_subject pfs obj n) (λ x new. absurd new) is));
+    follows = follows;
   } where
     at_end : (t n : ℕ) (other : List ℕ) → i ≤ t → begin < n → n ≤ begin + BLOCK_BYTES → Counts es' t (bytes_subject pfs obj n) other
         → (n ≡ begin + length bytes) ⊎ (n ≡ begin + length bytes → ⊥) → (n < begin + length bytes) ⊎ (begin + length bytes ≤ n) → n ≡ begin + length bytes

@@ -10,6 +10,7 @@ use Rattle.hm_types.specs.declared.space.TheConstants.{INSERT_ROOM}
 use Rattle.hm_types.specs.declared.zone.TheConstants.{LARGE_ZONE, SMALL_ZONE, TREE_ZONE}
 use Rattle.hm_key.specs.Counts.{Counts, bytes_subject}
 use Rattle.hm_records.specs.View.{AreFileBytes, IsFileByte}
+use Rattle.hm_cursor.proofs.FollowLemmas.{follow_twice}
 use Rattle.hm_cursor.proofs.ViewsLemmas.{nothing_written, writes_again}
 use Rattle.hm_files.specs.Close.{ClosesBytes}
 use Rattle.hm_files.specs.Put.{CutsBytes, HasBlockRoom, IsBytesOf, block_space}
@@ -29,6 +30,7 @@ module _ (pfs obj i size offset : ℕ) (es es' : List FullElement) where
     past = λ t x late beyond near. cuts.zero t x late (omega (arith, beyond)) near;
     fresh = λ n above older. cuts.fresh n (λ is. absurd (omega (arith, above, before, is))) older;
     others = cuts.others;
+    follows = cuts.follows;
   }
 
   -- and where it does not
@@ -43,6 +45,7 @@ module _ (pfs obj i size offset : ℕ) (es es' : List FullElement) where
         (λ n above low. absurd (omega (arith, above, low)));
     fresh = λ n above older. closes.writes.fresh (bytes_subject pfs obj n) (λ x new. absurd new) older;
     others = closed_others pfs obj i past es es' aligned blocks closes;
+    follows = closes.follows;
   } where
     aligned : past % BLOCK_BYTES ≡ 0
     aligned = omega (arith, past_is)
@@ -119,6 +122,7 @@ module _ (pfs obj i size offset : ℕ) (new : List ℕ) where
     after = λ t x v late above is. is;
     fresh = λ n above older. older;
     others = λ t s bytes differ. (λ h. h, λ h. h);
+    follows = λ other t follow. follow;
   }
 
   -- one more
@@ -176,6 +180,7 @@ module _ (pfs obj i size offset : ℕ) (new : List ℕ) where
           let one = so_far.others t s bytes differ in
           let two = puts.others t s bytes differ in
           (λ h. one.0 (two.0 h), λ h. two.1 (one.1 h));
+      follows = follow_twice es mid es' so_far.follows puts.follows;
     }
 
   -- ---- all of them
@@ -276,6 +281,7 @@ module _ (pfs obj i size offset : ℕ) (new : List ℕ) where
       past = λ t x late beyond near was.
           past_zero es t x late beyond (λ above. elim was [ inl longer ↦ absurd (omega (arith, longer, within)) | inr zero ↦ zero ]) puts;
       others = puts.others;
+      follows = puts.follows;
     }
 
     -- and where what was past it is closed first
@@ -289,4 +295,5 @@ module _ (pfs obj i size offset : ℕ) (new : List ℕ) where
           let one = way.others t s bytes differ in
           let two = puts.others t s bytes differ in
           (λ h. one.0 (two.0 h), λ h. two.1 (one.1 h));
+      follows = follow_twice es mid es' way.follows puts.follows;
     }

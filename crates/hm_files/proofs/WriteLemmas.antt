@@ -105,4 +105,5 @@ module _ (pfs obj i size at : ℕ) (piece bytes : List ℕ) (es es' : List FullE
     fresh = λ n above fresh. puts.fresh n (λ is. absurd (omega (arith, is, above, few))) fresh;
     others = λ t s other differ.
         puts.beside t s other (λ n up down is. differ (is ∙ ap (bytes_subject pfs obj) (sym (ap (λ (z : Subject). z.key) is))));
+    follows = puts.follows;
   }

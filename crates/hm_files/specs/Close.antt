@@ -6,6 +6,7 @@ use Rattle.hm_key.specs.Counts.{Counts, Subject, bytes_subject, inode_subject}
 use Rattle.hm_key.specs.Extents.{Extent}
 use Rattle.hm_key.specs.declared.element.Element.{Element}
 use Rattle.hm_records.specs.Changes.{CountsNothing}
+use Rattle.hm_records.specs.Follows.{StillFollow}
 use Rattle.hm_cursor.specs.Told.{fulls}
 use Rattle.hm_cursor.specs.Views.{Shows, WritesIn}
 use Rattle.hm_cursor.specs.Write.{IsFreshFor}
@@ -27,11 +28,12 @@ abbrev pub IsApart : ℕ → ℕ → ℕ → ℕ → Subject → Type 0
 IsApart pfs obj first end s = (n : ℕ) → first ≤ n → n < end → s ≢ bytes_subject pfs obj n
 
 -- The bytes of a file that end from one offset on and before another one are closed at `i`: none of them counts from then on.
--- For all other subjects the same counts, as of any id.
+-- For all other subjects the same counts, as of any id, and what followed before follows still.
 pub record ClosesBytes (pfs obj i first end : ℕ) (es es' : List FullElement) : Type 0 where
   pub writes : WritesIn pfs i IsNothing es es'
   pub gone : (t n : ℕ) → i ≤ t → first ≤ n → n < end → CountsNothing (Counts es' t) (bytes_subject pfs obj n)
   pub beside : (t : ℕ) (s : Subject) (bytes : List ℕ) → IsApart pfs obj first end s → Counts es' t s bytes ↔ Counts es t s bytes
+  pub follows : StillFollow es es'
 
 -- an object has no inode from `i` on
 abbrev pub IsMissing : ℕ → ℕ → ℕ → List FullElement → Type 0

@@ -6,6 +6,7 @@ use Rattle.hm_types.specs.declared.limits.TheConstants.{BLOCK_BYTES}
 use Rattle.hm_types.specs.declared.space.TheConstants.{INSERT_ROOM}
 use Rattle.hm_types.specs.declared.zone.TheConstants.{LARGE_ZONE, SMALL_ZONE, TREE_ZONE}
 use Rattle.hm_key.specs.Counts.{Counts, Subject, bytes_subject, subject_of}
+use Rattle.hm_records.specs.Follows.{StillFollow}
 use Rattle.hm_records.specs.Payload.{IsPayload}
 use Rattle.hm_records.specs.View.{AreFileBytes, IsFileByte}
 use Rattle.hm_cursor.specs.Views.{WritesIn}
@@ -23,7 +24,7 @@ pub record IsBytesOf (pfs obj i : ℕ) (x : FullElement) : Type 0 where
   pub payload : IsPayload x
 
 -- From `i` on these bytes are the only ones that count in a block, from where it begins. For all other subjects the same
--- counts, as of any id.
+-- counts, as of any id. What followed before follows still, so that no two elements of one block were made by one id.
 pub record PutsBlock (pfs obj i begin : ℕ) (bytes : List ℕ) (es es' : List FullElement) : Type 0 where
   pub writes : WritesIn pfs i (IsBytesOf pfs obj i) es es'
   pub there : (t : ℕ) → i ≤ t → Counts es' t (bytes_subject pfs obj (begin + length bytes)) bytes
@@ -31,6 +32,7 @@ pub record PutsBlock (pfs obj i begin : ℕ) (bytes : List ℕ) (es es' : List F
       → n ≡ begin + length bytes
   pub beside : (t : ℕ) (s : Subject) (other : List ℕ) → IsApart pfs obj (begin + 1) (begin + BLOCK_BYTES + 1) s → Counts es' t s other ↔ Counts es t s other
   pub fresh : (n : ℕ) → n ≢ begin + length bytes → IsFreshFor (bytes_subject pfs obj n) i es → IsFreshFor (bytes_subject pfs obj n) i es'
+  pub follows : StillFollow es es'
 
 -- for what is about no bytes of an object the same counts, as of any id
 abbrev pub KeepOthers : ℕ → ℕ → List FullElement → List FullElement → Type 0
@@ -43,6 +45,7 @@ pub record CutsBytes (pfs obj i keep : ℕ) (es es' : List FullElement) : Type 0
   pub zero : (t x : ℕ) → i ≤ t → keep ≤ x → x + BLOCK_BYTES < 2 ^ 64 → IsFileByte (Counts es' t) pfs obj x 0
   pub fresh : (n : ℕ) → n ≢ keep → IsFreshFor (bytes_subject pfs obj n) i es → IsFreshFor (bytes_subject pfs obj n) i es'
   pub others : KeepOthers pfs obj es es'
+  pub follows : StillFollow es es'
 
 -- the bytes of a file with another size: cut, or with zeros added
 abbrev pub resized : ℕ → List ℕ → List ℕ
@@ -56,6 +59,7 @@ pub record ResizesBytes (pfs obj i size new_size : ℕ) (es es' : List FullEleme
       → AreFileBytes (Counts es' t) pfs obj new_size (resized new_size content)
   pub zero : (t x : ℕ) → i ≤ t → min size new_size ≤ x → x + BLOCK_BYTES < 2 ^ 64 → IsFileByte (Counts es' t) pfs obj x 0
   pub others : KeepOthers pfs obj es es'
+  pub follows : StillFollow es es'
 
 -- room for so many elements, each with a block of bytes
 pub record HasBlockRoom (room : ℕ → ℕ) (blocks : ℕ) : Type 0 where

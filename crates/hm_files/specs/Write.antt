@@ -3,6 +3,7 @@ use Rattle.std.specs.Prelude.{◌⊎◌, ℕ, ◌+◌, ◌-◌, ◌*◌, ◌/◌
 use Rattle.hm_types.specs.Elements.{FullElement}
 use Rattle.hm_types.specs.declared.limits.TheConstants.{BLOCK_BYTES}
 use Rattle.hm_key.specs.Counts.{Counts, bytes_subject}
+use Rattle.hm_records.specs.Follows.{StillFollow}
 use Rattle.hm_records.specs.View.{AreFileBytes, IsFileByte}
 use Rattle.hm_cursor.specs.Views.{WritesIn}
 use Rattle.hm_cursor.specs.Write.{IsFreshFor}
@@ -29,6 +30,7 @@ pub record PutsPiece (pfs obj i size at : ℕ) (piece : List ℕ) (es es' : List
       → IsFileByte (Counts es' t) pfs obj x byte
   pub fresh : (n : ℕ) → block_start at + BLOCK_BYTES < n → IsFreshFor (bytes_subject pfs obj n) i es → IsFreshFor (bytes_subject pfs obj n) i es'
   pub others : KeepOthers pfs obj es es'
+  pub follows : StillFollow es es'
 
 -- From `i` on bytes can be written into a file of a size from an offset on: those of the file are as they were, and what
 -- lies past its size and before the offset's block, or past the size's block, is zero.
@@ -39,6 +41,7 @@ pub record ClearsWay (pfs obj i size offset : ℕ) (es es' : List FullElement) :
   pub past : (t x : ℕ) → i ≤ t → rounded_up size ≤ x → x + BLOCK_BYTES < 2 ^ 64 → IsFileByte (Counts es' t) pfs obj x 0
   pub fresh : (n : ℕ) → block_start offset < n → IsFreshFor (bytes_subject pfs obj n) i es → IsFreshFor (bytes_subject pfs obj n) i es'
   pub others : KeepOthers pfs obj es es'
+  pub follows : StillFollow es es'
 
 -- how many blocks have bytes from an offset on and before another one above it
 abbrev pub block_count : ℕ → ℕ → ℕ
@@ -62,6 +65,7 @@ pub record PutsBefore (pfs obj i size offset : ℕ) (new : List ℕ) (block : �
   pub after : (t x byte : ℕ) → i ≤ t → block * BLOCK_BYTES ≤ x → IsFileByte (Counts es t) pfs obj x byte → IsFileByte (Counts es' t) pfs obj x byte
   pub fresh : (n : ℕ) → block * BLOCK_BYTES < n → IsFreshFor (bytes_subject pfs obj n) i es → IsFreshFor (bytes_subject pfs obj n) i es'
   pub others : KeepOthers pfs obj es es'
+  pub follows : StillFollow es es'
 
 -- the bytes of a file with others from an offset on, and zeros where that lies past their end
 abbrev pub written : ℕ → List ℕ → List ℕ → List ℕ
@@ -76,3 +80,4 @@ pub record WritesBytes (pfs obj i size offset : ℕ) (new : List ℕ) (es es' : 
   pub past : (t x : ℕ) → i ≤ t → max size (offset + length new) ≤ x → x + BLOCK_BYTES < 2 ^ 64
       → (size < offset + length new) ⊎ IsFileByte (Counts es t) pfs obj x 0 → IsFileByte (Counts es' t) pfs obj x 0
   pub others : KeepOthers pfs obj es es'
+  pub follows : StillFollow es es'

@@ -6,7 +6,15 @@ ghost use Rattle.hm_key.specs.Balance.{Balanced, content_of};
 ghost use Rattle.hm_key.specs.Counts.{bytes_subject, subject_of};
 ghost use Rattle.hm_key.specs.Key.{key_of};
 ghost use Rattle.hm_key.specs.Stores.{Keeps};
-ghost use Rattle.hm_cursor.specs.Write.{HasRoomFor, IsFresh, IsNew, Rewrites, Writes, taken};
+ghost use Rattle.hm_cursor.specs.Write.{
+  FollowWith,
+  HasRoomFor,
+  IsFresh,
+  IsNew,
+  Rewrites,
+  Writes,
+  taken,
+};
 ghost use Rattle.hm_files.specs.Close.{AreOlderIn};
 ghost use Rattle.hm_files.specs.Put.{HasBlockRoom, PutsBlock, block_space, zone_of};
 
@@ -54,7 +62,8 @@ pub(crate) fn put_block<T: ElementStore + Extents>(
     put_version(store, &base, zone_of(bytes.len()), bytes)
 }
 
-// Adds an element and its payload, as `add_version` does, and closes the one that counted.
+// Adds an element and its payload, as `add_version` does, and closes the one that counted, so that
+// versions which followed one another do so still.
 fn put_version<T: ElementStore + Extents>(
     store: &mut T,
     base: &Base,
@@ -68,6 +77,9 @@ fn put_version<T: ElementStore + Extents>(
     requires room { HasRoomFor (T.room store.old) zone bytes.now }
     ensures ok { OnOk result (Writes T.elements T.extents
         (Rewrites (subject_of (key_of base.now)) (Some bytes.now) base.now.create)
+        store.old store.new) }
+    ensures follows { OnOk result (Writes T.elements T.extents
+        (FollowWith (subject_of (key_of base.now)) bytes.now base.now.create)
         store.old store.new) }
     ensures keeps { Keeps T.elements T.extents store.old store.new result }
     ensures space { Spends T.room T.free (taken zone bytes.now) store.old store.new }

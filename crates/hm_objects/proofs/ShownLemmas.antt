@@ -6,9 +6,11 @@ use Rattle.hm_types.specs.Tree.{FileTree, directory_of, with_change, with_links,
 use Rattle.hm_types.specs.declared.id.Obj.{Obj}
 use Rattle.hm_types.specs.declared.object.Object.{Object}
 use Rattle.hm_key.specs.declared.base.Base.{Base}
+use Rattle.hm_key.specs.declared.rec_type.TheConstants.{FILE_BYTES}
 use Rattle.hm_key.specs.Counts.{Content, Counts, Subject, inode_subject, subject_of, target_subject}
 use Rattle.hm_key.specs.Key.{key_of}
 use Rattle.hm_records.specs.Changes.{AgreeButObject, ChangesObject, CountsNothing, HasInode}
+use Rattle.hm_records.specs.Follows.{StillFollow}
 use Rattle.hm_records.specs.Inode.{IsInode, inode_bytes}
 use Rattle.hm_records.specs.Laws.{HasView, linked, with_inode}
 use Rattle.hm_records.specs.Target.{IsTarget}
@@ -19,7 +21,8 @@ use Rattle.hm_records.proofs.MadeLemmas.{directory_made, file_made, inode_change
 use Rattle.hm_records.proofs.ObjectChangeLemmas.{object_added, object_changed, object_gone}
 use Rattle.hm_records.proofs.SubjectLemmas.{apart, but_object_twice}
 use Rattle.hm_cursor.specs.Views.{Shows, WritesIn}
-use Rattle.hm_cursor.specs.Write.{IsFreshFor, Rewrites}
+use Rattle.hm_cursor.specs.Write.{FollowWith, IsFreshFor, Rewrites}
+use Rattle.hm_cursor.proofs.FollowLemmas.{adding_follows, closing_follows, follow_twice, renewing_follows}
 use Rattle.hm_cursor.proofs.ViewsLemmas.{fresh_beside, fresh_later, nothing_written, writes_again, writes_within}
 use Rattle.hm_objects.specs.Objects.{AddsObject, ChangesBy, IsGone, IsMissing, IsOfObject, IsOlder, KeepEntries, file_of, inode_of, open_base, softlink_of}
 use Rattle.hm_objects.proofs.NewLemmas.{entries_twice, inode_entries, inode_within, keys_fit, makes_inode, makes_none, makes_target, steady}
@@ -32,14 +35,22 @@ inode_no_target pfs obj = apart (inode_subject pfs obj) (target_subject pfs obj)
 -- ---- the keys of entries fit their names after any of these calls, and each entry counts as before
 
 adds_object : (pfs i : ℕ) (object : Object) (es es' : List FullElement) → WritesIn pfs i (IsOfObject pfs object.number.0 i) es es'
-    → KeepEntries pfs es es' → (IsMissing pfs object.number.0 i es → Shows pfs i (λ tree. with_inode tree object) es es') → AddsObject pfs i object es es'
-adds_object pfs i object es es' writes entries shows =
-    record { writes = writes; shows = shows; fits = keys_fit pfs object.number.0 i es es' writes; entries = entries }
+    → KeepEntries pfs es es' → (IsMissing pfs object.number.0 i es → Shows pfs i (λ tree. with_inode tree object) es es')
+    → (IsMissing pfs object.number.0 i es → StillFollow es es') → AddsObject pfs i object es es'
+adds_object pfs i object es es' writes entries shows follows =
+    record { writes = writes; shows = shows; fits = keys_fit pfs object.number.0 i es es' writes; entries = entries; follows = follows }
 
 changes_object : (pfs obj i : ℕ) (change : FileTree → FileTree) (es es' : List FullElement) → WritesIn pfs i (IsOfObject pfs obj i) es es'
-    → KeepEntries pfs es es' → Shows pfs i change es es' → ChangesBy pfs obj i change es es'
-changes_object pfs obj i change es es' writes entries shows =
-    record { writes = writes; shows = shows; fits = keys_fit pfs obj i es es' writes; entries = entries }
+    → KeepEntries pfs es es' → Shows pfs i change es es' → StillFollow es es' → ChangesBy pfs obj i change es es'
+changes_object pfs obj i change es es' writes entries shows follows =
+    record { writes = writes; shows = shows; fits = keys_fit pfs obj i es es' writes; entries = entries; follows = follows }
+
+-- inodes and targets are no bytes
+pub inode_no_bytes : (pfs obj : ℕ) → (inode_subject pfs obj).rec_type ≢ FILE_BYTES
+inode_no_bytes pfs obj is = absurd (omega (arith, is))
+
+target_no_bytes : (pfs obj : ℕ) → (target_subject pfs obj).rec_type ≢ FILE_BYTES
+target_no_bytes pfs obj is = absurd (omega (arith, is))
 
 -- ---- an object that is added
 
@@ -68,6 +79,8 @@ inode_added pfs i object inode es es' ranges new makes =
     object_added pfs object.number.0 tree (Counts es t) (Counts es' t) has
     (inode_changes pfs object.number.0 (Some (inode_bytes inode)) (Counts es t) (Counts es' t) has.settled (new.present t late))
     object refl (missing t late) (makes t late (inode_there pfs object.number.0 i t inode es es' ranges new late)))
+    (λ missing. adding_follows (inode_subject pfs object.number.0) (Some (inode_bytes inode)) i es es' (inode_no_bytes pfs object.number.0)
+    (missing i (omega arith)) new)
 
 -- the inode of a new object is in range
 inode_ranges : (kind size : ℕ) → (1 ≤ kind) × (kind ≤ 3) → (kind ≡ DIRECTORY → size ≡ 0) → (kind ≡ SOFTLINK → (1 ≤ size) × (size ≤ 1023))
@@ -116,7 +129,21 @@ made_as s kind i base open' bytes text es es' made about is new =
     (subst (λ (u : Subject). Rewrites u (Some bytes) i es es') about
     (subst (λ (b : Base). Rewrites (subject_of (key_of b)) (Some bytes) b.create es es') made new))
 
--- ---- a softlink that is added: its target, and then its inode
+pub follow_as : (s : Subject) (kind i : ℕ) (base open' : Base) (bytes text : List ℕ) (es es' : List FullElement) → open' ≡ open_base base kind i
+    → subject_of (key_of base) ≡ s → bytes ≡ text → FollowWith (subject_of (key_of open')) bytes open'.create es es' → FollowWith s text i es es'
+follow_as s kind i base open' bytes text es es' made about is new =
+    subst (λ (b : List ℕ). FollowWith s b i es es') is
+    (subst (λ (u : Subject). FollowWith u bytes i es es') about
+    (subst (λ (b : Base). FollowWith (subject_of (key_of b)) bytes b.create es es') made new))
+
+-- ---- a softlink that is added: what counted as its target goes, then come its target and its inode
+
+-- what counts of an object is closed
+abbrev pub Closed : Subject → ℕ → List FullElement → List FullElement → Type 0
+Closed s i = Rewrites s None i
+
+none_counts : (bytes : List ℕ) → None ≡ Some bytes → ⊥
+none_counts bytes is = cc
 
 -- no change
 but_object_same : (pfs obj : ℕ) (C : Content) → AgreeButObject pfs obj C C
@@ -139,8 +166,19 @@ pub inode_left : (pfs obj i : ℕ) (now : Option (List ℕ)) (es mid : List Full
 inode_left pfs obj i now es mid rewrites older =
     fresh_beside (target_subject pfs obj) (inode_subject pfs obj) now i i es mid rewrites (inode_no_target pfs obj) older.inode
 
-module _ (pfs i : ℕ) (number : Obj) (text : List ℕ) (es mid es' : List FullElement) (target : IsTarget text)
-    (first : NewTarget pfs number.0 i text es mid) (second : NewInode pfs number.0 i (inode_of SOFTLINK (length text)) mid es') where
+-- so it is after a target went and another came
+pub target_left : (pfs obj i : ℕ) (now : Option (List ℕ)) (es low mid : List FullElement) → Closed (target_subject pfs obj) i es low
+    → Rewrites (target_subject pfs obj) now i low mid → IsOlder pfs obj i es → IsFreshFor (inode_subject pfs obj) i mid
+target_left pfs obj i now es low mid closed rewrites older =
+    fresh_beside (target_subject pfs obj) (inode_subject pfs obj) now i i low mid rewrites (inode_no_target pfs obj)
+    (inode_left pfs obj i None es low closed older)
+
+module _ (pfs i : ℕ) (number : Obj) (text : List ℕ) (es low mid es' : List FullElement) (target : IsTarget text)
+    (closed : Closed (target_subject pfs number.0) i es low) (first : NewTarget pfs number.0 i text low mid)
+    (second : NewInode pfs number.0 i (inode_of SOFTLINK (length text)) mid es') where
+  abbrev s_inode : List ℕ
+  s_inode = inode_bytes (inode_of SOFTLINK (length text))
+
   -- both count
   softlink_there : (t : ℕ) → i ≤ t → IsObject (Counts es' t) pfs (softlink_of number text)
   softlink_there t late =
@@ -151,33 +189,52 @@ module _ (pfs i : ℕ) (number : Obj) (text : List ℕ) (es mid es' : List FullE
 
   softlink_changes : (t : ℕ) (tree : FileTree) → i ≤ t → HasView (Counts es t) pfs tree → ChangesObject pfs number.0 (Counts es t) (Counts es' t)
   softlink_changes t tree late has =
-      let one : ChangesObject pfs number.0 (Counts es t) (Counts mid t) =
-      target_changes pfs number.0 (Some text) (Counts es t) (Counts mid t) has.settled (first.present t late) in
-      joined pfs number.0 (Counts es t) (Counts mid t) (Counts es' t) one
-      (inode_changes pfs number.0 (Some (inode_bytes (inode_of SOFTLINK (length text)))) (Counts mid t) (Counts es' t) one.settled (second.present t late))
+      let none : ChangesObject pfs number.0 (Counts es t) (Counts low t) =
+      target_changes pfs number.0 None (Counts es t) (Counts low t) has.settled (closed.present t late) in
+      let one : ChangesObject pfs number.0 (Counts low t) (Counts mid t) =
+      target_changes pfs number.0 (Some text) (Counts low t) (Counts mid t) none.settled (first.present t late) in
+      joined pfs number.0 (Counts es t) (Counts low t) (Counts es' t) none
+      (joined pfs number.0 (Counts low t) (Counts mid t) (Counts es' t) one
+      (inode_changes pfs number.0 (Some s_inode) (Counts mid t) (Counts es' t) one.settled (second.present t late)))
+
+  -- no inode counts after what was done to the target
+  still_missing : IsMissing pfs number.0 i es → CountsNothing (Counts mid i) (inode_subject pfs number.0)
+  still_missing missing bytes there =
+      missing i (omega arith) bytes
+      (((closed.present i (omega arith)).elsewhere (inode_subject pfs number.0) bytes (inode_no_target pfs number.0)).0
+      (((first.present i (omega arith)).elsewhere (inode_subject pfs number.0) bytes (inode_no_target pfs number.0)).0 there))
+
+  softlink_follows : IsMissing pfs number.0 i es → StillFollow es es'
+  softlink_follows missing =
+      follow_twice es low es' (closing_follows (target_subject pfs number.0) i es low closed)
+      (follow_twice low mid es'
+      (adding_follows (target_subject pfs number.0) (Some text) i low mid (target_no_bytes pfs number.0)
+      (λ bytes there. none_counts bytes (((closed.present i (omega arith)).about bytes).0 there)) first)
+      (adding_follows (inode_subject pfs number.0) (Some s_inode) i mid es' (inode_no_bytes pfs number.0) (still_missing missing) second))
+
+  target_writes : WritesIn pfs i (IsOfObject pfs number.0 i) es mid
+  target_writes =
+      writes_again pfs i (IsOfObject pfs number.0 i) es low mid (steady pfs number.0 i)
+      (writes_within pfs i (target_subject pfs number.0) None (IsOfObject pfs number.0 i) es low (target_within pfs number.0)
+      (makes_none (target_subject pfs number.0) i (IsOfObject pfs number.0 i)) closed)
+      (writes_within pfs i (target_subject pfs number.0) (Some text) (IsOfObject pfs number.0 i) low mid (target_within pfs number.0)
+      (makes_target pfs number.0 i text target) first)
 
   pub softlink_added : AddsObject pfs i (softlink_of number text) es es'
   softlink_added =
       adds_object pfs i (softlink_of number text) es es'
-      (writes_again pfs i (IsOfObject pfs number.0 i) es mid es' (steady pfs number.0 i)
-      (writes_within pfs i (target_subject pfs number.0) (Some text) (IsOfObject pfs number.0 i) es mid (target_within pfs number.0)
-      (makes_target pfs number.0 i text target) first)
-      (writes_within pfs i (inode_subject pfs number.0) (Some (inode_bytes (inode_of SOFTLINK (length text)))) (IsOfObject pfs number.0 i) mid es'
+      (writes_again pfs i (IsOfObject pfs number.0 i) es mid es' (steady pfs number.0 i) target_writes
+      (writes_within pfs i (inode_subject pfs number.0) (Some s_inode) (IsOfObject pfs number.0 i) mid es'
       (inode_within pfs number.0) (makes_inode pfs number.0 i (inode_of SOFTLINK (length text)) (softlink_inode text target)) second))
-      (entries_twice pfs es mid es' (target_entries pfs number.0 i (Some text) es mid first)
-      (inode_entries pfs number.0 i (Some (inode_bytes (inode_of SOFTLINK (length text)))) mid es' second))
+      (entries_twice pfs es low es' (target_entries pfs number.0 i None es low closed)
+      (entries_twice pfs low mid es' (target_entries pfs number.0 i (Some text) low mid first)
+      (inode_entries pfs number.0 i (Some s_inode) mid es' second)))
       (λ missing t tree late has.
       object_added pfs number.0 tree (Counts es t) (Counts es' t) has (softlink_changes t tree late has) (softlink_of number text) refl
       (missing t late) (softlink_there t late))
+      softlink_follows
 
 -- ---- an object that goes: its target, and then its inode
-
--- what counts of an object is closed
-abbrev pub Closed : Subject → ℕ → List FullElement → List FullElement → Type 0
-Closed s i = Rewrites s None i
-
-none_counts : (bytes : List ℕ) → None ≡ Some bytes → ⊥
-none_counts bytes is = cc
 
 module _ (pfs i : ℕ) (number : Obj) (es mid es' : List FullElement) (first : Closed (target_subject pfs number.0) i es mid)
     (second : Closed (inode_subject pfs number.0) i mid es') where
@@ -200,6 +257,8 @@ module _ (pfs i : ℕ) (number : Obj) (es mid es' : List FullElement) (first : C
       (λ t tree late has.
       object_gone pfs number.0 tree (Counts es t) (Counts es' t) has (removal_changes t tree late has)
       (λ bytes there. none_counts bytes (((second.present t late).about bytes).0 there)))
+      (follow_twice es mid es' (closing_follows (target_subject pfs number.0) i es mid first)
+      (closing_follows (inode_subject pfs number.0) i mid es' second))
 
   -- neither of them counts
   pub object_closed : IsGone pfs number.0 i es'
@@ -221,7 +280,8 @@ links_of_none pfs i number links es fresh none =
     (λ t directory key bytes. (λ h. h, λ h. h))
     (λ t tree late has.
     object_changed pfs number.0 tree (Counts es t) (Counts es t) has (record { agree = but_object_same pfs number.0 (Counts es t); settled = has.settled })
-    (with_links links) (λ o. refl) (λ o same is. absurd (missing t late o same is)) (λ o same is. absurd (missing t late o same is))) where
+    (with_links links) (λ o. refl) (λ o same is. absurd (missing t late o same is)) (λ o same is. absurd (missing t late o same is)))
+    (λ other t follow. follow) where
       missing : (t : ℕ) → i ≤ t → (o : Object) → o.number.0 ≡ number.0 → IsObject (Counts es t) pfs o → ⊥
       missing t late o same is =
           none (inode_bytes is.inode)
@@ -242,8 +302,9 @@ linked_ranges links inode small ranges = record {
 pub links_given : (pfs i : ℕ) (number : Obj) (links : ℕ) (inode : Inode) (es es' : List FullElement)
     → IsFreshFor (inode_subject pfs number.0) i es
     → HasInode (Counts es i) pfs number.0 inode → links < 2 ^ 32 → NewInode pfs number.0 i (linked links inode) es es'
+    → FollowWith (inode_subject pfs number.0) (inode_bytes (linked links inode)) i es es'
     → ChangesBy pfs number.0 i (λ tree. with_change tree number (with_links links)) es es'
-links_given pfs i number links inode es es' fresh there small new =
+links_given pfs i number links inode es es' fresh there small new follows =
     changes_object pfs number.0 i (λ tree. with_change tree number (with_links links)) es es'
     (writes_within pfs i (inode_subject pfs number.0) (Some (inode_bytes (linked links inode))) (IsOfObject pfs number.0 i) es es'
     (inode_within pfs number.0) (makes_inode pfs number.0 i (linked links inode) (linked_ranges links inode small there.ranges)) new)
@@ -252,3 +313,4 @@ links_given pfs i number links inode es es' fresh there small new =
     links_changed pfs number.0 links inode tree (Counts es t) (Counts es' t) has
     (record { ranges = there.ranges; there = (fresh_later (inode_subject pfs number.0) i t es (inode_bytes inode) fresh late).1 there.there })
     small (new.present t late))
+    (renewing_follows (inode_subject pfs number.0) (inode_bytes (linked links inode)) i es es' (inode_no_bytes pfs number.0) follows)

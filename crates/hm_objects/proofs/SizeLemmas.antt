@@ -1,21 +1,22 @@
 -- What another size of a file does to what counts.
 use Rattle.std.proofs.Common.{◌≡◌, ◌≢◌, ℕ, ◌^◌, ◌<◌, ◌≤◌, List, refl, sym, ap, subst, ◌∙◌, inl, inr, arith}
-use Rattle.std.specs.Prelude.{◌↔◌, Some}
+use Rattle.std.specs.Prelude.{Some}
 use Rattle.std.proofs.lemmas.Bool.{cases_lt}
 use Rattle.hm_types.specs.Elements.{FullElement}
 use Rattle.hm_types.specs.declared.id.Obj.{Obj}
-use Rattle.hm_key.specs.Counts.{Counts, Subject, inode_subject}
+use Rattle.hm_key.specs.Counts.{Counts, inode_subject}
 use Rattle.hm_records.specs.Changes.{CountsNothing, HasInode, IsSettled}
 use Rattle.hm_records.specs.Inode.{IsInode, inode_bytes}
 use Rattle.hm_records.specs.declared.inode.Inode.{Inode}
 use Rattle.hm_records.specs.declared.kind.TheConstants.{FILE}
 use Rattle.hm_records.proofs.ObjectLemmas.{inode_one}
 use Rattle.hm_cursor.specs.Views.{WritesIn}
-use Rattle.hm_cursor.specs.Write.{IsFreshFor}
+use Rattle.hm_cursor.specs.Write.{FollowWith, IsFreshFor}
+use Rattle.hm_cursor.proofs.FollowLemmas.{renewing_follows}
 use Rattle.hm_cursor.proofs.ViewsLemmas.{fresh_later, nothing_written, writes_within}
 use Rattle.hm_objects.specs.Objects.{IsOfObject, ResizesObject, sized}
 use Rattle.hm_objects.proofs.NewLemmas.{inode_within, keys_fit, makes_inode}
-use Rattle.hm_objects.proofs.ShownLemmas.{NewInode}
+use Rattle.hm_objects.proofs.ShownLemmas.{NewInode, inode_no_bytes}
 
 -- any size of a file is in range
 pub sized_ranges : (size : ℕ) (inode : Inode) → size < 2 ^ 64 → inode.kind ≡ FILE → IsInode inode → IsInode (sized size inode)
@@ -41,6 +42,7 @@ module _ (pfs i : ℕ) (number : Obj) (size : ℕ) (es : List FullElement) (fres
     inode = λ t inode late settled has kind. absurd (none t inode late settled has kind);
     beside = λ t s bytes differ. (λ h. h, λ h. h);
     fits = λ hash keys. keys;
+    follows = λ other t follow. follow;
   }
 
   pub size_of_none : CountsNothing (Counts es i) (inode_subject pfs number.0) → ResizesObject pfs number.0 i size es es
@@ -61,8 +63,8 @@ module _ (pfs i : ℕ) (number : Obj) (size : ℕ) (es : List FullElement) (fres
         left (λ t inode late settled has kind. other (ap (λ (n : Inode). n.kind) (sym (same_one t inode late settled has)) ∙ kind))
 
     pub size_given : old.kind ≡ FILE → size < 2 ^ 64 → (es' : List FullElement) → NewInode pfs number.0 i (sized size old) es es'
-        → ResizesObject pfs number.0 i size es es'
-    size_given kind small es' new = record {
+        → FollowWith (inode_subject pfs number.0) (inode_bytes (sized size old)) i es es' → ResizesObject pfs number.0 i size es es'
+    size_given kind small es' new follows = record {
       writes = writes;
       inode = λ t inode late settled has is.
           subst (λ (n : Inode). HasInode (Counts es' t) pfs number.0 (sized size n)) (sym (same_one t inode late settled has))
@@ -72,6 +74,7 @@ module _ (pfs i : ℕ) (number : Obj) (size : ℕ) (es : List FullElement) (fres
         | inr not ↦ (new.present t (omega (arith, not))).elsewhere s bytes differ
       ];
       fits = keys_fit pfs number.0 i es es' writes;
+      follows = renewing_follows (inode_subject pfs number.0) (inode_bytes (sized size old)) i es es' (inode_no_bytes pfs number.0) follows;
     } where
       ranges : IsInode (sized size old)
       ranges = sized_ranges size old small kind there.ranges

@@ -18,6 +18,7 @@ use Rattle.hm_key.specs.declared.base.Base.{Base}
 use Rattle.hm_key.specs.declared.base.TheConstants.{ELEMENT}
 use Rattle.hm_key.specs.declared.element.Element.{Element}
 use Rattle.hm_records.specs.Changes.{CountsNothing, HasInode, IsSettled}
+use Rattle.hm_records.specs.Follows.{StillFollow}
 use Rattle.hm_records.specs.KeysFit.{KeysFit}
 use Rattle.hm_records.specs.Laws.{with_inode}
 use Rattle.hm_records.specs.Payload.{IsPayload}
@@ -84,32 +85,36 @@ KeepEntries pfs es es' =
     (t directory key : ℕ) (bytes : List ℕ) → Counts es' t (entry_subject pfs directory key) bytes ↔ Counts es t (entry_subject pfs directory key) bytes
 
 -- An object is added by `i`: where it had no inode, the tree gets it, and no name leads to it yet. The keys of entries
--- stay fit, and each entry counts as it did, those that no tree shows too.
+-- stay fit, and each entry counts as it did, those that no tree shows too. What followed before follows still.
 pub record AddsObject (pfs i : ℕ) (object : Object) (es es' : List FullElement) : Type 0 where
   pub writes : WritesIn pfs i (IsOfObject pfs object.number.0 i) es es'
   pub shows : IsMissing pfs object.number.0 i es → Shows pfs i (λ tree. with_inode tree object) es es'
   pub fits : (hash : List ℕ → ℕ) → KeysFit hash es → KeysFit hash es'
   pub entries : KeepEntries pfs es es'
+  pub follows : IsMissing pfs object.number.0 i es → StillFollow es es'
 
--- An object is changed by `i`, and the tree with it. The keys of entries stay fit, and each entry counts as it did.
+-- An object is changed by `i`, and the tree with it. The keys of entries stay fit, and each entry counts as it did. What
+-- followed before follows still.
 pub record ChangesBy (pfs obj i : ℕ) (change : FileTree → FileTree) (es es' : List FullElement) : Type 0 where
   pub writes : WritesIn pfs i (IsOfObject pfs obj i) es es'
   pub shows : Shows pfs i change es es'
   pub fits : (hash : List ℕ → ℕ) → KeysFit hash es → KeysFit hash es'
   pub entries : KeepEntries pfs es es'
+  pub follows : StillFollow es es'
 
 -- an inode with another size
 abbrev pub sized : ℕ → Inode → Inode
 sized size inode = record inode { size = size }
 
 -- A file gets another size by `i`: the inode that it has counts with that size from then on, and all else counts as before.
--- The keys of entries stay fit.
+-- The keys of entries stay fit, and what followed before follows still.
 pub record ResizesObject (pfs obj i size : ℕ) (es es' : List FullElement) : Type 0 where
   pub writes : WritesIn pfs i (IsOfObject pfs obj i) es es'
   pub inode : (t : ℕ) (inode : Inode) → i ≤ t → IsSettled (Counts es t) → HasInode (Counts es t) pfs obj inode → inode.kind ≡ FILE
       → HasInode (Counts es' t) pfs obj (sized size inode)
   pub beside : (t : ℕ) (s : Subject) (bytes : List ℕ) → s ≢ inode_subject pfs obj → Counts es' t s bytes ↔ Counts es t s bytes
   pub fits : (hash : List ℕ → ℕ) → KeysFit hash es → KeysFit hash es'
+  pub follows : StillFollow es es'
 
 -- room for so many elements, and for so many bytes of their payloads
 pub record HasRooms (room : ℕ → ℕ) (elements bytes : ℕ) : Type 0 where

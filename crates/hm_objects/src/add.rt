@@ -20,7 +20,7 @@ ghost use Rattle.hm_objects.specs.Objects.{
   spent,
 };
 
-use hm_cursor::{add_version, inode_base, target_base};
+use hm_cursor::{add_version, close_versions, inode_base, target_base};
 use hm_key::{Base, ELEMENT, ElementStore, Extents, HasElements, HasRoom};
 use hm_records::{DIRECTORY, FILE, Inode, SOFTLINK, encode_inode};
 use hm_types::{Counted, Fault, Id, META_ZONE, Obj, Pfs, Text};
@@ -78,7 +78,8 @@ pub fn add_file<T: ElementStore + Extents>(
     add_inode(alloc, store, pfs, number, &new_inode(FILE, 0), id)
 }
 
-/// Adds a softlink with a target of 1 to 1,023 bytes, as `add_directory` adds a directory. It takes
+/// Adds a softlink with a target of 1 to 1,023 bytes, as `add_directory` adds a directory. What a
+/// list that no call wrote has for a target under the number is closed, which takes a search. It takes
 /// at most 81,920 bytes of zone 8, and 32 of zone 9 besides those of the target.
 pub fn add_softlink<T: ElementStore + Extents>(
     alloc: Global,
@@ -105,6 +106,7 @@ pub fn add_softlink<T: ElementStore + Extents>(
         (T.faults store.old) (T.faults store.new) result }
 {
     let base = made_by(target_base(pfs, number), SOFTLINK, id);
+    close_versions(store, &base, id)?;
     add_version(store, &base, META_ZONE, target.bytes())?;
     let inode = new_inode(SOFTLINK, target.bytes().len() as u64);
     add_inode(alloc, store, pfs, number, &inode, id)

@@ -1,19 +1,19 @@
 -- Versions that follow one another: what counts is what is seen, and what is not seen is not missed.
-use Rattle.std.proofs.Common.{◌≡◌, ◌∙◌, ℕ, ◌<◌, ◌≤◌, List, ap, sym, subst, inl, inr, arith}
+use Rattle.std.proofs.Common.{◌≡◌, ◌∙◌, ℕ, ◌≤◌, List, sym, inl, inr, arith}
 use Rattle.std.specs.Prelude.{◌↔◌, ◌⊎◌}
 use Rattle.std.specs.List.{Contains}
 use Rattle.std.proofs.lemmas.Bool.{cases_lt}
 use Rattle.hm_types.specs.Elements.{FullElement}
 use Rattle.hm_types.specs.Intervals.{Keeps}
 use Rattle.hm_types.specs.Tree.{FileTree}
-use Rattle.hm_types.specs.declared.id.Obj.{Obj}
 use Rattle.hm_key.specs.Counts.{Counts, IsSeen, Subject, bytes_subject, entry_subject, inode_subject, subject_of, target_subject}
 use Rattle.hm_key.specs.Versions.{HaveOwnKeys}
 use Rattle.hm_records.specs.Entry.{entry_bytes}
 use Rattle.hm_records.specs.Follows.{Follows, IsAbove, IsSeenWith, LosesDead, LosesUnseen, VersionsFollow, of_bytes, of_entry, of_inode, of_target}
-use Rattle.hm_records.specs.View.{HasEntry, IsViewOf}
+use Rattle.hm_records.specs.View.{IsViewOf}
 use Rattle.hm_records.proofs.ChangeLemmas.{not_closed}
 use Rattle.hm_records.proofs.CountsLemmas.{same_key}
+use Rattle.hm_records.proofs.MeetLemmas.{follows_versions}
 use Rattle.hm_records.proofs.ViewLemmas.{view_kept}
 
 -- what is seen is the newest that was made by then
@@ -46,7 +46,10 @@ seen_once s t u es x y own follow within has has' about about' seen seen' =
     own x y has has' (same_key x.key y.key (about ∙ sym about') (omega (arith, below, above)))
 
 pub follows_still : (pfs t : ℕ) (es es' : List FullElement) → ((x : FullElement) → Contains es' x → Contains es x) → Follows pfs t es → Follows pfs t es'
-follows_still pfs t es es' kept follow s is old new has has' = follow s is old new (kept old has) (kept new has')
+follows_still pfs t es es' kept follow = record {
+  closed = λ old new has has'. follow.closed old new (kept old has) (kept new has');
+  one = λ a b has has'. follow.one a b (kept a has) (kept b has');
+}
 
 module _ (pfs t u : ℕ) (es es' : List FullElement) (loses : LosesUnseen u es es') (follow : Follows pfs t es) (within : u ≤ t) where
   -- for what follows the same counts
@@ -59,17 +62,21 @@ module _ (pfs t u : ℕ) (es es' : List FullElement) (loses : LosesUnseen u es e
   )
 
   same_inode : (obj : ℕ) (bytes : List ℕ) → Counts es' u (inode_subject pfs obj) bytes ↔ Counts es u (inode_subject pfs obj) bytes
-  same_inode obj = same_counts (inode_subject pfs obj) (follow (inode_subject pfs obj) (of_inode obj (λ i. inode_subject pfs obj)))
+  same_inode obj =
+      same_counts (inode_subject pfs obj) (follows_versions pfs t es follow (inode_subject pfs obj) (of_inode obj (λ i. inode_subject pfs obj)))
 
   same_bytes : (obj end : ℕ) (bytes : List ℕ) → Counts es' u (bytes_subject pfs obj end) bytes ↔ Counts es u (bytes_subject pfs obj end) bytes
-  same_bytes obj end = same_counts (bytes_subject pfs obj end) (follow (bytes_subject pfs obj end) (of_bytes obj end (λ i. bytes_subject pfs obj end)))
+  same_bytes obj end =
+      same_counts (bytes_subject pfs obj end) (follows_versions pfs t es follow (bytes_subject pfs obj end) (of_bytes obj end (λ i. bytes_subject pfs obj end)))
 
   same_target : (obj : ℕ) (bytes : List ℕ) → Counts es' u (target_subject pfs obj) bytes ↔ Counts es u (target_subject pfs obj) bytes
-  same_target obj = same_counts (target_subject pfs obj) (follow (target_subject pfs obj) (of_target obj (λ i. target_subject pfs obj)))
+  same_target obj =
+      same_counts (target_subject pfs obj) (follows_versions pfs t es follow (target_subject pfs obj) (of_target obj (λ i. target_subject pfs obj)))
 
   same_entry : (directory key : ℕ) (bytes : List ℕ) → Counts es' u (entry_subject pfs directory key) bytes ↔ Counts es u (entry_subject pfs directory key) bytes
   same_entry directory key =
-      same_counts (entry_subject pfs directory key) (follow (entry_subject pfs directory key) (of_entry directory key (λ i. entry_subject pfs directory key)))
+      same_counts (entry_subject pfs directory key)
+      (follows_versions pfs t es follow (entry_subject pfs directory key) (of_entry directory key (λ i. entry_subject pfs directory key)))
 
   unseen_on : (tree : FileTree) → IsViewOf es pfs u tree → IsViewOf es' pfs u tree
   unseen_on tree = view_kept pfs tree (Counts es u) (Counts es' u)

@@ -11,6 +11,7 @@ pub mod ObjectLemmas
 pub mod ViewLemmas
 pub mod CountsLemmas
 pub mod ChangeLemmas
+pub mod MeetLemmas
 pub mod SubjectLemmas
 pub mod NameLemmas
 pub mod EntryChangeLemmas

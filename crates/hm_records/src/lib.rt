@@ -34,5 +34,5 @@ pub use views::{
     objects_in_views_are_those_of_inodes, records_are_what_counts_last,
     replaced_versions_count_no_more, targets_and_bytes_need_their_inodes,
     trees_are_of_their_own_elements, views_are_one, what_counts_decides,
-    what_follows_counts_where_it_is_seen, what_goes_unseen_is_not_missed,
+    what_follows_counts_where_it_is_seen, what_follows_goes_on, what_goes_unseen_is_not_missed,
 };

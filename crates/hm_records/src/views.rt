@@ -17,7 +17,9 @@ pub use changes::{
 pub use contents::{
     keys_settle_what_counts, records_are_what_counts_last, views_are_one, what_counts_decides,
 };
-pub use follow::{what_follows_counts_where_it_is_seen, what_goes_unseen_is_not_missed};
+pub use follow::{
+    what_follows_counts_where_it_is_seen, what_follows_goes_on, what_goes_unseen_is_not_missed,
+};
 pub use inodes::{
     changes_of_one_object_join, inodes_bytes_and_targets_are_of_one_object, inodes_make_objects,
 };

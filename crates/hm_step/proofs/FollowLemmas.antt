@@ -7,7 +7,8 @@ use Rattle.hm_key.specs.Counts.{Subject, inodes_of, others_of, subject_of}
 use Rattle.hm_key.specs.Element.{pfs_of}
 use Rattle.hm_key.specs.declared.rec_type.TheConstants.{PFS_RECORD}
 use Rattle.hm_model.specs.Volume.{Volume, shown_id}
-use Rattle.hm_records.specs.Follows.{Follows, IsOf, of_bytes, of_entry, of_inode, of_target}
+use Rattle.hm_records.specs.Follows.{Follows, IsOf, Meet, of_bytes, of_entry, of_inode, of_target}
+use Rattle.hm_records.proofs.MeetLemmas.{follows_later as made_later, meet_back, meet_of}
 use Rattle.hm_image.specs.StandFor.{StandFor}
 use Rattle.hm_step.specs.Pruned.{FollowIn, StandAfter}
 use Rattle.hm_step.specs.Step.{drawn}
@@ -39,22 +40,33 @@ of_no_record pfs s (of_entry directory key is) type = absurd (omega (arith, type
 -- elements of a PFS that were there before
 pub follows_where : (pfs t : ℕ) (es es' : List FullElement) → ((x : FullElement) → Contains es' x → IsOf pfs (subject_of x.key) → Contains es x)
     → Follows pfs t es → Follows pfs t es'
-follows_where pfs t es es' there follow s of old new has has' about about' =
-    follow s of old new (there old has (subst (IsOf pfs) (sym about) of)) (there new has' (subst (IsOf pfs) (sym about') of)) about about'
+follows_where pfs t es es' there follow = record {
+  closed = λ old new has has' meet. follow.closed old new (first old new has meet) (second old new has' meet) meet;
+  one = λ a b has has' meet. follow.one a b (first a b has meet) (second a b has' meet) meet;
+} where
+  first : (a b : FullElement) → Contains es' a → Meet pfs a b → Contains es a
+  first a b has meet = there a has (meet_of pfs a b meet)
+
+  second : (a b : FullElement) → Contains es' b → Meet pfs a b → Contains es b
+  second a b has meet = there b has (meet_of pfs b a (meet_back pfs a b meet))
 
 -- elements of which one alone may have versions
 pub follows_one : (pfs t : ℕ) (es : List FullElement)
     → ((x y : FullElement) → Contains es x → Contains es y → IsOf pfs (subject_of x.key) → IsOf pfs (subject_of y.key) → x.key ≡ y.key) → Follows pfs t es
-follows_one pfs t es one s of old new has has' about about' older made =
-    let same = one old new has has' (subst (IsOf pfs) (sym about) of) (subst (IsOf pfs) (sym about') of) in
-    absurd (omega (arith, older, ap (λ (k : Key). k.create) same))
+follows_one pfs t es one = record {
+  closed = λ old new has has' meet older made. absurd (omega (arith, older, ap (λ (k : Key). k.create) (same old new has has' meet)));
+  one = λ a b has has' meet created made. same a b has has' meet;
+} where
+  same : (a b : FullElement) → Contains es a → Contains es b → Meet pfs a b → a.key ≡ b.key
+  same a b has has' meet = one a b has has' (meet_of pfs a b meet) (meet_of pfs b a (meet_back pfs a b meet))
 
 -- ids by which nothing more was made
 pub follows_later : (pfs t u : ℕ) (es : List FullElement)
     → ((x : FullElement) → Contains es x → pfs_of x.key.localization ≡ pfs → x.key.create ≤ t) → Follows pfs t es → Follows pfs u es
-follows_later pfs t u es made follow s of old new has has' about about' older early =
-    let here = ap (λ (z : Subject). pfs_of z.localization) about' ∙ of_place pfs s of in
-    follow s of old new has has' about about' older (made new has' here)
+follows_later pfs t u es made = made_later pfs t u es (λ x has place. made x has (elim place [
+  | inl is ↦ ap pfs_of is ∙ inodes_named pfs
+  | inr is ↦ ap pfs_of is ∙ others_named pfs
+]))
 
 module _ (es : List FullElement) (volume : Volume) (stand : StandFor es volume) where
   -- a master's elements were all made by the last id

@@ -11,12 +11,13 @@ use Rattle.hm_key.specs.Counts.{Counts, IsRecordOf, IsSeen, Subject, bytes_subje
 use Rattle.hm_key.specs.Element.{pfs_of}
 use Rattle.hm_model.specs.Volume.{PseudoFileSystem, Volume, at, shown_id, system_of}
 use Rattle.hm_records.specs.Entry.{entry_bytes}
-use Rattle.hm_records.specs.Follows.{Follows, IsAbove, VersionsFollow, of_bytes, of_entry, of_inode, of_target}
+use Rattle.hm_records.specs.Follows.{Follows, IsAbove, IsOf, VersionsFollow, of_bytes, of_entry, of_inode, of_target}
 use Rattle.hm_records.specs.Payload.{IsPayload}
 use Rattle.hm_records.specs.PfsRecord.{pfs_bytes}
 use Rattle.hm_records.specs.View.{IsViewOf}
 use Rattle.hm_records.specs.declared.pfs_record.PfsRecord.{PfsRecord}
 use Rattle.hm_records.proofs.FollowLemmas.{follows_counts, follows_still}
+use Rattle.hm_records.proofs.MeetLemmas.{follows_versions}
 use Rattle.hm_records.proofs.MemberLemmas.{All-from_has, has_cases, has_head, has_tail}
 use Rattle.hm_records.proofs.ViewLemmas.{view_kept}
 use Rattle.hm_volume.specs.Records.{HasRecord, HaveRecords, IsRecordFor}
@@ -109,19 +110,22 @@ module _ (kept : ℕ → Option (List (ℕ × ℕ))) (es es' : List FullElement)
           }),
     )
 
+    versions : (subject : Subject) → IsOf pfs subject → VersionsFollow subject until es
+    versions = follows_versions pfs until es follow
+
     same_inode : (obj : ℕ) (bytes : List ℕ) → Counts es' t (inode_subject pfs obj) bytes ↔ Counts es t (inode_subject pfs obj) bytes
-    same_inode obj = same_counts (inode_subject pfs obj) (omega arith) (follow (inode_subject pfs obj) (of_inode obj refl))
+    same_inode obj = same_counts (inode_subject pfs obj) (omega arith) (versions (inode_subject pfs obj) (of_inode obj refl))
 
     same_bytes : (obj end : ℕ) (bytes : List ℕ) → Counts es' t (bytes_subject pfs obj end) bytes ↔ Counts es t (bytes_subject pfs obj end) bytes
-    same_bytes obj end = same_counts (bytes_subject pfs obj end) (omega arith) (follow (bytes_subject pfs obj end) (of_bytes obj end refl))
+    same_bytes obj end = same_counts (bytes_subject pfs obj end) (omega arith) (versions (bytes_subject pfs obj end) (of_bytes obj end refl))
 
     same_target : (obj : ℕ) (bytes : List ℕ) → Counts es' t (target_subject pfs obj) bytes ↔ Counts es t (target_subject pfs obj) bytes
-    same_target obj = same_counts (target_subject pfs obj) (omega arith) (follow (target_subject pfs obj) (of_target obj refl))
+    same_target obj = same_counts (target_subject pfs obj) (omega arith) (versions (target_subject pfs obj) (of_target obj refl))
 
     same_entry : (directory key : ℕ) (bytes : List ℕ)
         → Counts es' t (entry_subject pfs directory key) bytes ↔ Counts es t (entry_subject pfs directory key) bytes
     same_entry directory key =
-        same_counts (entry_subject pfs directory key) (omega arith) (follow (entry_subject pfs directory key) (of_entry directory key refl))
+        same_counts (entry_subject pfs directory key) (omega arith) (versions (entry_subject pfs directory key) (of_entry directory key refl))
 
     view_left : (tree : FileTree) → IsViewOf es pfs t tree → IsViewOf es' pfs t tree
     view_left tree = view_kept pfs tree (Counts es t) (Counts es' t)

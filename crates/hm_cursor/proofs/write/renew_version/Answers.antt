@@ -2,6 +2,7 @@ use Rattle.std.proofs.Common.{subst}
 use Rattle.hm_key.specs.Counts.{Subject, subject_of}
 use Rattle.hm_key.specs.Key.{key_of}
 use Rattle.hm_cursor.specs.Write.{Writes}
+use Rattle.hm_cursor.proofs.FollowLemmas.{renewed_follow}
 use Rattle.hm_cursor.proofs.RewriteLemmas.{Shuts}
 use Rattle.hm_cursor.proofs.WriteLemmas.{became_closed, fresh_lacks_closed, renewed_closed, renewed_ok, still_balanced, there_older}
 use Rattle.hm_cursor.proofs.write.renew_version.Goals as goal
@@ -50,3 +51,17 @@ returns-clause-closed g c =
     renewed_closed es xs at c.args.base.now c.args.bytes.now old mid c.insert_with_payload.new.store c.insert_with_payload.result done.elements
     c.requires.there (g.met.T.ElementStore.sorted mid) (g.met.T.Extents.together mid) c.insert_with_payload.ensures.keeps.elements balanced
     c.insert_with_payload.ensures.ok older
+
+pub returns-clause-follows : goal.returns-clause-follows
+returns-clause-follows g c =
+    let done = c.in_ok-close_older.ensures.ok in
+    let i = c.args.base.now.create in
+    let es = g.T.HasElements.elements in
+    let xs = g.T.HasRoom.extents in
+    let old = c.args.store.now in
+    let mid = c.close_older.new.store in
+    let at = key_of c.args.old.now in
+    let closed = became_closed at i (es old) (es mid) (xs old) (xs mid) done.elements done.extents c.requires.there in
+    let shuts = subst (λ (s : Subject). Writes es xs (Shuts s i) old mid) c.requires.about closed in
+    renewed_follow at c.args.base.now c.args.bytes.now c.requires.about es xs old mid c.insert_with_payload.new.store c.insert_with_payload.result
+    c.requires.fresh c.requires.there shuts c.insert_with_payload.ensures.ok (returns-clause-closed g c)

@@ -1,4 +1,4 @@
-use Rattle.std.proofs.Common.{min, rules, ◌≡◌, ◌+◌, ◌*◌, ◌/◌, ◌<◌, ◌≤◌, ◌-◌, ◌∙◌, drop, length, refl, take, ℕ, arith, subst}
+use Rattle.std.proofs.Common.{min, rules, ◌≡◌, ◌+◌, ◌*◌, ◌/◌, ◌<◌, ◌-◌, ◌∙◌, length, refl, ℕ, arith, subst}
 use Rattle.hm_key.specs.Balance.{IsBalanced}
 use Rattle.hm_key.specs.Elements.{IsContent}
 use Rattle.hm_cursor.specs.Told.{fulls}

@@ -11,11 +11,11 @@ use Rattle.hm_records.specs.declared.inode.Inode.{Inode}
 use Rattle.hm_records.specs.Inode.{IsInode, inode_bytes}
 use Rattle.hm_records.specs.Laws.{linked}
 use Rattle.hm_cursor.specs.Told.{Lists, fulls}
-use Rattle.hm_cursor.specs.Write.{HasRoomFor, Rewrites, IsClosedIn}
-use Rattle.hm_cursor.proofs.CallLemmas.{Change, known_both, writes_from, writes_none, writes_so}
+use Rattle.hm_cursor.specs.Write.{FollowWith, HasRoomFor, Rewrites, IsClosedIn}
+use Rattle.hm_cursor.proofs.CallLemmas.{Change, known_both, writes_from, writes_none, writes_ok, writes_so}
 use Rattle.hm_objects.specs.Objects.{ChangesBy, IsInodeMade, IsOlder, spent}
 use Rattle.hm_objects.proofs.NewLemmas.{new_inode}
-use Rattle.hm_objects.proofs.ShownLemmas.{linked_ranges, links_given, links_of_none, made_as}
+use Rattle.hm_objects.proofs.ShownLemmas.{linked_ranges, links_given, links_of_none, follow_as, made_as}
 use Rattle.hm_objects.proofs.SpaceLemmas.{inode_room, inode_spends, spends_from}
 use Rattle.hm_objects.proofs.VersionLemmas.{version_open, none_to_close, version_closed}
 use Rattle.hm_objects.proofs.links.set_links.Goals as goal
@@ -61,7 +61,9 @@ returns-clause-ok g c =
     let Known : Lists → Type 0 = λ lists. IsOlder c.args.pfs.0 c.args.obj.0 c.args.id.0 (fulls lists)
     × IsInodeMade lists c.args.id.0 c.args.pfs.0 c.args.obj.0 c.in_ok-made.field-0 in
     let told = content_of (g.T.HasElements.elements c.args.store.now) (g.T.HasRoom.extents c.args.store.now) in
-    let One : Change = Rewrites (subject_of (key_of c.made_by-base.result)) (Some c.deref.result.now) c.made_by-base.result.create in
+    let New : Change = Rewrites (subject_of (key_of c.made_by-base.result)) (Some c.deref.result.now) c.made_by-base.result.create in
+    let Follow : Change = FollowWith (subject_of (key_of c.made_by-base.result)) c.deref.result.now c.made_by-base.result.create in
+    let One : Change = λ es es'. New es es' × Follow es es' in
     on_ok_weaker c.renew_version.result
     (λ writes. writes_so g.T.HasElements.elements g.T.HasRoom.extents One
     (ChangesBy c.args.pfs.0 c.args.obj.0 c.args.id.0 (λ tree. with_change tree c.args.obj (with_links c.args.links))) Known c.args.store.now
@@ -72,10 +74,14 @@ returns-clause-ok g c =
     (subst (λ (o : Option (Id × Inode)). IsInodeMade was c.args.id.0 c.args.pfs.0 c.args.obj.0 o) c.in-Some.is known.1).0 c.ranges.links.fits
     (made_as (inode_subject c.args.pfs.0 c.args.obj.0) c.in-Some.inode.kind c.args.id.0 c.inode_base.result c.made_by-base.result c.deref.result.now
     (inode_bytes (linked c.args.links c.in-Some.inode)) (fulls was) es' c.made_by-base.ensures c.inode_base.ensures
-    (c.deref.ensures.value ∙ c.in_ok-bytes.ensures) new))
+    (c.deref.ensures.value ∙ c.in_ok-bytes.ensures) new.0)
+    (follow_as (inode_subject c.args.pfs.0 c.args.obj.0) c.in-Some.inode.kind c.args.id.0 c.inode_base.result c.made_by-base.result c.deref.result.now
+    (inode_bytes (linked c.args.links c.in-Some.inode)) (fulls was) es' c.made_by-base.ensures c.inode_base.ensures
+    (c.deref.ensures.value ∙ c.in_ok-bytes.ensures) new.1))
     (writes_from g.T.HasElements.elements g.T.HasRoom.extents One c.args.store.now c.find_made_inode.new.store c.renew_version.new.store
     c.in_ok-made.ensures.keeps.elements c.in_ok-made.ensures.keeps.extents writes))
-    c.renew_version.ensures.ok
+    (writes_ok g.T.HasElements.elements g.T.HasRoom.extents New Follow c.find_made_inode.new.store c.renew_version.new.store c.renew_version.result
+    c.renew_version.ensures.ok c.renew_version.ensures.follows)
 
 pub returns-clause-space : goal.returns-clause-space
 returns-clause-space g c =

@@ -10,11 +10,11 @@ use Rattle.hm_records.specs.declared.inode.Inode.{Inode}
 use Rattle.hm_records.specs.declared.kind.TheConstants.{FILE}
 use Rattle.hm_records.specs.Inode.{IsInode, inode_bytes}
 use Rattle.hm_cursor.specs.Told.{Lists, fulls}
-use Rattle.hm_cursor.specs.Write.{HasRoomFor, Rewrites}
-use Rattle.hm_cursor.proofs.CallLemmas.{Change, known_both, writes_from, writes_none, writes_so}
+use Rattle.hm_cursor.specs.Write.{FollowWith, HasRoomFor, Rewrites}
+use Rattle.hm_cursor.proofs.CallLemmas.{Change, known_both, writes_from, writes_none, writes_ok, writes_so}
 use Rattle.hm_objects.specs.Objects.{IsInodeMade, IsOlder, ResizesObject, sized, spent}
 use Rattle.hm_objects.proofs.NewLemmas.{new_inode}
-use Rattle.hm_objects.proofs.ShownLemmas.{made_as}
+use Rattle.hm_objects.proofs.ShownLemmas.{follow_as, made_as}
 use Rattle.hm_objects.proofs.SizeLemmas.{size_given, size_of_none, size_of_other, sized_ranges}
 use Rattle.hm_objects.proofs.SpaceLemmas.{inode_room, inode_spends, spends_from}
 use Rattle.hm_objects.proofs.VersionLemmas.{version_open}
@@ -74,7 +74,9 @@ returns-clause-ok g c =
     let Known : Lists → Type 0 = λ lists. IsOlder c.args.pfs.0 c.args.obj.0 c.args.id.0 (fulls lists)
     × IsInodeMade lists c.args.id.0 c.args.pfs.0 c.args.obj.0 c.in_ok-made.field-0 in
     let told = content_of (g.T.HasElements.elements c.args.store.now) (g.T.HasRoom.extents c.args.store.now) in
-    let One : Change = Rewrites (subject_of (key_of c.made_by-base.result)) (Some c.deref.result.now) c.made_by-base.result.create in
+    let New : Change = Rewrites (subject_of (key_of c.made_by-base.result)) (Some c.deref.result.now) c.made_by-base.result.create in
+    let Follow : Change = FollowWith (subject_of (key_of c.made_by-base.result)) c.deref.result.now c.made_by-base.result.create in
+    let One : Change = λ es es'. New es es' × Follow es es' in
     on_ok_weaker c.renew_version.result
     (λ writes. writes_so g.T.HasElements.elements g.T.HasRoom.extents One
     (ResizesObject c.args.pfs.0 c.args.obj.0 c.args.id.0 c.args.size) Known c.args.store.now
@@ -86,10 +88,14 @@ returns-clause-ok g c =
     c.ranges.size.fits es'
     (made_as (inode_subject c.args.pfs.0 c.args.obj.0) FILE c.args.id.0 c.inode_base.result c.made_by-base.result c.deref.result.now
     (inode_bytes (sized c.args.size c.in-Some.inode)) (fulls was) es' c.made_by-base.ensures c.inode_base.ensures
-    (c.deref.ensures.value ∙ c.in_ok-bytes.ensures) new))
+    (c.deref.ensures.value ∙ c.in_ok-bytes.ensures) new.0)
+    (follow_as (inode_subject c.args.pfs.0 c.args.obj.0) FILE c.args.id.0 c.inode_base.result c.made_by-base.result c.deref.result.now
+    (inode_bytes (sized c.args.size c.in-Some.inode)) (fulls was) es' c.made_by-base.ensures c.inode_base.ensures
+    (c.deref.ensures.value ∙ c.in_ok-bytes.ensures) new.1))
     (writes_from g.T.HasElements.elements g.T.HasRoom.extents One c.args.store.now c.find_made_inode.new.store c.renew_version.new.store
     c.in_ok-made.ensures.keeps.elements c.in_ok-made.ensures.keeps.extents writes))
-    c.renew_version.ensures.ok
+    (writes_ok g.T.HasElements.elements g.T.HasRoom.extents New Follow c.find_made_inode.new.store c.renew_version.new.store c.renew_version.result
+    c.renew_version.ensures.ok c.renew_version.ensures.follows)
 
 pub returns-clause-space : goal.returns-clause-space
 returns-clause-space g c =

@@ -1,8 +1,4 @@
-use Rattle.std.proofs.Common.{◌≡◌, replicate, refl, length, subst}
 use Rattle.std.specs.Prelude.{slice_index}
-use Rattle.hm_files.specs.Source.{IsSource}
-use Rattle.hm_files.specs.declared.source.Source.{Source}
-use Rattle.hm_files.specs.declared.source.Source.TheVariants.{Filled}
 use Rattle.hm_files.proofs.SpanLemmas.{filled_long, filled_part}
 use Rattle.hm_files.proofs.source.Source.piece.Goals as goal
 
