@@ -19,7 +19,7 @@ use Rattle.hm_model.specs.Change.{new_slave, with_system}
 use Rattle.hm_model.specs.Volume.{PseudoFileSystem, Volume, as_of, at, new_master, shown_id, system_of}
 use Rattle.hm_model.proofs.GrowthLemmas.{found-pushed, found_in, same_or_not}
 use Rattle.hm_model.proofs.NewPfsLemmas.{still_found}
-use Rattle.hm_records.specs.Follows.{Follows}
+use Rattle.hm_records.specs.Follows.{Follows, IsOf}
 use Rattle.hm_records.specs.KeysFit.{KeysFit}
 use Rattle.hm_records.specs.Payload.{IsPayload}
 use Rattle.hm_records.specs.PfsRecord.{IsPfsRecord, pfs_bytes}
@@ -34,8 +34,9 @@ use Rattle.hm_objects.proofs.ShownLemmas.{directory_inode}
 use Rattle.hm_pfs.specs.Systems.{AddsMaster, AddsSlave, AddsSystem, IsUnusedNumber, made_record, made_root, master_record, slave_record}
 use Rattle.hm_image.specs.StandFor.{AreAtMost, AreBegun, AreUpTo, HasIds, HasViews, OnEach, StandFor}
 use Rattle.hm_image.proofs.ListLemmas.{all_one, only_one}
-use Rattle.hm_step.specs.Pruned.{FollowIn, StandAfter}
-use Rattle.hm_step.proofs.FollowLemmas.{inodes_named, of_place, others_named}
+use Rattle.hm_step.specs.Pruned.{FollowIn, HasSystemFor, IsEnough, KeepsEnough, StandAfter}
+use Rattle.hm_step.proofs.FollowLemmas.{follows_one, follows_where, inodes_named, of_no_record, of_place, others_named}
+use Rattle.hm_step.proofs.JobLemmas.{system_for}
 use Rattle.hm_step.proofs.NextLemmas.{system_at}
 
 -- ---- the new elements
@@ -355,24 +356,22 @@ module _ (es es' : List FullElement) (volume : Volume) (pfs i : ℕ) (r : PfsRec
 
     -- ---- versions that follow one another
 
-    -- of the new PFS each subject has one version at most
+    -- the root directory of the new PFS is all that may have versions there
+    the_root : (x : FullElement) → Contains es' x → IsOf pfs (subject_of x.key) → x ≡ made_root pfs i
+    the_root x has of = elim (only_new x has (of_place pfs (subject_of x.key) of)) [
+      | inl root ↦ root
+      | inr made ↦ absurd (of_no_record pfs (subject_of x.key) of (ap (λ (z : FullElement). z.key.rec_type) made))
+    ]
+
     follows_new : (t : ℕ) → Follows pfs t es'
-    follows_new t subject of old young has has' about about' older made =
-        let place = of_place pfs subject of in
-        let first = made_at pfs i r old (only_new old has (ap (λ (s : Subject). pfs_of s.localization) about ∙ place)) in
-        let second = made_at pfs i r young (only_new young has' (ap (λ (s : Subject). pfs_of s.localization) about' ∙ place)) in
-        absurd (omega (arith, older, first, second))
+    follows_new t =
+        follows_one pfs t es' (λ x y has has' of of'. ap (λ (z : FullElement). z.key) (the_root x has of ∙ sym (the_root y has' of')))
 
     follows_still : (other t : ℕ) → other ≢ pfs → Follows other t es → Follows other t es'
-    follows_still other t differ follow subject of old young has has' about about' older made =
-        follow subject of old young (there old has about) (there young has' about') about about' older made where
-          there : (x : FullElement) → Contains es' x → subject_of x.key ≡ subject → Contains es x
-          there x has about = elim (came x has) [
-            | inl new ↦
-                let here = ap (λ (s : Subject). pfs_of s.localization) (sym about) ∙ made_place pfs i r x new in
-                absurd (differ (sym (of_place other subject of) ∙ here))
-            | inr old ↦ old
-          ]
+    follows_still other t differ = follows_where other t es es' (λ x has of. elim (came x has) [
+      | inl new ↦ absurd (differ (sym (of_place other (subject_of x.key) of) ∙ made_place pfs i r x new))
+      | inr old ↦ old
+    ])
 
     follow_added : FollowIn es volume → FollowIn es' after
     follow_added follow =
@@ -381,8 +380,20 @@ module _ (es es' : List FullElement) (volume : Volume) (pfs i : ℕ) (r : PfsRec
         follows_still other (shown_id volume.last s) (is_another volume pfs new none number other s is) (follow other s is clear))
         (λ clear. follows_new (shown_id volume.last new))
 
+    -- what jobs keep is of other numbers
+    jobs_added : (kept : ℕ → Option (List (ℕ × ℕ))) → KeepsEnough kept volume → KeepsEnough kept after
+    jobs_added kept enough = record {
+      within = on_added volume pfs new none number (λ other s. IsEnough (kept other) s.retention) enough.within
+          (by (kept pfs) (enough.of_systems pfs));
+      of_systems = λ other.
+          system_for volume after other (kept other) (λ s is. (s, found_still volume pfs new none number other s is)) (enough.of_systems other);
+    } where
+      by : (o : Option (List (ℕ × ℕ))) → HasSystemFor volume pfs o → IsEnough o new.retention
+      by None there = tt
+      by (Some ids) there = λ t keeps. inr (λ u has. let (s, is) = there u has in absurd (is_another volume pfs new none number pfs s is refl))
+
     after_added : StandAfter es volume es' after
-    after_added = record { stand = stand_added; follow = follow_added }
+    after_added = record { stand = stand_added; follow = follow_added; jobs = jobs_added }
 
 -- ---- a master, and a slave
 

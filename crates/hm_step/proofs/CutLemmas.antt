@@ -1,6 +1,6 @@
 -- Elements stand for a volume still where a PFS has fewer ids to show, and its record says so.
 use Rattle.std.proofs.Common.{◌≡◌, ◌≢◌, ◌∙◌, ℕ, ◌+◌, ◌^◌, ◌≤◌, true, List, [], ◌∷◌, ◌++◌, length, refl, ap, sym, subst, inl, inr, arith}
-use Rattle.std.specs.Prelude.{◌↔◌, ◌⊎◌, Some, option_map}
+use Rattle.std.specs.Prelude.{Option, ◌↔◌, ◌⊎◌, Some, option_map}
 use Rattle.std.specs.List.{All, Contains}
 use Rattle.std.proofs.lemmas.List.Elements.{All-contains, All-head, All-tail}
 use Rattle.hm_types.specs.Elements.{FullElement}
@@ -31,7 +31,8 @@ use Rattle.hm_volume.proofs.RecordLemmas.{system_some}
 use Rattle.hm_pfs.specs.Records.{SetsRecord}
 use Rattle.hm_image.specs.StandFor.{AreAtMost, AreBegun, HasIds, HasViews, OnEach, StandFor}
 use Rattle.hm_step.specs.Cut.{IsCutTo, SetsRecordBy}
-use Rattle.hm_step.specs.Pruned.{FollowIn, StandAfter}
+use Rattle.hm_step.specs.Pruned.{FollowIn, IsEnough, KeepsEnough, StandAfter}
+use Rattle.hm_step.proofs.JobLemmas.{enough_less, system_for}
 use Rattle.hm_step.proofs.KnownLemmas.{record_at}
 use Rattle.hm_step.proofs.NextLemmas.{role_is, shown_of_master, shown_of_slave, system_at}
 use Rattle.hm_step.proofs.RecordLemmas.{other_record, set_fit, set_follows, set_keys, set_names, set_of, set_payloads, set_record, set_up_to, set_view}
@@ -211,8 +212,17 @@ module _ (es es' : List FullElement) (volume : Volume) (pfs : ℕ) (change : Pse
       kept_on : (other t : ℕ) → Follows other t es → Follows other t es'
       kept_on other t = set_follows pfs (pfs_bytes now) es es' sets other t
 
+  -- the PFS keeps no more than before
+  jobs_cut : (told : ℕ → Option (List (ℕ × ℕ))) → KeepsEnough told volume → KeepsEnough told after
+  jobs_cut told enough = record {
+    within = on_cut (λ other s. IsEnough (told other) s.retention) enough.within
+        (enough_less (told pfs) one.retention kept cuts.fewer (enough.within pfs one by_cut.there));
+    of_systems = λ other.
+        system_for volume after other (told other) (λ s is. still_there volume pfs change keeps other s is) (enough.of_systems other);
+  }
+
   pub after_cut : StandAfter es volume es' after
-  after_cut = record { stand = stand_cut; follow = follow_cut }
+  after_cut = record { stand = stand_cut; follow = follow_cut; jobs = jobs_cut }
 
 -- ---- what the prunes cut
 

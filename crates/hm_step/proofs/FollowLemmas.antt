@@ -1,12 +1,14 @@
 -- Elements follow one another still once an id more is drawn.
 use Rattle.std.proofs.Common.{◌≡◌, ◌≢◌, ◌∙◌, ℕ, ◌+◌, ◌<◌, ◌≤◌, List, ap, sym, subst, inl, inr, arith}
-use Rattle.hm_types.specs.Elements.{FullElement}
+use Rattle.std.specs.List.{Contains}
+use Rattle.hm_types.specs.Elements.{FullElement, Key}
 use Rattle.hm_types.specs.declared.limits.TheConstants.{GREATEST_ID}
-use Rattle.hm_key.specs.Counts.{Subject, inodes_of, others_of}
+use Rattle.hm_key.specs.Counts.{Subject, inodes_of, others_of, subject_of}
 use Rattle.hm_key.specs.Element.{pfs_of}
 use Rattle.hm_key.specs.declared.rec_type.TheConstants.{PFS_RECORD}
-use Rattle.hm_model.specs.Volume.{Volume}
-use Rattle.hm_records.specs.Follows.{Follows, IsOf, of_bytes, of_entry, of_inode, of_target}
+use Rattle.hm_model.specs.Volume.{Volume, shown_id}
+use Rattle.hm_records.specs.Follows.{Follows, IsOf, Meet, of_bytes, of_entry, of_inode, of_target}
+use Rattle.hm_records.proofs.MeetLemmas.{follows_later as made_later, meet_back, meet_of}
 use Rattle.hm_image.specs.StandFor.{StandFor}
 use Rattle.hm_step.specs.Pruned.{FollowIn, StandAfter}
 use Rattle.hm_step.specs.Step.{drawn}
@@ -33,21 +35,55 @@ of_no_record pfs s (of_bytes obj end is) type = absurd (omega (arith, type, ap (
 of_no_record pfs s (of_target obj is) type = absurd (omega (arith, type, ap (λ (about : Subject). about.rec_type) is))
 of_no_record pfs s (of_entry directory key is) type = absurd (omega (arith, type, ap (λ (about : Subject). about.rec_type) is))
 
+-- ---- what follows
+
+-- elements of a PFS that were there before
+pub follows_where : (pfs t : ℕ) (es es' : List FullElement) → ((x : FullElement) → Contains es' x → IsOf pfs (subject_of x.key) → Contains es x)
+    → Follows pfs t es → Follows pfs t es'
+follows_where pfs t es es' there follow = record {
+  closed = λ old new has has' meet. follow.closed old new (first old new has meet) (second old new has' meet) meet;
+  one = λ a b has has' meet. follow.one a b (first a b has meet) (second a b has' meet) meet;
+} where
+  first : (a b : FullElement) → Contains es' a → Meet pfs a b → Contains es a
+  first a b has meet = there a has (meet_of pfs a b meet)
+
+  second : (a b : FullElement) → Contains es' b → Meet pfs a b → Contains es b
+  second a b has meet = there b has (meet_of pfs b a (meet_back pfs a b meet))
+
+-- elements of which one alone may have versions
+pub follows_one : (pfs t : ℕ) (es : List FullElement)
+    → ((x y : FullElement) → Contains es x → Contains es y → IsOf pfs (subject_of x.key) → IsOf pfs (subject_of y.key) → x.key ≡ y.key) → Follows pfs t es
+follows_one pfs t es one = record {
+  closed = λ old new has has' meet older made. absurd (omega (arith, older, ap (λ (k : Key). k.create) (same old new has has' meet)));
+  one = λ a b has has' meet created made. same a b has has' meet;
+} where
+  same : (a b : FullElement) → Contains es a → Contains es b → Meet pfs a b → a.key ≡ b.key
+  same a b has has' meet = one a b has has' (meet_of pfs a b meet) (meet_of pfs b a (meet_back pfs a b meet))
+
+-- ids by which nothing more was made
+pub follows_later : (pfs t u : ℕ) (es : List FullElement)
+    → ((x : FullElement) → Contains es x → pfs_of x.key.localization ≡ pfs → x.key.create ≤ t) → Follows pfs t es → Follows pfs u es
+follows_later pfs t u es made = made_later pfs t u es (λ x has place. made x has (elim place [
+  | inl is ↦ ap pfs_of is ∙ inodes_named pfs
+  | inr is ↦ ap pfs_of is ∙ others_named pfs
+]))
+
 module _ (es : List FullElement) (volume : Volume) (stand : StandFor es volume) where
   -- a master's elements were all made by the last id
   follow_next : FollowIn es volume → FollowIn es (drawn (volume.last + 1) volume)
   follow_next follow pfs s is clear = elim (role_is s.role) [
     | inl master ↦
-        subst (λ (t : ℕ). Follows pfs t es) (sym (shown_of_master (volume.last + 1) s master))
-        (λ subject of old new has has' about about' older made.
-        let here : pfs_of new.key.localization ≡ pfs = ap (λ (s : Subject). pfs_of s.localization) about' ∙ of_place pfs subject of in
-        let early : new.key.create ≤ volume.last = ((stand.ids pfs s is).master master).elements.made new has' here in
-        subst (λ (t : ℕ). Follows pfs t es) (shown_of_master volume.last s master) (follow pfs s is clear) subject of old new has has' about about'
-        older early)
+        let made = ((stand.ids pfs s is).master master).elements.made in
+        follows_later pfs (shown_id volume.last s) (shown_id (volume.last + 1) s) es
+        (λ x has here. omega (arith, made x has here, shown_of_master volume.last s master)) (follow pfs s is clear)
     | inr slave ↦
         subst (λ (t : ℕ). Follows pfs t es) (shown_of_slave volume.last s slave ∙ sym (shown_of_slave (volume.last + 1) s slave))
         (follow pfs s is clear)
   ]
 
   pub after_next : volume.last < GREATEST_ID → StandAfter es volume es (drawn (volume.last + 1) volume)
-  after_next left = record { stand = stand_next es volume stand left; follow = follow_next }
+  after_next left = record {
+    stand = stand_next es volume stand left;
+    follow = follow_next;
+    jobs = λ kept enough. record { within = enough.within; of_systems = enough.of_systems };
+  }

@@ -21,6 +21,7 @@ pub mod TreeValueLemmas
 pub mod SubstituteLemmas
 pub mod PrunedLemmas
 pub mod FollowLemmas
+pub mod JobLemmas
 pub mod RecordLemmas
 pub mod CutLemmas
 pub mod AddedLemmas

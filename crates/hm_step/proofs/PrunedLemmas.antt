@@ -110,8 +110,8 @@ module _ (kept : ℕ → Option (List (ℕ × ℕ))) (es es' : List FullElement)
           }),
     )
 
-    versions : (subject : Subject) → IsOf pfs subject → VersionsFollow subject volume.last es
-    versions = follows_versions pfs volume.last es follow
+    versions : (subject : Subject) → IsOf pfs subject → VersionsFollow subject until es
+    versions = follows_versions pfs until es follow
 
     same_inode : (obj : ℕ) (bytes : List ℕ) → Counts es' t (inode_subject pfs obj) bytes ↔ Counts es t (inode_subject pfs obj) bytes
     same_inode obj = same_counts (inode_subject pfs obj) (omega arith) (versions (inode_subject pfs obj) (of_inode obj refl))

@@ -19,7 +19,7 @@ use Rattle.hm_records.proofs.CountsLemmas.{record_counts, settled}
 use Rattle.hm_records.proofs.MemberLemmas.{All-from_has}
 use Rattle.hm_pfs.specs.Records.{Becomes, IsRecordElement, SetsRecord, rewritten, stays}
 use Rattle.hm_image.specs.StandFor.{AreUpTo}
-use Rattle.hm_step.proofs.FollowLemmas.{of_no_record}
+use Rattle.hm_step.proofs.FollowLemmas.{follows_where, of_no_record}
 
 -- the type of a record's element
 record_type : (es : List FullElement) (pfs : ℕ) (e : FullElement) → IsRecordElement es pfs e → e.key.rec_type ≡ (record_subject pfs).rec_type
@@ -88,10 +88,7 @@ module _ (pfs : ℕ) (bytes : List ℕ) (es : List FullElement) where
       by x _ there (rewritten found) other = absurd (other (record_type es pfs x found))
 
     pub set_follows : (other t : ℕ) → Follows other t es → Follows other t es'
-    set_follows other t follow s of old new has has' about about' =
-        follow s of old new (there old has about) (there new has' about') about about' where
-          there : (x : FullElement) → Contains es' x → subject_of x.key ≡ s → Contains es x
-          there x has about = set_there x has (λ is. of_no_record other s of (ap (λ (about : Subject). about.rec_type) (sym about) ∙ is))
+    set_follows other t = follows_where other t es es' (λ x has of. set_there x has (of_no_record other (subject_of x.key) of))
 
     module _ (fit : IsBelow (2 ^ 64) es) where
       pub set_fit : IsBelow (2 ^ 64) es'

@@ -1,21 +1,36 @@
 -- Elements that stand for a volume and follow one another, and what a prune may take of them.
-use Rattle.std.specs.Prelude.{◌≡◌, ◌⊎◌, ℕ, true, List, Option, IfSome}
+use Rattle.std.specs.Prelude.{◌≡◌, ◌⊎◌, ℕ, true, List, Option, Some, IfSome}
 use Rattle.hm_types.specs.Elements.{FullElement}
 use Rattle.hm_types.specs.Intervals.{Keeps}
-use Rattle.hm_model.specs.Volume.{Volume, shown_id}
+use Rattle.hm_model.specs.Volume.{PseudoFileSystem, Volume, shown_id, system_of}
 use Rattle.hm_records.specs.Follows.{Follows, IsAbove}
 use Rattle.hm_image.specs.StandFor.{OnEach, StandFor}
 
--- where ids are kept in a PFS, each id that the volume keeps there is one of them, or is above them all
+-- where ids are told, each id that a retention keeps is one of them, or is above them all
+abbrev pub IsEnough : Option (List (ℕ × ℕ)) → List (ℕ × ℕ) → Type 0
+IsEnough told retention = IfSome told (λ ids. (t : ℕ) → Keeps retention t → Keeps ids t ⊎ IsAbove ids t)
+
+-- so it is of each PFS of a volume with the ids that a job keeps there
 abbrev pub KeepsWithin : (ℕ → Option (List (ℕ × ℕ))) → Volume → Type 0
-KeepsWithin kept volume =
-    OnEach volume (λ pfs s. IfSome (kept pfs) (λ ids. (t : ℕ) → Keeps s.retention t → Keeps ids t ⊎ IsAbove ids t))
+KeepsWithin kept volume = OnEach volume (λ pfs s. IsEnough (kept pfs) s.retention)
+
+-- where ids are told there are none, or a volume has the PFS
+abbrev pub HasSystemFor : Volume → ℕ → Option (List (ℕ × ℕ)) → Type 0
+HasSystemFor volume pfs told = IfSome told (λ ids. (t : ℕ) → Keeps ids t → (s : PseudoFileSystem) × (system_of volume pfs ≡ Some s))
+
+-- a job keeps enough for a volume: what this keeps is among what the job keeps, or above it, and the job keeps nothing of a
+-- PFS that the volume does not have
+pub record KeepsEnough (kept : ℕ → Option (List (ℕ × ℕ))) (volume : Volume) : Type 0 where
+  pub within : KeepsWithin kept volume
+  pub of_systems : (pfs : ℕ) → HasSystemFor volume pfs (kept pfs)
 
 -- the elements of each PFS whose trees are certain follow one another, up to the id as of which it is shown
 abbrev pub FollowIn : List FullElement → Volume → Type 0
 FollowIn es volume = OnEach volume (λ pfs s. s.clear ≡ true → Follows pfs (shown_id volume.last s) es)
 
--- elements stand for a volume, and follow one another in it if others did in theirs
+-- Elements stand for a volume after others stood for one: they follow one another if those did, and what a job keeps is
+-- enough if it was.
 pub record StandAfter (es : List FullElement) (volume : Volume) (es' : List FullElement) (volume' : Volume) : Type 0 where
   pub stand : StandFor es' volume'
   pub follow : FollowIn es volume → FollowIn es' volume'
+  pub jobs : (kept : ℕ → Option (List (ℕ × ℕ))) → KeepsEnough kept volume → KeepsEnough kept volume'

@@ -1,5 +1,5 @@
 // What follows from the definitions alone: each function states one law, and does nothing.
-ghost use Rattle.std.specs.Prelude.{◌≡◌, ℕ, ◌+◌, ◌^◌, ◌<◌, ◌≤◌, List, [], ◌∷◌, ◌++◌, None, Option, length};
+ghost use Rattle.std.specs.Prelude.{◌≡◌, ◌≢◌, ℕ, ◌+◌, ◌^◌, ◌<◌, ◌≤◌, List, [], ◌∷◌, ◌++◌, None, Option, Some, length};
 ghost use Rattle.std.specs.List.{All, Contains};
 ghost use Rattle.hm_types.specs.Elements.{FullElement};
 ghost use Rattle.hm_types.specs.Hash.{name_hash};
@@ -29,7 +29,7 @@ ghost use Rattle.hm_calls.specs.Possible.{MayReply};
 ghost use Rattle.hm_pfs.specs.Systems.{AddsMaster, AddsSlave, IsUnusedNumber, made_record, slave_record};
 ghost use Rattle.hm_step.specs.Causes.{IsNextOf, TellsFault};
 ghost use Rattle.hm_step.specs.Cut.{IsCutTo, SetsRecordBy};
-ghost use Rattle.hm_step.specs.Pruned.{FollowIn, KeepsWithin, StandAfter};
+ghost use Rattle.hm_step.specs.Pruned.{FollowIn, KeepsEnough, KeepsWithin, StandAfter};
 ghost use Rattle.hm_step.specs.Seen.{AreGiven};
 ghost use Rattle.hm_step.specs.Served.{IsServed};
 ghost use Rattle.hm_image.specs.StandFor.{StandFor};
@@ -72,8 +72,8 @@ pub fn sound_payloads_are_not_broken()
     ensures { (lists : Lists) (at : ℕ) → All IsPayload (fulls lists) → IsBroken lists at → ⊥ }
 {}
 
-/// Elements stand for a volume still once an id more is drawn and nothing else happens, and they
-/// follow one another, if they did.
+/// Elements stand for a volume still once an id more is drawn and nothing else happens. They follow
+/// one another if they did, and what a job keeps is enough if it was.
 pub fn drawing_an_id_leaves_what_stands()
     ensures { (es : List FullElement) (volume : Volume) → StandFor es volume →
         volume.last < GREATEST_ID → StandAfter es volume es (drawn (volume.last + 1) volume) }
@@ -94,8 +94,9 @@ pub fn a_prune_leaves_what_stands()
 /// Elements that stand for a volume stand for it still, with fewer ids to show, where the record of a
 /// pseudo file system was replaced by one that tells of a smaller retention: one with each id as of
 /// which the pseudo file system is shown from now on. Such is what a prune leaves by ids that are
-/// shown, and what is left where all but the present goes. The elements follow one another, if they
-/// did. Where a volume has no such pseudo file system, a cut changes nothing of it.
+/// shown, and what is left where all but the present goes. The elements follow one another if they
+/// did, and what a job keeps is enough if it was. Where a volume has no such pseudo file system, a
+/// cut changes nothing of it.
 pub fn a_cut_leaves_what_stands()
     ensures cut { (es es' : List FullElement) (volume : Volume) (pfs : ℕ) (s : PseudoFileSystem)
         (kept : List (ℕ × ℕ)) → StandFor es volume →
@@ -118,7 +119,8 @@ pub fn a_cut_leaves_what_stands()
 /// A number that a volume does not have is unused among elements that stand for it. Where a pseudo
 /// file system with that number was added by an id that is drawn, they stand for the volume with it:
 /// a new master shows the root directory from that id on and no object before, and a new slave has no
-/// sync end and no element but its record. They follow one another, if they did.
+/// sync end and no element but its record. They follow one another if they did, and what a job keeps
+/// is enough if it was.
 pub fn a_new_system_stands_with_the_others()
     ensures unused { (es : List FullElement) (volume : Volume) (pfs : ℕ) → StandFor es volume →
         system_of volume pfs ≡ None → IsUnusedNumber pfs es }
@@ -134,6 +136,18 @@ pub fn a_new_system_stands_with_the_others()
         StandFor es volume → system_of volume pfs ≡ None → AddsSlave pfs shared i es es' →
         (x : FullElement) → Contains es' x → pfs_of x.key.localization ≡ pfs →
         x ≡ made_record pfs (slave_record shared) i }
+{}
+
+/// A job that keeps what a volume keeps of one pseudo file system, and tells of no other one, keeps
+/// enough for the volume. So does one that keeps nothing of it.
+pub fn a_prune_begins_with_enough()
+    ensures kept { (volume : Volume) (pfs : ℕ) (s : PseudoFileSystem)
+        (kept : ℕ → Option (List (ℕ × ℕ))) → system_of volume pfs ≡ Some s →
+        kept pfs ≡ Some s.retention → ((other : ℕ) → other ≢ pfs → kept other ≡ None) →
+        KeepsEnough kept volume }
+    ensures nothing { (volume : Volume) (pfs : ℕ) (kept : ℕ → Option (List (ℕ × ℕ))) →
+        kept pfs ≡ Some [] → ((other : ℕ) → other ≢ pfs → kept other ≡ None) →
+        KeepsEnough kept volume }
 {}
 
 /// One step. Where elements stand for the volume of a history, and a call on names or on the bytes of

@@ -1,0 +1,53 @@
+-- What a job keeps is enough for a volume still, and for the one with which it begins.
+use Rattle.std.proofs.Common.{◌≡◌, ◌≢◌, ℕ, List, [], sym, subst, inl, inr}
+use Rattle.std.specs.Prelude.{Option, None, Some}
+use Rattle.hm_types.specs.Intervals.{Keeps}
+use Rattle.hm_model.specs.Volume.{PseudoFileSystem, Volume, system_of}
+use Rattle.hm_model.proofs.GrowthLemmas.{same_or_not}
+use Rattle.hm_step.specs.Pruned.{HasSystemFor, IsEnough, KeepsEnough}
+
+-- for fewer ids
+pub enough_less : (told : Option (List (ℕ × ℕ))) (old new : List (ℕ × ℕ)) → ((t : ℕ) → Keeps new t → Keeps old t) → IsEnough told old → IsEnough told new
+enough_less None old new fewer was = tt
+enough_less (Some ids) old new fewer was = λ t keeps. was t (fewer t keeps)
+
+-- where a PFS that was there is there still
+pub system_for : (volume after : Volume) (pfs : ℕ) (told : Option (List (ℕ × ℕ)))
+    → ((s : PseudoFileSystem) → system_of volume pfs ≡ Some s → (s' : PseudoFileSystem) × (system_of after pfs ≡ Some s'))
+    → HasSystemFor volume pfs told → HasSystemFor after pfs told
+system_for volume after pfs None still was = tt
+system_for volume after pfs (Some ids) still was = λ t keeps. let (s, is) = was t keeps in still s is
+
+module _ (volume : Volume) (pfs : ℕ) (kept : ℕ → Option (List (ℕ × ℕ))) (none : (other : ℕ) → other ≢ pfs → kept other ≡ None) where
+  pub enough_kept : (s : PseudoFileSystem) → system_of volume pfs ≡ Some s → kept pfs ≡ Some s.retention → KeepsEnough kept volume
+  enough_kept s there is = record {
+    within = λ other u found. elim (same_or_not other pfs) [
+      | inl same ↦
+          let here : system_of volume pfs ≡ Some u = subst (λ (n : ℕ). system_of volume n ≡ Some u) same found in
+          let one : s ≡ u = cc in
+          subst (λ (x : PseudoFileSystem). IsEnough (kept other) x.retention) one
+          (subst (λ (n : ℕ). IsEnough (kept n) s.retention) (sym same)
+          (subst (λ (o : Option (List (ℕ × ℕ))). IsEnough o s.retention) (sym is) (λ t keeps. inl keeps)))
+      | inr differ ↦ subst (λ (o : Option (List (ℕ × ℕ))). IsEnough o u.retention) (sym (none other differ)) tt
+    ];
+    of_systems = λ other. elim (same_or_not other pfs) [
+      | inl same ↦ subst (λ (n : ℕ). HasSystemFor volume n (kept n)) (sym same)
+          (subst (HasSystemFor volume pfs) (sym is) (λ t keeps. (s, there)))
+      | inr differ ↦ subst (HasSystemFor volume other) (sym (none other differ)) tt
+    ];
+  }
+
+  pub enough_nothing : kept pfs ≡ Some [] → KeepsEnough kept volume
+  enough_nothing is = record {
+    within = λ other u found. elim (same_or_not other pfs) [
+      | inl same ↦
+          subst (λ (n : ℕ). IsEnough (kept n) u.retention) (sym same)
+          (subst (λ (o : Option (List (ℕ × ℕ))). IsEnough o u.retention) (sym is) (λ t keeps. inr (λ v held. absurd held)))
+      | inr differ ↦ subst (λ (o : Option (List (ℕ × ℕ))). IsEnough o u.retention) (sym (none other differ)) tt
+    ];
+    of_systems = λ other. elim (same_or_not other pfs) [
+      | inl same ↦ subst (λ (n : ℕ). HasSystemFor volume n (kept n)) (sym same)
+          (subst (HasSystemFor volume pfs) (sym is) (λ t held. absurd held))
+      | inr differ ↦ subst (HasSystemFor volume other) (sym (none other differ)) tt
+    ];
+  }
