@@ -53,6 +53,7 @@ object_dropped pfs i obj es mid es' changes gone removes = record {
     entries = entries_twice pfs es mid es' changes.entries
         (λ t directory key bytes. removes.closes.beside t (entry_subject pfs directory key) bytes
         (apart_from_bytes pfs obj.0 (entry_subject pfs directory key) (λ is. omega (arith, is))));
+    follows = λ other t follow. removes.closes.follows other t (changes.follows other t follow);
   };
   leaves = record {
     gone = record {
