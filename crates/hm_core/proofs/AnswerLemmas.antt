@@ -315,8 +315,9 @@ module _ {S : Type 0} (heap : S → Heap) (root_of : S → ℕ) (h : Heap) (root
           (room_same (heap new) h' (ap (λ (x : Heap). x.whole) keeps.rest) (ap (λ (x : Heap). x.append) keeps.rest) keeps.pages.current)
           (paid_call room free first calls (reserves_for command) old new (reserves_most command) charges
           (paid_as h (heap old) first calls free_old room_old paid));
-      legal = λ first start counts history opening foreigners events entry least is told before so_far.
-          served_call first start (with_disk counts faults) (with_disk counts faults') history h root last opening foreigners events so_far (later counts) entry
+      legal = λ first start counts history running opening foreigners events entry least is told before so_far.
+          served_call first start (with_disk counts faults) (with_disk counts faults') history h root last running opening foreigners events so_far
+          (later counts) entry
           (is_next entry is) elements extents free old new h' root' (record {
             told = tells _ so_far.held.holds;
             found = omega (arith, least, free_old);
@@ -377,8 +378,9 @@ module _ {S : Type 0} (heap : S → Heap) (root_of : S → ℕ) (h : Heap) (root
           (free_same h h' whole_is size_is append (drops.pages.flush.committed ∙ (ap (λ (f : Frame). f.pages.committed) frame ∙ opens.pages.flush.committed))
           (drops.pages.flush.frozen ∙ (ap (λ (f : Frame). f.pages.frozen) frame ∙ opens.pages.flush.frozen)) pages_are)
           (room_same h h' whole_is append pages_are) paid);
-      legal = λ first start counts history opening foreigners events entry least is told before so_far.
-          failed_call first start (with_disk counts faults) (with_disk counts faults') history h root last opening foreigners events so_far (later counts) entry
+      legal = λ first start counts history running opening foreigners events entry least is told before so_far.
+          failed_call first start (with_disk counts faults) (with_disk counts faults') history h root last running opening foreigners events so_far
+          (later counts) entry
           (is_next entry is) h' root' (record {
             told = subst (TellsFailure faults faults') (sym is.reply_is) (fails _ so_far.held.holds);
             holds = subst (λ (n : ℕ). HoldsSame h root h' n) (sym (root_is ∙ current))

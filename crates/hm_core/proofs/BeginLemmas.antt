@@ -6,7 +6,7 @@ use Rattle.hm_model.specs.Foreign.{Foreigners}
 use Rattle.hm_model.specs.Volume.{Volume}
 use Rattle.hm_stored.specs.Heap.{Heap}
 use Rattle.hm_core.specs.Counts.{AreLater}
-use Rattle.hm_core.specs.History.{IsLegalOver}
+use Rattle.hm_core.specs.History.{AreOpen, IsLegalOver}
 use Rattle.hm_state.specs.Volume.{HoldsVolume}
 
 -- no event is one of none
@@ -14,11 +14,14 @@ none_before : (before : List Event) (event : Event) (rest : List Event) → [] �
 none_before [] event rest is = cc
 none_before (e ∷ es) event rest is = cc
 
+none_open : AreOpen [] []
+none_open = record { ids = refl; idle = refl }
+
 pub first : (free : ℕ) (start faults : Counts) (h : Heap) (root last : ℕ) (opening : Volume) (foreigners : Foreigners) → AreLater start faults
-    → HoldsVolume h root last opening → IsLegalOver free start faults [] h root last opening foreigners []
+    → HoldsVolume h root last opening → IsLegalOver free start faults [] h root last [] opening foreigners []
 first free start faults h root last opening foreigners counted holds = record {
   entries = refl;
   legal = λ before event rest is. absurd (none_before before event rest is);
   counted = counted;
-  held = record { holds = holds; opened = refl };
+  held = record { holds = holds; opened = none_open };
 }

@@ -39,6 +39,7 @@ pub record IsEntered (core new : CoreState) (entry : Entry) : Type 0 where
   pub mounted : new.mounted ≡ core.mounted
   pub counts : new.counts ≡ with_disk core.counts new.counts.disk
   pub flush : new.flush ≡ core.flush
+  pub running : new.running ≡ core.running
 
 module _ (past since : LeftSince) (core new : CoreState) (command : Command) (entry : Entry) (begun : IsSoundCore core) (ended : IsSoundCore new)
     (target : core.flush.at ≢ Idle → (core.flush.header.last.0 ≤ core.flush.target.last.0) × (core.flush.target.last.0 ≤ core.last))
@@ -50,14 +51,14 @@ module _ (past since : LeftSince) (core new : CoreState) (command : Command) (en
   now_between = begun.between core.flush.header.last.0 (inl refl)
 
   module _ (opening : Volume) (foreigners : Foreigners) (events : List Event) (stands : StandsOver core opening foreigners events) where
-    next : IsLegalBeyond core.mounted.free core.mounted.counts new.counts new.history new.heap new.root new.last opening foreigners events
+    next : IsLegalBeyond core.mounted.free core.mounted.counts new.counts new.history new.heap new.root new.last new.running opening foreigners events
     next =
         let from = now_between.0 in
         let to = now_between.1 in
-        subst (λ (x : Counts × List Entry × ℕ).
-        IsLegalBeyond core.mounted.free core.mounted.counts x.0 x.1 new.heap new.root x.2 opening foreigners events)
-        (λ i. (sym entered.counts i, sym entered.history i, sym entered.last i))
-        (answers.legal core.mounted.free core.mounted.counts core.counts core.history opening foreigners events entry least is begun.told
+        subst (λ (x : Counts × List Entry × ℕ × List ℕ).
+        IsLegalBeyond core.mounted.free core.mounted.counts x.0 x.1 new.heap new.root x.2 x.3 opening foreigners events)
+        (λ i. (sym entered.counts i, sym entered.history i, sym entered.last i, sym entered.running i))
+        (answers.legal core.mounted.free core.mounted.counts core.counts core.history core.running opening foreigners events entry least is begun.told
         (omega (arith, from, to)) stands.legal)
 
     abbrev committed : Volume

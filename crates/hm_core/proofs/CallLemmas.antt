@@ -8,7 +8,7 @@ use Rattle.hm_key.specs.Balance.{IsBalanced, content_of}
 use Rattle.hm_key.specs.Extents.{Extent}
 use Rattle.hm_key.specs.declared.element.Element.{Element}
 use Rattle.hm_cursor.specs.Told.{Lists, fulls}
-use Rattle.hm_model.specs.After.{Event, State, busy_in}
+use Rattle.hm_model.specs.After.{Event, State}
 use Rattle.hm_model.specs.Call.{Call}
 use Rattle.hm_model.specs.Caused.{Counts, HasNumbers, Known, known_after, known_at}
 use Rattle.hm_model.specs.Foreign.{Foreigners}
@@ -36,8 +36,9 @@ use Rattle.hm_core.proofs.CountLemmas.{NumbersOf, later_still, legal_later, told
 use Rattle.hm_core.proofs.StateLemmas.{holds_after, served_state}
 use Rattle.hm_core.proofs.WordLemmas.{words_are_read}
 
-module _ (free : ℕ) (start faults faults' : Counts) (history : List Entry) (h : Heap) (root last : ℕ) (opening : Volume) (foreigners : Foreigners)
-    (events : List Event) (so_far : IsLegalOver free start faults history h root last opening foreigners events) (counted : AreLater faults faults') where
+module _ (free : ℕ) (start faults faults' : Counts) (history : List Entry) (h : Heap) (root last : ℕ) (running : List ℕ) (opening : Volume)
+    (foreigners : Foreigners) (events : List Event) (so_far : IsLegalOver free start faults history h root last running opening foreigners events)
+    (counted : AreLater faults faults') where
   -- the run with the count of now, and what it has come to
   abbrev pub run : Setting
   run = setting_of free start faults' opening foreigners
@@ -56,8 +57,8 @@ module _ (free : ℕ) (start faults faults' : Counts) (history : List Entry) (h 
   told_now = later_still known.counts faults faults' so_far.counted counted
 
   pub goes_on : (event : Event) (h' : Heap) (root' : ℕ) → MayFollow run events event
-      → HoldsState h' root' (last + 1) (state_after run (events ++ event ∷ []))
-      → IsLegalOver free start faults' (history ++ event.entry ∷ []) h' root' (last + 1) opening foreigners (events ++ event ∷ [])
+      → HoldsState h' root' (last + 1) running (state_after run (events ++ event ∷ []))
+      → IsLegalOver free start faults' (history ++ event.entry ∷ []) h' root' (last + 1) running opening foreigners (events ++ event ∷ [])
   goes_on event h' root' follows held = record {
     entries = map-append (λ (e : Event). e.entry) events (event ∷ []) ∙ ap (λ (es : List Entry). es ++ event.entry ∷ []) so_far.entries;
     legal = IsLegal-goes_on run events event legal follows;
@@ -111,9 +112,9 @@ module _ (free : ℕ) (start faults faults' : Counts) (history : List Entry) (h 
     -- the space that came of a call holds the state after it
     next_held : (h' : Heap) (root' : ℕ) (now : List FullElement) → h'.bigblocks ≡ h.bigblocks → Holds h' root' now
         → StandFor now (state_after run (events ++ event ∷ [])).volume → IsAllowed run events event
-        → HoldsState h' root' (last + 1) (state_after run (events ++ event ∷ []))
+        → HoldsState h' root' (last + 1) running (state_after run (events ++ event ∷ []))
     next_held h' root' now same holds stand allowed =
-        holds_after h h' root root' last state (state_after run (events ++ event ∷ [])) (is_change entry.call entry.reply) call now
+        holds_after h h' root root' last running state (state_after run (events ++ event ∷ [])) (is_change entry.call entry.reply) call now
         so_far.held refl (served_state run events event is.served own allowed) same holds stand
 
     -- a store served it
@@ -125,7 +126,7 @@ module _ (free : ℕ) (start faults faults' : Counts) (history : List Entry) (h 
         command_is = refl;
         reply_is = refl;
         last_is = sym so_far.held.holds.last_is;
-        busy_is = ap busy_in so_far.held.opened;
+        busy_is = so_far.held.opened.idle;
       }
 
       stepped : GoesOn run events event (elements_of new) (extents_of new)
@@ -141,17 +142,17 @@ module _ (free : ℕ) (start faults faults' : Counts) (history : List Entry) (h 
             (subst (λ (l : List FullElement). IsNext run events event (free_of old) l) (sym told.1)
             (next (free_of old) (floor_next (free_of old) serves.found)))
 
-      held : HoldsState h' root' (last + 1) (state_after run (events ++ event ∷ []))
+      held : HoldsState h' root' (last + 1) running (state_after run (events ++ event ∷ []))
       held = by (content_of (elements_of new) (extents_of new)) refl stepped.stands where
         by : (o : Option Lists) → content_of (elements_of new) (extents_of new) ≡ o
             → IsSomeAnd o (λ now. IsBalanced now.0 now.1 × StandIfFit now (state_after run (events ++ event ∷ [])).volume)
-            → HoldsState h' root' (last + 1) (state_after run (events ++ event ∷ []))
+            → HoldsState h' root' (last + 1) running (state_after run (events ++ event ∷ []))
         by None told stands = absurd stands
         by (Some now) told stands =
             let there = serves.holds now told stands.0 in
             next_held h' root' (fulls now) serves.size there.holds (stands.1 there.fit) stepped.allowed
 
-      pub served_call : IsLegalBeyond free start faults' (history ++ entry ∷ []) h' root' (last + 1) opening foreigners events
+      pub served_call : IsLegalBeyond free start faults' (history ++ entry ∷ []) h' root' (last + 1) running opening foreigners events
       served_call = (event ∷ [], goes_on event h' root' stepped.follows held)
 
     -- the device failed in it, or memory was refused
@@ -177,7 +178,7 @@ module _ (free : ℕ) (start faults faults' : Counts) (history : List Entry) (h 
       at_least : IsNext run events event least es
       at_least = next least (omega arith)
 
-      pub failed_call : IsLegalBeyond free start faults' (history ++ entry ∷ []) h' root' (last + 1) opening foreigners events
+      pub failed_call : IsLegalBeyond free start faults' (history ++ entry ∷ []) h' root' (last + 1) running opening foreigners events
       failed_call = (
         event ∷ [],
         goes_on event h' root' (may_follow_failed run events event least es at_least fails numbers)

@@ -68,7 +68,7 @@ module _ (f : Flush) (h : Heap) (last : ℕ) (history : List Entry) (entry : Ent
 module _ (past since : LeftSince) (core new : CoreState) (entry : Entry) (entered : new.history ≡ core.history ++ entry ∷ [])
     (own : entry.id.0 ≡ core.last + 1) (mounted : new.mounted ≡ core.mounted) (opening : Volume) (foreigners : Foreigners) (events : List Event)
     (stands : StandsOver core opening foreigners events)
-    (next : IsLegalBeyond core.mounted.free core.mounted.counts new.counts new.history new.heap new.root new.last opening foreigners events) where
+    (next : IsLegalBeyond core.mounted.free core.mounted.counts new.counts new.history new.heap new.root new.last new.running opening foreigners events) where
   pub entered_by : new.flush.header.last.0 ≤ core.last → (new.flush.at ≢ Idle → new.flush.target.last.0 ≤ core.last)
       → IfSome new.heap.disk (λ t. HoldsUpTo new opening foreigners events (as_read t))
       → (IsGuarded core opening foreigners events → IfSome new.heap.disk (HoldsUpTo new opening foreigners events))
@@ -82,7 +82,7 @@ module _ (past since : LeftSince) (core new : CoreState) (entry : Entry) (entere
         stay = events_stay new.flush new.heap core.last core.history entry opening foreigners events next.0 stands.legal.entries
             (next.1.entries ∙ entered) own later target;
         stands = record {
-          legal = subst (λ m. IsLegalOver m.free m.counts new.counts new.history new.heap new.root new.last opening foreigners (events ++ next.0))
+          legal = subst (λ m. IsLegalOver m.free m.counts new.counts new.history new.heap new.root new.last new.running opening foreigners (events ++ next.0))
               (sym mounted) next.1;
           read = if_told new.heap.disk (λ t. held (as_read t)) read;
         };

@@ -64,10 +64,10 @@ module _ (old new : Heap) (looks : LooksSame old new) where
     elements = (is.elements.0, held_same root is.elements.0 is.elements.1, is.elements.2);
   }
 
-  pub looked_legal : (free : ℕ) (start faults : Counts) (history : List Entry) (root last : ℕ) (opening : Volume) (foreigners : Foreigners)
-      (events : List Event) → IsLegalOver free start faults history old root last opening foreigners events
-      → IsLegalOver free start faults history new root last opening foreigners events
-  looked_legal free start faults history root last opening foreigners events is = record {
+  pub looked_legal : (free : ℕ) (start faults : Counts) (history : List Entry) (root last : ℕ) (running : List ℕ) (opening : Volume) (foreigners : Foreigners)
+      (events : List Event) → IsLegalOver free start faults history old root last running opening foreigners events
+      → IsLegalOver free start faults history new root last running opening foreigners events
+  looked_legal free start faults history root last running opening foreigners events is = record {
     entries = is.entries;
     legal = is.legal;
     counted = is.counted;

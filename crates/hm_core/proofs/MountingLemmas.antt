@@ -199,7 +199,7 @@ ordered_first told header slot free h range chosen read = record {
 -- a core over a space that was read, with no history, and with an idle flush
 module _ (core : CoreState) (header : Header) (slot : ℕ) (flush : core.flush ≡ idle_flush header slot) (new : core.history ≡ [])
     (root : core.root ≡ header.root) (ids : (core.last ≡ header.last.0) × (core.mounted.first ≡ header.last.0))
-    (boundary : core.boundary ≡ core.flush.header.last.0) (start : core.mounted.counts ≡ core.counts) where
+    (boundary : core.boundary ≡ core.flush.header.last.0) (start : core.mounted.counts ≡ core.counts) (none : core.running ≡ []) where
   header_is : core.flush.header ≡ header
   header_is = ap (λ (f : Flush). f.header) flush
 
@@ -224,9 +224,9 @@ module _ (core : CoreState) (header : Header) (slot : ℕ) (flush : core.flush �
         subst (λ (n : ℕ). HoldsVolume core.heap n core.last opening) (sym root)
         (subst (λ (n : ℕ). HoldsVolume core.heap header.root n opening) (sym ids.0) (holds opening stands)) in
         record {
-          legal = subst
-              (λ (l : List Entry). IsLegalOver core.mounted.free core.mounted.counts core.counts l core.heap core.root core.last opening foreigners [])
-              (sym new)
+          legal = subst (λ (x : List Entry × List ℕ).
+              IsLegalOver core.mounted.free core.mounted.counts core.counts x.0 core.heap core.root core.last x.1 opening foreigners [])
+              (λ i. (sym new i, sym none i))
               (first core.mounted.free core.mounted.counts core.counts core.heap core.root core.last opening foreigners later held);
           read = subst (λ (d : Option Told). IfSome d (λ u. HoldsUpTo core opening foreigners [] (as_read u))) (sym disk)
               (holds_first opening foreigners (as_read t) (committed slot opening counts stands).0);
@@ -241,6 +241,7 @@ module _ (core : CoreState) (header : Header) (slot : ℕ) (flush : core.flush �
       → IsReadFrom told header core.mounted.free core.heap → IsSoundCore core → IsMounted faults core
   is_mounted told faults counted unarmed read sound = record {
     history = new;
+    running = none;
     counts = (counted, start);
     ids = (ids.0 ∙ sym bounded, ids.1 ∙ sym bounded, boundary);
     idle = (ap (λ (f : Flush). f.at) flush, ap (λ (x : Header). x.undo_count) header_is ∙ unarmed);

@@ -1,5 +1,5 @@
 -- A stage that failed refuses the call for which it was made.
-use Rattle.std.proofs.Common.{◌≡◌, ◌≢◌, inl, ℕ, ◌+◌, ◌<◌, ◌≤◌, List, [], ◌∷◌, ◌++◌, refl, sym, ap, subst, ◌∙◌, arith}
+use Rattle.std.proofs.Common.{◌≡◌, ◌≢◌, inl, ℕ, ◌+◌, ◌<◌, ◌≤◌, List, [], ◌∷◌, ◌++◌, length, refl, sym, ap, subst, ◌∙◌, arith}
 use Rattle.std.specs.Prelude.{Err}
 use Rattle.std.proofs.Math.Logic.{∥∥₁_map}
 use Rattle.hm_types.specs.declared.fault.Fault.{Fault}
@@ -78,8 +78,9 @@ module _ (past since : LeftSince) (old mid : CoreState) (fails : FailsStage old 
           told = untold_since old.last mid.boundary fault reply told;
           id = (last_is, last_is);
           before = omega (arith, is, later);
-          spare = room;
+          spare = (let same = ap length fails.waits.running in omega (arith, room, same));
         };
+        running = fails.waits.running;
         cause = failure.told;
       }
 
@@ -89,12 +90,13 @@ module _ (past since : LeftSince) (old mid : CoreState) (fails : FailsStage old 
 
       enters : GoesOn since since uncounted new
       enters opening foreigners events stands =
-          let next = refused_call mid.mounted.free mid.mounted.counts old.counts mid.counts mid.history mid.heap mid.root mid.last opening foreigners events
-          stands.legal follows.never_falls left entry served refl mid.heap mid.root (record { told = failure.told; holds = λ es there. there; size = refl }) in
+          let next = refused_call mid.mounted.free mid.mounted.counts old.counts mid.counts mid.history mid.heap mid.root mid.last mid.running opening
+          foreigners events stands.legal follows.never_falls left entry served refl mid.heap mid.root
+          (record { told = failure.told; holds = λ es there. there; size = refl }) in
           entered_by since since uncounted new entry entered refl refl opening foreigners events stands (
             next.0,
-            subst (λ (l : List Entry). IsLegalOver mid.mounted.free mid.mounted.counts mid.counts l mid.heap mid.root (mid.last + 1) opening foreigners
-                (events ++ next.0)) (sym entered) next.1,
+            subst (λ (l : List Entry). IsLegalOver mid.mounted.free mid.mounted.counts mid.counts l mid.heap mid.root (mid.last + 1) mid.running
+                opening foreigners (events ++ next.0)) (sym entered) next.1,
           )
           later (λ flies. (target_drawn mid.flush mid.last mid.mounted.free mid.heap mid.history ordered flies).1) stands.read (λ was. was)
           (λ was moment image before. inl before)

@@ -14,16 +14,16 @@ use Rattle.hm_core.specs.Served.{IsServed}
 use Rattle.hm_core.proofs.CallLemmas.{failed_call}
 use Rattle.hm_core.proofs.SpaceLemmas.{pathless_refused}
 
-module _ (free : ℕ) (start faults faults' : Counts) (history : List Entry) (h : Heap) (root last : ℕ) (opening : Volume) (foreigners : Foreigners)
-    (events : List Event) (so_far : IsLegalOver free start faults history h root last opening foreigners events)
+module _ (free : ℕ) (start faults faults' : Counts) (history : List Entry) (h : Heap) (root last : ℕ) (running : List ℕ) (opening : Volume)
+    (foreigners : Foreigners) (events : List Event) (so_far : IsLegalOver free start faults history h root last running opening foreigners events)
     (counted : AreLater faults faults') (left : last < GREATEST_ID) where
   pub refused_call : (entry : Entry) → IsServed entry.call → entry.id.0 ≡ last + 1 → (h' : Heap) (root' : ℕ)
       → Fails faults.disk faults'.disk entry h h' root root'
-      → IsLegalBeyond free start faults' (history ++ entry ∷ []) h' root' (last + 1) opening foreigners events
+      → IsLegalBeyond free start faults' (history ++ entry ∷ []) h' root' (last + 1) running opening foreigners events
   refused_call entry (inl (inl on_trees)) own h' root' fails =
-      failed_call free start faults faults' history h root last opening foreigners events so_far counted entry
+      failed_call free start faults faults' history h root last running opening foreigners events so_far counted entry
       (record { served = on_trees; left = left; own = own }) h' root' fails
   refused_call entry (inl (inr df)) own h' root' fails =
-      pathless_refused free start faults faults' history h root last opening foreigners events so_far counted left entry (inl df) own h' root' fails
+      pathless_refused free start faults faults' history h root last running opening foreigners events so_far counted left entry (inl df) own h' root' fails
   refused_call entry (inr sync) own h' root' fails =
-      pathless_refused free start faults faults' history h root last opening foreigners events so_far counted left entry (inr sync) own h' root' fails
+      pathless_refused free start faults faults' history h root last running opening foreigners events so_far counted left entry (inr sync) own h' root' fails

@@ -16,7 +16,7 @@ use Rattle.hm_key.specs.declared.element.Element.{Element}
 use Rattle.hm_cursor.specs.Told.{Lists, OnBalanced, fulls}
 use Rattle.hm_freemap.specs.Stand.{free_by, is_handed_out, room_in}
 use Rattle.hm_freemap.proofs.FreeLemmas.{free_same as counted_same}
-use Rattle.hm_model.specs.After.{Event, busy_in}
+use Rattle.hm_model.specs.After.{Event}
 use Rattle.hm_model.specs.Call.{Call}
 use Rattle.hm_model.specs.Caused.{Counts}
 use Rattle.hm_model.specs.Due.{ReadsPaths}
@@ -113,12 +113,12 @@ entry_there history entry found place there is =
     ∙ last_entry history entry entry
 
 -- The call that comes next in a legal history is one that the elements of the space show, so its reply is due over it.
-module _ (free : ℕ) (start counts : Counts) (history : List Entry) (h : Heap) (root last : ℕ) (opening : Volume) (foreigners : Foreigners)
+module _ (free : ℕ) (start counts : Counts) (history : List Entry) (h : Heap) (root last : ℕ) (running : List ℕ) (opening : Volume) (foreigners : Foreigners)
     (events : List Event) (event : Event) (faults faults' : ℕ) where
   abbrev run : Setting
   run = setting_of free start counts opening foreigners
 
-  pub due_next : IsLegalOver free start counts history h root last opening foreigners events → IsOnTrees event.entry.call
+  pub due_next : IsLegalOver free start counts history h root last running opening foreigners events → IsOnTrees event.entry.call
       → ((es : List FullElement) → Holds h root es → AreGiven es (state_after run events).volume event.substitutes)
       → ReadsPaths (call_after run events event) → IsReplied faults faults' last event.entry.call h root event.entry.reply
       → (event.entry.reply ≡ due_over (call_after run events event) (room_of h) (free_now h root)) ⊎ TellsFailure faults faults' event.entry.reply
@@ -132,4 +132,4 @@ module _ (free : ℕ) (start counts : Counts) (history : List Entry) (h : Heap) 
         shows = shows_as es volume event.substitutes held.elements.2 (given es held.elements.1);
         keys = held.elements.2.names;
         words = reads;
-      }) (record { command_is = refl; busy_is = ap busy_in so_far.held.opened })
+      }) (record { command_is = refl; busy_is = so_far.held.opened.idle })

@@ -38,8 +38,8 @@ use Rattle.hm_core.proofs.PathlessLemmas.{pathless_accepted, pathless_after, pat
 use Rattle.hm_core.proofs.ReplyLemmas.{tells_no_pass}
 use Rattle.hm_core.proofs.StateLemmas.{holds_after}
 
-module _ (free : ℕ) (start faults faults' : Counts) (history : List Entry) (h : Heap) (root last : ℕ) (opening : Volume) (foreigners : Foreigners)
-    (events : List Event) (so_far : IsLegalOver free start faults history h root last opening foreigners events)
+module _ (free : ℕ) (start faults faults' : Counts) (history : List Entry) (h : Heap) (root last : ℕ) (running : List ℕ) (opening : Volume)
+    (foreigners : Foreigners) (events : List Event) (so_far : IsLegalOver free start faults history h root last running opening foreigners events)
     (counted : AreLater faults faults') (left : last < GREATEST_ID) where
   -- the run with the count of now, and what it has come to
   abbrev run : Setting
@@ -52,7 +52,7 @@ module _ (free : ℕ) (start faults faults' : Counts) (history : List Entry) (h 
   known = known_after (known_at opening.last start) events
 
   low : state.volume.last < GREATEST_ID
-  low = left_next free start faults faults' history h root last opening foreigners events so_far counted left
+  low = left_next free start faults faults' history h root last running opening foreigners events so_far counted left
 
   module _ (entry : Entry) (no_path : NamesNoPath entry.call) (own_is : entry.id.0 ≡ last + 1) where
     abbrev event : Event
@@ -62,7 +62,7 @@ module _ (free : ℕ) (start faults faults' : Counts) (history : List Entry) (h 
     call = call_after run events event
 
     own : entry.id.0 ≡ state.volume.last + 1
-    own = drawn_next free start faults faults' history h root last opening foreigners events so_far counted entry.id.0 own_is
+    own = drawn_next free start faults faults' history h root last running opening foreigners events so_far counted entry.id.0 own_is
 
     -- what is asked of its reply
     record MayTell (reply : Reply) : Type 0 where
@@ -100,18 +100,18 @@ module _ (free : ℕ) (start faults faults' : Counts) (history : List Entry) (h 
 
       -- a space holds the volume after it that holds what was held
       told_so : (h' : Heap) (root' : ℕ) → h'.bigblocks ≡ h.bigblocks → HoldsSame h root h' root'
-          → IsLegalBeyond free start faults' (history ++ entry ∷ []) h' root' (last + 1) opening foreigners events
+          → IsLegalBeyond free start faults' (history ++ entry ∷ []) h' root' (last + 1) running opening foreigners events
       told_so h' root' size same =
           let elements = so_far.held.holds.elements in
           let stands : StandFor elements.0 (state_after run (events ++ event ∷ [])).volume =
           subst (λ (s : State). StandFor elements.0 s.volume) (sym after_is) (stand_next elements.0 state.volume elements.2 low) in (
             event ∷ [],
-            goes_on free start faults faults' history h root last opening foreigners events so_far counted event h' root' follows
-                (holds_after h h' root root' last state (state_after run (events ++ event ∷ [])) false call elements.0
+            goes_on free start faults faults' history h root last running opening foreigners events so_far counted event h' root' follows
+                (holds_after h h' root root' last running state (state_after run (events ++ event ∷ [])) false call elements.0
                 so_far.held refl after_is size (same elements.0 elements.1) stands),
           )
 
-      told_here : IsLegalBeyond free start faults' (history ++ entry ∷ []) h root (last + 1) opening foreigners events
+      told_here : IsLegalBeyond free start faults' (history ++ entry ∷ []) h root (last + 1) running opening foreigners events
       told_here = told_so h root refl (λ es holds. holds)
 
     -- the device failed, or memory was refused
@@ -134,12 +134,12 @@ module _ (free : ℕ) (start faults faults' : Counts) (history : List Entry) (h 
     })
 
     pub pathless_refused : (h' : Heap) (root' : ℕ) → Fails faults.disk faults'.disk entry h h' root root'
-        → IsLegalBeyond free start faults' (history ++ entry ∷ []) h' root' (last + 1) opening foreigners events
+        → IsLegalBeyond free start faults' (history ++ entry ∷ []) h' root' (last + 1) running opening foreigners events
     pathless_refused h' root' fails = told_so (refused_may fails.told) h' root' fails.size fails.holds
 
   -- a sync tells a boundary that was drawn, and no earlier one than was told
   pub sync_told : (entry : Entry) (boundary : Id) → IsSync entry.call → entry.id.0 ≡ last + 1 → entry.reply ≡ Synced boundary → boundary.0 ≤ last
-      → AreUpTo boundary.0 history → IsLegalBeyond free start faults' (history ++ entry ∷ []) h root (last + 1) opening foreigners events
+      → AreUpTo boundary.0 history → IsLegalBeyond free start faults' (history ++ entry ∷ []) h root (last + 1) running opening foreigners events
   sync_told entry boundary sync own_is reply_is drawn told =
       told_here entry (inr sync) own_is (subst (MayTell entry (inr sync) own_is) (sym reply_is) (record {
         listed = boundary_listed entry.call boundary sync;
@@ -155,11 +155,11 @@ module _ (free : ℕ) (start faults faults' : Counts) (history : List Entry) (h 
 
   -- a `df` tells the pool, and a number of free big-blocks that is not below the least
   pub space_told : (entry : Entry) → entry.call ≡ Df → entry.id.0 ≡ last + 1 → TellsSpace free history h entry.reply
-      → IsLegalBeyond free start faults' (history ++ entry ∷ []) h root (last + 1) opening foreigners events
+      → IsLegalBeyond free start faults' (history ++ entry ∷ []) h root (last + 1) running opening foreigners events
   space_told entry call_is own_is (pool, spare, reply_is, pool_is, enough, most) =
       let is_space : IsSpace (floor_after run events) state.volume (Space pool spare) = (
         pool_is ∙ ap (λ (n : ℕ). n - first_pool n) so_far.held.holds.bigblocks,
-        floor_next free start faults faults' history h root last opening foreigners events so_far counted spare enough,
+        floor_next free start faults faults' history h root last running opening foreigners events so_far counted spare enough,
         most,
       ) in
       told_here entry (inl call_is) own_is (subst (MayTell entry (inl call_is) own_is) (sym reply_is) (record {
@@ -174,6 +174,6 @@ module _ (free : ℕ) (start faults faults' : Counts) (history : List Entry) (h 
 
   -- or memory was refused
   pub space_refused : (entry : Entry) → entry.call ≡ Df → entry.id.0 ≡ last + 1 → entry.reply ≡ NoMemory
-      → IsLegalBeyond free start faults' (history ++ entry ∷ []) h root (last + 1) opening foreigners events
+      → IsLegalBeyond free start faults' (history ++ entry ∷ []) h root (last + 1) running opening foreigners events
   space_refused entry call_is own_is reply_is =
       pathless_refused entry (inl call_is) own_is h root (record { told = inr reply_is; holds = λ es holds. holds; size = refl })

@@ -1,5 +1,5 @@
 -- What a call that ends no other one leaves of a state: the size of its volume, and that no call is open.
-use Rattle.std.proofs.Common.{◌≡◌, ℕ, ◌+◌, Bool, true, false, List, [], ◌∷◌, ◌++◌, refl, sym, ap, ◌∙◌}
+use Rattle.std.proofs.Common.{◌≡◌, ℕ, ◌+◌, Bool, true, false, List, [], ◌∷◌, ◌++◌, refl, sym, ap, subst, ◌∙◌}
 use Rattle.hm_types.specs.Elements.{FullElement}
 use Rattle.hm_types.specs.Tree.{root_tree}
 use Rattle.hm_model.specs.After.{Event, State, on_volume, opening_state}
@@ -19,7 +19,7 @@ use Rattle.hm_stored.specs.Heap.{Heap}
 use Rattle.hm_stored.specs.Standing.{Holds}
 use Rattle.hm_step.specs.Step.{after_call}
 use Rattle.hm_step.proofs.EventLemmas.{served_no_opening, state_after as after_is}
-use Rattle.hm_core.specs.History.{HoldsState}
+use Rattle.hm_core.specs.History.{AreOpen, HoldsState}
 use Rattle.hm_core.proofs.ReplyLemmas.{reply_allowed, tells_no_pass}
 
 -- a call that changes a volume leaves its size
@@ -50,16 +50,16 @@ served_state run before event served own allowed =
     (reply_allowed run before event (served_no_opening event.entry.call served) allowed)) own
 
 -- a space holds the state after a call
-pub holds_after : (h h' : Heap) (root root' last : ℕ) (state after : State) (test : Bool) (call : Call) (es : List FullElement)
-    → HoldsState h root last state → call.volume ≡ state.volume
+pub holds_after : (h h' : Heap) (root root' last : ℕ) (running : List ℕ) (state after : State) (test : Bool) (call : Call) (es : List FullElement)
+    → HoldsState h root last running state → call.volume ≡ state.volume
     → after ≡ on_volume state (after_call test call) → h'.bigblocks ≡ h.bigblocks → Holds h' root' es → StandFor es after.volume
-    → HoldsState h' root' (last + 1) after
-holds_after h h' root root' last state after test call es held of_state is same holds stand = record {
+    → HoldsState h' root' (last + 1) running after
+holds_after h h' root root' last running state after test call es held of_state is same holds stand = record {
   holds = record {
     bigblocks = same ∙ held.holds.bigblocks ∙ ap (λ (v : Volume). v.bigblocks) (sym of_state) ∙ sym (size_after test call)
         ∙ ap (λ (s : State). s.volume.bigblocks) (sym is);
     last_is = ap (λ (n : ℕ). n + 1) (held.holds.last_is ∙ ap (λ (v : Volume). v.last) (sym of_state)) ∙ ap (λ (s : State). s.volume.last) (sym is);
     elements = (es, holds, stand);
   };
-  opened = ap (λ (s : State). s.opened) is ∙ held.opened;
+  opened = subst (λ (s : State). AreOpen running s.opened) (sym is) held.opened;
 }

@@ -41,7 +41,7 @@ sync_answers boundary faults last command h root sync closed left = record {
   caused = λ first start counts history entry is told before so_far.
       sync_goes_on first start (with_disk counts faults) (with_disk counts faults) last history so_far (later_same (with_disk counts faults)) entry left is.own
       (subst IsSync (sym is.call_is) sync) boundary is.reply_is before told;
-  legal = λ first start counts history opening foreigners events entry least is told before so_far.
-      sync_told first start (with_disk counts faults) (with_disk counts faults) history h root last opening foreigners events so_far
+  legal = λ first start counts history running opening foreigners events entry least is told before so_far.
+      sync_told first start (with_disk counts faults) (with_disk counts faults) history h root last running opening foreigners events so_far
       (later_same (with_disk counts faults)) left entry boundary (subst IsSync (sym is.call_is) sync) is.own is.reply_is before told;
 }

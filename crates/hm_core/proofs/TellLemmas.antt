@@ -96,13 +96,13 @@ module _ (old new : Heap) (root root' faults faults' : ℕ) (closed : IsClosed o
 
   module _ (last : ℕ) (left : last < GREATEST_ID) where
     -- what was legal before the look is so after it
-    there : (first : ℕ) (start counts : Counts) (history : List Entry) (opening : Volume) (foreigners : Foreigners) (events : List Event)
-        → IsLegalBeyond first start counts history old root (last + 1) opening foreigners events
-        → IsLegalBeyond first start counts history new root' (last + 1) opening foreigners events
-    there first start counts history opening foreigners events (more, legal) = (
+    there : (first : ℕ) (start counts : Counts) (history : List Entry) (running : List ℕ) (opening : Volume) (foreigners : Foreigners) (events : List Event)
+        → IsLegalBeyond first start counts history old root (last + 1) running opening foreigners events
+        → IsLegalBeyond first start counts history new root' (last + 1) running opening foreigners events
+    there first start counts history running opening foreigners events (more, legal) = (
       more,
-      subst (λ (r : ℕ). IsLegalOver first start counts history new r (last + 1) opening foreigners (events ++ more)) (sym stays)
-          (looked_legal old new looks first start counts history root (last + 1) opening foreigners (events ++ more) legal),
+      subst (λ (r : ℕ). IsLegalOver first start counts history new r (last + 1) running opening foreigners (events ++ more)) (sym stays)
+          (looked_legal old new looks first start counts history root (last + 1) running opening foreigners (events ++ more) legal),
     )
 
     pub told_answers : (boundary space free : ℕ) → space ≡ old.bigblocks - first_pool old.bigblocks → free ≡ free_of old
@@ -123,9 +123,10 @@ module _ (old new : Heap) (root root' faults faults' : ℕ) (closed : IsClosed o
       flush = kept;
       live = live_looked last;
       paid = paid_same;
-      legal = λ first start counts history opening foreigners events entry enough of told before so_far.
-          there first start (with_disk counts faults') (history ++ entry ∷ []) opening foreigners events (space_told first start (with_disk counts faults) (with_disk counts faults') history old root last opening
-          foreigners events so_far (later counts) left entry of.call_is of.own
+      legal = λ first start counts history running opening foreigners events entry enough of told before so_far.
+          there first start (with_disk counts faults') (history ++ entry ∷ []) running opening foreigners events
+          (space_told first start (with_disk counts faults) (with_disk counts faults') history old root last running opening foreigners events so_far
+          (later counts) left entry of.call_is of.own
           (space, free, of.reply_is, pool_is, omega (arith, is_free, enough), omega (arith, is_free, pool_is, free_most)));
     }
 
@@ -146,9 +147,10 @@ module _ (old new : Heap) (root root' faults faults' : ℕ) (closed : IsClosed o
       flush = kept;
       live = live_looked last;
       paid = paid_same;
-      legal = λ first start counts history opening foreigners events entry enough of told before so_far.
+      legal = λ first start counts history running opening foreigners events entry enough of told before so_far.
           let firm = held_firm old root so_far.held.holds.elements.0 so_far.held.holds.elements.1 in
-          there first start (with_disk counts faults') (history ++ entry ∷ []) opening foreigners events (space_refused first start (with_disk counts faults) (with_disk counts faults') history old root last opening
-          foreigners events so_far (later counts) left entry of.call_is of.own
+          there first start (with_disk counts faults') (history ++ entry ∷ []) running opening foreigners events
+          (space_refused first start (with_disk counts faults) (with_disk counts faults') history old root last running opening foreigners events so_far
+          (later counts) left entry of.call_is of.own
           (of.reply_is ∙ memory_alone fault bad caused firm));
     }

@@ -60,7 +60,8 @@ pub record Answers (boundary faults faults' last : ℕ) (command : Command) (h h
   pub caused : (first : ℕ) (start counts : Counts) (history : List Entry) (entry : Entry) → IsEntryOf last command reply entry
       → AreUpTo boundary history → boundary ≤ last → IsCausedFrom first start (with_disk counts faults) last history
       → IsCausedFrom first start (with_disk counts faults') (last + 1) (history ++ entry ∷ [])
-  pub legal : (free : ℕ) (start counts : Counts) (history : List Entry) (opening : Volume) (foreigners : Foreigners) (events : List Event) (entry : Entry)
+  pub legal : (free : ℕ) (start counts : Counts) (history : List Entry) (running : List ℕ) (opening : Volume) (foreigners : Foreigners)
+      (events : List Event) (entry : Entry)
       → floor free history ≤ free_of h → IsEntryOf last command reply entry → AreUpTo boundary history → boundary ≤ last
-      → IsLegalOver free start (with_disk counts faults) history h root last opening foreigners events
-      → IsLegalBeyond free start (with_disk counts faults') (history ++ entry ∷ []) h' root' (last + 1) opening foreigners events
+      → IsLegalOver free start (with_disk counts faults) history h root last running opening foreigners events
+      → IsLegalBeyond free start (with_disk counts faults') (history ++ entry ∷ []) h' root' (last + 1) running opening foreigners events

@@ -34,8 +34,8 @@ HoldsUpTo core opening foreigners events t =
 -- A core stands for the volume on which its run began, by these events: its history is that of them, and is legal over it,
 -- and its space holds the volume after them. Its disk has the committed and the frozen one, as reads give it.
 pub record StandsOver (core : CoreState) (opening : Volume) (foreigners : Foreigners) (events : List Event) : Type 0 where
-  pub legal : IsLegalOver core.mounted.free core.mounted.counts core.counts core.history core.heap core.root core.last opening
-      foreigners events
+  pub legal : IsLegalOver core.mounted.free core.mounted.counts core.counts core.history core.heap core.root core.last core.running
+      opening foreigners events
   pub read : IfSome core.heap.disk (λ t. HoldsUpTo core opening foreigners events (as_read t))
 
 -- So it has them as a crash may leave them: each image recovers to the one or, once the last stage of a flush was tried, to the other.
@@ -103,7 +103,7 @@ TellsBoundary since boundary reply = IfSome (told_boundary reply) (λ told. (sin
 
 -- An id was left. The history gained the entry of this call, by the next id, and its reply has its cause. A boundary that it
 -- tells is no earlier than the last id as the call began, and is committed, and this entry is not. At most one place of the room
--- is taken.
+-- is taken, beside one for the ending of each call that was opened.
 pub record Enters (old new : CoreState) (lane line since : ℕ) (command : Command) : Type 0 where
   pub left : old.last < GREATEST_ID
   pub entry : Entry
@@ -112,23 +112,25 @@ pub record Enters (old new : CoreState) (lane line since : ℕ) (command : Comma
   pub told : TellsBoundary since new.boundary entry.reply
   pub id : (entry.id.0 ≡ old.last + 1) × (new.last ≡ old.last + 1)
   pub before : new.boundary < new.last
-  pub spare : old.spare ≤ new.spare + 1
+  pub spare : old.spare + length old.running ≤ new.spare + length new.running + 1
 
--- Nothing was entered: the history and the ids are as before. A flush may have gone on.
+-- Nothing was entered: the history, the ids and the calls that are open are as before. A flush may have gone on.
 pub record Waits (old new : CoreState) : Type 0 where
   pub history : new.history ≡ old.history
   pub last : new.last ≡ old.last
+  pub running : new.running ≡ old.running
   pub spare : new.spare ≡ old.spare
 
 -- A call waits for a flush: the current group has as many pages as fill it, or it is a sync, and the boundary is before this id.
 abbrev pub NeedsFlush : CoreState → ℕ → Command → Type 0
 NeedsFlush core since command = (FULL_GROUP_PAGES ≤ core.heap.pages.group.pages) ⊎ (IsSync command × (core.boundary < since))
 
--- A call was answered and entered, and the flush is where it was; or it waits for a flush, and is handed back; or no id was left.
+-- A call was answered and entered, and the flush and the calls that are open are as before; or it waits for a flush, and is handed back; or no id was left.
 -- In both of these all is as before.
 abbrev pub Steps : CoreState → CoreState → ℕ → ℕ → ℕ → Command → Step → Type 0
 Steps old new lane line since command (Answered place) =
-    (place ≡ length old.history) × Enters old new lane line since command × (new.flush ≡ old.flush) × ¬ NeedsFlush old since command
+    (place ≡ length old.history) × Enters old new lane line since command × (new.flush ≡ old.flush) × (new.running ≡ old.running)
+    × ¬ NeedsFlush old since command
 Steps old new lane line since command (MustFlush back) =
     (back ≡ command) × (new ≡ old) × (old.last < GREATEST_ID) × NeedsFlush old since command
 Steps old new lane line since command Spent = (old.last ≡ GREATEST_ID) × (new ≡ old)

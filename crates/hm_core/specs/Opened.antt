@@ -96,10 +96,11 @@ pub record IsMade (bigblocks : ℕ) (old new : Told) : Type 0 where
   pub room : IsTooSmall bigblocks old → ⊥
   pub unarmed : IsUnarmed new.bytes
 
--- A core as it is mounted over a disk whose faults were counted so far: nothing has happened yet, no flush is in flight, and the header
--- names no entries of the log.
+-- A core as it is mounted over a disk whose faults were counted so far: nothing has happened yet, no call is open, no flush is in flight,
+-- and the header names no entries of the log.
 pub record IsMounted (faults : ℕ) (core : CoreState) : Type 0 where
   pub history : core.history ≡ []
+  pub running : core.running ≡ []
   pub counts : (faults ≤ core.counts.disk) × (core.mounted.counts ≡ core.counts)
   pub ids : (core.last ≡ core.boundary) × (core.mounted.first ≡ core.boundary) × (core.boundary ≡ core.flush.header.last.0)
   pub idle : (core.flush.at ≡ Idle) × (core.flush.header.undo_count ≡ 0)

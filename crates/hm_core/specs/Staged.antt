@@ -46,6 +46,7 @@ Settles core = core.flush.at ≡ Idle → IfSome core.heap.disk (λ t. t.unsettl
 pub record Refuses (old new : CoreState) (lane line : ℕ) (command : Command) : Type 0 where
   pub failed : StageFails old.flush new.flush old.heap.pages new.heap.pages
   pub enters : Enters old new lane line old.last command
+  pub running : new.running ≡ old.running
   pub cause : TellsFailure old.counts.disk new.counts.disk enters.entry.reply
 
 -- A stage was made for a call, which is handed back; or it failed, and the call was refused and entered, or no id was left for that.

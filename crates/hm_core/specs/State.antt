@@ -12,11 +12,13 @@ pub record Mounted : Type 0 where
   pub free : ℕ
   pub counts : Counts
 
--- The run's history, and how many more entries it has room for; the last id that was drawn, and the last one that is committed;
+-- The run's history, the opening ids of the calls that are open, and how many more entries there is room for beside the endings of
+-- these; the last id that was drawn, and the last one that is committed;
 -- what there was at mounting, and the counts of faults by now; the header that counts on the disk and how far a flush has come;
 -- what its space holds, and where the tree begins in it. No device is part of it.
 pub record CoreState : Type 0 where
   pub history : List Entry
+  pub running : List ℕ
   pub spare : ℕ
   pub last : ℕ
   pub boundary : ℕ

@@ -64,7 +64,7 @@ pub fn a_core_follows_what_it_followed_before<D: Disk>()
 pub fn a_core_begins_with_no_history()
     ensures { (free : ℕ) (start faults : Counts) (h : Heap) (root last : ℕ) (opening : Volume)
         (foreigners : Foreigners) → AreLater start faults → HoldsVolume h root last opening →
-        IsLegalOver free start faults [] h root last opening foreigners [] }
+        IsLegalOver free start faults [] h root last [] opening foreigners [] }
 {}
 
 /// A call that was served: where a history is legal over an opening volume by some events, and the space
@@ -73,47 +73,47 @@ pub fn a_core_begins_with_no_history()
 /// nothing of the volume.
 pub fn a_served_call_goes_on<T: ElementStore + Extents>()
     ensures { (free : ℕ) (start faults faults' : Counts) (history : List Entry) (h h' : Heap)
-        (root root' last : ℕ) (opening : Volume) (foreigners : Foreigners) (events : List Event)
+        (root root' last : ℕ) (running : List ℕ) (opening : Volume) (foreigners : Foreigners) (events : List Event)
         (entry : Entry) (old new : T) →
-        IsLegalOver free start faults history h root last opening foreigners events →
+        IsLegalOver free start faults history h root last running opening foreigners events →
         AreLater faults faults' → IsNextCall last entry →
         Serves T.elements T.extents T.free (floor free history) last entry old new h h' root root' →
-        IsLegalBeyond free start faults' (history ++ entry ∷ []) h' root' (last + 1) opening foreigners events }
+        IsLegalBeyond free start faults' (history ++ entry ∷ []) h' root' (last + 1) running opening foreigners events }
 {}
 
 /// A call that failed: the same, where the device failed or memory was refused, and the space that
 /// came of it holds what the one before held.
 pub fn a_failed_call_goes_on()
     ensures { (free : ℕ) (start faults faults' : Counts) (history : List Entry) (h h' : Heap)
-        (root root' last : ℕ) (opening : Volume) (foreigners : Foreigners) (events : List Event)
+        (root root' last : ℕ) (running : List ℕ) (opening : Volume) (foreigners : Foreigners) (events : List Event)
         (entry : Entry) →
-        IsLegalOver free start faults history h root last opening foreigners events →
+        IsLegalOver free start faults history h root last running opening foreigners events →
         AreLater faults faults' → IsNextCall last entry → Fails faults.disk faults'.disk entry h h' root root' →
-        IsLegalBeyond free start faults' (history ++ entry ∷ []) h' root' (last + 1) opening foreigners events }
+        IsLegalBeyond free start faults' (history ++ entry ∷ []) h' root' (last + 1) running opening foreigners events }
 {}
 
 /// A call `df` that tells the pool of the space, and a number of free big-blocks that is not below the
 /// least: the same, and the space stays.
 pub fn a_call_that_tells_space_goes_on()
     ensures { (free : ℕ) (start faults faults' : Counts) (history : List Entry) (h : Heap)
-        (root last : ℕ) (opening : Volume) (foreigners : Foreigners) (events : List Event)
+        (root last : ℕ) (running : List ℕ) (opening : Volume) (foreigners : Foreigners) (events : List Event)
         (entry : Entry) →
-        IsLegalOver free start faults history h root last opening foreigners events →
+        IsLegalOver free start faults history h root last running opening foreigners events →
         AreLater faults faults' → last < GREATEST_ID → entry.call ≡ Df → entry.id.0 ≡ last + 1 →
         TellsSpace free history h entry.reply →
-        IsLegalBeyond free start faults' (history ++ entry ∷ []) h root (last + 1) opening foreigners events }
+        IsLegalBeyond free start faults' (history ++ entry ∷ []) h root (last + 1) running opening foreigners events }
 {}
 
 /// A sync: the same, where the boundary that it tells was drawn, and each one that the history told is at
 /// most this one.
 pub fn a_sync_goes_on()
     ensures { (free : ℕ) (start faults faults' : Counts) (history : List Entry) (h : Heap)
-        (root last : ℕ) (opening : Volume) (foreigners : Foreigners) (events : List Event)
+        (root last : ℕ) (running : List ℕ) (opening : Volume) (foreigners : Foreigners) (events : List Event)
         (entry : Entry) (boundary : Id) →
-        IsLegalOver free start faults history h root last opening foreigners events →
+        IsLegalOver free start faults history h root last running opening foreigners events →
         AreLater faults faults' → last < GREATEST_ID → IsSync entry.call → entry.id.0 ≡ last + 1 →
         entry.reply ≡ Synced boundary → boundary.0 ≤ last → AreUpTo boundary.0 history →
-        IsLegalBeyond free start faults' (history ++ entry ∷ []) h root (last + 1) opening foreigners events }
+        IsLegalBeyond free start faults' (history ++ entry ∷ []) h root (last + 1) running opening foreigners events }
 {}
 
 /// Any call that is asked and was refused, since a stage of a flush that was made for it failed: the
@@ -121,12 +121,12 @@ pub fn a_sync_goes_on()
 /// before held.
 pub fn a_refused_call_goes_on()
     ensures { (free : ℕ) (start faults faults' : Counts) (history : List Entry) (h h' : Heap)
-        (root root' last : ℕ) (opening : Volume) (foreigners : Foreigners) (events : List Event)
+        (root root' last : ℕ) (running : List ℕ) (opening : Volume) (foreigners : Foreigners) (events : List Event)
         (entry : Entry) →
-        IsLegalOver free start faults history h root last opening foreigners events →
+        IsLegalOver free start faults history h root last running opening foreigners events →
         AreLater faults faults' → last < GREATEST_ID → IsServed entry.call → entry.id.0 ≡ last + 1 →
         Fails faults.disk faults'.disk entry h h' root root' →
-        IsLegalBeyond free start faults' (history ++ entry ∷ []) h' root' (last + 1) opening foreigners events }
+        IsLegalBeyond free start faults' (history ++ entry ∷ []) h' root' (last + 1) running opening foreigners events }
 {}
 
 /// Once a call was entered, the events of the history up to any earlier id are those of before; and before
@@ -228,8 +228,9 @@ pub fn as_many_are_free_as_the_trees_leave()
 /// trees that the space has, or it tells a failure.
 pub fn a_reply_is_due_in_its_history()
     ensures { (free : ℕ) (start counts : Counts) (history : List Entry) (h : Heap) (root last : ℕ)
-        (opening : Volume) (foreigners : Foreigners) (events : List Event) (event : Event) (faults faults' : ℕ) →
-        IsLegalOver free start counts history h root last opening foreigners events →
+        (running : List ℕ) (opening : Volume) (foreigners : Foreigners) (events : List Event) (event : Event)
+        (faults faults' : ℕ) →
+        IsLegalOver free start counts history h root last running opening foreigners events →
         IsOnTrees event.entry.call →
         ((es : List FullElement) → Holds h root es →
         AreGiven es (volume_of opening foreigners events) event.substitutes) →

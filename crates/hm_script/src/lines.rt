@@ -1,5 +1,5 @@
 // The lines of a script: where each ends, how many there are, and the first of them.
-ghost use Rattle.std.specs.Prelude.{◌≡◌, ◌<◌, ◌∷◌, ◌↔◌, IsTrue, length, take};
+ghost use Rattle.std.specs.Prelude.{◌≡◌, ◌<◌, ◌≤◌, ◌∷◌, ◌↔◌, IsTrue, length, take};
 ghost use Rattle.hm_model.specs.Lines.{texts_of};
 ghost use Rattle.hm_model.specs.Script.{IsTooLong};
 
@@ -20,7 +20,8 @@ pub(crate) fn split_line(script: &[u8]) -> (&[u8], &[u8])
 
 /// The bytes of the first lines, so many: all bytes where there are no more. It takes no memory.
 pub fn first_lines(script: &[u8], count: u32) -> &[u8]
-    ensures { texts_of result.now ≡ take count (texts_of script.now) }
+    ensures texts { texts_of result.now ≡ take count (texts_of script.now) }
+    ensures shorter { length result.now ≤ length script.now }
 {
     let mut end = 0usize;
     let mut left = count;

@@ -33,7 +33,7 @@ SoFar old mid = (mid ≡ old) ⊎ ((¬ IsFlushed old) × (¬ IsFlushed mid))
 -- nothing is entered by a stage, however it ends
 waits_by : (mid new : CoreState) (r : Result Bool Fault) → EndsBy mid new r → Waits mid new
 waits_by mid new (Ok true) ends = elim ends.1 [
-  | inl same ↦ subst (λ (c : CoreState). Waits mid c) (sym same) (record { history = refl; last = refl; spare = refl })
+  | inl same ↦ subst (λ (c : CoreState). Waits mid c) (sym same) (record { history = refl; last = refl; running = refl; spare = refl })
   | inr flush ↦ flush.makes.waits
 ]
 waits_by mid new (Ok false) ends = ends.2.waits

@@ -5,15 +5,16 @@ use Rattle.std.specs.List.{AllByRecursion}
 use Rattle.std.proofs.Math.Seq.{split_at, take-append_seam}
 use Rattle.std.proofs.lemmas.Bool.{true≢false}
 use Rattle.std.proofs.lemmas.Grind.{flat_map-append}
-use Rattle.std.proofs.lemmas.List.{take-append-drop, take_more}
-use Rattle.std.proofs.lemmas.List.Elements.{All-append, All-from_recursion, All-more, Contains-append_cases, recursion_from_All}
+use Rattle.std.proofs.lemmas.List.{length-take, take-append-drop, take_more}
+use Rattle.std.proofs.lemmas.List.Elements.{All-append, All-contains, All-from_recursion, All-more, Contains-append_cases}
+use Rattle.std.proofs.lemmas.List.Elements.{Contains-append_right, recursion_from_All}
 use Rattle.hm_calls.specs.Commands.{IsOnTrees}
 use Rattle.hm_model.specs.declared.command.Command.{Command}
 use Rattle.hm_model.specs.declared.command.Command.TheVariants.{Mkdir, Touch, Symlink, Snapshot, Ln, Mv, Write, Fill, Truncate, Rm, Rmdir, Ls, Cat, Stat, Readlink, Sync, Synctid, Prune, PruneAll, Reblock, PfsMaster, PfsSlave, PfsStatus, PfsUpgrade, MirrorRead, MirrorWrite, MirrorCopy, Df, Progress, End}
 use Rattle.hm_model.specs.declared.line.Line.{Line}
 use Rattle.hm_model.specs.Lines.{texts_of}
 use Rattle.hm_model.specs.Out.{lines_in}
-use Rattle.hm_model.specs.Script.{Gives, IsFirstBadLine, IsGood, IsScriptOf, ReadEach, blocks_of, goes_on, is_remark, with_line}
+use Rattle.hm_model.specs.Script.{Gives, IsFirstBadLine, IsGood, IsScriptOf, IsTooLong, ReadEach, blocks_of, goes_on, is_remark, with_line}
 use Rattle.hm_script.proofs.ScriptLemmas.{gives_is_one}
 use Rattle.hm_core.specs.Served.{IsServed}
 use Rattle.hm_shell.specs.Alone.{IsSingle, alone}
@@ -264,27 +265,43 @@ bad_in_front script front count number are bad =
       place = bad.place;
     }
 
--- a line outside the grammar is the first bad one where those before it are served
-pub bad_itself : (script front : List ℕ) (blocks : List (List Line)) (number : ℕ) → IsFirstBadLine script number
-    → texts_of front ≡ take (number - 1) (texts_of script) → IsScriptOf front blocks → All IsServable (lines_in blocks) → IsFirstBad script number
-bad_itself script front blocks number first are is each =
-    let count : number - 1 ≡ length first.before = omega (arith, first.place) in
-    let before : texts_of front ≡ first.before =
-    are ∙ (ap (take (number - 1)) first.texts ∙ (ap (λ n. take n (first.before ++ first.bad ∷ first.rest)) count ∙ take-append_seam first.before
-    (first.bad ∷ first.rest))) in
-    record {
-      before = first.before;
-      bad = first.bad;
-      rest = first.rest;
-      texts = first.texts;
-      good = subst (All IsServedText) before (served_from front blocks is each).good;
-      outside = λ served. first.outside (good_text served);
-      place = first.place;
-    }
-  where
+-- the lines before the first one outside the grammar
+module _ (script front : List ℕ) (number : ℕ) (first : IsFirstBadLine script number)
+    (are : texts_of front ≡ take (number - 1) (texts_of script)) where
+  before_it : texts_of front ≡ first.before
+  before_it =
+      let count : number - 1 ≡ length first.before = omega (arith, first.place) in
+      are ∙ (ap (take (number - 1)) first.texts ∙ (ap (λ n. take n (first.before ++ first.bad ∷ first.rest)) count
+      ∙ take-append_seam first.before (first.bad ∷ first.rest)))
+
+  -- none of them is outside it
+  pub none_before_it : (earlier : ℕ) → IsFirstBadLine front earlier → ⊥
+  none_before_it earlier other =
+      other.outside (All-contains IsGood first.before other.bad first.good
+      (subst (λ (ts : List (List ℕ)). Contains ts other.bad) (sym other.texts ∙ before_it)
+      (Contains-append_right other.before (other.bad ∷ other.rest) other.bad (0, omega arith, refl))))
+
+  -- where they are served, that one is the first bad one
+  pub bad_itself : (blocks : List (List Line)) → IsScriptOf front blocks → All IsServable (lines_in blocks) → IsFirstBad script number
+  bad_itself blocks is each = record {
+    before = first.before;
+    bad = first.bad;
+    rest = first.rest;
+    texts = first.texts;
+    good = subst (All IsServedText) before_it (served_from front blocks is each).good;
+    outside = λ served. first.outside (good_text served);
+    place = first.place;
+  } where
     good_text : IsServedText first.bad → IsGood first.bad
     good_text (inl remark) = inl remark
     good_text (inr given) = inr (0, given.0, given.1)
+
+-- the first lines of a script are not too long where it is not
+pub front_too_long : (script front : List ℕ) (count : ℕ) → texts_of front ≡ take count (texts_of script) → length front ≤ length script
+    → IsTooLong front → IsTooLong script
+front_too_long script front count are shorter (inl bytes) = inl (omega (arith, shorter, bytes))
+front_too_long script front count are shorter (inr lines) =
+    inr (let same = ap length are in let taken = length-take count (texts_of script) in omega (arith, lines, same, taken))
 
 -- lines were looked through up to one
 module _ (lines : List Line) (i : ℕ) (line : Line) (within : i < length lines) (here : line ≡ get_or lines i line) (each : All IsServable (take i lines)) where

@@ -80,7 +80,7 @@ record HasRun (lines : List Line) (line : Line) (begun old new : CoreState) (tex
 
 module _ (lines : List Line) (line : Line) (later : (l : Line) → Contains lines l → l.number < line.number) (alone : IsAlone line)
     (past mid : LeftSince) (begun old : CoreState) (held holds : Option (List ℕ)) (served : Served lines past mid begun old held holds) where
-  module _ (new : CoreState) (enters : Enters old new line.lane line.number old.last line.command) where
+  module _ (new : CoreState) (enters : Enters old new line.lane line.number old.last line.command) (open_is : new.running ≡ old.running) where
     own_entry : IsOf line enters.entry
     own_entry = record { lane = enters.of_line.0; number = enters.of_line.1; command = enters.of_line.2 }
 
@@ -112,7 +112,7 @@ module _ (lines : List Line) (line : Line) (later : (l : Line) → Contains line
       own = rw enters.history (append-nil (line_text (old.history ++ enters.entry ∷ []) line)
           ∙ text_answered lines old.history line later old.last served.answers enters.entry own_entry alone.single);
       both = rw enters.history (out_answered lines old.history line later old.last served.answers enters.entry own_entry alone.single);
-      spare = enters.spare;
+      spare = (let least = enters.spare in let same = ap length open_is in omega (arith, least, same));
     }
 
   has_spent : old.last ≡ GREATEST_ID → HasRun lines line begun old old (printed_line spent_words)
@@ -127,7 +127,7 @@ module _ (lines : List Line) (line : Line) (later : (l : Line) → Contains line
   }
 
   has_run : (new : CoreState) (text : List ℕ) → RunsLine old new line text → HasRun lines line begun old new text
-  has_run new text (inl entered) = rw entered.1 (has_entered new entered.0)
+  has_run new text (inl entered) = rw entered.2 (has_entered new entered.0 entered.1)
   has_run new text (inr spent) = rw (spent.1, spent.2) (has_spent spent.0)
 
   module _ (since : LeftSince) (new : CoreState) (follows : Follows mid since old new) where
@@ -273,6 +273,7 @@ module _ (old new : CoreState) (line : Line) where
       → slice_get new.history place ≡ Some e → RunsLine old new line (printed_line (entry_words e))
   runs_answered place e answers there = inl (
     answers.1,
+    answers.2,
     ap (λ (x : Entry). printed_line (entry_words x))
         (entry_there old.history answers.1.entry e place answers.0
         (subst (λ (h : List Entry). slice_get h place ≡ Some e) answers.1.history there)),

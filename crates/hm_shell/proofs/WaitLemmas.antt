@@ -20,6 +20,7 @@ pub waits_more : (a b c : CoreState) → Waits a b → Waits b c → Waits a c
 waits_more a b c first second = record {
   history = second.history ∙ first.history;
   last = second.last ∙ first.last;
+  running = second.running ∙ first.running;
   spare = second.spare ∙ first.spare;
 }
 
@@ -37,6 +38,10 @@ waited_length : (a b : CoreState) → Waited a b → length b.history ≡ length
 waited_length a b (inl same) = ap (λ (x : CoreState). length x.history) same
 waited_length a b (inr waited) = ap length waited.0.history
 
+waited_running : (a b : CoreState) → Waited a b → b.running ≡ a.running
+waited_running a b (inl same) = ap (λ (x : CoreState). x.running) same
+waited_running a b (inr waited) = waited.0.running
+
 module _ (lane line since : ℕ) (command : Command) where
   waits_enters : (a b c : CoreState) → Waits a b → Enters b c lane line since command → Enters a c lane line since command
   waits_enters a b c waits enters =
@@ -49,7 +54,8 @@ module _ (lane line since : ℕ) (command : Command) where
         told = enters.told;
         id = (enters.id.0 ∙ ap (λ n. n + 1) same, enters.id.1 ∙ ap (λ n. n + 1) same);
         before = enters.before;
-        spare = (let was = waits.spare in let least = enters.spare in omega (arith, was, least));
+        spare =
+            (let was = waits.spare in let open_is = ap length waits.running in let least = enters.spare in omega (arith, was, open_is, least));
       }
 
   waited_enters : (a b c : CoreState) → Waited a b → Enters b c lane line since command → Enters a c lane line since command
@@ -60,16 +66,17 @@ module _ (old mid : CoreState) (lane number since : ℕ) (command waiting : Comm
     (command_is : waiting ≡ command) where
   -- the call was answered, after what it had waited for
   enters_after : (new : CoreState) (place : ℕ) → place ≡ length mid.history → Enters mid new lane number since waiting
-      → AnswersLine old new lane number command (Some place)
-  enters_after new place there enters = (
+      → new.running ≡ mid.running → AnswersLine old new lane number command (Some place)
+  enters_after new place there enters open_is = (
     there ∙ waited_length old mid waited,
     subst (λ (s : ℕ). Enters old new lane number s command) since_is
         (subst (λ (c : Command). Enters old new lane number since c) command_is (waited_enters lane number since waiting old mid new waited enters)),
+    open_is ∙ waited_running old mid waited,
   )
 
   pub answered_after : (new : CoreState) (place : ℕ) → Steps mid new lane number since waiting (Answered place)
       → AnswersLine old new lane number command (Some place)
-  answered_after new place steps = enters_after new place steps.0 steps.1
+  answered_after new place steps = enters_after new place steps.0 steps.1 steps.3
 
   -- it waits for a stage
   module _ (same new : CoreState) (back : Command) (must : Steps mid same lane number since waiting (MustFlush back)) where
@@ -81,6 +88,7 @@ module _ (old mid : CoreState) (lane number since : ℕ) (command waiting : Comm
         (subst (λ (x : CoreState). Enters x new lane number x.last back) must.1 stages.1.enters) in
         enters_after new place (stages.0 ∙ ap (λ (x : CoreState). length x.history) must.1)
         (subst (λ (s : ℕ). Enters mid new lane number s waiting) (waited_last old mid waited ∙ sym since_is) enters)
+        (stages.1.running ∙ ap (λ (x : CoreState). x.running) must.1)
 
     -- or was made
     made : (again : Command) → Stages same new lane number back (More again) → MakesStage mid new

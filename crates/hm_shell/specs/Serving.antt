@@ -55,15 +55,18 @@ pub record ServedInPart (lines : List Line) (past since : LeftSince) (begun core
 abbrev pub Waited : CoreState → CoreState → Type 0
 Waited old new = (new ≡ old) ⊎ (Waits old new × (old.last < GREATEST_ID))
 
--- A call was answered, after the stages for which it waited: its entry stands at this place of the history. Or no id was left.
+-- A call was answered, after the stages for which it waited: its entry stands at this place of the history, and it stays no longer open.
+-- Or no id was left.
 abbrev pub AnswersLine : CoreState → CoreState → ℕ → ℕ → Command → Option ℕ → Type 0
-AnswersLine old new lane number command (Some place) = (place ≡ length old.history) × Enters old new lane number old.last command
+AnswersLine old new lane number command (Some place) =
+    (place ≡ length old.history) × Enters old new lane number old.last command × (new.running ≡ old.running)
 AnswersLine old new lane number command None = (old.last ≡ GREATEST_ID) × (new ≡ old)
 
 -- a line was run, and this is to be printed: its call was entered, or no id was left and all is as before
 abbrev pub RunsLine : CoreState → CoreState → Line → List ℕ → Type 0
 RunsLine old new line text =
-    ((enters : Enters old new line.lane line.number old.last line.command) × (text ≡ printed_line (entry_words enters.entry)))
+    ((enters : Enters old new line.lane line.number old.last line.command) × (new.running ≡ old.running)
+    × (text ≡ printed_line (entry_words enters.entry)))
     ⊎ ((old.last ≡ GREATEST_ID) × (new ≡ old) × (text ≡ printed_line spent_words))
 
 -- a line was run and printed

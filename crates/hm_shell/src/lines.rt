@@ -2,7 +2,7 @@
 ghost use Rattle.std.specs.Prelude.{◌≡◌, All, IfErr, IfOk, MatchOption};
 ghost use Rattle.hm_model.specs.Out.{lines_in};
 ghost use Rattle.hm_model.specs.Script.{IsFirstBadLine};
-ghost use Rattle.hm_shell.specs.Lines.{AreServedLines, IsFirstUnserved, IsLinesStop, IsServable};
+ghost use Rattle.hm_shell.specs.Lines.{AreServedLines, IsFirstBad, IsFirstUnserved, IsLinesStop, IsServable};
 
 use crate::stop::Stop;
 use crate::why::Why;
@@ -20,10 +20,7 @@ pub(crate) fn served_lines(alloc: Global, script: &[u8]) -> Result<Vec<Line>, St
 {
     match read(alloc, script) {
         Ok(blocks) => match first_unserved(&blocks) {
-            Some(number) => Err(Stop::BadLine {
-                number,
-                why: Why::of_line(script, number),
-            }),
+            Some(number) => Err(bad_line(script, number)),
             None => Ok(lines_of(alloc, blocks)?),
         },
         Err(ScriptFault::BadLine { number }) => Err(first_bad(alloc, script, number)),
@@ -38,18 +35,25 @@ fn first_bad(alloc: Global, script: &[u8], number: u32) -> Stop
     requires { IsFirstBadLine script.now number }
     ensures { IsLinesStop script.now result }
 {
-    let Ok(blocks) = read(alloc, first_lines(script, number - 1)) else {
-        return Stop::NoMemory;
-    };
-    match first_unserved(&blocks) {
-        Some(earlier) => Stop::BadLine {
-            number: earlier,
-            why: Why::of_line(script, earlier),
+    match read(alloc, first_lines(script, number - 1)) {
+        Ok(blocks) => match first_unserved(&blocks) {
+            Some(earlier) => bad_line(script, earlier),
+            None => bad_line(script, number),
         },
-        None => Stop::BadLine {
-            number,
-            why: Why::of_line(script, number),
-        },
+        Err(ScriptFault::BadLine { number: earlier }) => bad_line(script, earlier),
+        Err(ScriptFault::TooLong) => Stop::TooLong,
+        Err(ScriptFault::NoMemory) => Stop::NoMemory,
+    }
+}
+
+// What is told of the first line that is not served.
+fn bad_line(script: &[u8], number: u32) -> Stop
+    requires { IsFirstBad script.now number }
+    ensures { IsLinesStop script.now result }
+{
+    Stop::BadLine {
+        number,
+        why: Why::of_line(script, number),
     }
 }
 

@@ -6,8 +6,8 @@ use Rattle.hm_script.proofs.lines.first_lines.Goals as goal
 pub lines-init : goal.lines-init
 lines-init c = record { within = omega arith; ended = λ rest. refl; fewer = omega arith; passed = omega arith }
 
-pub returns-in_default : goal.returns-in_default
-returns-in_default c =
+pub returns-in_default-clause-texts : goal.returns-in_default-clause-texts
+returns-in_default-clause-texts c =
     all_lines c.args.script.now c.lines.end c.args.count c.lines.left c.lines.invariant.ended c.lines.invariant.passed c.lines.invariant.fewer
     c.lines-test.true (rw (rest_is c.lines.end c.args.script.now) at c.in_default.ensures)
 
@@ -22,5 +22,6 @@ lines-preserved c =
       passed = omega (arith, more.1, c.lines.invariant.passed, c.lines.invariant.fewer, c.lines-test.true);
     }
 
-pub returns : goal.returns
-returns c = first_of c.args.script.now c.lines.end c.args.count c.lines.left c.lines.invariant.ended c.lines.invariant.passed (omega (arith, c.lines-test))
+pub returns-clause-texts : goal.returns-clause-texts
+returns-clause-texts c =
+    first_of c.args.script.now c.lines.end c.args.count c.lines.left c.lines.invariant.ended c.lines.invariant.passed (omega (arith, c.lines-test))

@@ -3,8 +3,8 @@ use Rattle.hm_shell.specs.Lines.{AreServedLines}
 use Rattle.hm_shell.proofs.LinesLemmas.{served_from, unserved_from}
 use Rattle.hm_shell.proofs.lines.served_lines.Goals as goal
 
-pub returns-in-Some-clause-err : goal.returns-in-Some-clause-err
-returns-in-Some-clause-err c = unserved_from c.args.script.now c.in-Ok.blocks c.in-Some.number c.in-Ok.ensures.ok c.in-Some.ensures
+pub bad_line-requires : goal.bad_line-requires
+bad_line-requires c = unserved_from c.args.script.now c.in-Ok.blocks c.in-Some.number c.in-Ok.ensures.ok c.in-Some.ensures
 
 pub returns-in_ok-lines_of-in-None-clause-ok : goal.returns-in_ok-lines_of-in-None-clause-ok
 returns-in_ok-lines_of-in-None-clause-ok c =

@@ -110,6 +110,7 @@ returns-clause-steps g c =
         spare = omega (arith, c.push_reserved.ensures.len, c.push_reserved.ensures.capacity);
       },
       refl,
+      refl,
       none,
     )
 
@@ -134,7 +135,7 @@ returns-clause-follows g c =
     call_follows (g.D.Disk.left_since s.stored.space.disk) (g.D.Disk.left_since c.answer_asked-reply.new.stored.space.disk) (seen s) _ c.args.command
     (entry_of (s.last.0 + 1) c.args.lane c.args.line c.args.command c.answer_asked-reply.result) c.core_is_sound.ensures c.core_is_sound-2.ensures
     (target_drawn f s.last.0 s.free h s.history.items s.ordered) (least_left f s.last.0 s.free h s.history.items s.ordered)
-    (record { history = c.push_reserved.ensures.items; last = refl; boundary = refl; mounted = refl; counts = refl; flush = refl })
+    (record { history = c.push_reserved.ensures.items; last = refl; boundary = refl; mounted = refl; counts = refl; flush = refl; running = refl })
     (record { call_is = refl; reply_is = refl; own = refl }) c.answer_asked-reply.ensures.answers c.answer_asked-reply.ensures.crashes
 
 pub returns-clause-crashes : goal.returns-clause-crashes
@@ -147,7 +148,7 @@ returns-clause-crashes g c =
     call_leaves_held (g.D.Disk.left_since s.stored.space.disk) (g.D.Disk.left_since t.space.disk) (seen s) _ c.args.command
     (entry_of (s.last.0 + 1) c.args.lane c.args.line c.args.command c.answer_asked-reply.result) c.core_is_sound.ensures c.core_is_sound-2.ensures
     (target_drawn f s.last.0 s.free h s.history.items s.ordered) (least_left f s.last.0 s.free h s.history.items s.ordered)
-    (record { history = c.push_reserved.ensures.items; last = refl; boundary = refl; mounted = refl; counts = refl; flush = refl })
+    (record { history = c.push_reserved.ensures.items; last = refl; boundary = refl; mounted = refl; counts = refl; flush = refl; running = refl })
     (record { call_is = refl; reply_is = refl; own = refl }) c.answer_asked-reply.ensures.answers c.answer_asked-reply.ensures.crashes
 
 pub returns-clause-live : goal.returns-clause-live

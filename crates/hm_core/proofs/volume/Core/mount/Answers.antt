@@ -70,7 +70,7 @@ returns-in-Ok-open_space-clause-ok g c =
     let counted : g.D.Disk.faults c.args.disk ≤ g.D.Disk.faults s.disk =
     omega (arith, c.recover.ensures.cause.never_falls, c.in-Ok-open_space.ensures.faults, same) in
     is_mounted _ header c.in-Ok.opened.slot c.new.ensures c.new-in-Ok-open_space.ensures.items c.over.ensures.root (refl, refl) refl
-    (ap disk_counts start) told (g.D.Disk.faults c.args.disk) counted c.in-Ok.ensures.opened.none read c.core_is_sound.ensures
+    (ap disk_counts start) refl told (g.D.Disk.faults c.args.disk) counted c.in-Ok.ensures.opened.none read c.core_is_sound.ensures
 
 pub returns-in-Ok-open_space-clause-disk : goal.returns-in-Ok-open_space-clause-disk
 unfolding heap_of
@@ -92,7 +92,7 @@ returns-in-Ok-open_space-clause-disk g c =
     (D.told old) (D.told mid) (D.told s.disk) (left old) (left mid) (left s.disk)
     (ap (λ s. D.past s.disk) c.over.ensures.space ∙ c.in-Ok-open_space.ensures.past) is.disk c.in-Ok.ensures.ok c.in-Ok.ensures.any_moment in
     mounts_disk _ header c.in-Ok.opened.slot c.new.ensures c.new-in-Ok-open_space.ensures.items c.over.ensures.root (refl, refl) refl
-    (ap disk_counts (c.faults.ensures ∙ ap D.faults c.disk.ensures ∙ sym (ap (λ s. D.faults s.disk) c.over.ensures.space)))
+    (ap disk_counts (c.faults.ensures ∙ ap D.faults c.disk.ensures ∙ sym (ap (λ s. D.faults s.disk) c.over.ensures.space))) refl
     (D.left_since old) (D.left_since s.disk) (D.told old) (D.told mid) after is
 
 pub returns-in-Err-open_space-clause-err : goal.returns-in-Err-open_space-clause-err
