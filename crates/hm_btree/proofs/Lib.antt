@@ -41,6 +41,7 @@ pub mod ShrinkLemmas
 pub mod ShrinksLemmas
 pub mod SpendLemmas
 pub mod SplitLemmas
+pub mod StepLemmas
 pub mod StoreLemmas
 pub mod ToldLemmas
 pub mod TopLemmas

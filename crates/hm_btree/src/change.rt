@@ -1,5 +1,5 @@
 // Changes of an element that stays where it is.
-ghost use Rattle.std.specs.Prelude.{◌≡◌, ◌<◌, max, IfOk, OnOk, IsTrue, is_some};
+ghost use Rattle.std.specs.Prelude.{◌≡◌, ◌+◌, ◌≤◌, ◌<◌, max, IfOk, OnOk, IsTrue, is_some};
 ghost use Rattle.hm_key.specs.Elements.{element_at, element_key};
 ghost use Rattle.hm_key.specs.Key.{key_of};
 ghost use Rattle.hm_key.specs.Places.{leading};
@@ -7,7 +7,7 @@ ghost use Rattle.hm_node.specs.Edits.{ChangesPlace, IsLeafPage};
 ghost use Rattle.hm_node.specs.Head.{head_in};
 ghost use Rattle.hm_node.specs.Inner.{IsNodeOffset};
 ghost use Rattle.hm_node.specs.Leaf.{element_in, leaf_in, HasLeafOrder, IsPlaced};
-ghost use Rattle.hm_node.specs.Node.{node_in};
+ghost use Rattle.hm_node.specs.Node.{level_of, node_in};
 ghost use Rattle.hm_node.specs.Places.{place as place_at};
 ghost use Rattle.hm_node.specs.Shape.{HoldsNode};
 ghost use Rattle.hm_search.specs.Descent.{HasSearchCause};
@@ -22,8 +22,9 @@ use crate::space::NodeSpace;
 use hm_fields::Page;
 use hm_key::Base;
 use hm_node::{Head, LEAF, place, put_delete, put_payload, read_base, set_mirror};
-use hm_search::{Subtree, child_below, holder_place_in, leaf_place_in, visit};
+use hm_search::{Steps, Subtree, child_below, holder_place_in, leaf_place_in, step_into};
 use hm_types::{Fault, HOff};
+use std::sync::ledger::Ledger;
 
 /// What becomes of an element.
 #[derive(Clone, Copy, Debug)]
@@ -34,17 +35,20 @@ pub enum Change {
     Move(HOff),
 }
 
-/// Changes the element at the key of `at` in the tree from a root on.
-pub fn change_element<S: NodeSpace>(
+/// Changes the element at the key of `at` in the tree from a root on. A node a level is asked for, nine at
+/// most.
+pub fn change_element<S: NodeSpace, L: Ledger>(
     space: &mut S,
     root: HOff,
     at: &Base,
     change: Change,
+    steps: &mut Steps<L>,
 ) -> Result<(), Fault>
     requires root { IsNodeOffset root }
     requires may { MayChange (key_of at.now) change }
     ensures done { OnOk result (ChangesElement (key_of at.now) change root
         (S.pages space.old) (S.pages space.new)) }
+    ensures steps { steps.new ≤ steps.old + 9 }
     ensures rest { S.rest space.new ≡ S.rest space.old }
     ensures stays { Stays S.Counted space.old space.new }
     ensures cause { HasSearchCause (S.pages space.old) (root_place root)
@@ -52,23 +56,25 @@ pub fn change_element<S: NodeSpace>(
 {
     let place = Subtree::root(root);
     let mut page = Page::zero();
-    visit(space, &place, &mut page)?;
-    let changed = change_in(space, &mut page, at, change)?;
+    step_into(space, &place, &mut page, steps)?;
+    let changed = change_in(space, &mut page, at, change, steps)?;
     update_page(space, root, &page, changed)
 }
 
 // Changes the element at the key of `at` below the node in a page, which is not written, and answers
 // whether the page changed.
-fn change_in<S: NodeSpace>(
+fn change_in<S: NodeSpace, L: Ledger>(
     space: &mut S,
     page: &mut Page,
     at: &Base,
     change: Change,
+    steps: &mut Steps<L>,
 ) -> Result<bool, Fault>
     requires node { HoldsNode page.old }
     requires may { MayChange (key_of at.now) change }
     ensures done { IfOk result (ChangesBelow (key_of at.now) change
         (S.pages space.old) (S.pages space.new) page.old page.new) }
+    ensures steps { steps.new + 1 ≤ steps.old + level_of (node_in page.old) }
     ensures rest { S.rest space.new ≡ S.rest space.old }
     ensures stays { Stays S.Counted space.old space.new }
     ensures cause { HasPassCause (S.pages space.old) (node_in page.old)
@@ -80,8 +86,8 @@ fn change_in<S: NodeSpace>(
     let i = holder_place_in(page, at);
     let place = child_below(page, i);
     let mut child = Page::zero();
-    visit(space, &place, &mut child)?;
-    let changed = change_in(space, &mut child, at, change)?;
+    step_into(space, &place, &mut child, steps)?;
+    let changed = change_in(space, &mut child, at, change, steps)?;
     update_page(space, place.at, &child, changed)?;
     Ok(set_mirror(page, i, mirror_in(&child)))
 }

@@ -1,5 +1,5 @@
 // Insertion of an element below a node.
-ghost use Rattle.std.specs.Prelude.{◌≡◌, ◌≢◌, ◌↔◌, ◌*◌, ◌-◌, ◌≤◌, Some, length, max, insert, slice_get, IfOk, IsTrue};
+ghost use Rattle.std.specs.Prelude.{◌≡◌, ◌≢◌, ◌↔◌, ◌+◌, ◌*◌, ◌-◌, ◌≤◌, Some, length, max, insert, slice_get, IfOk, IsTrue};
 ghost use Rattle.hm_types.specs.Faults.{HasStoreCause};
 ghost use Rattle.hm_key.specs.Elements.{last_id};
 ghost use Rattle.hm_key.specs.declared.element.Element.{Element as Elem};
@@ -24,23 +24,26 @@ use crate::upper::Grown;
 use hm_fields::Page;
 use hm_key::{Base, Element};
 use hm_node::{Child, Head, Inner, LEAF, Leaf, insert_element, set_mirror};
-use hm_search::{child_below, holder_place_in, leaf_place_in, visit};
+use hm_search::{Steps, child_below, holder_place_in, leaf_place_in, step_into};
 use hm_types::{Counted, Fault, MOST_LEAF_ELEMENTS, TREE_ZONE};
+use std::sync::ledger::Ledger;
 
 /// Inserts an element below the node in a page, which is not written. Where the node becomes two, the
 /// upper one gets the other page, which is not written either. Takes one node less of room than the
-/// node has levels.
-pub fn insert_into<S: NodeSpace>(
+/// node has levels, and asks for so many at most.
+pub fn insert_into<S: NodeSpace, L: Ledger>(
     space: &mut S,
     page: &mut Page,
     upper: &mut Option<Page>,
     element: &Element,
+    steps: &mut Steps<L>,
 ) -> Result<Grown, Fault>
     requires node { HoldsNode page.old }
     requires element { IsPlaced element.now }
     requires room { NODE_BYTES * (level_of (node_in page.old) - 1) ≤ S.room space.old TREE_ZONE }
     ensures done { IfOk result (InsertsBelow S.pages S.extents element.now
         space.old space.new page.old page.new (page_in upper.new)) }
+    ensures steps { steps.new + 1 ≤ steps.old + level_of (node_in page.old) }
     ensures spent { StaysWithin S.HasRoom
         (in_zone TREE_ZONE (NODE_BYTES * (level_of (node_in page.old) - 1))) space.old space.new }
     ensures cause { HasPassCause (S.pages space.old) (node_in page.old)
@@ -56,8 +59,8 @@ pub fn insert_into<S: NodeSpace>(
     let i = holder_place_in(page, &element.base);
     let place = child_below(page, i);
     let mut child = Page::zero();
-    visit(space, &place, &mut child)?;
-    let Grown { changed, left } = insert_into(space, &mut child, upper, element)?;
+    step_into(space, &place, &mut child, steps)?;
+    let Grown { changed, left } = insert_into(space, &mut child, upper, element, steps)?;
     update_page(space, place.at, &child, changed)?;
     let changed = set_mirror(page, i, mirror_in(&child));
     match left {

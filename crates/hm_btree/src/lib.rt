@@ -19,9 +19,13 @@ mod space;
 mod store;
 mod top;
 mod tree;
+mod uncounted;
 mod upper;
 
+pub use change::{Change, change_element};
 pub use mem_space::MemSpace;
 pub use node_table::NodeTable;
+pub use root::insert_from;
 pub use space::{NODE_BYTES, NodeSpace};
+pub use top::remove_from;
 pub use tree::BTree;

@@ -1,19 +1,18 @@
 // Removal of an element below a node.
-ghost use Rattle.std.specs.Prelude.{◌≡◌, ◌+◌, ◌<◌, IfSome, IsSome, IfOk, IfErr, OnOk, Some, slice_get};
+ghost use Rattle.std.specs.Prelude.{◌≡◌, ◌+◌, ◌*◌, ◌≤◌, ◌<◌, IfSome, IsSome, IfOk, IfErr, OnOk, Some, slice_get};
 ghost use Rattle.hm_types.specs.Faults.{HasFaultCause, HasStoreCause};
 ghost use Rattle.hm_key.specs.Key.{key_of};
 ghost use Rattle.hm_types.specs.Space.{nothing};
 ghost use Rattle.hm_node.specs.Edits.{IsLeafPage};
 ghost use Rattle.hm_node.specs.Inner.{inner_in, IsNodeOffset};
-ghost use Rattle.hm_node.specs.Node.{node_in};
+ghost use Rattle.hm_node.specs.Node.{level_of, node_in};
 ghost use Rattle.hm_node.specs.Shape.{HoldsNode};
 ghost use Rattle.hm_node.specs.declared.inner.Child.{Child as ChildOf};
-ghost use Rattle.hm_search.specs.Descent.{PassesHere, Reads};
-ghost use Rattle.hm_search.specs.Place.{FitsLevel, TellsUnmet};
-ghost use Rattle.hm_btree.specs.Calls.Remove.{HasPair, IsPair, JoinsChild, JoinsPair, MayRejoin};
+ghost use Rattle.hm_search.specs.Descent.{Reads};
+ghost use Rattle.hm_search.specs.Place.{TellsUnmet};
+ghost use Rattle.hm_btree.specs.Calls.Remove.{HasPair, IsPair, IsVisited, JoinsChild, JoinsPair, MayRejoin};
 ghost use Rattle.hm_btree.specs.Calls.Remove.{RejoinsIn, RemovesBelow, RemovesInLeaf};
 ghost use Rattle.hm_btree.specs.Calls.Space.{StaysWithin};
-ghost use Rattle.hm_btree.specs.Shape.{IsShaped};
 ghost use Rattle.hm_btree.specs.Shrink.{HoldsElement, HasNeighbours, IsLevelBelow, IsShrunk};
 
 use crate::change::has_element_in;
@@ -24,18 +23,26 @@ use crate::space::NodeSpace;
 use hm_fields::Page;
 use hm_key::Base;
 use hm_node::{Head, Inner, LEAF, Node, node_of, remove_element, set_mirror};
-use hm_search::{Subtree, child_below, holder_place_in, leaf_place_in, visit};
+use hm_search::{Steps, Subtree, child_below, holder_place_in, leaf_place_in, step_into};
 use hm_types::{Counted, Fault};
+use std::sync::ledger::Ledger;
 
 /// Removes the element at the key of `at` below the node in a page, which is not written and may be left
 /// with too few places, and answers whether the page changed. Where the pages are told, they must be
-/// sound and have the element. An inner node must have two children.
-pub fn remove_below<S: NodeSpace>(space: &mut S, page: &mut Page, at: &Base) -> Result<bool, Fault>
+/// sound and have the element. An inner node must have two children. Asks for a node a level, and for a
+/// neighbour of each at most.
+pub fn remove_below<S: NodeSpace, L: Ledger>(
+    space: &mut S,
+    page: &mut Page,
+    at: &Base,
+    steps: &mut Steps<L>,
+) -> Result<bool, Fault>
     requires node { HoldsNode page.old }
     requires many { HasNeighbours (node_in page.old) }
     requires told { IfSome (S.pages space.old) (HoldsElement (key_of at.now) (node_in page.old)) }
     ensures done { IfOk result (RemovesBelow S.pages S.extents (key_of at.now)
         space.old space.new page.old page.new) }
+    ensures steps { steps.new + 2 ≤ steps.old + level_of (node_in page.old) * 2 }
     ensures spent { StaysWithin S.HasRoom nothing space.old space.new }
     ensures cause { HasStoreCause (S.pages space.old)
         (S.faults space.old) (S.faults space.new) result }
@@ -46,10 +53,10 @@ pub fn remove_below<S: NodeSpace>(space: &mut S, page: &mut Page, at: &Base) -> 
     let i = holder_place_in(page, at);
     let place = child_below(page, i);
     let mut child = Page::zero();
-    visit(space, &place, &mut child)?;
-    let changed = remove_below(space, &mut child, at)?;
+    step_into(space, &place, &mut child, steps)?;
+    let changed = remove_below(space, &mut child, at, steps)?;
     if is_small_in(&child) {
-        rejoin_in(space, page, i, &child)?;
+        rejoin_in(space, page, i, &child, steps)?;
         return Ok(true);
     }
     update_page(space, place.at, &child, changed)?;
@@ -71,66 +78,73 @@ fn remove_in_leaf(page: &mut Page, at: &Base) -> bool
 
 // Joins the child at a place, whose page has too few places and is not put, with a neighbour. For that
 // the nodes are built.
-fn rejoin_in<S: NodeSpace>(
+fn rejoin_in<S: NodeSpace, L: Ledger>(
     space: &mut S,
     page: &mut Page,
     i: usize,
     child: &Page,
+    steps: &mut Steps<L>,
 ) -> Result<(), Fault>
     requires may { MayRejoin page.old i child.now }
     requires told { IfSome (S.pages space.old) (IsShrunk (inner_in page.old) i (node_in child.now)) }
     ensures done { OnOk result (RejoinsIn S.pages S.extents i child.now
         space.old space.new page.old page.new) }
+    ensures step { steps.new ≡ steps.old + 1 }
     ensures spent { StaysWithin S.HasRoom nothing space.old space.new }
     ensures cause { HasStoreCause (S.pages space.old)
         (S.faults space.old) (S.faults space.new) result }
 {
     let mut inner = Inner::of(page);
-    rejoin(space, &mut inner, i, node_of(child))?;
+    rejoin(space, &mut inner, i, node_of(child), steps)?;
     inner.write(page);
     Ok(())
 }
 
 // Joins the child at a place, which has too few places and is not written, with a neighbour.
-fn rejoin<S: NodeSpace>(
+fn rejoin<S: NodeSpace, L: Ledger>(
     space: &mut S,
     inner: &mut Inner,
     i: usize,
     child: Node,
+    steps: &mut Steps<L>,
 ) -> Result<(), Fault>
     requires inner { HasPair inner.old i }
     requires child { IsLevelBelow inner.old.level child }
     requires told { IfSome (S.pages space.old) (IsShrunk inner.old i child) }
     ensures done { OnOk result (JoinsChild S.pages S.extents i child
         space.old space.new inner.old inner.new) }
+    ensures step { steps.new ≡ steps.old + 1 }
     ensures spent { StaysWithin S.HasRoom nothing space.old space.new }
     ensures cause { HasStoreCause (S.pages space.old)
         (S.faults space.old) (S.faults space.new) result }
 {
     let count = inner.places.len();
     if i + 1 < count {
-        let right = visited_node(space, &Subtree::child(inner, i + 1))?;
+        let right = visited_node(space, &Subtree::child(inner, i + 1), steps)?;
         join_at(space, inner, i, child, right)
     } else {
-        let left = visited_node(space, &Subtree::child(inner, i - 1))?;
+        let left = visited_node(space, &Subtree::child(inner, i - 1), steps)?;
         join_at(space, inner, i - 1, left, child)
     }
 }
 
 // The node at a place. That its page holds one is believed, as by a search, and the rules of the place
 // alone are checked.
-fn visited_node<S: NodeSpace>(space: &mut S, place: &Subtree) -> Result<Node, Fault>
+fn visited_node<S: NodeSpace, L: Ledger>(
+    space: &mut S,
+    place: &Subtree,
+    steps: &mut Steps<L>,
+) -> Result<Node, Fault>
     requires { IsNodeOffset place.now.at }
-    ensures shape { IfOk result IsShaped }
-    ensures level { IfOk result (FitsLevel place.now.parent) }
-    ensures here { IfSome (S.pages space.old) (λ map. IfOk result (PassesHere map place.now)) }
+    ensures ok { IfOk result (IsVisited place.now (S.pages space.old)) }
+    ensures step { steps.new ≡ steps.old + 1 }
     ensures damage { IfSome (S.pages space.old) (λ map.
         IfErr result (TellsUnmet place.now (map place.now.at))) }
     ensures same { Reads S.name S.frame S.rest S.pages space.old space.new }
     ensures cause { HasFaultCause (S.faults space.old) (S.faults space.new) result }
 {
     let mut page = Page::zero();
-    visit(space, place, &mut page)?;
+    step_into(space, place, &mut page, steps)?;
     Ok(node_of(&page))
 }
 

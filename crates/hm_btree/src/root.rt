@@ -1,5 +1,5 @@
 // Insertion of an element into a tree.
-ghost use Rattle.std.specs.Prelude.{◌≡◌, ◌⊎◌, ◌*◌, ◌^◌, ◌<◌, ◌≤◌, IfOk, OnErr};
+ghost use Rattle.std.specs.Prelude.{◌≡◌, ◌⊎◌, ◌+◌, ◌*◌, ◌^◌, ◌<◌, ◌≤◌, IfOk, OnErr};
 ghost use Rattle.hm_types.specs.Faults.{HasStoreCause};
 ghost use Rattle.hm_types.specs.Space.{in_zone};
 ghost use Rattle.hm_node.specs.Inner.{IsNodeOffset};
@@ -20,21 +20,24 @@ use arrayvec::ArrayVec;
 use hm_fields::Page;
 use hm_key::{Base, Element};
 use hm_node::{Child, Inner, Node};
-use hm_search::{Subtree, visit};
+use hm_search::{Steps, Subtree, step_into};
 use hm_types::{Counted, Fault, HOff, INSERT_ROOM, MOST_LEVELS, TREE_ZONE};
+use std::sync::ledger::Ledger;
 
 /// Inserts an element into the tree from a root on, and answers the root that it then has. Takes ten
-/// nodes of room at most.
-pub fn insert_from<S: NodeSpace>(
+/// nodes of room at most, and asks for one node a level, nine at most.
+pub fn insert_from<S: NodeSpace, L: Ledger>(
     space: &mut S,
     root: HOff,
     element: &Element,
+    steps: &mut Steps<L>,
 ) -> Result<HOff, Fault>
     requires root { IsNodeOffset root }
     requires element { IsPlaced element.now }
     requires room { INSERT_ROOM ≤ S.room space.old TREE_ZONE }
     ensures done { IfOk result (InsertsFrom S.pages S.extents element.now
         space.old space.new root) }
+    ensures steps { steps.new ≤ steps.old + 9 }
     ensures spent { StaysWithin S.HasRoom (in_zone TREE_ZONE INSERT_ROOM) space.old space.new }
     ensures cause { HasSearchCause (S.pages space.old) (root_place root)
         (S.faults space.old) (S.faults space.new) result }
@@ -43,8 +46,8 @@ pub fn insert_from<S: NodeSpace>(
     let place = Subtree::root(root);
     let mut page = Page::zero();
     let mut upper = None;
-    visit(space, &place, &mut page)?;
-    let Grown { changed, left } = insert_into(space, &mut page, &mut upper, element)?;
+    step_into(space, &place, &mut page, steps)?;
+    let Grown { changed, left } = insert_into(space, &mut page, &mut upper, element, steps)?;
     update_page(space, root, &page, changed)?;
     match left {
         None => Ok(root),

@@ -1,23 +1,17 @@
 // The tree as a store of elements.
-ghost use Rattle.std.specs.Prelude.{◌≡◌, ◌<◌, IfOk, IfSome};
-ghost use Rattle.hm_key.specs.Key.{key_of, greatest_key, IsBefore};
-ghost use Rattle.hm_key.specs.Marks.{IsQuiet};
-ghost use Rattle.hm_key.specs.Stores.{IsEnd};
-ghost use Rattle.hm_node.specs.Inner.{IsNodeOffset};
-ghost use Rattle.hm_search.specs.Descent.{HasSearchCause, Reads};
-ghost use Rattle.hm_search.specs.Tree.{mark_of, root_place, IsSoundTree};
 ghost use Rattle.hm_btree.specs.Laws.{told_sorted, told_marked};
 
-use crate::change::{Change, change_element};
-use crate::root::insert_from;
+use crate::change::Change;
 use crate::space::NodeSpace;
-use crate::top::remove_from;
 use crate::tree::{BTree, known_offset};
+use crate::uncounted::{
+    change_uncounted, first_uncounted, insert_uncounted, last_uncounted, quiet_uncounted,
+    remove_uncounted,
+};
 use hm_key::{Base, Element, ElementStore};
-use hm_search::{Steps, first_at_or_after, last_at_or_before, unchanged_until};
-use hm_types::{Counted, Fault, HOff, Id};
+use hm_types::{Fault, HOff, Id};
 use std::marker::Brand;
-use std::sync::ledger::{Blank, Ledger};
+use std::sync::ledger::Blank;
 
 impl<S: NodeSpace> ElementStore for BTree<S> {
     ghost sorted = { λ t. told_sorted t.intact (S.pages t.space) t.root t.sound };
@@ -27,13 +21,13 @@ impl<S: NodeSpace> ElementStore for BTree<S> {
     fn first_at_or_after(&mut self, at: &Base) -> Result<Option<Element>, Fault> {
         self.require_intact()?;
         self.require_root()?;
-        first_at_or_after(&mut self.space, self.root, at)
+        first_uncounted::<S, Brand>(&mut self.space, self.root, at, Blank::new(1))
     }
 
     fn last_at_or_before(&mut self, at: &Base) -> Result<Option<Element>, Fault> {
         self.require_intact()?;
         self.require_root()?;
-        last_at_or_before(&mut self.space, self.root, at)
+        last_uncounted::<S, Brand>(&mut self.space, self.root, at, Blank::new(1))
     }
 
     fn insert(&mut self, e: &Element) -> Result<(), Fault> {
@@ -41,7 +35,7 @@ impl<S: NodeSpace> ElementStore for BTree<S> {
         self.require_intact()?;
         self.require_root()?;
         self.intact = false;
-        let root = insert_from(&mut self.space, self.root, e)?;
+        let root = insert_uncounted::<S, Brand>(&mut self.space, self.root, e, Blank::new(1))?;
         self.root = root;
         self.intact = true;
         Ok(())
@@ -51,7 +45,8 @@ impl<S: NodeSpace> ElementStore for BTree<S> {
         self.require_intact()?;
         self.require_root()?;
         self.intact = false;
-        change_element(&mut self.space, self.root, at, Change::Close(delete))?;
+        let change = Change::Close(delete);
+        change_uncounted::<S, Brand>(&mut self.space, self.root, at, change, Blank::new(1))?;
         self.intact = true;
         Ok(())
     }
@@ -60,7 +55,7 @@ impl<S: NodeSpace> ElementStore for BTree<S> {
         self.require_intact()?;
         self.require_root()?;
         self.intact = false;
-        let root = remove_from(&mut self.space, self.root, at)?;
+        let root = remove_uncounted::<S, Brand>(&mut self.space, self.root, at, Blank::new(1))?;
         self.root = root;
         self.intact = true;
         Ok(())
@@ -71,7 +66,8 @@ impl<S: NodeSpace> ElementStore for BTree<S> {
         self.require_intact()?;
         self.require_root()?;
         self.intact = false;
-        change_element(&mut self.space, self.root, at, Change::Move(to))?;
+        let change = Change::Move(to);
+        change_uncounted::<S, Brand>(&mut self.space, self.root, at, change, Blank::new(1))?;
         self.intact = true;
         Ok(())
     }
@@ -79,30 +75,6 @@ impl<S: NodeSpace> ElementStore for BTree<S> {
     fn unchanged_until(&mut self, at: &Base, since: Id) -> Result<Option<Base>, Fault> {
         self.require_intact()?;
         self.require_root()?;
-        quiet_in::<S, Brand>(&mut self.space, self.root, at, since, Blank::new(1))
+        quiet_uncounted::<S, Brand>(&mut self.space, self.root, at, since, Blank::new(1))
     }
-}
-
-// How far nothing was written from a key on, by a search of at most nine steps, which count nothing here.
-fn quiet_in<S: NodeSpace, L: Ledger>(
-    space: &mut S,
-    root: HOff,
-    at: &Base,
-    since: Id,
-    blank: Blank,
-) -> Result<Option<Base>, Fault>
-    requires root { IsNodeOffset root }
-    requires before { IsBefore (key_of at.now) greatest_key }
-    requires name { blank.name ≡ L.name }
-    requires parts { blank.parts ≡ L.parts }
-    requires some { 0 < blank.parts }
-    ensures ok { IfSome (S.pages space.old) (λ map. IsSoundTree map root →
-        IfOk result (IsQuiet (mark_of map root) (key_of at.now) since.0)) }
-    ensures found { IfOk result (λ end. IfSome end (IsEnd (key_of at.now))) }
-    ensures same { Reads S.name S.frame S.rest S.pages space.old space.new }
-    ensures cause { HasSearchCause (S.pages space.old) (root_place root)
-        (S.faults space.old) (S.faults space.new) result }
-{
-    let mut steps = Steps::<L>::begin(blank);
-    unchanged_until(space, root, at, since, &mut steps)
 }

@@ -1,13 +1,17 @@
 // The last element at or before each key, in trees of one to three levels, and with each read failing.
+ghost use Rattle.std.specs.Prelude.{◌≡◌, ◌<◌};
+ghost use Rattle.hm_node.specs.Inner.{IsNodeOffset};
 
 use crate::tests::{element, empty, insert};
 use hm_btree::{BTree, NodeTable};
 use hm_fields::{Page, Pages};
 use hm_key::{Base, Element, ElementStore};
 use hm_node::{NodePages, is_node_offset};
-use hm_search::last_at_or_before;
+use hm_search::{Steps, last_at_or_before};
 use hm_types::{Counted, Fault, HOff};
 use std::alloc::Global;
+use std::marker::Brand;
+use std::sync::ledger::{Blank, Ledger};
 use std::test::Fail;
 
 // A tree of the even keys from 2 on, of which the first, the fifth and so on went again. A leaf begins
@@ -108,7 +112,23 @@ impl NodePages for Failing {
     }
 }
 
-// A search in them.
+// A search in them, whose steps are counted in a ledger.
+fn last_in<L: Ledger>(
+    nodes: &mut Failing,
+    root: HOff,
+    at: &Base,
+    blank: Blank,
+) -> Result<Option<Element>, Fault>
+    requires root { IsNodeOffset root }
+    requires name { blank.name ≡ L.name }
+    requires parts { blank.parts ≡ L.parts }
+    requires some { 0 < blank.parts }
+{
+    let mut steps = Steps::<L>::begin(blank);
+    last_at_or_before(nodes, root, at, &mut steps)
+}
+
+// The same, where a node may stand at the root.
 fn search(
     nodes: &mut Failing,
     root: HOff,
@@ -117,7 +137,7 @@ fn search(
     if !is_node_offset(root) {
         return Err(Fail::from("no node stands at the root"));
     }
-    Ok(last_at_or_before(nodes, root, at))
+    Ok(last_in::<Brand>(nodes, root, at, Blank::new(1)))
 }
 
 #[test]

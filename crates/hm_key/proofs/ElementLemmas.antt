@@ -38,23 +38,29 @@ module _ (P : Element → Type 0) where
     by_test false more = (each.0, more)
 
   -- a fact of each element that holds of the changed one too
-  pub each_changed : (at : Key) (change : Element → Element) (es : List Element) → ((e : Element) → stands_at at e ≡ true → P e → P (change e)) → AllByRecursion P es → AllByRecursion P (changed at change es)
+  pub each_changed : (at : Key) (change : Element → Element) (es : List Element) → ((e : Element) → stands_at at e ≡ true → P e → P (change e))
+      → AllByRecursion P es → AllByRecursion P (changed at change es)
   each_changed at change [] still each = tt
   each_changed at change (e ∷ es) still each = by_test (stands_at at e) refl (each_changed at change es still each.1) where
-    by_test : (b : Bool) → stands_at at e ≡ b → AllByRecursion P (changed at change es) → AllByRecursion P (if b then change e ∷ es else e ∷ changed at change es)
+    by_test : (b : Bool) → stands_at at e ≡ b → AllByRecursion P (changed at change es)
+        → AllByRecursion P (if b then change e ∷ es else e ∷ changed at change es)
     by_test true is more = (still e is each.0, each.1)
     by_test false is more = (each.0, more)
 
 -- all that stand after an element stand after one before it
-all_after : (a b : Element) (es : List Element) → element_cmp a b ≡ Less → AllByRecursion (λ y. element_cmp b y ≡ Less) es → AllByRecursion (λ y. element_cmp a y ≡ Less) es
+all_after : (a b : Element) (es : List Element) → element_cmp a b ≡ Less → AllByRecursion (λ y. element_cmp b y ≡ Less) es
+    → AllByRecursion (λ y. element_cmp a y ≡ Less) es
 all_after a b [] before each = tt
 all_after a b (e ∷ es) before each = (key_total.trans (element_key a) (element_key b) (element_key e) before each.0, all_after a b es before each.1)
 
-rising_inserted : (new : Element) (es : List Element) → IsNone (element_at (element_key new) es) → IsStrictlySortedBy element_cmp es → IsStrictlySortedBy element_cmp (inserted new es)
+rising_inserted : (new : Element) (es : List Element) → IsNone (element_at (element_key new) es) → IsStrictlySortedBy element_cmp es
+    → IsStrictlySortedBy element_cmp (inserted new es)
 unfolding IsStrictlySortedBy
 rising_inserted new [] lacks rising = (tt, tt)
 rising_inserted new (e ∷ es) lacks rising = by_order (element_cmp e new) refl lacks (λ less. rising_inserted new es less rising.1) where
-  by_order : (o : Ordering) → element_cmp e new ≡ o → IsNone (if is_eq o then Some e else element_at (element_key new) es) → (IsNone (element_at (element_key new) es) → IsStrictlySortedBy element_cmp (inserted new es)) → IsStrictlySortedBy element_cmp (if is_lt o then e ∷ inserted new es else new ∷ e ∷ es)
+  by_order : (o : Ordering) → element_cmp e new ≡ o → IsNone (if is_eq o then Some e else element_at (element_key new) es)
+      → (IsNone (element_at (element_key new) es) → IsStrictlySortedBy element_cmp (inserted new es))
+      → IsStrictlySortedBy element_cmp (if is_lt o then e ∷ inserted new es else new ∷ e ∷ es)
   by_order Less is lacks more = (each_inserted (λ y. element_cmp e y ≡ Less) new es is rising.0, more lacks)
   by_order Equal is lacks more = absurd (true≢false lacks)
   by_order Greater is lacks more =
@@ -69,13 +75,16 @@ rising_removed at (e ∷ es) rising = by_test (stands_at at e) (rising_removed a
   by_test true more = rising.1
   by_test false more = (each_removed (λ y. element_cmp e y ≡ Less) at es rising.0, more)
 
-rising_changed : (at : Key) (change : Element → Element) (es : List Element) → ((e : Element) → element_key (change e) ≡ element_key e) → IsStrictlySortedBy element_cmp es → IsStrictlySortedBy element_cmp (changed at change es)
+rising_changed : (at : Key) (change : Element → Element) (es : List Element) → ((e : Element) → element_key (change e) ≡ element_key e)
+    → IsStrictlySortedBy element_cmp es → IsStrictlySortedBy element_cmp (changed at change es)
 unfolding IsStrictlySortedBy
 rising_changed at change [] same rising = tt
 rising_changed at change (e ∷ es) same rising = by_test (stands_at at e) (rising_changed at change es same rising.1) where
-  by_test : (b : Bool) → IsStrictlySortedBy element_cmp (changed at change es) → IsStrictlySortedBy element_cmp (if b then change e ∷ es else e ∷ changed at change es)
+  by_test : (b : Bool) → IsStrictlySortedBy element_cmp (changed at change es)
+      → IsStrictlySortedBy element_cmp (if b then change e ∷ es else e ∷ changed at change es)
   by_test true more = (subst (λ (k : Key). AllByRecursion (λ y. key_cmp k (element_key y) ≡ Less) es) (sym (same e)) rising.0, rising.1)
-  by_test false more = (each_changed (λ y. element_cmp e y ≡ Less) at change es (λ y stands less. ap (λ (k : Key). key_cmp (element_key e) k) (same y) ∙ less) rising.0, more)
+  by_test false more =
+      (each_changed (λ y. element_cmp e y ≡ Less) at change es (λ y stands less. ap (λ (k : Key). key_cmp (element_key e) k) (same y) ∙ less) rising.0, more)
 
 -- nothing is in order
 pub content_none : IsContent []
@@ -83,7 +92,8 @@ unfolding IsStrictlySortedBy
 content_none = record { rising = tt; each = All-nil IsElement }
 
 -- a new element comes
-pub content_inserted : (new : Element) (es : List Element) → IsElement new → IsNone (element_at (element_key new) es) → IsContent es → IsContent (inserted new es)
+pub content_inserted : (new : Element) (es : List Element) → IsElement new → IsNone (element_at (element_key new) es) → IsContent es
+    → IsContent (inserted new es)
 content_inserted new es is lacks content = record {
   rising = rising_inserted new es lacks content.rising;
   each = All-from_recursion IsElement (inserted new es) (each_inserted IsElement new es is (recursion_from_All IsElement es content.each));
@@ -97,7 +107,8 @@ content_removed at es content = record {
 }
 
 -- an element changes and keeps its key
-content_changed : (at : Key) (change : Element → Element) (es : List Element) → ((e : Element) → element_key (change e) ≡ element_key e) → ((e : Element) → stands_at at e ≡ true → IsElement e → IsElement (change e)) → IsContent es → IsContent (changed at change es)
+content_changed : (at : Key) (change : Element → Element) (es : List Element) → ((e : Element) → element_key (change e) ≡ element_key e)
+    → ((e : Element) → stands_at at e ≡ true → IsElement e → IsElement (change e)) → IsContent es → IsContent (changed at change es)
 content_changed at change es same still content = record {
   rising = rising_changed at change es same content.rising;
   each = All-from_recursion IsElement (changed at change es) (each_changed IsElement at change es still (recursion_from_All IsElement es content.each));
@@ -118,7 +129,8 @@ fits_changed e delete payload fits = record {
 }
 
 -- an element is closed or opened
-pub content_closed : (at : Key) (delete : ℕ) (es : List Element) → (delete ≡ 0) ⊎ (at.create < delete) → IsContent es → IsContent (changed at (closed_at delete) es)
+pub content_closed : (at : Key) (delete : ℕ) (es : List Element) → (delete ≡ 0) ⊎ (at.create < delete) → IsContent es
+    → IsContent (changed at (closed_at delete) es)
 content_closed at delete es later content = content_changed at (closed_at delete) es (λ e. refl) still content where
   still : (e : Element) → stands_at at e ≡ true → IsElement e → IsElement (closed_at delete e)
   still e stands is =
@@ -132,6 +144,7 @@ content_moved at to es content = content_changed at (moved_to to) es (λ e. refl
   still e stands is = record { made = is.made; closed = is.closed; obj_type = is.obj_type; btype = is.btype; fits = fits_changed e e.base.delete to is.fits }
 
 -- a new element comes, or the list stays
-pub content_if : (b : Bool) (new : Element) (es fs : List Element) (place : ℕ) → IsElement new → IsNone (element_at (element_key new) es) → IsContent es → place ≡ leading (element_key new) es → fs ≡ (if b then insert es place new else es) → IsContent fs
+pub content_if : (b : Bool) (new : Element) (es fs : List Element) (place : ℕ) → IsElement new → IsNone (element_at (element_key new) es) → IsContent es
+    → place ≡ leading (element_key new) es → fs ≡ (if b then insert es place new else es) → IsContent fs
 content_if true new es fs place is lacks content found items = rw (items, inserted_here new es place found) (content_inserted new es is lacks content)
 content_if false new es fs place is lacks content found items = rw items content

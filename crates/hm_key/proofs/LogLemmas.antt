@@ -6,7 +6,8 @@ use Rattle.hm_key.specs.ToyDisk.{Told, LeftSince, MayLeave, Outside}
 use Rattle.hm_key.specs.LogStore.{log_frame, IsSafe, Recovers, StillSafe}
 
 -- on a safe disk each image that a crash now may leave recovers to the committed bytes
-pub crash_recovers : (committed : List ℕ) (size : ℕ) (t : Told) → IsSafe committed size t → (image : List ℕ) → MayLeave t.bytes t.unsettled image → Recovers committed image
+pub crash_recovers : (committed : List ℕ) (size : ℕ) (t : Told) → IsSafe committed size t → (image : List ℕ) → MayLeave t.bytes t.unsettled image
+    → Recovers committed image
 crash_recovers committed size t safe image left at below = left.same at (outside at below) ∙ safe.1 at below where
   outside : (at : ℕ) → at < length committed → Outside t.unsettled at
   outside at below k d h = omega (arith, safe.2 k d h)
@@ -20,13 +21,16 @@ pub still_safe : (old_committed committed : List ℕ) (old_size size : ℕ) (lef
     → BothTell old new (StillSafe old_committed left)
 unfolding log_frame
 still_safe old_committed committed old_size size left None None frame was is only = tt
-still_safe old_committed committed old_size size left None (Some new) frame was is only = let e : Some new.moment ≡ None = ap (λ f. f.moment) frame in absurd (cc)
-still_safe old_committed committed old_size size left (Some old) None frame was is only = let e : None ≡ Some old.moment = ap (λ f. f.moment) frame in absurd (cc)
+still_safe old_committed committed old_size size left None (Some new) frame was is only =
+    let e : Some new.moment ≡ None = ap (λ f. f.moment) frame in absurd (cc)
+still_safe old_committed committed old_size size left (Some old) None frame was is only =
+    let e : None ≡ Some old.moment = ap (λ f. f.moment) frame in absurd (cc)
 still_safe old_committed committed old_size size left (Some old) (Some new) frame was is only =
     let same : committed ≡ old_committed = ap (λ f. f.committed) frame in
     let e : Some new.moment ≡ Some old.moment = ap (λ f. f.moment) frame in
     let moment : new.moment ≡ old.moment = cc in
-    let recovers : (image : List ℕ) → MayLeave new.bytes new.unsettled image → Recovers old_committed image = λ image left_now. subst (λ bytes. Recovers bytes image) same (crash_recovers committed size new is image left_now) in
+    let recovers : (image : List ℕ) → MayLeave new.bytes new.unsettled image → Recovers old_committed image =
+    λ image left_now. subst (λ bytes. Recovers bytes image) same (crash_recovers committed size new is image left_now) in
     record {
       moment = moment;
       crash = λ image l. recovers image (only image (subst (λ m. left m image) (sym moment) l));

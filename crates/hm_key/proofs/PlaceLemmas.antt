@@ -1,5 +1,6 @@
 -- What stands at a place of a list, and what a list becomes there.
-use Rattle.std.proofs.Common.{◌≡◌, ℕ, zero, suc, ◌<◌, ◌≤◌, List, [], ◌∷◌, length, get_or, set, true, false, true≢false, Option, Some, None, slice_get, refl, ap, sym, ◌∙◌, arith, insert, remove, IsSome, Bor, not, subst}
+use Rattle.std.proofs.Common.{◌≡◌, ℕ, zero, suc, ◌<◌, ◌≤◌, List, [], ◌∷◌, length, get_or, set, true, false, true≢false, Option, Some, None, slice_get, refl, ap}
+use Rattle.std.proofs.Common.{sym, ◌∙◌, arith, insert, remove, IsSome, Bor, not, subst}
 use Rattle.std.specs.Prelude.{if◌then◌else◌, Bool, IfSome, OnSome, IfOk, Result, Ok, Err, option_map}
 use Rattle.std.specs.Option.{option_copied}
 use Rattle.std.specs.Slice.{IsItemAt}
@@ -27,7 +28,8 @@ leading_most at (e ∷ es) = by_test (stands_before at e) (leading_most at es) w
 pub first_from-leading : (at : Key) (es : List Element) → first_from at es ≡ slice_get es (leading at es)
 first_from-leading at [] = refl
 first_from-leading at (e ∷ es) = by_test (stands_before at e) (first_from-leading at es) where
-  by_test : (b : Bool) → first_from at es ≡ slice_get es (leading at es) → (if b then first_from at es else Some e) ≡ slice_get (e ∷ es) (if b then suc (leading at es) else 0)
+  by_test : (b : Bool) → first_from at es ≡ slice_get es (leading at es)
+      → (if b then first_from at es else Some e) ≡ slice_get (e ∷ es) (if b then suc (leading at es) else 0)
   by_test true same = same
   by_test false same = refl
 
@@ -35,7 +37,8 @@ first_from-leading at (e ∷ es) = by_test (stands_before at e) (first_from-lead
 pub inserted-leading : (new : Element) (es : List Element) → inserted new es ≡ insert es (leading (element_key new) es) new
 inserted-leading new [] = refl
 inserted-leading new (e ∷ es) = by_test (stands_before (element_key new) e) (inserted-leading new es) where
-  by_test : (b : Bool) → inserted new es ≡ insert es (leading (element_key new) es) new → (if b then e ∷ inserted new es else new ∷ e ∷ es) ≡ insert (e ∷ es) (if b then suc (leading (element_key new) es) else 0) new
+  by_test : (b : Bool) → inserted new es ≡ insert es (leading (element_key new) es) new
+      → (if b then e ∷ inserted new es else new ∷ e ∷ es) ≡ insert (e ∷ es) (if b then suc (leading (element_key new) es) else 0) new
   by_test true same = ap (λ (l : List Element). e ∷ l) same
   by_test false same = refl
 
@@ -46,13 +49,15 @@ removed-place at (e ∷ es) zero is = rw is refl
 removed-place at (e ∷ es) (suc place) is = rw is.0 (ap (λ (l : List Element). e ∷ l) (removed-place at es place is.1))
 
 -- the element at the key changes at its place
-pub changed-place : (at : Key) (change : Element → Element) (d : Element) (es : List Element) (place : ℕ) → IsPlace at es place → changed at change es ≡ set es place (change (get_or es place d))
+pub changed-place : (at : Key) (change : Element → Element) (d : Element) (es : List Element) (place : ℕ) → IsPlace at es place
+    → changed at change es ≡ set es place (change (get_or es place d))
 changed-place at change d [] place is = absurd is
 changed-place at change d (e ∷ es) zero is = rw is refl
 changed-place at change d (e ∷ es) (suc place) is = rw is.0 (ap (λ (l : List Element). e ∷ l) (changed-place at change d es place is.1))
 
 -- the element at the key, which was read at its place, changes there
-pub changed_here : (at : Key) (change : Element → Element) (e : Element) (es : List Element) (place : ℕ) → IsPlace at es place → e ≡ get_or es place e → set es place (change e) ≡ changed at change es
+pub changed_here : (at : Key) (change : Element → Element) (e : Element) (es : List Element) (place : ℕ) → IsPlace at es place → e ≡ get_or es place e
+    → set es place (change e) ≡ changed at change es
 changed_here at change e es place is read = ap (λ (x : Element). set es place (change x)) read ∙ sym (changed-place at change e es place is)
 
 -- a place is within the list
@@ -68,13 +73,15 @@ IsPlace-stands at d (e ∷ es) zero is = is
 IsPlace-stands at d (e ∷ es) (suc place) is = IsPlace-stands at d es place is.1
 
 -- one more element does not stand at the key
-pub NoneBefore-more : (at : Key) (d : Element) (es : List Element) (place : ℕ) → NoneBefore at es place → place < length es → stands_at at (get_or es place d) ≡ false → NoneBefore at es (suc place)
+pub NoneBefore-more : (at : Key) (d : Element) (es : List Element) (place : ℕ) → NoneBefore at es place → place < length es
+    → stands_at at (get_or es place d) ≡ false → NoneBefore at es (suc place)
 NoneBefore-more at d [] place none within not = absurd (omega arith)
 NoneBefore-more at d (e ∷ es) zero none within not = (not, tt)
 NoneBefore-more at d (e ∷ es) (suc place) none within not = (none.0, NoneBefore-more at d es place none.1 (omega arith) not)
 
 -- an element at the key with none before it
-pub IsPlace-found : (at : Key) (d : Element) (es : List Element) (place : ℕ) → NoneBefore at es place → place < length es → stands_at at (get_or es place d) ≡ true → IsPlace at es place
+pub IsPlace-found : (at : Key) (d : Element) (es : List Element) (place : ℕ) → NoneBefore at es place → place < length es
+    → stands_at at (get_or es place d) ≡ true → IsPlace at es place
 IsPlace-found at d [] place none within is = absurd (omega arith)
 IsPlace-found at d (e ∷ es) zero none within is = is
 IsPlace-found at d (e ∷ es) (suc place) none within is = (none.0, IsPlace-found at d es place none.1 (omega arith) is)
@@ -95,7 +102,8 @@ got None xs i is = sym (slice_get_past xs i (ltb-false i (length xs) (sym is.0))
 got (Some x) xs i is = sym (slice_get_read xs (length xs) i x.now refl (ltb-true i (length xs) (sym is.0)) is.1)
 
 -- whether an element stands at a key, as the code tests it
-pub stands_read : (at : Key) (e : Element) (es : List Element) (place : ℕ) (o : Ordering) (b : Bool) → e ≡ get_or es place e → o ≡ key_cmp (element_key e) at → is_eq o ≡ b → stands_at at (get_or es place e) ≡ b
+pub stands_read : (at : Key) (e : Element) (es : List Element) (place : ℕ) (o : Ordering) (b : Bool) → e ≡ get_or es place e → o ≡ key_cmp (element_key e) at
+    → is_eq o ≡ b → stands_at at (get_or es place e) ≡ b
 stands_read at e es place o b read order is = subst (λ (x : Element). stands_at at x ≡ b) read (sym (ap is_eq order) ∙ is)
 
 -- the test `!= Ordering::Equal`
@@ -108,14 +116,17 @@ not_equal Greater test b is same = ap not (sym is ∙ same)
 pub first_from-inserted : (new : Element) (es : List Element) → first_from (element_key new) (inserted new es) ≡ Some new
 first_from-inserted new [] = rw (ap is_lt (key_itself (element_key new))) refl
 first_from-inserted new (e ∷ es) = by_test (stands_before (element_key new) e) refl (first_from-inserted new es) where
-  by_test : (b : Bool) → stands_before (element_key new) e ≡ b → first_from (element_key new) (inserted new es) ≡ Some new → first_from (element_key new) (if b then e ∷ inserted new es else new ∷ e ∷ es) ≡ Some new
+  by_test : (b : Bool) → stands_before (element_key new) e ≡ b → first_from (element_key new) (inserted new es) ≡ Some new
+      → first_from (element_key new) (if b then e ∷ inserted new es else new ∷ e ∷ es) ≡ Some new
   by_test true is more = rw is more
   by_test false is more = rw (ap is_lt (key_itself (element_key new))) refl
 
 -- the same where a list is told
-pub found_inserted : {E : Type 0} (new : Element) (old now : Option (List Element)) (result : Result (Option Element) E) → now ≡ option_map (inserted new) old → IfSome now (λ es. IfOk result (λ found. found ≡ first_from (element_key new) es)) → IfOk result (λ found. OnSome old (found ≡ Some new))
+pub found_inserted : {E : Type 0} (new : Element) (old now : Option (List Element)) (result : Result (Option Element) E) → now ≡ option_map (inserted new) old
+    → IfSome now (λ es. IfOk result (λ found. found ≡ first_from (element_key new) es)) → IfOk result (λ found. OnSome old (found ≡ Some new))
 found_inserted new old now (Err fault) same search = tt
 found_inserted new None now (Ok found) same search = tt
 found_inserted new (Some es) now (Ok found) same search =
-    let told : IfSome (Some (inserted new es)) (λ list. found ≡ first_from (element_key new) list) = subst (λ (o : Option (List Element)). IfSome o (λ list. found ≡ first_from (element_key new) list)) same search in
+    let told : IfSome (Some (inserted new es)) (λ list. found ≡ first_from (element_key new) list) =
+    subst (λ (o : Option (List Element)). IfSome o (λ list. found ≡ first_from (element_key new) list)) same search in
     told ∙ first_from-inserted new es

@@ -38,7 +38,8 @@ between_one a key (inl within) = from_both a key within.0 within.1
 between_one a key (inr within) = from_both a key within.0 within.1
 
 -- what the keys between took is no less than what they had, where it is not below any of that
-took_no_less : (Had : ℕ → Type 0) (mark : ℕ) (at : Key) (old new : Key → ℕ) → ((had : ℕ) → Had had → had ≤ mark) → (key : Key) → (new key ≡ old key) ⊎ AllTook Had mark key at old new → old key ≤ new key
+took_no_less : (Had : ℕ → Type 0) (mark : ℕ) (at : Key) (old new : Key → ℕ) → ((had : ℕ) → Had had → had ≤ mark) → (key : Key)
+    → (new key ≡ old key) ⊎ AllTook Had mark key at old new → old key ≤ new key
 took_no_less Had mark at old new most key (inl same) = omega (arith, same)
 took_no_less Had mark at old new most key (inr took) =
     let here = took key (between_first key at) in
@@ -72,7 +73,8 @@ greater_not_equal : Greater ≢ Equal
 greater_not_equal is = true≢false (ap is_gt is)
 
 -- the mark of one key alone became the greater of itself and an id
-pub marks_alone : (at : Key) (id : ℕ) (old new : Key → ℕ) → new at ≡ max (old at) id → ((key : Key) → key_cmp key at ≢ Equal → new key ≡ old key) → Marks at id old new
+pub marks_alone : (at : Key) (id : ℕ) (old new : Key → ℕ) → new at ≡ max (old at) id → ((key : Key) → key_cmp key at ≢ Equal → new key ≡ old key)
+    → Marks at id old new
 marks_alone at id old new here others = record { reach = omega (arith, here); each = each } where
   each : (key : Key) → (new key ≡ old key) ⊎ AllTook (λ mark. mark ≡ old at) (max (old at) id) key at old new
   each key = by_order (key_cmp key at) refl where

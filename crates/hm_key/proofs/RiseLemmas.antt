@@ -66,7 +66,9 @@ next_is a b wide up none = record { wide = wide; after = before_unless a b up; f
 
 -- no base's key is after the greatest one
 pub wide_to_greatest : (key : Key) → IsWide key → IsFrom key greatest_key
-wide_to_greatest key wide = key_from_fields key greatest_key (omega (arith, wide.localization)) (omega (arith, wide.obj)) (omega (arith, wide.rec_type)) (omega (arith, wide.number)) (omega (arith, wide.create))
+wide_to_greatest key wide =
+    key_from_fields key greatest_key (omega (arith, wide.localization)) (omega (arith, wide.obj)) (omega (arith, wide.rec_type)) (omega (arith, wide.number))
+    (omega (arith, wide.create))
 
 -- the next id
 pub next_create : (a : Key) → IsWide (record a { create = a.create + 1 }) → IsNextKey a (record a { create = a.create + 1 })

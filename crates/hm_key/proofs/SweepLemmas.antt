@@ -34,15 +34,18 @@ stands_each P key e (y ∷ es) each found = by_test (stands_at key y) found (sta
   by_test false found more = more found
 
 -- what a search found stands at its key still
-pub found_there : (at : Key) (e : Element) (found : Option Element) (old new : Option (List Element)) → new ≡ old → IfSome old IsContent → IfSome old (λ es. found ≡ first_from at es) → found ≡ Some e → IfSome new (λ es. element_at (element_key e) es ≡ Some e)
+pub found_there : (at : Key) (e : Element) (found : Option Element) (old new : Option (List Element)) → new ≡ old → IfSome old IsContent
+    → IfSome old (λ es. found ≡ first_from at es) → found ≡ Some e → IfSome new (λ es. element_at (element_key e) es ≡ Some e)
 found_there at e found None new same content search is = rw same tt
 found_there at e found (Some es) new same content search is = rw same (first_from-at at e es content.rising (sym search ∙ is))
 
 -- the extent of an element of a balanced store is live
-pub held_live : (e : Element) (es : Option (List Element)) (xs new : Option (List Extent)) → is_some xs ≡ is_some es → new ≡ xs → Balanced es xs → IfSome es (λ list. element_at (element_key e) list ≡ Some e) → IfSome new (λ list. IsSomeAnd (extent_at e.payload list) (λ x. x.len ≡ rounded e.len))
+pub held_live : (e : Element) (es : Option (List Element)) (xs new : Option (List Extent)) → is_some xs ≡ is_some es → new ≡ xs → Balanced es xs
+    → IfSome es (λ list. element_at (element_key e) list ≡ Some e) → IfSome new (λ list. IsSomeAnd (extent_at e.payload list) (λ x. x.len ≡ rounded e.len))
 held_live e es None new together same balanced there = rw same tt
 held_live e None (Some list) new together same balanced there = absurd (true≢false together)
-held_live e (Some es) (Some list) new together same balanced there = rw same (stands_each (IsHeld list) (element_key e) e es (recursion_from_All (IsHeld list) es balanced.held) there)
+held_live e (Some es) (Some list) new together same balanced there =
+    rw same (stands_each (IsHeld list) (element_key e) e es (recursion_from_All (IsHeld list) es balanced.held) there)
 
 -- an element that is over is dead for the one id that is kept
 pub over_dead : (pfs id : ℕ) (e : Element) (xs : List Extent) → IsOver pfs id e.base → IsElement e → MayGo (keeps_one pfs id) (full_of xs e)
@@ -60,23 +63,32 @@ over_dead pfs id e xs over is = rw (eq-eqb (pfs_of e.base.localization) pfs over
   dead = record { unseen = not_seen; reached = (id, inl (omega arith, omega arith), made_before is.closed) }
 
 -- a unit that changes nothing
-pub works_same : (kept : ℕ → Option (List (ℕ × ℕ))) (es new_es : Option (List Element)) (xs new_xs : Option (List Extent)) → new_es ≡ es → new_xs ≡ xs → IfSome (content_of es xs) (λ old. IsBalanced old.0 old.1 → IsSomeAnd (content_of new_es new_xs) (Works kept old))
+pub works_same : (kept : ℕ → Option (List (ℕ × ℕ))) (es new_es : Option (List Element)) (xs new_xs : Option (List Extent)) → new_es ≡ es → new_xs ≡ xs
+    → IfSome (content_of es xs) (λ old. IsBalanced old.0 old.1 → IsSomeAnd (content_of new_es new_xs) (Works kept old))
 works_same kept None new_es xs new_xs same others = tt
 works_same kept (Some es) new_es None new_xs same others = tt
-works_same kept (Some es) new_es (Some xs) new_xs same others = λ balanced. rw (same, others) (record { balanced = balanced; elements = LosesDead-refl kept (full_elements es xs) })
+works_same kept (Some es) new_es (Some xs) new_xs same others =
+    λ balanced. rw (same, others) (record { balanced = balanced; elements = LosesDead-refl kept (full_elements es xs) })
 
 -- a unit in which an element goes with its reference, or nothing changes
-pub works_cleared : (kept : ℕ → Option (List (ℕ × ℕ))) (over : Bool) (e : Element) (es new_es : Option (List Element)) (xs new_xs : Option (List Extent)) → new_es ≡ option_map (λ list. if over then removed (element_key e) list else list) es → new_xs ≡ option_map (λ list. if over then given_back_at e.payload list else list) xs → IfSome es (λ list. element_at (element_key e) list ≡ Some e) → IfSome xs AreExtents → (over ≡ true → (list : List Extent) → MayGo kept (full_of list e)) → IfSome (content_of es xs) (λ old. IsBalanced old.0 old.1 → IsSomeAnd (content_of new_es new_xs) (Works kept old))
+pub works_cleared : (kept : ℕ → Option (List (ℕ × ℕ))) (over : Bool) (e : Element) (es new_es : Option (List Element)) (xs new_xs : Option (List Extent))
+    → new_es ≡ option_map (λ list. if over then removed (element_key e) list else list) es
+    → new_xs ≡ option_map (λ list. if over then given_back_at e.payload list else list) xs → IfSome es (λ list. element_at (element_key e) list ≡ Some e)
+    → IfSome xs AreExtents → (over ≡ true → (list : List Extent) → MayGo kept (full_of list e))
+    → IfSome (content_of es xs) (λ old. IsBalanced old.0 old.1 → IsSomeAnd (content_of new_es new_xs) (Works kept old))
 works_cleared kept over e None new_es xs new_xs same others there live dead = tt
 works_cleared kept over e (Some es) new_es None new_xs same others there live dead = tt
-works_cleared kept false e (Some es) new_es (Some xs) new_xs same others there live dead = λ balanced. rw (same, others) (record { balanced = balanced; elements = LosesDead-refl kept (full_elements es xs) })
+works_cleared kept false e (Some es) new_es (Some xs) new_xs same others there live dead =
+    λ balanced. rw (same, others) (record { balanced = balanced; elements = LosesDead-refl kept (full_elements es xs) })
 works_cleared kept true e (Some es) new_es (Some xs) new_xs same others there live dead = λ balanced. rw (same, others) (record {
   balanced = balanced_removed (element_key e) e es xs there live balanced;
   elements = rw (full_removed (element_key e) e es xs there live balanced) (LosesDead-removed kept (element_key e) e es xs there (dead refl xs));
 })
 
 -- what a unit did of a balanced store leaves it balanced
-pub works_balanced : (kept : ℕ → Option (List (ℕ × ℕ))) (es new_es : Option (List Element)) (xs new_xs : Option (List Extent)) → is_some new_es ≡ is_some es → is_some new_xs ≡ is_some xs → IfSome (content_of es xs) (λ old. IsBalanced old.0 old.1 → IsSomeAnd (content_of new_es new_xs) (Works kept old)) → Balanced es xs → Balanced new_es new_xs
+pub works_balanced : (kept : ℕ → Option (List (ℕ × ℕ))) (es new_es : Option (List Element)) (xs new_xs : Option (List Extent)) → is_some new_es ≡ is_some es
+    → is_some new_xs ≡ is_some xs → IfSome (content_of es xs) (λ old. IsBalanced old.0 old.1 → IsSomeAnd (content_of new_es new_xs) (Works kept old))
+    → Balanced es xs → Balanced new_es new_xs
 works_balanced kept None None xs new_xs told others works balanced = tt
 works_balanced kept None (Some fs) xs new_xs told others works balanced = absurd (true≢false told)
 works_balanced kept (Some es) None xs new_xs told others works balanced = tt
@@ -89,7 +101,8 @@ pub found_element : (at : Key) (e : Element) (found : Option Element) → IfSome
 found_element at e found sound is = let fact : IfSome (Some e) (IsFound at) = subst (λ (o : Option Element). IfSome o (IsFound at)) is sound in fact.element
 
 -- marks of which none falls, over two calls of which the first leaves the elements and the marks
-pub marks_over : (es mid : Option (List Element)) (old new last : Key → ℕ) → mid ≡ es → new ≡ old → OnSome mid (NoneFall new last) → OnSome es (NoneFall old last)
+pub marks_over : (es mid : Option (List Element)) (old new last : Key → ℕ) → mid ≡ es → new ≡ old → OnSome mid (NoneFall new last)
+    → OnSome es (NoneFall old last)
 marks_over None mid old new last same marks fall = tt
 marks_over (Some es) mid old new last same marks fall = rw (same, marks) at fall
 
@@ -111,23 +124,30 @@ joined_marks at None old new marks = tt
 joined_marks at (Some es) old new marks = join_never_falls at old new marks
 
 -- an element was removed, and its reference given back
-pub cleared : {S A E : Type 0} (elements_of : S → Option (List Element)) (mark_of : S → Key → ℕ) (extents_of : S → Option (List Extent)) (over : Bool) (e : Element) (old mid new : S) (result : Result A E) → over ≡ true
+pub cleared : {S A E : Type 0} (elements_of : S → Option (List Element)) (mark_of : S → Key → ℕ) (extents_of : S → Option (List Extent)) (over : Bool)
+    (e : Element) (old mid new : S) (result : Result A E) → over ≡ true
     → ElementsChange elements_of mark_of extents_of (removed (element_key e)) (MarksJoin (element_key e)) old mid
-    → OnOk result (ExtentsChange elements_of mark_of extents_of (λ xs ys. ys ≡ given_back_at e.payload xs) mid new) → OnOk result (Clears elements_of mark_of extents_of over e old new)
+    → OnOk result (ExtentsChange elements_of mark_of extents_of (λ xs ys. ys ≡ given_back_at e.payload xs) mid new)
+    → OnOk result (Clears elements_of mark_of extents_of over e old new)
 cleared elements_of mark_of extents_of over e old mid new (Err error) is first second = tt
 cleared elements_of mark_of extents_of over e old mid new (Ok value) is first second = rw is (record {
   elements = second.elements ∙ first.elements;
   extents = given_back e.payload (extents_of mid) (extents_of new) second.extents ∙ ap (option_map (given_back_at e.payload)) first.extents;
-  marks = subst (λ (mark : Key → ℕ). OnSome (elements_of old) (NoneFall (mark_of old) mark)) (sym second.mark) (joined_marks (element_key e) (elements_of old) (mark_of old) (mark_of mid) first.mark);
+  marks =
+      subst (λ (mark : Key → ℕ). OnSome (elements_of old) (NoneFall (mark_of old) mark)) (sym second.mark)
+      (joined_marks (element_key e) (elements_of old) (mark_of old) (mark_of mid) first.mark);
 })
 
 -- the walk goes on after what a search found
-pub comes_further : (at : Base) (e : Element) (next : Option Base) → IsFrom (key_of at) (element_key e) → IsKeyAfter (element_key e) next → ComesFurther (place_from (Some at)) (place_from next)
+pub comes_further : (at : Base) (e : Element) (next : Option Base) → IsFrom (key_of at) (element_key e) → IsKeyAfter (element_key e) next
+    → ComesFurther (place_from (Some at)) (place_from next)
 comes_further at e None onward after = inl (omega arith)
-comes_further at e (Some next) onward after = inr (refl, before_unless (key_of at) (key_of next) (λ back. onward (key_before_from (element_key e) (key_of next) (key_of at) after.1.after back)))
+comes_further at e (Some next) onward after =
+    inr (refl, before_unless (key_of at) (key_of next) (λ back. onward (key_before_from (element_key e) (key_of next) (key_of at) after.1.after back)))
 
 -- so where the job went on from a key
-pub goes_further : (from : Option Base) (at : Base) (e : Element) (found : Option Element) (next : Option Base) → from ≡ Some at → found ≡ Some e → IfSome found (IsFound (key_of at)) → IsKeyAfter (element_key e) next
+pub goes_further : (from : Option Base) (at : Base) (e : Element) (found : Option Element) (next : Option Base) → from ≡ Some at → found ≡ Some e
+    → IfSome found (IsFound (key_of at)) → IsKeyAfter (element_key e) next
     → ComesFurther (place_from from) (place_from next)
 goes_further from at e found next start is sound after =
     let fact : IfSome (Some e) (IsFound (key_of at)) = subst (λ (o : Option Element). IfSome o (IsFound (key_of at))) is sound in

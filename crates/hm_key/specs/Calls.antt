@@ -21,7 +21,8 @@ GetWhole zones old new =
 
 -- Zones ask for room, while so many free big-blocks are held back. They get it, each that lacked it a whole big-block,
 -- and the content stays; or space is refused exactly where too few are free, and all stays. The room of no zone falls.
-pub record Admission {S : Type 0} (elements_of : S → Option (List Element)) (mark_of : S → Key → ℕ) (extents_of : S → Option (List Extent)) (room_of : S → ℕ → ℕ) (free_of : S → ℕ) (zones : Zones) (held : ℕ) (old new : S) (result : Result (Unit {0}) SpaceFault) : Type 0 where
+pub record Admission {S : Type 0} (elements_of : S → Option (List Element)) (mark_of : S → Key → ℕ) (extents_of : S → Option (List Extent))
+    (room_of : S → ℕ → ℕ) (free_of : S → ℕ) (zones : Zones) (held : ℕ) (old new : S) (result : Result (Unit {0}) SpaceFault) : Type 0 where
   pub ok : OnOk result (Admits room_of free_of zones held old new)
   pub whole : OnOk result (GetWhole zones (room_of old) (room_of new))
   pub content : OnOk result (SameContent elements_of mark_of extents_of old new)
@@ -30,14 +31,16 @@ pub record Admission {S : Type 0} (elements_of : S → Option (List Element)) (m
   pub room : (zone : ℕ) → room_of old zone ≤ room_of new zone
 
 -- Bytes were put into a new extent of a zone, of which they took their rounded length.
-pub record Placement {S : Type 0} (elements_of : S → Option (List Element)) (mark_of : S → Key → ℕ) (extents_of : S → Option (List Extent)) (room_of : S → ℕ → ℕ) (zone : ℕ) (bytes : List ℕ) (old new : S) (at : ℕ) : Type 0 where
+pub record Placement {S : Type 0} (elements_of : S → Option (List Element)) (mark_of : S → Key → ℕ) (extents_of : S → Option (List Extent))
+    (room_of : S → ℕ → ℕ) (zone : ℕ) (bytes : List ℕ) (old new : S) (at : ℕ) : Type 0 where
   pub extents : ExtentsChange elements_of mark_of extents_of (PlacesAt at bytes) old new
   pub zone_is : zone_of at ≡ zone
   pub spent : room_of new zone + rounded (length bytes) ≡ room_of old zone
 
 -- What a unit of a job leaves of a store: where it told a balanced content, this is worked on as the job may; no mark
 -- falls, no free big-block goes, and no room where the job places nothing.
-pub record UnitDone {S : Type 0} (elements_of : S → Option (List Element)) (mark_of : S → Key → ℕ) (extents_of : S → Option (List Extent)) (room_of : S → ℕ → ℕ) (free_of : S → ℕ) (kept : ℕ → Option (List (ℕ × ℕ))) (places : Bool) (old new : S) {A : Type 0} (result : Result A Fault) : Type 0 where
+pub record UnitDone {S : Type 0} (elements_of : S → Option (List Element)) (mark_of : S → Key → ℕ) (extents_of : S → Option (List Extent)) (room_of : S → ℕ → ℕ)
+    (free_of : S → ℕ) (kept : ℕ → Option (List (ℕ × ℕ))) (places : Bool) (old new : S) {A : Type 0} (result : Result A Fault) : Type 0 where
   pub content : OnOk result (IfSome (content_of (elements_of old) (extents_of old)) (λ was. IsBalanced was.0 was.1
       → IsSomeAnd (content_of (elements_of new) (extents_of new)) (Works kept was)))
   pub keeps : Keeps elements_of extents_of old new result

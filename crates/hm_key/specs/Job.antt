@@ -36,7 +36,8 @@ HasMoreCause from to old new =
     IfProgress (ComesFurther from to ⊎ IfSome old (λ es. IsSomeAnd new (HasTouched es))) (Unit {0})
 
 -- two stores tell the same content and the same marks, and have the same room
-pub record TellSame {S : Type 0} (elements_of : S → Option (List Element)) (mark_of : S → Key → ℕ) (extents_of : S → Option (List Extent)) (room_of : S → ℕ → ℕ) (one other : S) : Type 0 where
+pub record TellSame {S : Type 0} (elements_of : S → Option (List Element)) (mark_of : S → Key → ℕ) (extents_of : S → Option (List Extent)) (room_of : S → ℕ → ℕ)
+    (one other : S) : Type 0 where
   pub elements : elements_of other ≡ elements_of one
   pub marks : OnSome (elements_of one) (MarksStay (mark_of one) (mark_of other))
   pub extents : extents_of other ≡ extents_of one

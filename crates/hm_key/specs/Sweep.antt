@@ -30,7 +30,8 @@ pub record IsOver (pfs id : ℕ) (base : Base) : Type 0 where
   pub before : base.delete ≤ id
 
 -- an element went with its reference, if it was over; no mark fell
-pub record Clears {S : Type 0} (elements_of : S → Option (List Element)) (mark_of : S → Key → ℕ) (extents_of : S → Option (List Extent)) (is_over : Bool) (e : Element) (old new : S) : Type 0 where
+pub record Clears {S : Type 0} (elements_of : S → Option (List Element)) (mark_of : S → Key → ℕ) (extents_of : S → Option (List Extent)) (is_over : Bool)
+    (e : Element) (old new : S) : Type 0 where
   pub elements : elements_of new ≡ option_map (λ es. if is_over then removed (element_key e) es else es) (elements_of old)
   pub extents : extents_of new ≡ option_map (λ xs. if is_over then given_back_at e.payload xs else xs) (extents_of old)
   pub marks : OnSome (elements_of old) ((key : Key) → mark_of old key ≤ mark_of new key)

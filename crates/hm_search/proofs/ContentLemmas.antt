@@ -31,7 +31,8 @@ abbrev pub AreInside : Base → Base → List Element → Type 0
 AreInside left right es = AllByRecursion (λ e. IsInside left right (element_key e)) es
 
 -- what is inside boundaries is inside wider ones
-pub wider : (l r left right : Base) (key : Key) → IsFrom (key_of left) (key_of l) → IsFrom (key_of r) (key_of right) → IsInside l r key → IsInside left right key
+pub wider : (l r left right : Base) (key : Key) → IsFrom (key_of left) (key_of l) → IsFrom (key_of r) (key_of right) → IsInside l r key
+    → IsInside left right key
 wider l r left right key low high inside = record {
   from = from_trans (key_of left) (key_of l) key low inside.from;
   before = key_before_from key (key_of r) (key_of right) inside.before high;
@@ -42,11 +43,13 @@ module _ (els : ℕ → List Element) (level : ℕ) (right : Base) where
   abbrev pub all_of : List Child → List Element
   all_of cs = flat_map (λ (c : Child). els c.child) cs
 
-  pub each_of_children : (P : Element → Type 0) (cs : List Child) → AllByRecursion (λ s. AllByRecursion P (els s.at)) (places_of level right cs) → AllByRecursion P (all_of cs)
+  pub each_of_children : (P : Element → Type 0) (cs : List Child) → AllByRecursion (λ s. AllByRecursion P (els s.at)) (places_of level right cs)
+      → AllByRecursion P (all_of cs)
   each_of_children P [] each = tt
   each_of_children P (c ∷ cs) each = each_append P (els c.child) (all_of cs) each.0 (each_of_children P cs each.1)
 
-  pub inside_children : (left : Base) (cs : List Child) → IsStrictlySortedBy base_cmp (bounds right cs) → AllByRecursion (λ b. IsFrom (key_of left) (key_of b)) (bounds right cs)
+  pub inside_children : (left : Base) (cs : List Child) → IsStrictlySortedBy base_cmp (bounds right cs)
+      → AllByRecursion (λ b. IsFrom (key_of left) (key_of b)) (bounds right cs)
       → AllByRecursion (λ s. AreInside s.left s.right (els s.at)) (places_of level right cs) → AreInside left right (all_of cs)
   inside_children left [] sorted low each = tt
   inside_children left (c ∷ cs) sorted low each =
@@ -56,24 +59,30 @@ module _ (els : ℕ → List Element) (level : ℕ) (right : Base) where
       (inside_children left cs (later_sorted right c cs sorted) low.1 each.1)
 
   -- the elements of all but the first child are from its right boundary on
-  pub from_next_on : (cs : List Child) → IsStrictlySortedBy base_cmp (bounds right cs) → AllByRecursion (λ s. AreInside s.left s.right (els s.at)) (places_of level right cs)
+  pub from_next_on : (cs : List Child) → IsStrictlySortedBy base_cmp (bounds right cs)
+      → AllByRecursion (λ s. AreInside s.left s.right (els s.at)) (places_of level right cs)
       → AreInside (next_left right cs) right (all_of cs)
   from_next_on cs sorted each = inside_children (next_left right cs) cs sorted (from_next right cs sorted) each
 
-  pub rising_children : (cs : List Child) → IsStrictlySortedBy base_cmp (bounds right cs) → AllByRecursion (λ s. AreInside s.left s.right (els s.at)) (places_of level right cs)
+  pub rising_children : (cs : List Child) → IsStrictlySortedBy base_cmp (bounds right cs)
+      → AllByRecursion (λ s. AreInside s.left s.right (els s.at)) (places_of level right cs)
       → AllByRecursion (λ s. IsStrictlySortedBy element_cmp (els s.at)) (places_of level right cs) → IsStrictlySortedBy element_cmp (all_of cs)
   unfolding IsStrictlySortedBy
   rising_children [] sorted inside rising = tt
   rising_children (c ∷ cs) sorted inside rising =
       sorted_append element_cmp (els c.child) (all_of cs) rising.0 (rising_children cs (later_sorted right c cs sorted) inside.1 rising.1)
       (around (key_of (next_left right cs)) (els c.child) (all_of cs)
-      (each_so (λ e. IsInside c.left (next_left right cs) (element_key e)) (λ e. IsBefore (element_key e) (key_of (next_left right cs))) (els c.child) (λ e is. is.before) inside.0)
-      (each_so (λ e. IsInside (next_left right cs) right (element_key e)) (λ e. IsFrom (key_of (next_left right cs)) (element_key e)) (all_of cs) (λ e is. is.from) (from_next_on cs (later_sorted right c cs sorted) inside.1)))
+      (each_so (λ e. IsInside c.left (next_left right cs) (element_key e)) (λ e. IsBefore (element_key e) (key_of (next_left right cs))) (els c.child)
+      (λ e is. is.before) inside.0)
+      (each_so (λ e. IsInside (next_left right cs) right (element_key e)) (λ e. IsFrom (key_of (next_left right cs)) (element_key e)) (all_of cs)
+      (λ e is. is.from) (from_next_on cs (later_sorted right c cs sorted) inside.1)))
 
 -- all boundaries of an inner node are from its left one on
-pub from_left : (left right : Base) (cs : List Child) → BeginsAt left cs → IsStrictlySortedBy base_cmp (bounds right cs) → AllByRecursion (λ b. IsFrom (key_of left) (key_of b)) (bounds right cs)
+pub from_left : (left right : Base) (cs : List Child) → BeginsAt left cs → IsStrictlySortedBy base_cmp (bounds right cs)
+    → AllByRecursion (λ b. IsFrom (key_of left) (key_of b)) (bounds right cs)
 from_left left right [] begins sorted = absurd begins
-from_left left right (c ∷ cs) begins sorted = subst (λ (k : Key). AllByRecursion (λ b. IsFrom k (key_of b)) (bounds right (c ∷ cs))) begins (from_next right (c ∷ cs) sorted)
+from_left left right (c ∷ cs) begins sorted =
+    subst (λ (k : Key). AllByRecursion (λ b. IsFrom k (key_of b)) (bounds right (c ∷ cs))) begins (from_next right (c ∷ cs) sorted)
 
 -- boundaries with the same keys
 pub inside_same : (left r right : Base) (es : List Element) → key_of r ≡ key_of right → AreInside left r es → AreInside left right es
@@ -106,7 +115,8 @@ module _ (map : PageMap) where
       (λ c stored. elements_rise height c (node_at map c.at) stored.tree) tree.below)
 
   elements_placed : (height : ℕ) (s : Subtree) (node : Node) → IsTree map height s node → AllByRecursion IsElement (elements_in map height node)
-  elements_placed zero s (Leaf leaf) tree = each_so IsPlaced IsElement leaf.places.items (λ e is. is.element) (recursion_from_All IsPlaced leaf.places.items tree.sound.fields)
+  elements_placed zero s (Leaf leaf) tree =
+      each_so IsPlaced IsElement leaf.places.items (λ e is. is.element) (recursion_from_All IsPlaced leaf.places.items tree.sound.fields)
   elements_placed zero s (inner_node inner) tree = tt
   elements_placed (suc height) s (Leaf leaf) tree = absurd tree.below
   elements_placed (suc height) s (inner_node inner) tree =
@@ -134,8 +144,13 @@ module _ (map : PageMap) where
   elements_some (suc height) s (inner_node inner) below tree =
       first_some (λ c below stored. elements_some height c (node_at map c.at) below stored.tree) inner.places.items tree.fits.bounds.0 tree.below where
         first_some : ((c : Subtree) → c.parent ≢ None → IsStoredTree map height c → 1 ≤ length (elements_in map height (node_at map c.at)))
-            → (cs : List Child) → BeginsAt s.left cs → AllByRecursion (IsStoredTree map height) (places_of inner.level inner.right cs) → 1 ≤ length (flat_map (λ (c : Child). elements_in map height (node_at map c.child)) cs)
+            → (cs : List Child) → BeginsAt s.left cs → AllByRecursion (IsStoredTree map height) (places_of inner.level inner.right cs)
+            → 1 ≤ length (flat_map (λ (c : Child). elements_in map height (node_at map c.child)) cs)
         first_some some [] begins each = absurd begins
         first_some some (c ∷ cs) begins each =
             let here = some (child_place inner.level (next_left inner.right cs) c) (λ none. absurd cc) each.0 in
-            omega (arith, length-append (elements_in map height (node_at map c.child)) (flat_map (λ (c : Child). elements_in map height (node_at map c.child)) cs))
+            omega (
+              arith,
+              length-append (elements_in map height (node_at map c.child))
+                  (flat_map (λ (c : Child). elements_in map height (node_at map c.child)) cs),
+            )

@@ -24,7 +24,8 @@ use Rattle.hm_search.specs.declared.subtree.Subtree.{Subtree}
 use Rattle.hm_search.proofs.ListLemmas.{each_get}
 
 -- a node that keeps each rule of its place fits there
-pub fits_all : (s : Subtree) (page : List ℕ) (node : Node) → node_in page ≡ node → ((rule : PlaceRule) → place_number rule < 10 → FitsBy s (node_in page) rule) → Fits s node
+pub fits_all : (s : Subtree) (page : List ℕ) (node : Node) → node_in page ≡ node → ((rule : PlaceRule) → place_number rule < 10 → FitsBy s (node_in page) rule)
+    → Fits s node
 fits_all s page node is kept = subst (λ (n : Node). Fits s n) is
     (record { level = kept Level (omega arith); count = kept Count (omega arith); bounds = kept Bounds (omega arith); mirror = kept Mirror (omega arith) })
 
@@ -35,7 +36,8 @@ fits_by s node fits Bounds = fits.bounds
 fits_by s node fits Mirror = fits.mirror
 
 -- the node in a page that keeps its own rules and those of its place
-pub spells_here : (s : Subtree) (page : List ℕ) (node : Node) → IsNode node × Spells page node → ((rule : PlaceRule) → place_number rule < 10 → FitsBy s (node_in page) rule) → SpellsHere s page node
+pub spells_here : (s : Subtree) (page : List ℕ) (node : Node) → IsNode node × Spells page node
+    → ((rule : PlaceRule) → place_number rule < 10 → FitsBy s (node_in page) rule) → SpellsHere s page node
 spells_here s page node both kept = record { spelled = both.1; sound = both.0; fits = fits_all s page node both.1.value kept }
 
 -- such a page breaks no rule there
@@ -50,15 +52,18 @@ pub stored_here : (map : PageMap) (height : ℕ) (s : Subtree) → IsStoredTree 
 stored_here map height s stored = record { spelled = stored.spelled; sound = stored.tree.sound; fits = stored.tree.fits }
 
 -- the lowest rule that a page breaks is one of its own
-pub own_broken : (s : Subtree) (page : List ℕ) (kind : ℕ) → IsLowestKind page kind → ((rule : PlaceRule) → place_number rule < kind → FitsBy s (node_in page) rule) → IsLowestBroken s page kind
+pub own_broken : (s : Subtree) (page : List ℕ) (kind : ℕ) → IsLowestKind page kind
+    → ((rule : PlaceRule) → place_number rule < kind → FitsBy s (node_in page) rule) → IsLowestBroken s page kind
 own_broken s page kind (rule, is, first) kept = record {
   broken = inl (rule, is, first.broken);
   kept = record { own = λ other low. first.kept other (omega (arith, is)); place = kept };
 }
 
 -- or one of its place
-pub place_broken : (s : Subtree) (page : List ℕ) (limit : ℕ) (rule : PlaceRule) → ((other : Rule) → number_of other < limit → Keeps page other) → place_number rule < limit
-    → (FitsBy s (node_in page) rule → ⊥) → ((other : PlaceRule) → place_number other < place_number rule → FitsBy s (node_in page) other) → IsLowestBroken s page (place_number rule)
+pub place_broken : (s : Subtree) (page : List ℕ) (limit : ℕ) (rule : PlaceRule) → ((other : Rule) → number_of other < limit → Keeps page other)
+    → place_number rule < limit
+    → (FitsBy s (node_in page) rule → ⊥) → ((other : PlaceRule) → place_number other < place_number rule → FitsBy s (node_in page) other)
+    → IsLowestBroken s page (place_number rule)
 place_broken s page limit rule own low broken kept = record {
   broken = inr (rule, refl, broken);
   kept = record { own = λ other below. own other (omega arith); place = kept };
@@ -84,7 +89,8 @@ pub no_refusal : (at : ℕ) (page : List ℕ) → IsDamage at page NoMemory → 
 no_refusal at page (k, is, low) = cc
 
 -- what is told of a sound page is no damage
-pub tells_undamaged : (s : Subtree) (page : Option (List ℕ)) (node : Node) (fault : Fault) → IsSome page → SpellsHere s (page_in page) node → TellsDamage s page fault → IsUndamaged fault
+pub tells_undamaged : (s : Subtree) (page : Option (List ℕ)) (node : Node) (fault : Fault) → IsSome page → SpellsHere s (page_in page) node
+    → TellsDamage s page fault → IsUndamaged fault
 tells_undamaged s page node (Media before after) there here tells = tt
 tells_undamaged s (Some page) node (Damaged at kind) there here tells = not_broken s page node kind here tells.1
 tells_undamaged s None node (Damaged at kind) there here tells = absurd (true≢false (sym there))
@@ -129,4 +135,5 @@ caused_since old mid new NoMemory low caused = tt
 
 pub cause_since : {T : Type 0} (old mid new : ℕ) (result : Result T Fault) → old ≤ mid → HasFaultCause mid new result → HasFaultCause old new result
 cause_since old mid new (Ok x) low cause = record { never_falls = omega (arith, cause.never_falls); caused = tt }
-cause_since old mid new (Err fault) low cause = record { never_falls = omega (arith, cause.never_falls); caused = caused_since old mid new fault low cause.caused }
+cause_since old mid new (Err fault) low cause =
+    record { never_falls = omega (arith, cause.never_falls); caused = caused_since old mid new fault low cause.caused }

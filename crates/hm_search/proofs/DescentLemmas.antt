@@ -30,7 +30,8 @@ child_parent inner i child is =
     ap levels_below at.place
 
 -- a child has fewer levels below it
-pub child_lower : (s : Subtree) (inner : Inner) (i : ℕ) (child : Subtree) → IsNode (inner_node inner) → Fits s (inner_node inner) → slice_get (children_of inner) i ≡ Some child → levels_below child < levels_below s
+pub child_lower : (s : Subtree) (inner : Inner) (i : ℕ) (child : Subtree) → IsNode (inner_node inner) → Fits s (inner_node inner)
+    → slice_get (children_of inner) i ≡ Some child → levels_below child < levels_below s
 child_lower s inner i child sound fits is = by_parent s.parent fits.level where
   by_parent : (p : Option Parent) → FitsLevel p (inner_node inner) → levels_below child < levels_under p
   by_parent None fits = omega (arith, child_parent inner i child is, sound.level.1)
@@ -43,7 +44,8 @@ pub record IsStoredBelow (map : PageMap) (height : ℕ) (s : Subtree) (inner : I
   pub tree : IsTree map (suc lower) s (inner_node inner)
   pub stored : IsStoredTree map lower child
 
-pub child_stored : (map : PageMap) (height : ℕ) (s : Subtree) (inner : Inner) (i : ℕ) (child : Subtree) → IsStoredTree map height s → node_at map s.at ≡ inner_node inner
+pub child_stored : (map : PageMap) (height : ℕ) (s : Subtree) (inner : Inner) (i : ℕ) (child : Subtree) → IsStoredTree map height s
+    → node_at map s.at ≡ inner_node inner
     → slice_get (children_of inner) i ≡ Some child → IsStoredBelow map height s inner child
 child_stored map height s inner i child stored is at = by_height height (subst (λ (n : Node). IsTree map height s n) is stored.tree) where
   by_height : (h : ℕ) → IsTree map h s (inner_node inner) → IsStoredBelow map h s inner child
@@ -51,7 +53,8 @@ child_stored map height s inner i child stored is at = by_height height (subst (
   by_height (suc h) tree = record { lower = h; is = refl; tree = tree; stored = each_get (IsStoredTree map h) (children_of inner) i child at tree.below }
 
 -- the places on the way
-pub leads : (map : PageMap) (s : Subtree) (inner : Inner) (i : ℕ) (child : Subtree) → StandsHere map s (inner_node inner) → slice_get (children_of inner) i ≡ Some child → LeadsTo map s child
+pub leads : (map : PageMap) (s : Subtree) (inner : Inner) (i : ℕ) (child : Subtree) → StandsHere map s (inner_node inner)
+    → slice_get (children_of inner) i ≡ Some child → LeadsTo map s child
 leads map s inner i child here at = (inner, here, i, at)
 
 -- a fault at the place itself, and one further down
@@ -66,7 +69,8 @@ fault_below map s child (Damaged at kind) to (steps, end, descends, tells) = (su
 fault_below map s child NoMemory to below = tt
 
 -- descents in a sound tree come to sound trees alone
-pub descent_sound : (map : PageMap) (steps height : ℕ) (s end : Subtree) → IsStoredTree map height s → Descends map steps s end → (lower : ℕ) × IsStoredTree map lower end
+pub descent_sound : (map : PageMap) (steps height : ℕ) (s end : Subtree) → IsStoredTree map height s → Descends map steps s end
+    → (lower : ℕ) × IsStoredTree map lower end
 descent_sound map zero height s end stored is = (height, subst (IsStoredTree map height) is stored)
 descent_sound map (suc steps) height s end stored (next, (inner, here, i, at), descends) =
     let below = child_stored map height s inner i next stored (here.spelled stored.there).value at in
@@ -145,10 +149,20 @@ cause_ok told s old new value low = search_cause told s old new (Ok value) (reco
 pub cause_here : {T U : Type 0} (told : Option PageMap) (s : Subtree) (old new : ℕ) (fault : Fault) → HasFaultCause {T = U} old new (Err fault)
     → IfSome told (λ map. TellsUnmet s (map s.at) fault)
     → HasSearchCause {T = T} told s old new (Err fault)
-cause_here {T = T} told s old new fault counted damage = search_cause {T = T} told s old new (Err fault) (record { never_falls = counted.never_falls; caused = counted.caused }) (if_told told damage) where
-  if_told : (o : Option PageMap) → IfSome o (λ map. TellsUnmet s (map s.at) fault) → IfSome o (λ map. IsUnmetBelow map s fault)
-  if_told None damage = tt
-  if_told (Some map) damage = unmet_here map s fault damage
+cause_here {T = T} told s old new fault counted damage =
+    search_cause {T = T} told s old new (Err fault) (record { never_falls = counted.never_falls; caused = counted.caused }) (if_told told damage) where
+      if_told : (o : Option PageMap) → IfSome o (λ map. TellsUnmet s (map s.at) fault) → IfSome o (λ map. IsUnmetBelow map s fault)
+      if_told None damage = tt
+      if_told (Some map) damage = unmet_here map s fault damage
+
+-- a fault is caused whatever else the call could give
+pub cause_other : {T U : Type 0} (told : Option PageMap) (s : Subtree) (old new : ℕ) (fault : Fault) → HasSearchCause {T = T} told s old new (Err fault)
+    → HasSearchCause {T = U} told s old new (Err fault)
+cause_other told s old new fault cause = record {
+  counted = record { never_falls = cause.counted.never_falls; caused = cause.counted.caused };
+  damage = cause.damage;
+  undamaged = cause.undamaged;
+}
 
 -- a fault of a search that goes on at a child
 pub cause_below : {T : Type 0} (told now : Option PageMap) (s child : Subtree) (old mid new : ℕ) (result : Result T Fault) → now ≡ told → old ≤ mid

@@ -14,11 +14,15 @@ use Rattle.hm_search.specs.declared.subtree.Subtree.{Subtree}
 use Rattle.hm_search.proofs.ContentLemmas.{elements_inside}
 use Rattle.hm_search.proofs.MarkLemmas.{elements_marked}
 
-pub all_inside : (map : PageMap) (height : ℕ) (s : Subtree) (node : Node) → IsTree map height s node → All (λ e. IsInside s.left s.right (element_key e)) (elements_in map height node)
-all_inside map height s node tree = All-from_recursion (λ e. IsInside s.left s.right (element_key e)) (elements_in map height node) (elements_inside map height s node tree)
+pub all_inside : (map : PageMap) (height : ℕ) (s : Subtree) (node : Node) → IsTree map height s node
+    → All (λ e. IsInside s.left s.right (element_key e)) (elements_in map height node)
+all_inside map height s node tree =
+    All-from_recursion (λ e. IsInside s.left s.right (element_key e)) (elements_in map height node) (elements_inside map height s node tree)
 
-pub all_marked : (map : PageMap) (height : ℕ) (s : Subtree) (node : Node) → IsTree map height s node → All (IsMarked (mark_in map height node)) (elements_in map height node)
-all_marked map height s node tree = All-from_recursion (IsMarked (mark_in map height node)) (elements_in map height node) (elements_marked map height s node tree)
+pub all_marked : (map : PageMap) (height : ℕ) (s : Subtree) (node : Node) → IsTree map height s node
+    → All (IsMarked (mark_in map height node)) (elements_in map height node)
+all_marked map height s node tree =
+    All-from_recursion (IsMarked (mark_in map height node)) (elements_in map height node) (elements_marked map height s node tree)
 
 -- a tree has nine levels at most
 pub height_most : (map : PageMap) (height : ℕ) (s : Subtree) (node : Node) → IsTree map height s node → height ≤ 8

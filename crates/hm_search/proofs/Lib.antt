@@ -11,6 +11,8 @@ pub mod ListLemmas
 pub mod LookLemmas
 pub mod LookToLemmas
 pub mod MarkLemmas
+pub mod NearLemmas
+pub mod NearToLemmas
 pub mod OrderLemmas
 pub mod PageLemmas
 pub mod ReachLemmas

@@ -1,5 +1,6 @@
 -- Lists whose elements keep a fact, or stand in order.
-use Rattle.std.proofs.Common.{◌≡◌, Bool, true, false, not, true≢false, ℕ, zero, suc, ◌<◌, ◌≤◌, inl, inr, List, [], ◌∷◌, ◌++◌, length, refl, sym, ap, subst, arith}
+use Rattle.std.proofs.Common.{◌≡◌, Bool, true, false, not, true≢false, ℕ, zero, suc, ◌<◌, ◌≤◌, inl, inr, List, [], ◌∷◌, ◌++◌, length, refl, sym, ap, subst}
+use Rattle.std.proofs.Common.{arith}
 use Rattle.std.specs.Prelude.{slice_index_or, slice_get, Some}
 use Rattle.std.specs.List.{AllByRecursion, AllWithin}
 use Rattle.std.specs.List.Sorted.{IsStrictlySortedBy, IsPartitionedBy}
@@ -44,13 +45,15 @@ module _ {A : Type 0} where
 
 module _ {A : Type 0} (cmp : A → A → Ordering) where
   -- two lists in order, of which the first stands before the second
-  pub sorted_append : (xs ys : List A) → IsStrictlySortedBy cmp xs → IsStrictlySortedBy cmp ys → AllByRecursion (λ x. AllByRecursion (λ y. cmp x y ≡ Less) ys) xs → IsStrictlySortedBy cmp (xs ++ ys)
+  pub sorted_append : (xs ys : List A) → IsStrictlySortedBy cmp xs → IsStrictlySortedBy cmp ys
+      → AllByRecursion (λ x. AllByRecursion (λ y. cmp x y ≡ Less) ys) xs → IsStrictlySortedBy cmp (xs ++ ys)
   unfolding IsStrictlySortedBy
   sorted_append [] ys first second apart = second
   sorted_append (x ∷ xs) ys first second apart = (each_append (λ y. cmp x y ≡ Less) xs ys first.0 apart.0, sorted_append xs ys first.1 second apart.1)
 
   -- an earlier value stands before a later one
-  pub sorted_pair : (xs : List A) (i j : ℕ) (d : A) → IsStrictlySortedBy cmp xs → i < j → j < length xs → cmp (slice_index_or xs i d) (slice_index_or xs j d) ≡ Less
+  pub sorted_pair : (xs : List A) (i j : ℕ) (d : A) → IsStrictlySortedBy cmp xs → i < j → j < length xs
+      → cmp (slice_index_or xs i d) (slice_index_or xs j d) ≡ Less
   unfolding IsStrictlySortedBy
   sorted_pair [] i j d sorted low high = absurd (omega arith)
   sorted_pair (x ∷ xs) i zero d sorted low high = absurd (omega arith)
@@ -62,20 +65,24 @@ pub around : (k : Key) (xs ys : List Element) → AllByRecursion (λ e. IsBefore
     → AllByRecursion (λ x. AllByRecursion (λ y. element_cmp x y ≡ Less) ys) xs
 around k xs ys before from =
     each_so (λ e. IsBefore (element_key e) k) (λ x. AllByRecursion (λ y. element_cmp x y ≡ Less) ys) xs
-    (λ x less. each_so (λ e. IsFrom k (element_key e)) (λ y. element_cmp x y ≡ Less) ys (λ y later. key_before_from (element_key x) k (element_key y) less later) from) before
+    (λ x less. each_so (λ e. IsFrom k (element_key e)) (λ y. element_cmp x y ≡ Less) ys
+    (λ y later. key_before_from (element_key x) k (element_key y) less later) from) before
 
 -- the number of elements before a key, from where the test changes
-pub leading_point : (at : Key) (es : List Element) (i : ℕ) → i ≤ length es → AllWithin (λ e. stands_before at e ≡ true) es 0 i → AllWithin (λ e. stands_before at e ≡ false) es i (length es) → i ≡ leading at es
+pub leading_point : (at : Key) (es : List Element) (i : ℕ) → i ≤ length es → AllWithin (λ e. stands_before at e ≡ true) es 0 i
+    → AllWithin (λ e. stands_before at e ≡ false) es i (length es) → i ≡ leading at es
 leading_point at [] i low passes fails = omega arith
 leading_point at (e ∷ es) zero low passes fails = let here : stands_before at e ≡ false = fails 0 e (omega arith) (omega arith) in rw here refl
 leading_point at (e ∷ es) (suc i) low passes fails =
     let here : stands_before at e ≡ true = passes 0 e (omega arith) (omega arith) in
-    rw here (ap suc (leading_point at es i (omega arith) (λ k d a b. passes (suc k) d (omega arith) (omega arith)) (λ k d a b. fails (suc k) d (omega arith) (omega arith))))
+    rw here (ap suc (leading_point at es i (omega arith) (λ k d a b. passes (suc k) d (omega arith) (omega arith))
+    (λ k d a b. fails (suc k) d (omega arith) (omega arith))))
 
 pub leading_parted : (at : Key) (es : List Element) → IsStrictlySortedBy element_cmp es → IsPartitionedBy (stands_before at) es
 leading_parted at es sorted i j d le high is =
     elim (cases_lt i j) [
-      | inl below ↦ ap is_lt (key_total.trans (element_key (slice_index_or es i d)) (element_key (slice_index_or es j d)) at (sorted_pair element_cmp es i j d sorted below high) (before_is (element_key (slice_index_or es j d)) at is))
+      | inl below ↦ ap is_lt (key_total.trans (element_key (slice_index_or es i d))
+          (element_key (slice_index_or es j d)) at (sorted_pair element_cmp es i j d sorted below high) (before_is (element_key (slice_index_or es j d)) at is))
       | inr same ↦ let one : i ≡ j = omega arith in rw one is
     ]
 
@@ -83,15 +90,18 @@ leading_parted at es sorted i j d le high is =
 abbrev pub begins_by : Key → Child → Bool
 begins_by key c = not (starts_after key c)
 
-pub begun_point : (key : Key) (cs : List Child) (i : ℕ) → i ≤ length cs → AllWithin (λ c. begins_by key c ≡ true) cs 0 i → AllWithin (λ c. begins_by key c ≡ false) cs i (length cs) → i ≡ begun key cs
+pub begun_point : (key : Key) (cs : List Child) (i : ℕ) → i ≤ length cs → AllWithin (λ c. begins_by key c ≡ true) cs 0 i
+    → AllWithin (λ c. begins_by key c ≡ false) cs i (length cs) → i ≡ begun key cs
 begun_point key [] i low passes fails = omega arith
-begun_point key (c ∷ cs) zero low passes fails = let here : starts_after key c ≡ true = turned (starts_after key c) (fails 0 c (omega arith) (omega arith)) in rw here refl where
-  turned : (b : Bool) → not b ≡ false → b ≡ true
-  turned true is = refl
-  turned false is = absurd (true≢false is)
+begun_point key (c ∷ cs) zero low passes fails =
+    let here : starts_after key c ≡ true = turned (starts_after key c) (fails 0 c (omega arith) (omega arith)) in rw here refl where
+      turned : (b : Bool) → not b ≡ false → b ≡ true
+      turned true is = refl
+      turned false is = absurd (true≢false is)
 begun_point key (c ∷ cs) (suc i) low passes fails =
     let here : starts_after key c ≡ false = turned (starts_after key c) (passes 0 c (omega arith) (omega arith)) in
-    rw here (ap suc (begun_point key cs i (omega arith) (λ k d a b. passes (suc k) d (omega arith) (omega arith)) (λ k d a b. fails (suc k) d (omega arith) (omega arith)))) where
+    rw here (ap suc (begun_point key cs i (omega arith) (λ k d a b. passes (suc k) d (omega arith) (omega arith))
+    (λ k d a b. fails (suc k) d (omega arith) (omega arith)))) where
       turned : (b : Bool) → not b ≡ true → b ≡ false
       turned true is = absurd (true≢false (sym is))
       turned false is = refl

@@ -116,7 +116,8 @@ module _ (key : Key) (page : List ℕ) where
   pub leaf_falls : (n : ℕ) → IsStrictlySortedBy element_cmp (first_elements page n) → Falls (λ i. is_by false key (base_in page (place i))) n
   leaf_falls n sorted i j le low is =
       let d = element_in page (place 0) in
-      sym (leaf_read n i d (omega arith)) ∙ leading_parted key (first_elements page n) sorted i j d le (omega (arith, first_length (λ i. element_in page (place i)) n)) (leaf_read n j d low ∙ is)
+      sym (leaf_read n i d (omega arith)) ∙ leading_parted key (first_elements page n) sorted i j d le
+      (omega (arith, first_length (λ i. element_in page (place i)) n)) (leaf_read n j d low ∙ is)
 
   pub leaf_rank : (n r : ℕ) → IsRank (λ i. is_by false key (base_in page (place i))) n r → r ≡ leading key (first_elements page n)
   leaf_rank n r rank =
@@ -125,7 +126,8 @@ module _ (key : Key) (page : List ℕ) where
       (λ k d a b. leaf_read n k d (omega (arith, rank.bound)) ∙ rank.before k b)
       (λ k d a b. leaf_read n k d (omega (arith, size)) ∙ rank.after k a (omega (arith, size)))
 
-  pub leaf_first_at : (n r : ℕ) → IsRank (λ i. is_by false key (base_in page (place i))) n r → slice_get (first_elements page n) r ≡ first_from key (first_elements page n)
+  pub leaf_first_at : (n r : ℕ) → IsRank (λ i. is_by false key (base_in page (place i))) n r
+      → slice_get (first_elements page n) r ≡ first_from key (first_elements page n)
   leaf_first_at n r rank = ap (slice_get (first_elements page n)) (leaf_rank n r rank) ∙ sym (first_from-leading key (first_elements page n))
 
   -- the element at a turn is at the key or after it
@@ -148,12 +150,15 @@ module _ (key : Key) (page : List ℕ) where
   inner_test_at : (n k : ℕ) (d : Child) → k < n → begins_by key (slice_index_or (first_children page n) k d) ≡ is_by true key (base_in page (place k))
   inner_test_at n k d low = ap (begins_by key) (first_at (λ i. child_in page (place i)) n k d low) ∙ inner_test k
 
-  pub inner_falls : (n : ℕ) (right : Base) → IsStrictlySortedBy base_cmp (bounds right (first_children page n)) → Falls (λ i. is_by true key (base_in page (place i))) n
+  pub inner_falls : (n : ℕ) (right : Base) → IsStrictlySortedBy base_cmp (bounds right (first_children page n))
+      → Falls (λ i. is_by true key (base_in page (place i))) n
   inner_falls n right sorted i j le low is =
       let d = child_in page (place 0) in
-      sym (inner_test_at n i d (omega arith)) ∙ begun_parted key right (first_children page n) sorted i j d le (omega (arith, first_length (λ i. child_in page (place i)) n)) (inner_test_at n j d low ∙ is)
+      sym (inner_test_at n i d (omega arith)) ∙ begun_parted key right (first_children page n) sorted i j d le
+      (omega (arith, first_length (λ i. child_in page (place i)) n)) (inner_test_at n j d low ∙ is)
 
-  pub inner_rank : (n r : ℕ) (right : Base) → IsStrictlySortedBy base_cmp (bounds right (first_children page n)) → IsRank (λ i. is_by true key (base_in page (place i))) n r → r - 1 ≡ holder_place key (first_children page n)
+  pub inner_rank : (n r : ℕ) (right : Base) → IsStrictlySortedBy base_cmp (bounds right (first_children page n))
+      → IsRank (λ i. is_by true key (base_in page (place i))) n r → r - 1 ≡ holder_place key (first_children page n)
   inner_rank n r right sorted rank =
       let size = first_length (λ i. child_in page (place i)) n in
       let point : r ≡ begun key (first_children page n) =
@@ -177,25 +182,32 @@ module _ (page : List ℕ) where
   right_there : (n i : ℕ) → i < n → next_left (base_in page (place n)) (drop (suc i) (first_children page n)) ≡ base_in page (place (suc i))
   right_there n i low =
       elim (cases_lt (suc i) n) [
-        | inl more ↦ next_there (base_in page (place n)) (first_children page n) (suc i) (child_in page (place (suc i))) (first_get (λ k. child_in page (place k)) n (suc i) more) ∙ left_there (suc i)
+        | inl more ↦ next_there (base_in page (place n)) (first_children page n) (suc i) (child_in page (place (suc i)))
+            (first_get (λ k. child_in page (place k)) n (suc i) more) ∙ left_there (suc i)
         | inr last ↦
             let is : n ≡ suc i = omega arith in
-            next_none (base_in page (place n)) (first_children page n) (suc i) (first_past (λ k. child_in page (place k)) n (suc i) (omega arith)) ∙ ap (λ (k : ℕ). base_in page (place k)) is
+            next_none (base_in page (place n)) (first_children page n) (suc i) (first_past (λ k. child_in page (place k)) n (suc i) (omega arith))
+            ∙ ap (λ (k : ℕ). base_in page (place k)) is
       ]
 
   -- what is below the child in a place
-  pub child_below : (i level n : ℕ) (child : Child) (right : Base) → level ≡ (head_in page).level → n ≡ (head_in page).count → i < n → child ≡ child_in page (place i) → right ≡ base_in page (place (i + 1))
+  pub child_below : (i level n : ℕ) (child : Child) (right : Base) → level ≡ (head_in page).level → n ≡ (head_in page).count → i < n
+      → child ≡ child_in page (place i) → right ≡ base_in page (place (i + 1))
       → slice_get (children_of (inner_in page)) i ≡ Some (child_place level right child)
   child_below i level n child right high count low is next =
       let k = (head_in page).count in
       let after : i + 1 ≡ suc i = omega arith in
-      let bound : next_left (base_in page (place k)) (drop (suc i) (first_children page k)) ≡ right = right_there k i (omega (arith, count)) ∙ ap (λ (j : ℕ). base_in page (place j)) (sym after) ∙ sym next in
-      place_there (head_in page).level (base_in page (place k)) (first_children page k) i (child_in page (place i)) (first_get (λ k. child_in page (place k)) k i (omega (arith, count)))
+      let bound : next_left (base_in page (place k)) (drop (suc i) (first_children page k)) ≡ right =
+      right_there k i (omega (arith, count)) ∙ ap (λ (j : ℕ). base_in page (place j)) (sym after) ∙ sym next in
+      place_there (head_in page).level (base_in page (place k)) (first_children page k) i (child_in page (place i))
+      (first_get (λ k. child_in page (place k)) k i (omega (arith, count)))
       ∙ rw (bound, high, is) refl
 
   -- none is below the place after the last
   pub none_below : (i n : ℕ) → n ≡ (head_in page).count → n ≤ i → slice_get (children_of (inner_in page)) i ≡ None
-  none_below i n count high = places_none (head_in page).level (base_in page (place (head_in page).count)) (first_children page (head_in page).count) i (first_past (λ k. child_in page (place k)) (head_in page).count i (omega (arith, count)))
+  none_below i n count high =
+      places_none (head_in page).level (base_in page (place (head_in page).count)) (first_children page (head_in page).count) i
+      (first_past (λ k. child_in page (place k)) (head_in page).count i (omega (arith, count)))
 
 -- a place that is there is that of a child
 pub place_some : (places : List Subtree) (i : ℕ) (o : Option Subtree) → slice_get places i ≡ o → IfSome o (λ s. (k : ℕ) × (slice_get places k ≡ Some s))
@@ -299,7 +311,8 @@ glances_leaf s told key seen leaf is glances = by_kind glances.node glances.ther
   by_kind (leaf_node l) there view = record { leaf = l; there = there; view = view }
   by_kind (inner_node inner) there view = absurd view
 
-pub glances_inner : (s : Subtree) (told : Option PageMap) (key : Key) (seen : Seen) (inner : SeenInner) → seen ≡ inner_seen inner → Glances Shows s told key seen
+pub glances_inner : (s : Subtree) (told : Option PageMap) (key : Key) (seen : Seen) (inner : SeenInner) → seen ≡ inner_seen inner
+    → Glances Shows s told key seen
     → GlancesInner s told key inner
 glances_inner s told key seen inner is glances =
     by_kind glances.node glances.level glances.fields glances.meets glances.there (subst (Shows key glances.node) is glances.view) where

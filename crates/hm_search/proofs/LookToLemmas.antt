@@ -1,7 +1,7 @@
 -- What is seen in a page by a search for the last element up to a key is what its node has.
-use Rattle.std.proofs.Common.{◌≡◌, Bool, true, false, not, true≢false, ℕ, zero, suc, ◌+◌, ◌-◌, ◌<◌, ◌≤◌, inl, inr}
+use Rattle.std.proofs.Common.{◌≡◌, Bool, true, false, not, true≢false, ℕ, zero, suc, ◌-◌, ◌<◌, ◌≤◌, inl, inr}
 use Rattle.std.proofs.Common.{List, [], ◌∷◌, length, refl, sym, ap, subst, ◌∙◌, arith}
-use Rattle.std.specs.Prelude.{Option, Some, None, IfSome, slice_get, slice_index_or, if◌then◌else◌}
+use Rattle.std.specs.Prelude.{Option, Some, None, IfSome, slice_get, slice_index_or}
 use Rattle.std.specs.List.{AllWithin}
 use Rattle.std.specs.List.Sorted.{IsStrictlySortedBy, IsPartitionedBy}
 use Rattle.std.specs.Option.{option_or}
@@ -9,7 +9,7 @@ use Rattle.std.specs.Ordering.{is_lt}
 use Rattle.std.proofs.lemmas.Bool.{cases_lt}
 use Rattle.hm_types.specs.Elements.{Key, key_cmp}
 use Rattle.hm_fields.specs.Pages.{PageMap}
-use Rattle.hm_key.specs.Key.{key_of, IsBefore, IsFrom}
+use Rattle.hm_key.specs.Key.{IsBefore, IsFrom}
 use Rattle.hm_key.specs.Elements.{element_cmp, element_key, stands_after, last_to}
 use Rattle.hm_key.specs.Stores.{IsFoundTo}
 use Rattle.hm_key.specs.declared.element.Element.{Element}
@@ -17,7 +17,7 @@ use Rattle.hm_key.proofs.KeyLemmas.{key_from_before}
 use Rattle.hm_node.specs.Base.{base_in}
 use Rattle.hm_node.specs.Leaf.{element_in, first_elements, ArePlaces}
 use Rattle.hm_node.specs.Node.{HasFields, HasLevel}
-use Rattle.hm_node.specs.Places.{place, first}
+use Rattle.hm_node.specs.Places.{place}
 use Rattle.hm_node.specs.declared.inner.Inner.{Inner}
 use Rattle.hm_node.specs.declared.leaf.Leaf.{Leaf}
 use Rattle.hm_node.specs.declared.node.Node.{Node}

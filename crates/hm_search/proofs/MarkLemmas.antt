@@ -22,8 +22,11 @@ use Rattle.hm_search.proofs.ContentLemmas.{AreInside, all_of, from_next_on, elem
 use Rattle.hm_search.proofs.ListLemmas.{each_so, each_both, each_append}
 
 -- the children of a node whose marks at a key are those that a function gives at their offsets
-module _ (map : PageMap) (height : ℕ) (key : Key) (most : (s : Subtree) → IsStoredTree map height s → mark_in map height (node_at map s.at) key ≤ mirror_of (node_at map s.at)) (level : ℕ) (right : Base) where
-  children_most : (mirror : ℕ) (cs : List Child) → AllByRecursion (IsStoredTree map height) (places_of level right cs) → AllByRecursion (λ c. c.mirror ≤ mirror) cs
+module _ (map : PageMap) (height : ℕ) (key : Key)
+    (most : (s : Subtree) → IsStoredTree map height s → mark_in map height (node_at map s.at) key ≤ mirror_of (node_at map s.at)) (level : ℕ)
+    (right : Base) where
+  children_most : (mirror : ℕ) (cs : List Child) → AllByRecursion (IsStoredTree map height) (places_of level right cs)
+      → AllByRecursion (λ c. c.mirror ≤ mirror) cs
       → AllByRecursion (λ c. mark_in map height (node_at map c.child) key ≤ mirror) cs
   children_most mirror [] each up = tt
   children_most mirror (c ∷ cs) each up =
@@ -38,7 +41,8 @@ mark_most map key zero s (inner_node inner) tree = omega arith
 mark_most map key (suc height) s (Leaf leaf) tree = absurd tree.below
 mark_most map key (suc height) s (inner_node inner) tree =
     at_holder_each (λ c. mark_in map height (node_at map c.child) key) inner.mirror key inner.places.items
-    (children_most map height key (λ c stored. mark_most map key height c (node_at map c.at) stored.tree) inner.level inner.right inner.mirror inner.places.items tree.below
+    (children_most map height key (λ c stored. mark_most map key height c (node_at map c.at) stored.tree) inner.level inner.right inner.mirror
+    inner.places.items tree.below
     (recursion_from_All (λ c. c.mirror ≤ inner.mirror) inner.places.items tree.sound.mirror))
 
 -- the elements of children, marked as their children mark them
@@ -46,40 +50,54 @@ module _ (els : ℕ → List Element) (mark : ℕ → Key → ℕ) (level : ℕ)
   abbrev pub mark_of_all : List Child → Key → ℕ
   mark_of_all cs key = at_holder (λ (c : Child). mark c.child key) key cs
 
-  first_marked : (c : Child) (cs : List Child) (e : Element) → IsInside c.left (next_left right cs) (element_key e) × IsMarked (mark c.child) e → IsMarked (mark_of_all (c ∷ cs)) e
+  first_marked : (c : Child) (cs : List Child) (e : Element) → IsInside c.left (next_left right cs) (element_key e) × IsMarked (mark c.child) e
+      → IsMarked (mark_of_all (c ∷ cs)) e
   first_marked c cs e (inside, marked) =
-      let same : mark_of_all (c ∷ cs) (element_key e) ≡ mark c.child (element_key e) = ap (λ (d : Child). mark d.child (element_key e)) (holder_first (element_key e) right c cs inside.before) in
+      let same : mark_of_all (c ∷ cs) (element_key e) ≡ mark c.child (element_key e) =
+      ap (λ (d : Child). mark d.child (element_key e)) (holder_first (element_key e) right c cs inside.before) in
       record { create = subst (λ (n : ℕ). e.base.create ≤ n) (sym same) marked.create; delete = subst (λ (n : ℕ). e.base.delete ≤ n) (sym same) marked.delete }
 
-  later_marked : (c d : Child) (ds : List Child) (e : Element) → IsInside d.left right (element_key e) × IsMarked (mark_of_all (d ∷ ds)) e → IsMarked (mark_of_all (c ∷ d ∷ ds)) e
+  later_marked : (c d : Child) (ds : List Child) (e : Element) → IsInside d.left right (element_key e) × IsMarked (mark_of_all (d ∷ ds)) e
+      → IsMarked (mark_of_all (c ∷ d ∷ ds)) e
   later_marked c d ds e (inside, marked) =
-      let same : mark_of_all (c ∷ d ∷ ds) (element_key e) ≡ mark_of_all (d ∷ ds) (element_key e) = ap (λ (x : Child). mark x.child (element_key e)) (holder_later (element_key e) c d ds inside.from) in
+      let same : mark_of_all (c ∷ d ∷ ds) (element_key e) ≡ mark_of_all (d ∷ ds) (element_key e) =
+      ap (λ (x : Child). mark x.child (element_key e)) (holder_later (element_key e) c d ds inside.from) in
       record { create = subst (λ (n : ℕ). e.base.create ≤ n) (sym same) marked.create; delete = subst (λ (n : ℕ). e.base.delete ≤ n) (sym same) marked.delete }
 
-  pub marked_children : (cs : List Child) → IsStrictlySortedBy base_cmp (bounds right cs) → AllByRecursion (λ s. AreInside s.left s.right (els s.at)) (places_of level right cs)
-      → AllByRecursion (λ s. AllByRecursion (IsMarked (mark s.at)) (els s.at)) (places_of level right cs) → AllByRecursion (IsMarked (mark_of_all cs)) (all_of els level right cs)
+  pub marked_children : (cs : List Child) → IsStrictlySortedBy base_cmp (bounds right cs)
+      → AllByRecursion (λ s. AreInside s.left s.right (els s.at)) (places_of level right cs)
+      → AllByRecursion (λ s. AllByRecursion (IsMarked (mark s.at)) (els s.at)) (places_of level right cs)
+      → AllByRecursion (IsMarked (mark_of_all cs)) (all_of els level right cs)
   marked_children [] sorted inside marked = tt
   marked_children (c ∷ cs) sorted inside marked =
       each_append (IsMarked (mark_of_all (c ∷ cs))) (els c.child) (all_of els level right cs)
-      (each_so (λ e. IsInside c.left (next_left right cs) (element_key e) × IsMarked (mark c.child) e) (IsMarked (mark_of_all (c ∷ cs))) (els c.child) (first_marked c cs)
+      (each_so (λ e. IsInside c.left (next_left right cs) (element_key e) × IsMarked (mark c.child) e) (IsMarked (mark_of_all (c ∷ cs))) (els c.child)
+      (first_marked c cs)
       (each_both (λ e. IsInside c.left (next_left right cs) (element_key e)) (IsMarked (mark c.child)) (els c.child) inside.0 marked.0))
-      (later cs (from_next_on els level right cs (later_sorted right c cs sorted) inside.1) (marked_children cs (later_sorted right c cs sorted) inside.1 marked.1)) where
-        later : (ds : List Child) → AreInside (next_left right ds) right (all_of els level right ds) → AllByRecursion (IsMarked (mark_of_all ds)) (all_of els level right ds) → AllByRecursion (IsMarked (mark_of_all (c ∷ ds))) (all_of els level right ds)
+      (later cs (from_next_on els level right cs (later_sorted right c cs sorted) inside.1)
+      (marked_children cs (later_sorted right c cs sorted) inside.1 marked.1)) where
+        later : (ds : List Child) → AreInside (next_left right ds) right (all_of els level right ds)
+            → AllByRecursion (IsMarked (mark_of_all ds)) (all_of els level right ds)
+            → AllByRecursion (IsMarked (mark_of_all (c ∷ ds))) (all_of els level right ds)
         later [] inside marked = tt
         later (d ∷ ds) inside marked =
-            each_so (λ e. IsInside d.left right (element_key e) × IsMarked (mark_of_all (d ∷ ds)) e) (IsMarked (mark_of_all (c ∷ d ∷ ds))) (all_of els level right (d ∷ ds)) (later_marked c d ds)
+            each_so (λ e. IsInside d.left right (element_key e) × IsMarked (mark_of_all (d ∷ ds)) e) (IsMarked (mark_of_all (c ∷ d ∷ ds)))
+            (all_of els level right (d ∷ ds)) (later_marked c d ds)
             (each_both (λ e. IsInside d.left right (element_key e)) (IsMarked (mark_of_all (d ∷ ds))) (all_of els level right (d ∷ ds)) inside marked)
 
 -- the mark at the key of each element of a sound tree is at least the element's two ids
-pub elements_marked : (map : PageMap) (height : ℕ) (s : Subtree) (node : Node) → IsTree map height s node → AllByRecursion (IsMarked (mark_in map height node)) (elements_in map height node)
+pub elements_marked : (map : PageMap) (height : ℕ) (s : Subtree) (node : Node) → IsTree map height s node
+    → AllByRecursion (IsMarked (mark_in map height node)) (elements_in map height node)
 elements_marked map zero s (Leaf leaf) tree =
     each_so (IsUpTo leaf.mirror) (IsMarked (mark_in map zero (Leaf leaf))) leaf.places.items (λ e up. record { create = up.create; delete = up.delete })
     (recursion_from_All (IsUpTo leaf.mirror) leaf.places.items tree.sound.mirror)
 elements_marked map zero s (inner_node inner) tree = tt
 elements_marked map (suc height) s (Leaf leaf) tree = absurd tree.below
 elements_marked map (suc height) s (inner_node inner) tree =
-    marked_children (λ at. elements_in map height (node_at map at)) (λ at. mark_in map height (node_at map at)) inner.level inner.right inner.places.items tree.sound.order
+    marked_children (λ at. elements_in map height (node_at map at))
+    (λ at. mark_in map height (node_at map at)) inner.level inner.right inner.places.items tree.sound.order
     (each_so (IsStoredTree map height) (λ c. AreInside c.left c.right (elements_in map height (node_at map c.at))) (children_of inner)
     (λ c stored. elements_inside map height c (node_at map c.at) stored.tree) tree.below)
-    (each_so (IsStoredTree map height) (λ c. AllByRecursion (IsMarked (mark_in map height (node_at map c.at))) (elements_in map height (node_at map c.at))) (children_of inner)
+    (each_so (IsStoredTree map height) (λ c. AllByRecursion (IsMarked (mark_in map height (node_at map c.at))) (elements_in map height (node_at map c.at)))
+    (children_of inner)
     (λ c stored. elements_marked map height c (node_at map c.at) stored.tree) tree.below)

@@ -1,5 +1,6 @@
 -- What the head of a page and the bases in its places say of the node in it.
-use Rattle.std.proofs.Common.{◌≡◌, ◌≢◌, false, ℕ, zero, suc, ◌-◌, ◌<◌, ◌≤◌, inl, inr, List, [], ◌∷◌, ◌++◌, length, refl, sym, ap, subst, ◌∙◌, ◌↔◌, arith, ne_eqb}
+use Rattle.std.proofs.Common.{◌≡◌, ◌≢◌, false, ℕ, zero, suc, ◌-◌, ◌<◌, ◌≤◌, inl, inr, List, [], ◌∷◌, ◌++◌, length, refl, sym, ap, subst, ◌∙◌, ◌↔◌, arith}
+use Rattle.std.proofs.Common.{ne_eqb}
 use Rattle.std.specs.Prelude.{All, Some, nat_eq, slice_index_or}
 use Rattle.std.specs.List.Sorted.{IsStrictlySortedBy}
 use Rattle.std.specs.declared.cmp.Ordering.TheVariants.{Less}
@@ -48,7 +49,8 @@ pub inner_count : (page : List ℕ) → length (first_children page (head_in pag
 inner_count page = first_length (λ i. child_in page (place i)) (head_in page).count
 
 -- the count of a node below the root
-pub leaf_fits_count : (page : List ℕ) (head : Head) (parent : Parent) → head ≡ head_in page → head.kind ≡ LEAF → (1 ≤ head.count) ↔ FitsCount (Some parent) (node_in page)
+pub leaf_fits_count : (page : List ℕ) (head : Head) (parent : Parent) → head ≡ head_in page → head.kind ≡ LEAF
+    → (1 ≤ head.count) ↔ FitsCount (Some parent) (node_in page)
 leaf_fits_count page head parent is kind =
     let here = leaf_here page head is kind in
     let counts : head.count ≡ length (first_elements page (head_in page).count) = count_here page head is ∙ sym (leaf_count page) in (
@@ -56,7 +58,8 @@ leaf_fits_count page head parent is kind =
       λ fits. subst (λ (n : ℕ). 1 ≤ n) (sym counts) (subst (λ (n : Node). FitsCount (Some parent) n) here fits),
     )
 
-pub inner_fits_count : (page : List ℕ) (head : Head) (parent : Parent) → head ≡ head_in page → head.kind ≢ LEAF → (16 ≤ head.count) ↔ FitsCount (Some parent) (node_in page)
+pub inner_fits_count : (page : List ℕ) (head : Head) (parent : Parent) → head ≡ head_in page → head.kind ≢ LEAF
+    → (16 ≤ head.count) ↔ FitsCount (Some parent) (node_in page)
 inner_fits_count page head parent is kind =
     let here = inner_here page head is kind in
     let counts : head.count ≡ length (first_children page (head_in page).count) = count_here page head is ∙ sym (inner_count page) in (
@@ -65,16 +68,19 @@ inner_fits_count page head parent is kind =
     )
 
 -- the elements in the places of a page, by their bases
-pub inside_places : (left right : Base) (page : List ℕ) (n : ℕ) → ((k : ℕ) → k < n → IsInside left right (key_of (base_in page (place k)))) → All (λ e. IsInside left right (element_key e)) (first_elements page n)
+pub inside_places : (left right : Base) (page : List ℕ) (n : ℕ) → ((k : ℕ) → k < n → IsInside left right (key_of (base_in page (place k))))
+    → All (λ e. IsInside left right (element_key e)) (first_elements page n)
 unfolding element_in
 inside_places left right page n each = first_all (λ i. element_in page (place i)) (λ e. IsInside left right (element_key e)) n each
 
-pub places_inside : (left right : Base) (page : List ℕ) (n : ℕ) → All (λ e. IsInside left right (element_key e)) (first_elements page n) → (k : ℕ) → k < n → IsInside left right (key_of (base_in page (place k)))
+pub places_inside : (left right : Base) (page : List ℕ) (n : ℕ) → All (λ e. IsInside left right (element_key e)) (first_elements page n) → (k : ℕ) → k < n
+    → IsInside left right (key_of (base_in page (place k)))
 unfolding element_in
 places_inside left right page n all = all_first (λ i. element_in page (place i)) (λ e. IsInside left right (element_key e)) n all
 
 -- of elements in order, a later one stands after an earlier one
-in_order : (page : List ℕ) (n i j : ℕ) → IsStrictlySortedBy element_cmp (first_elements page n) → i < j → j < n → IsBefore (key_of (base_in page (place i))) (key_of (base_in page (place j)))
+in_order : (page : List ℕ) (n i j : ℕ) → IsStrictlySortedBy element_cmp (first_elements page n) → i < j → j < n
+    → IsBefore (key_of (base_in page (place i))) (key_of (base_in page (place j)))
 unfolding element_in
 in_order page n i j sorted low high =
     let f = λ (k : ℕ). element_in page (place k) in
@@ -85,19 +91,23 @@ in_order page n i j sorted low high =
 
 -- they lie inside boundaries where the first and the last do
 pub ends_inside : (left right : Base) (page : List ℕ) (n : ℕ) → 1 ≤ n → IsStrictlySortedBy element_cmp (first_elements page n)
-    → IsInside left right (key_of (base_in page (place 0))) → IsInside left right (key_of (base_in page (place (n - 1)))) → All (λ e. IsInside left right (element_key e)) (first_elements page n)
+    → IsInside left right (key_of (base_in page (place 0))) → IsInside left right (key_of (base_in page (place (n - 1))))
+    → All (λ e. IsInside left right (element_key e)) (first_elements page n)
 ends_inside left right page n some sorted front last = inside_places left right page n each where
   key_at : ℕ → Key
   key_at k = key_of (base_in page (place k))
 
   from : (k : ℕ) → k < n → IsFrom (key_of left) (key_at k)
   from zero low = front.from
-  from (suc k) low = from_trans (key_of left) (key_at 0) (key_at (suc k)) front.from (key_from_before (key_at 0) (key_at (suc k)) (in_order page n 0 (suc k) sorted (omega arith) low))
+  from (suc k) low =
+      from_trans (key_of left) (key_at 0) (key_at (suc k)) front.from
+      (key_from_before (key_at 0) (key_at (suc k)) (in_order page n 0 (suc k) sorted (omega arith) low))
 
   before : (k : ℕ) → k < n → IsBefore (key_at k) (key_of right)
   before k low =
       elim (cases_lt k (n - 1)) [
-        | inl earlier ↦ key_before_from (key_at k) (key_at (n - 1)) (key_of right) (in_order page n k (n - 1) sorted earlier (omega arith)) (key_from_before (key_at (n - 1)) (key_of right) last.before)
+        | inl earlier ↦ key_before_from (key_at k) (key_at (n - 1)) (key_of right) (in_order page n k (n - 1) sorted earlier (omega arith))
+            (key_from_before (key_at (n - 1)) (key_of right) last.before)
         | inr end ↦ let is : k ≡ n - 1 = omega arith in subst (λ (i : ℕ). IsBefore (key_at i) (key_of right)) (sym is) last.before
       ]
 
@@ -105,9 +115,11 @@ ends_inside left right page n some sorted front last = inside_places left right 
   each k low = record { from = from k low; before = before k low }
 
 -- the order of the elements of a leaf
-pub leaf_order : (page : List ℕ) (head : Head) (n : ℕ) → head ≡ head_in page → head.kind ≡ LEAF → n ≡ head.count → HasOrder (node_in page) → IsStrictlySortedBy element_cmp (first_elements page n)
+pub leaf_order : (page : List ℕ) (head : Head) (n : ℕ) → head ≡ head_in page → head.kind ≡ LEAF → n ≡ head.count → HasOrder (node_in page)
+    → IsStrictlySortedBy element_cmp (first_elements page n)
 leaf_order page head n is kind count order =
-    subst (λ (k : ℕ). IsStrictlySortedBy element_cmp (first_elements page k)) (sym (count ∙ count_here page head is)) (subst HasOrder (leaf_here page head is kind) order)
+    subst (λ (k : ℕ). IsStrictlySortedBy element_cmp (first_elements page k)) (sym (count ∙ count_here page head is))
+    (subst HasOrder (leaf_here page head is kind) order)
 
 -- the first of so many children begins where the first base in the page does
 begins_first : (left : Base) (page : List ℕ) (n : ℕ) → 1 ≤ n → (key_of (base_in page (place 0)) ≡ key_of left) ↔ BeginsAt left (first_children page n)
@@ -139,17 +151,24 @@ leaf_fits_bounds left right page head count is same kind =
       λ fits. subst (λ (n : ℕ). All (λ e. IsInside left right (element_key e)) (first_elements page n)) (sym counts) (subst (FitsBounds left right) here fits),
     )
 
-pub inner_fits_bounds : (left right : Base) (page : List ℕ) (head : Head) (count : ℕ) → head ≡ head_in page → count ≡ head.count → head.kind ≢ LEAF → HasCount (node_in page)
+pub inner_fits_bounds : (left right : Base) (page : List ℕ) (head : Head) (count : ℕ) → head ≡ head_in page → count ≡ head.count → head.kind ≢ LEAF
+    → HasCount (node_in page)
     → ((key_of (base_in page (place 0)) ≡ key_of left) × (key_of (base_in page (place count)) ≡ key_of right)) ↔ FitsBounds left right (node_in page)
 inner_fits_bounds left right page head count is same kind counted =
     let here = inner_here page head is kind in
     let counts : count ≡ (head_in page).count = same ∙ count_here page head is in
     let some : 1 ≤ count = some_children (subst HasCount here counted) counts in
     let begins = begins_first left page count some in (
-      λ both. subst (FitsBounds left right) (sym here)
-          (subst (λ (n : ℕ). BeginsAt left (first_children page n)) counts (begins.0 both.0), subst (λ (n : ℕ). key_of (base_in page (place n)) ≡ key_of right) counts both.1),
-      λ fits. let both = subst (FitsBounds left right) here fits in
-          (begins.1 (subst (λ (n : ℕ). BeginsAt left (first_children page n)) (sym counts) both.0), subst (λ (n : ℕ). key_of (base_in page (place n)) ≡ key_of right) (sym counts) both.1),
+      λ both. subst (FitsBounds left right) (sym here) (
+        subst (λ (n : ℕ). BeginsAt left (first_children page n)) counts (begins.0 both.0),
+        subst
+            (λ (n : ℕ). key_of (base_in page (place n)) ≡ key_of right) counts both.1,
+      ),
+      λ fits. let both = subst (FitsBounds left right) here fits in (
+        begins.1 (subst (λ (n : ℕ). BeginsAt left (first_children page n)) (sym counts) both.0),
+        subst
+            (λ (n : ℕ). key_of (base_in page (place n)) ≡ key_of right) (sym counts) both.1,
+      ),
     ) where
       some_children : HasCount (inner_node (inner_in page)) → count ≡ (head_in page).count → 1 ≤ count
       some_children counted counts = omega (arith, inner_count page, counted.0)

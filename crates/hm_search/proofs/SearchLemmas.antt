@@ -1,5 +1,6 @@
 -- What a search finds below a node, from what it finds below the child that holds the key.
-use Rattle.std.proofs.Common.{◌≡◌, ◌≢◌, Bool, true, false, ℕ, zero, suc, ◌+◌, ◌<◌, ◌≤◌, List, [], ◌∷◌, ◌++◌, length, drop, refl, sym, ap, subst, ◌∙◌, arith, if◌then◌else◌}
+use Rattle.std.proofs.Common.{◌≡◌, ◌≢◌, Bool, true, false, ℕ, zero, suc, ◌+◌, ◌<◌, ◌≤◌, List, [], ◌∷◌, ◌++◌, length, drop, refl, sym, ap, subst, ◌∙◌, arith}
+use Rattle.std.proofs.Common.{if◌then◌else◌}
 use Rattle.std.specs.Prelude.{Option, Some, None, Result, IfSome, IfOk, slice_get}
 use Rattle.std.specs.List.{AllByRecursion, flat_map}
 use Rattle.std.specs.List.Sorted.{IsStrictlySortedBy}
@@ -10,12 +11,12 @@ use Rattle.hm_types.specs.Elements.{Key}
 use Rattle.hm_types.specs.declared.fault.Fault.{Fault}
 use Rattle.hm_fields.specs.Pages.{PageMap}
 use Rattle.hm_key.specs.Key.{key_of, greatest_key, least_key, IsBefore, IsFrom}
-use Rattle.hm_key.specs.Elements.{element_key, first_from}
+use Rattle.hm_key.specs.Elements.{first_from}
 use Rattle.hm_key.specs.Marks.{IsQuiet}
 use Rattle.hm_key.specs.Places.{leading}
 use Rattle.hm_key.specs.declared.base.Base.{Base}
 use Rattle.hm_key.specs.declared.element.Element.{Element}
-use Rattle.hm_key.proofs.KeyLemmas.{key_before_from, key_from_before, key_from_fields, key_not_before}
+use Rattle.hm_key.proofs.KeyLemmas.{key_before_from, key_from_fields, key_not_before}
 use Rattle.hm_node.specs.Base.{base_cmp}
 use Rattle.hm_node.specs.Inner.{IsBound, IsChild, IsNodeOffset, HasInnerOrder}
 use Rattle.hm_node.specs.Leaf.{HasLeafOrder}
@@ -33,15 +34,16 @@ use Rattle.hm_search.specs.Tree.{mark_of, root_place, IsTree, IsSoundTree, IsSto
 use Rattle.hm_search.specs.declared.search.Found.{Found}
 use Rattle.hm_search.specs.declared.subtree.Subtree.{Subtree}
 use Rattle.hm_search.proofs.ChildLemmas.{bounds, later_sorted, next_by_right, place_is, at_holder_is, holder_place_within, holder_later}
-use Rattle.hm_search.proofs.ContentLemmas.{AreInside, elements_inside, elements_some}
+use Rattle.hm_search.proofs.ContentLemmas.{AreInside, elements_inside}
 use Rattle.hm_search.proofs.DescentLemmas.{child_stored}
-use Rattle.hm_search.proofs.FirstLemmas.{first_found, first_none, first_of_some, drop_get, drop_past, holder_next, first_from_holder}
+use Rattle.hm_search.proofs.FirstLemmas.{first_found, first_none, drop_past, holder_next, first_from_holder}
 use Rattle.hm_search.proofs.ListLemmas.{each_get, each_so}
 use Rattle.hm_search.proofs.MarkLemmas.{mark_most}
 use Rattle.hm_search.proofs.OrderLemmas.{from_is, from_trans}
 
 -- the place of the child that holds a key is one of the node's
-pub place_within : (node : Node) (inner : Inner) (key : Key) (place : ℕ) → IsNode node → node ≡ inner_node inner → place ≡ holder_place key inner.places.items → place < length inner.places.items
+pub place_within : (node : Node) (inner : Inner) (key : Key) (place : ℕ) → IsNode node → node ≡ inner_node inner → place ≡ holder_place key inner.places.items
+    → place < length inner.places.items
 place_within node inner key place sound is at =
     let count = subst HasCount is sound.count in
     omega (arith, at, holder_place_within key inner.places.items count.0)
@@ -63,11 +65,14 @@ pub mark_up : (map : PageMap) (height lower : ℕ) (s : Subtree) (inner : Inner)
 mark_up map height lower s inner key up is = ap (λ (n : Node). mark_in map height n key) is ∙ ap (λ (h : ℕ). mark_in map h (inner_node inner) key) up
 
 leaf_up : (map : PageMap) (height lower : ℕ) (s : Subtree) (inner : Inner) (key : Key) → height ≡ suc lower → node_at map s.at ≡ inner_node inner
-    → leaf_offset_in map height s.at (node_at map s.at) key ≡ at_holder (λ (c : Child). leaf_offset_in map lower c.child (node_at map c.child) key) key inner.places.items
-leaf_up map height lower s inner key up is = ap (λ (n : Node). leaf_offset_in map height s.at n key) is ∙ ap (λ (h : ℕ). leaf_offset_in map h s.at (inner_node inner) key) up
+    → leaf_offset_in map height s.at (node_at map s.at) key ≡ at_holder (λ (c : Child). leaf_offset_in map lower c.child (node_at map c.child) key) key
+    inner.places.items
+leaf_up map height lower s inner key up is =
+    ap (λ (n : Node). leaf_offset_in map height s.at n key) is ∙ ap (λ (h : ℕ). leaf_offset_in map h s.at (inner_node inner) key) up
 
 -- what a function gives at the child that holds a key, from its place
-pub at_child : (f : ℕ → ℕ) (key : Key) (inner : Inner) (place : ℕ) (child : Subtree) → place ≡ holder_place key inner.places.items → slice_get (children_of inner) place ≡ Some child
+pub at_child : (f : ℕ → ℕ) (key : Key) (inner : Inner) (place : ℕ) (child : Subtree) → place ≡ holder_place key inner.places.items
+    → slice_get (children_of inner) place ≡ Some child
     → at_holder (λ (c : Child). f c.child) key inner.places.items ≡ f child.at
 at_child f key inner place child at get =
     let here = place_is inner.level inner.right inner.places.items place child get in
@@ -75,15 +80,20 @@ at_child f key inner place child at get =
     ∙ ap (λ (t : Subtree). f t.at) (sym here.place)
 
 -- the place of a key
-pub place_up : (map : PageMap) (height lower : ℕ) (s child : Subtree) (inner : Inner) (key : Key) (place : ℕ) (found : Found) → height ≡ suc lower → node_at map s.at ≡ inner_node inner
-    → place ≡ holder_place key inner.places.items → slice_get (children_of inner) place ≡ Some child → IsPlaceOf map lower child key found → IsPlaceOf map height s key found
+pub place_up : (map : PageMap) (height lower : ℕ) (s child : Subtree) (inner : Inner) (key : Key) (place : ℕ) (found : Found) → height ≡ suc lower
+    → node_at map s.at ≡ inner_node inner
+    → place ≡ holder_place key inner.places.items → slice_get (children_of inner) place ≡ Some child → IsPlaceOf map lower child key found
+    → IsPlaceOf map height s key found
 place_up map height lower s child inner key place found up is at get below = record {
-  leaf = below.leaf ∙ sym (leaf_up map height lower s inner key up is ∙ at_child (λ a. leaf_offset_in map lower a (node_at map a) key) key inner place child at get);
+  leaf =
+      below.leaf ∙ sym (leaf_up map height lower s inner key up is
+      ∙ at_child (λ a. leaf_offset_in map lower a (node_at map a) key) key inner place child at get);
   place = below.place;
 }
 
 -- a node of a stored tree is in order
-pub order_of : (map : PageMap) (height : ℕ) (s : Subtree) (inner : Inner) → IsStoredTree map height s → node_at map s.at ≡ inner_node inner → HasInnerOrder inner
+pub order_of : (map : PageMap) (height : ℕ) (s : Subtree) (inner : Inner) → IsStoredTree map height s → node_at map s.at ≡ inner_node inner
+    → HasInnerOrder inner
 order_of map height s inner stored read = (subst IsNode read stored.tree.sound).order
 
 pub leaf_order_of : (map : PageMap) (height : ℕ) (s : Subtree) (leaf : Leaf) → IsStoredTree map height s → node_at map s.at ≡ leaf_node leaf → HasLeafOrder leaf
@@ -144,10 +154,12 @@ leaf_told (Some map) s key node leaf found is here read = λ height stored.
     read (leaf_order_of map height s leaf stored here) ∙ ap (first_from key) (sym (ap (elements_in map height) here ∙ leaf_elements map height leaf))
 
 -- the first element from a key on below an inner node
-pub first_up : (map : PageMap) (height lower : ℕ) (s child : Subtree) (inner : Inner) (key : Key) (place : ℕ) → height ≡ suc lower → node_at map s.at ≡ inner_node inner → IsTree map (suc lower) s (inner_node inner)
+pub first_up : (map : PageMap) (height lower : ℕ) (s child : Subtree) (inner : Inner) (key : Key) (place : ℕ) → height ≡ suc lower
+    → node_at map s.at ≡ inner_node inner → IsTree map (suc lower) s (inner_node inner)
     → place ≡ holder_place key inner.places.items → slice_get (children_of inner) place ≡ Some child
     → first_from key (elements_in map height (node_at map s.at))
-    ≡ first_from key (elements_in map lower (node_at map child.at) ++ flat_map (λ (c : Child). elements_in map lower (node_at map c.child)) (drop (suc place) inner.places.items))
+    ≡ first_from key (elements_in map lower (node_at map child.at) ++ flat_map (λ (c : Child). elements_in map lower (node_at map c.child))
+    (drop (suc place) inner.places.items))
 first_up map height lower s child inner key place up is tree at get =
     let here = place_is inner.level inner.right inner.places.items place child get in
     let inside = each_so (IsStoredTree map lower) (λ c. AreInside c.left c.right (elements_in map lower (node_at map c.at))) (children_of inner)
@@ -155,8 +167,10 @@ first_up map height lower s child inner key place up is tree at get =
     let held = subst (λ (n : ℕ). slice_get inner.places.items n ≡ Some here.child) at here.is in
     ap (first_from key) (elements_up map height lower s inner up is)
     ∙ first_from_holder (λ a. elements_in map lower (node_at map a)) inner.level inner.right key inner.places.items here.child tree.sound.order inside held
-    ∙ ap (λ (n : ℕ). first_from key (elements_in map lower (node_at map here.child.child) ++ flat_map (λ (c : Child). elements_in map lower (node_at map c.child)) (drop (suc n) inner.places.items))) (sym at)
-    ∙ ap (λ (t : Subtree). first_from key (elements_in map lower (node_at map t.at) ++ flat_map (λ (c : Child). elements_in map lower (node_at map c.child)) (drop (suc place) inner.places.items))) (sym here.place)
+    ∙ ap (λ (n : ℕ). first_from key (elements_in map lower (node_at map here.child.child) ++ flat_map
+    (λ (c : Child). elements_in map lower (node_at map c.child)) (drop (suc n) inner.places.items))) (sym at)
+    ∙ ap (λ (t : Subtree). first_from key (elements_in map lower (node_at map t.at) ++ flat_map (λ (c : Child). elements_in map lower (node_at map c.child))
+    (drop (suc place) inner.places.items))) (sym here.place)
 
 -- Where the child that holds the key has an element from it on, that one is the first.
 pub first_some_told : (told now : Option PageMap) (s child : Subtree) (key : Key) (node : Node) (inner : Inner) (found : Option Element) (e : Element)
@@ -168,13 +182,15 @@ pub first_some_told : (told now : Option PageMap) (s child : Subtree) (key : Key
 first_some_told None now s child key node inner found e same is here view some clause = tt
 first_some_told (Some map) now s child key node inner found e same is here view some clause = λ height stored.
     let place = holder_place key inner.places.items in
-    let told = subst (λ (o : Option PageMap). IfSome o (λ m. (h : ℕ) → IsStoredTree m h child → found ≡ first_from key (elements_in m h (node_at m child.at)))) same clause in
+    let told = subst (λ (o : Option PageMap). IfSome o (λ m. (h : ℕ) → IsStoredTree m h child → found ≡ first_from key (elements_in m h (node_at m child.at))))
+    same clause in
     let read = (here.spelled stored.there).value ∙ is in
     let order = order_of map height s inner stored read in
     let get = view order in
     let below = child_stored map height s inner place child stored read get in
     sym (first_up map height below.lower s child inner key place below.is read below.tree refl get
-    ∙ first_found key e (elements_in map below.lower (node_at map child.at)) (flat_map (λ (c : Child). elements_in map below.lower (node_at map c.child)) (drop (suc place) inner.places.items))
+    ∙ first_found key e (elements_in map below.lower (node_at map child.at))
+    (flat_map (λ (c : Child). elements_in map below.lower (node_at map c.child)) (drop (suc place) inner.places.items))
     (sym (told below.lower below.stored) ∙ some))
 
 -- Where it has none and is the last, there is none.
@@ -188,66 +204,27 @@ pub first_last_told : (told now : Option PageMap) (s child : Subtree) (key : Key
 first_last_told None now s child key node inner found same is here view none last clause = tt
 first_last_told (Some map) now s child key node inner found same is here view none last clause = λ height stored.
     let place = holder_place key inner.places.items in
-    let told = subst (λ (o : Option PageMap). IfSome o (λ m. (h : ℕ) → IsStoredTree m h child → found ≡ first_from key (elements_in m h (node_at m child.at)))) same clause in
+    let told = subst (λ (o : Option PageMap). IfSome o (λ m. (h : ℕ) → IsStoredTree m h child → found ≡ first_from key (elements_in m h (node_at m child.at))))
+    same clause in
     let read = (here.spelled stored.there).value ∙ is in
     let order = order_of map height s inner stored read in
     let get = view order in
     let below = child_stored map height s inner place child stored read get in
     let rest : drop (suc place) inner.places.items ≡ [] = drop_past inner.places.items (suc place) (omega (arith, last order)) in
     sym (first_up map height below.lower s child inner key place below.is read below.tree refl get
-    ∙ first_none key (elements_in map below.lower (node_at map child.at)) (flat_map (λ (c : Child). elements_in map below.lower (node_at map c.child)) (drop (suc place) inner.places.items))
+    ∙ first_none key (elements_in map below.lower (node_at map child.at))
+    (flat_map (λ (c : Child). elements_in map below.lower (node_at map c.child)) (drop (suc place) inner.places.items))
     (sym (told below.lower below.stored) ∙ none)
     ∙ ap (λ (cs : List Child). first_from key (flat_map (λ (c : Child). elements_in map below.lower (node_at map c.child)) cs)) rest)
 
 -- the child after the one that holds a key begins after the key
-pub next_after : (inner : Inner) (key : Key) (place : ℕ) (next : Subtree) → place ≡ holder_place key inner.places.items → slice_get (children_of inner) (place + 1) ≡ Some next → IsBefore key (key_of next.left)
+pub next_after : (inner : Inner) (key : Key) (place : ℕ) (next : Subtree) → place ≡ holder_place key inner.places.items
+    → slice_get (children_of inner) (place + 1) ≡ Some next → IsBefore key (key_of next.left)
 next_after inner key place next at get =
     let here = place_is inner.level inner.right inner.places.items (place + 1) next get in
     let after : place + 1 ≡ suc (holder_place key inner.places.items) = omega (arith, at) in
     subst (λ (t : Subtree). IsBefore key (key_of t.left)) (sym here.place)
     (holder_next key inner.places.items here.child (subst (λ (n : ℕ). slice_get inner.places.items n ≡ Some here.child) after here.is))
-
--- Where it has none, the first element from the key on below the next child is the first.
-pub first_next_told : (told now later : Option PageMap) (s child next : Subtree) (key : Key) (node : Node) (inner : Inner) (found : Option Element)
-    (r : Result (Option Element) Fault) → now ≡ told → later ≡ told → node ≡ inner_node inner
-    → IfSome told (λ map. PassesHere map s node) → (HasInnerOrder inner → slice_get (children_of inner) (holder_place key inner.places.items) ≡ Some child)
-    → found ≡ None
-    → (HasInnerOrder inner → slice_get (children_of inner) (holder_place key inner.places.items + 1) ≡ Some next)
-    → IfSome now (λ map. (height : ℕ) → IsStoredTree map height child → found ≡ first_from key (elements_in map height (node_at map child.at)))
-    → IfSome later (λ map. (height : ℕ) → IsStoredTree map height next → IfOk r (λ first. first ≡ first_from key (elements_in map height (node_at map next.at))))
-    → IfSome told (λ map. (height : ℕ) → IsStoredTree map height s → IfOk r (λ first. first ≡ first_from key (elements_in map height (node_at map s.at))))
-first_next_told None now later s child next key node inner found r same same' is here view none next_view clause clause' = tt
-first_next_told (Some map) now later s child next key node inner found r same same' is here view none next_view clause clause' = λ height stored.
-    let place = holder_place key inner.places.items in
-    let told = subst (λ (o : Option PageMap). IfSome o (λ m. (h : ℕ) → IsStoredTree m h child → found ≡ first_from key (elements_in m h (node_at m child.at)))) same clause in
-    let told' = subst (λ (o : Option PageMap). IfSome o (λ m. (h : ℕ) → IsStoredTree m h next → IfOk r (λ first. first ≡ first_from key (elements_in m h (node_at m next.at))))) same' clause' in
-    let read = (here.spelled stored.there).value ∙ is in
-    let order = order_of map height s inner stored read in
-    let get = view order in
-    let get' = next_view order in
-    let below = child_stored map height s inner place child stored read get in
-    let beside = child_stored map height s inner (place + 1) next stored read get' in
-    let level : beside.lower ≡ below.lower = omega (arith, below.is, beside.is) in
-    let tree = subst (λ (h : ℕ). IsStoredTree map h next) level beside.stored in
-    let there = place_is inner.level inner.right inner.places.items (place + 1) next get' in
-    let after : place + 1 ≡ suc place = omega arith in
-    let rest : drop (suc place) inner.places.items ≡ there.child ∷ drop (suc (suc place)) inner.places.items =
-    drop_get inner.places.items (suc place) there.child (subst (λ (n : ℕ). slice_get inner.places.items n ≡ Some there.child) after there.is) in
-    let els = elements_in map below.lower (node_at map next.at) in
-    let others = flat_map (λ (c : Child). elements_in map below.lower (node_at map c.child)) (drop (suc (suc place)) inner.places.items) in
-    let some : 1 ≤ length els = elements_some map below.lower next (node_at map next.at) (child_has_parent inner (place + 1) next get') tree.tree in
-    let from = each_so (λ e. IsInside next.left next.right (element_key e)) (λ e. IsFrom key (element_key e)) els
-    (λ e inside. from_trans key (key_of next.left) (element_key e) (key_from_before key (key_of next.left) (next_after inner key place next refl get'))
-    inside.from)
-    (elements_inside map below.lower next (node_at map next.at) tree.tree) in
-    let whole = first_up map height below.lower s child inner key place below.is read below.tree refl get
-    ∙ first_none key (elements_in map below.lower (node_at map child.at)) (flat_map (λ (c : Child). elements_in map below.lower (node_at map c.child)) (drop (suc place) inner.places.items))
-    (sym (told below.lower below.stored) ∙ none)
-    ∙ ap (λ (cs : List Child). first_from key (flat_map (λ (c : Child). elements_in map below.lower (node_at map c.child)) cs)) rest
-    ∙ ap (λ (t : Subtree). first_from key (elements_in map below.lower (node_at map t.at) ++ others)) (sym there.place)
-    ∙ first_of_some key els others some from in
-    IfOk-weaker r (λ first. first ≡ first_from key els) (λ first. first ≡ first_from key (elements_in map height (node_at map s.at)))
-    (λ first is_first. is_first ∙ sym whole) (told' below.lower tree)
 
 -- A node whose `mirror` is low enough is quiet as a whole.
 pub quiet_told : (told : Option PageMap) (s : Subtree) (at : Key) (since : ℕ) (node : Node) → mirror_of node ≤ since
@@ -277,20 +254,24 @@ leaf_quiet_told (Some map) s at since leaf high here = λ height stored.
     record { quiet = subst (λ (n : ℕ). since < n) (sym same) high; within = tt }
 
 -- keys between two others that one child holds are held by it too
-holder_span : (key at : Key) (right : Base) (c : Child) (cs : List Child) → IsFrom at key → IsBefore key (key_of (next_left right (drop (suc (begun at cs)) (c ∷ cs)))) → holder key c cs ≡ holder at c cs
+holder_span : (key at : Key) (right : Base) (c : Child) (cs : List Child) → IsFrom at key
+    → IsBefore key (key_of (next_left right (drop (suc (begun at cs)) (c ∷ cs)))) → holder key c cs ≡ holder at c cs
 holder_span key at right c [] from before = refl
 holder_span key at right c (d ∷ ds) from before = by_test (starts_after at d) refl before (holder_span key at right d ds from) where
   by_test : (b : Bool) → starts_after at d ≡ b → IsBefore key (key_of (next_left right (drop (suc (if b then 0 else suc (begun at ds))) (c ∷ d ∷ ds))))
-      → (IsBefore key (key_of (next_left right (drop (suc (begun at ds)) (d ∷ ds)))) → holder key d ds ≡ holder at d ds) → holder key c (d ∷ ds) ≡ (if b then c else holder at d ds)
+      → (IsBefore key (key_of (next_left right (drop (suc (begun at ds)) (d ∷ ds)))) → holder key d ds ≡ holder at d ds)
+      → holder key c (d ∷ ds) ≡ (if b then c else holder at d ds)
   by_test true is before more = let starts : starts_after key d ≡ true = ap is_lt before in rw starts refl
   by_test false is before more = holder_later key c d ds (from_trans (key_of d.left) at key (from_is at (key_of d.left) is) from) ∙ more before
 
-span_same : (f : Child → ℕ) (key at : Key) (right : Base) (cs : List Child) → IsFrom at key → IsBefore key (key_of (next_left right (drop (suc (holder_place at cs)) cs))) → at_holder f key cs ≡ at_holder f at cs
+span_same : (f : Child → ℕ) (key at : Key) (right : Base) (cs : List Child) → IsFrom at key
+    → IsBefore key (key_of (next_left right (drop (suc (holder_place at cs)) cs))) → at_holder f key cs ≡ at_holder f at cs
 span_same f key at right [] from before = refl
 span_same f key at right (c ∷ cs) from before = ap f (holder_span key at right c cs from before)
 
 -- what is quiet below the child that holds the key is quiet below the node
-pub quiet_up : (map : PageMap) (height lower : ℕ) (s child : Subtree) (inner : Inner) (at : Key) (since place : ℕ) (end : Option Base) → height ≡ suc lower → node_at map s.at ≡ inner_node inner
+pub quiet_up : (map : PageMap) (height lower : ℕ) (s child : Subtree) (inner : Inner) (at : Key) (since place : ℕ) (end : Option Base) → height ≡ suc lower
+    → node_at map s.at ≡ inner_node inner
     → place ≡ holder_place at inner.places.items → slice_get (children_of inner) place ≡ Some child → IfSome end (λ e. IsFrom (key_of e) (key_of child.right))
     → IsQuiet (mark_in map lower (node_at map child.at)) at since end → IsQuiet (mark_in map height (node_at map s.at)) at since end
 quiet_up map height lower s child inner at since place None up is held get ends quiet =
@@ -302,7 +283,8 @@ quiet_up map height lower s child inner at since place (Some end) up is held get
     let by : IsBefore key (key_of (next_left inner.right (drop (suc (holder_place at inner.places.items)) inner.places.items))) =
     subst (λ (n : ℕ). IsBefore key (key_of (next_left inner.right (drop (suc n) inner.places.items)))) held
     (subst (λ (b : Base). IsBefore key (key_of b)) bound (key_before_from key (key_of end) (key_of child.right) before ends)) in
-    let same = mark_up map height lower s inner key up is ∙ span_same (λ (c : Child). mark_in map lower (node_at map c.child) key) key at inner.right inner.places.items from by
+    let same = mark_up map height lower s inner key up is
+    ∙ span_same (λ (c : Child). mark_in map lower (node_at map c.child) key) key at inner.right inner.places.items from by
     ∙ at_child (λ a. mark_in map lower (node_at map a) key) at inner place child held get in
     subst (λ (n : ℕ). n ≤ since) (sym same) (quiet key from before)
 
@@ -316,16 +298,18 @@ pub child_bound : (child : Subtree) (inner : Inner) (place : ℕ) → HasFields 
     → IsBound child.right
 child_bound child inner place fields get =
     let here = place_is inner.level inner.right inner.places.items place child get in
-    subst (λ (t : Subtree). IsBound t.right) (sym here.place) (next_is_bound inner.right inner.places.items (suc place) fields.right (recursion_from_All IsChild inner.places.items fields.children))
+    subst (λ (t : Subtree). IsBound t.right) (sym here.place)
+    (next_is_bound inner.right inner.places.items (suc place) fields.right (recursion_from_All IsChild inner.places.items fields.children))
 
-drop_by_right : (right : Base) (cs : List Child) (n : ℕ) → IsStrictlySortedBy base_cmp (bounds right cs) → IsFrom (key_of (next_left right (drop n cs))) (key_of right)
+drop_by_right : (right : Base) (cs : List Child) (n : ℕ) → IsStrictlySortedBy base_cmp (bounds right cs)
+    → IsFrom (key_of (next_left right (drop n cs))) (key_of right)
 drop_by_right right [] zero sorted = key_not_before (key_of right)
 drop_by_right right [] (suc n) sorted = key_not_before (key_of right)
 drop_by_right right (c ∷ cs) zero sorted = next_by_right right (c ∷ cs) sorted
 drop_by_right right (c ∷ cs) (suc n) sorted = drop_by_right right cs n (later_sorted right c cs sorted)
 
 -- the right boundary of a child is not after that of its node
-right_low : (s child : Subtree) (inner : Inner) (place : ℕ) → HasInnerOrder inner → FitsBounds s.left s.right (inner_node inner)
+pub right_low : (s child : Subtree) (inner : Inner) (place : ℕ) → HasInnerOrder inner → FitsBounds s.left s.right (inner_node inner)
     → slice_get (children_of inner) place ≡ Some child
     → IsFrom (key_of child.right) (key_of s.right)
 right_low s child inner place order bounds_of get =

@@ -1,17 +1,14 @@
 -- What a search for the last element up to a key finds below a node, from what it finds below its children.
-use Rattle.std.proofs.Common.{◌≡◌, ℕ, zero, suc, ◌+◌, ◌<◌, ◌≤◌, List, [], ◌∷◌, ◌++◌, length, take, drop, refl, sym, ap, subst, ◌∙◌, arith}
-use Rattle.std.specs.Prelude.{Option, Some, None, Result, IfSome, IfOk, slice_get}
-use Rattle.std.specs.List.{AllByRecursion, flat_map}
+use Rattle.std.proofs.Common.{◌≡◌, ℕ, suc, List, take, sym, ap, subst, ◌∙◌, arith}
+use Rattle.std.specs.Prelude.{Option, Some, None, IfSome, slice_get}
+use Rattle.std.specs.List.{flat_map}
 use Rattle.std.specs.Option.{option_or}
-use Rattle.std.proofs.lemmas.Result.{IfOk-weaker}
 use Rattle.hm_types.specs.Elements.{Key}
-use Rattle.hm_types.specs.declared.fault.Fault.{Fault}
 use Rattle.hm_fields.specs.Pages.{PageMap}
-use Rattle.hm_key.specs.Key.{key_of, IsBefore, IsFrom}
-use Rattle.hm_key.specs.Elements.{element_key, last_to}
+use Rattle.hm_key.specs.Key.{key_of, IsFrom}
+use Rattle.hm_key.specs.Elements.{last_to}
 use Rattle.hm_key.specs.declared.base.Base.{Base}
 use Rattle.hm_key.specs.declared.element.Element.{Element}
-use Rattle.hm_key.proofs.KeyLemmas.{key_from_before}
 use Rattle.hm_node.specs.Inner.{HasInnerOrder}
 use Rattle.hm_node.specs.Leaf.{HasLeafOrder}
 use Rattle.hm_node.specs.declared.inner.Child.{Child}
@@ -20,17 +17,15 @@ use Rattle.hm_node.specs.declared.leaf.Leaf.{Leaf}
 use Rattle.hm_node.specs.declared.node.Node.TheVariants.{Leaf as leaf_node, Inner as inner_node}
 use Rattle.hm_search.specs.Descent.{PassesHere}
 use Rattle.hm_search.specs.LookTo.{before_place}
-use Rattle.hm_search.specs.Place.{IsInside}
 use Rattle.hm_search.specs.Search.{holder_place}
-use Rattle.hm_search.specs.Tree.{node_at, elements_in, next_left, children_of, IsTree, IsStoredTree}
+use Rattle.hm_search.specs.Tree.{node_at, elements_in, children_of, IsTree, IsStoredTree}
 use Rattle.hm_search.specs.declared.subtree.Subtree.{Subtree}
 use Rattle.hm_search.proofs.ChildLemmas.{next_there, place_is}
-use Rattle.hm_search.proofs.ContentLemmas.{AreInside, elements_inside, elements_some}
+use Rattle.hm_search.proofs.ContentLemmas.{AreInside, elements_inside}
 use Rattle.hm_search.proofs.DescentLemmas.{child_stored}
-use Rattle.hm_search.proofs.LastLemmas.{before_none, before_some, holder_begins, last_of_some, last_taken, last_to_holder, or_none}
+use Rattle.hm_search.proofs.LastLemmas.{before_none, holder_begins, last_to_holder}
 use Rattle.hm_search.proofs.ListLemmas.{each_so}
-use Rattle.hm_search.proofs.OrderLemmas.{from_trans}
-use Rattle.hm_search.proofs.SearchLemmas.{child_has_parent, elements_up, leaf_elements, leaf_order_of, order_of}
+use Rattle.hm_search.proofs.SearchLemmas.{elements_up, leaf_elements, leaf_order_of, order_of}
 
 pub leaf_told_to : (told : Option PageMap) (s : Subtree) (key : Key) (leaf : Leaf) (found : Option Element)
     → IfSome told (λ map. PassesHere map s (leaf_node leaf))
@@ -42,11 +37,11 @@ leaf_told_to (Some map) s key leaf found here read = λ height stored.
     read (leaf_order_of map height s leaf stored is) ∙ ap (last_to key) (sym (ap (elements_in map height) is ∙ leaf_elements map height leaf))
 
 -- the elements of so many children of a node
-abbrev elements_of_first : PageMap → ℕ → ℕ → Inner → List Element
+abbrev pub elements_of_first : PageMap → ℕ → ℕ → Inner → List Element
 elements_of_first map lower n inner = flat_map (λ (c : Child). elements_in map lower (node_at map c.child)) (take n inner.places.items)
 
 -- the last element up to a key below an inner node: below the child that holds the key, or else below those before it
-last_up : (map : PageMap) (height lower : ℕ) (s child : Subtree) (inner : Inner) (key : Key) → height ≡ suc lower
+pub last_up : (map : PageMap) (height lower : ℕ) (s child : Subtree) (inner : Inner) (key : Key) → height ≡ suc lower
     → node_at map s.at ≡ inner_node inner → IsTree map (suc lower) s (inner_node inner)
     → slice_get (children_of inner) (holder_place key inner.places.items) ≡ Some child
     → last_to key (elements_in map height (node_at map s.at))
@@ -63,7 +58,7 @@ last_up map height lower s child inner key up is tree get =
     (sym here.place)
 
 -- what the child that holds the key answered, where the pages are told
-abbrev Answered : Option PageMap → Subtree → Key → Option Element → Type 0
+abbrev pub Answered : Option PageMap → Subtree → Key → Option Element → Type 0
 Answered told s key found =
     IfSome told (λ map. (height : ℕ) → IsStoredTree map height s → found ≡ last_to key (elements_in map height (node_at map s.at)))
 
@@ -102,7 +97,7 @@ last_none_told (Some map) now s child key inner found same here view first none 
     ∙ ap (λ (n : ℕ). last_to key (elements_of_first map below.lower n inner)) front)
 
 -- the child before the one that holds a key ends by the key
-before_ends : (inner : Inner) (key : Key) (k : ℕ) (child before : Subtree) → holder_place key inner.places.items ≡ suc k
+pub before_ends : (inner : Inner) (key : Key) (k : ℕ) (child before : Subtree) → holder_place key inner.places.items ≡ suc k
     → slice_get (children_of inner) (holder_place key inner.places.items) ≡ Some child → slice_get (children_of inner) k ≡ Some before
     → IsFrom (key_of before.right) key
 before_ends inner key k child before at get get' =
@@ -113,48 +108,3 @@ before_ends inner key k child before at get get' =
     ap (λ (t : Subtree). t.right) there.place
     ∙ next_there inner.right cs (suc k) here.child (subst (λ (n : ℕ). slice_get cs n ≡ Some here.child) at here.is) in
     subst (λ (b : Base). IsFrom (key_of b) key) (sym bound) (holder_begins key cs here.child here.is (omega (arith, at)))
-
--- Where it has none, the last element up to the key below the child before it is the last.
-pub last_before_told : (told now later : Option PageMap) (s child before : Subtree) (key : Key) (inner : Inner) (found : Option Element)
-    (r : Result (Option Element) Fault) → now ≡ told → later ≡ told
-    → IfSome told (λ map. PassesHere map s (inner_node inner))
-    → (HasInnerOrder inner → slice_get (children_of inner) (holder_place key inner.places.items) ≡ Some child)
-    → (HasInnerOrder inner → before_place (children_of inner) (holder_place key inner.places.items) ≡ Some before)
-    → found ≡ None → Answered now child key found
-    → IfSome later (λ map. (height : ℕ) → IsStoredTree map height before
-    → IfOk r (λ last. last ≡ last_to key (elements_in map height (node_at map before.at))))
-    → IfSome told (λ map. (height : ℕ) → IsStoredTree map height s → IfOk r (λ last. last ≡ last_to key (elements_in map height (node_at map s.at))))
-last_before_told None now later s child before key inner found r same same' here view view' none clause clause' = tt
-last_before_told (Some map) now later s child before key inner found r same same' here view view' none clause clause' = λ height stored.
-    let told = subst (λ (o : Option PageMap). Answered o child key found) same clause in
-    let told' = subst (λ (o : Option PageMap). IfSome o (λ m. (h : ℕ) → IsStoredTree m h before
-    → IfOk r (λ last. last ≡ last_to key (elements_in m h (node_at m before.at))))) same' clause' in
-    let read = (here.spelled stored.there).value in
-    let order = order_of map height s inner stored read in
-    let get = view order in
-    let cs = inner.places.items in
-    let place = holder_place key cs in
-    let there = before_some (children_of inner) place before (view' order) in
-    let k = there.0 in
-    let at : place ≡ suc k = there.1 in
-    let get' = there.2 in
-    let below = child_stored map height s inner place child stored read get in
-    let beside = child_stored map height s inner k before stored read get' in
-    let level : beside.lower ≡ below.lower = omega (arith, below.is, beside.is) in
-    let tree = subst (λ (h : ℕ). IsStoredTree map h before) level beside.stored in
-    let one = place_is inner.level inner.right cs k before get' in
-    let els = elements_in map below.lower (node_at map before.at) in
-    let some : 1 ≤ length els = elements_some map below.lower before (node_at map before.at) (child_has_parent inner k before get') tree.tree in
-    let by = each_so (λ e. IsInside before.left before.right (element_key e)) (λ e. IsFrom (element_key e) key) els
-    (λ e inside. from_trans (element_key e) (key_of before.right) key (key_from_before (element_key e) (key_of before.right) inside.before)
-    (before_ends inner key k child before at get get'))
-    (elements_inside map below.lower before (node_at map before.at) tree.tree) in
-    let rest = last_to key (elements_of_first map below.lower k inner) in
-    let whole = last_up map height below.lower s child inner key below.is read below.tree get
-    ∙ ap (λ (o : Option Element). option_or o (last_to key (elements_of_first map below.lower place inner))) (sym (told below.lower below.stored) ∙ none)
-    ∙ ap (λ (n : ℕ). last_to key (elements_of_first map below.lower n inner)) at
-    ∙ last_taken (λ a. elements_in map below.lower (node_at map a)) inner.level inner.right key cs k one.child one.is
-    ∙ ap (λ (t : Subtree). option_or (last_to key (elements_in map below.lower (node_at map t.at))) rest) (sym one.place)
-    ∙ last_of_some key els rest some by in
-    IfOk-weaker r (λ last. last ≡ last_to key els) (λ last. last ≡ last_to key (elements_in map height (node_at map s.at)))
-    (λ last is_last. is_last ∙ sym whole) (told' below.lower tree)

@@ -1,6 +1,7 @@
 pub mod Descent
 pub mod Look
 pub mod LookTo
+pub mod Near
 pub mod Place
 pub mod Props
 pub mod Reach

@@ -15,7 +15,6 @@ use Rattle.hm_search.specs.Tree.{children_of}
 use Rattle.hm_search.specs.declared.look_to.SeenInnerTo.{SeenInnerTo}
 use Rattle.hm_search.specs.declared.look_to.SeenTo.{SeenTo}
 use Rattle.hm_search.specs.declared.look_to.SeenTo.TheVariants.{Leaf as leaf_seen, Inner as inner_seen}
-use Rattle.hm_search.specs.declared.subtree.Subtree.{Subtree}
 
 -- what stands right before a place of a list, if anything does
 abbrev pub before_place : {A : Type 0} → List A → ℕ → Option A

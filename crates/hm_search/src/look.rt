@@ -88,14 +88,14 @@ pub(crate) fn glance_at<P: NodePages, V: Look>(
 }
 
 // The same, with a step for the page.
-pub(crate) fn step_to<P: NodePages, L: Ledger>(
+pub(crate) fn step_to<P: NodePages, V: Look, L: Ledger>(
     pages: &mut P,
     subtree: &Subtree,
     at: &Base,
     steps: &mut Steps<L>,
-) -> Result<Seen, Fault>
+) -> Result<V, Fault>
     requires { IsNodeOffset subtree.now.at }
-    ensures sees { IfOk result (Glances Shows subtree.now (P.pages pages.old) (key_of at.now)) }
+    ensures sees { IfOk result (Glances V.shows subtree.now (P.pages pages.old) (key_of at.now)) }
     ensures step { steps.new ≡ steps.old + 1 }
     ensures damage { IfSome (P.pages pages.old) (λ map.
         IfErr result (TellsUnmet subtree.now (map subtree.now.at))) }
@@ -103,7 +103,7 @@ pub(crate) fn step_to<P: NodePages, L: Ledger>(
     ensures cause { HasFaultCause (P.faults pages.old) (P.faults pages.new) result }
 {
     steps.tick();
-    glance_at::<P, Seen>(pages, subtree, at)
+    glance_at::<P, V>(pages, subtree, at)
 }
 
 // The same of a page that has to be read. A search that reads none has no buffer on its stack.

@@ -1,5 +1,5 @@
 // Searches from the root of the tree down.
-ghost use Rattle.std.specs.Prelude.{◌≡◌, ◌+◌, ◌≤◌, ℕ, IfSome, IfOk};
+ghost use Rattle.std.specs.Prelude.{◌≡◌, ◌+◌, ◌*◌, ◌≤◌, ℕ, IfSome, IfOk};
 ghost use Rattle.hm_key.specs.Elements.{first_from, last_to};
 ghost use Rattle.hm_key.specs.Key.{key_of, greatest_key, IsBefore};
 ghost use Rattle.hm_key.specs.Marks.{IsQuiet};
@@ -7,12 +7,15 @@ ghost use Rattle.hm_key.specs.Stores.{IsFound, IsFoundTo, IsEnd};
 ghost use Rattle.hm_node.specs.Inner.{IsNodeOffset};
 ghost use Rattle.hm_search.specs.Descent.{HasSearchCause, Reads, levels_below};
 ghost use Rattle.hm_search.specs.Look.{seen_mirror};
+ghost use Rattle.hm_search.specs.Near.{EndsBy, IsReached, StartsFrom, element_of};
 ghost use Rattle.hm_search.specs.Search.{IsAsked, IsPlaceOf, IsQuietBy};
 ghost use Rattle.hm_search.specs.Tree.{node_at, elements_in, elements_of, mark_in, mark_of};
 ghost use Rattle.hm_search.specs.Tree.{height_of, root_place, IsStoredTree, IsSoundTree};
+ghost use Rattle.hm_search.specs.declared.reached.Reached.TheVariants.{Missed};
 
-use crate::look::{Seen, glance_at, step_to};
+use crate::look::{Seen, step_to};
 use crate::look_to::SeenTo;
+use crate::reached::Reached;
 use crate::steps::Steps;
 use crate::subtree::Subtree;
 use hm_key::{Base, Element};
@@ -48,41 +51,47 @@ pub fn find<P: NodePages, L: Ledger>(
 }
 
 /// The first element at the key of `at` or after it, and None where no element is there. A node a
-/// level is read, and where the leaf of the key has nothing from there on, the leftmost nodes of
-/// the next subtree to the right. No node is read twice, and nothing changes.
-pub fn first_at_or_after<P: NodePages>(
+/// level is read, nine at most, and where the leaf of the key has nothing from there on, the leftmost
+/// nodes of the next subtree to the right, eight at most. No node is read twice, and nothing changes.
+pub fn first_at_or_after<P: NodePages, L: Ledger>(
     pages: &mut P,
     root: HOff,
     at: &Base,
+    steps: &mut Steps<L>,
 ) -> Result<Option<Element>, Fault>
     requires { IsNodeOffset root }
     ensures ok { IfSome (P.pages pages.old) (λ map. IsSoundTree map root →
         IfOk result (λ found. found ≡ first_from (key_of at.now) (elements_of map root))) }
     ensures found { IfOk result (λ found. IfSome found (IsFound (key_of at.now))) }
+    ensures steps { steps.new ≤ steps.old + 17 }
     ensures same { Reads P.name P.frame P.rest P.pages pages.old pages.new }
     ensures cause { HasSearchCause (P.pages pages.old) (root_place root)
         (P.faults pages.old) (P.faults pages.new) result }
 {
-    first_below(pages, &Subtree::root(root), at)
+    let reached = first_below(pages, &Subtree::root(root), at, steps)?;
+    Ok(reached.element())
 }
 
 /// The last element at the key of `at` or before it, and None where no element is there. A node a
-/// level is read, and where the leaf of the key has nothing up to it, the rightmost nodes of the next
-/// subtree to the left. No node is read twice, and nothing changes.
-pub fn last_at_or_before<P: NodePages>(
+/// level is read, nine at most, and where the leaf of the key has nothing up to it, the rightmost
+/// nodes of the next subtree to the left, eight at most. No node is read twice, and nothing changes.
+pub fn last_at_or_before<P: NodePages, L: Ledger>(
     pages: &mut P,
     root: HOff,
     at: &Base,
+    steps: &mut Steps<L>,
 ) -> Result<Option<Element>, Fault>
     requires { IsNodeOffset root }
     ensures ok { IfSome (P.pages pages.old) (λ map. IsSoundTree map root →
         IfOk result (λ found. found ≡ last_to (key_of at.now) (elements_of map root))) }
     ensures found { IfOk result (λ found. IfSome found (IsFoundTo (key_of at.now))) }
+    ensures steps { steps.new ≤ steps.old + 17 }
     ensures same { Reads P.name P.frame P.rest P.pages pages.old pages.new }
     ensures cause { HasSearchCause (P.pages pages.old) (root_place root)
         (P.faults pages.old) (P.faults pages.new) result }
 {
-    last_below(pages, &Subtree::root(root), at)
+    let reached = last_below(pages, &Subtree::root(root), at, steps)?;
+    Ok(reached.element())
 }
 
 /// How far from the key of `at` on the marks are at most `since`: a boundary after that key,
@@ -125,7 +134,7 @@ fn find_below<P: NodePages, L: Ledger>(
     ensures cause { HasSearchCause (P.pages pages.old) subtree.now
         (P.faults pages.old) (P.faults pages.new) result }
 {
-    match step_to(pages, subtree, at, steps)? {
+    match step_to::<P, Seen, L>(pages, subtree, at, steps)? {
         Seen::Leaf(leaf) => Ok(Found {
             leaf: subtree.at,
             place: leaf.place,
@@ -134,57 +143,121 @@ fn find_below<P: NodePages, L: Ledger>(
     }
 }
 
-// The first element from a key on in the tree below a place.
-fn first_below<P: NodePages>(
+// The first element from a key on below a place, and where none is there, beside the way down to
+// the key.
+fn first_below<P: NodePages, L: Ledger>(
     pages: &mut P,
     subtree: &Subtree,
     at: &Base,
-) -> Result<Option<Element>, Fault>
-    requires { IsNodeOffset subtree.now.at }
+    steps: &mut Steps<L>,
+) -> Result<Reached, Fault>
+    requires spot { IsNodeOffset subtree.now.at }
+    requires levels { 2 ≤ levels_below subtree.now }
     ensures ok { IfSome (P.pages pages.old) (λ map. (height : ℕ) →
-        IsStoredTree map height subtree.now → IfOk result (λ found.
-        found ≡ first_from (key_of at.now) (elements_in map height (node_at map subtree.now.at)))) }
-    ensures found { IfOk result (λ found. IfSome found (IsFound (key_of at.now))) }
+        IsStoredTree map height subtree.now → IfOk result (IsReached
+        (first_from (key_of at.now) (elements_in map height (node_at map subtree.now.at))))) }
+    ensures found { IfOk result (λ reached. IfSome (element_of reached) (IsFound (key_of at.now))) }
+    ensures missed { IfOk result (λ reached. reached ≡ Missed →
+        steps.new + 1 ≤ steps.old + levels_below subtree.now) }
+    ensures steps { steps.new + 3 ≤ steps.old + levels_below subtree.now * 2 }
     ensures same { Reads P.name P.frame P.rest P.pages pages.old pages.new }
     ensures cause { HasSearchCause (P.pages pages.old) subtree.now
         (P.faults pages.old) (P.faults pages.new) result }
 {
-    match glance_at::<P, Seen>(pages, subtree, at)? {
-        Seen::Leaf(leaf) => Ok(leaf.first),
-        Seen::Inner(inner) => match first_below(pages, &inner.child, at)? {
-            Some(found) => Ok(Some(found)),
-            None => match inner.next {
-                Some(next) => first_below(pages, &next, at),
-                None => Ok(None),
+    match step_to::<P, Seen, L>(pages, subtree, at, steps)? {
+        Seen::Leaf(leaf) => Ok(Reached::here(leaf.first)),
+        Seen::Inner(inner) => match first_below(pages, &inner.child, at, steps)? {
+            Reached::Found(found) => Ok(Reached::Found(found)),
+            Reached::Missed => match inner.next {
+                Some(next) => Ok(Reached::beside(first_beside(pages, &next, at, steps)?)),
+                None => Ok(Reached::Missed),
             },
+            Reached::Nothing => Ok(Reached::Nothing),
         },
     }
 }
 
-// The last element up to a key in the tree below a place.
-fn last_below<P: NodePages>(
+// The first element from a key on below a place of which nothing is before the key: one node a level
+// is asked for.
+fn first_beside<P: NodePages, L: Ledger>(
     pages: &mut P,
     subtree: &Subtree,
     at: &Base,
+    steps: &mut Steps<L>,
 ) -> Result<Option<Element>, Fault>
-    requires { IsNodeOffset subtree.now.at }
+    requires spot { IsNodeOffset subtree.now.at }
+    requires levels { 2 ≤ levels_below subtree.now }
     ensures ok { IfSome (P.pages pages.old) (λ map. (height : ℕ) →
-        IsStoredTree map height subtree.now → IfOk result (λ found.
-        found ≡ last_to (key_of at.now) (elements_in map height (node_at map subtree.now.at)))) }
-    ensures found { IfOk result (λ found. IfSome found (IsFoundTo (key_of at.now))) }
+        IsStoredTree map height subtree.now → StartsFrom (key_of at.now) subtree.now → IfOk result (λ found.
+        found ≡ first_from (key_of at.now) (elements_in map height (node_at map subtree.now.at)))) }
+    ensures found { IfOk result (λ found. IfSome found (IsFound (key_of at.now))) }
+    ensures steps { steps.new + 1 ≤ steps.old + levels_below subtree.now }
     ensures same { Reads P.name P.frame P.rest P.pages pages.old pages.new }
     ensures cause { HasSearchCause (P.pages pages.old) subtree.now
         (P.faults pages.old) (P.faults pages.new) result }
 {
-    match glance_at::<P, SeenTo>(pages, subtree, at)? {
-        SeenTo::Leaf(last) => Ok(last),
-        SeenTo::Inner(inner) => match last_below(pages, &inner.child, at)? {
-            Some(found) => Ok(Some(found)),
-            None => match inner.before {
-                Some(before) => last_below(pages, &before, at),
-                None => Ok(None),
+    match step_to::<P, Seen, L>(pages, subtree, at, steps)? {
+        Seen::Leaf(leaf) => Ok(leaf.first),
+        Seen::Inner(inner) => first_beside(pages, &inner.child, at, steps),
+    }
+}
+
+// The last element up to a key below a place, and where none is there, beside the way down to
+// the key.
+fn last_below<P: NodePages, L: Ledger>(
+    pages: &mut P,
+    subtree: &Subtree,
+    at: &Base,
+    steps: &mut Steps<L>,
+) -> Result<Reached, Fault>
+    requires spot { IsNodeOffset subtree.now.at }
+    requires levels { 2 ≤ levels_below subtree.now }
+    ensures ok { IfSome (P.pages pages.old) (λ map. (height : ℕ) →
+        IsStoredTree map height subtree.now → IfOk result (IsReached
+        (last_to (key_of at.now) (elements_in map height (node_at map subtree.now.at))))) }
+    ensures found { IfOk result (λ reached. IfSome (element_of reached) (IsFoundTo (key_of at.now))) }
+    ensures missed { IfOk result (λ reached. reached ≡ Missed →
+        steps.new + 1 ≤ steps.old + levels_below subtree.now) }
+    ensures steps { steps.new + 3 ≤ steps.old + levels_below subtree.now * 2 }
+    ensures same { Reads P.name P.frame P.rest P.pages pages.old pages.new }
+    ensures cause { HasSearchCause (P.pages pages.old) subtree.now
+        (P.faults pages.old) (P.faults pages.new) result }
+{
+    match step_to::<P, SeenTo, L>(pages, subtree, at, steps)? {
+        SeenTo::Leaf(last) => Ok(Reached::here(last)),
+        SeenTo::Inner(inner) => match last_below(pages, &inner.child, at, steps)? {
+            Reached::Found(found) => Ok(Reached::Found(found)),
+            Reached::Missed => match inner.before {
+                Some(before) => Ok(Reached::beside(last_beside(pages, &before, at, steps)?)),
+                None => Ok(Reached::Missed),
             },
+            Reached::Nothing => Ok(Reached::Nothing),
         },
+    }
+}
+
+// The last element up to a key below a place of which nothing is after the key: one node a level is
+// asked for.
+fn last_beside<P: NodePages, L: Ledger>(
+    pages: &mut P,
+    subtree: &Subtree,
+    at: &Base,
+    steps: &mut Steps<L>,
+) -> Result<Option<Element>, Fault>
+    requires spot { IsNodeOffset subtree.now.at }
+    requires levels { 2 ≤ levels_below subtree.now }
+    ensures ok { IfSome (P.pages pages.old) (λ map. (height : ℕ) →
+        IsStoredTree map height subtree.now → EndsBy (key_of at.now) subtree.now → IfOk result (λ found.
+        found ≡ last_to (key_of at.now) (elements_in map height (node_at map subtree.now.at)))) }
+    ensures found { IfOk result (λ found. IfSome found (IsFoundTo (key_of at.now))) }
+    ensures steps { steps.new + 1 ≤ steps.old + levels_below subtree.now }
+    ensures same { Reads P.name P.frame P.rest P.pages pages.old pages.new }
+    ensures cause { HasSearchCause (P.pages pages.old) subtree.now
+        (P.faults pages.old) (P.faults pages.new) result }
+{
+    match step_to::<P, SeenTo, L>(pages, subtree, at, steps)? {
+        SeenTo::Leaf(last) => Ok(last),
+        SeenTo::Inner(inner) => last_beside(pages, &inner.child, at, steps),
     }
 }
 
@@ -208,7 +281,7 @@ fn quiet_below<P: NodePages, L: Ledger>(
     ensures cause { HasSearchCause (P.pages pages.old) subtree.now
         (P.faults pages.old) (P.faults pages.new) result }
 {
-    let seen = step_to(pages, subtree, at, steps)?;
+    let seen = step_to::<P, Seen, L>(pages, subtree, at, steps)?;
     if mirror(&seen) <= since.0 {
         return Ok(Some(subtree.right));
     }

@@ -236,6 +236,49 @@ fn found_at(pages: &mut CheckedPages, root: HOff, at: &Base) -> Result<Found, Fa
     found_in::<Brand>(pages, root, at, Blank::new(1))
 }
 
+// The first element from a key on, and the last up to it, likewise.
+fn first_in<L: Ledger>(
+    pages: &mut CheckedPages,
+    root: HOff,
+    at: &Base,
+    blank: Blank,
+) -> Result<Option<Element>, Fault>
+    requires root { IsNodeOffset root }
+    requires name { blank.name ≡ L.name }
+    requires parts { blank.parts ≡ L.parts }
+    requires some { 0 < blank.parts }
+{
+    let mut steps = Steps::<L>::begin(blank);
+    first_at_or_after(pages, root, at, &mut steps)
+}
+
+fn first_found(pages: &mut CheckedPages, root: HOff, at: &Base) -> Result<Option<Element>, Fault>
+    requires { IsNodeOffset root }
+{
+    first_in::<Brand>(pages, root, at, Blank::new(1))
+}
+
+fn last_in<L: Ledger>(
+    pages: &mut CheckedPages,
+    root: HOff,
+    at: &Base,
+    blank: Blank,
+) -> Result<Option<Element>, Fault>
+    requires root { IsNodeOffset root }
+    requires name { blank.name ≡ L.name }
+    requires parts { blank.parts ≡ L.parts }
+    requires some { 0 < blank.parts }
+{
+    let mut steps = Steps::<L>::begin(blank);
+    last_at_or_before(pages, root, at, &mut steps)
+}
+
+fn last_found(pages: &mut CheckedPages, root: HOff, at: &Base) -> Result<Option<Element>, Fault>
+    requires { IsNodeOffset root }
+{
+    last_in::<Brand>(pages, root, at, Blank::new(1))
+}
+
 // How far nothing was written, likewise.
 fn quiet_in<L: Ledger>(
     pages: &mut CheckedPages,
@@ -270,13 +313,13 @@ fn quiet_from(
 fn a_search_finds_the_first_element_from_each_key_on(rt: HostRuntime) -> Result<(), Fail> {
     let mut pages = tree(rt.alloc())?;
     for obj in 0u16..330 {
-        let found = first_at_or_after(&mut pages, offset(1)?, &entry(obj).base)?;
+        let found = first_found(&mut pages, offset(1)?, &entry(obj).base)?;
         let wanted = wanted_from(obj).map(entry);
         assert_eq!(rt; found, wanted, "{obj}");
     }
-    let found = first_at_or_after(&mut pages, offset(1)?, &Base::least())?;
+    let found = first_found(&mut pages, offset(1)?, &Base::least())?;
     assert_eq!(rt; found, Some(entry(3)));
-    let found = first_at_or_after(&mut pages, offset(1)?, &Base::greatest())?;
+    let found = first_found(&mut pages, offset(1)?, &Base::greatest())?;
     assert_eq!(rt; found, None);
     Ok(())
 }
@@ -285,13 +328,13 @@ fn a_search_finds_the_first_element_from_each_key_on(rt: HostRuntime) -> Result<
 fn a_search_finds_the_last_element_up_to_each_key(rt: HostRuntime) -> Result<(), Fail> {
     let mut pages = tree(rt.alloc())?;
     for obj in 0u16..330 {
-        let found = last_at_or_before(&mut pages, offset(1)?, &entry(obj).base)?;
+        let found = last_found(&mut pages, offset(1)?, &entry(obj).base)?;
         let wanted = wanted_to(obj).map(entry);
         assert_eq!(rt; found, wanted, "{obj}");
     }
-    let found = last_at_or_before(&mut pages, offset(1)?, &Base::least())?;
+    let found = last_found(&mut pages, offset(1)?, &Base::least())?;
     assert_eq!(rt; found, None);
-    let found = last_at_or_before(&mut pages, offset(1)?, &Base::greatest())?;
+    let found = last_found(&mut pages, offset(1)?, &Base::greatest())?;
     assert_eq!(rt; found, Some(entry(316)));
     Ok(())
 }
@@ -522,7 +565,7 @@ fn a_search_tells_which_rule_of_its_place_a_node_breaks(rt: HostRuntime) -> Resu
             told,
             "{damage}"
         );
-        let found = first_at_or_after(&mut pages, offset(1)?, &base);
+        let found = first_found(&mut pages, offset(1)?, &base);
         assert_eq!(rt; found.err(), told, "{damage}");
         let end = quiet_from(&mut pages, offset(1)?, &base, Id(9));
         assert_eq!(rt; end.err(), told, "{damage}");
@@ -544,10 +587,7 @@ fn a_child_that_is_its_own_parent_is_damage(rt: HostRuntime) -> Result<(), Fail>
     };
     let base = entry(15).base;
     assert_eq!(rt; found_at(&mut pages, at, &base).err(), Some(damage));
-    assert_eq!(rt;
-        first_at_or_after(&mut pages, at, &base).err(),
-        Some(damage)
-    );
+    assert_eq!(rt; first_found(&mut pages, at, &base).err(), Some(damage));
     assert_eq!(rt;
         quiet_from(&mut pages, at, &base, Id(9)).err(),
         Some(damage)
@@ -567,7 +607,7 @@ fn a_root_may_be_a_leaf_without_elements(rt: HostRuntime) -> Result<(), Fail> {
         found_at(&mut pages, at, &base)?,
         Found { leaf: at, place: 0 }
     );
-    assert_eq!(rt; first_at_or_after(&mut pages, at, &base)?, None);
+    assert_eq!(rt; first_found(&mut pages, at, &base)?, None);
     assert_eq!(rt; quiet_from(&mut pages, at, &base, Id(4))?, None);
     assert_eq!(rt;
         quiet_from(&mut pages, at, &base, Id(5))?,

@@ -1,5 +1,5 @@
 // What a call that changes a tree sees of a node in its page: no node is built.
-ghost use Rattle.std.specs.Prelude.{◌≡◌, ◌≤◌, ◌<◌, Some, IfSome, OnOk, IfErr, slice_get};
+ghost use Rattle.std.specs.Prelude.{◌≡◌, ◌+◌, ◌≤◌, ◌<◌, Some, IfSome, OnOk, IfErr, slice_get};
 ghost use Rattle.hm_types.specs.Faults.{HasFaultCause};
 ghost use Rattle.hm_key.specs.Key.{key_of};
 ghost use Rattle.hm_key.specs.Places.{leading};
@@ -15,11 +15,13 @@ ghost use Rattle.hm_search.specs.Tree.{children_of};
 
 use crate::look::{child_at, rank};
 use crate::read::damage;
+use crate::steps::Steps;
 use crate::subtree::Subtree;
 use hm_fields::Page;
 use hm_key::Base;
 use hm_node::{Head, NodePages};
 use hm_types::{Counted, Fault};
+use std::sync::ledger::Ledger;
 
 /// Reads the page of the node at a place, as a search does: that it holds a node is believed, and the
 /// rules of the place alone are checked, none of them at a cost that grows with the node.
@@ -37,6 +39,26 @@ pub fn visit<P: NodePages>(pages: &mut P, subtree: &Subtree, page: &mut Page) ->
         None => Ok(()),
         Some(rule) => Err(damage(subtree, rule.kind())),
     }
+}
+
+/// The same, with a step for the page.
+#[inline]
+pub fn step_into<P: NodePages, L: Ledger>(
+    pages: &mut P,
+    subtree: &Subtree,
+    page: &mut Page,
+    steps: &mut Steps<L>,
+) -> Result<(), Fault>
+    requires { IsNodeOffset subtree.now.at }
+    ensures visits { OnOk result (Visits subtree.now (P.pages pages.old) page.new) }
+    ensures step { steps.new ≡ steps.old + 1 }
+    ensures damage { IfSome (P.pages pages.old) (λ map.
+        IfErr result (TellsUnmet subtree.now (map subtree.now.at))) }
+    ensures same { Reads P.name P.frame P.rest P.pages pages.old pages.new }
+    ensures cause { HasFaultCause (P.faults pages.old) (P.faults pages.new) result }
+{
+    steps.tick();
+    visit(pages, subtree, page)
 }
 
 /// How many elements of the leaf in a page stand before the key of `at`, by halving.

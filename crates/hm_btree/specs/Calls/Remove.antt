@@ -15,6 +15,8 @@ use Rattle.hm_node.specs.Shape.{HoldsNode}
 use Rattle.hm_node.specs.declared.inner.Inner.{Inner}
 use Rattle.hm_node.specs.declared.node.Node.{Node}
 use Rattle.hm_node.specs.declared.node.Node.TheVariants.{Inner as inner_node}
+use Rattle.hm_search.specs.Descent.{PassesHere}
+use Rattle.hm_search.specs.Place.{FitsLevel}
 use Rattle.hm_search.specs.Tree.{node_at, children_of}
 use Rattle.hm_search.specs.declared.subtree.Subtree.{Subtree}
 use Rattle.hm_btree.specs.Calls.Space.{HasKept}
@@ -47,6 +49,13 @@ pub record RemovesInLeaf (key : Key) (before after : List ℕ) (changed : Bool) 
   pub some : changed ≡ true → RemovesAt key before after
   pub none : changed ≡ false → HasLeafOrder (leaf_in before) → is_some (element_at key (leaf_in before).places.items) ≡ false
   pub same : changed ≡ false → after ≡ before
+
+-- a node that was visited at a place: it has the shape of one and the level of the place, and stands so where the pages
+-- are told
+pub record IsVisited (place : Subtree) (told : Option PageMap) (node : Node) : Type 0 where
+  pub shape : IsShaped node
+  pub level : FitsLevel place.parent node
+  pub here : IfSome told (λ map. PassesHere map place node)
 
 -- an inner node with its shape has a child at a place, and one beside it
 pub record HasPair (inner : Inner) (i : ℕ) : Type 0 where

@@ -34,7 +34,7 @@ join_at-requires-clause-pair g c =
       within = omega (arith, c.if-i-count.true, c.len-count.ensures.value);
       left_fits = c.requires.child;
       right_fits = level_below c.args.inner.now (c.args.i + 1) c.child.result c.in_ok-right.right c.child.ensures
-          c.in_ok-right.ensures.shape c.in_ok-right.ensures.level;
+          c.in_ok-right.ensures.ok.shape c.in_ok-right.ensures.ok.level;
     }
 
 pub join_at-requires-clause-told : goal.join_at-requires-clause-told
@@ -72,7 +72,7 @@ join_at-requires-else-i-count-clause-pair g c =
       shape = c.requires.inner.shape;
       within = omega (arith, next, c.requires.inner.within);
       left_fits = level_below c.args.inner.now (c.args.i - 1) c.child-else-i-count.result
-          c.in_ok-left.left c.child-else-i-count.ensures c.in_ok-left.ensures.shape c.in_ok-left.ensures.level;
+          c.in_ok-left.left c.child-else-i-count.ensures c.in_ok-left.ensures.ok.shape c.in_ok-left.ensures.ok.level;
       right_fits = c.requires.child;
     }
 
@@ -96,7 +96,7 @@ returns-in_ok-right-clause-done g c =
           (right_read c.args.inner.now c.args.inner.now c.args.i c.args.child c.args.child c.child.result
           (g.S.Pages.pages c.args.space.now) (g.S.Pages.pages c.visited_node.new.space) (g.S.Pages.pages c.args.space.now)
           c.visited_node.ensures.same.pages c.requires.told c.child.ensures)
-          c.in_ok-right.ensures.here done.joined;
+          c.in_ok-right.ensures.ok.here done.joined;
       shape = done.shape;
       kept = kept_both g.S.Pages g.S.HasRoom c.args.space.now c.visited_node.new.space c.join_at.new.space read done.kept;
     }) c.join_at.ensures.done
@@ -122,7 +122,7 @@ returns-in_ok-left-clause-done g c =
           (left_read c.args.inner.now c.args.inner.now c.args.i c.args.child c.args.child c.child-else-i-count.result
           (g.S.Pages.pages c.args.space.now) (g.S.Pages.pages c.visited_node-else-i-count.new.space) (g.S.Pages.pages c.args.space.now)
           c.visited_node-else-i-count.ensures.same.pages (c.args.i - 1) next c.requires.told c.child-else-i-count.ensures)
-          c.in_ok-left.ensures.here done.joined;
+          c.in_ok-left.ensures.ok.here done.joined;
       shape = done.shape;
       kept = kept_both g.S.Pages g.S.HasRoom c.args.space.now c.visited_node-else-i-count.new.space c.join_at-else-i-count.new.space read done.kept;
     }) c.join_at-else-i-count.ensures.done

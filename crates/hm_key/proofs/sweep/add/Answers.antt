@@ -10,4 +10,8 @@ pub returns : goal.returns
 returns c =
     let placed = c.in_ok-element.ensures.ok in
     let done = c.in_ok-insert.ensures.ok in
-    balanced_placed (record { base = c.args.base.now; payload = c.in_ok-element.field-0; len = 16 }) c.args.store.now.elements.list.items c.place.new.self.elements.list.items c.insert.new.self.elements.list.items (extents_of c.args.store.now.extents.list.items) (extents_of c.place.new.self.extents.list.items) (extents_of c.insert.new.self.extents.list.items) c.args.bytes.now placed.extents.elements placed.extents.extents done.elements done.extents (omega arith) (omega arith) c.place.new.self.extents.live c.requires
+    balanced_placed (record { base = c.args.base.now; payload = c.in_ok-element.field-0; len = 16 }) c.args.store.now.elements.list.items
+    c.place.new.self.elements.list.items c.insert.new.self.elements.list.items (extents_of c.args.store.now.extents.list.items)
+    (extents_of c.place.new.self.extents.list.items)
+    (extents_of c.insert.new.self.extents.list.items) c.args.bytes.now placed.extents.elements placed.extents.extents done.elements done.extents (omega arith)
+    (omega arith) c.place.new.self.extents.live c.requires

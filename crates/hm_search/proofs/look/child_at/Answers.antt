@@ -8,7 +8,8 @@ use Rattle.hm_search.proofs.LookLemmas.{child_below}
 use Rattle.hm_search.proofs.look.child_at.Goals as goal
 
 pub read_child-child-requires-clause-offset : goal.read_child-child-requires-clause-offset
-read_child-child-requires-clause-offset c = rw c.place.ensures (child_has_offset c.args.page.now (place c.args.i) _ refl (c.requires.places c.args.i c.requires.low))
+read_child-child-requires-clause-offset c =
+    rw c.place.ensures (child_has_offset c.args.page.now (place c.args.i) _ refl (c.requires.places c.args.i c.requires.low))
 
 pub returns : goal.returns
 returns c =

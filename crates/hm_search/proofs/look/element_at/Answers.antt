@@ -7,7 +7,8 @@ use Rattle.hm_search.proofs.LookLemmas.{first_get, first_past}
 use Rattle.hm_search.proofs.look.element_at.Goals as goal
 
 pub read_element-requires-clause-offset : goal.read_element-requires-clause-offset
-read_element-requires-clause-offset c = rw c.place.ensures (element_offset c.args.page.now (place c.args.i) _ refl (c.requires.places c.args.i c.if-i-count.true))
+read_element-requires-clause-offset c =
+    rw c.place.ensures (element_offset c.args.page.now (place c.args.i) _ refl (c.requires.places c.args.i c.if-i-count.true))
 
 pub returns-then-i-count : goal.returns-then-i-count
 returns-then-i-count c =

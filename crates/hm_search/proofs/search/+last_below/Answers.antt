@@ -1,105 +1,240 @@
-use Rattle.std.proofs.Common.{◌+◌, ◌<◌, Option, Result, subst, ◌∙◌, arith, rules}
+use Rattle.std.proofs.Common.{◌<◌, ◌≤◌, Option, Result, subst, ◌∙◌, arith, rules}
 use Rattle.std.proofs.lemmas.Result.{err_from_is_err_and}
 use Rattle.hm_types.specs.declared.fault.Fault.{Fault}
+use Rattle.hm_key.specs.Elements.{last_to}
 use Rattle.hm_key.specs.Key.{key_of}
 use Rattle.hm_key.specs.declared.element.Element.{Element}
 use Rattle.hm_node.specs.Inner.{IsNodeOffset}
 use Rattle.hm_search.specs.Descent.{levels_below, HasSearchCause}
-use Rattle.hm_search.proofs.DescentLemmas.{goes_lower, goes_told, cause_below}
+use Rattle.hm_search.specs.Search.{holder_place}
+use Rattle.hm_search.specs.Tree.{elements_in, node_at}
+use Rattle.hm_search.specs.declared.reached.Reached.{Reached}
+use Rattle.hm_search.proofs.DescentLemmas.{cause_below, cause_other, child_levels, goes_lower, goes_told}
 use Rattle.hm_search.proofs.LookLemmas.{next_at}
 use Rattle.hm_search.proofs.LookToLemmas.{glances_leaf_to, glances_inner_to}
+use Rattle.hm_search.proofs.NearLemmas.{leaf_reached, nothing_told}
+use Rattle.hm_search.proofs.NearToLemmas.{last_before_told, last_found_told, last_missed_told}
 use Rattle.hm_search.proofs.SearchLemmas.{child_spot}
-use Rattle.hm_search.proofs.SearchToLemmas.{leaf_told_to, last_some_told, last_none_told, last_before_told}
+use Rattle.hm_search.proofs.SearchToLemmas.{leaf_told_to}
 use Rattle.hm_search.proofs.search.+last_below.Goals as goal
 
 pub returns-in-Leaf-clause-ok : goal.returns-in-Leaf-clause-ok
 returns-in-Leaf-clause-ok g t c =
     let key = key_of c.args.at.now in
-    let seen = glances_leaf_to c.args.subtree.now (g.P.Pages.pages c.args.pages.now) key c.in_ok-last.field-0 c.in-Leaf.last c.in-Leaf.is
-    c.in_ok-last.ensures.sees in
-    leaf_told_to (g.P.Pages.pages c.args.pages.now) c.args.subtree.now key seen.leaf c.in-Leaf.last seen.there seen.view.ordered
-
-pub returns-in-Leaf-clause-found : goal.returns-in-Leaf-clause-found
-returns-in-Leaf-clause-found g t c =
-    let key = key_of c.args.at.now in
-    let seen = glances_leaf_to c.args.subtree.now (g.P.Pages.pages c.args.pages.now) key c.in_ok-last.field-0 c.in-Leaf.last c.in-Leaf.is
-    c.in_ok-last.ensures.sees in
-    seen.view.found
+    let told = g.P.Pages.pages c.args.pages.now in
+    let seen = glances_leaf_to c.args.subtree.now told key c.in_ok-last.field-0 c.in-Leaf.last c.in-Leaf.is c.in_ok-last.ensures.sees in
+    leaf_reached told c.args.subtree.now c.in-Leaf.last
+    (λ map height. last_to key (elements_in map height (node_at map c.args.subtree.now.at))) c.here.result c.here.ensures
+    (leaf_told_to told c.args.subtree.now key seen.leaf c.in-Leaf.last seen.there seen.view.ordered)
 
 pub last_below-requires : goal.last_below-requires
 last_below-requires g t c κs within =
     let key = key_of c.args.at.now in
-    let seen = glances_inner_to c.args.subtree.now (g.P.Pages.pages c.args.pages.now) key c.in_ok-last.field-0 c.in-Inner.inner c.in-Inner.is
+    let told = g.P.Pages.pages c.args.pages.now in
+    let seen = glances_inner_to c.args.subtree.now told key c.in_ok-last.field-0 c.in-Inner.inner c.in-Inner.is
     c.in_ok-last.ensures.sees in
     let smaller : levels_below c.in-Inner.inner.child < levels_below c.args.subtree.now =
     goes_lower c.args.subtree.now seen.inner seen.view.child.0 c.in-Inner.inner.child seen.level seen.meets seen.view.child.1 in
     let spot : IsNodeOffset c.in-Inner.inner.child.at = child_spot seen.inner seen.view.child.0 c.in-Inner.inner.child seen.fields seen.view.child.1 in
+    let levels : 2 ≤ levels_below c.in-Inner.inner.child = child_levels seen.inner seen.view.child.0 c.in-Inner.inner.child seen.level seen.view.child.1 in
     search rules
 
-pub last_below-requires-in-Some-before : goal.last_below-requires-in-Some-before
-last_below-requires-in-Some-before g t c κs within =
-    let key = key_of c.args.at.now in
-    let seen = glances_inner_to c.args.subtree.now (g.P.Pages.pages c.args.pages.now) key c.in_ok-last.field-0 c.in-Inner.inner c.in-Inner.is
-    c.in_ok-last.ensures.sees in
-    let before = next_at c.in-Inner.inner.before c.in-Some-before.before seen.inner c.in-Some-before.is seen.view.before in
-    let smaller : levels_below c.in-Some-before.before < levels_below c.args.subtree.now =
-    goes_lower c.args.subtree.now seen.inner before.0 c.in-Some-before.before seen.level seen.meets before.1 in
-    let spot : IsNodeOffset c.in-Some-before.before.at = child_spot seen.inner before.0 c.in-Some-before.before seen.fields before.1 in
-    search rules
-
-pub returns-in-Some-clause-ok : goal.returns-in-Some-clause-ok
-returns-in-Some-clause-ok g t c =
+pub returns-in_err-found-in-Inner-clause-steps : goal.returns-in_err-found-in-Inner-clause-steps
+returns-in_err-found-in-Inner-clause-steps g t c =
     let key = key_of c.args.at.now in
     let told = g.P.Pages.pages c.args.pages.now in
-    let seen = glances_inner_to c.args.subtree.now told key c.in_ok-last.field-0 c.in-Inner.inner c.in-Inner.is c.in_ok-last.ensures.sees in
-    last_some_told told (g.P.Pages.pages c.glance_at.new.pages) c.args.subtree.now c.in-Inner.inner.child key seen.inner
-    c.in_ok-found-in-Inner.field-0 c.in-Some.found c.glance_at.ensures.same.pages seen.there (λ order. (seen.view.ordered order).child) c.in-Some.is
-    c.in_ok-found-in-Inner.ensures.ok
+    let seen = glances_inner_to c.args.subtree.now told key c.in_ok-last.field-0 c.in-Inner.inner c.in-Inner.is
+    c.in_ok-last.ensures.sees in
+    omega (
+      arith,
+      c.step_to.ensures.step,
+      c.last_below.ensures.steps,
+      goes_lower c.args.subtree.now seen.inner seen.view.child.0 c.in-Inner.inner.child
+          seen.level seen.meets seen.view.child.1,
+    )
 
 pub returns-in_err-found-in-Inner-clause-cause : goal.returns-in_err-found-in-Inner-clause-cause
 returns-in_err-found-in-Inner-clause-cause g t c =
     let key = key_of c.args.at.now in
     let told = g.P.Pages.pages c.args.pages.now in
+    let seen = glances_inner_to c.args.subtree.now told key c.in_ok-last.field-0 c.in-Inner.inner c.in-Inner.is
+    c.in_ok-last.ensures.sees in
     let old = g.P.Counted.faults c.args.pages.now in
     let new = g.P.Counted.faults c.last_below.new.pages in
-    let seen = glances_inner_to c.args.subtree.now told key c.in_ok-last.field-0 c.in-Inner.inner c.in-Inner.is c.in_ok-last.ensures.sees in
-    let whole = cause_below told (g.P.Pages.pages c.glance_at.new.pages) c.args.subtree.now c.in-Inner.inner.child old
-    (g.P.Counted.faults c.glance_at.new.pages) new c.last_below.result
-    c.glance_at.ensures.same.pages c.glance_at.ensures.cause.never_falls
+    let whole = cause_below told (g.P.Pages.pages c.step_to.new.pages) c.args.subtree.now c.in-Inner.inner.child old
+    (g.P.Counted.faults c.step_to.new.pages) new c.last_below.result c.step_to.ensures.same.pages c.step_to.ensures.cause.never_falls
     (goes_told told c.args.subtree.now seen.inner c.in-Inner.inner.child seen.there seen.view.child) c.last_below.ensures.cause in
-    let failed = subst (λ (r : Result (Option Element) Fault). HasSearchCause told c.args.subtree.now old new r) c.in_err-found-in-Inner.was whole in
+    let failed = subst (λ (r : Result Reached Fault). HasSearchCause told c.args.subtree.now old new r) c.in_err-found-in-Inner.was whole in
     let p = err_from_is_err_and c.from_residual-in_err-found-in-Inner.result c.from_residual-in_err-found-in-Inner.ensures.1 in
     rw (p.1, p.2) failed
 
-pub returns-in-Some-before-clause-ok : goal.returns-in-Some-before-clause-ok
-returns-in-Some-before-clause-ok g t c =
+pub last_beside-requires-clause-spot : goal.last_beside-requires-clause-spot
+last_beside-requires-clause-spot g t c =
     let key = key_of c.args.at.now in
     let told = g.P.Pages.pages c.args.pages.now in
-    let seen = glances_inner_to c.args.subtree.now told key c.in_ok-last.field-0 c.in-Inner.inner c.in-Inner.is c.in_ok-last.ensures.sees in
-    last_before_told told (g.P.Pages.pages c.glance_at.new.pages) (g.P.Pages.pages c.last_below.new.pages) c.args.subtree.now c.in-Inner.inner.child
-    c.in-Some-before.before key seen.inner c.in_ok-found-in-Inner.field-0 c.last_below-in-Some-before.result
-    c.glance_at.ensures.same.pages (c.last_below.ensures.same.pages ∙ c.glance_at.ensures.same.pages) seen.there
-    (λ order. (seen.view.ordered order).child) (λ order. (seen.view.ordered order).before ∙ c.in-Some-before.is) c.in-None.is
-    c.in_ok-found-in-Inner.ensures.ok (rw c.in-Some-before.is at c.last_below-in-Some-before.ensures.ok)
+    let seen = glances_inner_to c.args.subtree.now told key c.in_ok-last.field-0 c.in-Inner.inner c.in-Inner.is
+    c.in_ok-last.ensures.sees in
+    let before = next_at c.in-Inner.inner.before c.in-Some.before seen.inner c.in-Some.is seen.view.before in
+    let spot : IsNodeOffset c.in-Some.before.at = child_spot seen.inner before.0 c.in-Some.before seen.fields before.1 in
+    rw c.in-Some.is spot
 
-pub returns-in-Some-before-clause-cause : goal.returns-in-Some-before-clause-cause
-returns-in-Some-before-clause-cause g t c =
+pub last_beside-requires-clause-levels : goal.last_beside-requires-clause-levels
+last_beside-requires-clause-levels g t c =
     let key = key_of c.args.at.now in
     let told = g.P.Pages.pages c.args.pages.now in
-    let seen = glances_inner_to c.args.subtree.now told key c.in_ok-last.field-0 c.in-Inner.inner c.in-Inner.is c.in_ok-last.ensures.sees in
-    cause_below told (g.P.Pages.pages c.last_below.new.pages) c.args.subtree.now c.in-Some-before.before (g.P.Counted.faults c.args.pages.now)
-    (g.P.Counted.faults c.last_below.new.pages) (g.P.Counted.faults c.last_below-in-Some-before.new.pages) c.last_below-in-Some-before.result
-    (c.last_below.ensures.same.pages ∙ c.glance_at.ensures.same.pages)
-    (omega (arith, c.glance_at.ensures.cause.never_falls, c.last_below.ensures.cause.counted.never_falls))
-    (goes_told told c.args.subtree.now seen.inner c.in-Some-before.before seen.there
-    (next_at c.in-Inner.inner.before c.in-Some-before.before seen.inner c.in-Some-before.is seen.view.before))
-    (rw c.in-Some-before.is at c.last_below-in-Some-before.ensures.cause)
+    let seen = glances_inner_to c.args.subtree.now told key c.in_ok-last.field-0 c.in-Inner.inner c.in-Inner.is
+    c.in_ok-last.ensures.sees in
+    let before = next_at c.in-Inner.inner.before c.in-Some.before seen.inner c.in-Some.is seen.view.before in
+    let levels : 2 ≤ levels_below c.in-Some.before = child_levels seen.inner before.0 c.in-Some.before seen.level before.1 in
+    rw c.in-Some.is levels
 
-pub returns-in-None-before-clause-ok : goal.returns-in-None-before-clause-ok
-returns-in-None-before-clause-ok g t c =
+pub returns-in_err-last_beside-in-Some-clause-steps : goal.returns-in_err-last_beside-in-Some-clause-steps
+returns-in_err-last_beside-in-Some-clause-steps g t c =
     let key = key_of c.args.at.now in
     let told = g.P.Pages.pages c.args.pages.now in
-    let seen = glances_inner_to c.args.subtree.now told key c.in_ok-last.field-0 c.in-Inner.inner c.in-Inner.is c.in_ok-last.ensures.sees in
-    last_none_told told (g.P.Pages.pages c.glance_at.new.pages) c.args.subtree.now c.in-Inner.inner.child key seen.inner
-    c.in_ok-found-in-Inner.field-0 c.glance_at.ensures.same.pages seen.there (λ order. (seen.view.ordered order).child)
-    (λ order. (seen.view.ordered order).before ∙ c.in-None-before.is) c.in-None.is c.in_ok-found-in-Inner.ensures.ok
+    let seen = glances_inner_to c.args.subtree.now told key c.in_ok-last.field-0 c.in-Inner.inner c.in-Inner.is
+    c.in_ok-last.ensures.sees in
+    let before = next_at c.in-Inner.inner.before c.in-Some.before seen.inner c.in-Some.is seen.view.before in
+    omega (
+      arith,
+      c.step_to.ensures.step,
+      c.in_ok-found-in-Inner.ensures.missed c.in-Missed.is,
+      rw c.in-Some.is at c.last_beside.ensures.steps,
+      goes_lower c.args.subtree.now seen.inner seen.view.child.0 c.in-Inner.inner.child seen.level seen.meets seen.view.child.1,
+      goes_lower c.args.subtree.now seen.inner before.0 c.in-Some.before seen.level seen.meets before.1,
+    )
+
+pub returns-in_err-last_beside-in-Some-clause-cause : goal.returns-in_err-last_beside-in-Some-clause-cause
+returns-in_err-last_beside-in-Some-clause-cause g t c =
+    let key = key_of c.args.at.now in
+    let told = g.P.Pages.pages c.args.pages.now in
+    let seen = glances_inner_to c.args.subtree.now told key c.in_ok-last.field-0 c.in-Inner.inner c.in-Inner.is
+    c.in_ok-last.ensures.sees in
+    let before = next_at c.in-Inner.inner.before c.in-Some.before seen.inner c.in-Some.is seen.view.before in
+    let old = g.P.Counted.faults c.args.pages.now in
+    let new = g.P.Counted.faults c.last_beside.new.pages in
+    let whole = cause_below told (g.P.Pages.pages c.last_below.new.pages) c.args.subtree.now c.in-Some.before old
+    (g.P.Counted.faults c.last_below.new.pages) new c.last_beside.result
+    (c.last_below.ensures.same.pages ∙ c.step_to.ensures.same.pages)
+    (omega (arith, c.step_to.ensures.cause.never_falls, c.last_below.ensures.cause.counted.never_falls))
+    (goes_told told c.args.subtree.now seen.inner c.in-Some.before seen.there before) (rw c.in-Some.is at c.last_beside.ensures.cause) in
+    let failed = subst (λ (r : Result (Option Element) Fault). HasSearchCause told c.args.subtree.now old new r)
+    c.in_err-last_beside-in-Some.was whole in
+    let p = err_from_is_err_and c.from_residual-in_err-last_beside-in-Some.result c.from_residual-in_err-last_beside-in-Some.ensures.1 in
+    rw (p.1, p.2) (cause_other {T = Option Element} {U = Reached} told c.args.subtree.now old new c.in_err-last_beside-in-Some.field-0.0 failed)
+
+pub returns-in-Found-clause-ok : goal.returns-in-Found-clause-ok
+returns-in-Found-clause-ok g t c =
+    let key = key_of c.args.at.now in
+    let told = g.P.Pages.pages c.args.pages.now in
+    let seen = glances_inner_to c.args.subtree.now told key c.in_ok-last.field-0 c.in-Inner.inner c.in-Inner.is
+    c.in_ok-last.ensures.sees in
+    last_found_told told (g.P.Pages.pages c.step_to.new.pages) c.args.subtree.now c.in-Inner.inner.child key seen.inner
+    c.in_ok-found-in-Inner.field-0 c.in-Found.found c.step_to.ensures.same.pages seen.there (λ order. (seen.view.ordered order).child)
+    c.in-Found.is c.in_ok-found-in-Inner.ensures.ok
+
+pub returns-in-Found-clause-steps : goal.returns-in-Found-clause-steps
+returns-in-Found-clause-steps g t c =
+    let key = key_of c.args.at.now in
+    let told = g.P.Pages.pages c.args.pages.now in
+    let seen = glances_inner_to c.args.subtree.now told key c.in_ok-last.field-0 c.in-Inner.inner c.in-Inner.is
+    c.in_ok-last.ensures.sees in
+    omega (
+      arith,
+      c.step_to.ensures.step,
+      c.last_below.ensures.steps,
+      goes_lower c.args.subtree.now seen.inner seen.view.child.0 c.in-Inner.inner.child
+          seen.level seen.meets seen.view.child.1,
+    )
+
+pub returns-in_ok-last_beside-in-Some-clause-ok : goal.returns-in_ok-last_beside-in-Some-clause-ok
+returns-in_ok-last_beside-in-Some-clause-ok g t c =
+    let key = key_of c.args.at.now in
+    let told = g.P.Pages.pages c.args.pages.now in
+    let seen = glances_inner_to c.args.subtree.now told key c.in_ok-last.field-0 c.in-Inner.inner c.in-Inner.is
+    c.in_ok-last.ensures.sees in
+    last_before_told told (g.P.Pages.pages c.step_to.new.pages) (g.P.Pages.pages c.last_below.new.pages) c.args.subtree.now
+    c.in-Inner.inner.child c.in-Some.before key seen.inner c.in_ok-found-in-Inner.field-0 c.in_ok-last_beside-in-Some.field-0 c.beside.result
+    c.step_to.ensures.same.pages (c.last_below.ensures.same.pages ∙ c.step_to.ensures.same.pages) seen.there (λ order. (seen.view.ordered order).child)
+    c.in-Missed.is (λ order. (seen.view.ordered order).before ∙ c.in-Some.is) c.in_ok-found-in-Inner.ensures.ok
+    (rw c.in-Some.is at c.in_ok-last_beside-in-Some.ensures.ok) c.beside.ensures
+
+pub returns-in_ok-last_beside-in-Some-clause-steps : goal.returns-in_ok-last_beside-in-Some-clause-steps
+returns-in_ok-last_beside-in-Some-clause-steps g t c =
+    let key = key_of c.args.at.now in
+    let told = g.P.Pages.pages c.args.pages.now in
+    let seen = glances_inner_to c.args.subtree.now told key c.in_ok-last.field-0 c.in-Inner.inner c.in-Inner.is
+    c.in_ok-last.ensures.sees in
+    let before = next_at c.in-Inner.inner.before c.in-Some.before seen.inner c.in-Some.is seen.view.before in
+    omega (
+      arith,
+      c.step_to.ensures.step,
+      c.in_ok-found-in-Inner.ensures.missed c.in-Missed.is,
+      rw c.in-Some.is at c.last_beside.ensures.steps,
+      goes_lower c.args.subtree.now seen.inner seen.view.child.0 c.in-Inner.inner.child seen.level seen.meets seen.view.child.1,
+      goes_lower c.args.subtree.now seen.inner before.0 c.in-Some.before seen.level seen.meets before.1,
+    )
+
+pub returns-in-None-clause-ok : goal.returns-in-None-clause-ok
+returns-in-None-clause-ok g t c =
+    let key = key_of c.args.at.now in
+    let told = g.P.Pages.pages c.args.pages.now in
+    let seen = glances_inner_to c.args.subtree.now told key c.in_ok-last.field-0 c.in-Inner.inner c.in-Inner.is
+    c.in_ok-last.ensures.sees in
+    last_missed_told told (g.P.Pages.pages c.step_to.new.pages) c.args.subtree.now c.in-Inner.inner.child key seen.inner
+    c.in_ok-found-in-Inner.field-0 c.step_to.ensures.same.pages seen.there (λ order. (seen.view.ordered order).child) c.in-Missed.is
+    (λ order. (seen.view.ordered order).before ∙ c.in-None.is) c.in_ok-found-in-Inner.ensures.ok
+
+pub returns-in-None-clause-missed : goal.returns-in-None-clause-missed
+returns-in-None-clause-missed g t c same =
+    let key = key_of c.args.at.now in
+    let told = g.P.Pages.pages c.args.pages.now in
+    let seen = glances_inner_to c.args.subtree.now told key c.in_ok-last.field-0 c.in-Inner.inner c.in-Inner.is
+    c.in_ok-last.ensures.sees in
+    omega (
+      arith,
+      c.step_to.ensures.step,
+      c.in_ok-found-in-Inner.ensures.missed c.in-Missed.is,
+      goes_lower c.args.subtree.now seen.inner seen.view.child.0
+          c.in-Inner.inner.child seen.level seen.meets seen.view.child.1,
+    )
+
+pub returns-in-None-clause-steps : goal.returns-in-None-clause-steps
+returns-in-None-clause-steps g t c =
+    let key = key_of c.args.at.now in
+    let told = g.P.Pages.pages c.args.pages.now in
+    let seen = glances_inner_to c.args.subtree.now told key c.in_ok-last.field-0 c.in-Inner.inner c.in-Inner.is
+    c.in_ok-last.ensures.sees in
+    omega (
+      arith,
+      c.step_to.ensures.step,
+      c.last_below.ensures.steps,
+      goes_lower c.args.subtree.now seen.inner seen.view.child.0 c.in-Inner.inner.child
+          seen.level seen.meets seen.view.child.1,
+    )
+
+pub returns-in-Nothing-clause-ok : goal.returns-in-Nothing-clause-ok
+returns-in-Nothing-clause-ok g t c =
+    let key = key_of c.args.at.now in
+    let told = g.P.Pages.pages c.args.pages.now in
+    let seen = glances_inner_to c.args.subtree.now told key c.in_ok-last.field-0 c.in-Inner.inner c.in-Inner.is
+    c.in_ok-last.ensures.sees in
+    nothing_told told (g.P.Pages.pages c.step_to.new.pages) c.args.subtree.now c.in-Inner.inner.child seen.inner
+    (holder_place key seen.inner.places.items) c.in_ok-found-in-Inner.field-0
+    (λ map height. last_to key (elements_in map height (node_at map c.args.subtree.now.at)))
+    (λ map height. last_to key (elements_in map height (node_at map c.in-Inner.inner.child.at)))
+    c.step_to.ensures.same.pages seen.there (λ order. (seen.view.ordered order).child) c.in-Nothing.is c.in_ok-found-in-Inner.ensures.ok
+
+pub returns-in-Nothing-clause-steps : goal.returns-in-Nothing-clause-steps
+returns-in-Nothing-clause-steps g t c =
+    let key = key_of c.args.at.now in
+    let told = g.P.Pages.pages c.args.pages.now in
+    let seen = glances_inner_to c.args.subtree.now told key c.in_ok-last.field-0 c.in-Inner.inner c.in-Inner.is
+    c.in_ok-last.ensures.sees in
+    omega (
+      arith,
+      c.step_to.ensures.step,
+      c.last_below.ensures.steps,
+      goes_lower c.args.subtree.now seen.inner seen.view.child.0 c.in-Inner.inner.child
+          seen.level seen.meets seen.view.child.1,
+    )

@@ -9,12 +9,12 @@ use Rattle.hm_btree.proofs.store.BTreeElementStore.first_at_or_after.Goals as go
 
 pub returns-clause-ok : goal.returns-clause-ok
 returns-clause-ok g c = picked_in_store (first_from (key_of c.args.at.now)) c.args.self.now.intact (g.S.Pages.pages c.args.self.now.space)
-    c.args.self.now.root c.first_at_or_after.result c.args.self.now.sound c.first_at_or_after.ensures.ok
+    c.args.self.now.root c.first_uncounted.result c.args.self.now.sound c.first_uncounted.ensures.ok
 
 pub returns-clause-keeps : goal.returns-clause-keeps
 returns-clause-keeps g c =
-    let pages = c.first_at_or_after.ensures.same.pages in
-    let same = g.met.S.NodeSpace.rests c.args.self.now.space c.first_at_or_after.new.pages c.first_at_or_after.ensures.same.rest in
+    let pages = c.first_uncounted.ensures.same.pages in
+    let same = g.met.S.NodeSpace.rests c.args.self.now.space c.first_uncounted.new.space c.first_uncounted.ensures.same.rest in
     record {
       elements = ap (λ (o : Option PageMap). told_elements c.args.self.now.intact o c.args.self.now.root) pages;
       mark = ap (λ (o : Option PageMap). told_mark o c.args.self.now.root) pages;
@@ -26,5 +26,5 @@ returns-clause-keeps g c =
 pub returns-clause-cause : goal.returns-clause-cause
 returns-clause-cause g c =
     cause_in_store c.args.self.now.intact (g.S.Pages.pages c.args.self.now.space) c.args.self.now.root
-    (g.S.Counted.faults c.args.self.now.space) (g.S.Counted.faults c.first_at_or_after.new.pages) c.first_at_or_after.result
-    c.args.self.now.sound c.first_at_or_after.ensures.cause
+    (g.S.Counted.faults c.args.self.now.space) (g.S.Counted.faults c.first_uncounted.new.space) c.first_uncounted.result
+    c.args.self.now.sound c.first_uncounted.ensures.cause

@@ -17,10 +17,10 @@ returns-in_err-root-clause-cause g c =
     let p = err_from_is_err_and c.from_residual-in_err-root.result c.from_residual-in_err-root.ensures.1 in
     let told = g.S.Pages.pages c.args.self.now.space in
     let old = g.S.Counted.faults c.args.self.now.space in
-    let new = g.S.Counted.faults c.insert_from.new.space in
+    let new = g.S.Counted.faults c.insert_uncounted.new.space in
     let fault = c.in_err-root.field-0.0 in
     let cause = subst (λ (r : Result ℕ Fault). HasSearchCause told (root_place c.args.self.now.root) old new r) c.in_err-root.was
-    c.insert_from.ensures.cause in
+    c.insert_uncounted.ensures.cause in
     let other : HasSearchCause {T = Unit {0}} told (root_place c.args.self.now.root) old new (Err fault) =
     record {
       counted = record { never_falls = cause.counted.never_falls; caused = cause.counted.caused };
@@ -35,7 +35,7 @@ invariant_of-self-2 g c =
     let e = c.args.e.now in
     let key = key_of e.base in
     let changed = store_changed (inserted e) key (Writes (last_id e)) (λ es. IsNone (element_at key es)) c.args.self.now.intact
-    (g.S.Pages.pages c.args.self.now.space) (g.S.Pages.pages c.insert_from.new.space) c.args.self.now.root c.in_ok-root.root
+    (g.S.Pages.pages c.args.self.now.space) (g.S.Pages.pages c.insert_uncounted.new.space) c.args.self.now.root c.in_ok-root.root
     c.in_ok-require_intact.ensures.ok c.args.self.now.sound
     c.in_ok-root.ensures.done.kept.told c.requires.new c.in_ok-root.ensures.done.tree in
     record { sound = changed.sound }
@@ -45,7 +45,7 @@ returns-clause-ok g c =
     let e = c.args.e.now in
     let key = key_of e.base in
     let changed = store_changed (inserted e) key (Writes (last_id e)) (λ es. IsNone (element_at key es)) c.args.self.now.intact
-    (g.S.Pages.pages c.args.self.now.space) (g.S.Pages.pages c.insert_from.new.space) c.args.self.now.root c.in_ok-root.root
+    (g.S.Pages.pages c.args.self.now.space) (g.S.Pages.pages c.insert_uncounted.new.space) c.args.self.now.root c.in_ok-root.root
     c.in_ok-require_intact.ensures.ok c.args.self.now.sound
     c.in_ok-root.ensures.done.kept.told c.requires.new c.in_ok-root.ensures.done.tree in
     record { elements = changed.elements; mark = changed.mark; extents = c.in_ok-root.ensures.done.kept.extents }
@@ -55,11 +55,11 @@ returns-clause-keeps g c =
     let e = c.args.e.now in
     let key = key_of e.base in
     let changed = store_changed (inserted e) key (Writes (last_id e)) (λ es. IsNone (element_at key es)) c.args.self.now.intact
-    (g.S.Pages.pages c.args.self.now.space) (g.S.Pages.pages c.insert_from.new.space) c.args.self.now.root c.in_ok-root.root
+    (g.S.Pages.pages c.args.self.now.space) (g.S.Pages.pages c.insert_uncounted.new.space) c.args.self.now.root c.in_ok-root.root
     c.in_ok-require_intact.ensures.ok c.args.self.now.sound
     c.in_ok-root.ensures.done.kept.told c.requires.new c.in_ok-root.ensures.done.tree in
     record {
       elements = told_kept (inserted e) c.args.self.now.intact (g.S.Pages.pages c.args.self.now.space)
-          (g.S.Pages.pages c.insert_from.new.space) c.args.self.now.root c.in_ok-root.root changed.elements;
+          (g.S.Pages.pages c.insert_uncounted.new.space) c.args.self.now.root c.in_ok-root.root changed.elements;
       extents = ap (λ (o : Option (List Extent)). is_some o) c.in_ok-root.ensures.done.kept.extents;
     }

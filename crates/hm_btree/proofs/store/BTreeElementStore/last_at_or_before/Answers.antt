@@ -9,12 +9,12 @@ use Rattle.hm_btree.proofs.store.BTreeElementStore.last_at_or_before.Goals as go
 
 pub returns-clause-ok : goal.returns-clause-ok
 returns-clause-ok g c = picked_in_store (last_to (key_of c.args.at.now)) c.args.self.now.intact (g.S.Pages.pages c.args.self.now.space)
-    c.args.self.now.root c.last_at_or_before.result c.args.self.now.sound c.last_at_or_before.ensures.ok
+    c.args.self.now.root c.last_uncounted.result c.args.self.now.sound c.last_uncounted.ensures.ok
 
 pub returns-clause-keeps : goal.returns-clause-keeps
 returns-clause-keeps g c =
-    let pages = c.last_at_or_before.ensures.same.pages in
-    let same = g.met.S.NodeSpace.rests c.args.self.now.space c.last_at_or_before.new.pages c.last_at_or_before.ensures.same.rest in
+    let pages = c.last_uncounted.ensures.same.pages in
+    let same = g.met.S.NodeSpace.rests c.args.self.now.space c.last_uncounted.new.space c.last_uncounted.ensures.same.rest in
     record {
       elements = ap (λ (o : Option PageMap). told_elements c.args.self.now.intact o c.args.self.now.root) pages;
       mark = ap (λ (o : Option PageMap). told_mark o c.args.self.now.root) pages;
@@ -26,5 +26,5 @@ returns-clause-keeps g c =
 pub returns-clause-cause : goal.returns-clause-cause
 returns-clause-cause g c =
     cause_in_store c.args.self.now.intact (g.S.Pages.pages c.args.self.now.space) c.args.self.now.root
-    (g.S.Counted.faults c.args.self.now.space) (g.S.Counted.faults c.last_at_or_before.new.pages) c.last_at_or_before.result
-    c.args.self.now.sound c.last_at_or_before.ensures.cause
+    (g.S.Counted.faults c.args.self.now.space) (g.S.Counted.faults c.last_uncounted.new.space) c.last_uncounted.result
+    c.args.self.now.sound c.last_uncounted.ensures.cause

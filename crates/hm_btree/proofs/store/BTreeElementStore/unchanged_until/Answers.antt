@@ -8,12 +8,12 @@ use Rattle.hm_btree.proofs.store.BTreeElementStore.unchanged_until.Goals as goal
 
 pub returns-clause-ok : goal.returns-clause-ok
 returns-clause-ok g c = quiet_in_store c.args.self.now.intact (g.S.Pages.pages c.args.self.now.space) c.args.self.now.root
-    (key_of c.args.at.now) c.args.since.0 c.quiet_in.result c.args.self.now.sound c.quiet_in.ensures.ok
+    (key_of c.args.at.now) c.args.since.0 c.quiet_uncounted.result c.args.self.now.sound c.quiet_uncounted.ensures.ok
 
 pub returns-clause-keeps : goal.returns-clause-keeps
 returns-clause-keeps g c =
-    let pages = c.quiet_in.ensures.same.pages in
-    let same = g.met.S.NodeSpace.rests c.args.self.now.space c.quiet_in.new.space c.quiet_in.ensures.same.rest in
+    let pages = c.quiet_uncounted.ensures.same.pages in
+    let same = g.met.S.NodeSpace.rests c.args.self.now.space c.quiet_uncounted.new.space c.quiet_uncounted.ensures.same.rest in
     record {
       elements = ap (λ (o : Option PageMap). told_elements c.args.self.now.intact o c.args.self.now.root) pages;
       mark = ap (λ (o : Option PageMap). told_mark o c.args.self.now.root) pages;
@@ -25,5 +25,5 @@ returns-clause-keeps g c =
 pub returns-clause-cause : goal.returns-clause-cause
 returns-clause-cause g c =
     cause_in_store c.args.self.now.intact (g.S.Pages.pages c.args.self.now.space) c.args.self.now.root
-    (g.S.Counted.faults c.args.self.now.space) (g.S.Counted.faults c.quiet_in.new.space) c.quiet_in.result
-    c.args.self.now.sound c.quiet_in.ensures.cause
+    (g.S.Counted.faults c.args.self.now.space) (g.S.Counted.faults c.quiet_uncounted.new.space) c.quiet_uncounted.result
+    c.args.self.now.sound c.quiet_uncounted.ensures.cause

@@ -14,12 +14,16 @@ loop-place-smaller c = omega (arith, NoneBefore-left (key_of c.args.at.now) c.ar
 
 pub loop-place-preserved : goal.loop-place-preserved
 loop-place-preserved c =
-    let within : c.loop-place.place < length c.args.self.now.list.items = NoneBefore-left (key_of c.args.at.now) c.args.self.now.list.items c.loop-place.place c.loop-place.invariant c.requires in
-    let not_here = stands_read (key_of c.args.at.now) c.index.result.now c.args.self.now.list.items c.loop-place.place c.order.result _ c.index.ensures c.order.ensures (not_equal _ _ _ c.ne.ensures c.loop-place-test.true) in
+    let within : c.loop-place.place < length c.args.self.now.list.items =
+    NoneBefore-left (key_of c.args.at.now) c.args.self.now.list.items c.loop-place.place c.loop-place.invariant c.requires in
+    let not_here = stands_read (key_of c.args.at.now) c.index.result.now c.args.self.now.list.items c.loop-place.place c.order.result _ c.index.ensures
+    c.order.ensures (not_equal _ _ _ c.ne.ensures c.loop-place-test.true) in
     rw add-one (NoneBefore-more (key_of c.args.at.now) c.index.result.now c.args.self.now.list.items c.loop-place.place c.loop-place.invariant within not_here)
 
 pub returns : goal.returns
 returns c =
-    let within : c.loop-place.place < length c.args.self.now.list.items = NoneBefore-left (key_of c.args.at.now) c.args.self.now.list.items c.loop-place.place c.loop-place.invariant c.requires in
-    let here = stands_read (key_of c.args.at.now) c.index.result.now c.args.self.now.list.items c.loop-place.place c.order.result _ c.index.ensures c.order.ensures (not_equal _ _ _ c.ne.ensures c.loop-place-test.false) in
+    let within : c.loop-place.place < length c.args.self.now.list.items =
+    NoneBefore-left (key_of c.args.at.now) c.args.self.now.list.items c.loop-place.place c.loop-place.invariant c.requires in
+    let here = stands_read (key_of c.args.at.now) c.index.result.now c.args.self.now.list.items c.loop-place.place c.order.result _ c.index.ensures
+    c.order.ensures (not_equal _ _ _ c.ne.ensures c.loop-place-test.false) in
     IsPlace-found (key_of c.args.at.now) c.index.result.now c.args.self.now.list.items c.loop-place.place c.loop-place.invariant within here

@@ -9,7 +9,14 @@ pub index_mut-requires : goal.index_mut-requires
 index_mut-requires c = omega (arith, IsPlace-within (key_of c.args.at.now) c.args.self.now.list.items c.place_of-place.result c.place_of-place.ensures)
 
 pub invariant_of-self : goal.invariant_of-self
-invariant_of-self c = record { content = rw (changed_here (key_of c.args.at.now) (moved_to c.args.to) c.index_mut.result.now c.args.self.now.list.items c.place_of-place.result c.place_of-place.ensures c.index_mut.ensures.value) (content_moved (key_of c.args.at.now) c.args.to c.args.self.now.list.items c.args.self.now.content) }
+invariant_of-self c =
+    record {
+      content = rw (changed_here (key_of c.args.at.now)
+          (moved_to c.args.to) c.index_mut.result.now c.args.self.now.list.items c.place_of-place.result c.place_of-place.ensures c.index_mut.ensures.value)
+          (content_moved (key_of c.args.at.now) c.args.to c.args.self.now.list.items c.args.self.now.content);
+    }
 
 pub returns : goal.returns
-returns c = (changed_here (key_of c.args.at.now) (moved_to c.args.to) c.index_mut.result.now c.args.self.now.list.items c.place_of-place.result c.place_of-place.ensures c.index_mut.ensures.value)
+returns c =
+    (changed_here (key_of c.args.at.now) (moved_to c.args.to) c.index_mut.result.now c.args.self.now.list.items c.place_of-place.result c.place_of-place.ensures
+    c.index_mut.ensures.value)

@@ -7,4 +7,5 @@ use Rattle.hm_key.proofs.mark_list.MarkList.end_after.Given as goal
 
 -- `end` is an end, and no mark above `since` that was looked at is for a key between
 abbrev pub invariant-loop-mark : goal.invariant-loop-mark
-invariant-loop-mark l = IsEnd (key_of l.at) l.end × ((k : ℕ) (d : Mark) → k < l.mark-index → IsPassed (key_of l.at) l.since (key_of l.end) (get_or l.self.list.items k d))
+invariant-loop-mark l =
+    IsEnd (key_of l.at) l.end × ((k : ℕ) (d : Mark) → k < l.mark-index → IsPassed (key_of l.at) l.since (key_of l.end) (get_or l.self.list.items k d))

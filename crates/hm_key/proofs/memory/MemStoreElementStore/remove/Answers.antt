@@ -7,7 +7,9 @@ use Rattle.hm_key.proofs.memory.MemStoreElementStore.remove.Goals as goal
 
 pub invariant_of-self : goal.invariant_of-self
 invariant_of-self c = record {
-  marked = rw c.remove.ensures (marked_removed (mark_of c.args.self.now.marks.list.items) (key_of c.args.at.now) c.args.self.now.elements.list.items c.args.self.now.marked);
+  marked =
+      rw c.remove.ensures (marked_removed (mark_of c.args.self.now.marks.list.items)
+      (key_of c.args.at.now) c.args.self.now.elements.list.items c.args.self.now.marked);
 }
 
 pub returns-clause-ok : goal.returns-clause-ok

@@ -1,0 +1,70 @@
+use Rattle.std.proofs.Common.{◌<◌, ◌≤◌, rules, arith}
+use Rattle.hm_key.specs.Key.{key_of}
+use Rattle.hm_node.specs.Inner.{IsNodeOffset}
+use Rattle.hm_search.specs.Descent.{levels_below}
+use Rattle.hm_search.proofs.DescentLemmas.{child_levels, goes_lower, goes_told, cause_below}
+use Rattle.hm_search.proofs.LookToLemmas.{glances_leaf_to, glances_inner_to}
+use Rattle.hm_search.proofs.NearToLemmas.{last_beside_told, leaf_beside_told_to}
+use Rattle.hm_search.proofs.SearchLemmas.{child_spot}
+use Rattle.hm_search.proofs.SearchToLemmas.{leaf_told_to}
+use Rattle.hm_search.proofs.search.+last_beside.Goals as goal
+
+pub returns-in-Leaf-clause-ok : goal.returns-in-Leaf-clause-ok
+returns-in-Leaf-clause-ok g t c =
+    let key = key_of c.args.at.now in
+    let told = g.P.Pages.pages c.args.pages.now in
+    let seen = glances_leaf_to c.args.subtree.now told key c.in_ok-last.field-0 c.in-Leaf.last c.in-Leaf.is c.in_ok-last.ensures.sees in
+    leaf_beside_told_to told c.args.subtree.now key c.in-Leaf.last
+    (leaf_told_to told c.args.subtree.now key seen.leaf c.in-Leaf.last seen.there seen.view.ordered)
+
+pub returns-in-Leaf-clause-found : goal.returns-in-Leaf-clause-found
+returns-in-Leaf-clause-found g t c =
+    let key = key_of c.args.at.now in
+    let told = g.P.Pages.pages c.args.pages.now in
+    let seen = glances_leaf_to c.args.subtree.now told key c.in_ok-last.field-0 c.in-Leaf.last c.in-Leaf.is c.in_ok-last.ensures.sees in
+    seen.view.found
+
+pub last_beside-requires : goal.last_beside-requires
+last_beside-requires g t c κs within =
+    let key = key_of c.args.at.now in
+    let told = g.P.Pages.pages c.args.pages.now in
+    let seen = glances_inner_to c.args.subtree.now told key c.in_ok-last.field-0 c.in-Inner.inner c.in-Inner.is
+    c.in_ok-last.ensures.sees in
+    let smaller : levels_below c.in-Inner.inner.child < levels_below c.args.subtree.now =
+    goes_lower c.args.subtree.now seen.inner seen.view.child.0 c.in-Inner.inner.child seen.level seen.meets seen.view.child.1 in
+    let spot : IsNodeOffset c.in-Inner.inner.child.at = child_spot seen.inner seen.view.child.0 c.in-Inner.inner.child seen.fields seen.view.child.1 in
+    let levels : 2 ≤ levels_below c.in-Inner.inner.child = child_levels seen.inner seen.view.child.0 c.in-Inner.inner.child seen.level seen.view.child.1 in
+    search rules
+
+pub returns-in-Inner-clause-steps : goal.returns-in-Inner-clause-steps
+returns-in-Inner-clause-steps g t c =
+    let key = key_of c.args.at.now in
+    let told = g.P.Pages.pages c.args.pages.now in
+    let seen = glances_inner_to c.args.subtree.now told key c.in_ok-last.field-0 c.in-Inner.inner c.in-Inner.is
+    c.in_ok-last.ensures.sees in
+    omega (
+      arith,
+      c.step_to.ensures.step,
+      c.last_beside.ensures.steps,
+      goes_lower c.args.subtree.now seen.inner seen.view.child.0 c.in-Inner.inner.child seen.level seen.meets seen.view.child.1,
+    )
+
+pub returns-in-Inner-clause-ok : goal.returns-in-Inner-clause-ok
+returns-in-Inner-clause-ok g t c =
+    let key = key_of c.args.at.now in
+    let told = g.P.Pages.pages c.args.pages.now in
+    let seen = glances_inner_to c.args.subtree.now told key c.in_ok-last.field-0 c.in-Inner.inner c.in-Inner.is
+    c.in_ok-last.ensures.sees in
+    last_beside_told told (g.P.Pages.pages c.step_to.new.pages) c.args.subtree.now c.in-Inner.inner.child key seen.inner c.last_beside.result
+    c.step_to.ensures.same.pages seen.there (λ order. (seen.view.ordered order).child) c.last_beside.ensures.ok
+
+pub returns-in-Inner-clause-cause : goal.returns-in-Inner-clause-cause
+returns-in-Inner-clause-cause g t c =
+    let key = key_of c.args.at.now in
+    let told = g.P.Pages.pages c.args.pages.now in
+    let seen = glances_inner_to c.args.subtree.now told key c.in_ok-last.field-0 c.in-Inner.inner c.in-Inner.is
+    c.in_ok-last.ensures.sees in
+    cause_below told (g.P.Pages.pages c.step_to.new.pages) c.args.subtree.now c.in-Inner.inner.child (g.P.Counted.faults c.args.pages.now)
+    (g.P.Counted.faults c.step_to.new.pages) (g.P.Counted.faults c.last_beside.new.pages) c.last_beside.result
+    c.step_to.ensures.same.pages c.step_to.ensures.cause.never_falls
+    (goes_told told c.args.subtree.now seen.inner c.in-Inner.inner.child seen.there seen.view.child) c.last_beside.ensures.cause
