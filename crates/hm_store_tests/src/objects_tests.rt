@@ -4,7 +4,7 @@ ghost use Rattle.hm_objects.specs.Objects.{HasRooms, open_base};
 ghost use Rattle.hm_store_tests.specs.Tests.{IsReady};
 
 use hm_cursor::{add_version, find_inode, find_payload, inode_base, target_base};
-use hm_key::{Base, ELEMENT, HasElements, HasRoom, MemStore};
+use hm_key::{Base, ELEMENT, HasElements, HasRoom, MemStore, SOFTLINK_TARGET};
 use hm_objects::{add_directory, add_file, add_softlink, remove_object, set_links, set_size};
 use hm_records::{DIRECTORY, FILE, SOFTLINK};
 use hm_types::{BAD_PAYLOAD, Fault, HOff, INSERT_ROOM, Id, META_ZONE, Obj, Pfs, TREE_ZONE, Text};
@@ -243,6 +243,20 @@ fn a_target_comes_and_goes_with_its_softlink(rt: HostRuntime) -> Result<(), Fail
     ] {
         let found = target_after(rt.alloc(), steps, pfs, obj, as_of)?;
         assert_eq!(rt; found, want, "{obj} of {pfs} as of {as_of}, {steps:?}");
+    }
+    Ok(())
+}
+
+#[test]
+fn an_open_target_is_closed_as_another_one_comes(rt: HostRuntime) -> Result<(), Fail> {
+    let steps = [(Step::AddSoftlink, 40, 4), (Step::AddSoftlink, 40, 6)];
+    let (store, _) = store_after(rt.alloc(), &steps)?;
+    let [_, _, old, new] = store.elements() else {
+        return Err("not two inodes and two targets")?;
+    };
+    for (target, create, delete) in [(old, 4, 6), (new, 6, 0)] {
+        assert_eq!(rt; target.base.rec_type, SOFTLINK_TARGET);
+        assert_eq!(rt; (target.base.create, target.base.delete), (create, delete));
     }
     Ok(())
 }
