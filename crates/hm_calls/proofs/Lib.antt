@@ -34,3 +34,4 @@ pub mod KnownLemmas
 pub mod MoveBesideLemmas
 pub mod GivenLemmas
 pub mod MayReplyLemmas
+pub mod SystemLemmas

@@ -13,3 +13,4 @@ pub mod Space
 pub mod Bytes
 pub mod Edits
 pub mod Moves
+pub mod Systems

@@ -1,5 +1,5 @@
 //! The calls on names and on the bytes of files: what each answers, and what it does to the elements
-//! of a store.
+//! of a store. `pfs_status` tells of a pseudo file system.
 #![tactic(auto)]
 
 mod bytes;
@@ -21,7 +21,9 @@ mod remove;
 mod rename;
 mod room;
 mod stop;
+mod systems;
 mod take;
 mod words;
 
 pub use calls::answer;
+pub use systems::pfs_status;

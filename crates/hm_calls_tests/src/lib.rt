@@ -26,6 +26,8 @@ mod random_tests;
 #[cfg(test)]
 mod refusal_tests;
 #[cfg(test)]
+mod status_tests;
+#[cfg(test)]
 mod system_tests;
 #[cfg(test)]
 mod testing;
