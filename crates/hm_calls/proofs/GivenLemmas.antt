@@ -21,13 +21,9 @@ use Rattle.hm_calls.specs.declared.edit.Edit.{Edit}
 use Rattle.hm_calls.specs.declared.edit.Edit.TheVariants.{Fill, Truncate, Write}
 use Rattle.hm_calls.specs.declared.new.New.{New}
 use Rattle.hm_calls.specs.declared.new.New.TheVariants.{Directory, File, Snapshot, Softlink}
+pub use Rattle.hm_calls.specs.Stages.{IsAmong}
 
 -- ---- replies by their numbers
-
--- a reply is a call's own, with one of these numbers
-pub record IsAmong (numbers : List ℕ) (reply : Reply) : Type 0 where
-  pub own : IsOwn reply
-  pub listed : Contains numbers (number_of reply)
 
 -- the refusals of a walk, that for want of space, and one that is known
 pub lost_among : (numbers : List ℕ) (ids : Bool) → Contains numbers 2 → Contains numbers 3 → (ids ≡ true → Contains numbers 8)
@@ -64,7 +60,7 @@ RefusesOwn None = Unit {0}
 pub refusal_own : (check : Check) → RefusesOwn check → (reply : Reply) → check ≡ Some reply → IsOwn reply
 refusal_own check own reply is = subst RefusesOwn is own
 
-tested_own : (test : Bool) (refusal : Reply) → IsOwn refusal → RefusesOwn (refuse_if test refusal)
+pub tested_own : (test : Bool) (refusal : Reply) → IsOwn refusal → RefusesOwn (refuse_if test refusal)
 tested_own true refusal own = own
 tested_own false refusal own = tt
 

@@ -21,8 +21,10 @@ pub mod DropLemmas
 pub mod NameStepLemmas
 pub mod MakeLemmas
 pub mod MadeLemmas
+pub mod FrontLemmas
 pub mod LinkLemmas
 pub mod LinkCallLemmas
+pub mod ReachLemmas
 pub mod AnswerLemmas
 pub mod MoveLemmas
 pub mod MoveStepLemmas

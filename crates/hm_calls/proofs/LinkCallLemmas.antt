@@ -1,55 +1,57 @@
 -- What `ln` tells and does over a store, from what its steps tell.
-use Rattle.std.proofs.Common.{◌≡◌, ℕ, ◌+◌, ◌<◌, ◌≤◌, List, [], ◌∷◌, Bool, false, Option, Some, None, Result, Ok, Err, refl, sym, ap, subst, ◌∙◌}
-use Rattle.std.specs.Prelude.{◌==◌, ◌||◌, IfSome, IsSomeAnd, if◌then◌else◌}
+use Rattle.std.proofs.Common.{◌≡◌, ℕ, ◌+◌, ◌≤◌, List, [], ◌∷◌, false, Option, Some, None, Result, Ok, Err, refl, sym, ap, subst, ◌∙◌}
+use Rattle.std.specs.Prelude.{◌==◌, ◌||◌, IfSome, if◌then◌else◌}
 use Rattle.std.specs.Bool.{nat_le}
 use Rattle.std.specs.Option.{option_map_or}
-use Rattle.hm_types.specs.Elements.{FullElement}
+use Rattle.hm_types.specs.Elements.{FullElement, Key}
 use Rattle.hm_types.specs.Tree.{FileTree, named_in}
-use Rattle.hm_types.specs.declared.id.Obj.{Obj}
 use Rattle.hm_types.specs.declared.limits.TheConstants.{GREATEST_ID}
 use Rattle.hm_path.specs.Path.{IsPath}
 use Rattle.hm_path.specs.declared.part.Part.{Part}
-use Rattle.hm_key.specs.Balance.{IsBalanced, content_of}
 use Rattle.hm_key.specs.Counts.{Counts}
+use Rattle.hm_key.specs.Elements.{IsContent}
 use Rattle.hm_key.specs.Extents.{Extent}
+use Rattle.hm_key.specs.Stores.{Same}
 use Rattle.hm_key.specs.Versions.{HaveOwnKeys}
 use Rattle.hm_key.specs.declared.element.Element.{Element}
 use Rattle.hm_cursor.specs.Told.{fulls}
-use Rattle.hm_model.specs.Due.{Check, has_id, walks, is_dir_or_link, is_softlink, refuse_if}
+use Rattle.hm_model.specs.Due.{has_id, is_dir_or_link, is_softlink, refuse_if, walks}
 use Rattle.hm_model.specs.Needs.{names_zones}
-use Rattle.hm_model.specs.Sites.{MakesName, Parsed, Parts, ReadsWords, Walks, front_of, in_directory, last_name, locate}
+use Rattle.hm_model.specs.Sites.{MakesName, Parsed, Parts, Walks, front_of, in_directory, last_name, locate}
 use Rattle.hm_model.specs.View.{object_at}
 use Rattle.hm_model.specs.Walk.{Follows, Stays, walk}
-use Rattle.hm_model.specs.declared.command.Command.{Command}
 use Rattle.hm_model.specs.declared.command.Command.TheVariants.{Ln}
-use Rattle.hm_model.specs.declared.reply.Reply.{Reply}
-use Rattle.hm_model.specs.declared.reply.Reply.TheVariants.{CrossPfs, Done, HashFull, IsDir, NotFile, ReadOnly}
+use Rattle.hm_model.specs.declared.reply.Reply.TheVariants.{CrossPfs, Exists, HashFull, IsDir, NotFile, ReadOnly}
 use Rattle.hm_records.specs.KeysFit.{KeysFit}
 use Rattle.hm_records.specs.View.{IsViewOf}
 use Rattle.hm_records.specs.declared.inode.Inode.{Inode}
 use Rattle.hm_dirs.specs.Names.{IsSpot, OnNamed, first_key, names_of_hash}
-use Rattle.hm_dirs.specs.Walk.{AreDrawn, IsRead, OnShown, Scene, place_of}
+use Rattle.hm_dirs.specs.Walk.{AreDrawn, OnShown, Scene, place_of}
 use Rattle.hm_dirs.specs.declared.position.Course.{Course}
 use Rattle.hm_dirs.specs.declared.position.Stand.{Stand}
 use Rattle.hm_dirs.specs.declared.spot.Spot.{Spot}
 use Rattle.hm_calls.specs.Changes.{Changes, ChangesTree}
-use Rattle.hm_calls.specs.Due.{space_for}
 use Rattle.hm_calls.specs.Known.{AreBelow}
+use Rattle.hm_calls.specs.Due.{space_for}
+use Rattle.hm_calls.specs.Links.{AreSeen, IsLinked, link_checks, links_check}
 use Rattle.hm_calls.specs.Places.{IsPlaced, IsReached, refuse_kind}
-use Rattle.hm_calls.specs.Replies.{IsAcceptedBy}
+use Rattle.hm_calls.specs.Scenes.{InScenes, is_slave}
+use Rattle.hm_calls.specs.Stages.{AnswersAll, last_checks, word_checks}
 use Rattle.hm_calls.specs.Writes.{PutsLink, place_in}
-use Rattle.hm_calls.specs.Stop.{Decides}
+use Rattle.hm_calls.specs.Stop.{Answers, Decides}
+use Rattle.hm_calls.specs.declared.links.Linked.{Linked}
+use Rattle.hm_calls.specs.declared.stages.NewName.{NewName}
 use Rattle.hm_calls.specs.declared.stop.Stop.{Stop}
 use Rattle.hm_calls.specs.declared.stop.Stop.TheVariants.{Failed, Refused}
-use Rattle.hm_calls.proofs.LinkLemmas.{hash_check, in_slave, links_check, ln_after, ln_changes, ln_stands, ln_unchanged, paths_linked}
+use Rattle.hm_calls.proofs.LinkLemmas.{ln_changes, ln_checks, ln_unchanged, paths_linked}
+use Rattle.hm_calls.proofs.FrontLemmas.{IsAsked, back_in, back_over, both_in, map_in, on_in, passed_fourth, second_none}
 use Rattle.hm_calls.proofs.MakeLemmas.{IsNewPlace, full_check, new_check, new_place, new_place_there, new_view, not_named, tree_at}
 use Rattle.hm_calls.proofs.PlaceLemmas.{front_has_none}
-use Rattle.hm_calls.proofs.RefusalLemmas.{IsFirst, IsRefused, PassBoth, after_both, all_pass, of_ln, pass, refuse_first, refuse_second, stop}
-use Rattle.hm_calls.proofs.RefusalLemmas.{two_accepts, two_refuses}
+use Rattle.hm_calls.proofs.RefusalLemmas.{refuse_first, refuse_second}
 use Rattle.hm_calls.proofs.RemoveLemmas.{master_check}
-use Rattle.hm_calls.proofs.SceneLemmas.{IsEnd, IsPlace, IsSet, IsStoppedBy, OnScenes, call_in, scenes_all, scenes_back, scenes_both, scenes_named}
+use Rattle.hm_calls.proofs.SceneLemmas.{IsEnd, IsPlace, IsStoppedBy, OnScenes, call_in, scenes_back, scenes_both, scenes_named}
 use Rattle.hm_calls.proofs.SceneLemmas.{scenes_placed, scenes_reached, scenes_so, scenes_unplaced, scenes_unreached}
-use Rattle.hm_calls.proofs.StageLemmas.{Wrote, drawn_now, writes_changes}
+use Rattle.hm_calls.proofs.StageLemmas.{Wrote, drawn_now, scenes_own, writes_changes}
 
 -- ---- a directory in which a name is made
 
@@ -164,235 +166,166 @@ wrote_nothing es es' xs xs' same same' =
       itself (Some es) None = tt
       itself (Some es) (Some xs) = λ balanced. (balanced, refl)
 
--- ---- `ln`
+-- ---- `ln`, by what its stages tell
 
-module _ (hash : List ℕ → ℕ) (id : ℕ) (course : Course) (before : course.last.0 + 1 ≡ id) (most : id ≤ GREATEST_ID) (old new : List ℕ)
-    (parts more : List Part) (path : IsPath old parts) (next : IsPath new more) (es : Option (List Element)) (xs : Option (List Extent)) (room : ℕ → ℕ)
-    (free : ℕ) (name : List ℕ) (object directory : Stand)
-    (ends : OnScenes hash es xs course (λ scene. IsEnd scene Stays (walk scene.volume scene.view Stays parts) object))
-    (places : OnScenes hash es xs course (λ scene. IsNewPlace scene more name directory)) where
-  abbrev IsLed : Scene → Type 0
-  IsLed scene = IsEnd scene Stays (walk scene.volume scene.view Stays parts) object × IsNewPlace scene more name directory
+-- what the steps tell of the name in the directory's tree
+module _ (hash : List ℕ → ℕ) (course : Course) (es : Option (List Element)) (xs : Option (List Extent)) (found : Linked) where
+  -- of each tree that may be the one of the directory
+  abbrev pub OnTrees : (List FullElement → FileTree → Type 0) → Type 0
+  OnTrees P = OnNamed hash es xs (λ lists. (tree : FileTree) → IsViewOf (fulls lists) found.directory.at.pfs.0 found.directory.as_of.0 tree
+      → P (fulls lists) tree)
 
-  led : OnScenes hash es xs course IsLed
-  led = scenes_both hash course es xs (λ scene. IsEnd scene Stays (walk scene.volume scene.view Stays parts) object)
-      (λ scene. IsNewPlace scene more name directory) ends places
+  in_tree : (P : List FullElement → FileTree → Type 0) → OnTrees P → InScenes hash course es xs (AreSeen found)
+      → InScenes hash course es xs (λ scene. P scene.elements (tree_at scene found.directory))
+  in_tree P told seen =
+      map_in {P = λ scene. AreSeen found scene
+      × ((tree : FileTree) → IsViewOf scene.elements found.directory.at.pfs.0 found.directory.as_of.0 tree → P scene.elements tree)}
+      (λ scene set is. is.1 (tree_at scene found.directory) is.0.tree)
+      (both_in seen (record {
+        each = scenes_named hash course es xs
+            (λ list. (tree : FileTree) → IsViewOf list found.directory.at.pfs.0 found.directory.as_of.0 tree → P list tree) told;
+      }))
 
-  module _ (early : PassBoth (Ln old new) (Walks Stays) MakesName course.last.0 parts more) where
-    -- a check after the walks refuses
-    refuses : (F : Scene → Type 0) (check : Scene → Check)
-        → ((reply : Reply) (scene : Scene) → IsSet hash course scene → IsLed scene → F scene → check scene ≡ Some reply
-        → IsFirst (ln_stands hash room free scene name object directory) (Some reply))
-        → OnScenes hash es xs course F → (stopped : Stop) → OnScenes hash es xs course (λ scene. IsStoppedBy (check scene) stopped)
-        → IsRefused hash id (Ln old new) es xs room free stopped
-    refuses F check first known stopped told =
-        two_refuses hash id course before most (Ln old new) (Walks Stays) MakesName old new (of_ln old new) es xs room free parts path more next
-        (λ scene. IsLed scene × F scene) check
-        (λ reply busy scene set is refused.
-        after_both hash id course before most (Ln old new) (Walks Stays) MakesName old new (of_ln old new) es xs room free parts path more next early busy
-        scene
-        (Some reply) set
-        (ln_after hash room free old new scene parts more name object directory is.0.0 is.0.1 busy (Some reply) (first reply scene set is.0 is.1 refused)))
-        (scenes_both hash course es xs IsLed F led known) stopped told
+  pub new_in : (bytes name : List ℕ) → bytes ≡ name → (result : Result (Unit {0}) Stop)
+      → OnTrees (λ list tree. Answers (option_map_or (λ _. Some Exists) (named_in tree found.directory.at.object bytes) None) result)
+      → InScenes hash course es xs (AreSeen found) → InScenes hash course es xs (λ scene. Answers (new_check scene found.directory name) result)
+  new_in bytes name is result told =
+      in_tree (λ list tree. Answers (option_map_or (λ _. Some Exists) (named_in tree found.directory.at.object name) None) result)
+      (subst (λ (n : List ℕ). OnTrees (λ list tree. Answers (option_map_or (λ _. Some Exists) (named_in tree found.directory.at.object n) None) result)) is
+      told)
 
-    pub ln_first_master_refuses : (stopped : Stop) → OnScenes hash es xs course (λ scene. IsStoppedBy (master_check scene object.at.pfs.0) stopped)
-        → IsRefused hash id (Ln old new) es xs room free stopped
-    ln_first_master_refuses =
-        refuses (λ _. Unit {0}) (λ scene. master_check scene object.at.pfs.0)
-        (λ reply scene set is known refused. stop (refuse_first (in_slave scene object.at.pfs.0) (in_slave scene directory.at.pfs.0) ReadOnly reply refused))
-        (scenes_all hash course es xs (λ _. Unit {0}) (λ _ _. tt))
+  pub full_in : (name : List ℕ) {T : Type 0} (result : Result T Stop)
+      → OnTrees (λ list tree. Answers (refuse_if (nat_le 1024 (names_of_hash hash tree found.directory.at.object name)) HashFull) result)
+      → InScenes hash course es xs (AreSeen found) → InScenes hash course es xs (λ scene. Answers (full_check hash scene found.directory name) result)
+  full_in name result =
+      in_tree (λ list tree. Answers (refuse_if (nat_le 1024 (names_of_hash hash tree found.directory.at.object name)) HashFull) result)
 
-    module _ (one : OnScenes hash es xs course (λ scene. master_check scene object.at.pfs.0 ≡ None)) where
-      pub ln_second_master_refuses : (stopped : Stop) → OnScenes hash es xs course (λ scene. IsStoppedBy (master_check scene directory.at.pfs.0) stopped)
-          → IsRefused hash id (Ln old new) es xs room free stopped
-      ln_second_master_refuses =
-          refuses (λ scene. master_check scene object.at.pfs.0 ≡ None) (λ scene. master_check scene directory.at.pfs.0)
-          (λ reply scene set is known refused.
-          stop (refuse_second (in_slave scene object.at.pfs.0) (in_slave scene directory.at.pfs.0) ReadOnly (Some reply) known refused)) one
+  pub spot_in_scenes : (name : List ℕ) (spot : Spot)
+      → OnTrees (λ list tree. IsSpot (Counts list found.directory.as_of.0) found.directory.at.pfs.0 found.directory.at.object (first_key (hash name)) spot)
+      → InScenes hash course es xs (AreSeen found)
+      → InScenes hash course es xs (λ scene. IsSpot (Counts scene.elements found.directory.as_of.0) found.directory.at.pfs.0 found.directory.at.object
+      (first_key (hash name)) spot)
+  spot_in_scenes name spot =
+      in_tree (λ list tree. IsSpot (Counts list found.directory.as_of.0) found.directory.at.pfs.0 found.directory.at.object (first_key (hash name)) spot)
 
-      module _ (two : OnScenes hash es xs course (λ scene. master_check scene directory.at.pfs.0 ≡ None)) where
-        abbrev AreMasters : Scene → Type 0
-        AreMasters scene = (master_check scene object.at.pfs.0 ≡ None) × (master_check scene directory.at.pfs.0 ≡ None)
+-- calls of both words, which passed what these are asked
+pub linked_asked : (id : ℕ) (course : Course) (old new : List ℕ) (parts more : List Part) {T : Type 0} {x : T} → course.last.0 + 1 ≡ id → id ≤ GREATEST_ID
+    → IsPath old parts → IsPath new more → AnswersAll (word_checks course.last.0 parts more) (Ok x)
+    → IsAsked id course (Ln old new) (Parts parts ∷ Parts more ∷ [])
+linked_asked id course old new parts more before most path next told = record {
+  before = before;
+  most = most;
+  only = λ paths reads. paths_linked old new parts more paths path next reads;
+  early = λ busy. told.is;
+}
 
-        masters : OnScenes hash es xs course AreMasters
-        masters = scenes_both hash course es xs (λ scene. master_check scene object.at.pfs.0 ≡ None) (λ scene. master_check scene directory.at.pfs.0 ≡ None)
-            one two
+-- both walks led to their ends, in no slave
+pub is_linked : {hash : List ℕ → ℕ} {course : Course} {es : Option (List Element)} {xs : Option (List Extent)} (parts more : List Part) (id : ℕ)
+    (named : NewName) (object directory there : Stand) {x : Unit {0}} → there ≡ record directory { as_of = course.last }
+    → InScenes hash course es xs (λ scene. IsEnd scene Stays (walk scene.volume scene.view Stays parts) object)
+    → InScenes hash course es xs (λ scene. IsNewPlace scene more named.name.now directory)
+    → InScenes hash course es xs (λ scene. Answers (refuse_if (is_slave scene.volume object.at.pfs.0 || (is_slave scene.volume directory.at.pfs.0 || false))
+    ReadOnly) (Ok x))
+    → InScenes hash course es xs (λ scene. AreBelow directory.at.pfs.0 id scene.elements)
+    → InScenes hash course es xs (IsLinked parts more id named (record { object = object; directory = there }))
+is_linked {course = course} parts more id named object directory there is ends places masters below =
+    map_in (λ scene set told. subst (λ (s : Stand). IsLinked parts more id named (record { object = object; directory = s }) scene) (sym is) (record {
+      end = told.0.0;
+      place = new_place_there scene more named.name.now directory (record directory { as_of = course.last }) course refl told.0.1;
+      master = second_none (is_slave scene.volume object.at.pfs.0) (is_slave scene.volume directory.at.pfs.0) ReadOnly told.1.0;
+      below = told.1.1;
+      last = ap (λ (c : Course). c.last) (sym set.course_is);
+    })) (both_in (both_in ends places) (both_in masters below))
 
-        no_slave : (scene : Scene) → AreMasters scene
-            → refuse_if (in_slave scene object.at.pfs.0 || (in_slave scene directory.at.pfs.0 || false)) ReadOnly ≡ None
-        no_slave scene is = refuse_second (in_slave scene object.at.pfs.0) (in_slave scene directory.at.pfs.0) ReadOnly None is.0 is.1
+module _ {S : Type 0} {elements_of : S → Option (List Element)} {mark_of : S → Key → ℕ} {extents_of : S → Option (List Extent)} {room_of : S → ℕ → ℕ}
+    {free_of : S → ℕ} {start mid : S} {hash : List ℕ → ℕ} {course : Course} {parts more : List Part} {id : ℕ} {named : NewName} {found : Linked}
+    (same : Same elements_of mark_of extents_of room_of free_of start mid)
+    (linked : InScenes hash course (elements_of start) (extents_of start) (IsLinked parts more id named found)) where
+  -- so both are seen
+  seen : InScenes hash course (elements_of mid) (extents_of mid) (AreSeen found)
+  seen = on_in same (map_in (λ scene set is. record {
+    object = is.end.ends.read tt;
+    tree = subst (λ (t : ℕ). IsViewOf scene.elements found.directory.at.pfs.0 t (tree_at scene found.directory))
+        (ap (λ (c : Course). c.last.0) (sym set.course_is) ∙ ap (λ i. i.0) (sym is.last))
+        (subst (λ (t : ℕ). IsViewOf scene.elements found.directory.at.pfs.0 t (tree_at scene found.directory)) set.last
+        (new_view scene more named.name.now found.directory is.place set.shows is.master));
+  }) linked)
 
-        pub ln_kind_refuses : (stopped : Stop)
-            → ((scene : Scene) → IsRead scene object → IsStoppedBy (refuse_kind is_dir_or_link IsDir (object_at scene.view (place_of object.at))) stopped)
-            → IsRefused hash id (Ln old new) es xs room free stopped
-        ln_kind_refuses stopped told =
-            refuses AreMasters (λ scene. refuse_kind is_dir_or_link IsDir (object_at scene.view (place_of object.at)))
-            (λ reply scene set is known refused. pass (no_slave scene known) (stop refused)) masters stopped
-            (scenes_so hash course es xs IsLed (λ scene. IsStoppedBy (refuse_kind is_dir_or_link IsDir (object_at scene.view (place_of object.at))) stopped)
-            (λ scene set is. told scene (is.0.ends.read tt)) led)
-
-        module _ (kind : (scene : Scene) → IsRead scene object → refuse_kind is_dir_or_link IsDir (object_at scene.view (place_of object.at)) ≡ None) where
-          pub ln_softlink_refuses : (stopped : Stop)
-              → ((scene : Scene) → IsRead scene object → IsStoppedBy (refuse_kind is_softlink NotFile (object_at scene.view (place_of object.at))) stopped)
-              → IsRefused hash id (Ln old new) es xs room free stopped
-          ln_softlink_refuses stopped told =
-              refuses AreMasters (λ scene. refuse_kind is_softlink NotFile (object_at scene.view (place_of object.at)))
-              (λ reply scene set is known refused. pass (no_slave scene known) (pass (kind scene (is.0.ends.read tt)) (stop refused))) masters stopped
-              (scenes_so hash course es xs IsLed (λ scene. IsStoppedBy (refuse_kind is_softlink NotFile (object_at scene.view (place_of object.at))) stopped)
-              (λ scene set is. told scene (is.0.ends.read tt)) led)
-
-          module _ (file : (scene : Scene) → IsRead scene object → refuse_kind is_softlink NotFile (object_at scene.view (place_of object.at)) ≡ None) where
-            to_pfs : (scene : Scene) (refusal : Check) → IsLed scene → AreMasters scene
-                → IsFirst ((if object.at.pfs.0 == directory.at.pfs.0 then None else Some CrossPfs) ∷ new_check scene directory name ∷ links_check scene object
-                ∷ hash_check hash scene directory name ∷ None ∷ space_for names_zones 4 room free ∷ []) refusal
-                → IsFirst (ln_stands hash room free scene name object directory) refusal
-            to_pfs scene refusal is known first =
-                pass (no_slave scene known) (pass (kind scene (is.0.ends.read tt)) (pass (file scene (is.0.ends.read tt)) first))
-
-            pub ln_pfs_refuses : (stopped : Stop) → IsStoppedBy (if object.at.pfs.0 == directory.at.pfs.0 then None else Some CrossPfs) stopped
-                → IsRefused hash id (Ln old new) es xs room free stopped
-            ln_pfs_refuses stopped told =
-                refuses AreMasters (λ scene. if object.at.pfs.0 == directory.at.pfs.0 then None else Some CrossPfs)
-                (λ reply scene set is known refused. to_pfs scene (Some reply) is known (stop refused)) masters stopped
-                (scenes_all hash course es xs (λ _. IsStoppedBy (if object.at.pfs.0 == directory.at.pfs.0 then None else Some CrossPfs) stopped) (λ _ _.
-                told))
-
-            module _ (same : (if object.at.pfs.0 == directory.at.pfs.0 then None else Some CrossPfs) ≡ None) where
-              pub ln_new_refuses : (stopped : Stop) → OnScenes hash es xs course (λ scene. IsStoppedBy (new_check scene directory name) stopped)
-                  → IsRefused hash id (Ln old new) es xs room free stopped
-              ln_new_refuses =
-                  refuses AreMasters (λ scene. new_check scene directory name)
-                  (λ reply scene set is known refused. to_pfs scene (Some reply) is known (pass same (stop refused))) masters
-
-              module _ (fresh : OnScenes hash es xs course (λ scene. new_check scene directory name ≡ None)) where
-                abbrev IsFresh : Scene → Type 0
-                IsFresh scene = AreMasters scene × (new_check scene directory name ≡ None)
-
-                freshes : OnScenes hash es xs course IsFresh
-                freshes = scenes_both hash course es xs AreMasters (λ scene. new_check scene directory name ≡ None) masters fresh
-
-                pub ln_links_refuses : (stopped : Stop) → ((scene : Scene) → IsRead scene object → IsStoppedBy (links_check scene object) stopped)
-                    → IsRefused hash id (Ln old new) es xs room free stopped
-                ln_links_refuses stopped told =
-                    refuses IsFresh (λ scene. links_check scene object)
-                    (λ reply scene set is known refused. to_pfs scene (Some reply) is known.0 (pass same (pass known.1 (stop refused)))) freshes stopped
-                    (scenes_so hash course es xs IsLed (λ scene. IsStoppedBy (links_check scene object) stopped)
-                    (λ scene set is. told scene (is.0.ends.read tt)) led)
-
-                module _ (links : (scene : Scene) → IsRead scene object → links_check scene object ≡ None) where
-                  to_hash : (scene : Scene) (refusal : Check) → IsLed scene → IsFresh scene
-                      → IsFirst (full_check hash scene directory name ∷ None ∷ space_for names_zones 4 room free ∷ []) refusal
-                      → IsFirst (ln_stands hash room free scene name object directory) refusal
-                  to_hash scene refusal is known first =
-                      to_pfs scene refusal is known.0 (pass same (pass known.1 (pass (links scene (is.0.ends.read tt))
-                      (subst (λ (found : Option Obj). IsFirst (refuse_if (option_map_or (λ _. false) found
-                      (nat_le 1024 (names_of_hash hash (tree_at scene directory) directory.at.object name))) HashFull ∷ None ∷ space_for names_zones 4 room
-                      free ∷ []) refusal)
-                      (sym (not_named (named_in (tree_at scene directory) directory.at.object name) known.1)) first))))
-
-                  pub ln_hash_refuses : (stopped : Stop) → OnScenes hash es xs course (λ scene. IsStoppedBy (full_check hash scene directory name) stopped)
-                      → IsRefused hash id (Ln old new) es xs room free stopped
-                  ln_hash_refuses =
-                      refuses IsFresh (λ scene. full_check hash scene directory name)
-                      (λ reply scene set is known refused. to_hash scene (Some reply) is known (stop refused)) freshes
-
-                  module _ (full : OnScenes hash es xs course (λ scene. full_check hash scene directory name ≡ None)) where
-                    fulls_pass : OnScenes hash es xs course (λ scene. IsFresh scene × (full_check hash scene directory name ≡ None))
-                    fulls_pass = scenes_both hash course es xs IsFresh (λ scene. full_check hash scene directory name ≡ None) freshes full
-
-                    pub ln_space_refuses : (stopped : Stop) → IsStoppedBy (space_for names_zones 4 room free) stopped
-                        → IsRefused hash id (Ln old new) es xs room free stopped
-                    ln_space_refuses stopped told =
-                        refuses (λ scene. IsFresh scene × (full_check hash scene directory name ≡ None)) (λ scene. space_for names_zones 4 room free)
-                        (λ reply scene set is known refused. to_hash scene (Some reply) is known.0 (pass known.1 (pass refl (stop refused)))) fulls_pass
-                        stopped
-                        (scenes_all hash course es xs (λ _. IsStoppedBy (space_for names_zones 4 room free) stopped) (λ _ _. told))
-
-                    pub ln_accepts : space_for names_zones 4 room free ≡ None → IsAcceptedBy hash id (λ call. call.command ≡ Ln old new) es xs room free Done
-                    ln_accepts told =
-                        two_accepts hash id course before most (Ln old new) (Walks Stays) MakesName old new (of_ln old new) es xs room free parts path more
-                        next
-                        (λ scene. IsLed scene × (IsFresh scene × (full_check hash scene directory name ≡ None))) Done
-                        (λ busy scene set is. (
-                          after_both hash id course before most (Ln old new) (Walks Stays) MakesName old new (of_ln old new) es xs room free parts path more
-                              next
-                              early busy scene None set
-                              (ln_after hash room free old new scene parts more name object directory is.0.0 is.0.1 busy None
-                              (to_hash scene None is.0 is.1.0 (pass is.1.1 (pass refl (pass told all_pass))))),
-                          refl,
-                        ))
-                        (scenes_both hash course es xs IsLed (λ scene. IsFresh scene × (full_check hash scene directory name ≡ None)) led fulls_pass)
+  -- what the last stage tells of its checks, it tells of those of the call
+  pub linked_tells : (old new : List ℕ) {T : Type 0} {result : Result T Stop}
+      → (InScenes hash course (elements_of mid) (extents_of mid) (AreSeen found)
+      → InScenes hash course (elements_of mid) (extents_of mid) (λ scene.
+      AnswersAll (link_checks hash (room_of mid) (free_of mid) named.name.now found scene) result))
+      → InScenes hash course (elements_of start) (extents_of start) (λ scene. (busy : Option ℕ)
+      → AnswersAll (last_checks (call_in hash (Ln old new) (Parts parts ∷ Parts more ∷ []) busy scene) (room_of start) (free_of start)) result)
+  linked_tells old new {result = result} told =
+      map_in (λ scene set is busy.
+      ln_checks hash (room_of start) (free_of start) old new scene parts more named.name.now found.object found.directory is.0.end is.0.place busy is.1)
+      (both_in linked (back_over same (λ room free scene. AnswersAll (link_checks hash room free named.name.now found scene) result) (told seen)))
 
   -- what is known when a link is written
-  pub record IsLinking (spot : Spot) (scene : Scene) : Type 0 where
-    pub led_is : IsLed scene
+  record IsLinking (spot : Spot) (scene : Scene) : Type 0 where
+    pub linked_is : IsLinked parts more id named found scene
     pub own : HaveOwnKeys scene.elements
-    pub below : AreBelow directory.at.pfs.0 id scene.elements
-    pub master : master_check scene directory.at.pfs.0 ≡ None
-    pub fresh : new_check scene directory name ≡ None
-    pub spot_is : IsSpot (Counts scene.elements course.last.0) directory.at.pfs.0 directory.at.object (first_key (hash name)) spot
+    pub fresh : named_in (tree_at scene found.directory) found.directory.at.object named.name.now ≡ None
+    pub spot_is : IsSpot (Counts scene.elements found.directory.as_of.0) found.directory.at.pfs.0 found.directory.at.object (first_key (hash named.name.now))
+        spot
 
-  pub linking : (spot : Spot) → OnScenes hash es xs course (λ scene. HaveOwnKeys scene.elements)
-      → OnScenes hash es xs course (λ scene. AreBelow directory.at.pfs.0 id scene.elements)
-      → OnScenes hash es xs course (λ scene. master_check scene directory.at.pfs.0 ≡ None)
-      → OnScenes hash es xs course (λ scene. new_check scene directory name ≡ None)
-      → OnScenes hash es xs course (λ scene. IsSpot (Counts scene.elements course.last.0) directory.at.pfs.0 directory.at.object (first_key (hash name)) spot)
-      → OnScenes hash es xs course (IsLinking spot)
-  linking spot own below master fresh spot_is =
-      scenes_so hash course es xs
-      (λ scene. ((IsLed scene × HaveOwnKeys scene.elements) × (AreBelow directory.at.pfs.0 id scene.elements × (master_check scene directory.at.pfs.0 ≡
-      None)))
-      × ((new_check scene directory name ≡ None)
-      × IsSpot (Counts scene.elements course.last.0) directory.at.pfs.0 directory.at.object (first_key (hash name)) spot))
-      (IsLinking spot)
-      (λ scene set is. record {
-        led_is = is.0.0.0;
-        own = is.0.0.1;
-        below = is.0.1.0;
-        master = is.0.1.1;
-        fresh = is.1.0;
-        spot_is = is.1.1;
-      })
-      (scenes_both hash course es xs
-      (λ scene. (IsLed scene × HaveOwnKeys scene.elements) × (AreBelow directory.at.pfs.0 id scene.elements × (master_check scene directory.at.pfs.0 ≡ None)))
-      (λ scene. (new_check scene directory name ≡ None)
-      × IsSpot (Counts scene.elements course.last.0) directory.at.pfs.0 directory.at.object (first_key (hash name)) spot)
-      (scenes_both hash course es xs (λ scene. IsLed scene × HaveOwnKeys scene.elements)
-      (λ scene. AreBelow directory.at.pfs.0 id scene.elements × (master_check scene directory.at.pfs.0 ≡ None))
-      (scenes_both hash course es xs IsLed (λ scene. HaveOwnKeys scene.elements) led own)
-      (scenes_both hash course es xs (λ scene. AreBelow directory.at.pfs.0 id scene.elements) (λ scene. master_check scene directory.at.pfs.0 ≡ None) below
-      master))
-      (scenes_both hash course es xs (λ scene. new_check scene directory name ≡ None)
-      (λ scene. IsSpot (Counts scene.elements course.last.0) directory.at.pfs.0 directory.at.object (first_key (hash name)) spot) fresh spot_is))
+  module _ (room : ℕ → ℕ) (free : ℕ) (spot : Spot) (content : IfSome (elements_of start) IsContent)
+      (told : InScenes hash course (elements_of mid) (extents_of mid) (AreSeen found)
+      → InScenes hash course (elements_of mid) (extents_of mid) (λ scene. AnswersAll (link_checks hash room free named.name.now found scene) (Ok spot)))
+      (spots : InScenes hash course (elements_of mid) (extents_of mid) (AreSeen found)
+      → InScenes hash course (elements_of mid) (extents_of mid) (λ scene. IsSpot (Counts scene.elements found.directory.as_of.0) found.directory.at.pfs.0
+      found.directory.at.object (first_key (hash named.name.now)) spot)) (old new : List ℕ) (before : course.last.0 + 1 ≡ id) (path : IsPath old parts)
+      (next : IsPath new more) (es' : Option (List Element)) (xs' : Option (List Extent)) where
+    fresh_passed : (r : ℕ → ℕ) (f : ℕ) (scene : Scene) → AnswersAll (link_checks hash r f named.name.now found scene) (Ok spot)
+        → new_check scene found.directory named.name.now ≡ None
+    fresh_passed r f scene told =
+        passed_fourth (refuse_kind is_dir_or_link IsDir (object_at scene.view (place_of found.object.at)))
+        (refuse_kind is_softlink NotFile (object_at scene.view (place_of found.object.at)))
+        (if found.object.at.pfs.0 == found.directory.at.pfs.0 then None else Some CrossPfs) (new_check scene found.directory named.name.now)
+        (links_check scene found.object ∷ full_check hash scene found.directory named.name.now ∷ space_for names_zones 4 r f ∷ []) told.is
 
-  -- what `ln` wrote is its change
-  pub ln_writes : (spot : Spot) (inode : Inode) (links : ℕ) → object.inode ≡ Some inode → links ≡ inode.links + 1 → OnScenes hash es xs course (IsLinking
-      spot)
-      → (es' : Option (List Element)) (xs' : Option (List Extent)) → Wrote (PutsLink hash (place_in directory name) spot id object.at.object links) es xs es'
-      xs'
-      → Wrote (Changes hash id (λ call. call.command ≡ Ln old new)) es xs es' xs'
-  ln_writes spot inode links has links_is known es' xs' writes =
-      writes_changes hash id course (Ln old new) (PutsLink hash (place_in directory name) spot id object.at.object links) (IsLinking spot) es es' xs xs'
-      before
-      (λ busy paths scene list reads set is puts.
-      subst (λ (ps : List Parsed). ChangesTree (call_in hash (Ln old new) ps busy scene) scene.elements list)
-      (sym (paths_linked old new parts more paths path next reads))
-      (ln_changes hash room free old new scene parts more name object directory is.led_is.0 is.led_is.1 busy inode has id course spot links list before path
-      next set
-      is.own is.below is.master (not_named (named_in (tree_at scene directory) directory.at.object name) is.fresh) is.spot_is links_is puts))
-      known writes
+    linking : InScenes hash course (elements_of start) (extents_of start) (IsLinking spot)
+    linking =
+        map_in {P = λ scene. (IsLinked parts more id named found scene × HaveOwnKeys scene.elements)
+        × (AnswersAll (link_checks hash room free named.name.now found scene) (Ok spot)
+        × IsSpot (Counts scene.elements found.directory.as_of.0) found.directory.at.pfs.0 found.directory.at.object (first_key (hash named.name.now)) spot)}
+        (λ scene set is. record {
+          linked_is = is.0.0;
+          own = is.0.1;
+          fresh = not_named (named_in (tree_at scene found.directory) found.directory.at.object named.name.now)
+              (fresh_passed room free scene is.1.0);
+          spot_is = is.1.1;
+        })
+        (both_in (both_in linked (record { each = scenes_own hash course (elements_of start) (extents_of start) content }))
+        (both_in (back_in same (told seen)) (back_in same (spots seen))))
 
-  -- an object that is not there gets no link
-  pub ln_stays : (spot : Spot) → object.inode ≡ None → OnScenes hash es xs course (IsLinking spot) → (es' : Option (List Element)) (xs' : Option (List
-      Extent))
-      → es' ≡ es → xs' ≡ xs → Wrote (Changes hash id (λ call. call.command ≡ Ln old new)) es xs es' xs'
-  ln_stays spot none known es' xs' same same' =
-      writes_changes hash id course (Ln old new) (λ was now. now ≡ was) (IsLinking spot) es es' xs xs' before
-      (λ busy paths scene list reads set is unchanged.
-      subst (λ (ps : List Parsed). ChangesTree (call_in hash (Ln old new) ps busy scene) scene.elements list)
-      (sym (paths_linked old new parts more paths path next reads))
-      (subst (λ (l : List FullElement). ChangesTree (call_in hash (Ln old new) (Parts parts ∷ Parts more ∷ []) busy scene) scene.elements l) (sym unchanged)
-      (ln_unchanged hash room free old new scene parts more name object directory is.led_is.0 is.led_is.1 busy none id course before path next set is.own
-      is.below
-      is.master)))
-      known (wrote_nothing es es' xs xs' same same')
+    -- what `ln` wrote is its change
+    pub ln_writes : (inode : Inode) (links : ℕ) → found.object.inode ≡ Some inode → links ≡ inode.links + 1
+        → Wrote (PutsLink hash (place_in found.directory named.name.now) spot id found.object.at.object links) (elements_of start) (extents_of start) es' xs'
+        → Wrote (Changes hash id (λ call. call.command ≡ Ln old new)) (elements_of start) (extents_of start) es' xs'
+    ln_writes inode links has links_is writes =
+        writes_changes hash id course (Ln old new) (PutsLink hash (place_in found.directory named.name.now) spot id found.object.at.object links)
+        (IsLinking spot) (elements_of start) es' (extents_of start) xs' before
+        (λ busy paths scene list reads set is puts.
+        subst (λ (ps : List Parsed). ChangesTree (call_in hash (Ln old new) ps busy scene) scene.elements list)
+        (sym (paths_linked old new parts more paths path next reads))
+        (ln_changes hash (λ _. 0) 0 old new scene parts more named.name.now found.object found.directory is.linked_is.end is.linked_is.place busy inode has id
+        course spot links list before path next set is.own is.linked_is.below is.linked_is.master is.fresh
+        (subst (λ (t : ℕ). IsSpot (Counts scene.elements t) found.directory.at.pfs.0 found.directory.at.object (first_key (hash named.name.now)) spot)
+        (ap (λ i. i.0) is.linked_is.last ∙ ap (λ (c : Course). c.last.0) set.course_is) is.spot_is) links_is puts))
+        linking.each writes
+
+    -- an object that is not there gets no link
+    pub ln_stays : found.object.inode ≡ None → es' ≡ elements_of start → xs' ≡ extents_of start
+        → Wrote (Changes hash id (λ call. call.command ≡ Ln old new)) (elements_of start) (extents_of start) es' xs'
+    ln_stays none same_elements same_extents =
+        writes_changes hash id course (Ln old new) (λ was now. now ≡ was) (IsLinking spot) (elements_of start) es' (extents_of start) xs' before
+        (λ busy paths scene list reads set is unchanged.
+        subst (λ (ps : List Parsed). ChangesTree (call_in hash (Ln old new) ps busy scene) scene.elements list)
+        (sym (paths_linked old new parts more paths path next reads))
+        (subst (λ (l : List FullElement). ChangesTree (call_in hash (Ln old new) (Parts parts ∷ Parts more ∷ []) busy scene) scene.elements l) (sym unchanged)
+        (ln_unchanged hash (λ _. 0) 0 old new scene parts more named.name.now found.object found.directory is.linked_is.end is.linked_is.place busy none id
+        course before path next set is.own is.linked_is.below is.linked_is.master)))
+        linking.each (wrote_nothing (elements_of start) es' (extents_of start) xs' same_elements same_extents)

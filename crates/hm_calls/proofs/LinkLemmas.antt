@@ -1,6 +1,6 @@
 -- The checks of `ln`, and what it makes of a tree, by where its walks came to.
-use Rattle.std.proofs.Common.{◌≡◌, ℕ, ◌+◌, ◌-◌, List, [], ◌∷◌, Bool, true, false, Option, Some, None, refl, sym, ap, subst, ◌∙◌}
-use Rattle.std.specs.Prelude.{◌==◌, ◌||◌, ◌^◌, drop, if◌then◌else◌}
+use Rattle.std.proofs.Common.{◌≡◌, ℕ, ◌+◌, ◌-◌, List, [], ◌∷◌, Bool, false, Option, Some, None, Result, refl, sym, ap, subst, ◌∙◌}
+use Rattle.std.specs.Prelude.{◌==◌, ◌||◌, if◌then◌else◌}
 use Rattle.std.specs.Bool.{nat_le}
 use Rattle.std.specs.Option.{option_map_or}
 use Rattle.hm_types.specs.Elements.{FullElement}
@@ -11,18 +11,16 @@ use Rattle.hm_path.specs.Path.{IsPath}
 use Rattle.hm_path.specs.declared.part.Part.{Part}
 use Rattle.hm_key.specs.Counts.{Content, Counts}
 use Rattle.hm_key.specs.Versions.{HaveOwnKeys}
-use Rattle.hm_model.specs.Answer.{is_master}
 use Rattle.hm_model.specs.Call.{Call, site_in}
 use Rattle.hm_model.specs.Change.{changed, changed_pfs, linked}
-use Rattle.hm_model.specs.Due.{Check, a_file, hash_is_full, is_dir_or_link, is_in_slave, is_softlink, links_left, name_is_new, new_name, no_dir}
+use Rattle.hm_model.specs.Due.{Check, a_file, first_refusal, hash_is_full, is_dir_or_link, is_in_slave, is_softlink, links_left, name_is_new, new_name, no_dir}
 use Rattle.hm_model.specs.Due.{refuse_if, walks}
 use Rattle.hm_model.specs.Needs.{names_zones}
 use Rattle.hm_model.specs.Sites.{At, Located, MakesName, Parsed, Parts, ReadsWords, Walks, at_end, locate}
 use Rattle.hm_model.specs.View.{Now, Position, When, object_at}
-use Rattle.hm_model.specs.Volume.{system_of}
 use Rattle.hm_model.specs.Walk.{Stays, walk}
 use Rattle.hm_model.specs.declared.command.Command.TheVariants.{Ln}
-use Rattle.hm_model.specs.declared.reply.Reply.TheVariants.{CrossPfs, HashFull, IsDir, NotFile, ReadOnly, TooBig}
+use Rattle.hm_model.specs.declared.reply.Reply.TheVariants.{CrossPfs, Exists, HashFull, IsDir, NotFile, ReadOnly}
 use Rattle.hm_model.proofs.ReadLemmas.{read_once}
 use Rattle.hm_records.specs.Payload.{KeyFits}
 use Rattle.hm_records.specs.View.{IsViewOf}
@@ -39,22 +37,40 @@ use Rattle.hm_calls.specs.Changes.{ChangesTree, tree_now}
 use Rattle.hm_calls.specs.Due.{space_for}
 use Rattle.hm_calls.specs.Known.{AreBelow}
 use Rattle.hm_calls.specs.Places.{refuse_kind}
+use Rattle.hm_calls.specs.Stages.{AnswersAll, last_checks, place_checks}
+use Rattle.hm_calls.specs.Stop.{Answers}
 use Rattle.hm_calls.specs.Writes.{IsOpen, PutsLink, place_in}
+use Rattle.hm_calls.specs.declared.stop.Stop.{Stop}
 use Rattle.hm_calls.proofs.EffectLemmas.{opens, spot_fits, tree_changes, tree_stays}
+use Rattle.hm_calls.proofs.FrontLemmas.{skips}
 use Rattle.hm_calls.proofs.KindLemmas.{number_found}
-use Rattle.hm_calls.proofs.MakeLemmas.{IsNewPlace, new_check, new_system, new_view, tree_at}
-use Rattle.hm_calls.proofs.RefusalLemmas.{IsFirst, all_checks, pass, read_two}
+use Rattle.hm_calls.proofs.MakeLemmas.{IsNewPlace, new_system, new_view, tree_at}
+use Rattle.hm_calls.proofs.RefusalLemmas.{read_two}
 use Rattle.hm_calls.proofs.RemoveLemmas.{IsMade, made_links, made_of, master_check}
 use Rattle.hm_calls.proofs.SceneLemmas.{IsEnd, IsSet, call_in}
+use Rattle.hm_calls.specs.Scenes.{is_slave}
+use Rattle.hm_calls.specs.Links.{link_checks, links_check}
 
 -- ---- the checks after the walks, by where these led
 
-abbrev ln_tail : (ℕ → ℕ) → ℕ → Call → Located → Located → List Check
-ln_tail room free call one two =
-    refuse_if (is_in_slave call one || (is_in_slave call two || false)) ReadOnly ∷ no_dir call (site_in one) ∷ a_file call (site_in one)
+-- those on both places alone
+abbrev ln_last : (ℕ → ℕ) → ℕ → Call → Located → Located → List Check
+ln_last room free call one two =
+    no_dir call (site_in one) ∷ a_file call (site_in one)
     ∷ (if (site_in one).at.pfs == (site_in two).at.pfs then None else Some CrossPfs) ∷ name_is_new call (site_in two) ∷ links_left call (site_in one)
     ∷ option_map_or (λ site. refuse_if (hash_is_full call site) HashFull) (new_name ((MakesName, []) ∷ []) (two ∷ [])) None ∷ None
     ∷ space_for names_zones 4 room free ∷ []
+
+same_head : (check : Check) (one two : List Check) → first_refusal one ≡ first_refusal two → first_refusal (check ∷ one) ≡ first_refusal (check ∷ two)
+same_head None one two same = same
+same_head (Some refusal) one two same = refl
+
+-- the hash of a name counts where the name is new
+hash_counts : (found : Option Obj) (links : Check) (full : Bool) (space : Check)
+    → first_refusal (option_map_or (λ _. Some Exists) found None ∷ links ∷ refuse_if full HashFull ∷ space ∷ [])
+    ≡ first_refusal (option_map_or (λ _. Some Exists) found None ∷ links ∷ refuse_if (option_map_or (λ _. false) found full) HashFull ∷ None ∷ space ∷ [])
+hash_counts None links full space = same_head links _ _ (same_head (refuse_if full HashFull) _ _ refl)
+hash_counts (Some number) links full space = refl
 
 -- where no inode was found there is no object
 pub unfound : (counts : Content) (pfs : ℕ) (o : Option Object) (found : Option Inode) → found ≡ None → IsFoundBy counts pfs o found → o ≡ None
@@ -65,26 +81,7 @@ unfound counts pfs (Some o) (Some inode) none by = absurd (cc)
 
 -- whether it is refused since it lies in a slave
 abbrev pub in_slave : Scene → ℕ → Bool
-in_slave scene pfs = option_map_or (λ s. if is_master s then false else true) (system_of scene.volume pfs) false
-
--- whether a name may be made in a directory that has names of its hash, unless it stands there
-abbrev pub hash_check : (List ℕ → ℕ) → Scene → Stand → List ℕ → Check
-hash_check hash scene directory name =
-    refuse_if (option_map_or (λ _. false) (named_in (tree_at scene directory) directory.at.object name)
-    (nat_le 1024 (names_of_hash hash (tree_at scene directory) directory.at.object name))) HashFull
-
--- whether an object may have one more link
-abbrev pub links_check : Scene → Stand → Check
-links_check scene object = refuse_if (option_map_or (λ (o : Object). nat_le (2 ^ 32 - 1) o.links) (object_at scene.view (place_of object.at)) false) TooBig
-
--- the same by the stands of the walks
-abbrev pub ln_stands : (List ℕ → ℕ) → (ℕ → ℕ) → ℕ → Scene → List ℕ → Stand → Stand → List Check
-ln_stands hash room free scene name object directory =
-    refuse_if (in_slave scene object.at.pfs.0 || (in_slave scene directory.at.pfs.0 || false)) ReadOnly
-    ∷ refuse_kind is_dir_or_link IsDir (object_at scene.view (place_of object.at)) ∷ refuse_kind is_softlink NotFile (object_at scene.view (place_of
-    object.at))
-    ∷ (if object.at.pfs.0 == directory.at.pfs.0 then None else Some CrossPfs) ∷ new_check scene directory name ∷ links_check scene object
-    ∷ hash_check hash scene directory name ∷ None ∷ space_for names_zones 4 room free ∷ []
+in_slave scene = is_slave scene.volume
 
 module _ (hash : List ℕ → ℕ) (room : ℕ → ℕ) (free : ℕ) (old new : List ℕ) (scene : Scene) (parts more : List Part) (name : List ℕ) (object directory : Stand)
     (end : IsEnd scene Stays (walk scene.volume scene.view Stays parts) object) (place : IsNewPlace scene more name directory) (busy : Option ℕ) where
@@ -107,17 +104,33 @@ module _ (hash : List ℕ → ℕ) (room : ℕ → ℕ) (free : ℕ) (old new : 
       ∙ ap (λ p. two_at (place_of directory.at) p place.site.name) (sym place.directory_is)
       ∙ ap (λ n. two_at (place_of directory.at) (place_of directory.at) n) place.name_is
 
-  -- what the checks after the walks say first, they say by where these came to
-  pub ln_after : (refusal : Check) → IsFirst (ln_stands hash room free scene name object directory) refusal
-      → IsFirst (walks (locate scene.volume scene.view (Walks Stays) parts) ∷ walks (locate scene.volume scene.view MakesName more)
-      ∷ drop 10 (all_checks ln room free)) refusal
-  ln_after refusal first =
-      pass (ap walks one_is) (pass (ap walks two_is) (whole first)) where
-        whole : IsFirst (ln_tail room free ln (one_at (place_of object.at)) (two_at (place_of directory.at) (place_of directory.at) name)) refusal
-            → IsFirst (drop 10 (all_checks ln room free)) refusal
-        whole first =
-            subst (λ (l : Located). IsFirst (ln_tail room free ln l (locate scene.volume scene.view MakesName more)) refusal) (sym one_is)
-            (subst (λ (l : Located). IsFirst (ln_tail room free ln (one_at (place_of object.at)) l) refusal) (sym two_is) first)
+  -- what is told of the places, by where the walks came to
+  pub ln_places : {T : Type 0} {result : Result T Stop}
+      → AnswersAll (refuse_if (is_slave scene.volume object.at.pfs.0 || (is_slave scene.volume directory.at.pfs.0 || false)) ReadOnly ∷ []) result
+      → AnswersAll (place_checks ln) result
+  ln_places {result = result} told =
+      skips (ap walks one_is) (skips (ap walks two_is)
+      (subst (λ (l : Located). AnswersAll (refuse_if (is_in_slave ln l || (is_in_slave ln (locate scene.volume scene.view MakesName more) || false)) ReadOnly
+      ∷ []) result) (sym one_is)
+      (subst (λ (l : Located). AnswersAll (refuse_if (is_in_slave ln (one_at (place_of object.at)) || (is_in_slave ln l || false)) ReadOnly ∷ []) result)
+      (sym two_is) told)))
+
+  -- and of the checks after that
+  pub ln_checks : {T : Type 0} {result : Result T Stop}
+      → AnswersAll (link_checks hash room free name (record { object = object; directory = directory }) scene) result
+      → AnswersAll (last_checks ln room free) result
+  ln_checks {result = result} told =
+      subst (λ (l : Located). AnswersAll (ln_last room free ln l (locate scene.volume scene.view MakesName more)) result) (sym one_is)
+      (subst (λ (l : Located). AnswersAll (ln_last room free ln (one_at (place_of object.at)) l) result) (sym two_is)
+      (record { is = subst (λ (check : Check). Answers check result) same told.is })) where
+        same : first_refusal (link_checks hash room free name (record { object = object; directory = directory }) scene)
+            ≡ first_refusal (ln_last room free ln (one_at (place_of object.at)) (two_at (place_of directory.at) (place_of directory.at) name))
+        same =
+            same_head (refuse_kind is_dir_or_link IsDir (object_at scene.view (place_of object.at))) _ _
+            (same_head (refuse_kind is_softlink NotFile (object_at scene.view (place_of object.at))) _ _
+            (same_head (if object.at.pfs.0 == directory.at.pfs.0 then None else Some CrossPfs) _ _
+            (hash_counts (named_in (tree_at scene directory) directory.at.object name) (links_check scene object)
+            (nat_le 1024 (names_of_hash hash (tree_at scene directory) directory.at.object name)) (space_for names_zones 4 room free))))
 
   -- ---- what it makes of the tree
 

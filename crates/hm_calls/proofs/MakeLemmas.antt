@@ -30,7 +30,7 @@ use Rattle.hm_records.specs.declared.inode.Inode.{Inode}
 use Rattle.hm_volume.specs.Shown.{ShowsAs}
 use Rattle.hm_objects.specs.Objects.{IsMissing}
 use Rattle.hm_dirs.specs.Names.{IsSpot, first_key, names_of_hash}
-use Rattle.hm_dirs.specs.Walk.{IsTold, Scene, place_of, when_of}
+use Rattle.hm_dirs.specs.Walk.{Scene, place_of, when_of}
 use Rattle.hm_dirs.specs.declared.position.Course.{Course}
 use Rattle.hm_dirs.specs.declared.position.Stand.{Stand}
 use Rattle.hm_dirs.specs.declared.spot.Spot.{Spot}
@@ -46,6 +46,7 @@ use Rattle.hm_calls.proofs.PlaceLemmas.{front_walks_now}
 use Rattle.hm_calls.proofs.RefusalLemmas.{AsRead, IsFirst, all_checks, pass, read_one, refuse_one}
 use Rattle.hm_calls.proofs.SceneLemmas.{IsPlace, IsSet, call_in}
 use Rattle.hm_calls.proofs.RemoveLemmas.{master_check}
+pub use Rattle.hm_calls.specs.Scenes.{IsNewPlace, full_check, new_check, tree_at}
 
 -- ---- the four commands alike
 
@@ -134,18 +135,6 @@ found_in view name (Reaches here passed) site is = by_object (object_at view her
   by_object None none is = absurd (cc)
   by_object (Some o) there is = by_test (is_directory o) o there is
 
--- the walk before a new name led to this directory, which is seen now
-pub record IsNewPlace (scene : Scene) (parts : List Part) (name : List ℕ) (directory : Stand) : Type 0 where
-  pub site : Site
-  pub place_is : locate scene.volume scene.view MakesName parts ≡ At site
-  pub at_is : place_of directory.at ≡ site.at
-  pub directory_is : place_of directory.at ≡ site.directory
-  pub name_is : site.name ≡ name
-  pub told : IsTold scene site.passed directory.passed
-  pub now : when_of directory.at.when ≡ Now
-  pub object : Object
-  pub there : object_at scene.view (place_of directory.at) ≡ Some object
-
 pub new_place : (scene : Scene) (parts : List Part) (name : List ℕ) (directory : Stand) → last_name parts ≡ Some name → has_id (Parts parts) ≡ false
     → IsPlace scene name (in_directory scene.view (Some name) (walk scene.volume scene.view Follows (front_of parts))) directory
     → IsNewPlace scene parts name directory
@@ -197,17 +186,7 @@ pub new_system : (scene : Scene) (parts : List Part) (name : List ℕ) (director
 new_system scene parts name directory is shows =
     system_there scene.elements scene.volume scene.view directory.at.pfs.0 (when_of directory.at.when) directory.at.object is.object shows is.there
 
--- the checks of a new name at a directory
-abbrev pub tree_at : Scene → Stand → FileTree
-tree_at scene directory = scene.view directory.at.pfs.0 (when_of directory.at.when)
-
-abbrev pub new_check : Scene → Stand → List ℕ → Check
-new_check scene directory name = option_map_or (λ _. Some Exists) (named_in (tree_at scene directory) directory.at.object name) None
-
-abbrev pub full_check : (List ℕ → ℕ) → Scene → Stand → List ℕ → Check
-full_check hash scene directory name =
-    refuse_if (nat_le 1024 (names_of_hash hash (tree_at scene directory) directory.at.object name)) HashFull
-
+-- the checks of a new name at a directory, and the others after the walk
 abbrev pub stand_tail : (List ℕ → ℕ) → (ℕ → ℕ) → ℕ → Scene → Stand → List ℕ → List Check
 stand_tail hash room free scene directory name =
     master_check scene directory.at.pfs.0 ∷ new_check scene directory name

@@ -8,12 +8,9 @@ use Rattle.hm_model.specs.Call.{Call}
 use Rattle.hm_model.specs.Due.{Check, checks, walks}
 use Rattle.hm_path.specs.declared.part.Part.{Part}
 use Rattle.hm_model.specs.Sites.{At, Located, Nowhere, Parsed, ReadsWords, Site, at_end, in_directory}
-use Rattle.hm_model.specs.View.{Position, View}
-use Rattle.hm_model.specs.Volume.{Volume}
 use Rattle.hm_model.specs.Walk.{Follow as Mode, Follows, Passed, Reaches, Refuses, Stays, Walked as Outcome, walk}
 use Rattle.hm_model.specs.declared.command.Command.{Command}
 use Rattle.hm_records.specs.KeysFit.{KeysFit}
-use Rattle.hm_volume.specs.Shown.{ShowsAs}
 use Rattle.hm_dirs.specs.Names.{OnNamed}
 use Rattle.hm_dirs.specs.Walk.{AreDrawn, EndsAt, OnShown, Scene}
 use Rattle.hm_dirs.specs.declared.position.Course.{Course}
@@ -23,6 +20,7 @@ use Rattle.hm_calls.specs.Places.{IsNamed, IsPlaced, IsReached, IsSiteOf}
 use Rattle.hm_calls.specs.Stop.{Answers, Decides, OfRefusal}
 use Rattle.hm_calls.specs.declared.stop.Stop.{Stop}
 use Rattle.hm_calls.specs.declared.stop.Stop.TheVariants.{Failed, Refused}
+pub use Rattle.hm_calls.specs.Scenes.{IsEnd, IsSet, OnScenes, call_in, scene_in}
 
 -- ---- what steps tell of checks
 
@@ -44,12 +42,6 @@ pub unreached : (scene : Scene) (mode : Mode) (walked : Outcome) (stopped : Stop
 unreached scene mode (Reaches here passed) (Refused reply) told = absurd told
 unreached scene mode (Refuses refusal passed) (Refused reply) told = ap Some (sym told)
 unreached scene mode walked (Failed fault) told = tt
-
-pub record IsEnd (scene : Scene) (mode : Mode) (walked : Outcome) (stand : Stand) : Type 0 where
-  pub here : Position
-  pub passed : Passed
-  pub walked_is : walked ≡ Reaches here passed
-  pub ends : EndsAt scene mode here passed stand
 
 pub reached : (scene : Scene) (mode : Mode) (walked : Outcome) (stand : Stand) → IsReached scene mode walked (Ok stand) → IsEnd scene mode walked stand
 reached scene mode (Reaches here passed) stand told = record { here = here; passed = passed; walked_is = refl; ends = told }
@@ -93,22 +85,6 @@ named scene name (At site) pair told =
 named scene name (Nowhere refusal passed) pair told = absurd told
 
 -- ---- the scenes of calls
-
--- the elements show their volume, whose last id is that of the course, and keys fit their names
-pub record IsSet (hash : List ℕ → ℕ) (course : Course) (scene : Scene) : Type 0 where
-  pub course_is : scene.course ≡ course
-  pub last : scene.volume.last ≡ course.last.0
-  pub shows : ShowsAs scene.elements scene.volume scene.view
-  pub keys : KeysFit hash scene.elements
-
-abbrev pub scene_in : List FullElement → Volume → View → Course → Scene
-scene_in list volume view course = record { elements = list; volume = volume; view = view; course = course }
-
--- a fact of each scene over what a store tells
-abbrev pub OnScenes : (List ℕ → ℕ) → Option (List Element) → Option (List Extent) → Course → (Scene → Type 0) → Type 0
-OnScenes hash es xs course P =
-    OnBalanced es xs (λ lists. (volume : Volume) (view : View) → IsSet hash course (scene_in (fulls lists) volume view course)
-    → P (scene_in (fulls lists) volume view course))
 
 module _ (hash : List ℕ → ℕ) (course : Course) where
   pub scenes_so : (es : Option (List Element)) (xs : Option (List Extent)) (P Q : Scene → Type 0)
@@ -217,10 +193,6 @@ module _ (hash : List ℕ → ℕ) (course : Course) (es : Option (List Element)
       (λ scene told. placed scene name (in_directory scene.view (Some name) (walk scene.volume scene.view Follows parts)) stand (told name))
 
 -- ---- calls over a scene
-
-abbrev pub call_in : (List ℕ → ℕ) → Command → List Parsed → Option ℕ → Scene → Call
-call_in hash command paths busy scene =
-    record { volume = scene.volume; view = scene.view; busy = busy; hash = hash; command = command; paths = paths }
 
 -- a call is that over its own scene
 pub call_so : {hash : List ℕ → ℕ} {id : ℕ} {list : List FullElement} {call : Call} (command : Command) (course : Course) (P : Call → Type 0)

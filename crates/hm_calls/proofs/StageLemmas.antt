@@ -1,6 +1,6 @@
 -- From what the steps of a call that takes a name away tell, to its checks and its answer.
 use Rattle.std.proofs.Common.{◌≡◌, ℕ, ◌+◌, List, [], ◌∷◌, Bool, true, false, Option, Result, Some, None, Ok, Err, refl, sym, ap, subst, ◌∙◌}
-use Rattle.std.specs.Prelude.{◌&&◌, ◌||◌, IfSome, IsSomeAnd, if◌then◌else◌}
+use Rattle.std.specs.Prelude.{◌&&◌, ◌||◌, IfSome, IsSomeAnd}
 use Rattle.std.specs.List.{list_any}
 use Rattle.std.specs.Option.{option_map_or}
 use Rattle.hm_types.specs.Elements.{FullElement, Key}
@@ -14,11 +14,10 @@ use Rattle.hm_key.specs.Versions.{HaveOwnKeys}
 use Rattle.hm_key.specs.declared.element.Element.{Element}
 use Rattle.hm_cursor.specs.Told.{Lists, OnBalanced, fulls}
 use Rattle.hm_cursor.proofs.PayloadLemmas.{full_sorted}
-use Rattle.hm_model.specs.Answer.{is_master}
-use Rattle.hm_model.specs.Due.{Check, good_path, has_id, is_pfs_call, is_tree_call, no_future, past_stays, refuse_if, walks}
+use Rattle.hm_model.specs.Due.{good_path, has_id, is_pfs_call, is_tree_call, no_future, past_stays, refuse_if, walks}
 use Rattle.hm_model.specs.Sites.{At, Located, MakesName, Parsed, Parts, ReadsWords, Site, TakesName, front_of, last_name, locate, standing_name}
 use Rattle.hm_model.specs.View.{View}
-use Rattle.hm_model.specs.Volume.{Volume, system_of}
+use Rattle.hm_model.specs.Volume.{Volume}
 use Rattle.hm_model.specs.Walk.{Follows, Stays, walk}
 use Rattle.hm_model.specs.declared.command.Command.{Command}
 use Rattle.hm_model.specs.declared.reply.Reply.{Reply}
@@ -40,6 +39,7 @@ use Rattle.hm_calls.proofs.NowLemmas.{IsStanding, part_has_id, stands}
 use Rattle.hm_calls.proofs.RefusalLemmas.{IsRefused, PassEarly, refuse_one}
 use Rattle.hm_calls.proofs.SceneLemmas.{IsSet, IsStoppedBy, OnScenes, answered, call_in, call_set, call_so, named, scene_in, scenes_back}
 use Rattle.hm_calls.proofs.SceneLemmas.{scenes_shown, scenes_so, unnamed}
+pub use Rattle.hm_calls.specs.Scenes.{slave_check}
 
 -- ---- answers
 
@@ -176,10 +176,6 @@ module _ (hash : List ℕ → ℕ) (course : Course) where
   scenes_below (Some es) (Some xs) pfs id below = λ balanced volume view set. below
 
 -- ---- a master
-
--- the check that refuses a slave
-abbrev pub slave_check : Volume → ℕ → Check
-slave_check volume pfs = refuse_if (option_map_or (λ s. if is_master s then false else true) (system_of volume pfs) false) ReadOnly
 
 module _ (hash : List ℕ → ℕ) (course : Course) (es es' : Option (List Element)) (xs xs' : Option (List Extent)) (same : es' ≡ es) (same' : xs' ≡ xs) (pfs :
     ℕ) where

@@ -10,6 +10,9 @@ pub mod Changes
 pub mod Replies
 pub mod Commands
 pub mod Space
+pub mod Scenes
+pub mod Stages
+pub mod Links
 pub mod Bytes
 pub mod Edits
 pub mod Moves

@@ -20,6 +20,7 @@ mod put;
 mod remove;
 mod rename;
 mod room;
+mod stages;
 mod stop;
 mod systems;
 mod take;
