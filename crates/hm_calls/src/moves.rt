@@ -24,14 +24,15 @@ ghost use Rattle.hm_calls.specs.Space.{TakesAtMost};
 ghost use Rattle.hm_calls.specs.Stop.{Answers, HasStopCause, IfRefused};
 ghost use Rattle.hm_calls.specs.Writes.{AreOlderAround, IsMoving, place_of_name, reserves};
 
-use crate::checks::{check_master, check_one_pfs, find_entry, spot_in};
+use crate::checks::{check_one_pfs, find_entry, spot_in};
 use crate::course::{NAMES_HELD, course_before, read_last};
 use crate::kinds::{check_way, moved_of};
 use crate::places::{reach_directory, reach_name};
 use crate::rename::{Moved, Named, Replaced, rename, replace};
 use crate::room::admit_names;
+use crate::stages::{check_masters, check_words};
 use crate::stop::Stop;
-use crate::words::{check_future, check_present, named_end, read_path};
+use crate::words::{named_end, read_path};
 use hm_cursor::find_inode;
 use hm_dirs::{NameHash, Stand};
 use hm_key::{ElementStore, Extents, HasElements, HasRoom};
@@ -68,16 +69,11 @@ pub(crate) fn move_to<T: ElementStore + Extents, H: NameHash>(
     let (_, old_name) = named_end(parts)?;
     let new = read_path(alloc, new)?;
     let more = new.parts();
-    let (front, new_name) = named_end(more)?;
-    check_future(parts, course.last)?;
-    check_future(more, course.last)?;
-    check_present(parts)?;
-    check_present(more)?;
+    let end = check_words(parts, more, course.last)?;
     let (from, object) = reach_name(alloc, store, hash, parts, course)?;
     let watching = course_before(id, Some((object.at.pfs, object.at.object)));
-    let to = reach_directory(alloc, store, hash, front, watching)?;
-    check_master(alloc, store, from.at.pfs)?;
-    check_master(alloc, store, to.at.pfs)?;
+    let to = reach_directory(alloc, store, hash, end.front, watching)?;
+    check_masters(alloc, store, from.at.pfs, to.at.pfs)?;
     let to = read_last(to, watching);
     check_one_pfs(&from, &to)?;
     if to.passed {
@@ -86,8 +82,8 @@ pub(crate) fn move_to<T: ElementStore + Extents, H: NameHash>(
     let Some(moved) = moved_of(&object) else {
         return Err(Stop::Refused(Reply::NotFound));
     };
-    let (old, new) = (named(&from, old_name), named(&to, new_name));
-    let Some((key, there)) = find_entry(store, hash, &to, new_name.bytes())? else {
+    let (old, new) = (named(&from, old_name), named(&to, end.name));
+    let Some((key, there)) = find_entry(store, hash, &to, end.name.bytes())? else {
         move_beside(alloc, store, hash, old, new, moved, id)?;
         return Ok(Reply::Done);
     };
