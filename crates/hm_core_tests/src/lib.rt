@@ -13,6 +13,12 @@ mod flush_tests;
 #[cfg(test)]
 mod many_tests;
 #[cfg(test)]
+mod memory_tests;
+#[cfg(test)]
+mod search;
+#[cfg(test)]
+mod shown;
+#[cfg(test)]
 mod sync_tests;
 #[cfg(test)]
 mod test_disk;

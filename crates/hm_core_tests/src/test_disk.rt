@@ -5,8 +5,10 @@ ghost use Rattle.hm_disk.specs.declared.limits.TheConstants.{MOST_CALL_BYTES};
 
 use hm_disk::Disk;
 use hm_disk_forms::{Crash, MemDisk};
-use hm_types::{Failed, NoMemory};
+use hm_types::{Failed, NoMemory, PAGE_BYTES};
 use std::alloc::Global;
+use std::collections::HashMap;
+use std::hash::{FoldHasher, Hasher};
 
 // It tells nothing. Of a write that fails half is put.
 #[derive(Drop)]
@@ -17,6 +19,9 @@ pub struct TestDisk {
     faults: u64,
     // After how many changes each sync was made.
     synced: Vec<usize>,
+    // The sum of the marks of its pages as it was made, and the mark that each page had then which was written since.
+    sum: u64,
+    marks: HashMap<u64, u64>,
 }
 
 impl TestDisk {
@@ -28,6 +33,8 @@ impl TestDisk {
             calls: 0,
             faults: 0,
             synced: Vec::new(alloc),
+            sum: 0,
+            marks: HashMap::new(alloc),
         }
     }
 
@@ -39,6 +46,8 @@ impl TestDisk {
             calls: _,
             faults: _,
             synced,
+            sum,
+            marks,
         } = self;
         TestDisk {
             disk,
@@ -46,6 +55,8 @@ impl TestDisk {
             calls: 0,
             faults: 0,
             synced,
+            sum,
+            marks,
         }
     }
 
@@ -75,7 +86,13 @@ impl TestDisk {
         if self.disk.changes() < count {
             return Err(NoMemory);
         }
-        let disk = self.disk.crashed(count, crash)?;
+        let mut disk = self.disk.crashed(count, crash)?;
+        let mut sum = self.sum;
+        for (page, before) in &self.marks {
+            sum = sum
+                .wrapping_add(mark_of(&mut disk, *page))
+                .wrapping_sub(*before);
+        }
         let mut synced = Vec::new(alloc);
         synced.push(disk.changes())?;
         Ok(TestDisk {
@@ -84,7 +101,15 @@ impl TestDisk {
             calls: 0,
             faults: 0,
             synced,
+            sum,
+            marks: HashMap::new(alloc),
         })
+    }
+
+    // A number of 64 bits for its bytes as it was made. That two of a million disks have it in common and other bytes
+    // has a chance below one to ten million.
+    pub fn sum(&self) -> u64 {
+        self.sum
     }
 
     // A disk that reads as this one. All of it is settled.
@@ -117,6 +142,37 @@ impl TestDisk {
             Err(Failed) => self.fail(),
         }
     }
+}
+
+// The size of a page, in bytes, as a distance on the disk.
+const PAGE: u64 = PAGE_BYTES as u64;
+
+// A number for the bytes of a page.
+fn mark_of(disk: &mut MemDisk, page: u64) -> u64 {
+    let mut bytes = [0; PAGE_BYTES];
+    if read_inside(disk, page.saturating_mul(PAGE), &mut bytes).is_err() {
+        return 0;
+    }
+    let mut hasher = FoldHasher::default();
+    hasher.write_u64(page);
+    hasher.write(&bytes);
+    hasher.finish()
+}
+
+// Keeps the marks of the pages that such a write may change, unless they are there.
+fn keep_marks(
+    disk: &mut MemDisk,
+    marks: &mut HashMap<u64, u64>,
+    place: u64,
+    count: usize,
+) -> Result<(), NoMemory> {
+    let end = place.saturating_add(count as u64);
+    for page in place / PAGE..end.div_ceil(PAGE) {
+        if !marks.contains_key(&page) {
+            marks.insert(page, mark_of(disk, page))?;
+        }
+    }
+    Ok(())
 }
 
 // Reads where the range lies inside the disk.
@@ -192,6 +248,9 @@ impl Disk for TestDisk {
     }
 
     fn write_at(&mut self, place: u64, bytes: &[u8]) -> Result<(), Failed> {
+        if keep_marks(&mut self.disk, &mut self.marks, place, bytes.len()).is_err() {
+            return self.fail();
+        }
         if self.begin() {
             let _ = write_inside(&mut self.disk, place, &bytes[..bytes.len() / 2]);
             return self.fail();

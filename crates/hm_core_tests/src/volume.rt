@@ -244,23 +244,3 @@ pub fn have_same(
     }
     Ok(true)
 }
-
-// Whether two volumes answer a call the same, without a flush.
-pub fn tell_same(
-    alloc: Global,
-    one: &mut Volume,
-    other: &mut Volume,
-    ask: Ask,
-) -> Result<bool, NoMemory> {
-    one.reserve(2)?;
-    other.reserve(2)?;
-    let since = one.last();
-    let Step::Answered(first) = one.call(3, 7, since, ask.command(alloc)?) else {
-        return Ok(false);
-    };
-    let since = other.last();
-    let Step::Answered(second) = other.call(3, 7, since, ask.command(alloc)?) else {
-        return Ok(false);
-    };
-    Ok(one.entry(first).reply == other.entry(second).reply)
-}
