@@ -236,8 +236,7 @@ fn mount_between(
             committed: count < disk.changes(),
             frozen: disk.changes() < count.saturating_add(2),
         };
-        search.find(alloc, &disk, count, due)?;
-        search.mount_all(rt, alloc)?;
+        search.mount_at(rt, alloc, &disk, count, due)?;
     }
     Ok(search.recovered)
 }

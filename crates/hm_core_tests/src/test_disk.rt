@@ -9,54 +9,64 @@ use hm_types::{Failed, NoMemory, PAGE_BYTES};
 use std::alloc::Global;
 use std::collections::HashMap;
 use std::hash::{FoldHasher, Hasher};
+use std::mem;
 
 // It tells nothing. Of a write that fails half is put.
 #[derive(Drop)]
 pub struct TestDisk {
+    alloc: Global,
     disk: MemDisk,
     fails: Vec<u64>,
     calls: u64,
     faults: u64,
     // After how many changes each sync was made.
     synced: Vec<usize>,
-    // The sum of the marks of its pages as it was made, and the mark that each page had then which was written since.
+    // A number for its bytes as it was made, and the pages as they were then that were written since.
     sum: u64,
-    marks: HashMap<u64, u64>,
+    olds: HashMap<u64, Box<[u8; PAGE_BYTES]>>,
+    // A patch has all these pages, and no others: it goes on as they do.
+    patch: Option<MemDisk>,
 }
 
 impl TestDisk {
     // A disk of 24 big-blocks of zeros. The calls of these numbers, from 1 on, fail.
     pub fn new(alloc: Global, fails: Vec<u64>) -> TestDisk {
         TestDisk {
+            alloc,
             disk: MemDisk::new(alloc, 24, Vec::new(alloc)),
             fails,
             calls: 0,
             faults: 0,
             synced: Vec::new(alloc),
             sum: 0,
-            marks: HashMap::new(alloc),
+            olds: HashMap::new(alloc),
+            patch: None,
         }
     }
 
     // The same disk, whose calls are counted anew.
     pub fn failing(self, fails: Vec<u64>) -> TestDisk {
         let TestDisk {
+            alloc,
             disk,
             fails: _,
             calls: _,
             faults: _,
             synced,
             sum,
-            marks,
+            olds,
+            patch,
         } = self;
         TestDisk {
+            alloc,
             disk,
             fails,
             calls: 0,
             faults: 0,
             synced,
             sum,
-            marks,
+            olds,
+            patch,
         }
     }
 
@@ -87,22 +97,19 @@ impl TestDisk {
             return Err(NoMemory);
         }
         let mut disk = self.disk.crashed(count, crash)?;
-        let mut sum = self.sum;
-        for (page, before) in &self.marks {
-            sum = sum
-                .wrapping_add(mark_of(&mut disk, *page))
-                .wrapping_sub(*before);
-        }
+        let sum = self.sum_with(&mut disk);
         let mut synced = Vec::new(alloc);
         synced.push(disk.changes())?;
         Ok(TestDisk {
+            alloc,
             disk,
             fails: Vec::new(alloc),
             calls: 0,
             faults: 0,
             synced,
             sum,
-            marks: HashMap::new(alloc),
+            olds: HashMap::new(alloc),
+            patch: None,
         })
     }
 
@@ -110,6 +117,52 @@ impl TestDisk {
     // has a chance below one to ten million.
     pub fn sum(&self) -> u64 {
         self.sum
+    }
+
+    // The same number for a disk with those pages of another one, or of a patch, that were written to this one.
+    pub fn sum_with(&self, other: &mut MemDisk) -> u64 {
+        let mut sum = self.sum;
+        for (page, old) in &self.olds {
+            let new = page_of(other, *page);
+            sum = sum
+                .wrapping_add(mark_of(*page, &new))
+                .wrapping_sub(mark_of(*page, old));
+        }
+        sum
+    }
+
+    // How many pages were written.
+    pub fn pages(&self) -> usize {
+        self.olds.len()
+    }
+
+    // A patch with the pages that were written, as they were before.
+    pub fn before(&self, alloc: Global) -> Result<MemDisk, NoMemory> {
+        let mut patch = MemDisk::new(alloc, 24, Vec::new(alloc));
+        for (page, old) in &self.olds {
+            put_page(&mut patch, *page, old)?;
+        }
+        Ok(patch)
+    }
+
+    // Makes those pages the ones of a patch, which follows what is written from now on. All is settled.
+    pub fn set_to(&mut self, patch: MemDisk) -> Result<(), NoMemory> {
+        let mut patch = patch;
+        for (page, _) in &self.olds {
+            let bytes = page_of(&mut patch, *page);
+            put_page(&mut self.disk, *page, &bytes)?;
+        }
+        if self.disk.sync().is_err() || patch.sync().is_err() {
+            return Err(NoMemory);
+        }
+        self.synced.push(self.disk.changes())?;
+        self.patch = Some(patch);
+        Ok(())
+    }
+
+    // The patch that followed.
+    pub fn take_patch(&mut self) -> Option<MemDisk> {
+        mem::replace(&mut self.patch, None)
     }
 
     // A disk that reads as this one. All of it is settled.
@@ -148,28 +201,40 @@ impl TestDisk {
 const PAGE: u64 = PAGE_BYTES as u64;
 
 // A number for the bytes of a page.
-fn mark_of(disk: &mut MemDisk, page: u64) -> u64 {
-    let mut bytes = [0; PAGE_BYTES];
-    if read_inside(disk, page.saturating_mul(PAGE), &mut bytes).is_err() {
-        return 0;
-    }
+fn mark_of(page: u64, bytes: &[u8; PAGE_BYTES]) -> u64 {
     let mut hasher = FoldHasher::default();
     hasher.write_u64(page);
-    hasher.write(&bytes);
+    hasher.write(bytes);
     hasher.finish()
 }
 
-// Keeps the marks of the pages that such a write may change, unless they are there.
-fn keep_marks(
+// A page of a disk, or zeros where it has none.
+fn page_of(disk: &mut MemDisk, page: u64) -> [u8; PAGE_BYTES] {
+    let mut bytes = [0; PAGE_BYTES];
+    let _ = read_inside(disk, page.saturating_mul(PAGE), &mut bytes);
+    bytes
+}
+
+fn put_page(disk: &mut MemDisk, page: u64, bytes: &[u8; PAGE_BYTES]) -> Result<(), NoMemory> {
+    match write_inside(disk, page.saturating_mul(PAGE), bytes) {
+        Ok(()) => Ok(()),
+        Err(Failed) => Err(NoMemory),
+    }
+}
+
+// Keeps the pages that such a write may change, unless they are there.
+fn keep_olds(
+    alloc: Global,
     disk: &mut MemDisk,
-    marks: &mut HashMap<u64, u64>,
+    olds: &mut HashMap<u64, Box<[u8; PAGE_BYTES]>>,
     place: u64,
     count: usize,
 ) -> Result<(), NoMemory> {
     let end = place.saturating_add(count as u64);
     for page in place / PAGE..end.div_ceil(PAGE) {
-        if !marks.contains_key(&page) {
-            marks.insert(page, mark_of(disk, page))?;
+        if !olds.contains_key(&page) {
+            let old = Box::new(alloc, page_of(disk, page))?;
+            olds.insert(page, old)?;
         }
     }
     Ok(())
@@ -196,6 +261,22 @@ fn write_inside(disk: &mut MemDisk, place: u64, bytes: &[u8]) -> Result<(), Fail
         disk.write_at(place, bytes)
     } else {
         Err(Failed)
+    }
+}
+
+fn follow_write(patch: &mut Option<MemDisk>, place: u64, bytes: &[u8]) -> Result<(), Failed>
+    requires { length bytes.now ≤ MOST_CALL_BYTES }
+{
+    match patch {
+        Some(patch) => write_inside(patch, place, bytes),
+        None => Ok(()),
+    }
+}
+
+fn follow_sync(patch: &mut Option<MemDisk>) -> Result<(), Failed> {
+    match patch {
+        Some(patch) => patch.sync(),
+        None => Ok(()),
     }
 }
 
@@ -248,11 +329,22 @@ impl Disk for TestDisk {
     }
 
     fn write_at(&mut self, place: u64, bytes: &[u8]) -> Result<(), Failed> {
-        if keep_marks(&mut self.disk, &mut self.marks, place, bytes.len()).is_err() {
+        if keep_olds(
+            self.alloc,
+            &mut self.disk,
+            &mut self.olds,
+            place,
+            bytes.len(),
+        )
+        .is_err()
+        {
             return self.fail();
         }
         if self.begin() {
             let _ = write_inside(&mut self.disk, place, &bytes[..bytes.len() / 2]);
+            return self.fail();
+        }
+        if follow_write(&mut self.patch, place, bytes).is_err() {
             return self.fail();
         }
         let answer = write_inside(&mut self.disk, place, bytes);
@@ -261,6 +353,9 @@ impl Disk for TestDisk {
 
     fn sync(&mut self) -> Result<(), Failed> {
         if self.begin() {
+            return self.fail();
+        }
+        if follow_sync(&mut self.patch).is_err() {
             return self.fail();
         }
         let answer = self.disk.sync();
