@@ -51,7 +51,8 @@ module _ (old mid new : PageMap) (at to : ℕ) (page : List ℕ) (there : IsSome
   moved_there = lost_other at mid new lost to moved_apart ∙ put_at to page old mid come.put
 
   moved_other : (x : ℕ) → IsSome (old x) → x ≢ at → new x ≡ old x
-  moved_other x some other = lost_other at mid new lost x other ∙ put_other to page old mid come.put x (λ same. not_there (old to) come.free (subst (λ (a : ℕ). IsSome (old a)) same some))
+  moved_other x some other = lost_other at mid new lost x other ∙ put_other to page old mid come.put x
+      (λ same. not_there (old to) come.free (subst (λ (a : ℕ). IsSome (old a)) same some))
 
   -- all below it stays
   moved_below : (height : ℕ) (s : Subtree) (node : Node) → IsTree old height s node → node_at old at ≡ node → IsSameBelow old new height node
@@ -82,13 +83,16 @@ module _ (key : Key) (level : ℕ) (next : Base) (height : ℕ) (old mid new : P
       let same : IsSameBelow old new height was = moved_below old mid new c.child to page stored.there come lost height place was stored.tree refl in
       let there : new to ≡ Some page = moved_there old mid new c.child to page stored.there come lost in
       let here : node_at new to ≡ was = ap (λ (o : Option (List ℕ)). node_in (page_in o)) there ∙ spells.value in
-      let elements : elements_in new height (node_at new to) ≡ elements_in old height was = ap (elements_in new height) here ∙ frame_elements old new height was same in
-      let reached : (x : ℕ) → reaches new height (node_at new to) x ≡ olds x = λ x. ap (λ (n : Node). reaches new height n x) here ∙ frame_reaches old new x height was same in
+      let elements : elements_in new height (node_at new to) ≡ elements_in old height was = ap
+          (elements_in new height) here ∙ frame_elements old new height was same in
+      let reached : (x : ℕ) → reaches new height (node_at new to) x ≡ olds x = λ x. ap
+          (λ (n : Node). reaches new height n x) here ∙ frame_reaches old new x height was same in
       record {
         stored = (
           record {
             there = rw there refl;
-            spelled = subst (λ (o : Option (List ℕ)). Spells (page_in o) (node_in (page_in o))) (sym there) (subst (λ (n : Node). Spells page n) (sym spells.value) spells);
+            spelled = subst (λ (o : Option (List ℕ)). Spells (page_in o) (node_in (page_in o))) (sym there)
+                (subst (λ (n : Node). Spells page n) (sym spells.value) spells);
             tree = subst (λ (n : Node). IsTree new height (child_place level next (with_child to c)) n) (sym here)
                 (frame_tree old new height (child_place level next (with_child to c)) was same (tree_elsewhere old height to place was stored.tree));
           },
@@ -96,7 +100,8 @@ module _ (key : Key) (level : ℕ) (next : Base) (height : ℕ) (old mid new : P
         );
         elements = append-nil (elements_in new height (node_at new to)) ∙ elements ∙ sym (append-nil (elements_in old height was));
         mark = λ k. ap (λ (n : Node). mark_in new height n k) here ∙ frame_mark old new k height was same;
-        pages = replaces_same old new (λ x. nat_eq c.child x || olds x) (λ x. nat_eq to x || olds x) (has_under old height (c ∷ [])) (has_under new height (with_child to c ∷ []))
+        pages = replaces_same old new (λ x. nat_eq c.child x || olds x) (λ x. nat_eq to x || olds x) (has_under old height (c ∷ []))
+            (has_under new height (with_child to c ∷ []))
             (λ x. or_nil (nat_eq c.child x || olds x))
             (λ x. or_nil (nat_eq to x || reaches new height (node_at new to) x) ∙ ap (λ (b : Bool). nat_eq to x || b) (reached x))
             (replaces_lost c.child olds (λ x. nat_eq to x || olds x) old mid new lost
@@ -109,7 +114,8 @@ module _ (key : Key) (level : ℕ) (next : Base) (height : ℕ) (old mid new : P
 -- the node above it
 module _ (key : Key) (place : Subtree) (height level mirror : ℕ) (right : Base) (old : PageMap) (pre : List Child) (c : Child) (post : List Child) where
   parent_moved : (mid new : PageMap) (to : ℕ) → IsTree old (suc height) place (inner_node (inner_of level mirror (pre ++ c ∷ post) right))
-      → length pre ≡ holder_place key (pre ++ c ∷ post) → IsInside place.left place.right key → IsSpot to → HasAdded to (node_at old c.child) old mid → HasLost c.child mid new
+      → length pre ≡ holder_place key (pre ++ c ∷ post) → IsInside place.left place.right key → IsSpot to → HasAdded to (node_at old c.child) old mid
+          → HasLost c.child mid new
       → Changed (λ es. es) key Leaves place (suc height) old new (inner_node (inner_of level mirror (pre ++ c ∷ post) right))
       (inner_node (inner_of level mirror (pre ++ with_child to c ∷ post) right))
   parent_moved mid new to tree held inside spot added lost =
@@ -121,7 +127,8 @@ module _ (key : Key) (place : Subtree) (height level mirror : ℕ) (right : Base
       (child_tree key place height level mirror right old pre c post tree held inside) added lost in
       let all = changed_within (λ es. es) key Leaves level right height old new (stays_local key) c (with_child to c) [] [] post pre
       children tree.sound.order tree.below holds.from holds.before segment in
-      let long : length (pre ++ with_child to c ∷ post) ≡ length (pre ++ c ∷ post) = length-append pre (with_child to c ∷ post) ∙ sym (length-append pre (c ∷ post)) in
+      let long : length (pre ++ with_child to c ∷ post) ≡ length (pre ++ c ∷ post) = length-append pre (with_child to c ∷ post) ∙ sym
+          (length-append pre (c ∷ post)) in
       changed_above (λ es. es) key Leaves place height old new level mirror mirror right (pre ++ c ∷ post) (pre ++ with_child to c ∷ post) tree all
       mirrors (omega (arith, long, tree.sound.count.0)) (omega (arith, long, tree.sound.count.1)) (counts place.parent long tree.fits.count) where
         mirrors : All (λ d. d.mirror ≤ mirror) (pre ++ with_child to c ∷ post)
@@ -131,7 +138,8 @@ module _ (key : Key) (place : Subtree) (height level mirror : ℕ) (right : Base
             (each_append (λ d. d.mirror ≤ mirror) pre (with_child to c ∷ post) (each_front (λ d. d.mirror ≤ mirror) pre (c ∷ post) each)
             (each_back (λ d. d.mirror ≤ mirror) pre (c ∷ post) each))
 
-        counts : (p : Option Parent) → length (pre ++ with_child to c ∷ post) ≡ length (pre ++ c ∷ post) → FitsCount p (inner_node (inner_of level mirror (pre ++ c ∷ post) right))
+        counts : (p : Option Parent) → length (pre ++ with_child to c ∷ post) ≡ length (pre ++ c ∷ post)
+            → FitsCount p (inner_node (inner_of level mirror (pre ++ c ∷ post) right))
             → FitsCount p (inner_node (inner_of level mirror (pre ++ with_child to c ∷ post) right))
         counts None long count = tt
         counts (Some q) long count = omega (arith, long, count)
@@ -141,7 +149,8 @@ module _ (key : Key) (inner inner' : Inner) (i : ℕ) (s : Subtree) (child : Nod
   moved_in : (old mid new : PageMap) (height : ℕ) (place : Subtree) → IsTree old height place (inner_node inner)
       → IsInside place.left place.right key → (HasInnerOrder inner → i ≡ holder_place key inner.places.items)
       → IsChildAt inner.level inner.right inner.places.items i s → SpellsAt old s child → HasAdded to child old mid → HasLost s.at mid new
-      → inner'.level ≡ inner.level → inner'.mirror ≡ inner.mirror → ChildChange (with_child to) inner.places.items i inner'.places.items → inner'.right ≡ inner.right
+      → inner'.level ≡ inner.level → inner'.mirror ≡ inner.mirror → ChildChange (with_child to) inner.places.items i inner'.places.items
+          → inner'.right ≡ inner.right
       → Changed (λ es. es) key Leaves place height old new (inner_node inner) (inner_node inner')
   moved_in old mid new zero place tree inside at there here added lost level mirror items right = absurd (omega (arith, tree.level, tree.sound.level.0))
   moved_in old mid new (suc lower) place tree inside at there here added lost level mirror items right =
@@ -167,9 +176,11 @@ module _ (key : Key) (inner inner' : Inner) (i : ℕ) (s : Subtree) (child : Nod
       (inner_node (inner_of inner.level inner.mirror (pre ++ with_child to c ∷ post) inner.right))) (sym split.0) whole)
 
   pub moved_works : (node : Node) (p0 p1 p2 p3 : Option PageMap) → node ≡ inner_node inner
-      → (HasInnerOrder inner → i ≡ holder_place key inner.places.items) → slice_get (children_of inner) i ≡ Some s → p1 ≡ p0 → IfSome p0 (λ map. SpellsAt map s child)
+      → (HasInnerOrder inner → i ≡ holder_place key inner.places.items) → slice_get (children_of inner) i ≡ Some s → p1 ≡ p0
+          → IfSome p0 (λ map. SpellsAt map s child)
       → BothTell p1 p2 (HasAdded to child) → BothTell p2 p3 (HasLost s.at)
-      → inner'.level ≡ inner.level → inner'.mirror ≡ inner.mirror → ChildChange (with_child to) inner.places.items i inner'.places.items → inner'.right ≡ inner.right
+      → inner'.level ≡ inner.level → inner'.mirror ≡ inner.mirror → ChildChange (with_child to) inner.places.items i inner'.places.items
+          → inner'.right ≡ inner.right
       → Works (λ es. es) key Leaves (λ _. Unit {0}) p0 p3 node (inner_node inner')
   moved_works node p0 p1 p2 p3 is at there same here added lost level mirror items right =
       by_told p0 p2 p3 here (subst (λ (p : Option PageMap). BothTell p p2 (HasAdded to child)) same added) lost where
@@ -185,7 +196,8 @@ module _ (key : Key) (inner inner' : Inner) (i : ℕ) (s : Subtree) (child : Nod
 
 -- the root stands elsewhere
 module _ (key : Key) (root to : ℕ) (old mid new : PageMap) where
-  pub root_moved : IsTreeSpace old root → IsSpot to → HasAdded to (node_at old root) old mid → HasLost root mid new → TreeChanged (λ es. es) key Leaves old new root to
+  pub root_moved : IsTreeSpace old root → IsSpot to → HasAdded to (node_at old root) old mid → HasLost root mid new
+      → TreeChanged (λ es. es) key Leaves old new root to
   root_moved tree spot (page, spells, come) lost =
       let was : Node = node_at old root in
       let h : ℕ = height_of was in
@@ -201,8 +213,10 @@ module _ (key : Key) (root to : ℕ) (old mid new : PageMap) where
         tree = record {
           sound = subst (λ (n : ℕ). IsStoredTree new n (root_place to)) (sym high) (record {
             there = rw there refl;
-            spelled = subst (λ (o : Option (List ℕ)). Spells (page_in o) (node_in (page_in o))) (sym there) (subst (λ (n : Node). Spells page n) (sym spells.value) spells);
-            tree = subst (λ (n : Node). IsTree new h (root_place to) n) (sym here) (frame_tree old new h (root_place to) was same (tree_elsewhere old h to (root_place root) was tree.sound.tree));
+            spelled = subst (λ (o : Option (List ℕ)). Spells (page_in o) (node_in (page_in o))) (sym there)
+                (subst (λ (n : Node). Spells page n) (sym spells.value) spells);
+            tree = subst (λ (n : Node). IsTree new h (root_place to) n) (sym here)
+                (frame_tree old new h (root_place to) was same (tree_elsewhere old h to (root_place root) was tree.sound.tree));
           });
           whole = λ x some. by_side x some (nat_eq x to) refl (reached x);
           spots = λ x some. by_spot x some (nat_eq x to) refl;
@@ -215,7 +229,8 @@ module _ (key : Key) (root to : ℕ) (old mid new : PageMap) where
         stood x some other =
             let apart : x ≢ root = λ same. not_there (new root) (lost_at root mid new lost) (subst (λ (a : ℕ). IsSome (new a)) same some) in
             let not : x ≢ to = λ same. true≢false (subst (λ (a : ℕ). nat_eq a to ≡ false → true ≡ false) (sym same) (λ no. sym (same_test to) ∙ no) other) in
-            (subst (λ (o : Option (List ℕ)). IsSome o) (lost_other root mid new lost x apart ∙ put_other to page old mid come.put x not) some, other_test x root apart)
+            (subst (λ (o : Option (List ℕ)). IsSome o) (lost_other root mid new lost x apart ∙ put_other to page old mid come.put x not) some,
+                other_test x root apart)
 
         by_side : (x : ℕ) → IsSome (new x) → (b : Bool) → nat_eq x to ≡ b
             → reaches new (height_of (node_at new to)) (node_at new to) x ≡ reaches old (height_of (node_at old root)) (node_at old root) x

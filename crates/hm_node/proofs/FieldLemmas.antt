@@ -53,7 +53,8 @@ put_same : (page : List ℕ) (a size value from to : ℕ) → to ≤ a → AreSa
 put_same page a size value from to high = record { each = λ at n c d. get_put_apart page a size value at n (inr (omega arith)) }
 
 -- the base before two fields that are put
-base_put : (page : List ℕ) (a size value b width number at : ℕ) → at + 40 ≤ a → at + 40 ≤ b → base_in (put (put page a size value) b width number) at ≡ base_in page at
+base_put : (page : List ℕ) (a size value b width number at : ℕ) → at + 40 ≤ a → at + 40 ≤ b
+    → base_in (put (put page a size value) b width number) at ≡ base_in page at
 base_put page a size value b width number at first second =
     let p = put page a size value in
     same_base _ _ at (same_then _ p _ at (at + 40) (put_same p b width number at (at + 40) second) (put_same page a size value at (at + 40) first))
@@ -85,14 +86,16 @@ apart_field at n a size other width low high (inr below) = inr (omega arith)
 pub apart_put : (page p q : List ℕ) (at n a size value b more number other width : ℕ) → p ≡ put page a size value → q ≡ put p b more number
     → at ≤ a → a + size ≤ at + n → at ≤ b → b + more ≤ at + n → Apart at n other width → get q other width ≡ get page other width
 apart_put page p q at n a size value b more number other width first second a0 a1 b0 b1 apart =
-    rw (second, first) (get_put_apart_two page a size value b more number other width (apart_field at n a size other width a0 a1 apart) (apart_field at n b more other width b0 b1 apart))
+    rw (second, first) (get_put_apart_two page a size value b more number other width (apart_field at n a size other width a0 a1 apart)
+        (apart_field at n b more other width b0 b1 apart))
 
 -- a place has the base's bytes and more
 pub apart_base : (at n other width : ℕ) → 40 ≤ n → Apart at n other width → Apart at 40 other width
 apart_base at n other width wide apart = apart_field at n at 40 other width (omega arith) (omega arith) apart
 
 -- an element whose fields were read
-pub element_read : (page : List ℕ) (at : ℕ) (base : Base) (payload len : ℕ) → base ≡ base_in page at → payload ≡ get page (at + 40) 8 → len ≡ get page (at + 48) 4
+pub element_read : (page : List ℕ) (at : ℕ) (base : Base) (payload len : ℕ) → base ≡ base_in page at → payload ≡ get page (at + 40) 8
+    → len ≡ get page (at + 48) 4
     → record { base = base; payload = payload; len = len } ≡ element_in page at
 unfolding element_in
 element_read page at base payload len is is' is'' = rw (is, is', is'') refl
@@ -103,7 +106,8 @@ unfolding element_in
 element_payload page at = refl
 
 -- a child whose fields were read
-pub child_read : (page : List ℕ) (at : ℕ) (left : Base) (child mirror : ℕ) → left ≡ base_in page at → child ≡ get page (at + 40) 8 → mirror ≡ get page (at + 48) 8
+pub child_read : (page : List ℕ) (at : ℕ) (left : Base) (child mirror : ℕ) → left ≡ base_in page at → child ≡ get page (at + 40) 8
+    → mirror ≡ get page (at + 48) 8
     → record { left = left; child = child; mirror = mirror } ≡ child_in page at
 unfolding child_in
 child_read page at left child mirror is is' is'' = rw (is, is', is'') refl

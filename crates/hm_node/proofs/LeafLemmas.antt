@@ -31,7 +31,8 @@ pub record LeafHead (page : List ℕ) (n mirror : ℕ) : Type 0 where
   pub count : n ≡ (head_in page).count
   pub latest : mirror ≡ (head_in page).mirror
 
-pub leaf_head : (page : List ℕ) (head : Head) (n : ℕ) → head ≡ head_in page → head.kind ≡ LEAF → head.level ≡ LEAF_LEVEL → n ≡ head.count → LeafHead page n head.mirror
+pub leaf_head : (page : List ℕ) (head : Head) (n : ℕ) → head ≡ head_in page → head.kind ≡ LEAF → head.level ≡ LEAF_LEVEL → n ≡ head.count
+    → LeafHead page n head.mirror
 leaf_head page head n is kind level count = record {
   kind = ap (λ (h : Head). h.kind) (sym is) ∙ kind;
   level = ap (λ (h : Head). h.level) (sym is) ∙ level;
@@ -64,8 +65,10 @@ module _ {page : List ℕ} {n mirror : ℕ} (h : LeafHead page n mirror) where
   pub leaf_order : IsStrictlySortedBy base_cmp (bases_in page n) ↔ Keeps page Order
   leaf_order =
       let same = bases_of_elements page (head_in page).count ∙ ap (bases_in page) (sym h.count) in (
-        λ rising. of_leaf HasOrder (map_sorted base_cmp (λ (e : Element). e.base) (first_elements page (head_in page).count) (subst (IsStrictlySortedBy base_cmp) (sym same) rising)),
-        λ kept. subst (IsStrictlySortedBy base_cmp) same (sorted_map base_cmp (λ (e : Element). e.base) (first_elements page (head_in page).count) (to_leaf HasOrder kept)),
+        λ rising. of_leaf HasOrder (map_sorted base_cmp (λ (e : Element). e.base) (first_elements page (head_in page).count)
+            (subst (IsStrictlySortedBy base_cmp) (sym same) rising)),
+        λ kept. subst (IsStrictlySortedBy base_cmp) same (sorted_map base_cmp (λ (e : Element). e.base) (first_elements page (head_in page).count)
+            (to_leaf HasOrder kept)),
       )
 
   pub leaf_fields : (ArePlaces page n × IsZeroOutside page (place n)) ↔ Keeps page Fields

@@ -43,5 +43,6 @@ pub inner_is : (page : List ℕ) (inner : Inner) → (head_in page).kind ≡ INN
 inner_is page inner kind is = rw (kind, is) refl
 
 -- what was read from a page that breaks no rule
-pub node_read : (page : List ℕ) (node : Node) → length page ≡ PAGE_BYTES → node ≡ node_in page → ((rule : Rule) → Keeps page rule) → IsNode node × Spells page node
+pub node_read : (page : List ℕ) (node : Node) → length page ≡ PAGE_BYTES → node ≡ node_in page → ((rule : Rule) → Keeps page rule) → IsNode node
+    × Spells page node
 node_read page node sized is kept = subst (λ (n : Node). IsNode n × Spells page n) (sym is) (kept_node page kept, kept_spells page sized kept)

@@ -89,16 +89,20 @@ module _ {A : Type 0} (cmp : A → A → Ordering) where
   sorted_last (x ∷ xs) y sorted = (all_last (λ z. cmp x z ≡ Less) xs y sorted.0, sorted_last xs y sorted.1)
 
   -- one more value in order
-  pub rising_more : IsTotalOrder cmp → (f : ℕ → A) (i : ℕ) → 1 ≤ i → IsStrictlySortedBy cmp (first f i) → cmp (f (i - 1)) (f i) ≡ Less → IsStrictlySortedBy cmp (first f (i + 1))
+  pub rising_more : IsTotalOrder cmp → (f : ℕ → A) (i : ℕ) → 1 ≤ i → IsStrictlySortedBy cmp (first f i) → cmp (f (i - 1)) (f i) ≡ Less
+      → IsStrictlySortedBy cmp (first f (i + 1))
   unfolding first
   rising_more total f zero some sorted next = absurd (omega arith)
   rising_more total f (suc j) some sorted next =
       let before : suc j - 1 ≡ j = omega arith in
       let after : suc j + 1 ≡ suc (suc j) = omega arith in
-      subst (λ (n : ℕ). IsStrictlySortedBy cmp (first f n)) (sym after) (more total f j sorted (subst (λ (k : ℕ). cmp (f k) (f (suc j)) ≡ Less) before next)) where
-        more : IsTotalOrder cmp → (f : ℕ → A) (j : ℕ) → IsStrictlySortedBy cmp (first f (suc j)) → cmp (f j) (f (suc j)) ≡ Less → IsStrictlySortedBy cmp (first f (suc (suc j)))
+      subst (λ (n : ℕ). IsStrictlySortedBy cmp (first f n)) (sym after)
+          (more total f j sorted (subst (λ (k : ℕ). cmp (f k) (f (suc j)) ≡ Less) before next)) where
+        more : IsTotalOrder cmp → (f : ℕ → A) (j : ℕ) → IsStrictlySortedBy cmp (first f (suc j)) → cmp (f j) (f (suc j)) ≡ Less
+            → IsStrictlySortedBy cmp (first f (suc (suc j)))
         more total f j sorted next =
-            let below = all_so (λ x. cmp x (f j) ≡ Less) (λ x. cmp x (f (suc j)) ≡ Less) (first f j) (λ x less. total.trans x (f j) (f (suc j)) less next) (sorted_last (first f j) (f j) sorted) in
+            let below = all_so (λ x. cmp x (f j) ≡ Less) (λ x. cmp x (f (suc j)) ≡ Less) (first f j)
+                (λ x less. total.trans x (f j) (f (suc j)) less next) (sorted_last (first f j) (f j) sorted) in
             sorted_more (first f j ++ f j ∷ []) (f (suc j)) sorted (all_more (λ x. cmp x (f (suc j)) ≡ Less) (first f j) (f j) below next)
 
   -- fewer values of some in order
@@ -122,7 +126,8 @@ module _ {A : Type 0} (cmp : A → A → Ordering) where
         next f j sorted = all_last (λ x. cmp x (f (suc j)) ≡ Less) (first f j) (f j) (sorted_last (first f j ++ f j ∷ []) (f (suc j)) sorted)
 
 -- the order of values is that of what stands for them
-pub sorted_map : {A B : Type 0} (cmp : B → B → Ordering) (h : A → B) (xs : List A) → IsStrictlySortedBy (λ x y. cmp (h x) (h y)) xs → IsStrictlySortedBy cmp (map h xs)
+pub sorted_map : {A B : Type 0} (cmp : B → B → Ordering) (h : A → B) (xs : List A) → IsStrictlySortedBy (λ x y. cmp (h x) (h y)) xs
+    → IsStrictlySortedBy cmp (map h xs)
 unfolding IsStrictlySortedBy
 sorted_map cmp h [] sorted = tt
 sorted_map {A = A} {B = B} cmp h (x ∷ xs) sorted = (all_map xs sorted.0, sorted_map cmp h xs sorted.1) where
@@ -130,7 +135,8 @@ sorted_map {A = A} {B = B} cmp h (x ∷ xs) sorted = (all_map xs sorted.0, sorte
   all_map [] each = tt
   all_map (y ∷ ys) each = (each.0, all_map ys each.1)
 
-pub map_sorted : {A B : Type 0} (cmp : B → B → Ordering) (h : A → B) (xs : List A) → IsStrictlySortedBy cmp (map h xs) → IsStrictlySortedBy (λ x y. cmp (h x) (h y)) xs
+pub map_sorted : {A B : Type 0} (cmp : B → B → Ordering) (h : A → B) (xs : List A) → IsStrictlySortedBy cmp (map h xs)
+    → IsStrictlySortedBy (λ x y. cmp (h x) (h y)) xs
 unfolding IsStrictlySortedBy
 map_sorted cmp h [] sorted = tt
 map_sorted {A = A} {B = B} cmp h (x ∷ xs) sorted = (all_map xs sorted.0, map_sorted cmp h xs sorted.1) where

@@ -16,7 +16,8 @@ use Rattle.hm_node.specs.declared.rule.Rule.{Rule}
 use Rattle.hm_node.proofs.NodeLemmas.{kept_node, kept_spells}
 
 -- where no rule is found broken, the page spells the node in it
-pub none_broken : (page : List ℕ) (broken : Option Rule) → length page ≡ PAGE_BYTES → IfNone broken ((rule : Rule) → Keeps page rule) → IfNone broken (IsNode (node_in page) × Spells page (node_in page))
+pub none_broken : (page : List ℕ) (broken : Option Rule) → length page ≡ PAGE_BYTES → IfNone broken ((rule : Rule) → Keeps page rule)
+    → IfNone broken (IsNode (node_in page) × Spells page (node_in page))
 none_broken page None sized kept = (kept_node page kept, kept_spells page sized kept)
 none_broken page (Some rule) sized kept = tt
 

@@ -46,7 +46,8 @@ places_blank page head alone = zero_part page 16 PAGE_BYTES 64 PAGE_BYTES (omega
 head_kept : (old new : List ℕ) → ((at size : ℕ) → at + size ≤ 64 → get new at size ≡ get old at size) → head_in new ≡ head_in old
 head_kept old new same = rw (same 0 1 (omega arith), same 1 1 (omega arith), same 2 2 (omega arith), same 8 8 (omega arith)) refl
 
-zero_kept : (old new : List ℕ) (from to : ℕ) → to ≤ 64 → ((at size : ℕ) → at + size ≤ 64 → get new at size ≡ get old at size) → IsZero old from to → IsZero new from to
+zero_kept : (old new : List ℕ) (from to : ℕ) → to ≤ 64 → ((at size : ℕ) → at + size ≤ 64 → get new at size ≡ get old at size) → IsZero old from to
+    → IsZero new from to
 zero_kept old new from to low same none = record { each = λ k a b. same k 1 (omega arith) ∙ none.each k a b }
 
 -- what a page says and leaves 0 outside its places, once nothing but these changed
@@ -63,7 +64,8 @@ abbrev pub leaf_head_of : Leaf → Head
 leaf_head_of leaf = record { kind = LEAF; level = LEAF_LEVEL; count = array_vec_len leaf.places; mirror = leaf.mirror }
 
 -- a page into which a leaf's elements were written
-pub leaf_spelled : (leaf : Leaf) (old page : List ℕ) → HasHeadAlone old (leaf_head_of leaf) → IsWritten element_in 52 leaf.places.items old page → Spells page (leaf_node leaf)
+pub leaf_spelled : (leaf : Leaf) (old page : List ℕ) → HasHeadAlone old (leaf_head_of leaf) → IsWritten element_in 52 leaf.places.items old page
+    → Spells page (leaf_node leaf)
 leaf_spelled leaf old page alone written =
     let says : head_in page ≡ leaf_head_of leaf = head_kept old page written.head ∙ alone.says in
     let kind : (head_in page).kind ≡ LEAF = ap (λ (h : Head). h.kind) says in
@@ -75,7 +77,8 @@ leaf_spelled leaf old page alone written =
       sized = written.sized;
       says = record { kind = kind; level = level };
       value = rw kind (ap leaf_node read);
-      zeros = record { outside = outside_kept old page (leaf_head_of leaf) (place (array_vec_len leaf.places)) alone written.head written.rest; places = written.gaps };
+      zeros = record { outside = outside_kept old page (leaf_head_of leaf)
+          (place (array_vec_len leaf.places)) alone written.head written.rest; places = written.gaps };
     }
 
 -- the head of an inner node
@@ -104,7 +107,8 @@ inner_spelled inner old page new alone written elsewhere right sized few =
       value = rw kind (ap inner_node read);
       zeros = record {
         outside = outside_kept old new (inner_head_of inner) (place n + 40) alone same
-            (zero_elsewhere (place n) 40 (place n + 40) PAGE_BYTES page new elsewhere (zero_part page (place n) PAGE_BYTES (place n + 40) PAGE_BYTES (omega arith) (omega arith) written.rest) (omega arith));
+            (zero_elsewhere (place n) 40 (place n + 40) PAGE_BYTES page new elsewhere
+                (zero_part page (place n) PAGE_BYTES (place n + 40) PAGE_BYTES (omega arith) (omega arith) written.rest) (omega arith));
         places = λ i low. zero_before (place n) 40 (place i + 56) (place i + 64) page new elsewhere (written.gaps i low) (omega arith);
       };
     }

@@ -20,7 +20,8 @@ zero_elsewhere at n from to old new elsewhere none after = record { each = λ k 
 pub zero_before : (at n from to : ℕ) (old new : List ℕ) → Elsewhere at n old new → IsZero old from to → to ≤ at → IsZero new from to
 zero_before at n from to old new elsewhere none before = record { each = λ k low high. elsewhere.same k 1 (inr (omega arith)) ∙ none.each k low high }
 
-module _ {A : Type 0} (reads : List ℕ → ℕ → A) (width : ℕ) (fits : width ≤ 64) (local : (p q : List ℕ) (at : ℕ) → AreSame p q at (at + width) → reads p at ≡ reads q at) where
+module _ {A : Type 0} (reads : List ℕ → ℕ → A) (width : ℕ) (fits : width ≤ 64)
+    (local : (p q : List ℕ) (at : ℕ) → AreSame p q at (at + width) → reads p at ≡ reads q at) where
   -- nothing is written
   pub none_written : (page : List ℕ) → length page ≡ PAGE_BYTES → IsZero page 64 PAGE_BYTES → IsWritten reads width [] page page
   unfolding first
@@ -36,12 +37,14 @@ module _ {A : Type 0} (reads : List ℕ → ℕ → A) (width : ℕ) (fits : wid
       → first (λ i. reads page (place i)) (length xs) ≡ xs → first (λ i. reads new (place i)) (suc (length xs)) ≡ xs ++ x ∷ []
   unfolding first
   values_more xs x page new elsewhere here before =
-      let same = first_same (λ i. reads new (place i)) (λ i. reads page (place i)) (length xs) (λ i low. local new page (place i) (record { each = λ at size a b. elsewhere.same at size (inr (omega arith)) })) in
+      let same = first_same (λ i. reads new (place i)) (λ i. reads page (place i)) (length xs)
+          (λ i low. local new page (place i) (record { each = λ at size a b. elsewhere.same at size (inr (omega arith)) })) in
       rw (same, before, here) refl
 
   -- one more value is written
   pub more_written : (xs : List A) (x : A) (old page new : List ℕ) → length xs < 63 → IsWritten reads width xs old page
-      → Elsewhere (place (length xs)) width page new → reads new (place (length xs)) ≡ x → length new ≡ PAGE_BYTES → IsWritten reads width (xs ++ x ∷ []) old new
+      → Elsewhere (place (length xs)) width page new → reads new (place (length xs)) ≡ x → length new ≡ PAGE_BYTES
+          → IsWritten reads width (xs ++ x ∷ []) old new
   more_written xs x old page new room written elsewhere here sized =
       let n = length xs in
       let more : length (xs ++ x ∷ []) ≡ suc n = omega (arith, length-append xs (x ∷ [])) in
@@ -50,14 +53,16 @@ module _ {A : Type 0} (reads : List ℕ → ℕ → A) (width : ℕ) (fits : wid
         head = λ at size within. elsewhere.same at size (inr (omega arith)) ∙ written.head at size within;
         values = rw more (values_more xs x page new elsewhere here written.values);
         gaps = λ i low. gap i (omega arith);
-        rest = rw more (zero_elsewhere (place n) width (place (suc n)) PAGE_BYTES page new elsewhere (zero_part page (place n) PAGE_BYTES (place (suc n)) PAGE_BYTES (omega arith) (omega arith) written.rest) (omega arith));
+        rest = rw more (zero_elsewhere (place n) width (place (suc n)) PAGE_BYTES page new elsewhere
+            (zero_part page (place n) PAGE_BYTES (place (suc n)) PAGE_BYTES (omega arith) (omega arith) written.rest) (omega arith));
       } where
         gap : (i : ℕ) → i ≤ length xs → IsZero new (place i + width) (place i + 64)
         gap i low =
             elim (cases_lt i (length xs)) [
               | inl before ↦ zero_before (place (length xs)) width (place i + width) (place i + 64) page new elsewhere (written.gaps i before) (omega arith)
               | inr last ↦ let is : i ≡ length xs = omega arith in
-                  rw is (zero_elsewhere (place (length xs)) width (place (length xs) + width) (place (length xs) + 64) page new elsewhere (zero_part page (place (length xs)) PAGE_BYTES _ _ (omega arith) (omega arith) written.rest) (omega arith))
+                  rw is (zero_elsewhere (place (length xs)) width (place (length xs) + width) (place (length xs) + 64) page new elsewhere
+                      (zero_part page (place (length xs)) PAGE_BYTES _ _ (omega arith) (omega arith) written.rest) (omega arith))
             ]
 
   -- the value at the next place of a list is written

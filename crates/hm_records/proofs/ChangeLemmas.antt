@@ -28,7 +28,8 @@ pub itself : (t : ℕ) (fs : List FullElement) (x : FullElement) → Contains fs
 itself t fs x has made = record { there = has; made = made; key = refl; bytes = refl; seen = λ seen. seen }
 
 -- and if the other shows no more, the same counts
-pub shown : (s : Subject) (es fs : List FullElement) (t u : ℕ) (bytes : List ℕ) → Shows s es t fs u → Shows s fs u es t → Counts es t s bytes → Counts fs u s bytes
+pub shown : (s : Subject) (es fs : List FullElement) (t u : ℕ) (bytes : List ℕ) → Shows s es t fs u → Shows s fs u es t → Counts es t s bytes
+    → Counts fs u s bytes
 shown s es fs t u bytes to from counts =
     let (y, here) = to counts.element counts.there counts.about counts.seen.0 in
     record {

@@ -35,7 +35,8 @@ others_agree : (pfs key : ℕ) (directory : Obj) (name : List ℕ) (C D : Conten
     → HasOnlyName C pfs directory key name → HasOnlyName D pfs directory key name → OthersAgree pfs directory name C D
 others_agree pfs key directory name C D same only only' t not key' object =
     elim (same_subject (entry_subject pfs t.directory.0 key') (entry_subject pfs directory.0 key)) [
-      | inr differ ↦ name_at pfs t.directory key' t.name object C D (same (entry_subject pfs t.directory.0 key') (entry_bytes (record { obj = object; name = t.name })) differ)
+      | inr differ ↦ name_at pfs t.directory key' t.name object C D
+          (same (entry_subject pfs t.directory.0 key') (entry_bytes (record { obj = object; name = t.name })) differ)
       | inl is ↦ (λ has. absurd (never D only' is has), λ has. absurd (never C only is has))
     ]
   where
@@ -86,7 +87,8 @@ module _ (pfs : ℕ) (directory : Obj) (key : ℕ) (entry : DirEntry) (C D : Con
     there = record { ranges = gets.ranges; there = (gets.counts.about (entry_bytes entry)).1 refl };
     first = λ other object has. elim (cases_eq other key) [
       | inl is ↦ omega (arith, is)
-      | inr differ ↦ first other object (kept_entry pfs key other directory entry.name object D C (same_but_back (entry_subject pfs directory.0 key) C D same_gets) differ has)
+      | inr differ ↦ first other object (kept_entry pfs key other directory entry.name object D C
+          (same_but_back (entry_subject pfs directory.0 key) C D same_gets) differ has)
     ];
   }
 
@@ -112,7 +114,8 @@ later_same pfs key directory name t C D same earlier (here, named) is =
     (has_moved pfs earlier.other directory t.directory name t.name earlier.object C (sym here) (sym named) earlier.there) in
     let below : is.key < key = omega (arith, low, earlier.earlier) in
     let mine : HasEntry C pfs directory is.key name t.object = has_moved pfs is.key t.directory directory t.name name t.object C here named is.there in
-    let kept : HasEntry D pfs directory is.key name t.object = kept_entry pfs key is.key directory name t.object C D same (λ e. absurd (omega (arith, e, below))) mine in
+    let kept : HasEntry D pfs directory is.key name t.object = kept_entry pfs key is.key directory name t.object C D same
+        (λ e. absurd (omega (arith, e, below))) mine in
     record {
       key = is.key;
       there = has_moved pfs is.key directory t.directory name t.name t.object D (sym here) (sym named) kept;

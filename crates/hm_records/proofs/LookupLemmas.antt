@@ -99,7 +99,8 @@ module _ (pfs : ℕ) (tree : FileTree) (C : Content) (has : HasView C pfs tree) 
     new = triple_of directory name object
 
     by_found : (o : Option Triple) → find (is_named directory name) tree.triples ≡ o → option_map (λ (t : Triple). t.object) o ≡ Some object
-    by_found None found = absurd (find_none (is_named directory name) tree.triples new found ((has.view.triples new).1 is) (is_named_of directory name new (refl, refl)))
+    by_found None found = absurd (find_none (is_named directory name) tree.triples new found ((has.view.triples new).1 is)
+        (is_named_of directory name new (refl, refl)))
     by_found (Some t) found =
         let (is', stands) = named_triple t found in
         ap (λ (u : Triple). Some u.object) (triple_one pfs new t C has.settled is is' stands)
@@ -136,7 +137,8 @@ module _ (pfs : ℕ) (tree : FileTree) (C : Content) (has : HasView C pfs tree) 
   pub object_is_found : (o : Object) → IsObject C pfs o → o.number.0 ≡ number.0 → object_in tree number ≡ Some o
   object_is_found o is same = by_found (object_in tree number) refl where
     by_found : (found : Option Object) → object_in tree number ≡ found → found ≡ Some o
-    by_found None found = absurd (find_none (λ (p : Object). p.number.0 == number.0) tree.objects o found ((has.view.objects o).1 is) (eq-eqb o.number.0 number.0 same))
+    by_found None found = absurd (find_none (λ (p : Object). p.number.0 == number.0) tree.objects o found ((has.view.objects o).1 is)
+        (eq-eqb o.number.0 number.0 same))
     by_found (Some p) found =
         let (is', same') = found_is_object p found in
         ap Some (object_one pfs p o C has.settled is' is (same' ∙ sym same))

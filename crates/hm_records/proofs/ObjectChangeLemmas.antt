@@ -116,7 +116,8 @@ module _ (pfs number : ℕ) (tree : FileTree) (C D : Content) (has : HasView C p
       | inl same ↦
           let (p, was', number', becomes) = was o same is in
           subst (λ (q : Object). Contains (map each tree.objects) q) (each_is p number' ∙ becomes) (has_map each tree.objects p ((has.view.objects p).1 was'))
-      | inr differ ↦ subst (λ (q : Object). Contains (map each tree.objects) q) (each_stays o differ) (has_map each tree.objects o ((has.view.objects o).1 (back o differ is)))
+      | inr differ ↦ subst (λ (q : Object). Contains (map each tree.objects) q) (each_stays o differ)
+          (has_map each tree.objects o ((has.view.objects o).1 (back o differ is)))
     ]
 
   -- where the object is known

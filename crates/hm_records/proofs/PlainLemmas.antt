@@ -256,7 +256,8 @@ bytes_more es t pfs obj n b xs are byte = record {
 
 -- ---- objects
 
-pub no_object_at : (es : List FullElement) (t pfs number : ℕ) → CountsNothing (Counts es t) (inode_subject pfs number) → IsObjectAt (Counts es t) pfs number None
+pub no_object_at : (es : List FullElement) (t pfs number : ℕ) → CountsNothing (Counts es t) (inode_subject pfs number)
+    → IsObjectAt (Counts es t) pfs number None
 no_object_at es t pfs number none o is same =
     none (inode_bytes is.inode)
     (subst (λ (n : ℕ). Counts es t (inode_subject pfs n) (inode_bytes is.inode)) same is.there)

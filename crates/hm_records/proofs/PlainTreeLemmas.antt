@@ -110,7 +110,8 @@ earlier_test C pfs directory name first e entry one about before has = (
   λ earlier. (bytes_eq-Decides entry.name name).1 (entry_same C pfs directory e.key.key entry.name name entry.obj earlier.named.0 one has earlier.named.1).0,
 )
 
-module _ (C : Content) (pfs : ℕ) (directory : Obj) (name : List ℕ) (es : List FullElement) (i : ℕ) (x : FullElement) (below : i < length es) (is : x ≡ get_or es i x) where
+module _ (C : Content) (pfs : ℕ) (directory : Obj) (name : List ℕ) (es : List FullElement) (i : ℕ) (x : FullElement) (below : i < length es)
+    (is : x ≡ get_or es i x) where
   pub key_taken : (first : Option ℕ) → IsFirstKey C pfs directory name (take i es) first → IsEarlierEntry C pfs directory name first x
       → IsFirstKey C pfs directory name (take (i + 1) es) (Some x.key.key)
   key_taken None held earlier = record {
@@ -177,7 +178,8 @@ module _ (es : List FullElement) (t pfs : ℕ) (directory : Obj) (name : List �
         first = λ other object there.
             let c = there.there in
             let about = about_entry pfs other directory c.element c.about in
-            let low = least.least c.element c.there about.0 (object, subst (λ (k : ℕ). HasEntry (Counts es t) pfs directory k name object) (sym about.1) there) in
+            let low = least.least c.element c.there about.0 (object, subst (λ (k : ℕ). HasEntry (Counts es t) pfs directory k name object)
+                (sym about.1) there) in
             omega (arith, low, about.1);
       }
 

@@ -153,6 +153,7 @@ some_one now a b is is' = cc
 pub settled_still : (s : Subject) (now : Option (List ℕ)) (C D : Content) → Overrides s now C D
     → IsSettled C → IsSettled D
 settled_still s now C D overrides settled u a b has has' = elim (same_subject u s) [
-  | inl same ↦ some_one now a b ((overrides.about a).0 (subst (λ (z : Subject). D z a) same has)) ((overrides.about b).0 (subst (λ (z : Subject). D z b) same has'))
+  | inl same ↦ some_one now a b ((overrides.about a).0 (subst (λ (z : Subject). D z a) same has))
+      ((overrides.about b).0 (subst (λ (z : Subject). D z b) same has'))
   | inr not ↦ settled u a b ((overrides.elsewhere u a not).0 has) ((overrides.elsewhere u b not).0 has')
 ]

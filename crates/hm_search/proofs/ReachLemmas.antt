@@ -111,7 +111,8 @@ first_key_inside map zero s (Leaf leaf) below tree =
       some None below count = absurd (below refl)
       some (Some p) below count = count
 
-      in_leaf : (es : List Element) → 1 ≤ length es → AllByRecursion (λ e. IsInside s.left s.right (element_key e)) es → IsInside s.left s.right (first_key_of es)
+      in_leaf : (es : List Element) → 1 ≤ length es → AllByRecursion (λ e. IsInside s.left s.right (element_key e)) es
+          → IsInside s.left s.right (first_key_of es)
       in_leaf [] some inside = absurd (omega arith)
       in_leaf (e ∷ es) some inside = inside.0
 first_key_inside map (suc height) s (Leaf leaf) below tree = absurd tree.below

@@ -59,18 +59,22 @@ returns-in_err-update_page-clause-spent g c =
     let same = g.met.S.NodeSpace.rests c.args.space.now c.visit.new.pages c.visit.ensures.same.rest in
     let kept = g.met.S.NodeSpace.rests c.move_below.new.space c.update_page.new.space c.update_page.ensures.rest in
     let first = spends_add g.S.Counted g.S.HasRoom c.args.space.now c.visit.new.pages c.move_below.new.space 0 NODE_BYTES NODE_BYTES (omega arith)
-    (spends_none g.S.Counted g.S.HasRoom c.args.space.now c.visit.new.pages 0 same c.visit.ensures.same.name c.visit.ensures.same.frame) c.move_below.ensures.spent in
+    (spends_none g.S.Counted g.S.HasRoom c.args.space.now c.visit.new.pages 0 same c.visit.ensures.same.name c.visit.ensures.same.frame)
+        c.move_below.ensures.spent in
     spends_add g.S.Counted g.S.HasRoom c.args.space.now c.move_below.new.space c.update_page.new.space NODE_BYTES 0 NODE_BYTES (omega arith) first
-    (spends_none g.S.Counted g.S.HasRoom c.move_below.new.space c.update_page.new.space 0 kept c.update_page.ensures.stays.name c.update_page.ensures.stays.frame)
+    (spends_none g.S.Counted g.S.HasRoom c.move_below.new.space c.update_page.new.space 0 kept c.update_page.ensures.stays.name
+        c.update_page.ensures.stays.frame)
 
 pub returns-clause-spent : goal.returns-clause-spent
 returns-clause-spent g c =
     let same = g.met.S.NodeSpace.rests c.args.space.now c.visit.new.pages c.visit.ensures.same.rest in
     let kept = g.met.S.NodeSpace.rests c.move_below.new.space c.update_page.new.space c.update_page.ensures.rest in
     let first = spends_add g.S.Counted g.S.HasRoom c.args.space.now c.visit.new.pages c.move_below.new.space 0 NODE_BYTES NODE_BYTES (omega arith)
-    (spends_none g.S.Counted g.S.HasRoom c.args.space.now c.visit.new.pages 0 same c.visit.ensures.same.name c.visit.ensures.same.frame) c.move_below.ensures.spent in
+    (spends_none g.S.Counted g.S.HasRoom c.args.space.now c.visit.new.pages 0 same c.visit.ensures.same.name c.visit.ensures.same.frame)
+        c.move_below.ensures.spent in
     spends_add g.S.Counted g.S.HasRoom c.args.space.now c.move_below.new.space c.update_page.new.space NODE_BYTES 0 NODE_BYTES (omega arith) first
-    (spends_none g.S.Counted g.S.HasRoom c.move_below.new.space c.update_page.new.space 0 kept c.update_page.ensures.stays.name c.update_page.ensures.stays.frame)
+    (spends_none g.S.Counted g.S.HasRoom c.move_below.new.space c.update_page.new.space 0 kept c.update_page.ensures.stays.name
+        c.update_page.ensures.stays.frame)
 
 pub returns-clause-done : goal.returns-clause-done
 returns-clause-done g c =
@@ -92,9 +96,11 @@ returns-clause-done g c =
       top = apart_root c.args.at c.args.root moved.to c.requires.below;
       tree = root_works (λ es. es) key Leaves c.args.root (λ _. Unit {0}) told read mid last before after moved.changed (λ no. ap node_in (did.same no))
           (λ old tree needs. inside_whole c.args.root key c.requires.key) c.visit.ensures.same.pages here did.works c.in_ok-update_page.ensures.ok;
-      pages = tree_exchanged c.args.root moved.to before c.args.at moved.changed after told read mid last c.visit.ensures.same.pages c.requires.below here did.pages c.in_ok-update_page.ensures.ok;
+      pages = tree_exchanged c.args.root moved.to before c.args.at moved.changed after told read mid last c.visit.ensures.same.pages c.requires.below
+          here did.pages c.in_ok-update_page.ensures.ok;
       kept = kept_both g.S.Pages g.S.HasRoom c.args.space.now c.move_below.new.space c.update_page.new.space
           (kept_both g.S.Pages g.S.HasRoom c.args.space.now c.visit.new.pages c.move_below.new.space
           (kept_read g.S.Pages g.S.HasRoom c.args.space.now c.visit.new.pages same.2 c.visit.ensures.same.pages) did.kept)
-          (kept_change g.S.Pages g.S.HasRoom c.move_below.new.space c.update_page.new.space (IsUpdated moved.changed c.args.root after) kept.2 c.in_ok-update_page.ensures.ok);
+          (kept_change g.S.Pages g.S.HasRoom c.move_below.new.space c.update_page.new.space
+              (IsUpdated moved.changed c.args.root after) kept.2 c.in_ok-update_page.ensures.ok);
     }

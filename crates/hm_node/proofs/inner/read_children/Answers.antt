@@ -9,7 +9,8 @@ pub loop-i-init : goal.loop-i-init
 loop-i-init c = first_none (λ i. child_in c.args.page.now (place i)) c.args.into.now.items c.requires.empty
 
 pub read_child-requires-clause-offset : goal.read_child-requires-clause-offset
-read_child-requires-clause-offset c = rw c.place.ensures (child_has_offset c.args.page.now (place c.loop-i.i) _ refl (c.requires.places c.loop-i.i (omega arith)))
+read_child-requires-clause-offset c = rw c.place.ensures (child_has_offset c.args.page.now (place c.loop-i.i) _ refl
+    (c.requires.places c.loop-i.i (omega arith)))
 
 pub push-requires : goal.push-requires
 push-requires c =

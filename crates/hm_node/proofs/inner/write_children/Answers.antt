@@ -16,4 +16,5 @@ loop-i-preserved c = (
 )
 
 pub returns : goal.returns
-returns c = written_all child_in 56 (omega arith) same_child c.args.children.now c.loop-i.i c.args.page.now c.loop-i.page c.loop-i-test.false c.loop-i.invariant.1
+returns c = written_all child_in 56 (omega arith) same_child c.args.children.now c.loop-i.i c.args.page.now c.loop-i.page c.loop-i-test.false
+    c.loop-i.invariant.1

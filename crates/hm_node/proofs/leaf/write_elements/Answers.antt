@@ -16,4 +16,5 @@ loop-i-preserved c = (
 )
 
 pub returns : goal.returns
-returns c = written_all element_in 52 (omega arith) same_element c.args.elements.now c.loop-i.i c.args.page.now c.loop-i.page c.loop-i-test.false c.loop-i.invariant.1
+returns c = written_all element_in 52 (omega arith) same_element c.args.elements.now c.loop-i.i c.args.page.now c.loop-i.page c.loop-i-test.false
+    c.loop-i.invariant.1

@@ -12,7 +12,8 @@ pub invariant_of-self : goal.invariant_of-self
 invariant_of-self c =
     record {
       content = rw (changed_here (key_of c.args.at.now)
-          (closed_at c.args.delete) c.index_mut.result.now c.args.self.now.list.items c.place_of-place.result c.place_of-place.ensures c.index_mut.ensures.value)
+          (closed_at c.args.delete) c.index_mut.result.now c.args.self.now.list.items c.place_of-place.result c.place_of-place.ensures
+              c.index_mut.ensures.value)
           (content_closed (key_of c.args.at.now) c.args.delete c.args.self.now.list.items c.requires.later c.args.self.now.content);
     }
 

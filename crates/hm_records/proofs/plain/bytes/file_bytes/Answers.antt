@@ -7,7 +7,8 @@ use Rattle.hm_records.proofs.plain.bytes.file_bytes.Goals as goal
 pub loop-place-preserved : goal.loop-place-preserved
 loop-place-preserved c =
     rw c.in_ok-push.ensures.items
-    (bytes_more c.args.elements.now c.args.id c.args.pfs.0 c.args.obj.0 c.loop-place.place c.byte_at.result c.loop-place.bytes.items c.loop-place.invariant c.byte_at.ensures)
+    (bytes_more c.args.elements.now c.args.id c.args.pfs.0 c.args.obj.0 c.loop-place.place c.byte_at.result c.loop-place.bytes.items
+        c.loop-place.invariant c.byte_at.ensures)
 
 pub returns : goal.returns
 returns c =

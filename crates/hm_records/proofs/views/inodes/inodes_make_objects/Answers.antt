@@ -10,7 +10,8 @@ pub returns-clause-file : goal.returns-clause-file
 returns-clause-file c = λ shown pfs number inode bytes has is are. file_made pfs number inode bytes (counts_of shown) has is are
 
 pub returns-clause-empty : goal.returns-clause-empty
-returns-clause-empty c = λ shown pfs number inode has is none. file_made pfs number inode [] (counts_of shown) has is (no_bytes pfs number.0 inode.size (counts_of shown) none)
+returns-clause-empty c = λ shown pfs number inode has is none. file_made pfs number inode [] (counts_of shown) has is
+    (no_bytes pfs number.0 inode.size (counts_of shown) none)
 
 pub returns-clause-softlink : goal.returns-clause-softlink
 returns-clause-softlink c = λ shown pfs number inode text has is leads. softlink_made pfs number inode text (counts_of shown) has is leads
