@@ -84,28 +84,28 @@ module _ (node : Node) (inner : Inner) (i : ℕ) (s : Subtree) (child : Node) (i
       → IfSome p0 (λ was. (place : Subtree) (height : ℕ) → IsTree was height place node → IfSome p3 (Exchanges gone to was))
   child_exchanged gone to p0 p1 p2 p3 same here spot added lost = by_told p0 p2 p3
       (subst (λ (p : Option PageMap). BothTell p p2 (HasAdded to child)) same added) lost where
-    by_told : (p q r : Option PageMap) → BothTell p q (HasAdded to child) → BothTell q r (HasLost gone)
-        → IfSome p (λ was. (place : Subtree) (height : ℕ) → IsTree was height place node → IfSome r (Exchanges gone to was))
-    by_told None q r added lost = tt
-    by_told (Some old) None r added lost = absurd added
-    by_told (Some old) (Some mid) None added lost = absurd lost
-    by_told (Some old) (Some mid) (Some new) added lost = λ place height tree.
-        let below = stored_below old height place node inner i s tree is at in
-        exchanged gone to child old mid new (subst (λ (a : ℕ). IsSome (old a)) here below.stored.there) spot added lost
+        by_told : (p q r : Option PageMap) → BothTell p q (HasAdded to child) → BothTell q r (HasLost gone)
+            → IfSome p (λ was. (place : Subtree) (height : ℕ) → IsTree was height place node → IfSome r (Exchanges gone to was))
+        by_told None q r added lost = tt
+        by_told (Some old) None r added lost = absurd added
+        by_told (Some old) (Some mid) None added lost = absurd lost
+        by_told (Some old) (Some mid) (Some new) added lost = λ place height tree.
+            let below = stored_below old height place node inner i s tree is at in
+            exchanged gone to child old mid new (subst (λ (a : ℕ). IsSome (old a)) here below.stored.there) spot added lost
 
   -- and of a node further down
   pub below_exchanged : (gone to : ℕ) (changed : Bool) (after : Node) (p0 p1 p2 p3 : Option PageMap) → p1 ≡ p0 → s.at ≢ gone
       → IfSome p0 (λ map. SpellsAt map s child)
       → IfSome p1 (λ was. (place : Subtree) (height : ℕ) → IsTree was height place child → IfSome p2 (Exchanges gone to was))
-          → BothTell p2 p3 (IsUpdated changed s.at after)
+      → BothTell p2 p3 (IsUpdated changed s.at after)
       → IfSome p0 (λ was. (place : Subtree) (height : ℕ) → IsTree was height place node → IfSome p3 (Exchanges gone to was))
   below_exchanged gone to changed after p0 p1 p2 p3 same apart here exchange written =
       by_told p0 p2 p3 here (subst (λ (p : Option PageMap). IfSome p
-          (λ was. (place : Subtree) (height : ℕ) → IsTree was height place child → IfSome p2 (Exchanges gone to was))) same exchange) written where
+      (λ was. (place : Subtree) (height : ℕ) → IsTree was height place child → IfSome p2 (Exchanges gone to was))) same exchange) written where
         by_told : (p q r : Option PageMap) → IfSome p (λ map. SpellsAt map s child)
             → IfSome p (λ was. (place : Subtree) (height : ℕ) → IsTree was height place child → IfSome q (Exchanges gone to was))
             → BothTell q r (IsUpdated changed s.at after) → IfSome p
-                (λ was. (place : Subtree) (height : ℕ) → IsTree was height place node → IfSome r (Exchanges gone to was))
+            (λ was. (place : Subtree) (height : ℕ) → IsTree was height place node → IfSome r (Exchanges gone to was))
         by_told None q r here exchange written = tt
         by_told (Some old) None None here exchange written = λ place height tree. tt
         by_told (Some old) None (Some new) here exchange written = absurd written
@@ -113,7 +113,7 @@ module _ (node : Node) (inner : Inner) (i : ℕ) (s : Subtree) (child : Node) (i
         by_told (Some old) (Some mid) (Some new) here exchange written = λ place height tree.
             let below = stored_below old height place node inner i s tree is at in
             exchanged_updated changed gone to s.at after old mid new below.stored.there apart
-                (exchange s below.lower (tree_read old below.lower s child below.stored here)) written
+            (exchange s below.lower (tree_read old below.lower s child below.stored here)) written
 
 -- of the root
 module _ (root to : ℕ) (node : Node) where
@@ -121,13 +121,13 @@ module _ (root to : ℕ) (node : Node) where
       → BothTell p1 p2 (HasAdded to node) → BothTell p2 p3 (HasLost root) → ChangesTree (λ es. es) key Leaves (λ _. Unit {0}) p0 p3 root to
   root_moves key p0 p1 p2 p3 same here spot added lost = by_told p0 p2 p3 here
       (subst (λ (p : Option PageMap). BothTell p p2 (HasAdded to node)) same added) lost where
-    by_told : (p q r : Option PageMap) → IfSome p (λ map. SpellsAt map (root_place root) node) → BothTell p q (HasAdded to node) → BothTell q r (HasLost root)
-        → ChangesTree (λ es. es) key Leaves (λ _. Unit {0}) p r root to
-    by_told None q r here added lost = tt
-    by_told (Some old) None r here added lost = absurd added
-    by_told (Some old) (Some mid) None here added lost = absurd lost
-    by_told (Some old) (Some mid) (Some new) here added lost = λ tree needs.
-        root_moved key root to old mid new tree spot (subst (λ (n : Node). HasAdded to n old mid) (sym (here tree.sound.there).value) added) lost
+        by_told : (p q r : Option PageMap) → IfSome p (λ map. SpellsAt map (root_place root) node) → BothTell p q (HasAdded to node) → BothTell q r (HasLost root)
+            → ChangesTree (λ es. es) key Leaves (λ _. Unit {0}) p r root to
+        by_told None q r here added lost = tt
+        by_told (Some old) None r here added lost = absurd added
+        by_told (Some old) (Some mid) None here added lost = absurd lost
+        by_told (Some old) (Some mid) (Some new) here added lost = λ tree needs.
+            root_moved key root to old mid new tree spot (subst (λ (n : Node). HasAdded to n old mid) (sym (here tree.sound.there).value) added) lost
 
   pub root_exchanged : (p0 p1 p2 p3 : Option PageMap) → p1 ≡ p0 → IsSpot to → BothTell p1 p2 (HasAdded to node) → BothTell p2 p3 (HasLost root)
       → IfSome p0 (λ was. IsTreeSpace was root → IfSome p3 (Exchanges root to was))
@@ -143,14 +143,14 @@ module _ (root to : ℕ) (node : Node) where
   pub tree_exchanged : (gone : ℕ) (changed : Bool) (after : Node) (p0 p1 p2 p3 : Option PageMap) → p1 ≡ p0 → root ≢ gone
       → IfSome p0 (λ map. SpellsAt map (root_place root) node)
       → IfSome p1 (λ was. (place : Subtree) (height : ℕ) → IsTree was height place node → IfSome p2 (Exchanges gone to was))
-          → BothTell p2 p3 (IsUpdated changed root after)
+      → BothTell p2 p3 (IsUpdated changed root after)
       → IfSome p0 (λ was. IsTreeSpace was root → IfSome p3 (Exchanges gone to was))
   tree_exchanged gone changed after p0 p1 p2 p3 same apart here exchange written =
       by_told p0 p2 p3 here (subst (λ (p : Option PageMap). IfSome p
-          (λ was. (place : Subtree) (height : ℕ) → IsTree was height place node → IfSome p2 (Exchanges gone to was))) same exchange) written where
+      (λ was. (place : Subtree) (height : ℕ) → IsTree was height place node → IfSome p2 (Exchanges gone to was))) same exchange) written where
         by_told : (p q r : Option PageMap) → IfSome p (λ map. SpellsAt map (root_place root) node)
             → IfSome p (λ was. (place : Subtree) (height : ℕ) → IsTree was height place node → IfSome q (Exchanges gone to was))
-                → BothTell q r (IsUpdated changed root after)
+            → BothTell q r (IsUpdated changed root after)
             → IfSome p (λ was. IsTreeSpace was root → IfSome r (Exchanges gone to was))
         by_told None q r here exchange written = tt
         by_told (Some old) None None here exchange written = λ tree. tt
@@ -159,7 +159,7 @@ module _ (root to : ℕ) (node : Node) where
         by_told (Some old) (Some mid) (Some new) here exchange written = λ tree.
             exchanged_updated changed gone to root after old mid new tree.sound.there apart
             (exchange (root_place root) (height_of (node_at old root))
-                (subst (λ (n : Node). IsTree old (height_of (node_at old root)) (root_place root) n) (here tree.sound.there).value tree.sound.tree)) written
+            (subst (λ (n : Node). IsTree old (height_of (node_at old root)) (root_place root) n) (here tree.sound.there).value tree.sound.tree)) written
 
 -- a key before the greatest one lies inside the boundaries of the whole tree
 pub inside_whole : (root : ℕ) (key : Key) → IsBefore key greatest_key → IsInside (root_place root).left (root_place root).right key

@@ -117,7 +117,7 @@ module _ (f : List Element → List Element) (key : Key) (marking : Marking) (Ne
 
   pub inner_grows : (node : Node) (p0 p1 p2 p3 p4 : Option PageMap) → node ≡ inner_node inner
       → (HasInnerOrder inner → i ≡ holder_place key inner.places.items) → slice_get (children_of inner) i ≡ Some s → p1 ≡ p0
-          → IfSome p0 (λ map. SpellsAt map s child)
+      → IfSome p0 (λ map. SpellsAt map s child)
       → Grows f key marking Needs p1 p2 child after (Some upper) → BothTell p2 p3 (HasWritten s.at after) → BothTell p3 p4 (HasAdded at upper.node) → IsSpot at
       → inner1.level ≡ inner.level → inner1.mirror ≡ max inner.mirror m → m ≡ mirror_of after → mu ≡ mirror_of upper.node
       → ChildChange (with_mirror m) inner.places.items i inner1.places.items → inner1.right ≡ inner.right

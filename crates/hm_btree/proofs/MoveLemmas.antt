@@ -84,9 +84,9 @@ module _ (key : Key) (level : ℕ) (next : Base) (height : ℕ) (old mid new : P
       let there : new to ≡ Some page = moved_there old mid new c.child to page stored.there come lost in
       let here : node_at new to ≡ was = ap (λ (o : Option (List ℕ)). node_in (page_in o)) there ∙ spells.value in
       let elements : elements_in new height (node_at new to) ≡ elements_in old height was = ap
-          (elements_in new height) here ∙ frame_elements old new height was same in
+      (elements_in new height) here ∙ frame_elements old new height was same in
       let reached : (x : ℕ) → reaches new height (node_at new to) x ≡ olds x = λ x. ap
-          (λ (n : Node). reaches new height n x) here ∙ frame_reaches old new x height was same in
+      (λ (n : Node). reaches new height n x) here ∙ frame_reaches old new x height was same in
       record {
         stored = (
           record {
@@ -115,7 +115,7 @@ module _ (key : Key) (level : ℕ) (next : Base) (height : ℕ) (old mid new : P
 module _ (key : Key) (place : Subtree) (height level mirror : ℕ) (right : Base) (old : PageMap) (pre : List Child) (c : Child) (post : List Child) where
   parent_moved : (mid new : PageMap) (to : ℕ) → IsTree old (suc height) place (inner_node (inner_of level mirror (pre ++ c ∷ post) right))
       → length pre ≡ holder_place key (pre ++ c ∷ post) → IsInside place.left place.right key → IsSpot to → HasAdded to (node_at old c.child) old mid
-          → HasLost c.child mid new
+      → HasLost c.child mid new
       → Changed (λ es. es) key Leaves place (suc height) old new (inner_node (inner_of level mirror (pre ++ c ∷ post) right))
       (inner_node (inner_of level mirror (pre ++ with_child to c ∷ post) right))
   parent_moved mid new to tree held inside spot added lost =
@@ -128,7 +128,7 @@ module _ (key : Key) (place : Subtree) (height level mirror : ℕ) (right : Base
       let all = changed_within (λ es. es) key Leaves level right height old new (stays_local key) c (with_child to c) [] [] post pre
       children tree.sound.order tree.below holds.from holds.before segment in
       let long : length (pre ++ with_child to c ∷ post) ≡ length (pre ++ c ∷ post) = length-append pre (with_child to c ∷ post) ∙ sym
-          (length-append pre (c ∷ post)) in
+      (length-append pre (c ∷ post)) in
       changed_above (λ es. es) key Leaves place height old new level mirror mirror right (pre ++ c ∷ post) (pre ++ with_child to c ∷ post) tree all
       mirrors (omega (arith, long, tree.sound.count.0)) (omega (arith, long, tree.sound.count.1)) (counts place.parent long tree.fits.count) where
         mirrors : All (λ d. d.mirror ≤ mirror) (pre ++ with_child to c ∷ post)
@@ -150,7 +150,7 @@ module _ (key : Key) (inner inner' : Inner) (i : ℕ) (s : Subtree) (child : Nod
       → IsInside place.left place.right key → (HasInnerOrder inner → i ≡ holder_place key inner.places.items)
       → IsChildAt inner.level inner.right inner.places.items i s → SpellsAt old s child → HasAdded to child old mid → HasLost s.at mid new
       → inner'.level ≡ inner.level → inner'.mirror ≡ inner.mirror → ChildChange (with_child to) inner.places.items i inner'.places.items
-          → inner'.right ≡ inner.right
+      → inner'.right ≡ inner.right
       → Changed (λ es. es) key Leaves place height old new (inner_node inner) (inner_node inner')
   moved_in old mid new zero place tree inside at there here added lost level mirror items right = absurd (omega (arith, tree.level, tree.sound.level.0))
   moved_in old mid new (suc lower) place tree inside at there here added lost level mirror items right =
@@ -177,10 +177,10 @@ module _ (key : Key) (inner inner' : Inner) (i : ℕ) (s : Subtree) (child : Nod
 
   pub moved_works : (node : Node) (p0 p1 p2 p3 : Option PageMap) → node ≡ inner_node inner
       → (HasInnerOrder inner → i ≡ holder_place key inner.places.items) → slice_get (children_of inner) i ≡ Some s → p1 ≡ p0
-          → IfSome p0 (λ map. SpellsAt map s child)
+      → IfSome p0 (λ map. SpellsAt map s child)
       → BothTell p1 p2 (HasAdded to child) → BothTell p2 p3 (HasLost s.at)
       → inner'.level ≡ inner.level → inner'.mirror ≡ inner.mirror → ChildChange (with_child to) inner.places.items i inner'.places.items
-          → inner'.right ≡ inner.right
+      → inner'.right ≡ inner.right
       → Works (λ es. es) key Leaves (λ _. Unit {0}) p0 p3 node (inner_node inner')
   moved_works node p0 p1 p2 p3 is at there same here added lost level mirror items right =
       by_told p0 p2 p3 here (subst (λ (p : Option PageMap). BothTell p p2 (HasAdded to child)) same added) lost where
@@ -228,9 +228,10 @@ module _ (key : Key) (root to : ℕ) (old mid new : PageMap) where
         stood : (x : ℕ) → IsSome (new x) → nat_eq x to ≡ false → IsSome (old x) × (nat_eq x root ≡ false)
         stood x some other =
             let apart : x ≢ root = λ same. not_there (new root) (lost_at root mid new lost) (subst (λ (a : ℕ). IsSome (new a)) same some) in
-            let not : x ≢ to = λ same. true≢false (subst (λ (a : ℕ). nat_eq a to ≡ false → true ≡ false) (sym same) (λ no. sym (same_test to) ∙ no) other) in
-            (subst (λ (o : Option (List ℕ)). IsSome o) (lost_other root mid new lost x apart ∙ put_other to page old mid come.put x not) some,
-                other_test x root apart)
+            let not : x ≢ to = λ same. true≢false (subst (λ (a : ℕ). nat_eq a to ≡ false → true ≡ false) (sym same) (λ no. sym (same_test to) ∙ no) other) in (
+              subst (λ (o : Option (List ℕ)). IsSome o) (lost_other root mid new lost x apart ∙ put_other to page old mid come.put x not) some,
+              other_test x root apart,
+            )
 
         by_side : (x : ℕ) → IsSome (new x) → (b : Bool) → nat_eq x to ≡ b
             → reaches new (height_of (node_at new to)) (node_at new to) x ≡ reaches old (height_of (node_at old root)) (node_at old root) x

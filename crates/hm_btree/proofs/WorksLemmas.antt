@@ -94,7 +94,7 @@ module _ (f : List Element → List Element) (key : Key) (marking : Marking) (Ne
 
   pub inner_works : (node : Node) (p0 p1 p2 p3 : Option PageMap) → node ≡ inner_node inner
       → (HasInnerOrder inner → i ≡ holder_place key inner.places.items) → slice_get (children_of inner) i ≡ Some s → p1 ≡ p0
-          → IfSome p0 (λ map. SpellsAt map s child)
+      → IfSome p0 (λ map. SpellsAt map s child)
       → Works f key marking Needs p1 p2 child after → BothTell p2 p3 (IsUpdated changed s.at after)
       → inner'.level ≡ inner.level → inner'.mirror ≡ max inner.mirror m → m ≡ mirror_of after → ChildChange (with_mirror m)
       inner.places.items i inner'.places.items → inner'.right ≡ inner.right

@@ -87,7 +87,7 @@ pub apart_put : (page p q : List ℕ) (at n a size value b more number other wid
     → at ≤ a → a + size ≤ at + n → at ≤ b → b + more ≤ at + n → Apart at n other width → get q other width ≡ get page other width
 apart_put page p q at n a size value b more number other width first second a0 a1 b0 b1 apart =
     rw (second, first) (get_put_apart_two page a size value b more number other width (apart_field at n a size other width a0 a1 apart)
-        (apart_field at n b more other width b0 b1 apart))
+    (apart_field at n b more other width b0 b1 apart))
 
 -- a place has the base's bytes and more
 pub apart_base : (at n other width : ℕ) → 40 ≤ n → Apart at n other width → Apart at 40 other width

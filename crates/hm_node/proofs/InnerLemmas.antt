@@ -71,7 +71,7 @@ module _ {page : List ℕ} {level n mirror : ℕ} (h : InnerHead page level n mi
   pub inner_order : IsStrictlySortedBy base_cmp (bases_in page (n + 1)) ↔ Keeps page Order
   inner_order =
       let same : boundaries (inner_in page) ≡ bases_in page (n + 1) = all_boundaries page (head_in page).count ∙ ap
-          (λ (k : ℕ). bases_in page (k + 1)) (sym h.count) in (
+      (λ (k : ℕ). bases_in page (k + 1)) (sym h.count) in (
         λ rising. of_inner HasOrder (subst (IsStrictlySortedBy base_cmp) (sym same) rising),
         λ kept. subst (IsStrictlySortedBy base_cmp) same (to_inner HasOrder kept),
       )

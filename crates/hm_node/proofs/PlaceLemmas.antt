@@ -97,12 +97,12 @@ module _ {A : Type 0} (cmp : A → A → Ordering) where
       let before : suc j - 1 ≡ j = omega arith in
       let after : suc j + 1 ≡ suc (suc j) = omega arith in
       subst (λ (n : ℕ). IsStrictlySortedBy cmp (first f n)) (sym after)
-          (more total f j sorted (subst (λ (k : ℕ). cmp (f k) (f (suc j)) ≡ Less) before next)) where
+      (more total f j sorted (subst (λ (k : ℕ). cmp (f k) (f (suc j)) ≡ Less) before next)) where
         more : IsTotalOrder cmp → (f : ℕ → A) (j : ℕ) → IsStrictlySortedBy cmp (first f (suc j)) → cmp (f j) (f (suc j)) ≡ Less
             → IsStrictlySortedBy cmp (first f (suc (suc j)))
         more total f j sorted next =
             let below = all_so (λ x. cmp x (f j) ≡ Less) (λ x. cmp x (f (suc j)) ≡ Less) (first f j)
-                (λ x less. total.trans x (f j) (f (suc j)) less next) (sorted_last (first f j) (f j) sorted) in
+            (λ x less. total.trans x (f j) (f (suc j)) less next) (sorted_last (first f j) (f j) sorted) in
             sorted_more (first f j ++ f j ∷ []) (f (suc j)) sorted (all_more (λ x. cmp x (f (suc j)) ≡ Less) (first f j) (f j) below next)
 
   -- fewer values of some in order

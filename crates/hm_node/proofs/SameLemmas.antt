@@ -121,13 +121,13 @@ same_leaf p q leaf bytes bytes' one other =
     let kind : (head_in p).kind ≡ (head_in q).kind = one.says.kind ∙ sym other.says.kind in
     let level : (head_in p).level ≡ (head_in q).level = one.says.level ∙ sym other.says.level in
     let count : (head_in p).count ≡ (head_in q).count = counted element_in p (head_in p).count leaf.places.items read ∙ sym
-        (counted element_in q (head_in q).count leaf.places.items read') in
+    (counted element_in q (head_in q).count leaf.places.items read') in
     let mirror : (head_in p).mirror ≡ (head_in q).mirror = ap (λ (x : Leaf). x.mirror) l ∙ sym (ap (λ (x : Leaf). x.mirror) l') in
     let head : head_in p ≡ head_in q = rw (kind, level, count, mirror) refl in
     let each = λ (i : ℕ) (low : i < n).
     let e = element_in p (place i) in
     let same = stands element_in p (head_in p).count leaf.places.items read i e low ∙ sym
-        (stands element_in q (head_in q).count leaf.places.items read' i e low) in
+    (stands element_in q (head_in q).count leaf.places.items read' i e low) in
     join p q (place i) (place i + 52) (place i + 64) (element_bytes p q bytes bytes' (place i) same)
     (zeros p q (place i + 52) (place i + 64) (one.zeros.places i low) (other.zeros.places i low)) in
     all_bytes p q bytes bytes' one.sized other.sized
@@ -155,7 +155,7 @@ same_inner p q inner bytes bytes' one other =
     let each = λ (i : ℕ) (low : i < n).
     let c = child_in p (place i) in
     let same = stands child_in p (head_in p).count inner.places.items read i c low ∙ sym
-        (stands child_in q (head_in q).count inner.places.items read' i c low) in
+    (stands child_in q (head_in q).count inner.places.items read' i c low) in
     join p q (place i) (place i + 56) (place i + 64) (child_bytes p q bytes bytes' (place i) same)
     (zeros p q (place i + 56) (place i + 64) (one.zeros.places i low) (other.zeros.places i low)) in
     all_bytes p q bytes bytes' one.sized other.sized

@@ -77,8 +77,11 @@ leaf_spelled leaf old page alone written =
       sized = written.sized;
       says = record { kind = kind; level = level };
       value = rw kind (ap leaf_node read);
-      zeros = record { outside = outside_kept old page (leaf_head_of leaf)
-          (place (array_vec_len leaf.places)) alone written.head written.rest; places = written.gaps };
+      zeros = record {
+        outside = outside_kept old page (leaf_head_of leaf)
+            (place (array_vec_len leaf.places)) alone written.head written.rest;
+        places = written.gaps;
+      };
     }
 
 -- the head of an inner node
@@ -108,7 +111,7 @@ inner_spelled inner old page new alone written elsewhere right sized few =
       zeros = record {
         outside = outside_kept old new (inner_head_of inner) (place n + 40) alone same
             (zero_elsewhere (place n) 40 (place n + 40) PAGE_BYTES page new elsewhere
-                (zero_part page (place n) PAGE_BYTES (place n + 40) PAGE_BYTES (omega arith) (omega arith) written.rest) (omega arith));
+            (zero_part page (place n) PAGE_BYTES (place n + 40) PAGE_BYTES (omega arith) (omega arith) written.rest) (omega arith));
         places = λ i low. zero_before (place n) 40 (place i + 56) (place i + 64) page new elsewhere (written.gaps i low) (omega arith);
       };
     }

@@ -38,13 +38,13 @@ module _ {A : Type 0} (reads : List ℕ → ℕ → A) (width : ℕ) (fits : wid
   unfolding first
   values_more xs x page new elsewhere here before =
       let same = first_same (λ i. reads new (place i)) (λ i. reads page (place i)) (length xs)
-          (λ i low. local new page (place i) (record { each = λ at size a b. elsewhere.same at size (inr (omega arith)) })) in
+      (λ i low. local new page (place i) (record { each = λ at size a b. elsewhere.same at size (inr (omega arith)) })) in
       rw (same, before, here) refl
 
   -- one more value is written
   pub more_written : (xs : List A) (x : A) (old page new : List ℕ) → length xs < 63 → IsWritten reads width xs old page
       → Elsewhere (place (length xs)) width page new → reads new (place (length xs)) ≡ x → length new ≡ PAGE_BYTES
-          → IsWritten reads width (xs ++ x ∷ []) old new
+      → IsWritten reads width (xs ++ x ∷ []) old new
   more_written xs x old page new room written elsewhere here sized =
       let n = length xs in
       let more : length (xs ++ x ∷ []) ≡ suc n = omega (arith, length-append xs (x ∷ [])) in
@@ -62,7 +62,7 @@ module _ {A : Type 0} (reads : List ℕ → ℕ → A) (width : ℕ) (fits : wid
               | inl before ↦ zero_before (place (length xs)) width (place i + width) (place i + 64) page new elsewhere (written.gaps i before) (omega arith)
               | inr last ↦ let is : i ≡ length xs = omega arith in
                   rw is (zero_elsewhere (place (length xs)) width (place (length xs) + width) (place (length xs) + 64) page new elsewhere
-                      (zero_part page (place (length xs)) PAGE_BYTES _ _ (omega arith) (omega arith) written.rest) (omega arith))
+                  (zero_part page (place (length xs)) PAGE_BYTES _ _ (omega arith) (omega arith) written.rest) (omega arith))
             ]
 
   -- the value at the next place of a list is written

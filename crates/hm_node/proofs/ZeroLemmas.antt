@@ -38,6 +38,8 @@ zero_none page from to none = record { each = λ k low high. absurd (omega arith
 -- two parts, one after the other, are 0 exactly where the whole is
 pub zero_split : (page : List ℕ) (from between to : ℕ) → from ≤ between → between ≤ to
     → (IsZero page from between × IsZero page between to) ↔ IsZero page from to
-zero_split page from between to low high =
-    (λ both. zero_both page from between to both.0 both.1, λ zero.
-        (zero_part page from to from between (omega arith) high zero, zero_part page from to between to low (omega arith) zero))
+zero_split page from between to low high = (
+  λ both. zero_both page from between to both.0 both.1,
+  λ zero.
+      (zero_part page from to from between (omega arith) high zero, zero_part page from to between to low (omega arith) zero),
+)

@@ -115,7 +115,7 @@ later_same pfs key directory name t C D same earlier (here, named) is =
     let below : is.key < key = omega (arith, low, earlier.earlier) in
     let mine : HasEntry C pfs directory is.key name t.object = has_moved pfs is.key t.directory directory t.name name t.object C here named is.there in
     let kept : HasEntry D pfs directory is.key name t.object = kept_entry pfs key is.key directory name t.object C D same
-        (λ e. absurd (omega (arith, e, below))) mine in
+    (λ e. absurd (omega (arith, e, below))) mine in
     record {
       key = is.key;
       there = has_moved pfs is.key directory t.directory name t.name t.object D (sym here) (sym named) kept;

@@ -117,11 +117,11 @@ links_changed pfs number links inode tree C D has there small overrides =
     made o same is =
         let mine : C (inode_subject pfs number) (inode_bytes is.inode) = subst (λ (n : ℕ). C (inode_subject pfs n) (inode_bytes is.inode)) same is.there in
         let one : is.inode ≡ inode = with_old is.inode (has.settled (inode_subject pfs number) (inode_bytes is.inode)
-            (inode_bytes inode) mine there.there) is.ranges in
+        (inode_bytes inode) mine there.there) is.ranges in
         let holds : IsHeld C pfs number inode o.content =
         subst (λ (i : Inode). IsHeld C pfs number i o.content) one (subst (λ (n : ℕ). IsHeld C pfs n is.inode o.content) same is.holds) in
         let holds' : IsHeld D pfs number next o.content = linked links inode o.content D number
-            (held_kept pfs number inode o.content C D (λ _. bytes) (λ _. target) holds) in
+        (held_kept pfs number inode o.content C D (λ _. bytes) (λ _. target) holds) in
         record {
           inode = next;
           ranges = ranges;

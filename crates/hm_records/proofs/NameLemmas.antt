@@ -80,10 +80,10 @@ has_moved pfs key a b name name' object C here same has =
 pub triple_one : (pfs : ℕ) (t u : Triple) (C : Content) → IsSettled C → IsTriple C pfs t → IsTriple C pfs u → Stands t.directory t.name u → u ≡ t
 triple_one pfs t u C settled is is' (here, same) =
     let there' : HasEntry C pfs t.directory is'.key t.name u.object =
-        has_moved pfs is'.key u.directory t.directory u.name t.name u.object C here same is'.there in
+    has_moved pfs is'.key u.directory t.directory u.name t.name u.object C here same is'.there in
     let low : is.key ≤ is'.key = is.first is'.key u.object there' in
     let high : is'.key ≤ is.key = is'.first is.key t.object (has_moved pfs is.key t.directory u.directory t.name u.name t.object C (sym here)
-        (sym same) is.there) in
+    (sym same) is.there) in
     let key : is'.key ≡ is.key = omega (arith, low, high) in
     let there : HasEntry C pfs t.directory is.key t.name u.object = subst (λ (k : ℕ). HasEntry C pfs t.directory k t.name u.object) key there' in
     let e : DirEntry = record { obj = t.object; name = t.name } in
@@ -106,7 +106,7 @@ module _ (pfs : ℕ) (tree : FileTree) (C D : Content) (directory : Obj) (name :
   rest_is t has =
       let kept = filter_has (opposite (is_named directory name)) tree.triples t has in
       let not : Stands directory name t → ⊥ = λ stands. false≢true
-          (sym (opposite_true (is_named directory name) t kept.1) ∙ is_named_of directory name t stands) in
+      (sym (opposite_true (is_named directory name) t kept.1) ∙ is_named_of directory name t stands) in
       (triple_kept pfs t C D (others t not) ((view.triples t).0 kept.0), not)
 
   is_rest : (t : Triple) → IsTriple D pfs t → (Stands directory name t → ⊥) → Contains (without (is_named directory name) tree.triples) t
@@ -159,7 +159,7 @@ pub without_none : (pfs : ℕ) (tree : FileTree) (C : Content) (directory : Obj)
 without_none pfs tree C directory name view lacks =
     let same : without (is_named directory name) tree.triples ≡ tree.triples =
     filter_all (opposite (is_named directory name)) tree.triples
-        (λ t has. opposite_false (is_named directory name) t (λ named. none t ((view.triples t).0 has) (named_is directory name t named))) in
+    (λ t has. opposite_false (is_named directory name) t (λ named. none t ((view.triples t).0 has) (named_is directory name t named))) in
     λ i. record { objects = tree.objects; triples = same i }
   where
     none : (t : Triple) → IsTriple C pfs t → Stands directory name t → ⊥

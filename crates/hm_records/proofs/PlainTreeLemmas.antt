@@ -178,8 +178,11 @@ module _ (es : List FullElement) (t pfs : ℕ) (directory : Obj) (name : List �
         first = λ other object there.
             let c = there.there in
             let about = about_entry pfs other directory c.element c.about in
-            let low = least.least c.element c.there about.0 (object, subst (λ (k : ℕ). HasEntry (Counts es t) pfs directory k name object)
-                (sym about.1) there) in
+            let low = least.least c.element c.there about.0 (
+              object,
+              subst (λ (k : ℕ). HasEntry (Counts es t) pfs directory k name object)
+                  (sym about.1) there,
+            ) in
             omega (arith, low, about.1);
       }
 

@@ -76,9 +76,15 @@ view_same pfs tree C D same is =
       target = same (target_subject pfs obj);
     })
     (λ directory name key object. (
-      λ has. record { ranges = has.ranges; there = (same (entry_subject pfs directory.0 key) (entry_bytes (record { obj = object; name = name }))).0
-          has.there },
-      λ has. record { ranges = has.ranges; there = (same (entry_subject pfs directory.0 key) (entry_bytes (record { obj = object; name = name }))).1
-          has.there },
+      λ has. record {
+        ranges = has.ranges;
+        there = (same (entry_subject pfs directory.0 key) (entry_bytes (record { obj = object; name = name }))).0
+            has.there;
+      },
+      λ has. record {
+        ranges = has.ranges;
+        there = (same (entry_subject pfs directory.0 key) (entry_bytes (record { obj = object; name = name }))).1
+            has.there;
+      },
     ))
     is

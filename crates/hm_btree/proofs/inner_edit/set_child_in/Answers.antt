@@ -17,8 +17,13 @@ use Rattle.hm_btree.proofs.inner_edit.set_child_in.Goals as goal
 pub set_child-requires : goal.set_child-requires
 set_child-requires c =
     let old = c.args.page.now in
-    omega (arith, c.requires.within, ap (λ (x : Inner). length x.places.items) c.of-inner.ensures, first_length (λ i. child_in old (place i))
-        (head_in old).count)
+    omega (
+      arith,
+      c.requires.within,
+      ap (λ (x : Inner). length x.places.items) c.of-inner.ensures,
+      first_length (λ i. child_in old (place i))
+          (head_in old).count,
+    )
 
 pub returns : goal.returns
 returns c =

@@ -39,7 +39,7 @@ returns-else-from-lt-MOST_LEAF_ELEMENTS c =
       held = split.held;
       becomes = λ order.
           subst (λ (l : List Element). LeafBecomes (max leaf.mirror (last_id e)) l (leaf_in c.split_leaf.new.page)
-              (upper_of c.split_leaf.result (page_in c.split_leaf.new.upper)))
+          (upper_of c.split_leaf.result (page_in c.split_leaf.new.upper)))
           (inserted_here e leaf.places.items c.leaf_place_in-at.result (c.leaf_place_in-at.ensures.ordered order)) split.becomes;
       above = split.above;
     }

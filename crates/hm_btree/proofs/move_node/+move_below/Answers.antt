@@ -33,7 +33,7 @@ use Rattle.hm_btree.proofs.move_node.+move_below.Goals as goal
 pub visit-requires : goal.visit-requires
 visit-requires g t c = child_offset (node_in c.args.page.now) (inner_in c.args.page.now) c.holder_place_in-i.result c.child_below-place.result
     (page_shaped c.args.page.now c.requires.node) (inner_there c.args.page.now c.read.result c.read.ensures.value c.if-read-eq-LEAF.false)
-        c.child_below-place.ensures
+    c.child_below-place.ensures
 
 pub returns-in_err-visit-clause-spent : goal.returns-in_err-visit-clause-spent
 returns-in_err-visit-clause-spent g t c =
@@ -48,7 +48,7 @@ returns-in_err-visit-clause-cause g t c =
     let new = g.S.Counted.faults c.visit.new.pages in
     let p = err_from_is_err_and c.from_residual.result c.from_residual.ensures.1 in
     let whole = pass_cause_read {T = Moved} told (node_in c.args.page.now)
-        (inner_in c.args.page.now) c.holder_place_in-i.result c.child_below-place.result old new fault
+    (inner_in c.args.page.now) c.holder_place_in-i.result c.child_below-place.result old new fault
     (inner_there c.args.page.now c.read.result c.read.ensures.value c.if-read-eq-LEAF.false) c.child_below-place.ensures
     (subst (λ (r : Result (Unit {0}) Fault). HasFaultCause old new r) c.in_err-visit.was c.visit.ensures.cause)
     c.in_err-visit.ensures.damage in
@@ -59,7 +59,7 @@ move_below-requires g t c κs within =
     let smaller : level_of (node_in c.visit.new.page) < level_of (node_in c.args.page.now) =
     child_level_lower (node_in c.args.page.now) (node_in c.visit.new.page) (inner_in c.args.page.now) c.holder_place_in-i.result c.child_below-place.result
     (inner_there c.args.page.now c.read.result c.read.ensures.value c.if-read-eq-LEAF.false) c.child_below-place.ensures
-        (c.in_ok-visit.ensures.visits.meets Level) in
+    (c.in_ok-visit.ensures.visits.meets Level) in
     let same = g.met.S.NodeSpace.rests c.args.space.now c.visit.new.pages c.visit.ensures.same.rest in
     let room : NODE_BYTES ≤ g.S.HasRoom.room c.visit.new.pages TREE_ZONE = omega (arith, c.requires.room, ap (λ (f : ℕ → ℕ). f TREE_ZONE) same.0) in
     let there : IfSome (g.S.Pages.pages c.visit.new.pages) (λ was. IsSome (was c.args.at)) =
@@ -77,7 +77,7 @@ returns-in_err-moved-clause-cause g t c =
     let p = err_from_is_err_and c.from_residual-in_err-moved.result c.from_residual-in_err-moved.ensures.1 in
     let whole = pass_cause_below told now (node_in c.args.page.now) (node_in c.visit.new.page) (inner_in c.args.page.now) c.holder_place_in-i.result
     c.child_below-place.result old mid new fault (inner_there c.args.page.now c.read.result c.read.ensures.value c.if-read-eq-LEAF.false)
-        c.child_below-place.ensures
+    c.child_below-place.ensures
     c.visit.ensures.same.pages c.visit.ensures.cause.never_falls c.in_ok-visit.ensures.visits.there
     (subst (λ (r : Result Moved Fault). HasPassCause now (node_in c.visit.new.page) mid new r) c.in_err-moved.was c.move_below.ensures.cause) in
     rw (p.1, p.2) whole
@@ -85,7 +85,7 @@ returns-in_err-moved-clause-cause g t c =
 pub update_page-requires-clause-at : goal.update_page-requires-clause-at
 update_page-requires-clause-at g t c = child_offset (node_in c.args.page.now) (inner_in c.args.page.now) c.holder_place_in-i.result c.child_below-place.result
     (page_shaped c.args.page.now c.requires.node) (inner_there c.args.page.now c.read.result c.read.ensures.value c.if-read-eq-LEAF.false)
-        c.child_below-place.ensures
+    c.child_below-place.ensures
 
 pub returns-in_err-update_page-clause-spent : goal.returns-in_err-update_page-clause-spent
 returns-in_err-update_page-clause-spent g t c =
@@ -93,10 +93,10 @@ returns-in_err-update_page-clause-spent g t c =
     let kept = g.met.S.NodeSpace.rests c.move_below.new.space c.update_page.new.space c.update_page.ensures.rest in
     let first = spends_add g.S.Counted g.S.HasRoom c.args.space.now c.visit.new.pages c.move_below.new.space 0 NODE_BYTES NODE_BYTES (omega arith)
     (spends_none g.S.Counted g.S.HasRoom c.args.space.now c.visit.new.pages 0 same c.visit.ensures.same.name c.visit.ensures.same.frame)
-        c.move_below.ensures.spent in
+    c.move_below.ensures.spent in
     spends_add g.S.Counted g.S.HasRoom c.args.space.now c.move_below.new.space c.update_page.new.space NODE_BYTES 0 NODE_BYTES (omega arith) first
     (spends_none g.S.Counted g.S.HasRoom c.move_below.new.space c.update_page.new.space 0 kept c.update_page.ensures.stays.name
-        c.update_page.ensures.stays.frame)
+    c.update_page.ensures.stays.frame)
 
 pub returns-clause-spent : goal.returns-clause-spent
 returns-clause-spent g t c =
@@ -104,10 +104,10 @@ returns-clause-spent g t c =
     let kept = g.met.S.NodeSpace.rests c.move_below.new.space c.update_page.new.space c.update_page.ensures.rest in
     let first = spends_add g.S.Counted g.S.HasRoom c.args.space.now c.visit.new.pages c.move_below.new.space 0 NODE_BYTES NODE_BYTES (omega arith)
     (spends_none g.S.Counted g.S.HasRoom c.args.space.now c.visit.new.pages 0 same c.visit.ensures.same.name c.visit.ensures.same.frame)
-        c.move_below.ensures.spent in
+    c.move_below.ensures.spent in
     spends_add g.S.Counted g.S.HasRoom c.args.space.now c.move_below.new.space c.update_page.new.space NODE_BYTES 0 NODE_BYTES (omega arith) first
     (spends_none g.S.Counted g.S.HasRoom c.move_below.new.space c.update_page.new.space 0 kept c.update_page.ensures.stays.name
-        c.update_page.ensures.stays.frame)
+    c.update_page.ensures.stays.frame)
 
 pub returns-then-eq-clause-done : goal.returns-then-eq-clause-done
 returns-then-eq-clause-done g t c =
@@ -174,6 +174,6 @@ returns-clause-done g t c =
           (kept_both g.S.Pages g.S.HasRoom c.args.space.now c.visit.new.pages c.move_below.new.space
           (kept_read g.S.Pages g.S.HasRoom c.args.space.now c.visit.new.pages same.2 c.visit.ensures.same.pages) did.kept)
           (kept_change g.S.Pages g.S.HasRoom c.move_below.new.space c.update_page.new.space
-              (IsUpdated moved.changed c.child_below-place.result.at after) kept.2 c.in_ok-update_page.ensures.ok);
+          (IsUpdated moved.changed c.child_below-place.result.at after) kept.2 c.in_ok-update_page.ensures.ok);
       same = set.same;
     }

@@ -35,14 +35,14 @@ returns-in_err-below-clause-spent g c =
     let same = g.met.S.NodeSpace.rests c.args.space.now c.key_at.new.space c.key_at.ensures.same.rest in
     spends_add g.S.Counted g.S.HasRoom c.args.space.now c.key_at.new.space c.move_on_way.new.space 0 NODE_BYTES NODE_BYTES (omega arith)
     (spends_none g.S.Counted g.S.HasRoom c.args.space.now c.key_at.new.space 0 same c.key_at.ensures.same.name c.key_at.ensures.same.frame)
-        c.move_on_way.ensures.spent
+    c.move_on_way.ensures.spent
 
 pub returns-clause-spent : goal.returns-clause-spent
 returns-clause-spent g c =
     let same = g.met.S.NodeSpace.rests c.args.space.now c.key_at.new.space c.key_at.ensures.same.rest in
     spends_add g.S.Counted g.S.HasRoom c.args.space.now c.key_at.new.space c.move_on_way.new.space 0 NODE_BYTES NODE_BYTES (omega arith)
     (spends_none g.S.Counted g.S.HasRoom c.args.space.now c.key_at.new.space 0 same c.key_at.ensures.same.name c.key_at.ensures.same.frame)
-        c.move_on_way.ensures.spent
+    c.move_on_way.ensures.spent
 
 pub returns-in_err-below-clause-cause : goal.returns-in_err-below-clause-cause
 returns-in_err-below-clause-cause g c =
@@ -56,7 +56,7 @@ returns-in_err-below-clause-cause g c =
     let cause = subst (λ (o : Option PageMap). HasSearchCause {T = ℕ} o (root_place c.args.root) mid new (Err fault)) c.key_at.ensures.same.pages
     (subst (λ (r : Result ℕ Fault). HasSearchCause now (root_place c.args.root) mid new r) c.in_err-below.was c.move_on_way.ensures.cause) in
     let whole = cause_in_sound {T = ℕ} {U = ℕ × ℕ} told c.args.root old mid new fault
-        (omega (arith, c.key_at.ensures.cause.counted.never_falls)) c.requires.tree cause in
+    (omega (arith, c.key_at.ensures.cause.counted.never_falls)) c.requires.tree cause in
     rw (p.1, p.2) whole
 
 pub returns-clause-done : goal.returns-clause-done

@@ -60,10 +60,10 @@ returns-in_err-update_page-clause-spent g c =
     let kept = g.met.S.NodeSpace.rests c.move_below.new.space c.update_page.new.space c.update_page.ensures.rest in
     let first = spends_add g.S.Counted g.S.HasRoom c.args.space.now c.visit.new.pages c.move_below.new.space 0 NODE_BYTES NODE_BYTES (omega arith)
     (spends_none g.S.Counted g.S.HasRoom c.args.space.now c.visit.new.pages 0 same c.visit.ensures.same.name c.visit.ensures.same.frame)
-        c.move_below.ensures.spent in
+    c.move_below.ensures.spent in
     spends_add g.S.Counted g.S.HasRoom c.args.space.now c.move_below.new.space c.update_page.new.space NODE_BYTES 0 NODE_BYTES (omega arith) first
     (spends_none g.S.Counted g.S.HasRoom c.move_below.new.space c.update_page.new.space 0 kept c.update_page.ensures.stays.name
-        c.update_page.ensures.stays.frame)
+    c.update_page.ensures.stays.frame)
 
 pub returns-clause-spent : goal.returns-clause-spent
 returns-clause-spent g c =
@@ -71,10 +71,10 @@ returns-clause-spent g c =
     let kept = g.met.S.NodeSpace.rests c.move_below.new.space c.update_page.new.space c.update_page.ensures.rest in
     let first = spends_add g.S.Counted g.S.HasRoom c.args.space.now c.visit.new.pages c.move_below.new.space 0 NODE_BYTES NODE_BYTES (omega arith)
     (spends_none g.S.Counted g.S.HasRoom c.args.space.now c.visit.new.pages 0 same c.visit.ensures.same.name c.visit.ensures.same.frame)
-        c.move_below.ensures.spent in
+    c.move_below.ensures.spent in
     spends_add g.S.Counted g.S.HasRoom c.args.space.now c.move_below.new.space c.update_page.new.space NODE_BYTES 0 NODE_BYTES (omega arith) first
     (spends_none g.S.Counted g.S.HasRoom c.move_below.new.space c.update_page.new.space 0 kept c.update_page.ensures.stays.name
-        c.update_page.ensures.stays.frame)
+    c.update_page.ensures.stays.frame)
 
 pub returns-clause-done : goal.returns-clause-done
 returns-clause-done g c =
@@ -102,5 +102,5 @@ returns-clause-done g c =
           (kept_both g.S.Pages g.S.HasRoom c.args.space.now c.visit.new.pages c.move_below.new.space
           (kept_read g.S.Pages g.S.HasRoom c.args.space.now c.visit.new.pages same.2 c.visit.ensures.same.pages) did.kept)
           (kept_change g.S.Pages g.S.HasRoom c.move_below.new.space c.update_page.new.space
-              (IsUpdated moved.changed c.args.root after) kept.2 c.in_ok-update_page.ensures.ok);
+          (IsUpdated moved.changed c.args.root after) kept.2 c.in_ok-update_page.ensures.ok);
     }

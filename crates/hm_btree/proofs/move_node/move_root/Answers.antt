@@ -29,8 +29,11 @@ returns-in_err-visit-clause-cause g c =
     let new = g.S.Counted.faults c.visit.new.pages in
     let p = err_from_is_err_and c.from_residual.result c.from_residual.ensures.1 in
     let whole = visited_cause told c.root-place.result old new c.in_err-visit.field-0.0
-    (IfSome_then told c.requires.tree (λ map tree. (height_of (node_at map c.args.root), subst
-        (λ (s : Subtree). IsStoredTree map (height_of (node_at map c.args.root)) s) (sym c.root-place.ensures) tree.sound)))
+    (IfSome_then told c.requires.tree (λ map tree. (
+      height_of (node_at map c.args.root),
+      subst
+          (λ (s : Subtree). IsStoredTree map (height_of (node_at map c.args.root)) s) (sym c.root-place.ensures) tree.sound,
+    )))
     (subst (λ (r : Result (Unit {0}) Fault). HasFaultCause old new r) c.in_err-visit.was c.visit.ensures.cause)
     c.in_err-visit.ensures.damage in
     rw (p.1, p.2) whole

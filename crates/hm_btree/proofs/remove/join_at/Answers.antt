@@ -52,7 +52,7 @@ returns-clause-done g c =
             (joined_one c.args.inner.now c.give_mirror.new.inner c.args.i c.mirror.result c.args.left c.args.right
             c.join-upper.new.left c.index-deref-i.result c.index-deref-i-2.result c.deref.result.now c.deref-2.result.now c.deref.ensures.0
             c.give_mirror.ensures.level c.give_mirror.ensures.mirror c.give_mirror.ensures.items c.give_mirror.ensures.right c.mirror.ensures
-                c.deref-2.ensures.0
+            c.deref-2.ensures.0
             w.remove_child.new.inner (g.S.Pages.pages c.args.space.now) (g.S.Pages.pages c.write_node.new.space)
             (g.S.Pages.pages w.drop_node.new.self) w.in-None.ensures c.in_ok-write_node.ensures.ok
             w.in_ok-drop_node-in-None.ensures.ok w.remove_child.ensures))
@@ -61,7 +61,7 @@ returns-clause-done g c =
             (joined_two c.args.inner.now c.give_mirror.new.inner c.args.i c.mirror.result c.args.left c.args.right
             c.join-upper.new.left c.index-deref-i.result c.index-deref-i-2.result c.deref.result.now c.deref-2.result.now c.deref.ensures.0
             c.give_mirror.ensures.level c.give_mirror.ensures.mirror c.give_mirror.ensures.items c.give_mirror.ensures.right c.mirror.ensures
-                c.deref-2.ensures.0
+            c.deref-2.ensures.0
             w.give_mirror-in-Some.new.inner w.set_left.new.inner w.mirror-in-Some.result w.in-Some.upper
             (g.S.Pages.pages c.args.space.now) (g.S.Pages.pages c.write_node.new.space) (g.S.Pages.pages w.write_node-in-Some.new.space)
             w.in-Some.ensures c.in_ok-write_node.ensures.ok w.in_ok-write_node-in-Some.ensures.ok w.mirror-in-Some.ensures

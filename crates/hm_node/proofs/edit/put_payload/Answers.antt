@@ -21,7 +21,7 @@ returns c =
     let beside : (x size : ℕ) → Apart (place at) 52 x size → Apart 8 8 x size → get new x size ≡ get old x size = λ x size a b.
     rw is (get_put_apart old (place at + 40) 8 to x size (apart_field (place at) 52 (place at + 40) 8 x size (omega arith) (omega arith) a)) in
     let here : element_in new (place at) ≡ moved_to to (element_in old (place at)) = rw is
-        (payload_put old (place at) to (omega (arith, c.raw.type_inv, c.raw.ensures.value))) in
+    (payload_put old (place at) to (omega (arith, c.raw.type_inv, c.raw.ensures.value))) in
     let was = (bytes.places at c.requires.at).placed in
     let e = element_in old (place at) in
     let placed : IsPlaced (moved_to to e) = placed_changed e e.base.delete to was was.element.closed c.requires.to in

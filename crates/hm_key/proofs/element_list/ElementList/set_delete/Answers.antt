@@ -13,7 +13,7 @@ invariant_of-self c =
     record {
       content = rw (changed_here (key_of c.args.at.now)
           (closed_at c.args.delete) c.index_mut.result.now c.args.self.now.list.items c.place_of-place.result c.place_of-place.ensures
-              c.index_mut.ensures.value)
+          c.index_mut.ensures.value)
           (content_closed (key_of c.args.at.now) c.args.delete c.args.self.now.list.items c.requires.later c.args.self.now.content);
     }
 

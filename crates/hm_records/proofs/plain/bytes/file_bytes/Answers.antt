@@ -8,7 +8,7 @@ pub loop-place-preserved : goal.loop-place-preserved
 loop-place-preserved c =
     rw c.in_ok-push.ensures.items
     (bytes_more c.args.elements.now c.args.id c.args.pfs.0 c.args.obj.0 c.loop-place.place c.byte_at.result c.loop-place.bytes.items
-        c.loop-place.invariant c.byte_at.ensures)
+    c.loop-place.invariant c.byte_at.ensures)
 
 pub returns : goal.returns
 returns c =

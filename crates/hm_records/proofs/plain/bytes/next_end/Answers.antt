@@ -13,12 +13,12 @@ loop-element-preserved c = elim c.if-is_earlier_end.branch [
   | then-is_earlier_end w ↦
       rw (w.next-is, w.key.ensures)
       (end_taken (Counts c.args.elements.now c.args.id) c.args.elements.now c.loop-element.element-index c.args.pfs.0 c.args.obj.0 c.args.place
-          c.element-item.result c.loop-element-test.true c.element-item.is
+      c.element-item.result c.loop-element-test.true c.element-item.is
       c.loop-element.next c.loop-element.invariant (c.is_earlier_end.ensures.0 w.if-is_earlier_end.true))
   | else-is_earlier_end w ↦
       rw w.next-is
       (end_passed (Counts c.args.elements.now c.args.id) c.args.elements.now c.loop-element.element-index c.args.pfs.0 c.args.obj.0 c.args.place
-          c.element-item.result c.loop-element-test.true c.element-item.is
+      c.element-item.result c.loop-element-test.true c.element-item.is
       c.loop-element.next c.loop-element.invariant
       (λ held. false≢true (sym w.if-is_earlier_end.false ∙ c.is_earlier_end.ensures.1 held)))
 ]

@@ -13,12 +13,12 @@ loop-element-preserved c = elim c.if-is_newer_version.branch [
   | then-is_newer_version w ↦
       rw (w.newest-is, w.since-is, w.create.ensures)
       (newest_taken c.args.elements.now c.loop-element.element-index c.args.id c.args.subject.now c.element-item.result c.loop-element-test.true
-          c.element-item.is
+      c.element-item.is
       (option_copied c.loop-element.newest) c.loop-element.since c.loop-element.invariant (c.is_newer_version.ensures.0 w.if-is_newer_version.true))
   | else-is_newer_version w ↦
       rw (w.newest-is, w.since-is)
       (newest_passed c.args.elements.now c.loop-element.element-index c.args.id c.args.subject.now c.element-item.result c.loop-element-test.true
-          c.element-item.is
+      c.element-item.is
       (option_copied c.loop-element.newest) c.loop-element.since c.loop-element.invariant
       (λ held. false≢true (sym w.if-is_newer_version.false ∙ c.is_newer_version.ensures.1 held)))
 ]

@@ -15,12 +15,12 @@ loop-element-preserved c = elim c.if-branch.branch [
   | then-branch w ↦
       rw (w.first-is, w.key.ensures)
       (key_taken (Counts c.args.elements.now c.args.id) c.args.pfs.0 c.args.directory c.args.name.now c.args.elements.now
-          c.loop-element.element-index c.element-item.result
+      c.loop-element.element-index c.element-item.result
       c.loop-element-test.true c.element-item.is c.loop-element.first c.loop-element.invariant (c.in_ok-is_earlier_entry.ensures.0 w.if-branch.true))
   | else-branch w ↦
       rw w.first-is
       (key_passed (Counts c.args.elements.now c.args.id) c.args.pfs.0 c.args.directory c.args.name.now c.args.elements.now
-          c.loop-element.element-index c.element-item.result
+      c.loop-element.element-index c.element-item.result
       c.loop-element-test.true c.element-item.is c.loop-element.first c.loop-element.invariant
       (λ held. false≢true (sym w.if-branch.false ∙ c.in_ok-is_earlier_entry.ensures.1 held)))
 ]
@@ -39,4 +39,4 @@ returns c =
     (take_all c.loop-element.element-index c.args.elements.now c.loop-element-test.false) c.loop-element.invariant in
     first_some c.args.elements.now c.args.id c.args.pfs.0 c.args.directory c.args.name.now c.in-Some.key c.in-Some-2.entry c.requires (rw c.in-Some.is at all)
     (subst (λ (o : Option DirEntry). IsEntryAt (Counts c.args.elements.now c.args.id) c.args.pfs.0 c.args.directory c.in-Some.key o) c.in-Some-2.is
-        c.in_ok-entry.ensures)
+    c.in_ok-entry.ensures)

@@ -17,11 +17,11 @@ returns-in-Some c =
     let before : IsLess c.args.element.now.key.key c.args.first =
     subst (λ (k : ℕ). IsLess k c.args.first) c.key-key.ensures (c.is_less.ensures.0 c.if-not-is_less.false) in
     let has : HasEntry (Counts c.args.elements.now c.args.id) c.args.pfs.0 c.args.directory c.args.element.now.key.key c.in-Some.entry.name
-        c.in-Some.entry.obj =
+    c.in-Some.entry.obj =
     subst (λ (k : ℕ). HasEntry (Counts c.args.elements.now c.args.id) c.args.pfs.0 c.args.directory k c.in-Some.entry.name c.in-Some.entry.obj)
-        c.key-key.ensures
+    c.key-key.ensures
     (subst (λ (o : Option DirEntry). IsEntryAt (Counts c.args.elements.now c.args.id) c.args.pfs.0 c.args.directory c.key-key.result o) c.in-Some.is
-        c.in_ok-entry.ensures) in
+    c.in_ok-entry.ensures) in
     rw c.eq.ensures
     (earlier_test (Counts c.args.elements.now c.args.id) c.args.pfs.0 c.args.directory c.args.name.now c.args.first c.args.element.now c.in-Some.entry
     (settled c.args.elements.now c.args.id c.requires) about before has)

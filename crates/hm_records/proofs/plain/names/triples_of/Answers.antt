@@ -12,23 +12,23 @@ use Rattle.hm_records.proofs.plain.names.triples_of.Goals.{in-Some+in_ok-insert,
 pub loop-element-preserved : goal.loop-element-preserved
 loop-element-preserved c =
     let known : IsNewTriple (Counts c.args.elements.now c.args.id) c.args.pfs.0 c.element-item.result c.loop-element.triples.items
-        c.in_ok-triple.field-0 = rw c.deref.ensures.value at c.in_ok-triple.ensures in
+    c.in_ok-triple.field-0 = rw c.deref.ensures.value at c.in_ok-triple.ensures in
     elim c.match-branch-2.branch [
       | in-Some+in_ok-insert w ↦
           let added = triples_added (Counts c.args.elements.now c.args.id) c.args.pfs.0 (settled c.args.elements.now c.args.id c.requires) c.args.elements.now
           c.loop-element.element-index c.element-item.result c.loop-element-test.true c.element-item.is c.loop-element.triples.items w.in-Some.triple
-              c.loop-element.invariant
+          c.loop-element.invariant
           (subst (λ (o : Option Triple). IsNewTriple (Counts c.args.elements.now c.args.id) c.args.pfs.0 c.element-item.result
-              c.loop-element.triples.items o) w.in-Some.is known) in
+          c.loop-element.triples.items o) w.in-Some.is known) in
           let place : insert c.loop-element.triples.items w.place_of_triple-place.result w.in-Some.triple ≡ insert_by is_triple_before
-              w.in-Some.triple c.loop-element.triples.items = rw w.deref-in-Some.ensures.value at w.place_of_triple-place.ensures.place in
+          w.in-Some.triple c.loop-element.triples.items = rw w.deref-in-Some.ensures.value at w.place_of_triple-place.ensures.place in
           rw (w.triples-is, w.in_ok-insert.ensures.items)
           (subst (λ (os : List Triple). HoldsTriples (Counts c.args.elements.now c.args.id) c.args.pfs.0
-              (take (c.loop-element.element-index + 1) c.args.elements.now) os) (sym place) added)
+          (take (c.loop-element.element-index + 1) c.args.elements.now) os) (sym place) added)
       | in_default w ↦
           rw w.triples-is
           (triples_passed (Counts c.args.elements.now c.args.id) c.args.pfs.0 (settled c.args.elements.now c.args.id c.requires) c.args.elements.now
           c.loop-element.element-index c.element-item.result c.loop-element-test.true c.element-item.is c.loop-element.triples.items c.loop-element.invariant
           (subst (λ (o : Option Triple). IsNewTriple (Counts c.args.elements.now c.args.id) c.args.pfs.0 c.element-item.result
-              c.loop-element.triples.items o) w.in_default.is known))
+          c.loop-element.triples.items o) w.in_default.is known))
     ]

@@ -11,5 +11,8 @@ returns-clause-none c = λ shown pfs tree directory name has.
     (none_lacks pfs tree (counts_of shown) has directory name, lacks_none pfs tree (counts_of shown) has directory name)
 
 pub returns-clause-has : goal.returns-clause-has
-returns-clause-has c = λ shown pfs tree directory name has. (has_none_lacks pfs tree (counts_of shown) has directory name, lacks_has_none pfs tree
-    (counts_of shown) has directory name)
+returns-clause-has c = λ shown pfs tree directory name has. (
+  has_none_lacks pfs tree (counts_of shown) has directory name,
+  lacks_has_none pfs tree
+      (counts_of shown) has directory name,
+)
