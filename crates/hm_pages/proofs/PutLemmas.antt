@@ -1,9 +1,11 @@
 -- What a store tells after a page is put or taken out.
-use Rattle.std.proofs.Common.{◌≡◌, ◌+◌, ◌==◌, ℕ, List, Bool, true, false, if◌then◌else◌, Option, Some, None, option_map, unwrap_or, is_some, refl, ap}
-use Rattle.std.proofs.Common.{◌∙◌, arith}
+use Rattle.std.proofs.Common.{◌≡◌, ◌+◌, ◌≤◌, ◌==◌, ℕ, List, Bool, true, false, if◌then◌else◌, Option, Some, None, option_map, unwrap_or}
+use Rattle.std.proofs.Common.{is_some, IsSome, IsTrue, IsFalse, ◌∙◌, refl, ap, sym, arith, true≢false}
+use Rattle.std.proofs.Math.Nat.{lt_of_not-le}
 use Rattle.std.proofs.lemmas.Bool.Decides.{nat_tests}
 use Rattle.std.proofs.lemmas.Grind.{common_steps}
 use mathlib.Core.Path.{fun_ext}
+use Rattle.hm_types.specs.declared.limits.TheConstants.{MOST_GROUP_PAGES}
 use Rattle.hm_fields.specs.Pages.{PageMap}
 use Rattle.hm_pages.specs.Counts.{Boxed, bytes_of}
 use Rattle.hm_pages.specs.Maps.{ChangeMap, over, set_at, is_page, pages_at}
@@ -41,11 +43,14 @@ has_changed at page changes after pages pages' map is count = record {
   pages = omega (arith, count, pages_after page, pages_of (changes at) (map at));
 }
 
--- a page that stands is counted already
-pub pages_if : (change : Option (Option (List ℕ))) → pages_at change ≡ (if is_page change then 1 else 0)
-pages_if None = refl
-pages_if (Some None) = refl
-pages_if (Some (Some bytes)) = refl
+-- a group that is not full has room for one page more, where none is counted there already
+pub has_room : (page : Option Boxed) (change : Option (Option (List ℕ))) (full : Bool) (pages : ℕ) →
+    (IsSome page × IsFalse (is_page change) × (MOST_GROUP_PAGES ≤ pages) → IsTrue full) → full ≡ false → pages ≤ MOST_GROUP_PAGES →
+    pages + pages_at (Some (option_map bytes_of page)) ≤ MOST_GROUP_PAGES + pages_at change
+has_room None change full pages fills not few = omega (arith, few)
+has_room (Some page) None full pages fills not few = omega (arith, lt_of_not-le (λ most. true≢false (sym (fills (refl, refl, most)) ∙ not)))
+has_room (Some page) (Some None) full pages fills not few = omega (arith, lt_of_not-le (λ most. true≢false (sym (fills (refl, refl, most)) ∙ not)))
+has_room (Some page) (Some (Some bytes)) full pages fills not few = omega (arith, few)
 
 -- no page of the freemap is taken out
 taken_here : (here : Bool) (page : Option Boxed) (change : Option (Option (List ℕ))) → (here ≡ true → is_some page ≡ true) → takes_out change ≡ false →

@@ -64,7 +64,7 @@ sound s =
           (λ at same. unchanged (change_at s.call at) (kept at) same);
       group = in_open s.is_open kept (λ map. AgreeBeside (λ at. is_some (change_at s.group at)) map frozen)
           (λ at same. unchanged (change_at s.group at) (frozen at) same);
-      few = omega (arith, s.few, s.most_few);
+      few = s.few;
       few_frozen = omega (arith, s.len, s.few_frozen);
       layer2 = λ at holds. (grind (arith, (there s).in_frozen at holds), grind (arith, (there s).in_current at holds));
     }

@@ -4,7 +4,7 @@ use Rattle.hm_types.specs.declared.id.Id.{Id}
 use Rattle.hm_fields.specs.Pages.{PageMap}
 use Rattle.hm_fields.specs.declared.states.State.{State}
 use Rattle.hm_fields.specs.declared.states.State.TheVariants.{Committed, Frozen, Current}
-use Rattle.hm_pages.specs.Maps.{ChangeMap, no_pages, over}
+use Rattle.hm_pages.specs.Maps.{ChangeMap, no_pages, over, is_page}
 use Rattle.hm_pages.specs.Sets.{ChangeSet, no_set, set_of, in_freemap}
 use Rattle.hm_pages.specs.Changes.{change_at}
 use Rattle.hm_pages.specs.Table.{page_at}
@@ -83,3 +83,7 @@ abbrev pub in_state : Store → State → PageMap
 in_state s Committed = s.committed
 in_state s Frozen = s.frozen
 in_state s Current = s.current
+
+-- whether a page was put at an offset: by the open call, or in the group where none is open
+abbrev pub stands_in : PageStore → ℕ → Bool
+stands_in s at = is_page ((if s.is_open then change_at s.call else change_at s.group) at)

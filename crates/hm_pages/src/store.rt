@@ -33,13 +33,10 @@ pub struct PageStore {
     places: Vec<HOff>,
     boundary: Option<Id>,
     is_open: bool,
-    // How many pages the group and the open call may have together.
-    most: usize,
     // `keep` and `commit` take no memory.
     ghost room: { hash_map_len call.places ≤ spare group.places },
     ghost flush_room: { hash_map_len frozen.places ≤ spare committed.pages },
-    ghost few: { group.pages + call.pages ≤ most },
-    ghost most_few: { most ≤ MOST_GROUP_PAGES },
+    ghost few: { group.pages + call.pages ≤ MOST_GROUP_PAGES },
     ghost few_frozen: { frozen.pages ≤ MOST_GROUP_PAGES },
     ghost closed: { (if is_open then 0 else hash_map_len call.places) ≡ 0 },
     ghost idle: { (if is_some boundary then 0 else hash_map_len frozen.places) ≡ 0 },
@@ -52,28 +49,19 @@ pub struct PageStore {
 }
 
 impl PageStore {
-    ghost use Rattle.std.specs.Prelude.{None, Some, true, false, OnOk, OnErr, IsSome};
+    ghost use Rattle.std.specs.Prelude.{None, Some, true, false, OnOk, OnErr, IsSome, IsTrue, IsFalse, ◌↔◌};
     ghost use Rattle.std.specs.Prelude.{◌<◌, ◌≢◌, option_map, slice_index};
     ghost use Rattle.hm_types.specs.Offset.{zone_of};
     ghost use Rattle.hm_types.specs.declared.zone.TheConstants.{FREEMAP_ZONE};
-    ghost use Rattle.hm_pages.specs.Maps.{pages_at};
     ghost use Rattle.hm_pages.specs.Counts.{bytes_of};
     ghost use Rattle.hm_pages.specs.Sets.{in_freemap};
-    ghost use Rattle.hm_pages.specs.Store.{contents, empty_store, frame_of, in_state};
+    ghost use Rattle.hm_pages.specs.Store.{contents, empty_store, frame_of, in_state, stands_in};
     ghost use Rattle.hm_pages.specs.Calls.{IsBegun, IsChanged, IsCommitted, IsFrozen};
     ghost use Rattle.hm_pages.specs.Calls.{IsKept, IsLoaded, IsUndone};
 
     /// No page, and nothing frozen. It takes no memory.
-    pub fn new(alloc: Global) -> PageStore
-        ensures { contents result ≡ empty_store }
-    {
-        PageStore::with_limit(alloc, MOST_GROUP_PAGES as usize)
-    }
-
-    // The same, with another number of pages that a group may have.
     #[tactic(auto, unfolding(crate::specs::Store::contents))]
-    pub(crate) fn with_limit(alloc: Global, most: usize) -> PageStore
-        requires { most ≤ MOST_GROUP_PAGES }
+    pub fn new(alloc: Global) -> PageStore
         ensures { contents result ≡ empty_store }
     {
         PageStore {
@@ -85,7 +73,6 @@ impl PageStore {
             places: Vec::new(alloc),
             boundary: None,
             is_open: false,
-            most,
         }
     }
 
@@ -215,7 +202,7 @@ impl PageStore {
             (contents self.old) (contents self.new)) }
         ensures err { OnErr result (contents self.new ≡ contents self.old) }
     {
-        if self.is_full_for(&page, self.call.has_page(at)) {
+        if self.is_full_for(at, &page) {
             return Err(NoMemory);
         }
         self.group.reserve(self.call.len() + 1)?;
@@ -230,19 +217,26 @@ impl PageStore {
             (contents self.old) (contents self.new)) }
         ensures err { OnErr result (contents self.new ≡ contents self.old) }
     {
-        if self.is_full_for(&page, self.group.has_page(at)) {
+        if self.is_full_for(at, &page) {
             return Err(NoMemory);
         }
         self.group.put(at, page)
     }
 
-    // Whether one page more would be too many. Where a page stands already, it is none more.
-    fn is_full_for(&self, page: &Option<Box<HeldPage>>, stands: bool) -> bool
-        ensures { result ≡ false → self.now.group.pages + self.now.call.pages +
-            pages_at (Some (option_map bytes_of page.now)) ≤
-            self.now.most + (if stands then 1 else 0) }
+    // Whether a page at `at` would be one more than a group may have: none stands there yet, in the
+    // open call, or in the group where none is open, and the two have all that they may.
+    fn is_full_for(&self, at: HOff, page: &Option<Box<HeldPage>>) -> bool
+        ensures { IsTrue result ↔ (IsSome page.now × IsFalse (stands_in self.now at) ×
+            (MOST_GROUP_PAGES ≤ self.now.group.pages + self.now.call.pages)) }
     {
-        page.is_some() && !stands && self.group.pages() + self.call.pages() >= self.most
+        let stands = if self.is_open {
+            self.call.has_page(at)
+        } else {
+            self.group.has_page(at)
+        };
+        page.is_some()
+            && !stands
+            && self.group.pages() + self.call.pages() >= MOST_GROUP_PAGES as usize
     }
 
     /// How many pages the current group has: those that were put since the last freeze by calls

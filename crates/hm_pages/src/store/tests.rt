@@ -130,6 +130,15 @@ fn numbers_in(rt: &impl Abort, store: &mut PageStore, state: State) -> Result<Ma
     Ok(map)
 }
 
+// The numbers that it has in all three.
+fn all_numbers(rt: &impl Abort, store: &mut PageStore) -> Result<[Map; 3], Fault> {
+    Ok([
+        numbers_in(rt, store, State::Committed)?,
+        numbers_in(rt, store, State::Frozen)?,
+        numbers_in(rt, store, State::Current)?,
+    ])
+}
+
 #[test]
 fn steps_do_what_they_do_to_three_plain_maps(rt: HostRuntime) -> Result<(), Fail> {
     let mut store = PageStore::new(rt.alloc());
@@ -257,35 +266,59 @@ fn frozen_pages_are_listed_by_their_offsets(rt: HostRuntime) -> Result<(), Fail>
     Ok(())
 }
 
+// Fills the group but for three pages, at offsets that no step speaks of.
+fn fill_but_for_three(rt: &impl Abort, store: &mut PageStore) -> Result<(), Fault> {
+    let page = numbered(99);
+    for i in 0..16_125u64 {
+        let at = HOff::make(TREE_ZONE, 4096 * (PLACES as u64 + i)).expect(rt, "an offset");
+        store.change(at, &page)?;
+    }
+    Ok(())
+}
+
 #[test]
 fn a_group_has_no_more_pages_than_it_may(rt: HostRuntime) -> Result<(), Fail> {
-    let mut store = PageStore::with_limit(rt.alloc(), 3);
+    let mut store = PageStore::new(rt.alloc());
+    take(&rt, &mut store, Step::Load(4, 44))?;
+    fill_but_for_three(&rt, &mut store)?;
     take(&rt, &mut store, Step::Change(0, 10))?;
-    take(&rt, &mut store, Step::Begin)?;
-    take(&rt, &mut store, Step::Change(1, 11))?;
-    take(&rt, &mut store, Step::Change(2, 12))?;
-    assert_eq!(rt;
-        take(&rt, &mut store, Step::Change(3, 13)),
-        Err(Fault::NoMemory)
-    );
-    take(&rt, &mut store, Step::Change(2, 22))?;
-    take(&rt, &mut store, Step::Remove(1))?;
-    take(&rt, &mut store, Step::Change(3, 23))?;
-    assert_eq!(rt;
-        take(&rt, &mut store, Step::Change(4, 24)),
-        Err(Fault::NoMemory)
-    );
-    assert_eq!(rt;
-        numbers_in(&rt, &mut store, State::Current)?,
-        [10, 0, 22, 23, 0, 0, 0, 0, 0]
-    );
-    take(&rt, &mut store, Step::Keep)?;
-    assert_eq!(rt; store.group_len(), 3);
+    assert_eq!(rt; store.group_len(), 16_126);
+    let before = all_numbers(&rt, &mut store)?;
+    // A call that is full at its third page is dropped, and all of the next one kept.
+    for is_kept in [false, true] {
+        take(&rt, &mut store, Step::Begin)?;
+        take(&rt, &mut store, Step::Change(1, 11))?;
+        take(&rt, &mut store, Step::Change(2, 12))?;
+        assert_eq!(rt;
+            take(&rt, &mut store, Step::Change(3, 13)),
+            Err(Fault::NoMemory)
+        );
+        take(&rt, &mut store, Step::Change(2, 22))?;
+        take(&rt, &mut store, Step::Remove(1))?;
+        take(&rt, &mut store, Step::Change(3, 23))?;
+        assert_eq!(rt;
+            take(&rt, &mut store, Step::Change(4, 24)),
+            Err(Fault::NoMemory)
+        );
+        assert_eq!(rt;
+            numbers_in(&rt, &mut store, State::Current)?,
+            [10, 0, 22, 23, 44, 0, 0, 0, 0]
+        );
+        if is_kept {
+            take(&rt, &mut store, Step::Keep)?;
+        } else {
+            take(&rt, &mut store, Step::Undo)?;
+            assert_eq!(rt; all_numbers(&rt, &mut store)?, before);
+            assert_eq!(rt; store.group_len(), 16_126);
+        }
+    }
+    assert_eq!(rt; store.group_len(), 16_128);
     assert_eq!(rt;
         take(&rt, &mut store, Step::Change(5, 25)),
         Err(Fault::NoMemory)
     );
     take(&rt, &mut store, Step::Freeze)?;
     take(&rt, &mut store, Step::Change(5, 25))?;
+    assert_eq!(rt; (store.group_len(), store.frozen_len()), (1, 16_128));
     Ok(())
 }

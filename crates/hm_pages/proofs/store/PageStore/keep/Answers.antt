@@ -15,7 +15,6 @@ invariant_of-self c =
       room = omega (arith, left.len);
       flush_room = c.args.self.now.flush_room;
       few = omega (arith, left.pages, c.absorb.ensures.pages, ap (λ d. d.pages) moved, c.args.self.now.few);
-      most_few = c.args.self.now.most_few;
       few_frozen = c.args.self.now.few_frozen;
       closed = left.len;
       idle = c.args.self.now.idle;

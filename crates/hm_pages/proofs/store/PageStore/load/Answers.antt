@@ -34,7 +34,6 @@ invariant_of-self-2 c =
       room = omega (arith, call_len s c.requires.closed);
       flush_room = omega (arith, c.forget.ensures.len, c.put.ensures.spare, c.in_ok-reserve.ensures.ok, c.len.ensures.len);
       few = omega (arith, c.forget-2.ensures.pages, s.few);
-      most_few = s.most_few;
       few_frozen = omega (arith, c.forget.ensures.pages, s.few_frozen);
       closed = s.closed;
       idle = idle_fewer (is_some s.boundary) (hash_map_len s.frozen.places) (hash_map_len c.forget.new.self.places) s.idle c.forget.ensures.len;

@@ -1,13 +1,13 @@
-use Rattle.std.proofs.Common.{◌≡◌, ◌∙◌, ℕ, Bool, ap, sym, subst, refl, arith, Some, None, option_map, if◌then◌else◌}
+use Rattle.std.proofs.Common.{◌≡◌, ◌∙◌, ◌+◌, Bool, ap, sym, subst, refl, arith, Some, None, option_map, if◌then◌else◌}
 use Rattle.std.specs.HashMap.{hash_map_len}
 use Rattle.std.specs.Option.{MatchOption}
 use Rattle.hm_pages.specs.Changes.{change_at}
 use Rattle.hm_pages.specs.Table.{page_at}
 use Rattle.hm_pages.specs.Counts.{bytes_of}
-use Rattle.hm_pages.specs.Maps.{ChangeMap, over, set_at}
+use Rattle.hm_pages.specs.Maps.{ChangeMap, is_page, over, set_at}
 use Rattle.hm_pages.specs.Sets.{KeepsFreemap, HasChanged, set_of}
 use Rattle.hm_pages.specs.Store.{contents}
-use Rattle.hm_pages.proofs.PutLemmas.{over_set, has_changed, pages_if, keeps_set}
+use Rattle.hm_pages.proofs.PutLemmas.{over_set, has_changed, has_room, keeps_set}
 use Rattle.hm_pages.proofs.ResultLemmas.{on_both, each_way}
 use Rattle.hm_pages.proofs.StoreLemmas.{closed_len, none_from_len}
 use Rattle.hm_pages.proofs.store.PageStore.put_in_group.Goals as goal
@@ -15,17 +15,16 @@ use Rattle.hm_pages.proofs.store.PageStore.put_in_group.Goals as goal
 pub invariant_of-self : goal.invariant_of-self
 invariant_of-self c =
     let s = c.args.self.now in
-    let fits = c.is_full_for.ensures c.if-is_full_for.false in
-    let stands = pages_if (change_at s.group c.args.at) in
-    let same = ap {B = ℕ} (λ (b : Bool). if b then 1 else 0) c.has_page.ensures in
+    let stands = ap (λ (b : Bool). is_page ((if b then change_at s.call else change_at s.group) c.args.at)) c.requires.closed in
+    let fits = has_room c.args.page (change_at s.group c.args.at) c.is_full_for.result (s.group.pages + s.call.pages)
+    (λ full. c.is_full_for.ensures.1 (full.0, stands ∙ full.1, full.2)) c.if-is_full_for.false s.few in
     record {
       room = omega (arith, closed_len s.is_open (hash_map_len s.call.places) s.closed c.requires.closed);
       flush_room = s.flush_room;
       few = each_way c.put.result
-          (λ count. omega (arith, count, fits, stands, same, s.few))
+          (λ count. omega (arith, count, fits, s.few))
           (λ count. omega (arith, count, s.few))
           c.put.ensures.pages c.put.ensures.pages_at_err;
-      most_few = s.most_few;
       few_frozen = s.few_frozen;
       closed = s.closed;
       idle = s.idle;

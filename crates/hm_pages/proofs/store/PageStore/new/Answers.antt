@@ -1,6 +1,6 @@
 use Rattle.std.proofs.Common.{false, None}
 use Rattle.hm_pages.specs.Store.{contents, store_of}
-use Rattle.hm_pages.proofs.store.PageStore.with_limit.Goals as goal
+use Rattle.hm_pages.proofs.store.PageStore.new.Goals as goal
 
 pub returns : goal.returns
 unfolding contents
