@@ -77,6 +77,13 @@ module _ {S : Type 0} (elements_of : S → Option (List Element)) (extents_of : 
   abbrev pub told_by : S → Option Lists
   told_by s = content_of (elements_of s) (extents_of s)
 
+  -- nothing is asked of an old content
+  pub unknown : (old : S) → IfSome (told_by old) (λ _. Unit {0})
+  unknown old = any (told_by old) where
+    any : (o : Option Lists) → IfSome o (λ _. Unit {0})
+    any None = tt
+    any (Some lists) = tt
+
   pub writes_so : (A B : Change) (Known : Lists → Type 0) (old new : S) → IfSome (told_by old) Known → IsAlso Known A B
       → Writes elements_of extents_of A old new → Writes elements_of extents_of B old new
   writes_so A B Known old new = does_so A B Known (told_by old) (told_by new)

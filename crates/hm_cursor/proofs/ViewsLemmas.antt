@@ -15,7 +15,7 @@ use Rattle.hm_records.specs.declared.entry.DirEntry.{DirEntry}
 use Rattle.hm_records.proofs.MadeLemmas.{beside_alone}
 use Rattle.hm_records.proofs.SubjectLemmas.{beside_other, same_subject}
 use Rattle.hm_cursor.specs.Views.{CameAs, Shows, WritesIn}
-use Rattle.hm_cursor.specs.Write.{AreUpTo, CameFrom, IsFreshFor, Rewrites}
+use Rattle.hm_cursor.specs.Write.{AddsOfType, AreUpTo, CameFrom, IsFreshFor, Rewrites}
 
 -- a subject is of a pseudo file system, and is none of the records
 pub record IsWithin (pfs : ℕ) (s : Subject) : Type 0 where
@@ -185,6 +185,26 @@ writes_wider pfs i New Wider es es' wider writes = record {
   widened : (x : FullElement) → CameAs New es x → CameAs Wider es x
   widened x (inl was) = inl was
   widened x (inr new) = inr (wider x new)
+
+-- What is new has the type of object of which elements were added, where it may have any.
+pub writes_of_type : (pfs i kind : ℕ) (New Typed : FullElement → Type 0) (es es' : List FullElement)
+    → ((x : FullElement) → New x → New (record x { obj_type = kind })) → ((x : FullElement) → New x → x.obj_type ≡ kind → Typed x)
+    → AddsOfType kind es es' → WritesIn pfs i New es es' → WritesIn pfs i Typed es es'
+writes_of_type pfs i kind New Typed es es' any typed adds writes = record {
+  past = writes.past;
+  others = writes.others;
+  records = writes.records;
+  records_then = writes.records_then;
+  came = λ x has. elim (writes.came x has) [
+    | inl was ↦ inl was
+    | inr new ↦ elim (adds x has) [
+      | inl old ↦ inl (x, old, refl, refl, refl)
+      | inr is ↦ inr (typed x new is)
+    ]
+  ];
+  fresh = λ s apart is. writes.fresh s (λ x new. apart (record x { obj_type = kind }) (typed (record x { obj_type = kind }) (any x new) refl)) is;
+  up_to = writes.up_to;
+}
 
 -- Two writes of one kind of elements are one.
 pub writes_again : (pfs i : ℕ) (New : FullElement → Type 0) (es mid es' : List FullElement) → IsSteady New

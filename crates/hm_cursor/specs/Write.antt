@@ -55,6 +55,10 @@ pub record Rewrites (s : Subject) (now : Option (List ℕ)) (i : ℕ) (es es' : 
 abbrev pub FollowWith : Subject → List ℕ → ℕ → List FullElement → List FullElement → Type 0
 FollowWith s bytes i es es' = (pfs t : ℕ) → (i ≤ t → OthersEnded pfs s (Some bytes) i es) → Follows pfs t es → Follows pfs t es'
 
+-- what is new in a list has this type of object
+abbrev pub AddsOfType : ℕ → List FullElement → List FullElement → Type 0
+AddsOfType kind es es' = (x : FullElement) → Contains es' x → Contains es x ⊎ (x.obj_type ≡ kind)
+
 -- A call that wrote left a balanced store that tells its content, where it found one, and did this to the elements with
 -- their payloads.
 abbrev pub Writes : {S : Type 0} → (S → Option (List Element)) → (S → Option (List Extent)) → (List FullElement → List FullElement → Type 0) → S → S → Type 0

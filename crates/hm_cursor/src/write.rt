@@ -9,6 +9,7 @@ ghost use Rattle.hm_key.specs.Key.{key_of};
 ghost use Rattle.hm_key.specs.Stores.{Keeps};
 ghost use Rattle.hm_key.specs.Versions.{Adds};
 ghost use Rattle.hm_cursor.specs.Write.{
+  AddsOfType,
   ClosesAt,
   ClosesIfOpen,
   FollowWith,
@@ -28,7 +29,8 @@ use hm_key::{Base, Element, ElementStore, Extents, HasElements, HasRoom};
 use hm_types::{Counted, Fault, Id};
 
 /// Adds an element and its payload, which is put into a new extent of a zone. The versions of its
-/// subject are older. From its create id on it counts, and nothing else does about that subject.
+/// subject are older. From its create id on it counts, and nothing else does about that subject. What
+/// is new has the type of object of the base.
 /// The faults are those of the store; after one nothing is known of the content.
 pub fn add_version<T: ElementStore + Extents>(
     store: &mut T,
@@ -43,6 +45,8 @@ pub fn add_version<T: ElementStore + Extents>(
     requires room { HasRoomFor (T.room store.old) zone bytes.now }
     ensures ok { OnOk result (Writes T.elements T.extents
         (Rewrites (subject_of (key_of base.now)) (Some bytes.now) base.now.create)
+        store.old store.new) }
+    ensures kind { OnOk result (Writes T.elements T.extents (AddsOfType base.now.obj_type)
         store.old store.new) }
     ensures keeps { Keeps T.elements T.extents store.old store.new result }
     ensures space { Spends T.room T.free (taken zone bytes.now) store.old store.new }

@@ -70,7 +70,7 @@ module _ (scene : Scene) (mode : Mode) (parts : List Part) where
   pub over_none : (stand : Stand) → EndsAt scene follows start ((0, 1) ∷ []) stand → AreDrawn scene.course.last parts → IsOver scene mode parts parts stand
   over_none stand ends drawn = record {
     passed = (0, 1) ∷ [];
-    ends = record { place = refl; told = ends.told; read = λ looks. ends.read tt };
+    ends = record { place = refl; told = ends.told; read = λ looks. ends.read tt; known = ends.known };
     drawn = drawn;
     same = ap (λ (p : Place). walk_on scene.volume scene.view mode parts p ((0, 1) ∷ [])) (sym ends.place);
   }
@@ -93,7 +93,7 @@ module _ (scene : Scene) (mode : Mode) (parts : List Part) where
       by_step (Refuses reply list) same out = absurd out
       by_step (Reaches there list) same out = record {
         passed = list;
-        ends = record { place = refl; told = out.told; read = out.read };
+        ends = record { place = refl; told = out.told; read = out.read; known = out.known };
         drawn = is.drawn.1;
         same =
             is.same

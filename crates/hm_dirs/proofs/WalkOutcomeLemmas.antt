@@ -1,5 +1,5 @@
 -- How walks come out, step by step.
-use Rattle.std.proofs.Common.{◌≡◌, ℕ, Bool, true, false, List, [], ◌∷◌, ◌++◌, Option, Some, None, Result, Ok, Err, refl, sym, subst, ◌∙◌}
+use Rattle.std.proofs.Common.{◌≡◌, ℕ, Bool, true, false, List, [], ◌∷◌, ◌++◌, Option, Some, None, Result, Ok, Err, refl, sym, subst, ◌∙◌, inl, inr}
 use Rattle.std.specs.Prelude.{◌==◌, if◌then◌else◌, option_map}
 use Rattle.std.specs.Option.{option_map_or}
 use Rattle.std.proofs.lemmas.Bool.{eqb-true, eq-eqb, false≢true}
@@ -19,7 +19,7 @@ use Rattle.hm_records.specs.View.{IsViewOf}
 use Rattle.hm_records.specs.declared.inode.Inode.{Inode}
 use Rattle.hm_records.specs.declared.kind.TheConstants.{DIRECTORY, PFS_LINK}
 use Rattle.hm_volume.specs.Found.{IsFoundBy, IsMadeBy}
-use Rattle.hm_dirs.specs.Walk.{ComesOut, EndsAt, GoesOn, Scene, IsDrawn, IsOn, IsRead, IsTold, found_at, is_directory_by, link_by, place_of, reply_of, when_of}
+use Rattle.hm_dirs.specs.Walk.{ComesOut, EndsAt, GoesOn, Scene, IsDrawn, IsOn, IsRead, IsTaken, IsTold, found_at, is_directory_by, link_by, place_of, reply_of, when_of}
 use Rattle.hm_dirs.specs.declared.position.Lost.{Lost}
 use Rattle.hm_dirs.specs.declared.position.Lost.TheVariants.{NotFound, NotDir, NotRetained}
 use Rattle.hm_dirs.specs.declared.position.Position.{Position}
@@ -31,7 +31,7 @@ module _ (scene : Scene) where
 
   -- it stays there
   pub stays_on : (mode : Mode) (passed : Passed) (stand : Stand) → IsOn scene passed stand → ComesOut scene mode (Reaches (place_of stand.at) passed) (Ok stand)
-  stays_on mode passed stand on = record { place = refl; told = on.told; read = λ _. on.read }
+  stays_on mode passed stand on = record { place = refl; told = on.told; read = λ _. on.read; known = inl on.read }
 
   -- it goes on
   pub goes_on : (mode : Mode) (w : Walked) (next : Place → Passed → Walked) (stand : Stand) (walked : Result Stand Lost) → ComesOut scene follows w (Ok stand)
@@ -55,15 +55,17 @@ module _ (scene : Scene) where
     at_some inode has =
         let stand : Stand = record { at = at; as_of = as_of; inode = Some inode; passed = passed } in
         let (o, there, made) = object_some scene is (place_of at) as_of.0 view inode has in
+        let read : IsRead scene stand = record {
+          drawn = drawn;
+          view = view;
+          inode = subst (λ (found : Option Object). IsFoundBy (Counts scene.elements as_of.0) at.pfs.0 found (Some inode)) (sym there) made;
+        } in
         subst (λ (found : Option Object). ComesOut scene follows (option_map_or (λ (_ : Object). Reaches (place_of at) list) found
         (Refuses not_found list)) (Ok stand)) (sym there) (record {
           place = refl;
           told = told;
-          read = λ _. record {
-            drawn = drawn;
-            view = view;
-            inode = subst (λ (found : Option Object). IsFoundBy (Counts scene.elements as_of.0) at.pfs.0 found (Some inode)) (sym there) made;
-          };
+          read = λ _. read;
+          known = inl read;
         })
 
     pub at_none : CountsNothing (Counts scene.elements as_of.0) (inode_subject at.pfs.0 at.object.0)
@@ -127,11 +129,11 @@ module _ (scene : Scene) where
     takes_none none = subst (λ (system : Option PseudoFileSystem). ComesOut scene takes_pfs (taken system) (Err NotFound)) (sym none) refl
 
     pub takes : (s : PseudoFileSystem) (stand : Stand) → system_of scene.volume pfs ≡ Some s → place_of stand.at ≡ root_of pfs when
-        → IsTold scene list stand.passed
+        → IsTold scene list stand.passed → IsTaken scene stand
         → ComesOut scene takes_pfs (take_pfs scene.volume pfs when list) (Ok stand)
-    takes s stand there place told =
+    takes s stand there place told taken_is =
         subst (λ (system : Option PseudoFileSystem). ComesOut scene takes_pfs (taken system) (Ok stand)) (sym there)
-        (record { place = place; told = told; read = λ looks. absurd looks })
+        (record { place = place; told = told; read = λ looks. absurd looks; known = inr taken_is })
 
   -- ---- over a link
 

@@ -1,5 +1,5 @@
 -- How walks come out over what a store tells.
-use Rattle.std.proofs.Common.{◌≡◌, ℕ, ◌^◌, arith, Bool, true, false, List, [], ◌∷◌, ◌++◌, Option, Some, None, Result, Ok, Err, refl, sym, ap, subst, ◌∙◌}
+use Rattle.std.proofs.Common.{◌≡◌, ℕ, ◌^◌, arith, Bool, true, false, List, [], ◌∷◌, ◌++◌, Option, Some, None, Result, Ok, Err, refl, sym, ap, subst, ◌∙◌, inl, inr, unwrap_or}
 use Rattle.std.specs.Prelude.{◌||◌, IfOk, IfSome, option_map}
 use Rattle.hm_types.specs.Elements.{FullElement}
 use Rattle.hm_types.specs.Intervals.{Keeps}
@@ -28,8 +28,8 @@ use Rattle.hm_volume.specs.Found.{IsFoundBy}
 use Rattle.hm_cursor.specs.Told.{IsInodeThen, IsRecordNow, Lists, OnBalanced, fulls}
 use Rattle.hm_cursor.specs.Names.{IsFirstEntry}
 use Rattle.hm_dirs.specs.Names.{IsLookedUp, OnNamed}
-use Rattle.hm_dirs.specs.Walk.{AreDrawn, ComesOut, EndsAt, GoesOn, IsDrawn, IsSeenAs, IsShownAs, IsTold, OnShown, Scene, found_at, is_directory_by}
-use Rattle.hm_dirs.specs.Walk.{is_watched, link_by, mode_of, place_of, root_at, when_of}
+use Rattle.hm_dirs.specs.Walk.{AreDrawn, ComesOut, EndsAt, GoesOn, IsDrawn, IsSeenAs, IsShownAs, IsTaken, IsTold, OnShown, Scene, found_at}
+use Rattle.hm_dirs.specs.Walk.{is_directory_by, is_watched, link_by, mode_of, place_of, root_at, shown_by, when_of}
 use Rattle.hm_dirs.specs.declared.position.Course.{Course}
 use Rattle.hm_dirs.specs.declared.position.Follow.{Follow}
 use Rattle.hm_dirs.specs.declared.position.Follow.TheVariants.{Stays, Follows, TakesPfs}
@@ -226,10 +226,12 @@ module _ (es : Option (List Element)) (xs : Option (List Extent)) (course : Cour
           (λ scene sound asked has.
           let view : IsViewOf scene.elements 0 as_of.0 (scene.view 0 Now) =
           first_view scene sound first as_of.0 has.0 (subst (λ (c : Course). IsShownAs c.last.0 first as_of.0) (sym asked) shows) in
+          let found = found_by scene sound (root_of 0 Now) as_of.0 inode view has.1 in
           record {
             place = refl;
             told = subst (λ (c : Course). passed ≡ (is_watched c.watch (0, 1) || false)) (sym asked) (is ∙ or_false (is_watched course.watch (0, 1)));
-            read = λ _. record { drawn = tt; view = view; inode = found_by scene sound (root_of 0 Now) as_of.0 inode view has.1 };
+            read = λ _. record { drawn = tt; view = view; inode = found };
+            known = inl (record { drawn = tt; view = view; inode = found });
           })
         where
           or_false : (b : Bool) → b ≡ (b || false)
@@ -298,14 +300,36 @@ module _ (es : Option (List Element)) (xs : Option (List Extent)) (course : Cour
       (record_told es xs pfs.0 None (subst (λ (o : Option PfsRecord). OnBalanced es xs (λ lists. IsRecordNow lists pfs.0 o)) is told))
       (λ scene sound asked none list told. takes_none scene pfs.0 (when_of when) list (no_system scene sound pfs.0 (none sound.shows.ids)))
 
-  pub taken_some : (pfs : Pfs) (when : Option Id) (passed : Bool) (found : Option PfsRecord) (r : PfsRecord) (stand : Stand)
-      → OnBalanced es xs (λ lists. IsRecordNow lists pfs.0 found) → found ≡ Some r → stand.at ≡ root_at pfs when → stand.passed ≡ passed
+  taken_end : (scene : Scene) → IsSound scene → (pfs : Pfs) (when : Option Id) (r : PfsRecord) (shown : Id) (stand : Stand)
+      → IsPfsRecord r × IsRecordOf scene.elements pfs.0 (pfs_bytes r) → stand.at ≡ root_at pfs when → stand.inode ≡ None → stand.as_of ≡ unwrap_or when shown
+      → shown.0 ≡ shown_by scene.course.last.0 r → IsTaken scene stand
+  taken_end scene sound pfs when r shown stand has root none as_is shows = record {
+    inode = none;
+    dated = subst (λ (p : Position). IfSome p.when (λ id. stand.as_of ≡ id)) (sym root) (dated when as_is);
+    now = λ is.
+        subst (λ (p : Position). IsViewOf scene.elements p.pfs.0 stand.as_of.0 (scene.view p.pfs.0 Now)) (sym root)
+        (subst (λ (t : ℕ). IsViewOf scene.elements pfs.0 t (scene.view pfs.0 Now)) (sym (now when (ap (λ (p : Position). p.when) (sym root) ∙ is) as_is))
+        (view_now scene sound pfs.0 r has));
+  } where
+    dated : (when : Option Id) → stand.as_of ≡ unwrap_or when shown → IfSome when (λ id. stand.as_of ≡ id)
+    dated None is = tt
+    dated (Some id) is = is
+
+    now : (when : Option Id) → when ≡ None → stand.as_of ≡ unwrap_or when shown → stand.as_of.0 ≡ shown_by scene.course.last.0 r
+    now None none is = ap (λ (t : Id). t.0) is ∙ shows
+    now (Some id) none is = absurd (cc)
+
+  pub taken_some : (pfs : Pfs) (when : Option Id) (passed : Bool) (found : Option PfsRecord) (r : PfsRecord) (shown : Id) (stand : Stand)
+      → OnBalanced es xs (λ lists. IsRecordNow lists pfs.0 found) → found ≡ Some r → stand.at ≡ root_at pfs when → stand.inode ≡ None
+      → stand.as_of ≡ unwrap_or when shown → shown.0 ≡ shown_by course.last.0 r → stand.passed ≡ passed
       → OnShown es xs course (Taken pfs when passed (Ok stand))
-  taken_some pfs when passed found r stand told is root same =
+  taken_some pfs when passed found r shown_id stand told is root none as_is shows same =
       shown es xs course (RecordIs pfs.0 (Some r)) (Taken pfs when passed (Ok stand)) content (record_some pfs.0 r found told is)
       (λ scene sound asked has list told.
       let (s, there, for) = its_system scene sound pfs.0 r (has sound.shows.ids) in
-      takes scene pfs.0 (when_of when) list s stand there (ap place_of root) (same ∙ told))
+      takes scene pfs.0 (when_of when) list s stand there (ap place_of root) (same ∙ told)
+      (taken_end scene sound pfs when r shown_id stand (has sound.shows.ids) root none as_is
+      (subst (λ (c : Course). shown_id.0 ≡ shown_by c.last.0 r) (sym asked) shows)))
 
   -- ---- over a link
 

@@ -1,7 +1,8 @@
 -- What writes do to the names of a directory.
-use Rattle.std.proofs.Common.{◌≡◌, ℕ, ◌+◌, ◌≤◌, Bool, true, false, List, Option, None, Some, Result, Ok, Err, length, refl, ap, sym, subst, ◌∙◌, inl}
+use Rattle.std.proofs.Common.{◌≡◌, ◌≢◌, ℕ, ◌+◌, ◌≤◌, Bool, true, false, List, Option, None, Some, Result, Ok, Err, length, refl, ap, sym, subst, ◌∙◌, inl}
 use Rattle.std.proofs.Common.{inr, arith, rules}
-use Rattle.std.specs.Prelude.{IfSome, IsSomeAnd, OnOk}
+use Rattle.std.specs.Prelude.{◌↔◌, IfSome, IsSomeAnd, OnOk}
+use Rattle.std.proofs.lemmas.Bool.{cases_lt}
 use Rattle.hm_types.specs.Elements.{FullElement, Key}
 use Rattle.hm_types.specs.Tree.{FileTree, with_name}
 use Rattle.hm_types.specs.declared.id.Obj.{Obj}
@@ -28,10 +29,10 @@ use Rattle.hm_records.proofs.SubjectLemmas.{same_subject}
 use Rattle.hm_records.proofs.ViewLemmas.{view_same}
 use Rattle.hm_records.proofs.EntryLemmas.{length-entry}
 use Rattle.hm_cursor.specs.Told.{Lists, fulls}
-use Rattle.hm_cursor.specs.Write.{IsNew, Rewrites, Writes, most_payload}
+use Rattle.hm_cursor.specs.Write.{AddsOfType, IsNew, Rewrites, Writes, most_payload}
 use Rattle.hm_cursor.specs.Views.{Shows, WritesIn}
 use Rattle.hm_cursor.proofs.FollowLemmas.{adding_follows, closing_follows, follow_twice}
-use Rattle.hm_cursor.proofs.ViewsLemmas.{IsSteady, IsWithin, fresh_later, keys_fit_still, writes_again, writes_within}
+use Rattle.hm_cursor.proofs.ViewsLemmas.{IsSteady, IsWithin, fresh_later, keys_fit_still, writes_again, writes_of_type, writes_within}
 use Rattle.hm_dirs.specs.Entries.{Clears}
 use Rattle.hm_dirs.specs.Names.{AddsName, AreOlder, CanTakeAt, IsEntryAt}
 use Rattle.hm_dirs.specs.declared.spot.Spot.{Spot}
@@ -113,10 +114,11 @@ none_some : (b : List ℕ) → None ≡ Some b → ⊥
 none_some b is = cc
 
 -- a new entry that is closed stays one
-entry_steady : (pfs : ℕ) (directory : Obj) (key i : ℕ) (entry : DirEntry) → IsSteady (IsEntryAt pfs directory key i entry)
-entry_steady pfs directory key i entry x e key' kind bytes new = record {
+entry_steady : (pfs : ℕ) (directory : Obj) (key i : ℕ) (entry : DirEntry) (kind : ℕ) → IsSteady (IsEntryAt pfs directory key i entry kind)
+entry_steady pfs directory key i entry kind x e key' type bytes new = record {
   about = ap subject_of key' ∙ new.about;
   made = ap (λ (k : Key). k.create) key' ∙ new.made;
+  kind_is = type ∙ new.kind_is;
   entry_is = new.entry_is;
   bytes = bytes ∙ new.bytes;
 }
@@ -148,13 +150,23 @@ entry_before pfs directory i t es name key object older late has = record {
 
 -- ---- a name that is added
 
-module _ (pfs : ℕ) (directory : Obj) (key i : ℕ) (entry : DirEntry) (is : IsEntry entry) (es mid es' : List FullElement)
-    (wrote : Rewrites (entry_subject pfs directory.0 key) (Some (entry_bytes entry)) i mid es') where
-  entry_writes : WritesIn pfs i (IsEntryAt pfs directory key i entry) mid es'
+module _ (pfs : ℕ) (directory : Obj) (key i : ℕ) (entry : DirEntry) (kind : ℕ) (is : IsEntry entry) (es mid es' : List FullElement)
+    (wrote : Rewrites (entry_subject pfs directory.0 key) (Some (entry_bytes entry)) i mid es') (adds : AddsOfType kind mid es') where
+  entry_writes : WritesIn pfs i (IsEntryAt pfs directory key i entry kind) mid es'
   entry_writes =
-      writes_within pfs i (entry_subject pfs directory.0 key) (Some (entry_bytes entry)) (IsEntryAt pfs directory key i entry) mid es'
+      writes_of_type pfs i kind (λ x. IsEntryAt pfs directory key i entry x.obj_type x) (IsEntryAt pfs directory key i entry kind) mid es'
+      (λ x new. record { about = new.about; made = new.made; kind_is = refl; entry_is = new.entry_is; bytes = new.bytes })
+      (λ x new type. record { about = new.about; made = new.made; kind_is = type; entry_is = new.entry_is; bytes = new.bytes })
+      adds
+      (writes_within pfs i (entry_subject pfs directory.0 key) (Some (entry_bytes entry)) (λ x. IsEntryAt pfs directory key i entry x.obj_type x) mid es'
       (entry_within pfs directory.0 key)
-      (λ x about made now. record { about = about; made = made; entry_is = is; bytes = sym (some_one (entry_bytes entry) x.bytes now) }) wrote
+      (λ x about made now. record {
+        about = about;
+        made = made;
+        kind_is = refl;
+        entry_is = is;
+        bytes = sym (some_one (entry_bytes entry) x.bytes now);
+      }) wrote)
 
   entry_shows : (t : ℕ) (tree : FileTree) → i ≤ t → CountsNothing (Counts mid t) (entry_subject pfs directory.0 key)
       → LacksName (Counts mid t) pfs directory entry.name → HasView (Counts mid t) pfs tree
@@ -163,11 +175,11 @@ module _ (pfs : ℕ) (directory : Obj) (key i : ℕ) (entry : DirEntry) (is : Is
       new_shown pfs directory key entry (Counts mid t) (Counts es' t)
       (record { ranges = is; unused = unused; counts = wrote.present t late }) tree has lacks
 
-  all_writes : (hidden : Bool) → Clears hidden (entry_subject pfs directory.0 key) i es mid → WritesIn pfs i (IsEntryAt pfs directory key i entry) es es'
-  all_writes false same = subst (λ (l : List FullElement). WritesIn pfs i (IsEntryAt pfs directory key i entry) l es') same entry_writes
+  all_writes : (hidden : Bool) → Clears hidden (entry_subject pfs directory.0 key) i es mid → WritesIn pfs i (IsEntryAt pfs directory key i entry kind) es es'
+  all_writes false same = subst (λ (l : List FullElement). WritesIn pfs i (IsEntryAt pfs directory key i entry kind) l es') same entry_writes
   all_writes true closed =
-      writes_again pfs i (IsEntryAt pfs directory key i entry) es mid es' (entry_steady pfs directory key i entry)
-      (writes_within pfs i (entry_subject pfs directory.0 key) None (IsEntryAt pfs directory key i entry) es mid (entry_within pfs directory.0 key)
+      writes_again pfs i (IsEntryAt pfs directory key i entry kind) es mid es' (entry_steady pfs directory key i entry kind)
+      (writes_within pfs i (entry_subject pfs directory.0 key) None (IsEntryAt pfs directory key i entry kind) es mid (entry_within pfs directory.0 key)
       (λ x about made now. absurd (none_some x.bytes now)) closed)
       entry_writes
 
@@ -235,6 +247,27 @@ module _ (pfs : ℕ) (directory : Obj) (key i : ℕ) (entry : DirEntry) (is : Is
             (entry_bytes (record { obj = object; name = entry.name })) there.there;
       }
 
+  -- for another subject the same counts, as of any id
+  all_beside : (hidden : Bool) → Clears hidden (entry_subject pfs directory.0 key) i es mid → (t : ℕ) (s : Subject) (bytes : List ℕ)
+      → s ≢ entry_subject pfs directory.0 key → Counts es' t s bytes ↔ Counts es t s bytes
+  all_beside hidden clears t s bytes differ = (
+    λ counts. (first hidden clears).0 ((since mid es' (Some (entry_bytes entry)) wrote).0 counts),
+    λ counts. (since mid es' (Some (entry_bytes entry)) wrote).1 ((first hidden clears).1 counts),
+  ) where
+    since : (a b : List FullElement) (now : Option (List ℕ)) → Rewrites (entry_subject pfs directory.0 key) now i a b
+        → Counts b t s bytes ↔ Counts a t s bytes
+    since a b now rewrites = elim (cases_lt t i) [
+      | inl below ↦ ((rewrites.past t below s bytes).0, (rewrites.past t below s bytes).1)
+      | inr late ↦ (rewrites.present t late).elsewhere s bytes differ
+    ]
+
+    first : (hidden : Bool) → Clears hidden (entry_subject pfs directory.0 key) i es mid → Counts mid t s bytes ↔ Counts es t s bytes
+    first false same = (
+      subst (λ (l : List FullElement). Counts l t s bytes) same,
+      subst (λ (l : List FullElement). Counts l t s bytes) (sym same),
+    )
+    first true closed = since es mid None closed
+
   -- what followed before follows still, since no open entry is left behind
   all_follow : (hidden : Bool) → Clears hidden (entry_subject pfs directory.0 key) i es mid → CanTakeAt (Counts es i) pfs directory key hidden
       → StillFollow es es'
@@ -252,14 +285,16 @@ module _ (pfs : ℕ) (directory : Obj) (key i : ℕ) (entry : DirEntry) (is : Is
       unused false same takes = subst (λ (l : List FullElement). CountsNothing (Counts l i) (entry_subject pfs directory.0 key)) (sym same) takes
       unused true closed takes = λ bytes counts. none_some bytes (((closed.present i (omega arith)).about bytes).0 counts)
 
-pub adds_name : (pfs : ℕ) (directory : Obj) (spot : Spot) (i : ℕ) (entry : DirEntry) (s : Subject) (bytes : List ℕ) (es mid es' : List FullElement)
-    → s ≡ entry_subject pfs directory.0 spot.key → bytes ≡ entry_bytes entry → IsEntry entry → AreOlder pfs directory i es
-    → Clears spot.hidden s i es mid → Rewrites s (Some bytes) i mid es' → AddsName pfs directory spot i entry es es'
-adds_name pfs directory spot i entry s bytes es mid es' here spelled is older clears rewrites = record {
+pub adds_name : (pfs : ℕ) (directory : Obj) (spot : Spot) (i : ℕ) (entry : DirEntry) (kind : ℕ) (s : Subject) (bytes : List ℕ)
+    (es mid es' : List FullElement) → s ≡ entry_subject pfs directory.0 spot.key → bytes ≡ entry_bytes entry → IsEntry entry
+    → AreOlder pfs directory i es → Clears spot.hidden s i es mid → Rewrites s (Some bytes) i mid es' → AddsOfType kind mid es'
+    → AddsName pfs directory spot i entry kind es es'
+adds_name pfs directory spot i entry kind s bytes es mid es' here spelled is older clears rewrites adds = record {
   writes = writes;
-  shows = all_shows pfs directory spot.key i entry is es mid es' wrote spot.hidden cleared older;
-  fits = λ hash fit. keys_fit_still pfs i (IsEntryAt pfs directory spot.key i entry) hash es es' writes (new_fits hash fit);
-  follows = all_follow pfs directory spot.key i entry is es mid es' wrote spot.hidden cleared;
+  shows = all_shows pfs directory spot.key i entry kind is es mid es' wrote adds spot.hidden cleared older;
+  fits = λ hash fit. keys_fit_still pfs i (IsEntryAt pfs directory spot.key i entry kind) hash es es' writes (new_fits hash fit);
+  beside = all_beside pfs directory spot.key i entry kind is es mid es' wrote adds spot.hidden cleared;
+  follows = all_follow pfs directory spot.key i entry kind is es mid es' wrote adds spot.hidden cleared;
 } where
   wrote : Rewrites (entry_subject pfs directory.0 spot.key) (Some (entry_bytes entry)) i mid es'
   wrote =
@@ -269,11 +304,11 @@ adds_name pfs directory spot i entry s bytes es mid es' here spelled is older cl
   cleared : Clears spot.hidden (entry_subject pfs directory.0 spot.key) i es mid
   cleared = subst (λ (z : Subject). Clears spot.hidden z i es mid) here clears
 
-  writes : WritesIn pfs i (IsEntryAt pfs directory spot.key i entry) es es'
-  writes = all_writes pfs directory spot.key i entry is es mid es' wrote spot.hidden cleared
+  writes : WritesIn pfs i (IsEntryAt pfs directory spot.key i entry kind) es es'
+  writes = all_writes pfs directory spot.key i entry kind is es mid es' wrote adds spot.hidden cleared
 
   new_fits : (hash : List ℕ → ℕ) → KeyFits hash spot.key entry.name → (x : FullElement) (found : DirEntry)
-      → IsEntryAt pfs directory spot.key i entry x → x.key.rec_type ≡ DIRECTORY_ENTRY → IsEntry found → x.bytes ≡ entry_bytes found
+      → IsEntryAt pfs directory spot.key i entry kind x → x.key.rec_type ≡ DIRECTORY_ENTRY → IsEntry found → x.bytes ≡ entry_bytes found
       → KeyFits hash x.key.key found.name
   new_fits hash fit x found new type ranges spelled' =
       subst (λ (k : ℕ). KeyFits hash k found.name) (sym (ap (λ (z : Subject). z.key) new.about))

@@ -1,5 +1,5 @@
 -- What the calls on names answer, what they need, and what they do to the tree.
-use Rattle.std.specs.Prelude.{◌≡◌, ◌⊎◌, ℕ, ◌+◌, ◌*◌, ◌/◌, ◌^◌, ◌<◌, ◌≤◌, Bool, true, false, List, Option, None, Some, IfSome}
+use Rattle.std.specs.Prelude.{◌≡◌, ◌≢◌, ◌⊎◌, ◌↔◌, ℕ, ◌+◌, ◌*◌, ◌/◌, ◌^◌, ◌<◌, ◌≤◌, Bool, true, false, List, Option, None, Some, IfSome}
 use Rattle.std.specs.List.{count_by}
 use Rattle.hm_types.specs.Elements.{FullElement}
 use Rattle.hm_types.specs.Tree.{FileTree, entries_in, with_name, without_name}
@@ -75,10 +75,11 @@ IsSpotFor hash counts tree pfs directory name None = numbers ≤ names_of_hash h
 IsSpotFor hash counts tree pfs directory name (Some spot) =
     (names_of_hash hash tree directory name < numbers) × IsSpot counts pfs directory (first_key (hash name)) spot
 
--- a new element is this entry under this key, made by `i`
-pub record IsEntryAt (pfs : ℕ) (directory : Obj) (key i : ℕ) (entry : DirEntry) (x : FullElement) : Type 0 where
+-- a new element is this entry under this key, of an object of a kind, made by `i`
+pub record IsEntryAt (pfs : ℕ) (directory : Obj) (key i : ℕ) (entry : DirEntry) (kind : ℕ) (x : FullElement) : Type 0 where
   pub about : subject_of x.key ≡ entry_subject pfs directory.0 key
   pub made : x.key.create ≡ i
+  pub kind_is : x.obj_type ≡ kind
   pub entry_is : IsEntry entry
   pub bytes : x.bytes ≡ entry_bytes entry
 
@@ -86,13 +87,15 @@ pub record IsEntryAt (pfs : ℕ) (directory : Obj) (key i : ℕ) (entry : DirEnt
 abbrev pub IsNothing : FullElement → Type 0
 IsNothing x = ⊥
 
--- A name is added by `i`, under a key that can take it as of `i`: where the directory has no entry of the name, the tree
--- gets the name. An entry that was hidden there goes, which no tree shows. What followed before follows still.
-pub record AddsName (pfs : ℕ) (directory : Obj) (spot : Spot) (i : ℕ) (entry : DirEntry) (es es' : List FullElement) : Type 0 where
-  pub writes : WritesIn pfs i (IsEntryAt pfs directory spot.key i entry) es es'
+-- A name of an object of a kind is added by `i`, under a key that can take it as of `i`: where the directory has no entry of
+-- the name, the tree gets the name. An entry that was hidden there goes, which no tree shows. For all that is about another
+-- subject the same counts, as of any id, and what followed before follows still.
+pub record AddsName (pfs : ℕ) (directory : Obj) (spot : Spot) (i : ℕ) (entry : DirEntry) (kind : ℕ) (es es' : List FullElement) : Type 0 where
+  pub writes : WritesIn pfs i (IsEntryAt pfs directory spot.key i entry kind) es es'
   pub shows : CanTake (Counts es i) pfs directory spot → LacksName (Counts es i) pfs directory entry.name
       → Shows pfs i (λ tree. with_name tree directory entry.name entry.obj) es es'
   pub fits : (hash : List ℕ → ℕ) → KeyFits hash spot.key entry.name → KeysFit hash es → KeysFit hash es'
+  pub beside : (t : ℕ) (s : Subject) (bytes : List ℕ) → s ≢ entry_subject pfs directory.0 spot.key → Counts es' t s bytes ↔ Counts es t s bytes
   pub follows : CanTake (Counts es i) pfs directory spot → StillFollow es es'
 
 -- A name is taken away by `i`, with each entry of it: the tree loses the name, nothing counts under the keys of its

@@ -1,5 +1,5 @@
 -- What a walk over the elements of a store comes to: the same as the walk of the volume that they show.
-use Rattle.std.specs.Prelude.{◌≡◌, ℕ, ◌≤◌, List, IfSome, Option, Result, None, Some, Ok, Err, Bool, false, ◌==◌, ◌&&◌, if◌then◌else◌}
+use Rattle.std.specs.Prelude.{◌≡◌, ◌⊎◌, ℕ, ◌≤◌, List, IfSome, Option, Result, None, Some, Ok, Err, Bool, false, ◌==◌, ◌&&◌, if◌then◌else◌}
 use Rattle.std.specs.List.{AllByRecursion, list_any}
 use Rattle.std.specs.Option.{option_map_or}
 use Rattle.hm_types.specs.Elements.{FullElement}
@@ -147,11 +147,19 @@ LooksAtEnd stays = Unit {0}
 LooksAtEnd follows = Unit {0}
 LooksAtEnd takes_pfs = ⊥
 
+-- A walk took a pseudo file system without a look at its root: no inode is in hand, and the id as of which the tree is read
+-- is that of the path, or the one as of which it is shown now.
+pub record IsTaken (scene : Scene) (stand : Stand) : Type 0 where
+  pub inode : stand.inode ≡ None
+  pub dated : IfSome stand.at.when (λ id. stand.as_of ≡ id)
+  pub now : stand.at.when ≡ None → IsViewOf scene.elements stand.at.pfs.0 stand.as_of.0 (scene.view stand.at.pfs.0 Now)
+
 -- a walk came to this place, and passed this
 pub record EndsAt (scene : Scene) (mode : Mode) (here : Place) (passed : Passed) (stand : Stand) : Type 0 where
   pub place : place_of stand.at ≡ here
   pub told : IsTold scene passed stand.passed
   pub read : LooksAtEnd mode → IsRead scene stand
+  pub known : IsRead scene stand ⊎ IsTaken scene stand
 
 -- a walk comes out as that of the model
 abbrev pub ComesOut : Scene → Mode → Walked → Result Stand Lost → Type 0

@@ -39,7 +39,7 @@ pub fn add_name<T: ElementStore + Extents>(
         pfs.0 directory id.0 }
     requires room { HasRoomFor (T.room store.old) META_ZONE (entry_bytes entry.now) }
     ensures ok { OnOk result (Writes T.elements T.extents
-        (AddsName pfs.0 directory spot id.0 entry.now) store.old store.new) }
+        (AddsName pfs.0 directory spot id.0 entry.now kind) store.old store.new) }
     ensures keeps { Keeps T.elements T.extents store.old store.new result }
     ensures space { Spends T.room T.free (taken META_ZONE (entry_bytes entry.now))
         store.old store.new }
