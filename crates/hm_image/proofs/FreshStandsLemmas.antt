@@ -1,6 +1,7 @@
 -- A fresh volume stands for the volume as it is made.
 use Rattle.std.proofs.Common.{◌≡◌, inl, inr, ℕ, ◌^◌, ◌≤◌, Bool, List, [], ◌∷◌, None, Some, true, false, eqb, refl, sym, ap, subst, ◌∙◌, arith}
 use Rattle.std.specs.Prelude.{if◌then◌else◌}
+use Rattle.std.specs.List.{Contains}
 use Rattle.std.proofs.lemmas.Bool.{eqb-true}
 use Rattle.hm_types.specs.Elements.{FullElement, Key}
 use Rattle.hm_types.specs.Intervals.{Keeps}
@@ -8,18 +9,20 @@ use Rattle.hm_types.specs.Tree.{directory_of, root_number, root_tree}
 use Rattle.hm_types.specs.declared.object.Object.{Object}
 use Rattle.hm_header.specs.Range.{IsSize}
 use Rattle.hm_key.specs.Element.{pfs_of}
-use Rattle.hm_model.specs.Volume.{PseudoFileSystem, at, fresh, new_master, open_end, system_of}
-use Rattle.hm_key.specs.Counts.{Subject, record_subject}
+use Rattle.hm_model.specs.Volume.{Nowhere, PseudoFileSystem, Slave, at, fresh, new_master, open_end, system_of}
+use Rattle.hm_key.specs.Counts.{Subject, record_subject, subject_of}
 use Rattle.hm_key.specs.Versions.{HaveOwnKeys, IsBelow}
+use Rattle.hm_records.specs.Follows.{Follows, IsOf}
 use Rattle.hm_records.specs.View.{IsViewOf}
 use Rattle.hm_records.specs.declared.pfs_record.PfsRecord.{PfsRecord}
 use Rattle.hm_image.specs.Fresh.{IsFresh, fresh_header, fresh_record}
 use Rattle.hm_volume.specs.Records.{AreOfSystems, HasRecord, HaveRecords, IsRecordFor}
-use Rattle.hm_image.specs.StandFor.{AreAtMost, AreBegun, HasIds, HasMasterIds, HasViews, OnEach, StandFor}
+use Rattle.hm_image.specs.StandFor.{AreAtMost, AreBegun, HasIds, HasMasterIds, HasViews, IsUnfed, OnEach, StandFor}
 use Rattle.hm_image.specs.Stands.{StandsFor}
+use Rattle.hm_image.proofs.FollowLemmas.{follows_one, of_no_record}
 use Rattle.hm_image.proofs.FreshLemmas.{fresh_is_sound}
 use Rattle.hm_image.proofs.FreshPayloadLemmas.{fresh_full, fresh_record_is, full_elements, full_inode, full_keys, full_payloads, full_record}
-use Rattle.hm_image.proofs.FreshViewLemmas.{fresh_view, is_record, made_at_one}
+use Rattle.hm_image.proofs.FreshViewLemmas.{fresh_view, is_inode, is_record, made_at_one}
 use Rattle.hm_image.proofs.ListLemmas.{all_one, all_two, one_of_two, only_one}
 
 -- its PFS
@@ -101,6 +104,14 @@ root_is_one o there =
     let number : 1 ≡ o.number.0 = ap (λ (x : Object). x.number.0) same in
     omega (arith, number)
 
+-- the root directory's inode is all that may have versions
+follows : Follows 0 1 full_elements
+follows = follows_one 0 1 full_elements
+    (λ x y has has' of of'. ap (λ (e : FullElement). e.key) (sym (the_inode x has of) ∙ the_inode y has' of'))
+  where
+    the_inode : (x : FullElement) → Contains full_elements x → IsOf 0 (subject_of x.key) → full_inode ≡ x
+    the_inode x has of = is_inode x (subject_of x.key) has refl (of_no_record 0 (subject_of x.key) of)
+
 -- ---- elements
 
 keys : HaveOwnKeys full_elements
@@ -129,6 +140,7 @@ module _ (bigblocks : ℕ) where
     numbered = all_one (λ v. AreAtMost v.0 v.1) (1, root_tree) root_is_one;
     views = λ t few keeps.
         subst (λ (x : ℕ). IsViewOf full_elements 0 x (at (fresh bigblocks) 0 x)) (last_alone t few keeps) fresh_view;
+    follows = follows;
   }
 
   stand : StandFor full_elements (fresh bigblocks)
@@ -144,6 +156,7 @@ module _ (bigblocks : ℕ) where
     ids = on_system bigblocks (HasIds full_elements 1) ids;
     begun = on_system bigblocks (λ pfs s. AreBegun s) (all_one (λ v. 1 ≤ v.0) (1, root_tree) (omega arith));
     views = on_system bigblocks (λ pfs s. s.clear ≡ true → HasViews full_elements (fresh bigblocks) pfs s) (λ clear. has_views);
+    sourceless = on_system bigblocks (λ pfs s. s.role ≡ Slave → s.origin ≡ Nowhere → IsUnfed full_elements pfs s) (λ slave none. absurd (cc));
   }
 
   module _ (image : List ℕ) (size : IsSize bigblocks) (is : IsFresh bigblocks image) where

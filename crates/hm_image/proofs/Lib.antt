@@ -1,6 +1,7 @@
 pub mod ListLemmas
 pub mod OffsetLemmas
 pub mod PartLemmas
+pub mod FollowLemmas
 pub mod FreshHeaderLemmas
 pub mod FreshSpaceLemmas
 pub mod FreshTreeLemmas

@@ -7,9 +7,11 @@ use Rattle.hm_types.specs.Intervals.{Keeps}
 use Rattle.hm_types.specs.Tree.{FileTree}
 use Rattle.hm_types.specs.declared.limits.TheConstants.{GREATEST_ID}
 use Rattle.hm_types.specs.declared.object.Object.{Object}
+use Rattle.hm_key.specs.Counts.{record_subject, subject_of}
 use Rattle.hm_key.specs.Element.{pfs_of}
 use Rattle.hm_key.specs.Versions.{HaveOwnKeys, IsBelow}
-use Rattle.hm_model.specs.Volume.{PseudoFileSystem, Volume, Master, Slave, at, open_end, system_of}
+use Rattle.hm_model.specs.Volume.{PseudoFileSystem, Volume, Master, Nowhere, Slave, at, open_end, shown_id, system_of}
+use Rattle.hm_records.specs.Follows.{Follows}
 use Rattle.hm_records.specs.KeysFit.{KeysFit}
 use Rattle.hm_records.specs.Payload.{IsPayload}
 use Rattle.hm_records.specs.View.{IsViewOf}
@@ -50,11 +52,18 @@ AreBegun s = All (λ v. 1 ≤ v.0) s.versions
 abbrev pub AreAtMost : ℕ → FileTree → Type 0
 AreAtMost most tree = (o : Object) → Contains tree.objects o → o.number.0 ≤ most
 
--- a PFS whose trees are certain: its views are the volume's, at every id that it keeps up to the last one, and no object
--- of a version has a number above the version's first id
+-- A PFS whose trees are certain: its views are the volume's, at every id that it keeps up to the last one; no object of a
+-- version has a number above the version's first id; and its elements follow one another up to the id as of which it is
+-- shown. Of any other PFS none of this is asked: a stream may have brought what no master wrote.
 pub record HasViews (es : List FullElement) (volume : Volume) (pfs : ℕ) (s : PseudoFileSystem) : Type 0 where
   pub numbered : All (λ v. AreAtMost v.0 v.1) s.versions
   pub views : (t : ℕ) → t ≤ volume.last → Keeps s.retention t → IsViewOf es pfs t (at volume pfs t)
+  pub follows : Follows pfs (shown_id volume.last s) es
+
+-- a slave into which nothing came: it has no sync end, and no element but its record
+pub record IsUnfed (es : List FullElement) (pfs : ℕ) (s : PseudoFileSystem) : Type 0 where
+  pub unsynced : s.sync_end ≡ 0
+  pub alone : (e : FullElement) → Contains es e → pfs_of e.key.localization ≡ pfs → subject_of e.key ≡ record_subject pfs
 
 -- Elements stand for a volume: those that its tree holds, with their payloads.
 pub record StandFor (es : List FullElement) (volume : Volume) : Type 0 where
@@ -69,3 +78,4 @@ pub record StandFor (es : List FullElement) (volume : Volume) : Type 0 where
   pub ids : OnEach volume (HasIds es volume.last)
   pub begun : OnEach volume (λ pfs s. AreBegun s)
   pub views : OnEach volume (λ pfs s. s.clear ≡ true → HasViews es volume pfs s)
+  pub sourceless : OnEach volume (λ pfs s. s.role ≡ Slave → s.origin ≡ Nowhere → IsUnfed es pfs s)
