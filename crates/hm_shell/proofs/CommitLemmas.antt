@@ -1,6 +1,7 @@
 -- The last flush, stage by stage, and what has come of a core by its end.
 use Rattle.std.proofs.Common.{◌≡◌, ◌≢◌, ◌⊎◌, ℕ, ◌<◌, ◌≤◌, List, [], Option, refl, sym, ◌∙◌, ap, subst, inl, inr, arith}
 use Rattle.std.specs.Prelude.{Bool, Contains, Err, IfErr, IfSome, Ok, OnOk, Result, true, false}
+use Rattle.std.proofs.Math.Logic.{∥∥₁_map}
 use Rattle.hm_types.specs.declared.fault.Fault.{Fault}
 use Rattle.hm_types.specs.declared.fault.Fault.TheVariants.{Damaged as damage, Media as media, NoMemory as no_memory}
 use Rattle.hm_pipe.specs.Pipe.{Gains}
@@ -11,12 +12,16 @@ use Rattle.hm_flush.specs.Calls.{HasStageCause, IsMoved}
 use Rattle.hm_flush.specs.declared.flush.Flush.{Flush}
 use Rattle.hm_flush.specs.declared.flush.Position.{Position}
 use Rattle.hm_flush.specs.declared.flush.Position.TheVariants.{Idle}
+use Rattle.hm_model.specs.Caused.{Counts}
 use Rattle.hm_model.specs.declared.entry.Entry.{Entry}
 use Rattle.hm_model.specs.declared.line.Line.{Line}
-use Rattle.hm_core.specs.Core.{Follows, Waits}
+use Rattle.hm_core.specs.Caused.{IsCausedFrom}
+use Rattle.hm_core.specs.Core.{Follows, IsCausedRun, IsSoundCore, Waits}
+use Rattle.hm_core.specs.Counts.{AreLater, with_disk}
 use Rattle.hm_core.specs.Finished.{IsCommittedOn}
 use Rattle.hm_core.specs.Staged.{EndsBy, EndsFlush, IsFlushed, MakesStage, header_now}
-use Rattle.hm_core.specs.State.{CoreState}
+use Rattle.hm_core.specs.State.{CoreState, Mounted}
+use Rattle.hm_core.proofs.CausedLemmas.{caused_later}
 use Rattle.hm_core.proofs.CoreLemmas.{follows_further}
 use Rattle.hm_shell.specs.Alone.{Answers, out_text}
 use Rattle.hm_shell.specs.Running.{IsWriteCause}
@@ -131,6 +136,19 @@ module _ (lines : List Line) (past left since : LeftSince) (begun mid core : Cor
   }
   UsesAll-committed flushed behind (Err stop) commits = tt
 
+-- stages that enter nothing leave each reply its cause by the faults of the disk before them
+caused_before : (left since : LeftSince) (mid core : CoreState) → IsSoundCore mid → Waits mid core → Follows left since mid core
+    → IsCausedRun (record core { counts = with_disk core.counts mid.counts.disk })
+caused_before left since mid core sound waits follows =
+    let falls = follows.never_falls in
+    let counts : Counts = with_disk core.counts mid.counts.disk in
+    let later : AreLater mid.counts counts = record { disk = omega arith; input = falls.input; output = falls.output } in
+    ∥∥₁_map sound.caused (λ so_far.
+    subst (λ (m : Mounted). IsCausedFrom m.first m.counts counts core.last core.history) (sym follows.mounted)
+    (subst (λ (n : ℕ). IsCausedFrom mid.mounted.first mid.mounted.counts counts n core.history) (sym waits.last)
+    (subst (λ (h : List Entry). IsCausedFrom mid.mounted.first mid.mounted.counts counts mid.last h) (sym waits.history)
+    (caused_later mid.mounted.first mid.mounted.counts mid.counts counts mid.last mid.history so_far later))))
+
 -- or it stopped there
 pub StopsUsing-failed : (lines : List Line) (past left since : LeftSince) (begun mid core : CoreState) (old new : Seen (List ℕ))
     → Served lines past left begun mid old.told new.told → Waits mid core → Follows left since mid core → (r : Result (Unit {0}) Stop)
@@ -141,6 +159,7 @@ StopsUsing-failed lines past left since begun mid core old new served waits foll
   served = Served-committed lines past left since begun mid core old.told new.told served waits follows;
   before = mid.counts.disk;
   later = served.from.never_falls.disk;
+  caused = caused_before left since mid core served.from.sound waits follows;
   cause = cause;
   disk_is = record { told = refl; faults = refl };
 })

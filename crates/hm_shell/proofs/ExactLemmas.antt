@@ -25,14 +25,14 @@ use Rattle.hm_model.specs.Lines.{texts_of}
 use Rattle.hm_model.specs.Script.{IsTooLong}
 use Rattle.hm_model.specs.Volume.{Volume}
 use Rattle.hm_core.specs.Crash.{StandsRecovered}
-use Rattle.hm_core.specs.Opened.{HasDamage, IsFailure, IsMade, IsNotMade, IsNotMounted, IsTooSmall}
+use Rattle.hm_core.specs.Opened.{HasDamage, IsMade, IsNotMade, IsNotMounted, IsTooSmall}
 use Rattle.hm_shell.specs.declared.stop.Stop.{Stop}
 use Rattle.hm_shell.specs.declared.stop.Stop.TheVariants.{Usage, NotVolume, BadField, DiskFault, Damaged, ScriptFault, OutFault, NoMemory, BadLine, TooLong}
 use Rattle.hm_shell.specs.Devices.{Sight}
 use Rattle.hm_shell.specs.Exact.{Brings, DiskBrings, NewBrings, OldBrings, ScriptBrings}
 use Rattle.hm_shell.specs.Lines.{IsFirstBad, IsGoodScript, IsServedText}
 use Rattle.hm_shell.specs.Making.{MakesVolume}
-use Rattle.hm_shell.specs.Opening.{HasWhole, IsUnopened, Opens, StoppedOpening}
+use Rattle.hm_shell.specs.Opening.{HasWhole, IsUnopened, Opens, StaysAsMade, StoppedOpening}
 use Rattle.hm_shell.specs.Preparing.{IsPrepared, StoppedPreparing}
 use Rattle.hm_shell.specs.Reading.{WasRead}
 use Rattle.hm_shell.specs.Run.{Stops}
@@ -207,16 +207,16 @@ unmade_brings size old new (of_disk (damage at kind)) not = absurd not
 unmade_brings size old new (of_disk no_memory) not = absurd not
 
 -- with one on which a volume was made, and not opened
-unopened_brings : (size : ℕ) (old new : Option Told) (fault : OpenFault) → BothTell old new (λ s t. IsMade size s t × IsFailure fault)
+unopened_brings : (size : ℕ) (since : LeftSince) (old new : Option Told) (fault : OpenFault) → BothTell old new (StaysAsMade size fault since)
     → IfSome old (λ t. NewBrings size t (status_of (of_open fault)))
-unopened_brings size old new no_volume made =
-    both_gives old new (λ s t. IsMade size s t × IsFailure no_volume) (λ t. NewBrings size t 3) (λ s t made. absurd made.1) made
-unopened_brings size old new (bad_field place) made =
-    both_gives old new (λ s t. IsMade size s t × IsFailure (bad_field place)) (λ t. NewBrings size t 3) (λ s t made. absurd made.1) made
-unopened_brings size old new (of_disk (media before after)) made = four_anyway (Some size) old
-unopened_brings size old new (of_disk (damage at kind)) made =
-    both_gives old new (λ s t. IsMade size s t × IsFailure (of_disk (damage at kind))) (λ t. NewBrings size t 10) (λ s t made. absurd made.1) made
-unopened_brings size old new (of_disk no_memory) made = seven_anyway (Some size) old
+unopened_brings size since old new no_volume made =
+    both_gives old new (StaysAsMade size no_volume since) (λ t. NewBrings size t 3) (λ s t made. absurd made.failed) made
+unopened_brings size since old new (bad_field place) made =
+    both_gives old new (StaysAsMade size (bad_field place) since) (λ t. NewBrings size t 3) (λ s t made. absurd made.failed) made
+unopened_brings size since old new (of_disk (media before after)) made = four_anyway (Some size) old
+unopened_brings size since old new (of_disk (damage at kind)) made =
+    both_gives old new (StaysAsMade size (of_disk (damage at kind)) since) (λ t. NewBrings size t 10) (λ s t made. absurd made.failed) made
+unopened_brings size since old new (of_disk no_memory) made = seven_anyway (Some size) old
 
 not_opened_brings : (newfs : Option ℕ) (past since : LeftSince) (old new : Option Told) (fault : OpenFault) → IsUnopened newfs past since old new fault
     → IfSome old (λ t. DiskBrings newfs t (status_of (of_open fault)))
@@ -224,7 +224,7 @@ not_opened_brings None past since old new fault not =
     both_gives old new (IsNotMounted fault past since) (λ t. OldBrings t (status_of (of_open fault)))
     (λ s t not. unmounted_brings past since s t fault not) not
 not_opened_brings (Some size) past since old new fault (inl not) = unmade_brings size old new fault not
-not_opened_brings (Some size) past since old new fault (inr made) = unopened_brings size old new fault made
+not_opened_brings (Some size) past since old new fault (inr made) = unopened_brings size since old new fault made
 
 abbrev MayCome : Option ℕ → Option Told → ℕ → Type 0
 MayCome newfs disk status = Contains (0 ∷ 3 ∷ 4 ∷ 5 ∷ 6 ∷ 7 ∷ 10 ∷ []) status × IfSome disk (λ t. DiskBrings newfs t status)

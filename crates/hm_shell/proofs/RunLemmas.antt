@@ -32,6 +32,7 @@ use Rattle.hm_shell.specs.Seen.{Seen}
 use Rattle.hm_shell.specs.Serving.{IsEnded, Served, ServedInPart, StopsUsing, UsesAll}
 use Rattle.hm_shell.proofs.AloneLemmas.{answers_out}
 use Rattle.hm_shell.proofs.AloneMoreLemmas.{each_from}
+use Rattle.hm_shell.proofs.OpenLemmas.{LeavesOnly}
 
 -- lines that are served run by themselves
 are_alone : (lines : List Line) → All IsServedLine lines → All IsAlone lines
@@ -55,15 +56,6 @@ both_each None None P Q from both = tt
 both_each None (Some t) P Q from both = absurd both
 both_each (Some s) None P Q from both = absurd both
 both_each (Some s) (Some t) P Q from both = from s t both
-
--- since the moment of a disk that tells this, only what a crash then might leave was left
-abbrev pub LeavesOnly : LeftSince → Told → Type 0
-LeavesOnly past t = (image : List ℕ) → past t.moment image → MayLeave t.bytes t.unsettled image
-
-pub leaves_only : (o : Option Told) (past : LeftSince)
-    → ((image : List ℕ) → IfSome o (λ t. past t.moment image → MayLeave t.bytes t.unsettled image)) → IfSome o (LeavesOnly past)
-leaves_only None past only = tt
-leaves_only (Some t) past only = only
 
 -- what a core tells of the run
 abbrev pub ran_of : CoreState → Ran
@@ -266,17 +258,17 @@ module _ (faults : ℕ) (begun core : CoreState) (past mid since : LeftSince) (m
       by (Some s) None mounts only = tt
       by (Some s) (Some u) mounts only = λ opening foreigners stood. leaves s u mounts only opening foreigners stood ended
 
-module _ (lines : List Line) (each : All IsServedLine lines) (past since : LeftSince) (begun core : CoreState) (old new : Option (List ℕ)) where
-  answers_all : Served lines past since begun core old new → AnswersAll lines (ran_of core) old new
-  answers_all served = record {
+module _ (lines : List Line) (each : All IsServedLine lines) (past since : LeftSince) (begun core : CoreState) where
+  answers_all : (old new : Option (List ℕ)) → Served lines past since begun core old new → AnswersAll lines (ran_of core) old new
+  answers_all old new served = record {
     text = out_text lines core.history;
     out = answers_out core.last core.history lines (are_alone lines each) served.answers;
     gained = served.gained;
   }
 
-  answers_in_part : (part : ServedInPart lines past since begun core old new)
+  answers_in_part : (old new : Seen (List ℕ)) (part : ServedInPart lines past since begun core old new)
       → AnswersInPart lines (out_text part.before core.history ++ take part.printed (out_text part.last core.history)) (ran_of core)
-  answers_in_part part = record {
+  answers_in_part old new part = record {
     before = part.before;
     last = part.last;
     rest = part.rest;
@@ -338,12 +330,14 @@ module _ (newfs : Option ℕ) (lines : List Line) (each : All IsServedLine lines
 
   StoppedUsing-stopped : (old_out new_out : Seen (List ℕ)) (stop : Stop) → StopsUsing lines mid since begun new old_out new_out stop
       → StoppedUsing newfs lines since old new old_out new_out stop
+  unfolding answers_in_part
   StoppedUsing-stopped old_out new_out stop (inl line) =
       let part = line.served in
       stopped_by line.core part.from line.disk_is.told line.disk_is.faults old_out new_out stop (inl (record {
         text = out_text part.before line.core.history ++ take part.printed (out_text part.last line.core.history);
-        answered = answers_in_part lines each mid since begun line.core old_out.told new_out.told part;
+        answered = answers_in_part lines each mid since begun line.core old_out new_out part;
         gained = part.gained;
+        cut = part.cut;
         cause = line.cause;
       }))
   StoppedUsing-stopped old_out new_out stop (inr writing) =
@@ -355,6 +349,7 @@ module _ (newfs : Option ℕ) (lines : List Line) (each : All IsServedLine lines
         answered = answers_all lines each mid since begun core old_out.told new_out.told writing.served;
         before = writing.before;
         later = omega (arith, later, start);
+        caused = writing.caused;
         cause = writing.cause;
       }))
 

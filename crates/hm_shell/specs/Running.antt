@@ -18,7 +18,7 @@ use Rattle.hm_model.specs.Out.{IsOut}
 use Rattle.hm_model.specs.Volume.{Volume}
 use Rattle.hm_state.specs.Free.{free_in}
 use Rattle.hm_core.specs.Caused.{IsCausedFrom}
-use Rattle.hm_core.specs.Counts.{AreLater}
+use Rattle.hm_core.specs.Counts.{AreLater, with_disk}
 use Rattle.hm_core.specs.Crash.{IsBetween, RecoversToPrefix}
 use Rattle.hm_core.specs.Inside.{AreUpTo}
 use Rattle.hm_core.specs.History.{setting_of}
@@ -60,6 +60,10 @@ pub record IsCounted (old new : ℕ) (ran : Ran) : Type 0 where
 -- each reply of its history has its cause, from the last id and the counts of faults as it began on
 abbrev pub HasCauses : Ran → Type 0
 HasCauses ran = ∥ IsCausedFrom ran.first ran.start ran.counts ran.last ran.history ∥₁
+
+-- the same by so many faults of its disk: no reply told more of them
+abbrev pub HasCausesBy : ℕ → Ran → Type 0
+HasCausesBy faults ran = HasCauses (record ran { counts = with_disk ran.counts faults })
 
 -- A run began on a disk that told this: with the last id of the header that counts, and, where the disk stood for a volume, with
 -- as many free big-blocks as its bytes leave.
@@ -144,11 +148,13 @@ IsOutCause before after (ScriptFault b a) = ⊥
 IsOutCause before after (BadLine number why) = ⊥
 IsOutCause before after TooLong = ⊥
 
--- a run stopped at a line, before the last flush, and the sink gained what was printed
+-- A run stopped at a line, before the last flush, and the sink gained what was printed. Something of that line, which may be cut short,
+-- was printed only where the sink's count of faults rose.
 pub record StopsAtLine (lines : List Line) (ran : Ran) (old_out new_out : Seen (List ℕ)) (stop : Stop) : Type 0 where
   pub text : List ℕ
   pub answered : AnswersInPart lines text ran
   pub gained : Gains old_out.told text new_out.told
+  pub cut : (answered.printed ≡ 0) ⊎ Rose old_out.faults new_out.faults
   pub cause : IsOutCause old_out.faults new_out.faults stop
 
 -- what made the run stop in the last flush, over every disk: the disk failed, or memory was refused
@@ -164,11 +170,13 @@ IsWriteCause before after OutFault = ⊥
 IsWriteCause before after (BadLine number why) = ⊥
 IsWriteCause before after TooLong = ⊥
 
--- all lines were answered and printed, and a stage of the last flush failed, over which the count of faults went from one to another
+-- All lines were answered and printed, and a stage of the last flush failed, over which the count of faults went from one to another,
+-- and no reply had told more of them than the one.
 pub record StopsWriting (lines : List Line) (ran : Ran) (faults : ℕ) (old_out new_out : Option (List ℕ)) (stop : Stop) : Type 0 where
   pub answered : AnswersAll lines ran old_out new_out
   pub before : ℕ
   pub later : ran.start.disk ≤ before
+  pub caused : HasCausesBy before ran
   pub cause : IsWriteCause before faults stop
 
 -- A run stopped with an open volume: at a line, or in the last flush. Each reply of its history has its cause,

@@ -35,7 +35,7 @@ pub(crate) fn serve_script<D: Disk, I, O, K: Sink>(
     ensures behind { OnOk result (IsBehind (seen_core core.old) (seen_core core.new)) }
     ensures err { OnErr result (ServedInPart lines.items (D.left_since (devices_of core.old).disk)
         (D.left_since (devices_of core.new).disk) (seen_core core.old) (seen_core core.new)
-        (K.held out.old) (K.held out.new)) }
+        (seen K.held K.faults out.old) (seen K.held K.faults out.new)) }
     ensures streams { KeepsStreams (devices_of core.old) (devices_of core.new) }
     ensures cause { IfErr result (IsOutCause (K.faults out.old) (K.faults out.new)) }
     ensures never_falls { K.faults out.old ≤ K.faults out.new }
@@ -61,7 +61,7 @@ fn serve_lines<D: Disk, I, O, K: Sink>(
     ensures behind { OnOk result (IsBehind (seen_core core.old) (seen_core core.new)) }
     ensures err { OnErr result (ServedInPart lines.items (D.left_since (devices_of core.old).disk)
         (D.left_since (devices_of core.new).disk) (seen_core core.old) (seen_core core.new)
-        (K.held out.old) (K.held out.new)) }
+        (seen K.held K.faults out.old) (seen K.held K.faults out.new)) }
     ensures streams { KeepsStreams (devices_of core.old) (devices_of core.new) }
     ensures cause { IfErr result (IsOutCause (K.faults out.old) (K.faults out.new)) }
     ensures never_falls { K.faults out.old ≤ K.faults out.new }
