@@ -23,12 +23,12 @@ use Rattle.hm_core.specs.Staged.{EndsBy, EndsFlush, IsFlushed, MakesStage, heade
 use Rattle.hm_core.specs.State.{CoreState, Mounted}
 use Rattle.hm_core.proofs.CausedLemmas.{caused_later}
 use Rattle.hm_core.proofs.CoreLemmas.{follows_further}
-use Rattle.hm_shell.specs.Alone.{Answers, out_text}
+use Rattle.hm_shell.specs.Alone.{AnswersEach, out_text}
 use Rattle.hm_shell.specs.Running.{IsWriteCause}
 use Rattle.hm_shell.specs.Seen.{Seen}
 use Rattle.hm_shell.specs.Serving.{Commits, IsBehind, IsEnded, Served, StopsUsing, UsesAll}
 use Rattle.hm_shell.specs.Stop.{of_fault}
-use Rattle.hm_shell.specs.declared.stop.Stop.{Stop}
+use Rattle.hm_shell.specs.declared.stop.RunStop.{RunStop}
 use Rattle.hm_shell.proofs.WaitLemmas.{waits_more}
 
 -- no stage was made so far, or some were, and not all is committed
@@ -93,8 +93,8 @@ module _ (lines : List Line) (past left since : LeftSince) (begun mid core : Cor
   Served-committed : Served lines past since begun core held holds
   Served-committed = record {
     from = follows_further past left since begun mid core served.from follows;
-    answers = subst (λ (n : ℕ). Answers n lines core.history) (sym waits.last)
-        (subst (λ (h : List Entry). Answers mid.last lines h) (sym waits.history) served.answers);
+    answers = subst (λ (n : ℕ). AnswersEach n lines core.history) (sym waits.last)
+        (subst (λ (h : List Entry). AnswersEach mid.last lines h) (sym waits.history) served.answers);
     up_to = λ e has. (let last = waits.last in
         let least = served.up_to e (subst (λ (h : List Entry). Contains h e) waits.history has) in omega (arith, last, least));
     gained = subst (λ (h : List Entry). Gains held (out_text lines h) holds) (sym waits.history) served.gained;
@@ -126,7 +126,7 @@ module _ (lines : List Line) (past left since : LeftSince) (begun mid core : Cor
       unwritten none (inr made) = absurd (made.0 (idle_flushed none))
 
   -- it came to its end
-  pub UsesAll-committed : IsFlushed begun → IsBehind begun mid → (r : Result (Unit {0}) Stop) → OnOk r (Commits mid core)
+  pub UsesAll-committed : IsFlushed begun → IsBehind begun mid → (r : Result (Unit {0}) RunStop) → OnOk r (Commits mid core)
       → OnOk r (UsesAll lines past since begun (disk_of core) held holds)
   UsesAll-committed flushed behind (Ok done) commits = record {
     core = core;
@@ -151,7 +151,7 @@ caused_before left since mid core sound waits follows =
 
 -- or it stopped there
 pub StopsUsing-failed : (lines : List Line) (past left since : LeftSince) (begun mid core : CoreState) (old new : Seen (List ℕ))
-    → Served lines past left begun mid old.told new.told → Waits mid core → Follows left since mid core → (r : Result (Unit {0}) Stop)
+    → Served lines past left begun mid old.told new.told → Waits mid core → Follows left since mid core → (r : Result (Unit {0}) RunStop)
     → IfErr r (IsWriteCause mid.counts.disk core.counts.disk) → IfErr r (StopsUsing lines past since begun (disk_of core) old new)
 StopsUsing-failed lines past left since begun mid core old new served waits follows (Ok done) cause = tt
 StopsUsing-failed lines past left since begun mid core old new served waits follows (Err stop) cause = inr (record {

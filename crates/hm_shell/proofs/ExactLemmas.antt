@@ -26,8 +26,8 @@ use Rattle.hm_model.specs.Script.{IsTooLong}
 use Rattle.hm_model.specs.Volume.{Volume}
 use Rattle.hm_core.specs.Crash.{StandsRecovered}
 use Rattle.hm_core.specs.Opened.{HasDamage, IsMade, IsNotMade, IsNotMounted, IsTooSmall}
-use Rattle.hm_shell.specs.declared.stop.Stop.{Stop}
-use Rattle.hm_shell.specs.declared.stop.Stop.TheVariants.{Usage, NotVolume, BadField, DiskFault, Damaged, ScriptFault, OutFault, NoMemory, BadLine, TooLong}
+use Rattle.hm_shell.specs.declared.stop.RunStop.{RunStop}
+use Rattle.hm_shell.specs.declared.stop.RunStop.TheVariants.{Usage, NotVolume, BadField, DiskFault, Damaged, ScriptFault, OutFault, NoMemory, BadLine, TooLong}
 use Rattle.hm_shell.specs.Devices.{Sight}
 use Rattle.hm_shell.specs.Exact.{Brings, DiskBrings, NewBrings, OldBrings, ScriptBrings}
 use Rattle.hm_shell.specs.Lines.{IsFirstBad, IsGoodScript, IsServedText}
@@ -236,17 +236,17 @@ open_status (of_disk (media before after)) = (2, lit< tt, refl)
 open_status (of_disk (damage at kind)) = (6, lit< tt, refl)
 open_status (of_disk no_memory) = (5, lit< tt, refl)
 
-opening_brings : (newfs : Option ℕ) (past since : LeftSince) (old new : Seen Told) (stop : Stop) → StoppedOpening newfs past since old new stop
+opening_brings : (newfs : Option ℕ) (past since : LeftSince) (old new : Seen Told) (stop : RunStop) → StoppedOpening newfs past since old new stop
     → MayCome newfs old.told (status_of stop)
 opening_brings newfs past since old new stop stopped =
     subst (λ s. MayCome newfs old.told (status_of s)) (sym stopped.stop_is)
     (open_status stopped.fault, not_opened_brings newfs past since old.told new.told stopped.fault stopped.unopened)
 
 module _ (newfs : Option ℕ) (lines : List Line) (past since : LeftSince) (old_disk new_disk : Seen Told) (old_out new_out : Seen (List ℕ)) where
-  abbrev Used : Stop → Type 0
+  abbrev Used : RunStop → Type 0
   Used stop = StoppedUsing newfs lines since old_disk new_disk old_out new_out stop
 
-  using_brings : (stop : Stop) → Used stop → MayCome newfs old_disk.told (status_of stop)
+  using_brings : (stop : RunStop) → Used stop → MayCome newfs old_disk.told (status_of stop)
   using_brings OutFault using =
       ((4, lit< tt, refl), opened_brings newfs old_disk.told using.began using.opened 6 using.makes using.opens (3, lit< tt, refl))
   using_brings NoMemory using = ((5, lit< tt, refl), seven_anyway newfs old_disk.told)
@@ -259,7 +259,7 @@ module _ (newfs : Option ℕ) (lines : List Line) (past since : LeftSince) (old_
   using_brings (BadLine number why) using = elim using.stops [ inl line ↦ absurd line.cause | inr writing ↦ absurd writing.cause ]
   using_brings TooLong using = elim using.stops [ inl line ↦ absurd line.cause | inr writing ↦ absurd writing.cause ]
 
-  running_brings : (stop : Stop) → StoppedRunning newfs lines past since old_disk new_disk old_out new_out stop
+  running_brings : (stop : RunStop) → StoppedRunning newfs lines past since old_disk new_disk old_out new_out stop
       → MayCome newfs old_disk.told (status_of stop)
   running_brings stop (inl opening) = opening_brings newfs past since old_disk new_disk stop opening.0
   running_brings stop (inr using) = using_brings stop using
@@ -280,7 +280,7 @@ good_brings words old new_script newfs lines status prepared may plan = (
       })),
 )
 
-preparing_brings : (words : List (List ℕ)) (old : Sight) (new : Seen (List ℕ)) (stop : Stop) → StoppedPreparing words old.script new stop
+preparing_brings : (words : List (List ℕ)) (old : Sight) (new : Seen (List ℕ)) (stop : RunStop) → StoppedPreparing words old.script new stop
     → Brings words old (status_of stop)
 preparing_brings words old new Usage stopped plan = absurd (stopped.0 plan.0 plan.1 plan.2)
 preparing_brings words old new (ScriptFault before after) stopped plan = (
@@ -333,7 +333,7 @@ preparing_brings words old new (Damaged at kind) stopped plan = absurd stopped
 preparing_brings words old new OutFault stopped plan = absurd stopped
 
 module _ (words : List (List ℕ)) (past since : LeftSince) (old new : Sight) where
-  stops_bring : (made : Sight) (stop : Stop) → Stops words past since old made stop → Brings words old (status_of stop)
+  stops_bring : (made : Sight) (stop : RunStop) → Stops words past since old made stop → Brings words old (status_of stop)
   stops_bring made stop (inl before) = preparing_brings words old made.script stop before.0
   stops_bring made stop (inr later) =
       good_brings words old made.script later.newfs later.lines (status_of stop) later.prepared

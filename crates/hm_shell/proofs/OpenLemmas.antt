@@ -13,15 +13,15 @@ use Rattle.hm_recover.specs.declared.fault.OpenFault.{OpenFault}
 use Rattle.hm_recover.specs.declared.fault.OpenFault.TheVariants.{NotVolume as no_volume, BadField as bad_field, Fault as of_disk}
 use Rattle.hm_recover.proofs.DamageLemmas.{same-header}
 use Rattle.hm_core.specs.Opened.{IsMade, IsNotMounted, IsOpenCaused, IsUnarmed}
-use Rattle.hm_shell.specs.declared.stop.Stop.{Stop}
+use Rattle.hm_shell.specs.declared.stop.RunStop.{RunStop}
 use Rattle.hm_shell.specs.Making.{MakesVolume}
 use Rattle.hm_shell.specs.Opening.{IsUnopened, StaysAsMade, StoppedOpening}
 use Rattle.hm_shell.specs.Seen.{Seen}
 use Rattle.hm_shell.specs.Stop.{of_open}
 
 -- what did not fail has made a volume, where one was asked for
-pub made_not_err : (newfs : Option ℕ) (old new : Option Told) (r : Result (Unit {0}) Stop) → OnOk r (MakesVolume newfs old new)
-    → ((stop : Stop) → r ≡ Err stop → ⊥) → MakesVolume newfs old new
+pub made_not_err : (newfs : Option ℕ) (old new : Option Told) (r : Result (Unit {0}) RunStop) → OnOk r (MakesVolume newfs old new)
+    → ((stop : RunStop) → r ≡ Err stop → ⊥) → MakesVolume newfs old new
 made_not_err newfs old new (Ok done) made not_err = made
 made_not_err newfs old new (Err stop) made not_err = absurd (not_err stop refl)
 

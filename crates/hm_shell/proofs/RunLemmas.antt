@@ -22,12 +22,12 @@ use Rattle.hm_core.specs.History.{up_to, volume_of}
 use Rattle.hm_core.specs.Opened.{IsMounted, MountsDisk}
 use Rattle.hm_core.specs.State.{CoreState, Mounted}
 use Rattle.hm_core.proofs.CrashLemmas.{left_tried, prefix_weaker}
-use Rattle.hm_shell.specs.declared.stop.Stop.{Stop}
+use Rattle.hm_shell.specs.declared.stop.RunStop.{RunStop}
 use Rattle.hm_shell.specs.Alone.{IsAlone, out_text}
 use Rattle.hm_shell.specs.Lines.{IsServedLine}
 use Rattle.hm_shell.specs.Making.{MakesVolume}
 use Rattle.hm_shell.specs.Opening.{Opens}
-use Rattle.hm_shell.specs.Running.{AnswersAll, AnswersInPart, BeginsOn, HasHistory, HoldsSyncs, IsCounted, IsKept, LeavesVolume, OverEach, Ran, RunsAll, StopsAtLine, StopsWriting, StoppedRunning, StoppedUsing}
+use Rattle.hm_shell.specs.Running.{AnswersAll, AnswersInPart, BeginsOn, HasHistory, HoldsSyncs, IsCounted, IsKept, OverEach, Ran, RunsAll, StandsForHistory, StopsAtLine, StopsWriting, StoppedRunning, StoppedUsing}
 use Rattle.hm_shell.specs.Seen.{Seen}
 use Rattle.hm_shell.specs.Serving.{IsEnded, Served, ServedInPart, StopsUsing, UsesAll}
 use Rattle.hm_shell.proofs.AloneLemmas.{answers_out}
@@ -216,7 +216,7 @@ module _ (faults : ℕ) (begun core : CoreState) (past mid since : LeftSince) (m
         }) on.stands.legal.held.holds.elements.1 leaves_now;
       }
 
-      leaves : IsEnded begun core → LeavesVolume (ran_of core) since (Some s) core.heap.disk opening foreigners
+      leaves : IsEnded begun core → StandsForHistory (ran_of core) since (Some s) core.heap.disk opening foreigners
       unfolding has_history
       leaves ended = record {
         has = has_history;
@@ -252,7 +252,7 @@ module _ (faults : ℕ) (begun core : CoreState) (past mid since : LeftSince) (m
       volume = by began begun.heap.disk mounts only;
     } where
       by : (o p : Option Told) → BothTell o p (MountsDisk begun past mid) → IfSome o (LeavesOnly past)
-          → OverEach p (LeavesVolume (ran_of core) since o core.heap.disk)
+          → OverEach p (StandsForHistory (ran_of core) since o core.heap.disk)
       by None None mounts only = tt
       by None (Some u) mounts only = absurd mounts
       by (Some s) None mounts only = tt
@@ -310,7 +310,7 @@ module _ (newfs : Option ℕ) (lines : List Line) (each : All IsServedLine lines
 
   -- the run stopped, at a line or in the last flush
   stopped_by : (core : CoreState) → Follows mid since begun core → new.told ≡ core.heap.disk → new.faults ≡ core.counts.disk
-      → (old_out new_out : Seen (List ℕ)) (stop : Stop)
+      → (old_out new_out : Seen (List ℕ)) (stop : RunStop)
       → StopsAtLine lines (ran_of core) old_out new_out stop
       ⊎ StopsWriting lines (ran_of core) new.faults old_out.told new_out.told stop
       → StoppedUsing newfs lines since old new old_out new_out stop
@@ -328,7 +328,7 @@ module _ (newfs : Option ℕ) (lines : List Line) (each : All IsServedLine lines
     stops = stops;
   }
 
-  StoppedUsing-stopped : (old_out new_out : Seen (List ℕ)) (stop : Stop) → StopsUsing lines mid since begun new old_out new_out stop
+  StoppedUsing-stopped : (old_out new_out : Seen (List ℕ)) (stop : RunStop) → StopsUsing lines mid since begun new old_out new_out stop
       → StoppedUsing newfs lines since old new old_out new_out stop
   unfolding answers_in_part
   StoppedUsing-stopped old_out new_out stop (inl line) =
@@ -354,12 +354,12 @@ module _ (newfs : Option ℕ) (lines : List Line) (each : All IsServedLine lines
       }))
 
   -- the same where there was no error, and where there was one
-  pub RunsAll-opened : (old_out new_out : Option (List ℕ)) (r : Result (Unit {0}) Stop) → OnOk r (UsesAll lines mid since begun new old_out new_out)
+  pub RunsAll-opened : (old_out new_out : Option (List ℕ)) (r : Result (Unit {0}) RunStop) → OnOk r (UsesAll lines mid since begun new old_out new_out)
       → OnOk r (RunsAll newfs lines since old new old_out new_out)
   RunsAll-opened old_out new_out (Ok done) used = RunsAll-used old_out new_out used
   RunsAll-opened old_out new_out (Err stop) used = tt
 
-  pub StoppedRunning-opened : (old_out new_out : Seen (List ℕ)) (r : Result (Unit {0}) Stop)
+  pub StoppedRunning-opened : (old_out new_out : Seen (List ℕ)) (r : Result (Unit {0}) RunStop)
       → IfErr r (StopsUsing lines mid since begun new old_out new_out) → IfErr r (StoppedRunning newfs lines before since old new old_out new_out)
   StoppedRunning-opened old_out new_out (Ok done) stops = tt
   StoppedRunning-opened old_out new_out (Err stop) stops = inr (StoppedUsing-stopped old_out new_out stop stops)

@@ -17,9 +17,9 @@ use Rattle.hm_core.specs.Core.{Enters, Follows, IsSoundCore}
 use Rattle.hm_core.specs.State.{CoreState}
 use Rattle.hm_core.proofs.CoreLemmas.{follows_further, follows_itself, follows_spare}
 use Rattle.hm_core.proofs.RepliedLemmas.{entry_there}
-use Rattle.hm_shell.specs.declared.stop.Stop.{Stop}
-use Rattle.hm_shell.specs.declared.stop.Stop.TheVariants.{Usage, NotVolume, BadField, DiskFault, Damaged, ScriptFault, OutFault, NoMemory, BadLine, TooLong}
-use Rattle.hm_shell.specs.Alone.{Answers, IsAlone, TellsAfter, line_text, out_text}
+use Rattle.hm_shell.specs.declared.stop.RunStop.{RunStop}
+use Rattle.hm_shell.specs.declared.stop.RunStop.TheVariants.{Usage, NotVolume, BadField, DiskFault, Damaged, ScriptFault, OutFault, NoMemory, BadLine, TooLong}
+use Rattle.hm_shell.specs.Alone.{AnswersEach, IsAlone, TellsAfter, line_text, out_text}
 use Rattle.hm_shell.specs.Lines.{AreRising, IsServedLine}
 use Rattle.hm_shell.specs.Printing.{StoppedPrinting}
 use Rattle.hm_shell.specs.Running.{IsOutCause}
@@ -29,7 +29,7 @@ use Rattle.hm_shell.proofs.AloneMoreLemmas.{answers_more, answers_none, answers_
 use Rattle.hm_shell.proofs.TextLemmas.{out_before, out_spent, out_answered, text_answered, text_spent}
 
 -- a line that was not printed was printed in part, and something of it only by a fault of the sink
-stopped_front : (line : List ℕ) (old new : Seen (List ℕ)) (stop : Stop) → StoppedPrinting line old new stop
+stopped_front : (line : List ℕ) (old new : Seen (List ℕ)) (stop : RunStop) → StoppedPrinting line old new stop
     → (k : ℕ) × Gains old.told (take k line) new.told × ((k ≡ 0) ⊎ Rose old.faults new.faults)
 stopped_front line old new OutFault stopped = (stopped.1, stopped.2, inr stopped.0)
 stopped_front line old new NoMemory stopped = (0, rw stopped (Gains-none old.told), inl refl)
@@ -43,7 +43,7 @@ stopped_front line old new (BadLine number why) stopped = absurd stopped
 stopped_front line old new TooLong stopped = absurd stopped
 
 -- why a line was not printed is why lines are not served
-IsOutCause-printing : (line : List ℕ) (old new : Seen (List ℕ)) (stop : Stop) → StoppedPrinting line old new stop → IsOutCause old.faults new.faults stop
+IsOutCause-printing : (line : List ℕ) (old new : Seen (List ℕ)) (stop : RunStop) → StoppedPrinting line old new stop → IsOutCause old.faults new.faults stop
 IsOutCause-printing line old new OutFault stopped = stopped.0
 IsOutCause-printing line old new NoMemory stopped = tt
 IsOutCause-printing line old new Usage stopped = absurd stopped
@@ -72,7 +72,7 @@ not_empty history e none = (let length_is = ap length none in let more = length-
 
 -- What comes of one line more: the history answers it, it prints its text, and those before it print what they did.
 record HasRun (lines : List Line) (line : Line) (begun old new : CoreState) (text : List ℕ) : Type 0 where
-  pub answers : Answers new.last (lines ++ line ∷ []) new.history
+  pub answers : AnswersEach new.last (lines ++ line ∷ []) new.history
   pub up_to : (e : Entry) → Contains new.history e → e.id.0 ≤ new.last
   pub behind : IsBehind begun old → IsBehind begun new
   pub earlier : out_text lines new.history ≡ out_text lines old.history
@@ -156,7 +156,7 @@ module _ (lines : List Line) (line : Line) (later : (l : Line) → Contains line
       behind_left = run.behind
 
     -- one more line was run, and printed in part or not at all
-    part_line : (all rest : List Line) (first second third : Seen (List ℕ)) (stop : Stop) → first.told ≡ held → holds ≡ second.told
+    part_line : (all rest : List Line) (first second third : Seen (List ℕ)) (stop : RunStop) → first.told ≡ held → holds ≡ second.told
         → first.faults ≤ second.faults → all ≡ lines ++ line ∷ rest → StoppedServing old new line second third stop
         → ServedInPart all past since begun new first third
     part_line all rest first second third stop began same earlier split stopped =
@@ -228,7 +228,7 @@ module _ (lines before rest : List Line) (line : Line) (each : All IsServedLine 
       }
 
   -- the lines before were served when this one stopped
-  pub ServedInPart-stopped : (first second third : Seen (List ℕ)) (stop : Stop)
+  pub ServedInPart-stopped : (first second third : Seen (List ℕ)) (stop : RunStop)
       → Serving lines before (line ∷ rest) past mid begun old first.told second.told → first.faults ≤ second.faults
       → StoppedServing old new line second third stop → ServedInPart lines past since begun new first third
   ServedInPart-stopped first second third stop so_far earlier stopped =
@@ -243,7 +243,7 @@ module _ (lines : List Line) (past since : LeftSince) (a b c : CoreState) (sound
       (subst (λ (x : CoreState). Follows past since x c) keeps follows)
 
   -- the same where there was no error, and where there was one
-  pub served_after : (held holds : Option (List ℕ)) (r : Result (Unit {0}) Stop) → OnOk r (Served lines past since b c held holds)
+  pub served_after : (held holds : Option (List ℕ)) (r : Result (Unit {0}) RunStop) → OnOk r (Served lines past since b c held holds)
       → OnOk r (Served lines past since a c held holds)
   served_after held holds (Ok done) served = record {
     from = from_before served.from;
@@ -253,14 +253,14 @@ module _ (lines : List Line) (past since : LeftSince) (a b c : CoreState) (sound
   }
   served_after held holds (Err stop) served = tt
 
-  pub behind_after : (r : Result (Unit {0}) Stop) → OnOk r (IsBehind b c) → OnOk r (IsBehind a c)
+  pub behind_after : (r : Result (Unit {0}) RunStop) → OnOk r (IsBehind b c) → OnOk r (IsBehind a c)
   behind_after (Ok done) behind = record {
     behind = behind.behind;
     idle = λ none. behind.idle none ∙ ap (λ (x : CoreState). record x { spare = c.spare }) keeps;
   }
   behind_after (Err stop) behind = tt
 
-  pub part_after : (held holds : Seen (List ℕ)) (r : Result (Unit {0}) Stop) → OnErr r (ServedInPart lines past since b c held holds)
+  pub part_after : (held holds : Seen (List ℕ)) (r : Result (Unit {0}) RunStop) → OnErr r (ServedInPart lines past since b c held holds)
       → OnErr r (ServedInPart lines past since a c held holds)
   part_after held holds (Ok done) part = tt
   part_after held holds (Err stop) part = record {
@@ -293,17 +293,17 @@ module _ (old new : CoreState) (line : Line) where
   runs_spent answers = inr (answers.0, answers.1, refl)
 
   -- what is to be printed was printed or not
-  printed : (r : Result (Unit {0}) Stop) (text : List ℕ) (held holds : Option (List ℕ)) → RunsLine old new line text → OnOk r (Gains held text holds)
+  printed : (r : Result (Unit {0}) RunStop) (text : List ℕ) (held holds : Option (List ℕ)) → RunsLine old new line text → OnOk r (Gains held text holds)
       → OnOk r (ServesLine old new line held holds)
   printed (Ok done) text held holds runs gained = record { text = text; runs = runs; gained = gained }
   printed (Err stop) text held holds runs gained = tt
 
-  stopped : (r : Result (Unit {0}) Stop) (text : List ℕ) (held holds : Seen (List ℕ)) → RunsLine old new line text
+  stopped : (r : Result (Unit {0}) RunStop) (text : List ℕ) (held holds : Seen (List ℕ)) → RunsLine old new line text
       → IfErr r (StoppedPrinting text held holds) → IfErr r (StoppedServing old new line held holds)
   stopped (Ok done) text held holds runs printing = tt
   stopped (Err stop) text held holds runs printing = record { text = text; runs = runs; printing = printing }
 
-  module _ (r : Result (Unit {0}) Stop) where
+  module _ (r : Result (Unit {0}) RunStop) where
     module _ (place : ℕ) (e : Entry) (answers : AnswersLine old new line.lane line.number line.command (Some place))
         (there : slice_get new.history place ≡ Some e) where
       pub answered_printed : (held holds : Option (List ℕ)) → OnOk r (Gains held (printed_line (entry_words e)) holds)

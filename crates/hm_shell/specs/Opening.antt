@@ -10,7 +10,7 @@ use Rattle.hm_undo.specs.Recovered.{RecoversTo}
 use Rattle.hm_recover.specs.Recovery.{HasWholeRange}
 use Rattle.hm_recover.specs.declared.fault.OpenFault.{OpenFault}
 use Rattle.hm_core.specs.Opened.{IsFailure, IsMade, IsNotMade, IsNotMounted, IsOpenCaused}
-use Rattle.hm_shell.specs.declared.stop.Stop.{Stop}
+use Rattle.hm_shell.specs.declared.stop.RunStop.{RunStop}
 use Rattle.hm_shell.specs.Seen.{Seen}
 use Rattle.hm_shell.specs.Stop.{of_open}
 
@@ -46,7 +46,7 @@ IsUnopened (Some size) past since old new fault =
     IsNotMade size old new fault ⊎ BothTell old new (StaysAsMade size fault since)
 
 -- a run stopped before a volume was open
-pub record StoppedOpening (newfs : Option ℕ) (past since : LeftSince) (old new : Seen Told) (stop : Stop) : Type 0 where
+pub record StoppedOpening (newfs : Option ℕ) (past since : LeftSince) (old new : Seen Told) (stop : RunStop) : Type 0 where
   pub fault : OpenFault
   pub stop_is : stop ≡ of_open fault
   pub unopened : IsUnopened newfs past since old.told new.told fault
