@@ -11,7 +11,7 @@ use Rattle.hm_model.specs.declared.line.Line.{Line}
 use Rattle.hm_model.specs.Caused.{is_ending, opens}
 use Rattle.hm_model.specs.Out.{AreOrdered, IsAnswered, IsBlockText, IsCallLine, IsLineText, IsOut, IsSpent, KeepsBoundary, answers, begins, ends, endings_of, joined, lines_in, openings_of}
 use Rattle.hm_model.specs.Reply.{told_boundary}
-use Rattle.hm_shell.specs.Alone.{Answers, FoundNone, HasEntry, IsAlone, alone, line_text, out_text}
+use Rattle.hm_shell.specs.Alone.{AnswersEach, FoundNone, HasEntry, IsAlone, alone, line_text, out_text}
 
 -- what a line of a call prints is the text of its line
 module _ (history : List Entry) (end : ℕ) (block : List Line) (line : Line) (text : List ℕ) where
@@ -124,7 +124,7 @@ module _ (end : ℕ) (history : List Entry) where
   each_text none [] are each = tt
   each_text none (line ∷ lines) are each = ((text_is none line are.0 each.0, tt), each_text none lines are.1 each.1)
 
-  module _ (lines : List Line) (are : All IsAlone lines) (h : Answers end lines history) where
+  module _ (lines : List Line) (are : All IsAlone lines) (h : AnswersEach end lines history) where
     -- no entry is an ending, since each is of a line
     not_ending : (e : Entry) → Contains history e → is_ending e.call ≡ false
     not_ending e has =

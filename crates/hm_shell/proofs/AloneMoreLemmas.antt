@@ -12,10 +12,10 @@ use Rattle.hm_model.specs.Out.{IsOf, answers, begins, ends}
 use Rattle.hm_model.specs.Reply.{told_boundary}
 use Rattle.hm_model.specs.declared.reply.Reply.{Reply}
 use Rattle.hm_image.proofs.ListLemmas.{only_one}
-use Rattle.hm_shell.specs.Alone.{Answers, FoundNone, HasAnswer, HasEntry, TellsAfter}
+use Rattle.hm_shell.specs.Alone.{AnswersEach, FoundNone, HasAnswer, HasEntry, TellsAfter}
 
 -- no line was run
-pub answers_none : (end : ℕ) → Answers end [] []
+pub answers_none : (end : ℕ) → AnswersEach end [] []
 answers_none end = record {
   each = All-from_recursion _ [] tt;
   owned = λ e has. (let lt = has.1 in absurd (omega (arith, lt)));
@@ -45,19 +45,19 @@ each_from P xs each = λ k d below. each _ (Contains-get_or xs k d below)
 
 module _ (lines : List Line) (history : List Entry) (line : Line) (later : (l : Line) → Contains lines l → l.number < line.number) where
   -- no entry is of the new line, or of one after it
-  pub earlier : (end : ℕ) → Answers end lines history → (e : Entry) → Contains history e → e.line < line.number
+  pub earlier : (end : ℕ) → AnswersEach end lines history → (e : Entry) → Contains history e → e.line < line.number
   earlier end h e has = (let of = h.owned e has in let number = of.2.number in let lower = later of.0 of.1 in omega (arith, number, lower))
 
   -- the new line has none so far
-  pub apart : (end : ℕ) → Answers end lines history → AreOfOthers line.number history
+  pub apart : (end : ℕ) → AnswersEach end lines history → AreOfOthers line.number history
   apart end h = recursion_from_All _ history
       (each_from (λ e. e.line ≢ line.number) history (λ e has same. (let lower = earlier end h e has in absurd (omega (arith, same, lower)))))
 
-  none_yet : (end : ℕ) → Answers end lines history → filter (answers line.number) history ≡ []
+  none_yet : (end : ℕ) → AnswersEach end lines history → filter (answers line.number) history ≡ []
   none_yet end h = none_answers line.number history (apart end h)
 
   -- a line found no id left
-  pub answers_spent : (end : ℕ) → end ≡ GREATEST_ID → Answers end lines history → Answers end (lines ++ line ∷ []) history
+  pub answers_spent : (end : ℕ) → end ≡ GREATEST_ID → AnswersEach end lines history → AnswersEach end (lines ++ line ∷ []) history
   answers_spent end greatest h = record {
     each = each_from (HasAnswer history end) (lines ++ line ∷ []) (λ l has. ⊎_elim (λ old. All-contains (HasAnswer history end) lines l h.each old)
         (λ new. subst (HasAnswer history end) (only_one line l new) (inr found)) (Contains-append_cases lines (line ∷ []) l has));
@@ -72,7 +72,7 @@ module _ (lines : List Line) (history : List Entry) (line : Line) (later : (l : 
     }
 
   -- a line was answered
-  module _ (end : ℕ) (e : Entry) (h : Answers end lines history) (left : end < GREATEST_ID) (of : IsOf line e) (told : TellsAfter history line.number e.reply)
+  module _ (end : ℕ) (e : Entry) (h : AnswersEach end lines history) (left : end < GREATEST_ID) (of : IsOf line e) (told : TellsAfter history line.number e.reply)
       (above : (a : Entry) → Contains history a → a.id.0 < e.id.0) where
     abbrev after : List Entry
     after = history ++ e ∷ []
@@ -132,7 +132,7 @@ module _ (lines : List Line) (history : List Entry) (line : Line) (later : (l : 
               (λ b_new. (let same : e.line < e.line = subst (λ (y : Entry). e.line < y.line) (sym (only_one e b b_new)) under in omega (arith, same)))
               (Contains-append_cases history (e ∷ []) b also)
 
-    pub answers_more : (next : ℕ) → Answers next (lines ++ line ∷ []) after
+    pub answers_more : (next : ℕ) → AnswersEach next (lines ++ line ∷ []) after
     answers_more next = record {
       each = each_from (HasAnswer after next) (lines ++ line ∷ []) (λ l has. inl (has_entry l has));
       owned = owned;

@@ -1,6 +1,7 @@
 -- The last flush, stage by stage, and what has come of a core by its end.
 use Rattle.std.proofs.Common.{◌≡◌, ◌≢◌, ◌⊎◌, ℕ, ◌<◌, ◌≤◌, List, [], Option, refl, sym, ◌∙◌, ap, subst, inl, inr, arith}
 use Rattle.std.specs.Prelude.{Bool, Contains, Err, IfErr, IfSome, Ok, OnOk, Result, true, false}
+use Rattle.std.proofs.Math.Logic.{∥∥₁_map}
 use Rattle.hm_types.specs.declared.fault.Fault.{Fault}
 use Rattle.hm_types.specs.declared.fault.Fault.TheVariants.{Damaged as damage, Media as media, NoMemory as no_memory}
 use Rattle.hm_pipe.specs.Pipe.{Gains}
@@ -11,19 +12,23 @@ use Rattle.hm_flush.specs.Calls.{HasStageCause, IsMoved}
 use Rattle.hm_flush.specs.declared.flush.Flush.{Flush}
 use Rattle.hm_flush.specs.declared.flush.Position.{Position}
 use Rattle.hm_flush.specs.declared.flush.Position.TheVariants.{Idle}
+use Rattle.hm_model.specs.Caused.{Counts}
 use Rattle.hm_model.specs.declared.entry.Entry.{Entry}
 use Rattle.hm_model.specs.declared.line.Line.{Line}
-use Rattle.hm_core.specs.Core.{Follows, Waits}
+use Rattle.hm_core.specs.Caused.{IsCausedFrom}
+use Rattle.hm_core.specs.Core.{Follows, IsCausedRun, IsSoundCore, Waits}
+use Rattle.hm_core.specs.Counts.{AreLater, with_disk}
 use Rattle.hm_core.specs.Finished.{IsCommittedOn}
 use Rattle.hm_core.specs.Staged.{EndsBy, EndsFlush, IsFlushed, MakesStage, header_now}
-use Rattle.hm_core.specs.State.{CoreState}
+use Rattle.hm_core.specs.State.{CoreState, Mounted}
+use Rattle.hm_core.proofs.CausedLemmas.{caused_later}
 use Rattle.hm_core.proofs.CoreLemmas.{follows_further}
-use Rattle.hm_shell.specs.Alone.{Answers, out_text}
+use Rattle.hm_shell.specs.Alone.{AnswersEach, out_text}
 use Rattle.hm_shell.specs.Running.{IsWriteCause}
 use Rattle.hm_shell.specs.Seen.{Seen}
 use Rattle.hm_shell.specs.Serving.{Commits, IsBehind, IsEnded, Served, StopsUsing, UsesAll}
 use Rattle.hm_shell.specs.Stop.{of_fault}
-use Rattle.hm_shell.specs.declared.stop.Stop.{Stop}
+use Rattle.hm_shell.specs.declared.stop.RunStop.{RunStop}
 use Rattle.hm_shell.proofs.WaitLemmas.{waits_more}
 
 -- no stage was made so far, or some were, and not all is committed
@@ -88,8 +93,8 @@ module _ (lines : List Line) (past left since : LeftSince) (begun mid core : Cor
   Served-committed : Served lines past since begun core held holds
   Served-committed = record {
     from = follows_further past left since begun mid core served.from follows;
-    answers = subst (λ (n : ℕ). Answers n lines core.history) (sym waits.last)
-        (subst (λ (h : List Entry). Answers mid.last lines h) (sym waits.history) served.answers);
+    answers = subst (λ (n : ℕ). AnswersEach n lines core.history) (sym waits.last)
+        (subst (λ (h : List Entry). AnswersEach mid.last lines h) (sym waits.history) served.answers);
     up_to = λ e has. (let last = waits.last in
         let least = served.up_to e (subst (λ (h : List Entry). Contains h e) waits.history has) in omega (arith, last, least));
     gained = subst (λ (h : List Entry). Gains held (out_text lines h) holds) (sym waits.history) served.gained;
@@ -121,7 +126,7 @@ module _ (lines : List Line) (past left since : LeftSince) (begun mid core : Cor
       unwritten none (inr made) = absurd (made.0 (idle_flushed none))
 
   -- it came to its end
-  pub UsesAll-committed : IsFlushed begun → IsBehind begun mid → (r : Result (Unit {0}) Stop) → OnOk r (Commits mid core)
+  pub UsesAll-committed : IsFlushed begun → IsBehind begun mid → (r : Result (Unit {0}) RunStop) → OnOk r (Commits mid core)
       → OnOk r (UsesAll lines past since begun (disk_of core) held holds)
   UsesAll-committed flushed behind (Ok done) commits = record {
     core = core;
@@ -131,9 +136,22 @@ module _ (lines : List Line) (past left since : LeftSince) (begun mid core : Cor
   }
   UsesAll-committed flushed behind (Err stop) commits = tt
 
+-- stages that enter nothing leave each reply its cause by the faults of the disk before them
+caused_before : (left since : LeftSince) (mid core : CoreState) → IsSoundCore mid → Waits mid core → Follows left since mid core
+    → IsCausedRun (record core { counts = with_disk core.counts mid.counts.disk })
+caused_before left since mid core sound waits follows =
+    let falls = follows.never_falls in
+    let counts : Counts = with_disk core.counts mid.counts.disk in
+    let later : AreLater mid.counts counts = record { disk = omega arith; input = falls.input; output = falls.output } in
+    ∥∥₁_map sound.caused (λ so_far.
+    subst (λ (m : Mounted). IsCausedFrom m.first m.counts counts core.last core.history) (sym follows.mounted)
+    (subst (λ (n : ℕ). IsCausedFrom mid.mounted.first mid.mounted.counts counts n core.history) (sym waits.last)
+    (subst (λ (h : List Entry). IsCausedFrom mid.mounted.first mid.mounted.counts counts mid.last h) (sym waits.history)
+    (caused_later mid.mounted.first mid.mounted.counts mid.counts counts mid.last mid.history so_far later))))
+
 -- or it stopped there
 pub StopsUsing-failed : (lines : List Line) (past left since : LeftSince) (begun mid core : CoreState) (old new : Seen (List ℕ))
-    → Served lines past left begun mid old.told new.told → Waits mid core → Follows left since mid core → (r : Result (Unit {0}) Stop)
+    → Served lines past left begun mid old.told new.told → Waits mid core → Follows left since mid core → (r : Result (Unit {0}) RunStop)
     → IfErr r (IsWriteCause mid.counts.disk core.counts.disk) → IfErr r (StopsUsing lines past since begun (disk_of core) old new)
 StopsUsing-failed lines past left since begun mid core old new served waits follows (Ok done) cause = tt
 StopsUsing-failed lines past left since begun mid core old new served waits follows (Err stop) cause = inr (record {
@@ -141,6 +159,7 @@ StopsUsing-failed lines past left since begun mid core old new served waits foll
   served = Served-committed lines past left since begun mid core old.told new.told served waits follows;
   before = mid.counts.disk;
   later = served.from.never_falls.disk;
+  caused = caused_before left since mid core served.from.sound waits follows;
   cause = cause;
   disk_is = record { told = refl; faults = refl };
 })

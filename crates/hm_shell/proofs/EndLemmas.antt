@@ -5,8 +5,8 @@ use Rattle.hm_recover.specs.declared.fault.OpenFault.{OpenFault}
 use Rattle.hm_recover.specs.declared.fault.OpenFault.TheVariants.{BadField as bad_field, Fault as of_disk, NotVolume as no_volume}
 use Rattle.hm_types.specs.declared.fault.Fault.TheVariants.{Damaged as damage, Media as media, NoMemory as no_memory}
 use Rattle.hm_disk.specs.Moments.{LeftSince}
-use Rattle.hm_shell.specs.declared.stop.Stop.{Stop}
-use Rattle.hm_shell.specs.declared.stop.Stop.TheVariants.{Usage, NotVolume, BadField, DiskFault, Damaged, ScriptFault, OutFault, NoMemory, BadLine, TooLong}
+use Rattle.hm_shell.specs.declared.stop.RunStop.{RunStop}
+use Rattle.hm_shell.specs.declared.stop.RunStop.TheVariants.{Usage, NotVolume, BadField, DiskFault, Damaged, ScriptFault, OutFault, NoMemory, BadLine, TooLong}
 use Rattle.hm_shell.specs.Devices.{Sight}
 use Rattle.hm_shell.specs.Exact.{IsStatus}
 use Rattle.hm_shell.specs.Printing.{Prints}
@@ -20,7 +20,7 @@ abbrev pub HasEnded : List (List ℕ) → LeftSince → LeftSince → Sight → 
 HasEnded words past since old new status = ((status ≡ 0) × Completes words since old new) ⊎ StopsWith words status past since old new
 
 -- from what was done, and the last line
-pub HasEnded-from : (words : List (List ℕ)) (past since : LeftSince) (old mid new : Sight) (outcome : Result (Unit {0}) Stop) (status : ℕ)
+pub HasEnded-from : (words : List (List ℕ)) (past since : LeftSince) (old mid new : Sight) (outcome : Result (Unit {0}) RunStop) (status : ℕ)
     → OnOk outcome (Completes words since old mid) → IfErr outcome (Stops words past since old mid)
     → OnOk outcome ((status ≡ 0) × (new.out.told ≡ mid.out.told))
     → IfErr outcome (λ stop. (status ≡ status_of stop) × Prints [] (last_line stop) mid.out new.out) → new.disk ≡ mid.disk → new.script ≡ mid.script
@@ -41,7 +41,7 @@ HasEnded-from words past since old mid new (Err stop) status completes stops end
     let same : mid ≡ there = ap (λ d. make d mid.script) (sym disk) ∙ ap (λ s. make new.disk s) (sym script) in
     inr (stop, line.0, record { out = mid.out; stops = subst (λ m. Stops words past since old m stop) same stops; line = line.1 })
 
-not_zero : (stop : Stop) → status_of stop ≡ 0 → ⊥
+not_zero : (stop : RunStop) → status_of stop ≡ 0 → ⊥
 not_zero Usage is = absurd (omega (arith, is))
 not_zero NotVolume is = absurd (omega (arith, is))
 not_zero (BadField place) is = absurd (omega (arith, is))
@@ -67,12 +67,12 @@ no_usage (of_disk (damage at kind)) is = absurd (cc)
 no_usage (of_disk no_memory) is = absurd (cc)
 
 -- the words of a run that stopped elsewhere keep the rule
-plan_or_usage : (words : List (List ℕ)) (past since : LeftSince) (old new : Sight) (stop : Stop) → Stops words past since old new stop
+plan_or_usage : (words : List (List ℕ)) (past since : LeftSince) (old new : Sight) (stop : RunStop) → Stops words past since old new stop
     → (IsUsageFault words × (stop ≡ Usage)) ⊎ (HasPlan words × (status_of stop ≢ 2))
 plan_or_usage words past since old new stop (inr later) =
     inr ((later.prepared.volume, later.newfs, later.prepared.plan), λ is. none stop is later)
   where
-    none : (stop : Stop) → status_of stop ≡ 2 → StopsLater words past since old new stop → ⊥
+    none : (stop : RunStop) → status_of stop ≡ 2 → StopsLater words past since old new stop → ⊥
     none Usage is later = elim later.stopped [
       | inl opening ↦ absurd (no_usage opening.0.fault opening.0.stop_is)
       | inr using ↦ elim using.stops [
@@ -101,7 +101,7 @@ plan_or_usage words past since old new (Damaged at kind) (inl before) = absurd b
 plan_or_usage words past since old new OutFault (inl before) = absurd before.0
 
 -- each stop has one of the statuses
-IsStatus-status_of : (stop : Stop) → IsStatus (status_of stop)
+IsStatus-status_of : (stop : RunStop) → IsStatus (status_of stop)
 IsStatus-status_of Usage = (1, lit< tt, refl)
 IsStatus-status_of NotVolume = (2, lit< tt, refl)
 IsStatus-status_of (BadField place) = (2, lit< tt, refl)

@@ -25,14 +25,14 @@ use Rattle.hm_model.specs.Lines.{texts_of}
 use Rattle.hm_model.specs.Script.{IsTooLong}
 use Rattle.hm_model.specs.Volume.{Volume}
 use Rattle.hm_core.specs.Crash.{StandsRecovered}
-use Rattle.hm_core.specs.Opened.{HasDamage, IsFailure, IsMade, IsNotMade, IsNotMounted, IsTooSmall}
-use Rattle.hm_shell.specs.declared.stop.Stop.{Stop}
-use Rattle.hm_shell.specs.declared.stop.Stop.TheVariants.{Usage, NotVolume, BadField, DiskFault, Damaged, ScriptFault, OutFault, NoMemory, BadLine, TooLong}
+use Rattle.hm_core.specs.Opened.{HasDamage, IsMade, IsNotMade, IsNotMounted, IsTooSmall}
+use Rattle.hm_shell.specs.declared.stop.RunStop.{RunStop}
+use Rattle.hm_shell.specs.declared.stop.RunStop.TheVariants.{Usage, NotVolume, BadField, DiskFault, Damaged, ScriptFault, OutFault, NoMemory, BadLine, TooLong}
 use Rattle.hm_shell.specs.Devices.{Sight}
 use Rattle.hm_shell.specs.Exact.{Brings, DiskBrings, NewBrings, OldBrings, ScriptBrings}
 use Rattle.hm_shell.specs.Lines.{IsFirstBad, IsGoodScript, IsServedText}
 use Rattle.hm_shell.specs.Making.{MakesVolume}
-use Rattle.hm_shell.specs.Opening.{HasWhole, IsUnopened, Opens, StoppedOpening}
+use Rattle.hm_shell.specs.Opening.{HasWhole, IsUnopened, Opens, StaysAsMade, StoppedOpening}
 use Rattle.hm_shell.specs.Preparing.{IsPrepared, StoppedPreparing}
 use Rattle.hm_shell.specs.Reading.{WasRead}
 use Rattle.hm_shell.specs.Run.{Stops}
@@ -207,16 +207,16 @@ unmade_brings size old new (of_disk (damage at kind)) not = absurd not
 unmade_brings size old new (of_disk no_memory) not = absurd not
 
 -- with one on which a volume was made, and not opened
-unopened_brings : (size : ℕ) (old new : Option Told) (fault : OpenFault) → BothTell old new (λ s t. IsMade size s t × IsFailure fault)
+unopened_brings : (size : ℕ) (since : LeftSince) (old new : Option Told) (fault : OpenFault) → BothTell old new (StaysAsMade size fault since)
     → IfSome old (λ t. NewBrings size t (status_of (of_open fault)))
-unopened_brings size old new no_volume made =
-    both_gives old new (λ s t. IsMade size s t × IsFailure no_volume) (λ t. NewBrings size t 3) (λ s t made. absurd made.1) made
-unopened_brings size old new (bad_field place) made =
-    both_gives old new (λ s t. IsMade size s t × IsFailure (bad_field place)) (λ t. NewBrings size t 3) (λ s t made. absurd made.1) made
-unopened_brings size old new (of_disk (media before after)) made = four_anyway (Some size) old
-unopened_brings size old new (of_disk (damage at kind)) made =
-    both_gives old new (λ s t. IsMade size s t × IsFailure (of_disk (damage at kind))) (λ t. NewBrings size t 10) (λ s t made. absurd made.1) made
-unopened_brings size old new (of_disk no_memory) made = seven_anyway (Some size) old
+unopened_brings size since old new no_volume made =
+    both_gives old new (StaysAsMade size no_volume since) (λ t. NewBrings size t 3) (λ s t made. absurd made.failed) made
+unopened_brings size since old new (bad_field place) made =
+    both_gives old new (StaysAsMade size (bad_field place) since) (λ t. NewBrings size t 3) (λ s t made. absurd made.failed) made
+unopened_brings size since old new (of_disk (media before after)) made = four_anyway (Some size) old
+unopened_brings size since old new (of_disk (damage at kind)) made =
+    both_gives old new (StaysAsMade size (of_disk (damage at kind)) since) (λ t. NewBrings size t 10) (λ s t made. absurd made.failed) made
+unopened_brings size since old new (of_disk no_memory) made = seven_anyway (Some size) old
 
 not_opened_brings : (newfs : Option ℕ) (past since : LeftSince) (old new : Option Told) (fault : OpenFault) → IsUnopened newfs past since old new fault
     → IfSome old (λ t. DiskBrings newfs t (status_of (of_open fault)))
@@ -224,7 +224,7 @@ not_opened_brings None past since old new fault not =
     both_gives old new (IsNotMounted fault past since) (λ t. OldBrings t (status_of (of_open fault)))
     (λ s t not. unmounted_brings past since s t fault not) not
 not_opened_brings (Some size) past since old new fault (inl not) = unmade_brings size old new fault not
-not_opened_brings (Some size) past since old new fault (inr made) = unopened_brings size old new fault made
+not_opened_brings (Some size) past since old new fault (inr made) = unopened_brings size since old new fault made
 
 abbrev MayCome : Option ℕ → Option Told → ℕ → Type 0
 MayCome newfs disk status = Contains (0 ∷ 3 ∷ 4 ∷ 5 ∷ 6 ∷ 7 ∷ 10 ∷ []) status × IfSome disk (λ t. DiskBrings newfs t status)
@@ -236,17 +236,17 @@ open_status (of_disk (media before after)) = (2, lit< tt, refl)
 open_status (of_disk (damage at kind)) = (6, lit< tt, refl)
 open_status (of_disk no_memory) = (5, lit< tt, refl)
 
-opening_brings : (newfs : Option ℕ) (past since : LeftSince) (old new : Seen Told) (stop : Stop) → StoppedOpening newfs past since old new stop
+opening_brings : (newfs : Option ℕ) (past since : LeftSince) (old new : Seen Told) (stop : RunStop) → StoppedOpening newfs past since old new stop
     → MayCome newfs old.told (status_of stop)
 opening_brings newfs past since old new stop stopped =
     subst (λ s. MayCome newfs old.told (status_of s)) (sym stopped.stop_is)
     (open_status stopped.fault, not_opened_brings newfs past since old.told new.told stopped.fault stopped.unopened)
 
 module _ (newfs : Option ℕ) (lines : List Line) (past since : LeftSince) (old_disk new_disk : Seen Told) (old_out new_out : Seen (List ℕ)) where
-  abbrev Used : Stop → Type 0
+  abbrev Used : RunStop → Type 0
   Used stop = StoppedUsing newfs lines since old_disk new_disk old_out new_out stop
 
-  using_brings : (stop : Stop) → Used stop → MayCome newfs old_disk.told (status_of stop)
+  using_brings : (stop : RunStop) → Used stop → MayCome newfs old_disk.told (status_of stop)
   using_brings OutFault using =
       ((4, lit< tt, refl), opened_brings newfs old_disk.told using.began using.opened 6 using.makes using.opens (3, lit< tt, refl))
   using_brings NoMemory using = ((5, lit< tt, refl), seven_anyway newfs old_disk.told)
@@ -259,7 +259,7 @@ module _ (newfs : Option ℕ) (lines : List Line) (past since : LeftSince) (old_
   using_brings (BadLine number why) using = elim using.stops [ inl line ↦ absurd line.cause | inr writing ↦ absurd writing.cause ]
   using_brings TooLong using = elim using.stops [ inl line ↦ absurd line.cause | inr writing ↦ absurd writing.cause ]
 
-  running_brings : (stop : Stop) → StoppedRunning newfs lines past since old_disk new_disk old_out new_out stop
+  running_brings : (stop : RunStop) → StoppedRunning newfs lines past since old_disk new_disk old_out new_out stop
       → MayCome newfs old_disk.told (status_of stop)
   running_brings stop (inl opening) = opening_brings newfs past since old_disk new_disk stop opening.0
   running_brings stop (inr using) = using_brings stop using
@@ -280,7 +280,7 @@ good_brings words old new_script newfs lines status prepared may plan = (
       })),
 )
 
-preparing_brings : (words : List (List ℕ)) (old : Sight) (new : Seen (List ℕ)) (stop : Stop) → StoppedPreparing words old.script new stop
+preparing_brings : (words : List (List ℕ)) (old : Sight) (new : Seen (List ℕ)) (stop : RunStop) → StoppedPreparing words old.script new stop
     → Brings words old (status_of stop)
 preparing_brings words old new Usage stopped plan = absurd (stopped.0 plan.0 plan.1 plan.2)
 preparing_brings words old new (ScriptFault before after) stopped plan = (
@@ -333,7 +333,7 @@ preparing_brings words old new (Damaged at kind) stopped plan = absurd stopped
 preparing_brings words old new OutFault stopped plan = absurd stopped
 
 module _ (words : List (List ℕ)) (past since : LeftSince) (old new : Sight) where
-  stops_bring : (made : Sight) (stop : Stop) → Stops words past since old made stop → Brings words old (status_of stop)
+  stops_bring : (made : Sight) (stop : RunStop) → Stops words past since old made stop → Brings words old (status_of stop)
   stops_bring made stop (inl before) = preparing_brings words old made.script stop before.0
   stops_bring made stop (inr later) =
       good_brings words old made.script later.newfs later.lines (status_of stop) later.prepared

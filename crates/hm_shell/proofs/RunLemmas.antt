@@ -22,16 +22,17 @@ use Rattle.hm_core.specs.History.{up_to, volume_of}
 use Rattle.hm_core.specs.Opened.{IsMounted, MountsDisk}
 use Rattle.hm_core.specs.State.{CoreState, Mounted}
 use Rattle.hm_core.proofs.CrashLemmas.{left_tried, prefix_weaker}
-use Rattle.hm_shell.specs.declared.stop.Stop.{Stop}
+use Rattle.hm_shell.specs.declared.stop.RunStop.{RunStop}
 use Rattle.hm_shell.specs.Alone.{IsAlone, out_text}
 use Rattle.hm_shell.specs.Lines.{IsServedLine}
 use Rattle.hm_shell.specs.Making.{MakesVolume}
 use Rattle.hm_shell.specs.Opening.{Opens}
-use Rattle.hm_shell.specs.Running.{AnswersAll, AnswersInPart, BeginsOn, HasHistory, HoldsSyncs, IsCounted, IsKept, LeavesVolume, OverEach, Ran, RunsAll, StopsAtLine, StopsWriting, StoppedRunning, StoppedUsing}
+use Rattle.hm_shell.specs.Running.{AnswersAll, AnswersInPart, BeginsOn, HasHistory, HoldsSyncs, IsCounted, IsKept, OverEach, Ran, RunsAll, StandsForHistory, StopsAtLine, StopsWriting, StoppedRunning, StoppedUsing}
 use Rattle.hm_shell.specs.Seen.{Seen}
 use Rattle.hm_shell.specs.Serving.{IsEnded, Served, ServedInPart, StopsUsing, UsesAll}
 use Rattle.hm_shell.proofs.AloneLemmas.{answers_out}
 use Rattle.hm_shell.proofs.AloneMoreLemmas.{each_from}
+use Rattle.hm_shell.proofs.OpenLemmas.{LeavesOnly}
 
 -- lines that are served run by themselves
 are_alone : (lines : List Line) → All IsServedLine lines → All IsAlone lines
@@ -55,15 +56,6 @@ both_each None None P Q from both = tt
 both_each None (Some t) P Q from both = absurd both
 both_each (Some s) None P Q from both = absurd both
 both_each (Some s) (Some t) P Q from both = from s t both
-
--- since the moment of a disk that tells this, only what a crash then might leave was left
-abbrev pub LeavesOnly : LeftSince → Told → Type 0
-LeavesOnly past t = (image : List ℕ) → past t.moment image → MayLeave t.bytes t.unsettled image
-
-pub leaves_only : (o : Option Told) (past : LeftSince)
-    → ((image : List ℕ) → IfSome o (λ t. past t.moment image → MayLeave t.bytes t.unsettled image)) → IfSome o (LeavesOnly past)
-leaves_only None past only = tt
-leaves_only (Some t) past only = only
 
 -- what a core tells of the run
 abbrev pub ran_of : CoreState → Ran
@@ -224,7 +216,7 @@ module _ (faults : ℕ) (begun core : CoreState) (past mid since : LeftSince) (m
         }) on.stands.legal.held.holds.elements.1 leaves_now;
       }
 
-      leaves : IsEnded begun core → LeavesVolume (ran_of core) since (Some s) core.heap.disk opening foreigners
+      leaves : IsEnded begun core → StandsForHistory (ran_of core) since (Some s) core.heap.disk opening foreigners
       unfolding has_history
       leaves ended = record {
         has = has_history;
@@ -260,23 +252,23 @@ module _ (faults : ℕ) (begun core : CoreState) (past mid since : LeftSince) (m
       volume = by began begun.heap.disk mounts only;
     } where
       by : (o p : Option Told) → BothTell o p (MountsDisk begun past mid) → IfSome o (LeavesOnly past)
-          → OverEach p (LeavesVolume (ran_of core) since o core.heap.disk)
+          → OverEach p (StandsForHistory (ran_of core) since o core.heap.disk)
       by None None mounts only = tt
       by None (Some u) mounts only = absurd mounts
       by (Some s) None mounts only = tt
       by (Some s) (Some u) mounts only = λ opening foreigners stood. leaves s u mounts only opening foreigners stood ended
 
-module _ (lines : List Line) (each : All IsServedLine lines) (past since : LeftSince) (begun core : CoreState) (old new : Option (List ℕ)) where
-  answers_all : Served lines past since begun core old new → AnswersAll lines (ran_of core) old new
-  answers_all served = record {
+module _ (lines : List Line) (each : All IsServedLine lines) (past since : LeftSince) (begun core : CoreState) where
+  answers_all : (old new : Option (List ℕ)) → Served lines past since begun core old new → AnswersAll lines (ran_of core) old new
+  answers_all old new served = record {
     text = out_text lines core.history;
     out = answers_out core.last core.history lines (are_alone lines each) served.answers;
     gained = served.gained;
   }
 
-  answers_in_part : (part : ServedInPart lines past since begun core old new)
+  answers_in_part : (old new : Seen (List ℕ)) (part : ServedInPart lines past since begun core old new)
       → AnswersInPart lines (out_text part.before core.history ++ take part.printed (out_text part.last core.history)) (ran_of core)
-  answers_in_part part = record {
+  answers_in_part old new part = record {
     before = part.before;
     last = part.last;
     rest = part.rest;
@@ -318,7 +310,7 @@ module _ (newfs : Option ℕ) (lines : List Line) (each : All IsServedLine lines
 
   -- the run stopped, at a line or in the last flush
   stopped_by : (core : CoreState) → Follows mid since begun core → new.told ≡ core.heap.disk → new.faults ≡ core.counts.disk
-      → (old_out new_out : Seen (List ℕ)) (stop : Stop)
+      → (old_out new_out : Seen (List ℕ)) (stop : RunStop)
       → StopsAtLine lines (ran_of core) old_out new_out stop
       ⊎ StopsWriting lines (ran_of core) new.faults old_out.told new_out.told stop
       → StoppedUsing newfs lines since old new old_out new_out stop
@@ -336,14 +328,16 @@ module _ (newfs : Option ℕ) (lines : List Line) (each : All IsServedLine lines
     stops = stops;
   }
 
-  StoppedUsing-stopped : (old_out new_out : Seen (List ℕ)) (stop : Stop) → StopsUsing lines mid since begun new old_out new_out stop
+  StoppedUsing-stopped : (old_out new_out : Seen (List ℕ)) (stop : RunStop) → StopsUsing lines mid since begun new old_out new_out stop
       → StoppedUsing newfs lines since old new old_out new_out stop
+  unfolding answers_in_part
   StoppedUsing-stopped old_out new_out stop (inl line) =
       let part = line.served in
       stopped_by line.core part.from line.disk_is.told line.disk_is.faults old_out new_out stop (inl (record {
         text = out_text part.before line.core.history ++ take part.printed (out_text part.last line.core.history);
-        answered = answers_in_part lines each mid since begun line.core old_out.told new_out.told part;
+        answered = answers_in_part lines each mid since begun line.core old_out new_out part;
         gained = part.gained;
+        cut = part.cut;
         cause = line.cause;
       }))
   StoppedUsing-stopped old_out new_out stop (inr writing) =
@@ -355,16 +349,17 @@ module _ (newfs : Option ℕ) (lines : List Line) (each : All IsServedLine lines
         answered = answers_all lines each mid since begun core old_out.told new_out.told writing.served;
         before = writing.before;
         later = omega (arith, later, start);
+        caused = writing.caused;
         cause = writing.cause;
       }))
 
   -- the same where there was no error, and where there was one
-  pub RunsAll-opened : (old_out new_out : Option (List ℕ)) (r : Result (Unit {0}) Stop) → OnOk r (UsesAll lines mid since begun new old_out new_out)
+  pub RunsAll-opened : (old_out new_out : Option (List ℕ)) (r : Result (Unit {0}) RunStop) → OnOk r (UsesAll lines mid since begun new old_out new_out)
       → OnOk r (RunsAll newfs lines since old new old_out new_out)
   RunsAll-opened old_out new_out (Ok done) used = RunsAll-used old_out new_out used
   RunsAll-opened old_out new_out (Err stop) used = tt
 
-  pub StoppedRunning-opened : (old_out new_out : Seen (List ℕ)) (r : Result (Unit {0}) Stop)
+  pub StoppedRunning-opened : (old_out new_out : Seen (List ℕ)) (r : Result (Unit {0}) RunStop)
       → IfErr r (StopsUsing lines mid since begun new old_out new_out) → IfErr r (StoppedRunning newfs lines before since old new old_out new_out)
   StoppedRunning-opened old_out new_out (Ok done) stops = tt
   StoppedRunning-opened old_out new_out (Err stop) stops = inr (StoppedUsing-stopped old_out new_out stop stops)

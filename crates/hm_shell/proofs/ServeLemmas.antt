@@ -1,14 +1,15 @@
 -- Lines that are served from the front.
 use Rattle.std.proofs.Common.{◌≡◌, ℕ, ◌+◌, ◌*◌, ◌<◌, ◌≤◌, List, [], ◌∷◌, ◌++◌, length, take, refl, subst, sym, ◌∙◌, ap, inl, inr, arith, append_assoc, append-nil, length-append}
-use Rattle.std.specs.Prelude.{All, Contains, IfErr, OnErr, OnOk, Option, None, Some, Result, Ok, Err, slice_get}
+use Rattle.std.specs.Prelude.{◌⊎◌, All, Contains, IfErr, OnErr, OnOk, Option, None, Some, Result, Ok, Err, slice_get}
 use Rattle.std.proofs.lemmas.List.Elements.{All-contains, Contains-append_cases, Contains-append_right}
 use Rattle.std.proofs.lemmas.Option.{IfSome_then}
 use Rattle.hm_image.proofs.ListLemmas.{only_one}
 use Rattle.hm_model.specs.Reply.{told_boundary}
+use Rattle.hm_types.specs.Faults.{Rose}
 use Rattle.hm_types.specs.declared.limits.TheConstants.{GREATEST_ID}
 use Rattle.hm_disk.specs.Moments.{LeftSince}
 use Rattle.hm_pipe.specs.Pipe.{Gains}
-use Rattle.hm_pipe.proofs.PipeLemmas.{Gains-none, Gains-append}
+use Rattle.hm_pipe.proofs.PipeLemmas.{Gains-none, Gains-append, Rose-wider}
 use Rattle.hm_model.specs.declared.entry.Entry.{Entry}
 use Rattle.hm_model.specs.declared.line.Line.{Line}
 use Rattle.hm_model.specs.Out.{IsOf, entry_words, printed_line, spent_words}
@@ -16,9 +17,9 @@ use Rattle.hm_core.specs.Core.{Enters, Follows, IsSoundCore}
 use Rattle.hm_core.specs.State.{CoreState}
 use Rattle.hm_core.proofs.CoreLemmas.{follows_further, follows_itself, follows_spare}
 use Rattle.hm_core.proofs.RepliedLemmas.{entry_there}
-use Rattle.hm_shell.specs.declared.stop.Stop.{Stop}
-use Rattle.hm_shell.specs.declared.stop.Stop.TheVariants.{Usage, NotVolume, BadField, DiskFault, Damaged, ScriptFault, OutFault, NoMemory, BadLine, TooLong}
-use Rattle.hm_shell.specs.Alone.{Answers, IsAlone, TellsAfter, line_text, out_text}
+use Rattle.hm_shell.specs.declared.stop.RunStop.{RunStop}
+use Rattle.hm_shell.specs.declared.stop.RunStop.TheVariants.{Usage, NotVolume, BadField, DiskFault, Damaged, ScriptFault, OutFault, NoMemory, BadLine, TooLong}
+use Rattle.hm_shell.specs.Alone.{AnswersEach, IsAlone, TellsAfter, line_text, out_text}
 use Rattle.hm_shell.specs.Lines.{AreRising, IsServedLine}
 use Rattle.hm_shell.specs.Printing.{StoppedPrinting}
 use Rattle.hm_shell.specs.Running.{IsOutCause}
@@ -27,10 +28,11 @@ use Rattle.hm_shell.specs.Serving.{AnswersLine, IsBehind, RunsLine, Served, Serv
 use Rattle.hm_shell.proofs.AloneMoreLemmas.{answers_more, answers_none, answers_spent}
 use Rattle.hm_shell.proofs.TextLemmas.{out_before, out_spent, out_answered, text_answered, text_spent}
 
--- a line that was not printed was printed in part
-stopped_front : (line : List ℕ) (old new : Seen (List ℕ)) (stop : Stop) → StoppedPrinting line old new stop → (k : ℕ) × Gains old.told (take k line) new.told
-stopped_front line old new OutFault stopped = (stopped.1, stopped.2)
-stopped_front line old new NoMemory stopped = (0, rw stopped (Gains-none old.told))
+-- a line that was not printed was printed in part, and something of it only by a fault of the sink
+stopped_front : (line : List ℕ) (old new : Seen (List ℕ)) (stop : RunStop) → StoppedPrinting line old new stop
+    → (k : ℕ) × Gains old.told (take k line) new.told × ((k ≡ 0) ⊎ Rose old.faults new.faults)
+stopped_front line old new OutFault stopped = (stopped.1, stopped.2, inr stopped.0)
+stopped_front line old new NoMemory stopped = (0, rw stopped (Gains-none old.told), inl refl)
 stopped_front line old new Usage stopped = absurd stopped
 stopped_front line old new NotVolume stopped = absurd stopped
 stopped_front line old new (BadField place) stopped = absurd stopped
@@ -41,7 +43,7 @@ stopped_front line old new (BadLine number why) stopped = absurd stopped
 stopped_front line old new TooLong stopped = absurd stopped
 
 -- why a line was not printed is why lines are not served
-IsOutCause-printing : (line : List ℕ) (old new : Seen (List ℕ)) (stop : Stop) → StoppedPrinting line old new stop → IsOutCause old.faults new.faults stop
+IsOutCause-printing : (line : List ℕ) (old new : Seen (List ℕ)) (stop : RunStop) → StoppedPrinting line old new stop → IsOutCause old.faults new.faults stop
 IsOutCause-printing line old new OutFault stopped = stopped.0
 IsOutCause-printing line old new NoMemory stopped = tt
 IsOutCause-printing line old new Usage stopped = absurd stopped
@@ -70,7 +72,7 @@ not_empty history e none = (let length_is = ap length none in let more = length-
 
 -- What comes of one line more: the history answers it, it prints its text, and those before it print what they did.
 record HasRun (lines : List Line) (line : Line) (begun old new : CoreState) (text : List ℕ) : Type 0 where
-  pub answers : Answers new.last (lines ++ line ∷ []) new.history
+  pub answers : AnswersEach new.last (lines ++ line ∷ []) new.history
   pub up_to : (e : Entry) → Contains new.history e → e.id.0 ≤ new.last
   pub behind : IsBehind begun old → IsBehind begun new
   pub earlier : out_text lines new.history ≡ out_text lines old.history
@@ -154,9 +156,10 @@ module _ (lines : List Line) (line : Line) (later : (l : Line) → Contains line
       behind_left = run.behind
 
     -- one more line was run, and printed in part or not at all
-    part_line : (all rest : List Line) (second third : Seen (List ℕ)) (stop : Stop) → holds ≡ second.told → all ≡ lines ++ line ∷ rest
-        → StoppedServing old new line second third stop → ServedInPart all past since begun new held third.told
-    part_line all rest second third stop same split stopped =
+    part_line : (all rest : List Line) (first second third : Seen (List ℕ)) (stop : RunStop) → first.told ≡ held → holds ≡ second.told
+        → first.faults ≤ second.faults → all ≡ lines ++ line ∷ rest → StoppedServing old new line second third stop
+        → ServedInPart all past since begun new first third
+    part_line all rest first second third stop began same earlier split stopped =
         let run = has_run new stopped.text stopped.runs in
         let part = stopped_front stopped.text second third stop stopped.printing in
         record {
@@ -168,8 +171,12 @@ module _ (lines : List Line) (line : Line) (later : (l : Line) → Contains line
           from = from;
           answers = run.answers;
           printed = part.0;
-          gained = rw (run.earlier, run.own)
+          gained = rw (run.earlier, run.own, began)
               (Gains-append held holds third.told (out_text lines old.history) (take part.0 stopped.text) served.gained (rw same part.1));
+          cut = elim part.2 [
+            | inl none ↦ inl none
+            | inr rose ↦ inr (Rose-wider first.faults second.faults third.faults third.faults earlier rose (omega arith))
+          ];
         }
 
 -- no line was served yet
@@ -188,7 +195,7 @@ Serving-none lines left core held sound none room = record {
 }
 
 -- nothing was served
-pub ServedInPart-none : (lines : List Line) (left : LeftSince) (begun core : CoreState) (held : Option (List ℕ)) → IsSoundCore begun
+pub ServedInPart-none : (lines : List Line) (left : LeftSince) (begun core : CoreState) (held : Seen (List ℕ)) → IsSoundCore begun
     → core ≡ record begun { spare = core.spare } → begun.history ≡ [] → ServedInPart lines left left begun core held held
 ServedInPart-none lines left begun core held sound keeps none =
     let empty : core.history ≡ [] = ap (λ (c : CoreState). c.history) keeps ∙ none in
@@ -201,7 +208,8 @@ ServedInPart-none lines left begun core held sound keeps none =
       from = subst (λ (c : CoreState). Follows left left begun c) (sym keeps) (follows_spare left begun core.spare sound);
       answers = rw empty (answers_none core.last);
       printed = 0;
-      gained = Gains-none held;
+      gained = Gains-none held.told;
+      cut = inl refl;
     }
 
 module _ (lines before rest : List Line) (line : Line) (each : All IsServedLine lines) (rising : AreRising lines)
@@ -220,42 +228,42 @@ module _ (lines before rest : List Line) (line : Line) (each : All IsServedLine 
       }
 
   -- the lines before were served when this one stopped
-  pub ServedInPart-stopped : (held : Option (List ℕ)) (second third : Seen (List ℕ)) (stop : Stop)
-      → Serving lines before (line ∷ rest) past mid begun old held second.told
-      → StoppedServing old new line second third stop → ServedInPart lines past since begun new held third.told
-  ServedInPart-stopped held second third stop so_far stopped =
+  pub ServedInPart-stopped : (first second third : Seen (List ℕ)) (stop : RunStop)
+      → Serving lines before (line ∷ rest) past mid begun old first.told second.told → first.faults ≤ second.faults
+      → StoppedServing old new line second third stop → ServedInPart lines past since begun new first third
+  ServedInPart-stopped first second third stop so_far earlier stopped =
       part_line before line (below_next lines before rest line rising so_far.split) (served_next lines before rest line each so_far.split).by_itself
-      past mid begun old held second.told so_far.served since new follows lines rest second third stop refl so_far.split stopped
+      past mid begun old first.told second.told so_far.served since new follows lines rest first second third stop refl refl earlier so_far.split stopped
 
 -- what was served from a core in which room was made was served from it
-module _ (lines : List Line) (past since : LeftSince) (a b c : CoreState) (held holds : Option (List ℕ)) (sound : IsSoundCore a)
-    (keeps : b ≡ record a { spare = b.spare }) where
+module _ (lines : List Line) (past since : LeftSince) (a b c : CoreState) (sound : IsSoundCore a) (keeps : b ≡ record a { spare = b.spare }) where
   from_before : Follows past since b c → Follows past since a c
   from_before follows =
       follows_further past past since a (record a { spare = b.spare }) c (follows_spare past a b.spare sound)
       (subst (λ (x : CoreState). Follows past since x c) keeps follows)
 
   -- the same where there was no error, and where there was one
-  pub served_after : (r : Result (Unit {0}) Stop) → OnOk r (Served lines past since b c held holds) → OnOk r (Served lines past since a c held holds)
-  served_after (Ok done) served = record {
+  pub served_after : (held holds : Option (List ℕ)) (r : Result (Unit {0}) RunStop) → OnOk r (Served lines past since b c held holds)
+      → OnOk r (Served lines past since a c held holds)
+  served_after held holds (Ok done) served = record {
     from = from_before served.from;
     answers = served.answers;
     up_to = served.up_to;
     gained = served.gained;
   }
-  served_after (Err stop) served = tt
+  served_after held holds (Err stop) served = tt
 
-  pub behind_after : (r : Result (Unit {0}) Stop) → OnOk r (IsBehind b c) → OnOk r (IsBehind a c)
+  pub behind_after : (r : Result (Unit {0}) RunStop) → OnOk r (IsBehind b c) → OnOk r (IsBehind a c)
   behind_after (Ok done) behind = record {
     behind = behind.behind;
     idle = λ none. behind.idle none ∙ ap (λ (x : CoreState). record x { spare = c.spare }) keeps;
   }
   behind_after (Err stop) behind = tt
 
-  pub part_after : (r : Result (Unit {0}) Stop) → OnErr r (ServedInPart lines past since b c held holds)
+  pub part_after : (held holds : Seen (List ℕ)) (r : Result (Unit {0}) RunStop) → OnErr r (ServedInPart lines past since b c held holds)
       → OnErr r (ServedInPart lines past since a c held holds)
-  part_after (Ok done) part = tt
-  part_after (Err stop) part = record {
+  part_after held holds (Ok done) part = tt
+  part_after held holds (Err stop) part = record {
     before = part.before;
     last = part.last;
     rest = part.rest;
@@ -265,6 +273,7 @@ module _ (lines : List Line) (past since : LeftSince) (a b c : CoreState) (held 
     answers = part.answers;
     printed = part.printed;
     gained = part.gained;
+    cut = part.cut;
   }
 
 module _ (old new : CoreState) (line : Line) where
@@ -284,17 +293,17 @@ module _ (old new : CoreState) (line : Line) where
   runs_spent answers = inr (answers.0, answers.1, refl)
 
   -- what is to be printed was printed or not
-  printed : (r : Result (Unit {0}) Stop) (text : List ℕ) (held holds : Option (List ℕ)) → RunsLine old new line text → OnOk r (Gains held text holds)
+  printed : (r : Result (Unit {0}) RunStop) (text : List ℕ) (held holds : Option (List ℕ)) → RunsLine old new line text → OnOk r (Gains held text holds)
       → OnOk r (ServesLine old new line held holds)
   printed (Ok done) text held holds runs gained = record { text = text; runs = runs; gained = gained }
   printed (Err stop) text held holds runs gained = tt
 
-  stopped : (r : Result (Unit {0}) Stop) (text : List ℕ) (held holds : Seen (List ℕ)) → RunsLine old new line text
+  stopped : (r : Result (Unit {0}) RunStop) (text : List ℕ) (held holds : Seen (List ℕ)) → RunsLine old new line text
       → IfErr r (StoppedPrinting text held holds) → IfErr r (StoppedServing old new line held holds)
   stopped (Ok done) text held holds runs printing = tt
   stopped (Err stop) text held holds runs printing = record { text = text; runs = runs; printing = printing }
 
-  module _ (r : Result (Unit {0}) Stop) where
+  module _ (r : Result (Unit {0}) RunStop) where
     module _ (place : ℕ) (e : Entry) (answers : AnswersLine old new line.lane line.number line.command (Some place))
         (there : slice_get new.history place ≡ Some e) where
       pub answered_printed : (held holds : Option (List ℕ)) → OnOk r (Gains held (printed_line (entry_words e)) holds)

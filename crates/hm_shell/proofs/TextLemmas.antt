@@ -9,7 +9,7 @@ use Rattle.hm_model.specs.Caused.{opens}
 use Rattle.hm_model.specs.Out.{IsOf, begins, ends, entry_words, printed_line, spent_words}
 use Rattle.hm_model.specs.declared.entry.Entry.{Entry}
 use Rattle.hm_model.specs.declared.line.Line.{Line}
-use Rattle.hm_shell.specs.Alone.{Answers, IsSingle, line_text, out_text}
+use Rattle.hm_shell.specs.Alone.{AnswersEach, IsSingle, line_text, out_text}
 use Rattle.hm_shell.proofs.AloneMoreLemmas.{apart, each_from, none_begins, none_ends}
 
 -- an entry of another line adds nothing to what begins a line, or ends it
@@ -39,7 +39,7 @@ out_more lines line history = flat_map-append (line_text history) lines (line �
     ∙ ap (λ rest. out_text lines history ++ rest) (append-nil (line_text history line))
 
 module _ (lines : List Line) (history : List Entry) (line : Line) (later : (l : Line) → Contains lines l → l.number < line.number)
-    (end : ℕ) (h : Answers end lines history) where
+    (end : ℕ) (h : AnswersEach end lines history) where
   -- a line that found no id left
   pub text_spent : line_text history line ≡ printed_line spent_words
   text_spent = rw (none_begins line.number history (apart lines history line later end h)) refl

@@ -50,7 +50,7 @@ HasAnswer history end line = HasEntry history line ⊎ FoundNone history end lin
 
 -- A history whose last id is this one answers the lines: each has its entry, or found no id left; every entry belongs to
 -- a line; and the ids of a line lie before those of the lines after it.
-pub record Answers (end : ℕ) (lines : List Line) (history : List Entry) : Type 0 where
+pub record AnswersEach (end : ℕ) (lines : List Line) (history : List Entry) : Type 0 where
   pub each : All (HasAnswer history end) lines
   pub owned : (e : Entry) → Contains history e → (line : Line) × Contains lines line × IsOf line e
   pub in_order : (a b : Entry) → Contains history a → Contains history b → a.line < b.line → a.id.0 < b.id.0

@@ -5,8 +5,8 @@ use Rattle.hm_model.specs.declared.line.Line.{Line}
 use Rattle.hm_model.specs.Lines.{texts_of}
 use Rattle.hm_model.specs.Script.{Gives, IsScriptOf, IsTooLong, is_remark}
 use Rattle.hm_core.specs.Served.{IsAsked, IsServed}
-use Rattle.hm_shell.specs.declared.stop.Stop.{Stop}
-use Rattle.hm_shell.specs.declared.stop.Stop.TheVariants.{Usage, NotVolume, BadField, DiskFault, Damaged, ScriptFault, OutFault, NoMemory, BadLine, TooLong}
+use Rattle.hm_shell.specs.declared.stop.RunStop.{RunStop}
+use Rattle.hm_shell.specs.declared.stop.RunStop.TheVariants.{Usage, NotVolume, BadField, DiskFault, Damaged, ScriptFault, OutFault, NoMemory, BadLine, TooLong}
 use Rattle.hm_shell.specs.Alone.{IsAlone, alone}
 
 -- a text that answers nothing, or that gives a command that is served, and no lane
@@ -50,7 +50,7 @@ pub record AreServedLines (script : List ℕ) (lines : List Line) : Type 0 where
   pub rising : AreRising lines
 
 -- why there are no such lines
-abbrev pub IsLinesStop : List ℕ → Stop → Type 0
+abbrev pub IsLinesStop : List ℕ → RunStop → Type 0
 IsLinesStop script (BadLine number why) = IsFirstBad script number
 IsLinesStop script TooLong = IsTooLong script
 IsLinesStop script NoMemory = Unit {0}

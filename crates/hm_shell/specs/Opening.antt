@@ -2,7 +2,7 @@
 use Rattle.std.specs.Prelude.{◌≡◌, ◌⊎◌, ℕ, List, [], Option, None, Some}
 use Rattle.hm_types.specs.Told.{BothTell}
 use Rattle.hm_disk.specs.Crash.{Told}
-use Rattle.hm_disk.specs.Moments.{LeftSince}
+use Rattle.hm_disk.specs.Moments.{Each, LeftSince}
 use Rattle.hm_header.specs.OnDisk.{HasHeader}
 use Rattle.hm_header.specs.declared.header.Header.{Header}
 use Rattle.hm_load.specs.Damage.{IsWhole}
@@ -10,7 +10,7 @@ use Rattle.hm_undo.specs.Recovered.{RecoversTo}
 use Rattle.hm_recover.specs.Recovery.{HasWholeRange}
 use Rattle.hm_recover.specs.declared.fault.OpenFault.{OpenFault}
 use Rattle.hm_core.specs.Opened.{IsFailure, IsMade, IsNotMade, IsNotMounted, IsOpenCaused}
-use Rattle.hm_shell.specs.declared.stop.Stop.{Stop}
+use Rattle.hm_shell.specs.declared.stop.RunStop.{RunStop}
 use Rattle.hm_shell.specs.Seen.{Seen}
 use Rattle.hm_shell.specs.Stop.{of_open}
 
@@ -29,15 +29,24 @@ pub record Opens (old new : Told) : Type 0 where
   pub written : (new ≡ old) ⊎ (HasWholeRange old.bytes × (new.unsettled ≡ []))
   pub whole : HasWhole new.bytes
 
+-- A volume of this size was made on a disk that told the one, and none was opened, since the disk or memory failed then. It is on the
+-- disk as it was made, and a crash at any moment since that one leaves it so.
+pub record StaysAsMade (size : ℕ) (fault : OpenFault) (since : LeftSince) (old new : Told) : Type 0 where
+  pub made : Told
+  pub makes : IsMade size old made
+  pub failed : IsFailure fault
+  pub unwritten : new ≡ made
+  pub crashed : Each (since made.moment) (λ image. image ≡ made.bytes)
+
 -- No volume was opened on a disk that told this, and tells that. Without `--newfs` what it recovers to stays, and this is why. With
--- it none was made; or it was made, and is on the disk as it was made, and the disk or memory failed after that.
+-- it none was made; or it was made, and stays so.
 abbrev pub IsUnopened : Option ℕ → LeftSince → LeftSince → Option Told → Option Told → OpenFault → Type 0
 IsUnopened None past since old new fault = BothTell old new (IsNotMounted fault past since)
 IsUnopened (Some size) past since old new fault =
-    IsNotMade size old new fault ⊎ BothTell old new (λ s t. IsMade size s t × IsFailure fault)
+    IsNotMade size old new fault ⊎ BothTell old new (StaysAsMade size fault since)
 
 -- a run stopped before a volume was open
-pub record StoppedOpening (newfs : Option ℕ) (past since : LeftSince) (old new : Seen Told) (stop : Stop) : Type 0 where
+pub record StoppedOpening (newfs : Option ℕ) (past since : LeftSince) (old new : Seen Told) (stop : RunStop) : Type 0 where
   pub fault : OpenFault
   pub stop_is : stop ≡ of_open fault
   pub unopened : IsUnopened newfs past since old.told new.told fault

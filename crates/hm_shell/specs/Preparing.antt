@@ -4,8 +4,8 @@ use Rattle.hm_types.specs.declared.limits.TheConstants.{MOST_SCRIPT_LINES}
 use Rattle.hm_header.specs.Range.{IsSize}
 use Rattle.hm_model.specs.declared.line.Line.{Line}
 use Rattle.hm_shell.specs.declared.job.Job.{Job}
-use Rattle.hm_shell.specs.declared.stop.Stop.{Stop}
-use Rattle.hm_shell.specs.declared.stop.Stop.TheVariants.{Usage, NotVolume, BadField, DiskFault, Damaged, ScriptFault, OutFault, NoMemory, BadLine, TooLong}
+use Rattle.hm_shell.specs.declared.stop.RunStop.{RunStop}
+use Rattle.hm_shell.specs.declared.stop.RunStop.TheVariants.{Usage, NotVolume, BadField, DiskFault, Damaged, ScriptFault, OutFault, NoMemory, BadLine, TooLong}
 use Rattle.hm_shell.specs.Lines.{AreRising, HasLines, IsFirstBad, IsGoodScript, IsServedLine}
 use Rattle.hm_shell.specs.Reading.{StoppedReading, WasRead}
 use Rattle.hm_shell.specs.Seen.{Seen}
@@ -35,7 +35,7 @@ pub record WasPrepared (words : List (List ℕ)) (old new : Seen (List ℕ)) (jo
 
 -- Why nothing was made ready: the words break the rule, and nothing was taken from the source; the reading stopped; a line
 -- is not served, and this is the first; or memory ran out.
-abbrev pub StoppedPreparing : List (List ℕ) → Seen (List ℕ) → Seen (List ℕ) → Stop → Type 0
+abbrev pub StoppedPreparing : List (List ℕ) → Seen (List ℕ) → Seen (List ℕ) → RunStop → Type 0
 StoppedPreparing words old new Usage = IsUsageFault words × (new ≡ old)
 StoppedPreparing words old new (BadLine number why) =
     HasPlan words × (script : List ℕ) × WasRead old new script × IsFirstBad script number

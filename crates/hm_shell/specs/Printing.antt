@@ -3,8 +3,8 @@ use Rattle.std.specs.Prelude.{◌≡◌, ◌⊎◌, ℕ, List, [], ◌∷◌, �
 use Rattle.std.specs.Borrow.{Bor}
 use Rattle.hm_types.specs.Faults.{Rose}
 use Rattle.hm_pipe.specs.Pipe.{Gains}
-use Rattle.hm_shell.specs.declared.stop.Stop.{Stop}
-use Rattle.hm_shell.specs.declared.stop.Stop.TheVariants.{Usage, NotVolume, BadField, DiskFault, Damaged, ScriptFault, OutFault, NoMemory, BadLine, TooLong}
+use Rattle.hm_shell.specs.declared.stop.RunStop.{RunStop}
+use Rattle.hm_shell.specs.declared.stop.RunStop.TheVariants.{Usage, NotVolume, BadField, DiskFault, Damaged, ScriptFault, OutFault, NoMemory, BadLine, TooLong}
 use Rattle.hm_shell.specs.Seen.{Seen}
 
 -- the pieces one after another
@@ -25,7 +25,7 @@ Prints text line old new =
     ⊎ (Rose old.faults new.faults × (k : ℕ) × Gains old.told (text ++ take k line) new.told)
 
 -- why a line was not printed: the sink failed, or memory ran out before
-abbrev pub StoppedPrinting : List ℕ → Seen (List ℕ) → Seen (List ℕ) → Stop → Type 0
+abbrev pub StoppedPrinting : List ℕ → Seen (List ℕ) → Seen (List ℕ) → RunStop → Type 0
 StoppedPrinting line old new OutFault = IsCutShort line old new
 StoppedPrinting line old new NoMemory = new.told ≡ old.told
 StoppedPrinting line old new Usage = ⊥

@@ -6,8 +6,8 @@ use Rattle.hm_types.specs.Faults.{Rose}
 use Rattle.hm_pipe.specs.Pipe.{Gives, IsAtEnd}
 use Rattle.hm_model.specs.Lines.{line_feed, texts_of}
 use Rattle.hm_model.specs.Script.{IsTooLong}
-use Rattle.hm_shell.specs.declared.stop.Stop.{Stop}
-use Rattle.hm_shell.specs.declared.stop.Stop.TheVariants.{Usage, NotVolume, BadField, DiskFault, Damaged, ScriptFault, OutFault, NoMemory, BadLine, TooLong}
+use Rattle.hm_shell.specs.declared.stop.RunStop.{RunStop}
+use Rattle.hm_shell.specs.declared.stop.RunStop.TheVariants.{Usage, NotVolume, BadField, DiskFault, Damaged, ScriptFault, OutFault, NoMemory, BadLine, TooLong}
 use Rattle.hm_shell.specs.Seen.{Seen}
 
 -- how many line feeds a text has
@@ -23,7 +23,7 @@ pub record WasRead (old new : Seen (List ℕ)) (script : List ℕ) : Type 0 wher
 
 -- Why the reading stopped: at a fault, with both counts; where more was taken than a script may have; or
 -- for want of memory.
-abbrev pub StoppedReading : Seen (List ℕ) → Seen (List ℕ) → Stop → Type 0
+abbrev pub StoppedReading : Seen (List ℕ) → Seen (List ℕ) → RunStop → Type 0
 StoppedReading old new (ScriptFault before after) =
     (before ≡ old.faults) × (after ≡ new.faults) × Rose before after
     × (taken : List ℕ) × Gives old.told taken new.told

@@ -18,12 +18,12 @@ use Rattle.hm_model.specs.Out.{IsOut}
 use Rattle.hm_model.specs.Volume.{Volume}
 use Rattle.hm_state.specs.Free.{free_in}
 use Rattle.hm_core.specs.Caused.{IsCausedFrom}
-use Rattle.hm_core.specs.Counts.{AreLater}
+use Rattle.hm_core.specs.Counts.{AreLater, with_disk}
 use Rattle.hm_core.specs.Crash.{IsBetween, RecoversToPrefix}
 use Rattle.hm_core.specs.Inside.{AreUpTo}
 use Rattle.hm_core.specs.History.{setting_of}
-use Rattle.hm_shell.specs.declared.stop.Stop.{Stop}
-use Rattle.hm_shell.specs.declared.stop.Stop.TheVariants.{Usage, NotVolume, BadField, DiskFault, Damaged, ScriptFault, OutFault, NoMemory, BadLine, TooLong}
+use Rattle.hm_shell.specs.declared.stop.RunStop.{RunStop}
+use Rattle.hm_shell.specs.declared.stop.RunStop.TheVariants.{Usage, NotVolume, BadField, DiskFault, Damaged, ScriptFault, OutFault, NoMemory, BadLine, TooLong}
 use Rattle.hm_shell.specs.Alone.{alone, out_text}
 use Rattle.hm_shell.specs.Making.{MakesVolume}
 use Rattle.hm_shell.specs.Opening.{Opens, StoppedOpening}
@@ -60,6 +60,10 @@ pub record IsCounted (old new : ℕ) (ran : Ran) : Type 0 where
 -- each reply of its history has its cause, from the last id and the counts of faults as it began on
 abbrev pub HasCauses : Ran → Type 0
 HasCauses ran = ∥ IsCausedFrom ran.first ran.start ran.counts ran.last ran.history ∥₁
+
+-- the same by so many faults of its disk: no reply told more of them
+abbrev pub HasCausesBy : ℕ → Ran → Type 0
+HasCausesBy faults ran = HasCauses (record ran { counts = with_disk ran.counts faults })
 
 -- A run began on a disk that told this: with the last id of the header that counts, and, where the disk stood for a volume, with
 -- as many free big-blocks as its bytes leave.
@@ -101,7 +105,7 @@ pub record HasHistory (ran : Ran) (since : LeftSince) (began new : Option Told) 
   pub crashed : BothTell began new (λ s t. s.unsettled ≡ [] → SurvivesCrashes ran since opening foreigners events s t)
 
 -- the same, and the disk stands for the volume after that history
-pub record LeavesVolume (ran : Ran) (since : LeftSince) (began new : Option Told) (opening : Volume) (foreigners : Foreigners) : Type 0 where
+pub record StandsForHistory (ran : Ran) (since : LeftSince) (began new : Option Told) (opening : Volume) (foreigners : Foreigners) : Type 0 where
   pub has : HasHistory ran since began new opening foreigners
   pub stands : IsSomeAnd new (λ t. StandsFor t.bytes (after opening foreigners has.events).volume)
 
@@ -115,7 +119,7 @@ OverEach opened P = IfSome opened (λ t. (opening : Volume) (foreigners : Foreig
 pub record IsKept (since : LeftSince) (began opened new : Option Told) (ran : Ran) : Type 0 where
   pub unwritten : ran.history ≡ [] → new ≡ opened
   pub settled : ran.history ≢ [] → IfSome new (λ t. t.unsettled ≡ [])
-  pub volume : OverEach opened (LeavesVolume ran since began new)
+  pub volume : OverEach opened (StandsForHistory ran since began new)
 
 -- The whole run of a script's lines: a volume is made or not, opened and used, and all is committed. Each reply has its cause.
 pub record RunsAll (newfs : Option ℕ) (lines : List Line) (since : LeftSince) (old_disk new_disk : Seen Told)
@@ -132,7 +136,7 @@ pub record RunsAll (newfs : Option ℕ) (lines : List Line) (since : LeftSince) 
   pub kept : IsKept since began opened new_disk.told ran
 
 -- what made the run stop at a line: the sink failed, or memory ran out
-abbrev pub IsOutCause : ℕ → ℕ → Stop → Type 0
+abbrev pub IsOutCause : ℕ → ℕ → RunStop → Type 0
 IsOutCause before after OutFault = Rose before after
 IsOutCause before after NoMemory = Unit {0}
 IsOutCause before after Usage = ⊥
@@ -144,15 +148,17 @@ IsOutCause before after (ScriptFault b a) = ⊥
 IsOutCause before after (BadLine number why) = ⊥
 IsOutCause before after TooLong = ⊥
 
--- a run stopped at a line, before the last flush, and the sink gained what was printed
-pub record StopsAtLine (lines : List Line) (ran : Ran) (old_out new_out : Seen (List ℕ)) (stop : Stop) : Type 0 where
+-- A run stopped at a line, before the last flush, and the sink gained what was printed. Something of that line, which may be cut short,
+-- was printed only where the sink's count of faults rose.
+pub record StopsAtLine (lines : List Line) (ran : Ran) (old_out new_out : Seen (List ℕ)) (stop : RunStop) : Type 0 where
   pub text : List ℕ
   pub answered : AnswersInPart lines text ran
   pub gained : Gains old_out.told text new_out.told
+  pub cut : (answered.printed ≡ 0) ⊎ Rose old_out.faults new_out.faults
   pub cause : IsOutCause old_out.faults new_out.faults stop
 
 -- what made the run stop in the last flush, over every disk: the disk failed, or memory was refused
-abbrev pub IsWriteCause : ℕ → ℕ → Stop → Type 0
+abbrev pub IsWriteCause : ℕ → ℕ → RunStop → Type 0
 IsWriteCause before after (DiskFault b a) = IsMedia before after b a
 IsWriteCause before after NoMemory = Unit {0}
 IsWriteCause before after (Damaged at kind) = ⊥
@@ -164,17 +170,19 @@ IsWriteCause before after OutFault = ⊥
 IsWriteCause before after (BadLine number why) = ⊥
 IsWriteCause before after TooLong = ⊥
 
--- all lines were answered and printed, and a stage of the last flush failed, over which the count of faults went from one to another
-pub record StopsWriting (lines : List Line) (ran : Ran) (faults : ℕ) (old_out new_out : Option (List ℕ)) (stop : Stop) : Type 0 where
+-- All lines were answered and printed, and a stage of the last flush failed, over which the count of faults went from one to another,
+-- and no reply had told more of them than the one.
+pub record StopsWriting (lines : List Line) (ran : Ran) (faults : ℕ) (old_out new_out : Option (List ℕ)) (stop : RunStop) : Type 0 where
   pub answered : AnswersAll lines ran old_out new_out
   pub before : ℕ
   pub later : ran.start.disk ≤ before
+  pub caused : HasCausesBy before ran
   pub cause : IsWriteCause before faults stop
 
 -- A run stopped with an open volume: at a line, or in the last flush. Each reply of its history has its cause,
 -- and it is a legal one over each volume that the disk stood for as it was opened.
 pub record StoppedUsing (newfs : Option ℕ) (lines : List Line) (since : LeftSince) (old_disk new_disk : Seen Told)
-    (old_out new_out : Seen (List ℕ)) (stop : Stop) : Type 0 where
+    (old_out new_out : Seen (List ℕ)) (stop : RunStop) : Type 0 where
   pub began : Option Told
   pub makes : MakesVolume newfs old_disk.told began
   pub opened : Option Told
@@ -188,7 +196,7 @@ pub record StoppedUsing (newfs : Option ℕ) (lines : List Line) (since : LeftSi
       ⊎ StopsWriting lines ran new_disk.faults old_out.told new_out.told stop
 
 -- a run stopped before a volume was open, and nothing was printed, or with an open volume
-abbrev pub StoppedRunning : Option ℕ → List Line → LeftSince → LeftSince → Seen Told → Seen Told → Seen (List ℕ) → Seen (List ℕ) → Stop → Type 0
+abbrev pub StoppedRunning : Option ℕ → List Line → LeftSince → LeftSince → Seen Told → Seen Told → Seen (List ℕ) → Seen (List ℕ) → RunStop → Type 0
 StoppedRunning newfs lines past since old_disk new_disk old_out new_out stop =
     (StoppedOpening newfs past since old_disk new_disk stop × (new_out ≡ old_out))
     ⊎ StoppedUsing newfs lines since old_disk new_disk old_out new_out stop

@@ -1,5 +1,6 @@
 -- The lines of a script, served from the front on an open volume, and what comes of it.
 use Rattle.std.specs.Prelude.{◌≡◌, ◌≢◌, ◌⊎◌, ℕ, ◌*◌, ◌<◌, ◌≤◌, List, [], ◌++◌, Option, None, Some, Contains, IfSome, length, take}
+use Rattle.hm_types.specs.Faults.{Rose}
 use Rattle.hm_types.specs.declared.limits.TheConstants.{GREATEST_ID}
 use Rattle.hm_disk.specs.Crash.{Told}
 use Rattle.hm_disk.specs.Moments.{LeftSince}
@@ -8,12 +9,13 @@ use Rattle.hm_model.specs.declared.command.Command.{Command}
 use Rattle.hm_model.specs.declared.entry.Entry.{Entry}
 use Rattle.hm_model.specs.declared.line.Line.{Line}
 use Rattle.hm_model.specs.Out.{entry_words, printed_line, spent_words}
-use Rattle.hm_core.specs.Core.{Enters, Follows, Waits}
+use Rattle.hm_core.specs.Core.{Enters, Follows, IsCausedRun, Waits}
+use Rattle.hm_core.specs.Counts.{with_disk}
 use Rattle.hm_core.specs.Finished.{IsCommittedOn}
 use Rattle.hm_core.specs.Staged.{IsFlushed}
 use Rattle.hm_core.specs.State.{CoreState}
-use Rattle.hm_shell.specs.declared.stop.Stop.{Stop}
-use Rattle.hm_shell.specs.Alone.{Answers, out_text}
+use Rattle.hm_shell.specs.declared.stop.RunStop.{RunStop}
+use Rattle.hm_shell.specs.Alone.{AnswersEach, out_text}
 use Rattle.hm_shell.specs.Printing.{StoppedPrinting}
 use Rattle.hm_shell.specs.Running.{IsOutCause, IsWriteCause}
 use Rattle.hm_shell.specs.Seen.{Seen}
@@ -26,7 +28,7 @@ pub record IsBehind (begun core : CoreState) : Type 0 where
 -- The core's history answers the lines, by ids up to its last one, and the sink gained what the lines print.
 pub record Served (lines : List Line) (past since : LeftSince) (begun core : CoreState) (old new : Option (List ℕ)) : Type 0 where
   pub from : Follows past since begun core
-  pub answers : Answers core.last lines core.history
+  pub answers : AnswersEach core.last lines core.history
   pub up_to : (e : Entry) → Contains core.history e → e.id.0 ≤ core.last
   pub gained : Gains old (out_text lines core.history) new
 
@@ -39,17 +41,18 @@ pub record Serving (lines before rest : List Line) (past since : LeftSince) (beg
   pub room : 2 * length rest ≤ core.spare
 
 -- The lines before the rest were served; all of them but at most the last were printed whole, and a front of what the last
--- one prints.
-pub record ServedInPart (lines : List Line) (past since : LeftSince) (begun core : CoreState) (old new : Option (List ℕ)) : Type 0 where
+-- one prints: nothing, unless the sink's count of faults rose.
+pub record ServedInPart (lines : List Line) (past since : LeftSince) (begun core : CoreState) (old new : Seen (List ℕ)) : Type 0 where
   pub before : List Line
   pub last : List Line
   pub rest : List Line
   pub split : lines ≡ before ++ (last ++ rest)
   pub one : length last ≤ 1
   pub from : Follows past since begun core
-  pub answers : Answers core.last (before ++ last) core.history
+  pub answers : AnswersEach core.last (before ++ last) core.history
   pub printed : ℕ
-  pub gained : Gains old (out_text before core.history ++ take printed (out_text last core.history)) new
+  pub gained : Gains old.told (out_text before core.history ++ take printed (out_text last core.history)) new.told
+  pub cut : (printed ≡ 0) ⊎ Rose old.faults new.faults
 
 -- nothing was made of a core, or stages of a flush were, for a call for which an id is left
 abbrev pub Waited : CoreState → CoreState → Type 0
@@ -76,7 +79,7 @@ pub record ServesLine (old new : CoreState) (line : Line) (held holds : Option (
   pub gained : Gains held text holds
 
 -- a line was run, and could not be printed
-pub record StoppedServing (old new : CoreState) (line : Line) (old_out new_out : Seen (List ℕ)) (stop : Stop) : Type 0 where
+pub record StoppedServing (old new : CoreState) (line : Line) (old_out new_out : Seen (List ℕ)) (stop : RunStop) : Type 0 where
   pub text : List ℕ
   pub runs : RunsLine old new line text
   pub printing : StoppedPrinting text old_out new_out stop
@@ -109,23 +112,25 @@ pub record UsesAll (lines : List Line) (past since : LeftSince) (begun : CoreSta
 
 -- a line was not served to its end, and the volume was left as it was then
 pub record LeavesAtLine (lines : List Line) (past since : LeftSince) (begun : CoreState) (disk : Seen Told) (old new : Seen (List ℕ))
-    (stop : Stop) : Type 0 where
+    (stop : RunStop) : Type 0 where
   pub core : CoreState
-  pub served : ServedInPart lines past since begun core old.told new.told
+  pub served : ServedInPart lines past since begun core old new
   pub cause : IsOutCause old.faults new.faults stop
   pub disk_is : IsDiskOf core disk
 
--- all lines were served, and a stage of the last flush failed, over which the count of faults went from one to another
+-- All lines were served, and a stage of the last flush failed, over which the count of faults went from one to another, and no reply
+-- had told more of them than the one.
 pub record FailsWriting (lines : List Line) (past since : LeftSince) (begun : CoreState) (disk : Seen Told) (old new : Option (List ℕ))
-    (stop : Stop) : Type 0 where
+    (stop : RunStop) : Type 0 where
   pub core : CoreState
   pub served : Served lines past since begun core old new
   pub before : ℕ
   pub later : begun.counts.disk ≤ before
+  pub caused : IsCausedRun (record core { counts = with_disk core.counts before })
   pub cause : IsWriteCause before disk.faults stop
   pub disk_is : IsDiskOf core disk
 
 -- the use of an open volume stopped
-abbrev pub StopsUsing : List Line → LeftSince → LeftSince → CoreState → Seen Told → Seen (List ℕ) → Seen (List ℕ) → Stop → Type 0
+abbrev pub StopsUsing : List Line → LeftSince → LeftSince → CoreState → Seen Told → Seen (List ℕ) → Seen (List ℕ) → RunStop → Type 0
 StopsUsing lines past since begun disk old new stop =
     LeavesAtLine lines past since begun disk old new stop ⊎ FailsWriting lines past since begun disk old.told new.told stop

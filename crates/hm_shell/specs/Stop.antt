@@ -6,11 +6,11 @@ use Rattle.hm_types.specs.declared.fault.Fault.TheVariants.{Media as media, Dama
 use Rattle.hm_model.specs.Lines.{line_feed}
 use Rattle.hm_recover.specs.declared.fault.OpenFault.{OpenFault}
 use Rattle.hm_recover.specs.declared.fault.OpenFault.TheVariants.{NotVolume as no_volume, BadField as bad_field, Fault as of_disk}
-use Rattle.hm_shell.specs.declared.stop.Stop.{Stop}
-use Rattle.hm_shell.specs.declared.stop.Stop.TheVariants.{Usage, NotVolume, BadField, DiskFault, Damaged, ScriptFault, OutFault, NoMemory, BadLine, TooLong}
+use Rattle.hm_shell.specs.declared.stop.RunStop.{RunStop}
+use Rattle.hm_shell.specs.declared.stop.RunStop.TheVariants.{Usage, NotVolume, BadField, DiskFault, Damaged, ScriptFault, OutFault, NoMemory, BadLine, TooLong}
 
 -- the exit status
-abbrev pub status_of : Stop → ℕ
+abbrev pub status_of : RunStop → ℕ
 status_of Usage = 2
 status_of NotVolume = 3
 status_of (BadField place) = 3
@@ -33,7 +33,7 @@ damage_line at kind =
     codes "damaged 0x" ++ (hex16 at ++ (codes " " ++ (decimal kind ++ line_feed ∷ [])))
 
 -- the line that is printed last; none where the sink itself failed
-abbrev pub last_line : Stop → List ℕ
+abbrev pub last_line : RunStop → List ℕ
 last_line Usage = codes "usage: hammer VOLUME [--newfs BIGBLOCKS] [--stream-in FILE] [--stream-out FILE] [--generate N]" ++ line_feed ∷ []
 last_line NotVolume = codes "not a volume" ++ line_feed ∷ []
 last_line (BadField place) = codes "bad header field " ++ (decimal place ++ line_feed ∷ [])
@@ -46,13 +46,13 @@ last_line (BadLine number why) = codes "bad line " ++ (decimal number ++ line_fe
 last_line TooLong = codes "script too long" ++ line_feed ∷ []
 
 -- the stop that a fault of a disk, of what it holds, or of memory makes
-abbrev pub of_fault : Fault → Stop
+abbrev pub of_fault : Fault → RunStop
 of_fault (media before after) = DiskFault before after
 of_fault (damage at kind) = Damaged at kind
 of_fault no_memory = NoMemory
 
 -- the stop that a volume makes which was not made or not opened
-abbrev pub of_open : OpenFault → Stop
+abbrev pub of_open : OpenFault → RunStop
 of_open no_volume = NotVolume
 of_open (bad_field place) = BadField place
 of_open (of_disk fault) = of_fault fault

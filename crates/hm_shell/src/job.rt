@@ -6,7 +6,7 @@ ghost use Rattle.hm_shell.specs.Words.{texts};
 
 use crate::lines::served_lines;
 use crate::read::read_script;
-use crate::stop::Stop;
+use crate::stop::RunStop;
 use crate::words::planned_size;
 use hm_model::Line;
 use hm_pipe::Source;
@@ -27,7 +27,7 @@ pub(crate) fn prepare<S: Source>(
     alloc: Global,
     words: &[String],
     source: &mut S,
-) -> Result<Job, Stop>
+) -> Result<Job, RunStop>
     ensures ok { IfOk result (WasPrepared (texts words.now)
         (seen S.left S.faults source.old) (seen S.left S.faults source.new)) }
     ensures err { IfErr result (StoppedPreparing (texts words.now)
@@ -35,7 +35,7 @@ pub(crate) fn prepare<S: Source>(
     ensures never_falls { S.faults source.old ≤ S.faults source.new }
 {
     let Some(newfs) = planned_size(words) else {
-        return Err(Stop::Usage);
+        return Err(RunStop::Usage);
     };
     let script = read_script(alloc, source)?;
     let lines = served_lines(alloc, &script)?;

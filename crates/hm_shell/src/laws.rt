@@ -4,7 +4,7 @@ ghost use Rattle.hm_types.specs.declared.limits.TheConstants.{GREATEST_ID};
 ghost use Rattle.hm_model.specs.Out.{IsOf, IsOut};
 ghost use Rattle.hm_model.specs.declared.entry.Entry.{Entry};
 ghost use Rattle.hm_model.specs.declared.line.Line.{Line};
-ghost use Rattle.hm_shell.specs.Alone.{Answers, IsAlone, TellsAfter, alone, out_text};
+ghost use Rattle.hm_shell.specs.Alone.{AnswersEach, IsAlone, TellsAfter, alone, out_text};
 ghost use Rattle.hm_shell.specs.Words.{IsPlan};
 
 /// Words have one plan only.
@@ -18,22 +18,22 @@ pub fn plans_are_one()
 /// with this history prints.
 pub fn lines_by_themselves_print_a_run()
     ensures { (end : ℕ) (history : List Entry) (lines : List Line) → All IsAlone lines →
-        Answers end lines history → IsOut (alone lines) history end (out_text lines history) }
+        AnswersEach end lines history → IsOut (alone lines) history end (out_text lines history) }
 {}
 
 /// Where a history answers lines, and an id is left, it answers one line more with one entry more: that
 /// of the line, with an id above all others, and no boundary below them.
 pub fn one_line_more_is_answered()
     ensures { (lines : List Line) (history : List Entry) (line : Line) (end next : ℕ) (e : Entry) →
-        ((l : Line) → Contains lines l → l.number < line.number) → Answers end lines history →
+        ((l : Line) → Contains lines l → l.number < line.number) → AnswersEach end lines history →
         end < GREATEST_ID → IsOf line e → TellsAfter history line.number e.reply →
         ((a : Entry) → Contains history a → a.id.0 < e.id.0) →
-        Answers next (lines ++ line ∷ []) (history ++ e ∷ []) }
+        AnswersEach next (lines ++ line ∷ []) (history ++ e ∷ []) }
 {}
 
 /// Where no id is left, a history that answers lines answers one line more as it is.
 pub fn one_line_more_finds_no_id()
     ensures { (lines : List Line) (history : List Entry) (line : Line) (end : ℕ) →
         ((l : Line) → Contains lines l → l.number < line.number) → end ≡ GREATEST_ID →
-        Answers end lines history → Answers end (lines ++ line ∷ []) history }
+        AnswersEach end lines history → AnswersEach end (lines ++ line ∷ []) history }
 {}

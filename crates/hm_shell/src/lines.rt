@@ -4,7 +4,7 @@ ghost use Rattle.hm_model.specs.Out.{lines_in};
 ghost use Rattle.hm_model.specs.Script.{IsFirstBadLine};
 ghost use Rattle.hm_shell.specs.Lines.{AreServedLines, IsFirstBad, IsFirstUnserved, IsLinesStop, IsServable};
 
-use crate::stop::Stop;
+use crate::stop::RunStop;
 use crate::why::Why;
 use hm_core::is_served;
 use hm_model::Line;
@@ -14,7 +14,7 @@ use std::alloc::Global;
 
 /// The lines of a script, each of a call that is served, and without a lane. Else the first line that is
 /// none, a script that is too long, or want of memory.
-pub(crate) fn served_lines(alloc: Global, script: &[u8]) -> Result<Vec<Line>, Stop>
+pub(crate) fn served_lines(alloc: Global, script: &[u8]) -> Result<Vec<Line>, RunStop>
     ensures ok { IfOk result (λ lines. AreServedLines script.now lines.items) }
     ensures err { IfErr result (IsLinesStop script.now) }
 {
@@ -24,14 +24,14 @@ pub(crate) fn served_lines(alloc: Global, script: &[u8]) -> Result<Vec<Line>, St
             None => Ok(lines_of(alloc, blocks)?),
         },
         Err(ScriptFault::BadLine { number }) => Err(first_bad(alloc, script, number)),
-        Err(ScriptFault::TooLong) => Err(Stop::TooLong),
-        Err(ScriptFault::NoMemory) => Err(Stop::NoMemory),
+        Err(ScriptFault::TooLong) => Err(RunStop::TooLong),
+        Err(ScriptFault::NoMemory) => Err(RunStop::NoMemory),
     }
 }
 
 // The first line that is not served, where this one is the first outside the grammar: one of those before
 // it, or itself.
-fn first_bad(alloc: Global, script: &[u8], number: u32) -> Stop
+fn first_bad(alloc: Global, script: &[u8], number: u32) -> RunStop
     requires { IsFirstBadLine script.now number }
     ensures { IsLinesStop script.now result }
 {
@@ -41,17 +41,17 @@ fn first_bad(alloc: Global, script: &[u8], number: u32) -> Stop
             None => bad_line(script, number),
         },
         Err(ScriptFault::BadLine { number: earlier }) => bad_line(script, earlier),
-        Err(ScriptFault::TooLong) => Stop::TooLong,
-        Err(ScriptFault::NoMemory) => Stop::NoMemory,
+        Err(ScriptFault::TooLong) => RunStop::TooLong,
+        Err(ScriptFault::NoMemory) => RunStop::NoMemory,
     }
 }
 
 // What is told of the first line that is not served.
-fn bad_line(script: &[u8], number: u32) -> Stop
+fn bad_line(script: &[u8], number: u32) -> RunStop
     requires { IsFirstBad script.now number }
     ensures { IsLinesStop script.now result }
 {
-    Stop::BadLine {
+    RunStop::BadLine {
         number,
         why: Why::of_line(script, number),
     }

@@ -28,7 +28,7 @@ use run::run;
 use std::io::ErrorKind;
 use std::process::ExitCode;
 use std::{env, io};
-use stop::Stop;
+use stop::RunStop;
 use streams::stand_in;
 use words::plan;
 
@@ -41,7 +41,7 @@ fn given_words(rt: &HostRuntime) -> io::Result<Vec<String>> {
 }
 
 // A run that stops before it has any device.
-fn stop_early(rt: &HostRuntime, stop: Stop) -> ExitCode {
+fn stop_early(rt: &HostRuntime, stop: RunStop) -> ExitCode {
     print_last(stop, &mut StdSink::new(rt.stdout()));
     ExitCode::from(stop.status())
 }
@@ -54,7 +54,7 @@ fn main(rt: HostRuntime) -> ExitCode {
     let words = match given_words(&rt) {
         Ok(words) => words,
         Err(error) if error.kind() == ErrorKind::OutOfMemory => {
-            return stop_early(&rt, Stop::NoMemory);
+            return stop_early(&rt, RunStop::NoMemory);
         }
         // Where the system does not give the words, or one is not UTF-8, no words are handed in,
         // which is answered as wrong words are.
@@ -64,7 +64,7 @@ fn main(rt: HostRuntime) -> ExitCode {
         Ok(plan) => plan,
         // `run` refuses the words again, and no device is used.
         Err(PlanFault::Usage) => Plan::without_names(rt.alloc()),
-        Err(PlanFault::NoMemory) => return stop_early(&rt, Stop::NoMemory),
+        Err(PlanFault::NoMemory) => return stop_early(&rt, RunStop::NoMemory),
     };
     let Plan {
         volume,

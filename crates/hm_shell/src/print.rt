@@ -8,7 +8,7 @@ ghost use Rattle.hm_shell.specs.Printing.{Prints, IsCutShort, StoppedPrinting, j
 ghost use Rattle.hm_shell.specs.Seen.{seen};
 
 use crate::digits::hex_digits;
-use crate::stop::Stop;
+use crate::stop::RunStop;
 use hm_model::{Entry, push_answer};
 use hm_pipe::Sink;
 use hm_types::{Failed, NoMemory};
@@ -18,7 +18,7 @@ const USAGE: &[u8] =
     b"usage: hammer VOLUME [--newfs BIGBLOCKS] [--stream-in FILE] [--stream-out FILE] [--generate N]\n";
 
 /// Prints the line of one entry, in one piece.
-pub(crate) fn print_entry<K: Sink>(alloc: Global, entry: &Entry, out: &mut K) -> Result<(), Stop>
+pub(crate) fn print_entry<K: Sink>(alloc: Global, entry: &Entry, out: &mut K) -> Result<(), RunStop>
     ensures ok { OnOk result (Gains (K.held out.old) (printed_line (entry_words entry.now)) (K.held out.new)) }
     ensures err { IfErr result (StoppedPrinting (printed_line (entry_words entry.now))
         (seen K.held K.faults out.old) (seen K.held K.faults out.new)) }
@@ -29,7 +29,7 @@ pub(crate) fn print_entry<K: Sink>(alloc: Global, entry: &Entry, out: &mut K) ->
 }
 
 /// Prints the line of a call that found no id left.
-pub(crate) fn print_spent<K: Sink>(out: &mut K) -> Result<(), Stop>
+pub(crate) fn print_spent<K: Sink>(out: &mut K) -> Result<(), RunStop>
     ensures ok { OnOk result
         (Gains (K.held out.old) (printed_line spent_words) (K.held out.new)) }
     ensures err { IfErr result (StoppedPrinting (printed_line spent_words)
@@ -39,7 +39,7 @@ pub(crate) fn print_spent<K: Sink>(out: &mut K) -> Result<(), Stop>
     put_line(b"- ids spent\n", out)
 }
 
-fn put_line<K: Sink>(line: &[u8], out: &mut K) -> Result<(), Stop>
+fn put_line<K: Sink>(line: &[u8], out: &mut K) -> Result<(), RunStop>
     ensures ok { OnOk result (Gains (K.held out.old) line.now (K.held out.new)) }
     ensures err { IfErr result (StoppedPrinting line.now
         (seen K.held K.faults out.old) (seen K.held K.faults out.new)) }
@@ -47,7 +47,7 @@ fn put_line<K: Sink>(line: &[u8], out: &mut K) -> Result<(), Stop>
 {
     match out.put(line) {
         Ok(()) => Ok(()),
-        Err(Failed) => Err(Stop::OutFault),
+        Err(Failed) => Err(RunStop::OutFault),
     }
 }
 
@@ -64,7 +64,7 @@ fn entry_line(alloc: Global, entry: &Entry) -> Result<Vec<u8>, NoMemory>
 
 /// Prints the last line of a run that stops, if it has one. It takes no memory, and a fault of the
 /// sink cuts the line short.
-pub(crate) fn print_last<K: Sink>(stop: Stop, out: &mut K)
+pub(crate) fn print_last<K: Sink>(stop: RunStop, out: &mut K)
     ensures line { Prints [] (last_line stop)
         (seen K.held K.faults out.old) (seen K.held K.faults out.new) }
     ensures never_falls { K.faults out.old ≤ K.faults out.new }
@@ -72,23 +72,23 @@ pub(crate) fn print_last<K: Sink>(stop: Stop, out: &mut K)
     let _ = put_last(stop, out);
 }
 
-fn put_last<K: Sink>(stop: Stop, out: &mut K) -> Result<(), Failed>
+fn put_last<K: Sink>(stop: RunStop, out: &mut K) -> Result<(), Failed>
     ensures ok { OnOk result (Gains (K.held out.old) (last_line stop) (K.held out.new)) }
     ensures err { OnErr result (IsCutShort (last_line stop)
         (seen K.held K.faults out.old) (seen K.held K.faults out.new)) }
     ensures never_falls { K.faults out.old ≤ K.faults out.new }
 {
     match stop {
-        Stop::Usage => out.put(USAGE),
-        Stop::NotVolume => out.put(b"not a volume\n"),
-        Stop::BadField { place } => put_number(b"bad header field ", u64::from(place), out),
-        Stop::DiskFault { before, after } => put_counts(b"media ", before, after, out),
-        Stop::Damaged { at, kind } => put_damage(at, kind, out),
-        Stop::ScriptFault { before, after } => put_counts(b"script fault ", before, after, out),
-        Stop::OutFault => Ok(()),
-        Stop::NoMemory => out.put(b"no memory\n"),
-        Stop::BadLine { number, .. } => put_number(b"bad line ", u64::from(number), out),
-        Stop::TooLong => out.put(b"script too long\n"),
+        RunStop::Usage => out.put(USAGE),
+        RunStop::NotVolume => out.put(b"not a volume\n"),
+        RunStop::BadField { place } => put_number(b"bad header field ", u64::from(place), out),
+        RunStop::DiskFault { before, after } => put_counts(b"media ", before, after, out),
+        RunStop::Damaged { at, kind } => put_damage(at, kind, out),
+        RunStop::ScriptFault { before, after } => put_counts(b"script fault ", before, after, out),
+        RunStop::OutFault => Ok(()),
+        RunStop::NoMemory => out.put(b"no memory\n"),
+        RunStop::BadLine { number, .. } => put_number(b"bad line ", u64::from(number), out),
+        RunStop::TooLong => out.put(b"script too long\n"),
     }
 }
 

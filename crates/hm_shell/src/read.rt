@@ -4,7 +4,7 @@ ghost use Rattle.hm_model.specs.Lines.{texts_of};
 ghost use Rattle.hm_shell.specs.Reading.{WasRead, StoppedReading, feeds};
 ghost use Rattle.hm_shell.specs.Seen.{seen};
 
-use crate::stop::Stop;
+use crate::stop::RunStop;
 use hm_pipe::Source;
 use hm_types::{MOST_SCRIPT_BYTES, MOST_SCRIPT_LINES};
 use std::alloc::{AllocError, Global};
@@ -14,7 +14,7 @@ const PIECE_BYTES: usize = 65_536;
 
 /// Reads the script to its end. It stops at a fault of the source, at the first piece that makes
 /// the script too long, and where memory runs out.
-pub(crate) fn read_script<S: Source>(alloc: Global, source: &mut S) -> Result<Vec<u8>, Stop>
+pub(crate) fn read_script<S: Source>(alloc: Global, source: &mut S) -> Result<Vec<u8>, RunStop>
     ensures ok { IfOk result (λ script.
         WasRead (seen S.left S.faults source.old) (seen S.left S.faults source.new) script.items) }
     ensures err { IfErr result
@@ -28,7 +28,7 @@ pub(crate) fn read_script<S: Source>(alloc: Global, source: &mut S) -> Result<Ve
     let mut lines = 0;
     'reading: while script.len() <= MOST_SCRIPT_BYTES && lines <= MOST_SCRIPT_LINES as usize {
         let Ok(count) = source.take(&mut piece) else {
-            return Err(Stop::ScriptFault {
+            return Err(RunStop::ScriptFault {
                 before,
                 after: source.faults(),
             });
@@ -40,7 +40,7 @@ pub(crate) fn read_script<S: Source>(alloc: Global, source: &mut S) -> Result<Ve
         (feeds, lines) = count_on(feeds, taken);
         script.extend_from_slice(taken)?;
     }
-    Err(Stop::TooLong)
+    Err(RunStop::TooLong)
 }
 
 fn piece_buffer(alloc: Global) -> Result<Vec<u8>, AllocError>

@@ -11,7 +11,7 @@ ghost use Rattle.hm_shell.specs.Exact.{Brings, IsStatus};
 use crate::devices::{Devices, Ended};
 use crate::job::prepare;
 use crate::print::print_last;
-use crate::stop::Stop;
+use crate::stop::RunStop;
 use crate::volume::{Closed, run_job};
 use crate::why::BadLine;
 use hm_disk::Disk;
@@ -86,7 +86,7 @@ fn perform<D: Disk, S: Source, K: Sink, I, O>(
     alloc: Global,
     words: &[String],
     devices: Devices<D, S, K, I, O>,
-) -> (Devices<D, S, K, I, O>, Result<(), Stop>)
+) -> (Devices<D, S, K, I, O>, Result<(), RunStop>)
     ensures ok { OnOk result.1 (Completes (texts words.now) (D.left_since result.0.disk)
         (sight devices) (sight result.0)) }
     ensures err { IfErr result.1 (Stops (texts words.now) (D.left_since devices.disk)
@@ -128,9 +128,9 @@ fn perform<D: Disk, S: Source, K: Sink, I, O>(
 }
 
 // The bad line at which a run stopped, if it did at one.
-fn bad_line_of(outcome: &Result<(), Stop>) -> Option<BadLine> {
+fn bad_line_of(outcome: &Result<(), RunStop>) -> Option<BadLine> {
     match outcome {
-        Err(Stop::BadLine { number, why }) => Some(BadLine {
+        Err(RunStop::BadLine { number, why }) => Some(BadLine {
             number: *number,
             why: *why,
         }),
@@ -139,7 +139,7 @@ fn bad_line_of(outcome: &Result<(), Stop>) -> Option<BadLine> {
 }
 
 // Prints the last line of a run that stopped, and gives the exit status.
-fn end<K: Sink>(outcome: Result<(), Stop>, out: &mut K) -> u8
+fn end<K: Sink>(outcome: Result<(), RunStop>, out: &mut K) -> u8
     ensures done { OnOk outcome ((result ≡ 0) × (K.held out.new ≡ K.held out.old)) }
     ensures stopped { IfErr outcome (λ stop. (result ≡ status_of stop) × Prints [] (last_line stop)
         (seen K.held K.faults out.old) (seen K.held K.faults out.new)) }

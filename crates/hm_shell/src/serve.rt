@@ -10,7 +10,7 @@ ghost use Rattle.hm_shell.specs.Seen.{seen};
 ghost use Rattle.hm_shell.specs.Serving.{AnswersLine, IsBehind, Served, ServedInPart, ServesLine, StoppedServing};
 
 use crate::print::{print_entry, print_spent};
-use crate::stop::Stop;
+use crate::stop::RunStop;
 use hm_core::{Core, Staged, Step};
 use hm_disk::Disk;
 use hm_model::{Command, Line};
@@ -24,7 +24,7 @@ pub(crate) fn serve_script<D: Disk, I, O, K: Sink>(
     core: &mut Core<D, I, O>,
     lines: Vec<Line>,
     out: &mut K,
-) -> Result<(), Stop>
+) -> Result<(), RunStop>
     requires each { All IsServedLine lines.items }
     requires rising { AreRising lines.items }
     requires few { length lines.items ≤ MOST_SCRIPT_LINES }
@@ -35,7 +35,7 @@ pub(crate) fn serve_script<D: Disk, I, O, K: Sink>(
     ensures behind { OnOk result (IsBehind (seen_core core.old) (seen_core core.new)) }
     ensures err { OnErr result (ServedInPart lines.items (D.left_since (devices_of core.old).disk)
         (D.left_since (devices_of core.new).disk) (seen_core core.old) (seen_core core.new)
-        (K.held out.old) (K.held out.new)) }
+        (seen K.held K.faults out.old) (seen K.held K.faults out.new)) }
     ensures streams { KeepsStreams (devices_of core.old) (devices_of core.new) }
     ensures cause { IfErr result (IsOutCause (K.faults out.old) (K.faults out.new)) }
     ensures never_falls { K.faults out.old ≤ K.faults out.new }
@@ -50,7 +50,7 @@ fn serve_lines<D: Disk, I, O, K: Sink>(
     core: &mut Core<D, I, O>,
     lines: Vec<Line>,
     out: &mut K,
-) -> Result<(), Stop>
+) -> Result<(), RunStop>
     requires each { All IsServedLine lines.items }
     requires rising { AreRising lines.items }
     requires start { (seen_core core.old).history ≡ [] }
@@ -61,7 +61,7 @@ fn serve_lines<D: Disk, I, O, K: Sink>(
     ensures behind { OnOk result (IsBehind (seen_core core.old) (seen_core core.new)) }
     ensures err { OnErr result (ServedInPart lines.items (D.left_since (devices_of core.old).disk)
         (D.left_since (devices_of core.new).disk) (seen_core core.old) (seen_core core.new)
-        (K.held out.old) (K.held out.new)) }
+        (seen K.held K.faults out.old) (seen K.held K.faults out.new)) }
     ensures streams { KeepsStreams (devices_of core.old) (devices_of core.new) }
     ensures cause { IfErr result (IsOutCause (K.faults out.old) (K.faults out.new)) }
     ensures never_falls { K.faults out.old ≤ K.faults out.new }
@@ -79,7 +79,7 @@ fn serve_line<D: Disk, I, O, K: Sink>(
     core: &mut Core<D, I, O>,
     line: Line,
     out: &mut K,
-) -> Result<(), Stop>
+) -> Result<(), RunStop>
     requires asked { IsAsked line.command }
     requires room { 2 ≤ (seen_core core.old).spare }
     ensures ok { OnOk result (ServesLine (seen_core core.old) (seen_core core.new) line

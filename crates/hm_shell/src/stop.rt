@@ -9,7 +9,7 @@ use std::alloc::{AllocError, AllocFailed};
 
 /// Why a run stops before its end.
 #[derive(Clone, Copy, Debug, PartialEq, Eq)]
-pub(crate) enum Stop {
+pub(crate) enum RunStop {
     /// The words break the rule.
     Usage,
     /// The disk has no header slot with an open gate and the signature.
@@ -34,76 +34,76 @@ pub(crate) enum Stop {
     TooLong,
 }
 
-impl Stop {
+impl RunStop {
     /// The program's exit status.
     pub(crate) fn status(self) -> u8
         ensures { result ≡ status_of self }
     {
         match self {
-            Stop::Usage => 2,
-            Stop::NotVolume | Stop::BadField { .. } => 3,
-            Stop::DiskFault { .. } => 4,
-            Stop::ScriptFault { .. } => 5,
-            Stop::OutFault => 6,
-            Stop::NoMemory => 7,
-            Stop::BadLine { .. } => 8,
-            Stop::TooLong => 9,
-            Stop::Damaged { .. } => 10,
+            RunStop::Usage => 2,
+            RunStop::NotVolume | RunStop::BadField { .. } => 3,
+            RunStop::DiskFault { .. } => 4,
+            RunStop::ScriptFault { .. } => 5,
+            RunStop::OutFault => 6,
+            RunStop::NoMemory => 7,
+            RunStop::BadLine { .. } => 8,
+            RunStop::TooLong => 9,
+            RunStop::Damaged { .. } => 10,
         }
     }
 
     /// A volume was not made or not opened.
-    pub(crate) fn of_open(fault: OpenFault) -> Stop
+    pub(crate) fn of_open(fault: OpenFault) -> RunStop
         ensures { result ≡ of_open fault }
     {
         match fault {
-            OpenFault::NotVolume => Stop::NotVolume,
-            OpenFault::BadField { place } => Stop::BadField { place },
-            OpenFault::Fault(fault) => Stop::of_fault(fault),
+            OpenFault::NotVolume => RunStop::NotVolume,
+            OpenFault::BadField { place } => RunStop::BadField { place },
+            OpenFault::Fault(fault) => RunStop::of_fault(fault),
         }
     }
 
     /// The disk, what it holds, or memory failed a call.
-    pub(crate) fn of_fault(fault: Fault) -> Stop
+    pub(crate) fn of_fault(fault: Fault) -> RunStop
         ensures { result ≡ of_fault fault }
     {
         match fault {
-            Fault::Media { before, after } => Stop::DiskFault { before, after },
-            Fault::Damaged { at, kind } => Stop::Damaged { at: at.raw(), kind },
-            Fault::NoMemory => Stop::NoMemory,
+            Fault::Media { before, after } => RunStop::DiskFault { before, after },
+            Fault::Damaged { at, kind } => RunStop::Damaged { at: at.raw(), kind },
+            Fault::NoMemory => RunStop::NoMemory,
         }
     }
 }
 
-impl From<AllocError> for Stop {
+impl From<AllocError> for RunStop {
     ghost use Rattle.std.specs.Prelude.{◌≡◌};
-    ghost use Rattle.hm_shell.specs.declared.stop.Stop.TheVariants.{NoMemory};
+    ghost use Rattle.hm_shell.specs.declared.stop.RunStop.TheVariants.{NoMemory};
 
     ghost from_gives = { λ _ stop. stop ≡ NoMemory };
 
-    fn from(_: AllocError) -> Stop {
-        Stop::NoMemory
+    fn from(_: AllocError) -> RunStop {
+        RunStop::NoMemory
     }
 }
 
-impl<T: Drop> From<AllocFailed<T>> for Stop {
+impl<T: Drop> From<AllocFailed<T>> for RunStop {
     ghost use Rattle.std.specs.Prelude.{◌≡◌};
-    ghost use Rattle.hm_shell.specs.declared.stop.Stop.TheVariants.{NoMemory};
+    ghost use Rattle.hm_shell.specs.declared.stop.RunStop.TheVariants.{NoMemory};
 
     ghost from_gives = { λ _ stop. stop ≡ NoMemory };
 
-    fn from(_: AllocFailed<T>) -> Stop {
-        Stop::NoMemory
+    fn from(_: AllocFailed<T>) -> RunStop {
+        RunStop::NoMemory
     }
 }
 
-impl From<NoMemory> for Stop {
+impl From<NoMemory> for RunStop {
     ghost use Rattle.std.specs.Prelude.{◌≡◌};
-    ghost use Rattle.hm_shell.specs.declared.stop.Stop.TheVariants.{NoMemory};
+    ghost use Rattle.hm_shell.specs.declared.stop.RunStop.TheVariants.{NoMemory};
 
     ghost from_gives = { λ _ stop. stop ≡ NoMemory };
 
-    fn from(_: hm_types::NoMemory) -> Stop {
-        Stop::NoMemory
+    fn from(_: hm_types::NoMemory) -> RunStop {
+        RunStop::NoMemory
     }
 }

@@ -1,6 +1,6 @@
 // Standard streams that are closed as the program starts.
 
-use crate::stop::Stop;
+use crate::stop::RunStop;
 use std::fs::{File, OpenOptions};
 use std::io;
 use std::os::fd::AsFd;
@@ -18,23 +18,23 @@ pub(crate) struct StandIns {
 ///
 /// The file is opened the wrong way round, so reading or writing the stream fails, as if it were closed.
 /// Where it cannot be opened, the run has to stop before it opens anything else.
-pub(crate) fn stand_in(rt: &HostRuntime) -> Result<StandIns, Stop> {
+pub(crate) fn stand_in(rt: &HostRuntime) -> Result<StandIns, RunStop> {
     let mut to_write = OpenOptions::new();
     to_write.write(true);
     let mut to_read = OpenOptions::new();
     to_read.read(true);
     // In this order, since a file gets the lowest number that is free.
     let Ok(input) = stand_in_for(rt, &rt.stdin(), &to_write) else {
-        return Err(Stop::ScriptFault {
+        return Err(RunStop::ScriptFault {
             before: 0,
             after: 1,
         });
     };
     let Ok(output) = stand_in_for(rt, &rt.stdout(), &to_read) else {
-        return Err(Stop::OutFault);
+        return Err(RunStop::OutFault);
     };
     let Ok(errors) = stand_in_for(rt, &rt.stderr(), &to_read) else {
-        return Err(Stop::OutFault);
+        return Err(RunStop::OutFault);
     };
     Ok(StandIns {
         input,

@@ -15,7 +15,7 @@ ghost use Rattle.hm_shell.specs.Serving.{Commits, StopsUsing, UsesAll};
 
 use crate::job::Job;
 use crate::serve::serve_script;
-use crate::stop::Stop;
+use crate::stop::RunStop;
 use hm_buffer::BufferedDisk;
 use hm_core::{Core, newfs};
 use hm_disk::Disk;
@@ -29,7 +29,7 @@ pub(crate) struct Closed<D, I, O> {
     pub(crate) disk: D,
     pub(crate) stream_in: I,
     pub(crate) stream_out: O,
-    pub(crate) outcome: Result<(), Stop>,
+    pub(crate) outcome: Result<(), RunStop>,
 }
 
 /// Makes a volume where that is asked for, opens the volume of the disk, runs the script's lines,
@@ -102,13 +102,13 @@ fn run_on<D: Disk, I, O, K: Sink>(
             disk,
             stream_in,
             stream_out,
-            outcome: Err(Stop::of_open(fault)),
+            outcome: Err(RunStop::of_open(fault)),
         },
     }
 }
 
 // Makes a volume of this size, where one is asked for.
-fn make_volume<D: Disk>(disk: &mut D, bigblocks: Option<u32>) -> Result<(), Stop>
+fn make_volume<D: Disk>(disk: &mut D, bigblocks: Option<u32>) -> Result<(), RunStop>
     requires size { IfSome bigblocks IsSize }
     ensures ok { OnOk result (MakesVolume bigblocks (D.told disk.old) (D.told disk.new)) }
     ensures err { IfErr result (StoppedOpening bigblocks (D.left_since disk.old) (D.left_since disk.new)
@@ -121,7 +121,7 @@ fn make_volume<D: Disk>(disk: &mut D, bigblocks: Option<u32>) -> Result<(), Stop
     };
     match newfs(disk, bigblocks) {
         Ok(()) => Ok(()),
-        Err(fault) => Err(Stop::of_open(fault)),
+        Err(fault) => Err(RunStop::of_open(fault)),
     }
 }
 
@@ -165,7 +165,7 @@ fn use_core<D: Disk, I, O, K: Sink>(
     core: &mut Core<D, I, O>,
     lines: Vec<Line>,
     out: &mut K,
-) -> Result<(), Stop>
+) -> Result<(), RunStop>
     requires each { All IsServedLine lines.items }
     requires rising { AreRising lines.items }
     requires few { length lines.items ≤ MOST_SCRIPT_LINES }
@@ -189,7 +189,7 @@ fn use_core<D: Disk, I, O, K: Sink>(
 }
 
 // Makes the stages of the last flush, until all is committed.
-fn commit_all<D: Disk, I, O>(core: &mut Core<D, I, O>) -> Result<(), Stop>
+fn commit_all<D: Disk, I, O>(core: &mut Core<D, I, O>) -> Result<(), RunStop>
     ensures ok { OnOk result (Commits (seen_core core.old) (seen_core core.new)) }
     ensures err { IfErr result (IsWriteCause (seen_core core.old).counts.disk
         (seen_core core.new).counts.disk) }
@@ -204,7 +204,7 @@ fn commit_all<D: Disk, I, O>(core: &mut Core<D, I, O>) -> Result<(), Stop>
         match core.end_stage() {
             Ok(true) => return Ok(()),
             Ok(false) => {}
-            Err(fault) => return Err(Stop::of_fault(fault)),
+            Err(fault) => return Err(RunStop::of_fault(fault)),
         }
     }
 }

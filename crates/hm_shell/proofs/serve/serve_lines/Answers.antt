@@ -1,6 +1,7 @@
 use Rattle.std.proofs.Common.{◌≡◌, List, [], arith, refl, rules, subst, sym}
 use Rattle.hm_model.specs.declared.line.Line.{Line}
 use Rattle.hm_core.specs.Seen.{devices as devices_of, seen as seen_core}
+use Rattle.hm_shell.specs.Seen.{seen}
 use Rattle.hm_shell.specs.Serving.{Serving}
 use Rattle.hm_shell.proofs.PrintLemmas.{on_err}
 use Rattle.hm_shell.proofs.ServeLemmas.{ServedInPart-stopped, Serving-more, Serving-none}
@@ -41,4 +42,5 @@ returns-in_err-serve_line-clause-err g c =
     (g.D.Disk.left_since (devices_of c.args.core.now).disk) (g.D.Disk.left_since (devices_of c.loop-line.core).disk)
     (g.D.Disk.left_since (devices_of c.serve_line.new.core).disk)
     (seen_core c.args.core.now) (seen_core c.loop-line.core) (seen_core c.serve_line.new.core) c.serve_line.ensures.follows
-    (g.K.Sink.held c.args.out.now) _ _ _ (rw c.in-Some.ensures.steps.0 at c.loop-line.invariant.0) c.in_err-serve_line.ensures.err)
+    (seen g.K.Sink.held g.K.Sink.faults c.args.out.now) _ _ _ (rw c.in-Some.ensures.steps.0 at c.loop-line.invariant.0) c.loop-line.invariant.1
+    c.in_err-serve_line.ensures.err)

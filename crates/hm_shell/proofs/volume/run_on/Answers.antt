@@ -1,8 +1,8 @@
 use Rattle.std.proofs.Common.{ap, inl, refl}
 use Rattle.hm_core.specs.Seen.{devices as devices_of, seen as seen_core}
 use Rattle.hm_shell.specs.Seen.{seen}
-use Rattle.hm_shell.proofs.OpenLemmas.{StoppedOpening-mount, made_not_err}
-use Rattle.hm_shell.proofs.RunLemmas.{RunsAll-opened, StoppedRunning-opened, leaves_only}
+use Rattle.hm_shell.proofs.OpenLemmas.{StoppedOpening-mount, leaves_only, made_not_err}
+use Rattle.hm_shell.proofs.RunLemmas.{RunsAll-opened, StoppedRunning-opened}
 use Rattle.hm_shell.proofs.volume.run_on.Goals as goal
 
 pub returns-in-Ok-clause-ok : goal.returns-in-Ok-clause-ok
@@ -34,11 +34,13 @@ pub returns-in-Err-mount-clause-err : goal.returns-in-Err-mount-clause-err
 returns-in-Err-mount-clause-err g c =
     let made = made_not_err c.args.job.newfs (g.D.Disk.told c.args.disk) (g.D.Disk.told c.make_volume.new.disk) c.make_volume.result c.make_volume.ensures.ok
     c.in_default.not-Err in
+    let past = g.D.Disk.left_since c.make_volume.new.disk in
     rw c.of_open.ensures (inl (
-      StoppedOpening-mount (g.D.Disk.left_since c.args.disk) (g.D.Disk.left_since c.make_volume.new.disk) (g.D.Disk.left_since c.in-Err-mount.disk)
+      StoppedOpening-mount (g.D.Disk.left_since c.args.disk) past (g.D.Disk.left_since c.in-Err-mount.disk)
           c.in-Err-mount.fault c.args.job.newfs (seen g.D.Disk.told g.D.Disk.faults c.args.disk)
           (seen g.D.Disk.told g.D.Disk.faults c.make_volume.new.disk) (seen g.D.Disk.told g.D.Disk.faults c.in-Err-mount.disk) made
-          (λ none. ap g.D.Disk.left_since (c.make_volume.ensures.as_was none)) c.in-Err-mount.ensures.err c.make_volume.ensures.never_falls
+          (λ none. ap g.D.Disk.left_since (c.make_volume.ensures.as_was none)) c.in-Err-mount.ensures.err
+          (leaves_only (g.D.Disk.told c.make_volume.new.disk) past (g.met.D.Disk.only_now c.make_volume.new.disk)) c.make_volume.ensures.never_falls
           c.in-Err-mount.ensures.cause.1,
       refl,
     ))
