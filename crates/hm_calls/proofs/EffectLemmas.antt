@@ -237,6 +237,7 @@ module _ (call : Call) (hash : List ℕ → ℕ) (last id pfs : ℕ) (es : List 
     there = subst (HasSystem call.volume) (sym within) system;
     past = λ t before. steps.writes.past t (omega (arith, before, asked.own));
     others = λ t other tree late differ has. steps.writes.others t other tree (omega (arith, late, asked.own)) (λ is. differ (is ∙ sym within)) has;
+    elsewhere = λ x differ. steps.writes.elsewhere x (λ is. differ (is ∙ sym within));
     records = steps.writes.records;
     tree = λ none t late. subst (λ (p : ℕ). IsViewOf es' p t (changed call (tree_now call))) (sym within)
         (subst (λ (tree : FileTree). IsViewOf es' pfs t tree) same

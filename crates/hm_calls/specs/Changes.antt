@@ -4,6 +4,7 @@ use Rattle.std.specs.List.{Contains}
 use Rattle.hm_types.specs.Elements.{FullElement}
 use Rattle.hm_types.specs.Tree.{FileTree, object_in}
 use Rattle.hm_key.specs.Counts.{Counts, IsRecordOf}
+use Rattle.hm_key.specs.Element.{pfs_of}
 use Rattle.hm_cursor.specs.Views.{CameAs}
 use Rattle.hm_cursor.specs.Write.{AreUpTo}
 use Rattle.hm_model.specs.Call.{Call, own_id}
@@ -25,8 +26,8 @@ tree_now call = call.view (changed_pfs call) Now
 abbrev pub HasSystem : Volume → ℕ → Type 0
 HasSystem volume pfs = (s : PseudoFileSystem) × (system_of volume pfs ≡ Some s)
 
--- An accepted call leaves what counts before its id, and with it every older view; the trees of all other pseudo file
--- systems; and each record, and so each retention. The volume has its pseudo file system, and where no object now has its
+-- An accepted call leaves what counts before its id, and with it every older view; the elements of all other pseudo file
+-- systems and so their trees; and each record, and so each retention. The volume has its pseudo file system, and where no object now has its
 -- id for a number, the tree of that is from its id on the changed one. Its new elements are of that pseudo file system, and
 -- keys fit still.
 pub record ChangesTree (call : Call) (es es' : List FullElement) : Type 0 where
@@ -34,6 +35,7 @@ pub record ChangesTree (call : Call) (es es' : List FullElement) : Type 0 where
   pub past : (t : ℕ) → t < own_id call → CountSame (Counts es t) (Counts es' t)
   pub others : (t other : ℕ) (tree : FileTree) → own_id call ≤ t → other ≢ changed_pfs call → HasView (Counts es t) other tree
       → HasView (Counts es' t) other tree
+  pub elsewhere : (x : FullElement) → pfs_of x.key.localization ≢ changed_pfs call → Contains es' x ↔ Contains es x
   pub records : (pfs : ℕ) (bytes : List ℕ) → IsRecordOf es' pfs bytes ↔ IsRecordOf es pfs bytes
   pub tree : object_in (tree_now call) (record { 0 = own_id call }) ≡ None → (t : ℕ) → own_id call ≤ t
       → IsViewOf es' (changed_pfs call) t (changed call (tree_now call))

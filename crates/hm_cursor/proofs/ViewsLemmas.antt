@@ -7,6 +7,7 @@ use Rattle.hm_types.specs.Tree.{FileTree}
 use Rattle.hm_key.specs.declared.rec_type.TheConstants.{DIRECTORY_ENTRY, PFS_RECORD}
 use Rattle.hm_key.specs.Versions.{IsBelow}
 use Rattle.hm_key.specs.Counts.{Counts, IsRecordOf, IsSeen, Subject, inodes_of, others_of, record_subject, subject_of}
+use Rattle.hm_key.specs.Element.{pfs_of}
 use Rattle.hm_records.specs.Changes.{IsBeside}
 use Rattle.hm_records.specs.Entry.{IsEntry, entry_bytes}
 use Rattle.hm_records.specs.KeysFit.{KeysFit}
@@ -26,6 +27,13 @@ pub beside_others : (pfs other : ℕ) (s : Subject) → IsWithin pfs s → other
 beside_others pfs other s within differ = elim within.place [
   | inl is ↦ beside_other other s (λ is'. differ (omega (arith, is, is'))) (λ is'. absurd (omega (arith, is, is')))
   | inr is ↦ beside_other other s (λ is'. absurd (omega (arith, is, is'))) (λ is'. differ (omega (arith, is, is')))
+]
+
+-- and its elements are of that pseudo file system
+within_place : (pfs : ℕ) (s : Subject) (x : FullElement) → IsWithin pfs s → subject_of x.key ≡ s → pfs_of x.key.localization ≡ pfs
+within_place pfs s x within about = elim within.place [
+  | inl is ↦ ap (λ (z : Subject). pfs_of z.localization) about ∙ ap pfs_of is ∙ omega arith
+  | inr is ↦ ap (λ (z : Subject). pfs_of z.localization) about ∙ ap pfs_of is ∙ omega arith
 ]
 
 -- what makes a new element one: it is about a subject, was made by `i`, and has the bytes that count now
@@ -102,6 +110,7 @@ writes_within pfs i s now New es es' within makes rewrites = record {
   past = rewrites.past;
   others = λ t other tree late differ has.
       beside_alone other s now tree (Counts es t) (Counts es' t) has (beside_others pfs other s within differ) (rewrites.present t late);
+  elsewhere = λ x differ. rewrites.beside x (λ about. differ (within_place pfs s x within about));
   records = records_stay pfs i s now es es' within rewrites;
   records_then = records_counted pfs i s now es es' within rewrites;
   came = λ x has. came x (rewrites.came x has);
@@ -129,6 +138,7 @@ pub nothing_written : (pfs i : ℕ) (New : FullElement → Type 0) (es : List Fu
 nothing_written pfs i New es = record {
   past = λ t below s bytes. (λ h. h, λ h. h);
   others = λ t other tree late differ has. has;
+  elsewhere = λ x differ. (λ h. h, λ h. h);
   records = λ other bytes. (λ h. h, λ h. h);
   records_then = λ t other bytes. (λ h. h, λ h. h);
   came = λ x has. inl (x, has, refl, refl, refl);
@@ -149,6 +159,10 @@ writes_twice pfs i First Second es mid es' steady first second = record {
     λ h. (second.past t below s bytes).1 ((first.past t below s bytes).1 h),
   );
   others = λ t other tree late differ has. second.others t other tree late differ (first.others t other tree late differ has);
+  elsewhere = λ x differ. (
+    λ h. (first.elsewhere x differ).0 ((second.elsewhere x differ).0 h),
+    λ h. (second.elsewhere x differ).1 ((first.elsewhere x differ).1 h),
+  );
   records = λ other bytes. (
     λ h. (first.records other bytes).0 ((second.records other bytes).0 h),
     λ h. (second.records other bytes).1 ((first.records other bytes).1 h),
@@ -176,6 +190,7 @@ pub writes_wider : (pfs i : ℕ) (New Wider : FullElement → Type 0) (es es' : 
 writes_wider pfs i New Wider es es' wider writes = record {
   past = writes.past;
   others = writes.others;
+  elsewhere = writes.elsewhere;
   records = writes.records;
   records_then = writes.records_then;
   came = λ x has. widened x (writes.came x has);
@@ -193,6 +208,7 @@ pub writes_of_type : (pfs i kind : ℕ) (New Typed : FullElement → Type 0) (es
 writes_of_type pfs i kind New Typed es es' any typed adds writes = record {
   past = writes.past;
   others = writes.others;
+  elsewhere = writes.elsewhere;
   records = writes.records;
   records_then = writes.records_then;
   came = λ x has. elim (writes.came x has) [
