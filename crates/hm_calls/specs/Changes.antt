@@ -8,6 +8,7 @@ use Rattle.hm_types.specs.declared.object.Kind.{Kind}
 use Rattle.hm_types.specs.declared.object.Kind.TheVariants.{Directory, File, PfsLink, Softlink}
 use Rattle.hm_types.specs.declared.object.Object.{Object}
 use Rattle.hm_key.specs.Counts.{Counts, IsRecordOf}
+use Rattle.hm_key.specs.Element.{pfs_of}
 use Rattle.hm_key.specs.declared.rec_type.TheConstants.{DIRECTORY_ENTRY}
 use Rattle.hm_cursor.specs.Views.{CameAs}
 use Rattle.hm_cursor.specs.Write.{AreUpTo}
@@ -34,10 +35,6 @@ tree_now call = call.view (changed_pfs call) Now
 abbrev pub HasSystem : Volume → ℕ → Type 0
 HasSystem volume pfs = (s : PseudoFileSystem) × (system_of volume pfs ≡ Some s)
 
-<<<<<<< HEAD
--- An accepted call leaves what counts before its id, and with it every older view; the elements of all other pseudo file
--- systems and so their trees; and each record, and so each retention. The volume has its pseudo file system, and where no object now has its
-=======
 -- an element that is an entry has the type of the kind of the object that it leads to in a tree
 pub record IsOfItsKind (tree : FileTree) (x : FullElement) : Type 0 where
   pub kind_is : (entry : DirEntry) (o : Object) → x.key.rec_type ≡ DIRECTORY_ENTRY → IsEntry entry → x.bytes ≡ entry_bytes entry
@@ -50,12 +47,11 @@ LeavesNone File pfs obj i es = LeavesNothing pfs obj i es
 LeavesNone Softlink pfs obj i es = LeavesNothing pfs obj i es
 LeavesNone PfsLink pfs obj i es = LeavesNothing pfs obj i es
 
--- An accepted call leaves what counts before its id, and with it every older view; the trees of all other pseudo file
--- systems; and each record, and so each retention. The volume has its pseudo file system, and where no object now has its
->>>>>>> 71a33b068b58004548fbeb5a1bc881455143052d
--- id for a number, the tree of that is from its id on the changed one. Its new elements are of that pseudo file system, and
--- keys fit still. A new entry tells the kind of its object in the changed tree, of an object that goes nothing counts, and
--- what followed before follows still.
+-- An accepted call leaves what counts before its id, and with it every older view; the elements of all other pseudo file
+-- systems, and so their trees; and each record, and so each retention. The volume has its pseudo file system, and where no
+-- object now has its id for a number, the tree of that is from its id on the changed one. Its new elements are of that
+-- pseudo file system, and keys fit still. A new entry tells the kind of its object in the changed tree, of an object that
+-- goes nothing counts, and what followed before follows still.
 pub record ChangesTree (call : Call) (es es' : List FullElement) : Type 0 where
   pub there : HasSystem call.volume (changed_pfs call)
   pub past : (t : ℕ) → t < own_id call → CountSame (Counts es t) (Counts es' t)

@@ -208,6 +208,7 @@ pub writes_of_type : (pfs i kind : ℕ) (New Typed : FullElement → Type 0) (es
 writes_of_type pfs i kind New Typed es es' any typed adds writes = record {
   past = writes.past;
   others = writes.others;
+  elsewhere = writes.elsewhere;
   records = writes.records;
   records_then = writes.records_then;
   came = λ x has. elim (writes.came x has) [

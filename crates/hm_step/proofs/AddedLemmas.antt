@@ -11,12 +11,12 @@ use Rattle.hm_types.specs.Elements.{FullElement, Key}
 use Rattle.hm_types.specs.Hash.{name_hash}
 use Rattle.hm_types.specs.Tree.{FileTree, directory_of, no_tree, root_number, root_tree}
 use Rattle.hm_types.specs.declared.object.Object.{Object}
-use Rattle.hm_key.specs.Counts.{Subject, subject_of}
+use Rattle.hm_key.specs.Counts.{Subject, record_subject, subject_of}
 use Rattle.hm_key.specs.Element.{pfs_of}
 use Rattle.hm_key.specs.Versions.{HaveOwnKeys, IsBelow}
 use Rattle.hm_key.specs.declared.rec_type.TheConstants.{DIRECTORY_ENTRY}
 use Rattle.hm_model.specs.Change.{new_slave, with_system}
-use Rattle.hm_model.specs.Volume.{PseudoFileSystem, Volume, as_of, at, new_master, shown_id, system_of}
+use Rattle.hm_model.specs.Volume.{Nowhere, PseudoFileSystem, Slave, Volume, as_of, at, new_master, shown_id, system_of}
 use Rattle.hm_model.proofs.GrowthLemmas.{found-pushed, found_in, same_or_not}
 use Rattle.hm_model.proofs.NewPfsLemmas.{still_found}
 use Rattle.hm_records.specs.Follows.{Follows, IsOf}
@@ -32,10 +32,10 @@ use Rattle.hm_volume.specs.Records.{AreOfSystems, HasRecord, HaveRecords, IsReco
 use Rattle.hm_objects.specs.Objects.{inode_of}
 use Rattle.hm_objects.proofs.ShownLemmas.{directory_inode}
 use Rattle.hm_pfs.specs.Systems.{AddsMaster, AddsSlave, AddsSystem, IsUnusedNumber, made_record, made_root, master_record, slave_record}
-use Rattle.hm_image.specs.StandFor.{AreAtMost, AreBegun, AreUpTo, HasIds, HasViews, OnEach, StandFor}
+use Rattle.hm_image.specs.StandFor.{AreAtMost, AreBegun, AreUpTo, HasIds, HasViews, IsUnfed, OnEach, StandFor}
+use Rattle.hm_image.proofs.FollowLemmas.{follows_one, follows_where, inodes_named, of_no_record, of_place, others_named}
 use Rattle.hm_image.proofs.ListLemmas.{all_one, only_one}
-use Rattle.hm_step.specs.Pruned.{FollowIn, HasSystemFor, IsEnough, KeepsEnough, StandAfter}
-use Rattle.hm_step.proofs.FollowLemmas.{follows_one, follows_where, inodes_named, of_no_record, of_place, others_named}
+use Rattle.hm_step.specs.Pruned.{HasSystemFor, IsEnough, StandAfter, StillKeeps}
 use Rattle.hm_step.proofs.JobLemmas.{system_for}
 use Rattle.hm_step.proofs.NextLemmas.{system_at}
 
@@ -162,6 +162,7 @@ pub record IsNewSystem (last pfs i : ℕ) (tree : FileTree) (r : PfsRecord) (es'
   pub is_for : IsRecordFor new r
   pub ids : AreUpTo last pfs es' → HasIds es' last pfs new
   pub begun : AreBegun new
+  pub unfed : new.role ≡ Slave → IsUnfed es' pfs new
   pub numbered : All (λ v. AreAtMost v.0 v.1) new.versions
   pub past : (t : ℕ) → t < i → as_of t no_tree new.versions ≡ no_tree
   pub present : (t : ℕ) → i ≤ t → as_of t no_tree new.versions ≡ tree
@@ -196,6 +197,25 @@ module _ (es es' : List FullElement) (volume : Volume) (pfs i : ℕ) (r : PfsRec
   ] where
     place : {a b : Key} → a ≡ b → pfs_of a.localization ≡ pfs_of b.localization
     place is = ap (λ (k : Key). pfs_of k.localization) is
+
+  -- ---- versions that follow one another
+
+  -- the root directory of the new PFS is all that may have versions there
+  the_root : (x : FullElement) → Contains es' x → IsOf pfs (subject_of x.key) → x ≡ made_root pfs i
+  the_root x has of = elim (only_new x has (of_place pfs (subject_of x.key) of)) [
+    | inl root ↦ root
+    | inr made ↦ absurd (of_no_record pfs (subject_of x.key) of (ap (λ (z : FullElement). z.key.rec_type) made))
+  ]
+
+  follows_new : (t : ℕ) → Follows pfs t es'
+  follows_new t =
+      follows_one pfs t es' (λ x y has has' of of'. ap (λ (z : FullElement). z.key) (the_root x has of ∙ sym (the_root y has' of')))
+
+  follows_still : (other t : ℕ) → other ≢ pfs → Follows other t es → Follows other t es'
+  follows_still other t differ = follows_where other t es es' (λ x has of. elim (came x has) [
+    | inl new ↦ absurd (differ (sym (of_place other (subject_of x.key) of) ∙ made_place pfs i r x new))
+    | inr old ↦ old
+  ])
 
   module _ (new : PseudoFileSystem) (drawn : i ≤ volume.last) (is_new : IsNewSystem volume.last pfs i tree r es' new) where
     abbrev after : Volume
@@ -325,6 +345,7 @@ module _ (es es' : List FullElement) (volume : Volume) (pfs i : ℕ) (r : PfsRec
               let differ = is_another volume pfs new none number other s is in
               subst (λ (shown : FileTree). IsViewOf es' other t shown) (before ∙ sym later)
               (adds.others t other (at volume other t) differ (record { settled = settled es t stand.keys; view = old.views t le keeps })).view;
+          follows = follows_still other (shown_id volume.last s) (is_another volume pfs new none number other s is) old.follows;
         }
 
     views_new : HasViews es' after pfs new
@@ -337,7 +358,21 @@ module _ (es es' : List FullElement) (volume : Volume) (pfs i : ℕ) (r : PfsRec
             | inl early ↦ subst (λ (shown : FileTree). IsViewOf es' pfs t shown) (sym (is_new.past t early)) (adds.past t early).view
             | inr late ↦ subst (λ (shown : FileTree). IsViewOf es' pfs t shown) (sym (is_new.present t late)) (adds.present t late).view
           ]);
+      follows = follows_new (shown_id volume.last new);
     }
+
+    -- ---- slaves into which nothing came
+
+    unfed_still : OnEach volume (λ other s. s.role ≡ Slave → s.origin ≡ Nowhere → IsUnfed es' other s)
+    unfed_still other s is slave nowhere =
+        let old : IsUnfed es other s = stand.sourceless other s is slave nowhere in
+        record {
+          unsynced = old.unsynced;
+          alone = λ x has of_pfs. elim (came x has) [
+            | inl new' ↦ absurd (is_another volume pfs new none number other s is (sym of_pfs ∙ made_place pfs i r x new'))
+            | inr there ↦ old.alone x there of_pfs
+          ];
+        }
 
     stand_added : StandFor es' after
     stand_added = record {
@@ -352,36 +387,12 @@ module _ (es es' : List FullElement) (volume : Volume) (pfs i : ℕ) (r : PfsRec
       ids = on_added volume pfs new none number (HasIds es' volume.last) ids_still ids_new;
       begun = on_added volume pfs new none number (λ other s. AreBegun s) stand.begun is_new.begun;
       views = on_added volume pfs new none number (λ other s. s.clear ≡ true → HasViews es' after other s) views_still (λ clear. views_new);
+      sourceless = on_added volume pfs new none number (λ other s. s.role ≡ Slave → s.origin ≡ Nowhere → IsUnfed es' other s) unfed_still
+          (λ slave nowhere. is_new.unfed slave);
     }
 
-    -- ---- versions that follow one another
-
-    -- the root directory of the new PFS is all that may have versions there
-    the_root : (x : FullElement) → Contains es' x → IsOf pfs (subject_of x.key) → x ≡ made_root pfs i
-    the_root x has of = elim (only_new x has (of_place pfs (subject_of x.key) of)) [
-      | inl root ↦ root
-      | inr made ↦ absurd (of_no_record pfs (subject_of x.key) of (ap (λ (z : FullElement). z.key.rec_type) made))
-    ]
-
-    follows_new : (t : ℕ) → Follows pfs t es'
-    follows_new t =
-        follows_one pfs t es' (λ x y has has' of of'. ap (λ (z : FullElement). z.key) (the_root x has of ∙ sym (the_root y has' of')))
-
-    follows_still : (other t : ℕ) → other ≢ pfs → Follows other t es → Follows other t es'
-    follows_still other t differ = follows_where other t es es' (λ x has of. elim (came x has) [
-      | inl new ↦ absurd (differ (sym (of_place other (subject_of x.key) of) ∙ made_place pfs i r x new))
-      | inr old ↦ old
-    ])
-
-    follow_added : FollowIn es volume → FollowIn es' after
-    follow_added follow =
-        on_added volume pfs new none number (λ other s. s.clear ≡ true → Follows other (shown_id volume.last s) es')
-        (λ other s is clear.
-        follows_still other (shown_id volume.last s) (is_another volume pfs new none number other s is) (follow other s is clear))
-        (λ clear. follows_new (shown_id volume.last new))
-
     -- what jobs keep is of other numbers
-    jobs_added : (kept : ℕ → Option (List (ℕ × ℕ))) → KeepsEnough kept volume → KeepsEnough kept after
+    jobs_added : StillKeeps volume after
     jobs_added kept enough = record {
       within = on_added volume pfs new none number (λ other s. IsEnough (kept other) s.retention) enough.within
           (by (kept pfs) (enough.of_systems pfs));
@@ -392,8 +403,8 @@ module _ (es es' : List FullElement) (volume : Volume) (pfs i : ℕ) (r : PfsRec
       by None there = tt
       by (Some ids) there = λ t keeps. inr (λ u has. let (s, is) = there u has in absurd (is_another volume pfs new none number pfs s is refl))
 
-    after_added : StandAfter es volume es' after
-    after_added = record { stand = stand_added; follow = follow_added; jobs = jobs_added }
+    after_added : StandAfter volume es' after
+    after_added = record { stand = stand_added; jobs = jobs_added }
 
 -- ---- a master, and a slave
 
@@ -430,13 +441,15 @@ module _ (last pfs shared i : ℕ) (es' : List FullElement) (small : shared < 2 
       slave = λ role. absurd (cc);
     };
     begun = all_one (λ v. 1 ≤ v.0) (i, root_tree) some;
+    unfed = λ slave. absurd (cc);
     numbered = all_one (λ v. AreAtMost v.0 v.1) (i, root_tree) (root_is_low i some);
     past = λ t early. let no : nat_le i t ≡ false = grind (arith, nat_tests, early) in rw no refl;
     present = λ t late. let yes : nat_le i t ≡ true = grind (arith, nat_tests, late) in rw yes refl;
   }
 
-  is_slave : IsNewSystem last pfs i no_tree (slave_record shared) es' (new_slave pfs shared)
-  is_slave = record {
+  is_slave : ((x : FullElement) → Contains es' x → pfs_of x.key.localization ≡ pfs → x ≡ made_record pfs (slave_record shared) i)
+      → IsNewSystem last pfs i no_tree (slave_record shared) es' (new_slave pfs shared)
+  is_slave alone = record {
     number = refl;
     ranges = record {
       shared = small;
@@ -458,6 +471,10 @@ module _ (last pfs shared i : ℕ) (es' : List FullElement) (small : shared < 2 
       };
     };
     begun = All-nil (λ v. 1 ≤ v.0);
+    unfed = λ slave. record {
+      unsynced = refl;
+      alone = λ x has of_pfs. ap (λ (z : FullElement). subject_of z.key) (alone x has of_pfs);
+    };
     numbered = All-nil (λ v. AreAtMost v.0 v.1);
     past = λ t early. refl;
     present = λ t late. refl;
@@ -465,17 +482,11 @@ module _ (last pfs shared i : ℕ) (es' : List FullElement) (small : shared < 2 
 
 module _ (es es' : List FullElement) (volume : Volume) (pfs shared i : ℕ) (stand : StandFor es volume) (none : system_of volume pfs ≡ None) where
   pub master_stands : shared < 2 ^ 64 → 1 ≤ i → i ≤ volume.last → AddsMaster pfs shared i es es'
-      → StandAfter es volume es' (with_system volume (new_master pfs shared ((i, root_tree) ∷ [])))
+      → StandAfter volume es' (with_system volume (new_master pfs shared ((i, root_tree) ∷ [])))
   master_stands small some drawn adds =
       after_added es es' volume pfs i (master_record shared) root_tree
       (λ x. (x ≡ made_root pfs i) ⊎ (x ≡ made_record pfs (master_record shared) i)) stand none (λ x is. is) adds
       (new_master pfs shared ((i, root_tree) ∷ [])) drawn (is_master volume.last pfs shared i es' small some drawn)
-
-  pub slave_stands : shared < 2 ^ 64 → i ≤ volume.last → AddsSlave pfs shared i es es'
-      → StandAfter es volume es' (with_system volume (new_slave pfs shared))
-  slave_stands small drawn adds =
-      after_added es es' volume pfs i (slave_record shared) no_tree (λ x. x ≡ made_record pfs (slave_record shared) i) stand none
-      (λ x is. inr is) adds (new_slave pfs shared) drawn (is_slave volume.last pfs shared i es' small)
 
   pub slave_is_alone : AddsSlave pfs shared i es es' → (x : FullElement) → Contains es' x → pfs_of x.key.localization ≡ pfs
       → x ≡ made_record pfs (slave_record shared) i
@@ -483,3 +494,9 @@ module _ (es es' : List FullElement) (volume : Volume) (pfs shared i : ℕ) (sta
     | inl new ↦ new
     | inr old ↦ absurd (number_is_unused es volume pfs stand none x old of_pfs)
   ]
+
+  pub slave_stands : shared < 2 ^ 64 → i ≤ volume.last → AddsSlave pfs shared i es es'
+      → StandAfter volume es' (with_system volume (new_slave pfs shared))
+  slave_stands small drawn adds =
+      after_added es es' volume pfs i (slave_record shared) no_tree (λ x. x ≡ made_record pfs (slave_record shared) i) stand none
+      (λ x is. inr is) adds (new_slave pfs shared) drawn (is_slave volume.last pfs shared i es' small (slave_is_alone adds))

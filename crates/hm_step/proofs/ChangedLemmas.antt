@@ -10,7 +10,7 @@ use Rattle.hm_types.specs.Hash.{name_hash}
 use Rattle.hm_types.specs.Intervals.{Keeps}
 use Rattle.hm_types.specs.Tree.{FileTree, no_tree}
 use Rattle.hm_types.specs.declared.limits.TheConstants.{GREATEST_ID}
-use Rattle.hm_key.specs.Counts.{Counts}
+use Rattle.hm_key.specs.Counts.{Counts, subject_of}
 use Rattle.hm_key.specs.Element.{pfs_of}
 use Rattle.hm_key.specs.Versions.{HaveOwnKeys, IsBelow}
 use Rattle.hm_cursor.specs.Write.{AreUpTo as AreWrittenTo}
@@ -18,10 +18,11 @@ use Rattle.hm_model.specs.After.{of_pfs}
 use Rattle.hm_model.specs.Call.{Call, own_id}
 use Rattle.hm_model.specs.Change.{changed_pfs}
 use Rattle.hm_model.specs.Laws.{adds_pfs}
-use Rattle.hm_model.specs.Volume.{Master, PseudoFileSystem, Volume, add_version, as_of, at, system_of}
+use Rattle.hm_model.specs.Volume.{Master, Nowhere, PseudoFileSystem, Slave, Volume, add_version, as_of, at, shown_id, system_of}
 use Rattle.hm_model.proofs.DueLemmas.{of_test}
 use Rattle.hm_model.proofs.GrowthLemmas.{KeepsNumber, as_of-grown}
 use Rattle.hm_model.proofs.VersionLemmas.{as_of-push}
+use Rattle.hm_records.specs.Follows.{Follows}
 use Rattle.hm_records.specs.KeysFit.{KeysFit}
 use Rattle.hm_records.specs.Payload.{HasGrammar, IsPayload, SpellsEntry, SpellsInode, SpellsPfs}
 use Rattle.hm_records.specs.PfsRecord.{pfs_bytes}
@@ -35,9 +36,10 @@ use Rattle.hm_volume.specs.Records.{AreOfSystems, HasRecord, HaveRecords, IsReco
 use Rattle.hm_volume.specs.Shown.{ShowsAs}
 use Rattle.hm_calls.specs.Changes.{ChangesTree, tree_now}
 use Rattle.hm_calls.specs.Writes.{IsNewIn}
-use Rattle.hm_image.specs.StandFor.{AreAtMost, AreBegun, AreUpTo, HasIds, HasMasterIds, HasSlaveIds, HasViews, StandFor}
+use Rattle.hm_image.specs.StandFor.{AreAtMost, AreBegun, AreUpTo, HasIds, HasMasterIds, HasSlaveIds, HasViews, IsUnfed, StandFor}
+use Rattle.hm_image.proofs.FollowLemmas.{follows_where, of_place}
 use Rattle.hm_step.specs.Step.{after_call, drawn}
-use Rattle.hm_step.proofs.NextLemmas.{slave_later, system_at, versions_later, view_next}
+use Rattle.hm_step.proofs.NextLemmas.{follows_next, slave_later, system_at, versions_later, view_next}
 use Rattle.hm_step.proofs.NumberLemmas.{changed_numbers, number_is_new}
 use Rattle.hm_step.proofs.SystemLemmas.{all_after, changed_one, found_beside, found_here, new_tree, on_each, own_after, still_there}
 
@@ -105,6 +107,9 @@ module _ (call : Call) (es es' : List FullElement) (stand : StandFor es call.vol
     new_view : (t : ℕ) → id ≤ t → IsViewOf es' pfs t (new_tree call)
     new_view t late = changes.tree (number_is_new call tree few) t late
 
+    new_follows : (t : ℕ) → Follows pfs t es → Follows pfs t es'
+    new_follows = changes.follows (number_is_new call tree few) pfs
+
   -- ---- what stays
 
   past_view : (other t : ℕ) (shown : FileTree) → t < id → IsViewOf es other t shown → IsViewOf es' other t shown
@@ -113,6 +118,10 @@ module _ (call : Call) (es es' : List FullElement) (stand : StandFor es call.vol
   other_view : (other t : ℕ) (shown : FileTree) → id ≤ t → other ≢ pfs → IsViewOf es other t shown → IsViewOf es' other t shown
   other_view other t shown late differ view =
       (changes.others t other shown late differ (record { settled = settled es t stand.keys; view = view })).view
+
+  other_follows : (other t : ℕ) → other ≢ pfs → Follows other t es → Follows other t es'
+  other_follows other t differ = follows_where other t es es'
+      (λ x has of. (changes.elsewhere x (λ is. differ (sym (of_place other (subject_of x.key) of) ∙ is))).0 has)
 
   record_kept : (other : ℕ) (r : PfsRecord) → HasRecord es other r → HasRecord es' other r
   record_kept other r has = record { ranges = has.ranges; there = (changes.records other (pfs_bytes r)).1 has.there }
@@ -214,6 +223,22 @@ module _ (call : Call) (es es' : List FullElement) (stand : StandFor es call.vol
   begun_here : (s : PseudoFileSystem) → system_of volume pfs ≡ Some s → AreBegun (newer s)
   begun_here s is = All-push (λ (v : ℕ × FileTree). 1 ≤ v.0) s.versions (id, new_tree call) (stand.begun pfs s is) (omega arith)
 
+  -- a slave into which nothing came is not the master that changed
+  unfed_beside : (other : ℕ) (s : PseudoFileSystem) → other ≢ pfs → system_of volume other ≡ Some s → s.role ≡ Slave → s.origin ≡ Nowhere
+      → IsUnfed es' other s
+  unfed_beside other s differ is slave nowhere =
+      let old : IsUnfed es other s = stand.sourceless other s is slave nowhere in
+      record {
+        unsynced = old.unsynced;
+        alone = λ x has of_pfs. old.alone x ((changes.elsewhere x (λ is. differ (sym of_pfs ∙ is))).0 has) of_pfs;
+      }
+
+  unfed_here : (s : PseudoFileSystem) → system_of volume pfs ≡ Some s → (newer s).role ≡ Slave → (newer s).origin ≡ Nowhere → IsUnfed es' pfs (newer s)
+  unfed_here s is slave nowhere =
+      let same : s ≡ one = cc in
+      let role : s.role ≡ Master = ap (λ (x : PseudoFileSystem). x.role) same ∙ master in
+      absurd (let both : Slave ≡ Master = sym slave ∙ role in cc)
+
   -- ---- the views
 
   views_beside : (other : ℕ) (s : PseudoFileSystem) → other ≢ pfs → system_of volume other ≡ Some s → s.clear ≡ true
@@ -230,6 +255,7 @@ module _ (call : Call) (es es' : List FullElement) (stand : StandFor es call.vol
               | inl early ↦ past_view other t (as_of t no_tree s.versions) early before
               | inr late ↦ other_view other t (as_of t no_tree s.versions) late differ before
             ]);
+        follows = other_follows other (shown_id id s) differ (follows_next es volume stand other s is old);
       }
 
   views_here : (s : PseudoFileSystem) → system_of volume pfs ≡ Some s → s.clear ≡ true
@@ -255,6 +281,7 @@ module _ (call : Call) (es es' : List FullElement) (stand : StandFor es call.vol
                   subst (λ (shown : FileTree). IsViewOf es' pfs t shown)
                   (sym (as_of-push t no_tree s.versions id (new_tree call) late)) (new_view certain t late)
             ]);
+        follows = new_follows certain (shown_id id s) (follows_next es volume stand pfs s is old);
       }
 
   pub stand_newer : call.volume.last < GREATEST_ID → call.hash ≡ name_hash → HaveOwnKeys es' → IsBelow (2 ^ 64) es' → StandFor es' after
@@ -270,6 +297,7 @@ module _ (call : Call) (es es' : List FullElement) (stand : StandFor es call.vol
     ids = on_each volume pfs newer newer_keeps (HasIds es' id) ids_beside ids_here;
     begun = on_each volume pfs newer newer_keeps (λ other s. AreBegun s) (λ other s differ is. stand.begun other s is) begun_here;
     views = on_each volume pfs newer newer_keeps (λ other s. s.clear ≡ true → HasViews es' after other s) views_beside views_here;
+    sourceless = on_each volume pfs newer newer_keeps (λ other s. s.role ≡ Slave → s.origin ≡ Nowhere → IsUnfed es' other s) unfed_beside unfed_here;
   }
 
   -- a call that adds no PFS does no more

@@ -15,7 +15,7 @@ use Rattle.hm_retain.specs.Retention.{IsRetention}
 use Rattle.hm_retain.proofs.SetLemmas.{kept_from}
 use Rattle.hm_model.specs.After.{of_pfs, present_only, retaining}
 use Rattle.hm_model.specs.Cut.{cut, greatest, pruned, single, within}
-use Rattle.hm_model.specs.Volume.{Master, PseudoFileSystem, Role, Slave, Volume, as_of, at, open_end, shown_id, system_of}
+use Rattle.hm_model.specs.Volume.{Master, Nowhere, PseudoFileSystem, Role, Slave, Volume, as_of, at, open_end, shown_id, system_of}
 use Rattle.hm_model.proofs.EffectLemmas.{by_role}
 use Rattle.hm_model.proofs.GrowthLemmas.{KeepsNumber}
 use Rattle.hm_model.proofs.IntervalLemmas.{IsAmong, Keeps-append, Keeps-maximal, Keeps-single, Keeps-within}
@@ -29,13 +29,13 @@ use Rattle.hm_records.proofs.MemberLemmas.{All-from_has}
 use Rattle.hm_volume.specs.Records.{AreOfSystems, HasRecord, HaveRecords, IsRecordFor, is_master}
 use Rattle.hm_volume.proofs.RecordLemmas.{system_some}
 use Rattle.hm_pfs.specs.Records.{SetsRecord}
-use Rattle.hm_image.specs.StandFor.{AreAtMost, AreBegun, HasIds, HasViews, OnEach, StandFor}
+use Rattle.hm_image.specs.StandFor.{AreAtMost, AreBegun, HasIds, HasViews, IsUnfed, OnEach, StandFor}
 use Rattle.hm_step.specs.Cut.{IsCutTo, SetsRecordBy}
-use Rattle.hm_step.specs.Pruned.{FollowIn, IsEnough, KeepsEnough, StandAfter}
+use Rattle.hm_step.specs.Pruned.{IsEnough, StandAfter, StillKeeps}
 use Rattle.hm_step.proofs.JobLemmas.{enough_less, system_for}
 use Rattle.hm_step.proofs.KnownLemmas.{record_at}
 use Rattle.hm_step.proofs.NextLemmas.{role_is, shown_of_master, shown_of_slave, system_at}
-use Rattle.hm_step.proofs.RecordLemmas.{other_record, set_fit, set_follows, set_keys, set_names, set_of, set_payloads, set_record, set_up_to, set_view}
+use Rattle.hm_step.proofs.RecordLemmas.{other_record, set_fit, set_follows, set_keys, set_names, set_of, set_payloads, set_record, set_unfed, set_up_to, set_view}
 use Rattle.hm_step.proofs.SystemLemmas.{all_after, found_beside, found_here, on_each, own_after, still_there}
 
 module _ (es es' : List FullElement) (volume : Volume) (pfs : ℕ) (change : PseudoFileSystem → PseudoFileSystem) (keeps : KeepsNumber change)
@@ -170,8 +170,9 @@ module _ (es es' : List FullElement) (volume : Volume) (pfs : ℕ) (change : Pse
       }
 
   views_of : (other : ℕ) (s s' : PseudoFileSystem) → system_of volume other ≡ Some s → system_of after other ≡ Some s' → s'.versions ≡ s.versions
-      → ((t : ℕ) → Keeps s'.retention t → Keeps s.retention t) → HasViews es volume other s → HasViews es' after other s'
-  views_of other s s' is is' same fewer old = record {
+      → shown_id volume.last s' ≡ shown_id volume.last s → ((t : ℕ) → Keeps s'.retention t → Keeps s.retention t) → HasViews es volume other s
+      → HasViews es' after other s'
+  views_of other s s' is is' same shown fewer old = record {
     numbered = subst (All (λ (v : ℕ × FileTree). AreAtMost v.0 v.1)) (sym same) old.numbered;
     views = λ t le keeps.
         let before : at volume other t ≡ as_of t no_tree s.versions = rw is refl in
@@ -179,15 +180,25 @@ module _ (es es' : List FullElement) (volume : Volume) (pfs : ℕ) (change : Pse
         let tree : at volume other t ≡ at after other t = before ∙ (ap (as_of t no_tree) (sym same) ∙ sym later) in
         subst (λ (shown : FileTree). IsViewOf es' other t shown) tree
         (set_view pfs (pfs_bytes now) es es' sets t other (at volume other t) stand.keys (old.views t le (fewer t keeps)));
+    follows = subst (λ (t : ℕ). Follows other t es') (sym shown)
+        (set_follows pfs (pfs_bytes now) es es' sets other (shown_id volume.last s) old.follows);
   }
 
   views : OnEach after (λ other s. s.clear ≡ true → HasViews es' after other s)
   views =
       on_each volume pfs change keeps (λ other s. s.clear ≡ true → HasViews es' after other s)
       (λ other s differ is clear.
-      views_of other s s is (found_beside volume pfs change keeps other differ ∙ is) refl (λ t keeps. keeps) (stand.views other s is clear))
+      views_of other s s is (found_beside volume pfs change keeps other differ ∙ is) refl refl (λ t keeps. keeps) (stand.views other s is clear))
       (λ s is. subst (λ (x : PseudoFileSystem). x.clear ≡ true → HasViews es' after pfs x) (sym (one_alone s is)) (λ clear.
-      views_of pfs one (retaining kept one) by_cut.there found_cut refl cuts.fewer (stand.views pfs one by_cut.there clear)))
+      views_of pfs one (retaining kept one) by_cut.there found_cut refl refl cuts.fewer (stand.views pfs one by_cut.there clear)))
+
+  unfed : (other : ℕ) (s : PseudoFileSystem) → IsUnfed es other s → IsUnfed es' other s
+  unfed = set_unfed pfs (pfs_bytes now) es es' sets
+
+  unfed_here : one.role ≡ Slave → one.origin ≡ Nowhere → IsUnfed es' pfs (retaining kept one)
+  unfed_here slave none =
+      let old : IsUnfed es' pfs one = unfed pfs one (stand.sourceless pfs one by_cut.there slave none) in
+      record { unsynced = old.unsynced; alone = old.alone }
 
   stand_cut : StandFor es' after
   stand_cut = record {
@@ -202,18 +213,12 @@ module _ (es es' : List FullElement) (volume : Volume) (pfs : ℕ) (change : Pse
     ids = on_cut (HasIds es' volume.last) ids_beside ids_here;
     begun = on_cut (λ other s. AreBegun s) stand.begun (stand.begun pfs one by_cut.there);
     views = views;
+    sourceless = on_cut (λ other s. s.role ≡ Slave → s.origin ≡ Nowhere → IsUnfed es' other s)
+        (λ other s is slave none. unfed other s (stand.sourceless other s is slave none)) unfed_here;
   }
 
-  follow_cut : FollowIn es volume → FollowIn es' after
-  follow_cut follow = on_cut (λ other s. s.clear ≡ true → Follows other (shown_id volume.last s) es')
-      (λ other s is clear. kept_on other (shown_id volume.last s) (follow other s is clear))
-      (λ clear. kept_on pfs (shown_id volume.last one) (follow pfs one by_cut.there clear))
-    where
-      kept_on : (other t : ℕ) → Follows other t es → Follows other t es'
-      kept_on other t = set_follows pfs (pfs_bytes now) es es' sets other t
-
   -- the PFS keeps no more than before
-  jobs_cut : (told : ℕ → Option (List (ℕ × ℕ))) → KeepsEnough told volume → KeepsEnough told after
+  jobs_cut : StillKeeps volume after
   jobs_cut told enough = record {
     within = on_cut (λ other s. IsEnough (told other) s.retention) enough.within
         (enough_less (told pfs) one.retention kept cuts.fewer (enough.within pfs one by_cut.there));
@@ -221,8 +226,8 @@ module _ (es es' : List FullElement) (volume : Volume) (pfs : ℕ) (change : Pse
         system_for volume after other (told other) (λ s is. still_there volume pfs change keeps other s is) (enough.of_systems other);
   }
 
-  pub after_cut : StandAfter es volume es' after
-  after_cut = record { stand = stand_cut; follow = follow_cut; jobs = jobs_cut }
+  pub after_cut : StandAfter volume es' after
+  after_cut = record { stand = stand_cut; jobs = jobs_cut }
 
 -- ---- what the prunes cut
 
@@ -359,17 +364,17 @@ pruning ids s = retaining (pruned s.retention ids) s
 
 module _ (es es' : List FullElement) (volume : Volume) (pfs : ℕ) (one : PseudoFileSystem) (stand : StandFor es volume) where
   pub cut_stands : (kept : List (ℕ × ℕ)) → SetsRecordBy volume pfs one (retaining kept) es es' → IsCutTo volume.last one kept
-      → StandAfter es volume es' (of_pfs volume pfs (retaining kept))
+      → StandAfter volume es' (of_pfs volume pfs (retaining kept))
   cut_stands kept sets cuts = after_cut es es' volume pfs (retaining kept) (λ s. refl) one kept stand sets refl cuts
 
   pub prune_stands : (ids : List ℕ) → SetsRecordBy volume pfs one (pruning ids) es es' → All (λ id. id ≤ shown_id volume.last one) ids
-      → length (pruned one.retention ids) ≤ MOST_INTERVALS → StandAfter es volume es' (of_pfs volume pfs (pruning ids))
+      → length (pruned one.retention ids) ≤ MOST_INTERVALS → StandAfter volume es' (of_pfs volume pfs (pruning ids))
   prune_stands ids sets early few =
       after_cut es es' volume pfs (pruning ids) (λ s. refl) one (pruned one.retention ids) stand sets refl
       (prune_cuts es volume pfs one stand sets.there ids early few)
 
   pub present_stands : SetsRecordBy volume pfs one (present_only volume.last) es es'
-      → StandAfter es volume es' (of_pfs volume pfs (present_only volume.last))
+      → StandAfter volume es' (of_pfs volume pfs (present_only volume.last))
   present_stands sets = elim (role_is one.role) [
     | inl master ↦
         after_cut es es' volume pfs (present_only volume.last) (present_number volume.last) one (cut one.retention [] volume.last) stand sets

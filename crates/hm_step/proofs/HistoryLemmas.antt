@@ -18,14 +18,16 @@ use Rattle.hm_volume.specs.Shown.{ShowsAs}
 use Rattle.hm_step.specs.Served.{IsServed}
 use Rattle.hm_image.specs.StandFor.{StandFor}
 use Rattle.hm_calls.specs.Replies.{is_change}
+use Rattle.hm_step.specs.Pruned.{StillKeeps}
 use Rattle.hm_step.specs.Step.{AreHeld, IsFailure, IsNext, after_call}
 use Rattle.hm_step.proofs.GivenLemmas.{IsPlain}
 use Rattle.hm_step.proofs.CausedLemmas.{possible_is}
 use Rattle.hm_step.proofs.EventLemmas.{served_no_opening, state_after as after_is}
+use Rattle.hm_step.proofs.JobLemmas.{keeps_after}
 use Rattle.hm_step.proofs.NextLemmas.{stand_next}
 use Rattle.hm_step.proofs.ReplyLemmas.{reply_is_allowed}
 use Rattle.hm_step.proofs.SeenLemmas.{shows_as}
-use Rattle.hm_step.proofs.StepLemmas.{stand_after}
+use Rattle.hm_step.proofs.StepLemmas.{served_add_none, stand_after}
 
 -- a plain reply tells no end id
 pub plain_tells : (reply : Reply) → IsPlain reply → passed_ids reply ≡ None
@@ -43,13 +45,20 @@ module _ (run : Setting) (before : List Event) (event : Event) (room : ℕ → �
   shows : ShowsAs es call.volume call.view
   shows = shows_as es state.volume event.substitutes next.stand next.given
 
+  volume_is : (state_after run (before ++ event ∷ [])).volume ≡ after_call (is_change call.command event.entry.reply) call
+  volume_is =
+      let tells = plain_tells event.entry.reply (possible_is call next.served next.left room free event.entry.reply served.due).1 in
+      ap (λ (s : State). s.volume)
+      (after_events-push (opening_state run.opening run.foreigners) before event ∙ after_is state event next.served tells next.own)
+
+  pub keeps : StillKeeps state.volume (state_after run (before ++ event ∷ [])).volume
+  keeps =
+      subst (λ (volume : Volume). StillKeeps state.volume volume) (sym volume_is)
+      (keeps_after (is_change call.command event.entry.reply) call (served_add_none call.command next.served))
+
   pub stands : AreHeld es' → StandFor es' (state_after run (before ++ event ∷ [])).volume
   stands held =
-      let tells = plain_tells event.entry.reply (possible_is call next.served next.left room free event.entry.reply served.due).1 in
-      let same : (state_after run (before ++ event ∷ [])).volume ≡ after_call (is_change call.command event.entry.reply) call =
-      ap (λ (s : State). s.volume)
-      (after_events-push (opening_state run.opening run.foreigners) before event ∙ after_is state event next.served tells next.own) in
-      subst (λ (volume : Volume). StandFor es' volume) (sym same)
+      subst (λ (volume : Volume). StandFor es' volume) (sym volume_is)
       (stand_after call room free es es' event.entry.reply next.stand shows next.served next.reads refl next.left served held.keys held.fit)
 
   reply_is : IsReply (floor_after run before) call event.entry.reply
@@ -77,20 +86,27 @@ failure_refuses reply (inr is) = (ap is_refusal is, ap passed_ids is)
 
 module _ (run : Setting) (before : List Event) (event : Event) (free : ℕ) (es : List FullElement) (next : IsNext run before event free es)
     (fails : IsFailure event.entry.reply) where
-  pub stands_failed : StandFor es (state_after run (before ++ event ∷ [])).volume
-  stands_failed =
+  failed_volume : (state_after run (before ++ event ∷ [])).volume ≡ after_call false (call_after run before event)
+  failed_volume =
       let failing_call : Call = call_after run before event in
       let refuses = failure_refuses event.entry.reply fails in
       let unchanged : is_change event.entry.call event.entry.reply ≡ false = no_change (is_tree_call event.entry.call) refuses.0 in
-      let same : (state_after run (before ++ event ∷ [])).volume ≡ after_call false failing_call =
       ap (λ (s : State). s.volume)
       (after_events-push (opening_state run.opening run.foreigners) before event ∙ after_is (state_after run before) event next.served refuses.1 next.own)
-      ∙ ap (λ (test : Bool). after_call test failing_call) unchanged in
-      subst (λ (volume : Volume). StandFor es volume) (sym same) (stand_next es (state_after run before).volume next.stand next.left)
+      ∙ ap (λ (test : Bool). after_call test failing_call) unchanged
     where
       no_change : (tree : Bool) {refused : Bool} → refused ≡ true → (tree && (if refused then false else true)) ≡ false
       no_change true is = rw is refl
       no_change false is = refl
+
+  pub keeps_failed : StillKeeps (state_after run before).volume (state_after run (before ++ event ∷ [])).volume
+  keeps_failed =
+      subst (λ (volume : Volume). StillKeeps (state_after run before).volume volume) (sym failed_volume)
+      (keeps_after false (call_after run before event) (served_add_none event.entry.call next.served))
+
+  pub stands_failed : StandFor es (state_after run (before ++ event ∷ [])).volume
+  stands_failed =
+      subst (λ (volume : Volume). StandFor es volume) (sym failed_volume) (stand_next es (state_after run before).volume next.stand next.left)
 
   pub allowed_failed : IsAllowed run before event
   allowed_failed = by (named_opening event.entry.call) (served_no_opening event.entry.call next.served) where

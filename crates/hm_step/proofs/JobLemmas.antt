@@ -1,10 +1,16 @@
 -- What a job keeps is enough for a volume still, and for the one with which it begins.
-use Rattle.std.proofs.Common.{◌≡◌, ◌≢◌, ℕ, List, [], sym, subst, inl, inr}
+use Rattle.std.proofs.Common.{◌≡◌, ◌≢◌, ℕ, Bool, true, false, List, [], refl, sym, subst, inl, inr}
 use Rattle.std.specs.Prelude.{Option, None, Some}
 use Rattle.hm_types.specs.Intervals.{Keeps}
-use Rattle.hm_model.specs.Volume.{PseudoFileSystem, Volume, system_of}
+use Rattle.hm_model.specs.After.{of_pfs}
+use Rattle.hm_model.specs.Call.{Call, own_id}
+use Rattle.hm_model.specs.Change.{changed_pfs}
+use Rattle.hm_model.specs.Laws.{adds_pfs}
+use Rattle.hm_model.specs.Volume.{PseudoFileSystem, Volume, add_version, system_of}
 use Rattle.hm_model.proofs.GrowthLemmas.{same_or_not}
-use Rattle.hm_step.specs.Pruned.{HasSystemFor, IsEnough, KeepsEnough}
+use Rattle.hm_step.specs.Pruned.{HasSystemFor, IsEnough, KeepsEnough, StillKeeps}
+use Rattle.hm_step.specs.Step.{after_call, drawn}
+use Rattle.hm_step.proofs.SystemLemmas.{changed_one, new_tree, on_each, still_there}
 
 -- for fewer ids
 pub enough_less : (told : Option (List (ℕ × ℕ))) (old new : List (ℕ × ℕ)) → ((t : ℕ) → Keeps new t → Keeps old t) → IsEnough told old → IsEnough told new
@@ -17,6 +23,27 @@ pub system_for : (volume after : Volume) (pfs : ℕ) (told : Option (List (ℕ �
     → HasSystemFor volume pfs told → HasSystemFor after pfs told
 system_for volume after pfs None still was = tt
 system_for volume after pfs (Some ids) still was = λ t keeps. let (s, is) = was t keeps in still s is
+
+-- ---- after a call
+
+-- a call that adds no PFS leaves every retention
+pub keeps_after : (test : Bool) (call : Call) → adds_pfs call.command ≡ false → StillKeeps call.volume (after_call test call)
+keeps_after false call adds kept enough = record { within = enough.within; of_systems = enough.of_systems }
+keeps_after true call adds kept enough =
+    subst (λ (v : Volume). KeepsEnough kept (drawn (own_id call) v)) (sym (changed_one call adds)) (record {
+      within = on_each call.volume pfs newer (λ s. refl) (λ other s. IsEnough (kept other) s.retention) (λ other s differ is. enough.within other s is)
+          (λ s is. enough.within pfs s is);
+      of_systems = λ other. system_for call.volume (drawn (own_id call) (of_pfs call.volume pfs newer)) other (kept other)
+          (λ s is. still_there call.volume pfs newer (λ u. refl) other s is) (enough.of_systems other);
+    })
+  where
+    pfs : ℕ
+    pfs = changed_pfs call
+
+    newer : PseudoFileSystem → PseudoFileSystem
+    newer = add_version (own_id call) (new_tree call)
+
+-- ---- as it begins
 
 module _ (volume : Volume) (pfs : ℕ) (kept : ℕ → Option (List (ℕ × ℕ))) (none : (other : ℕ) → other ≢ pfs → kept other ≡ None) where
   pub enough_kept : (s : PseudoFileSystem) → system_of volume pfs ≡ Some s → kept pfs ≡ Some s.retention → KeepsEnough kept volume

@@ -20,7 +20,6 @@ pub mod ObjectValueLemmas
 pub mod TreeValueLemmas
 pub mod SubstituteLemmas
 pub mod PrunedLemmas
-pub mod FollowLemmas
 pub mod JobLemmas
 pub mod RecordLemmas
 pub mod CutLemmas

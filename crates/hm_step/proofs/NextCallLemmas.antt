@@ -22,7 +22,7 @@ use Rattle.hm_records.proofs.CountsLemmas.{own_keys-sorted}
 use Rattle.hm_step.specs.Next.{Asked, GoesOn, IsDueOver, IsEventOf, IsStep}
 use Rattle.hm_step.specs.Served.{IsServed}
 use Rattle.hm_step.specs.Step.{IsNext}
-use Rattle.hm_step.proofs.HistoryLemmas.{allowed, stands}
+use Rattle.hm_step.proofs.HistoryLemmas.{allowed, keeps, stands}
 use Rattle.hm_step.proofs.LegalLemmas.{may_follow}
 use Rattle.hm_step.proofs.SeenLemmas.{shows_as}
 
@@ -60,6 +60,7 @@ module _ (asked : Asked) (reply : Reply) (room : ℕ → ℕ) (free : ℕ) (run 
         fit = fit;
       }),
     );
+    jobs = keeps run before event room free (fulls was) (fulls (es, xs)) next served;
     allowed = allowed run before event room free (fulls was) (fulls (es, xs)) next served;
     follows = may_follow run before event free (fulls was) next room (fulls (es, xs)) served;
   } where

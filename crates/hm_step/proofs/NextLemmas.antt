@@ -11,11 +11,14 @@ use Rattle.hm_types.specs.declared.limits.TheConstants.{GREATEST_ID}
 use Rattle.hm_key.specs.Element.{pfs_of}
 use Rattle.hm_model.specs.Volume.{Master, PseudoFileSystem, Role, Slave, Volume, as_of, at, shown_id, system_of}
 use Rattle.hm_model.proofs.VersionLemmas.{as_of-later}
+use Rattle.hm_records.specs.Follows.{Follows}
 use Rattle.hm_records.specs.View.{IsViewOf}
 use Rattle.hm_volume.specs.Records.{AreOfSystems}
 use Rattle.hm_calls.specs.Known.{AreBelow}
 use Rattle.hm_calls.proofs.EffectLemmas.{view_then}
 use Rattle.hm_image.specs.StandFor.{AreUpTo, HasIds, HasMasterIds, HasSlaveIds, HasViews, StandFor}
+use Rattle.hm_image.proofs.FollowLemmas.{follows_later}
+use Rattle.hm_step.specs.Pruned.{StandAfter}
 use Rattle.hm_step.specs.Step.{drawn}
 
 -- a master is no slave
@@ -111,6 +114,18 @@ module _ (es : List FullElement) (volume : Volume) (stand : StandFor es volume) 
     | inr slave ↦ omega (arith, ((stand.ids pfs s is).slave slave).no_later t keeps, shown_of_slave volume.last s slave)
   ]
 
+  -- what follows up to the id as of which a PFS is shown does so with the next id drawn: by that a master made nothing more
+  pub follows_next : (pfs : ℕ) (s : PseudoFileSystem) → system_of volume pfs ≡ Some s → HasViews es volume pfs s
+      → Follows pfs (shown_id (volume.last + 1) s) es
+  follows_next pfs s is has = elim (role_is s.role) [
+    | inl master ↦
+        let made = ((stand.ids pfs s is).master master).elements.made in
+        follows_later pfs (shown_id volume.last s) (shown_id (volume.last + 1) s) es
+        (λ x there here. omega (arith, made x there here, shown_of_master volume.last s master)) has.follows
+    | inr slave ↦
+        subst (λ (t : ℕ). Follows pfs t es) (shown_of_slave volume.last s slave ∙ sym (shown_of_slave (volume.last + 1) s slave)) has.follows
+  ]
+
   ids_next : (pfs : ℕ) (s : PseudoFileSystem) → HasIds es volume.last pfs s → HasIds es (volume.last + 1) pfs s
   ids_next pfs s ids = record {
     master = λ role. record {
@@ -139,8 +154,16 @@ module _ (es : List FullElement) (volume : Volume) (stand : StandFor es volume) 
           numbered = has.numbered;
           views = λ t le keeps.
               subst (λ (tree : FileTree). IsViewOf es pfs t tree) (sym (at_here pfs s is t)) (view_next pfs s is has t le keeps);
+          follows = follows_next pfs s is has;
         };
+    sourceless = stand.sourceless;
   } where
     at_here : (pfs : ℕ) (s : PseudoFileSystem) → system_of volume pfs ≡ Some s → (t : ℕ)
         → at (drawn (volume.last + 1) volume) pfs t ≡ as_of t no_tree s.versions
     at_here pfs s is t = rw is refl
+
+  pub after_next : volume.last < GREATEST_ID → StandAfter volume es (drawn (volume.last + 1) volume)
+  after_next left = record {
+    stand = stand_next left;
+    jobs = λ kept enough. record { within = enough.within; of_systems = enough.of_systems };
+  }

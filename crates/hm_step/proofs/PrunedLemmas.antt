@@ -21,8 +21,8 @@ use Rattle.hm_records.proofs.MeetLemmas.{follows_versions}
 use Rattle.hm_records.proofs.MemberLemmas.{All-from_has, has_cases, has_head, has_tail}
 use Rattle.hm_records.proofs.ViewLemmas.{view_kept}
 use Rattle.hm_volume.specs.Records.{HasRecord, HaveRecords, IsRecordFor}
-use Rattle.hm_image.specs.StandFor.{HasIds, StandFor}
-use Rattle.hm_step.specs.Pruned.{FollowIn, KeepsWithin}
+use Rattle.hm_image.specs.StandFor.{HasIds, HasViews, IsUnfed, StandFor}
+use Rattle.hm_step.specs.Pruned.{KeepsWithin}
 use Rattle.hm_step.proofs.NextLemmas.{kept_shown}
 
 -- an element that is the head of a list stands in it
@@ -187,8 +187,20 @@ module _ (kept : ℕ → Option (List (ℕ × ℕ))) (es es' : List FullElement)
     slave = ids.slave;
   }
 
-  pub stand_pruned : FollowIn es volume → StandFor es' volume
-  stand_pruned follow = record {
+  views_left : (pfs : ℕ) (s : PseudoFileSystem) → system_of volume pfs ≡ Some s → HasViews es volume pfs s → HasViews es' volume pfs s
+  views_left pfs s found was = record {
+    numbered = was.numbered;
+    views = λ t early keeps.
+        view_left pfs s t found keeps (shown_id volume.last s) was.follows (kept_shown es volume stand pfs s found t early keeps)
+        (at volume pfs t) (was.views t early keeps);
+    follows = follows_still pfs (shown_id volume.last s) es es' left was.follows;
+  }
+
+  unfed_left : (pfs : ℕ) (s : PseudoFileSystem) → IsUnfed es pfs s → IsUnfed es' pfs s
+  unfed_left pfs s was = record { unsynced = was.unsynced; alone = λ e has. was.alone e (left e has) }
+
+  pub stand_pruned : StandFor es' volume
+  stand_pruned = record {
     keys = λ x y has has'. stand.keys x y (left x has) (left y has');
     fit = record { made = λ x has. stand.fit.made x (left x has); closed = λ x has. stand.fit.closed x (left x has) };
     payloads = left_all IsPayload stand.payloads;
@@ -199,13 +211,6 @@ module _ (kept : ℕ → Option (List (ℕ × ℕ))) (es es' : List FullElement)
     of_systems = left_all OfSystem stand.of_systems;
     ids = λ pfs s found. ids_left pfs s (stand.ids pfs s found);
     begun = stand.begun;
-    views = λ pfs s found clear. let was = stand.views pfs s found clear in record {
-      numbered = was.numbered;
-      views = λ t early keeps.
-          view_left pfs s t found keeps (shown_id volume.last s) (follow pfs s found clear) (kept_shown es volume stand pfs s found t early keeps)
-          (at volume pfs t) (was.views t early keeps);
-    };
+    views = λ pfs s found clear. views_left pfs s found (stand.views pfs s found clear);
+    sourceless = λ pfs s found slave none. unfed_left pfs s (stand.sourceless pfs s found slave none);
   }
-
-  pub follow_pruned : FollowIn es volume → FollowIn es' volume
-  follow_pruned follow pfs s found clear = follows_still pfs (shown_id volume.last s) es es' left (follow pfs s found clear)

@@ -18,8 +18,9 @@ use Rattle.hm_records.specs.declared.pfs_record.PfsRecord.{PfsRecord}
 use Rattle.hm_records.proofs.CountsLemmas.{record_counts, settled}
 use Rattle.hm_records.proofs.MemberLemmas.{All-from_has}
 use Rattle.hm_pfs.specs.Records.{Becomes, IsRecordElement, SetsRecord, rewritten, stays}
-use Rattle.hm_image.specs.StandFor.{AreUpTo}
-use Rattle.hm_step.proofs.FollowLemmas.{follows_where, of_no_record}
+use Rattle.hm_image.specs.StandFor.{AreUpTo, IsUnfed}
+use Rattle.hm_image.proofs.FollowLemmas.{follows_where, of_no_record}
+use Rattle.hm_model.specs.Volume.{PseudoFileSystem}
 
 -- the type of a record's element
 record_type : (es : List FullElement) (pfs : ℕ) (e : FullElement) → IsRecordElement es pfs e → e.key.rec_type ≡ (record_subject pfs).rec_type
@@ -78,6 +79,15 @@ module _ (pfs : ℕ) (bytes : List ℕ) (es : List FullElement) where
       closed = λ y has of_pfs.
           let (x, there, key, delete) = was y has in
           omega (arith, delete, old.closed x there (ap (λ (k : Key). pfs_of k.localization) (sym key) ∙ of_pfs));
+    }
+
+    -- a slave into which nothing came is so still
+    pub set_unfed : (other : ℕ) (s : PseudoFileSystem) → IsUnfed es other s → IsUnfed es' other s
+    set_unfed other s old = record {
+      unsynced = old.unsynced;
+      alone = λ y has of_pfs.
+          let (x, there, key, delete) = was y has in
+          ap subject_of key ∙ old.alone x there (ap (λ (k : Key). pfs_of k.localization) (sym key) ∙ of_pfs);
     }
 
     -- what is no record was there

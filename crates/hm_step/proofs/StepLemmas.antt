@@ -24,7 +24,7 @@ use Rattle.hm_step.proofs.NextLemmas.{stand_next}
 use Rattle.hm_step.proofs.ReplyLemmas.{none_refuses}
 
 -- a call that is answered adds no PFS
-served_add_none : (command : Command) → IsOnTrees command → adds_pfs command ≡ false
+pub served_add_none : (command : Command) → IsOnTrees command → adds_pfs command ≡ false
 served_add_none (Mkdir path) of_trees = refl
 served_add_none (Touch path) of_trees = refl
 served_add_none (Symlink target path) of_trees = refl

@@ -16,6 +16,7 @@ use Rattle.hm_model.specs.declared.reply.Reply.{Reply}
 use Rattle.hm_calls.specs.Call.{OnCalls}
 use Rattle.hm_calls.specs.Due.{due_over}
 use Rattle.hm_calls.specs.Replies.{Asks}
+use Rattle.hm_step.specs.Pruned.{StillKeeps}
 use Rattle.hm_step.specs.Step.{IsNext}
 
 -- A call that was asked: its command, the last id that was drawn before it, and the opening id of the mirror or upgrade
@@ -36,12 +37,13 @@ pub record IsEventOf (asked : Asked) (reply : Reply) (run : Setting) (before : L
 abbrev pub StandIfFit : Lists → Volume → Type 0
 StandIfFit lists volume = IsBelow (2 ^ 64) (fulls lists) → StandFor (fulls lists) volume
 
--- The event goes on from a history: what the store holds afterwards stands for the volume after it, and it may follow
--- the others, so that a legal history goes on legally.
+-- The event goes on from a history: what the store holds afterwards stands for the volume after it, what a job keeps is
+-- enough still, and it may follow the others, so that a legal history goes on legally.
 pub record GoesOn (run : Setting) (before : List Event) (event : Event) (es : Option (List Element))
     (xs : Option (List Extent)) : Type 0 where
   pub stands : IsSomeAnd (content_of es xs)
       (λ now. IsBalanced now.0 now.1 × StandIfFit now (state_after run (before ++ event ∷ [])).volume)
+  pub jobs : StillKeeps (state_after run before).volume (state_after run (before ++ event ∷ [])).volume
   pub follows : MayFollow run before event
   pub allowed : IsAllowed run before event
 

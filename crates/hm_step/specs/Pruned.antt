@@ -1,9 +1,9 @@
--- Elements that stand for a volume and follow one another, and what a prune may take of them.
-use Rattle.std.specs.Prelude.{◌≡◌, ◌⊎◌, ℕ, true, List, Option, Some, IfSome}
+-- Elements that stand for a volume, and what a prune may take of them.
+use Rattle.std.specs.Prelude.{◌≡◌, ◌⊎◌, ℕ, List, Option, Some, IfSome}
 use Rattle.hm_types.specs.Elements.{FullElement}
 use Rattle.hm_types.specs.Intervals.{Keeps}
-use Rattle.hm_model.specs.Volume.{PseudoFileSystem, Volume, shown_id, system_of}
-use Rattle.hm_records.specs.Follows.{Follows, IsAbove}
+use Rattle.hm_model.specs.Volume.{PseudoFileSystem, Volume, system_of}
+use Rattle.hm_records.specs.Follows.{IsAbove}
 use Rattle.hm_image.specs.StandFor.{OnEach, StandFor}
 
 -- where ids are told, each id that a retention keeps is one of them, or is above them all
@@ -24,13 +24,11 @@ pub record KeepsEnough (kept : ℕ → Option (List (ℕ × ℕ))) (volume : Vol
   pub within : KeepsWithin kept volume
   pub of_systems : (pfs : ℕ) → HasSystemFor volume pfs (kept pfs)
 
--- the elements of each PFS whose trees are certain follow one another, up to the id as of which it is shown
-abbrev pub FollowIn : List FullElement → Volume → Type 0
-FollowIn es volume = OnEach volume (λ pfs s. s.clear ≡ true → Follows pfs (shown_id volume.last s) es)
+-- what a job keeps is enough for a volume, if it was for the one before
+abbrev pub StillKeeps : Volume → Volume → Type 0
+StillKeeps volume volume' = (kept : ℕ → Option (List (ℕ × ℕ))) → KeepsEnough kept volume → KeepsEnough kept volume'
 
--- Elements stand for a volume after others stood for one: they follow one another if those did, and what a job keeps is
--- enough if it was.
-pub record StandAfter (es : List FullElement) (volume : Volume) (es' : List FullElement) (volume' : Volume) : Type 0 where
+-- elements stand for the volume that comes after one, and what a job keeps is enough for it, if it was for that one
+pub record StandAfter (volume : Volume) (es' : List FullElement) (volume' : Volume) : Type 0 where
   pub stand : StandFor es' volume'
-  pub follow : FollowIn es volume → FollowIn es' volume'
-  pub jobs : (kept : ℕ → Option (List (ℕ × ℕ))) → KeepsEnough kept volume → KeepsEnough kept volume'
+  pub jobs : StillKeeps volume volume'

@@ -29,7 +29,7 @@ ghost use Rattle.hm_calls.specs.Possible.{MayReply};
 ghost use Rattle.hm_pfs.specs.Systems.{AddsMaster, AddsSlave, IsUnusedNumber, made_record, slave_record};
 ghost use Rattle.hm_step.specs.Causes.{IsNextOf, TellsFault};
 ghost use Rattle.hm_step.specs.Cut.{IsCutTo, SetsRecordBy};
-ghost use Rattle.hm_step.specs.Pruned.{FollowIn, KeepsEnough, KeepsWithin, StandAfter};
+ghost use Rattle.hm_step.specs.Pruned.{KeepsEnough, KeepsWithin, StandAfter, StillKeeps};
 ghost use Rattle.hm_step.specs.Seen.{AreGiven};
 ghost use Rattle.hm_step.specs.Served.{IsServed};
 ghost use Rattle.hm_image.specs.StandFor.{StandFor};
@@ -72,46 +72,41 @@ pub fn sound_payloads_are_not_broken()
     ensures { (lists : Lists) (at : ℕ) → All IsPayload (fulls lists) → IsBroken lists at → ⊥ }
 {}
 
-/// Elements stand for a volume still once an id more is drawn and nothing else happens. They follow
-/// one another if they did, and what a job keeps is enough if it was.
+/// Elements stand for a volume still once an id more is drawn and nothing else happens, and what a job
+/// keeps is enough if it was.
 pub fn drawing_an_id_leaves_what_stands()
     ensures { (es : List FullElement) (volume : Volume) → StandFor es volume →
-        volume.last < GREATEST_ID → StandAfter es volume es (drawn (volume.last + 1) volume) }
+        volume.last < GREATEST_ID → StandAfter volume es (drawn (volume.last + 1) volume) }
 {}
 
 /// Elements that stand for a volume stand for it still where dead ones went, if what the volume keeps
-/// of each pseudo file system was kept in it or is above all that was. It is said of elements that
-/// follow one another where trees are certain, and so do those that are left.
+/// of each pseudo file system was kept in it or is above all that was.
 pub fn a_prune_leaves_what_stands()
-    ensures stands { (es es' : List FullElement) (volume : Volume)
-        (kept : ℕ → Option (List (ℕ × ℕ))) → StandFor es volume → FollowIn es volume →
-        LosesDead kept es es' → KeepsWithin kept volume → StandFor es' volume }
-    ensures follows { (es es' : List FullElement) (volume : Volume)
-        (kept : ℕ → Option (List (ℕ × ℕ))) → StandFor es volume → FollowIn es volume →
-        LosesDead kept es es' → KeepsWithin kept volume → FollowIn es' volume }
+    ensures { (es es' : List FullElement) (volume : Volume) (kept : ℕ → Option (List (ℕ × ℕ))) →
+        StandFor es volume → LosesDead kept es es' → KeepsWithin kept volume →
+        StandFor es' volume }
 {}
 
 /// Elements that stand for a volume stand for it still, with fewer ids to show, where the record of a
 /// pseudo file system was replaced by one that tells of a smaller retention: one with each id as of
 /// which the pseudo file system is shown from now on. Such is what a prune leaves by ids that are
-/// shown, and what is left where all but the present goes. The elements follow one another if they
-/// did, and what a job keeps is enough if it was. Where a volume has no such pseudo file system, a
-/// cut changes nothing of it.
+/// shown, and what is left where all but the present goes. What a job keeps is enough if it was. Where
+/// a volume has no such pseudo file system, a cut changes nothing of it.
 pub fn a_cut_leaves_what_stands()
     ensures cut { (es es' : List FullElement) (volume : Volume) (pfs : ℕ) (s : PseudoFileSystem)
         (kept : List (ℕ × ℕ)) → StandFor es volume →
         SetsRecordBy volume pfs s (retaining kept) es es' → IsCutTo volume.last s kept →
-        StandAfter es volume es' (of_pfs volume pfs (retaining kept)) }
+        StandAfter volume es' (of_pfs volume pfs (retaining kept)) }
     ensures pruned { (es es' : List FullElement) (volume : Volume) (pfs : ℕ) (s : PseudoFileSystem)
         (ids : List ℕ) → StandFor es volume →
         SetsRecordBy volume pfs s (λ s. retaining (pruned s.retention ids) s) es es' →
         All (λ id. id ≤ shown_id volume.last s) ids →
         length (pruned s.retention ids) ≤ MOST_INTERVALS →
-        StandAfter es volume es' (of_pfs volume pfs (λ s. retaining (pruned s.retention ids) s)) }
+        StandAfter volume es' (of_pfs volume pfs (λ s. retaining (pruned s.retention ids) s)) }
     ensures present { (es es' : List FullElement) (volume : Volume) (pfs : ℕ)
         (s : PseudoFileSystem) → StandFor es volume →
         SetsRecordBy volume pfs s (present_only volume.last) es es' →
-        StandAfter es volume es' (of_pfs volume pfs (present_only volume.last)) }
+        StandAfter volume es' (of_pfs volume pfs (present_only volume.last)) }
     ensures absent { (volume : Volume) (pfs : ℕ) (change : PseudoFileSystem → PseudoFileSystem) →
         system_of volume pfs ≡ None → of_pfs volume pfs change ≡ volume }
 {}
@@ -119,19 +114,18 @@ pub fn a_cut_leaves_what_stands()
 /// A number that a volume does not have is unused among elements that stand for it. Where a pseudo
 /// file system with that number was added by an id that is drawn, they stand for the volume with it:
 /// a new master shows the root directory from that id on and no object before, and a new slave has no
-/// sync end and no element but its record. They follow one another if they did, and what a job keeps
-/// is enough if it was.
+/// sync end and no element but its record. What a job keeps is enough if it was.
 pub fn a_new_system_stands_with_the_others()
     ensures unused { (es : List FullElement) (volume : Volume) (pfs : ℕ) → StandFor es volume →
         system_of volume pfs ≡ None → IsUnusedNumber pfs es }
     ensures master { (es es' : List FullElement) (volume : Volume) (pfs shared i : ℕ) →
         StandFor es volume → system_of volume pfs ≡ None → shared < 2 ^ 64 → 1 ≤ i →
         i ≤ volume.last → AddsMaster pfs shared i es es' →
-        StandAfter es volume es' (with_system volume (new_master pfs shared ((i, root_tree) ∷ []))) }
+        StandAfter volume es' (with_system volume (new_master pfs shared ((i, root_tree) ∷ []))) }
     ensures slave { (es es' : List FullElement) (volume : Volume) (pfs shared i : ℕ) →
         StandFor es volume → system_of volume pfs ≡ None → shared < 2 ^ 64 → i ≤ volume.last →
         AddsSlave pfs shared i es es' →
-        StandAfter es volume es' (with_system volume (new_slave pfs shared)) }
+        StandAfter volume es' (with_system volume (new_slave pfs shared)) }
     ensures alone { (es es' : List FullElement) (volume : Volume) (pfs shared i : ℕ) →
         StandFor es volume → system_of volume pfs ≡ None → AddsSlave pfs shared i es es' →
         (x : FullElement) → Contains es' x → pfs_of x.key.localization ≡ pfs →
@@ -152,12 +146,17 @@ pub fn a_prune_begins_with_enough()
 
 /// One step. Where elements stand for the volume of a history, and a call on names or on the bytes of
 /// files is answered as it is due, the elements that it leaves stand for the volume of the history
-/// with this call, and the call may follow: a legal history goes on legally.
+/// with this call, what a job keeps is enough if it was, and the call may follow: a legal history goes
+/// on legally.
 pub fn a_served_call_is_a_step()
     ensures stands { (run : Setting) (before : List Event) (event : Event) (room : ℕ → ℕ) (free : ℕ)
         (es es' : List FullElement) → IsNext run before event free es →
         IsServed (call_after run before event) room free es es' event.entry.reply → AreHeld es' →
         StandFor es' (state_after run (before ++ event ∷ [])).volume }
+    ensures jobs { (run : Setting) (before : List Event) (event : Event) (room : ℕ → ℕ) (free : ℕ)
+        (es es' : List FullElement) → IsNext run before event free es →
+        IsServed (call_after run before event) room free es es' event.entry.reply →
+        StillKeeps (state_after run before).volume (state_after run (before ++ event ∷ [])).volume }
     ensures follows { (run : Setting) (before : List Event) (event : Event) (room : ℕ → ℕ)
         (free : ℕ) (es es' : List FullElement) → IsNext run before event free es →
         IsServed (call_after run before event) room free es es' event.entry.reply →
@@ -169,13 +168,17 @@ pub fn a_served_call_is_a_step()
 {}
 
 /// Where a device failed in such a call, or memory was refused, and the elements are as they were,
-/// they stand for the volume of the history with this call, and the call may follow, if its reply
-/// tells counts of faults that were counted.
+/// they stand for the volume of the history with this call, what a job keeps is enough if it was, and
+/// the call may follow, if its reply tells counts of faults that were counted.
 pub fn a_failed_call_is_a_step()
     ensures stands { (run : Setting) (before : List Event) (event : Event) (free : ℕ)
         (es : List FullElement) → IsNext run before event free es →
         IsFailure event.entry.reply →
         StandFor es (state_after run (before ++ event ∷ [])).volume }
+    ensures jobs { (run : Setting) (before : List Event) (event : Event) (free : ℕ)
+        (es : List FullElement) → IsNext run before event free es →
+        IsFailure event.entry.reply →
+        StillKeeps (state_after run before).volume (state_after run (before ++ event ∷ [])).volume }
     ensures follows { (run : Setting) (before : List Event) (event : Event) (free : ℕ)
         (es : List FullElement) → IsNext run before event free es →
         IsFailure event.entry.reply →

@@ -1,4 +1,4 @@
-use Rattle.hm_step.proofs.FollowLemmas.{after_next}
+use Rattle.hm_step.proofs.NextLemmas.{after_next}
 use Rattle.hm_step.proofs.laws.drawing_an_id_leaves_what_stands.Goals as goal
 
 pub returns : goal.returns
