@@ -1,6 +1,6 @@
 -- What is dead, and what a prune leaves of what a store tells.
 use Rattle.std.proofs.Common.{◌≡◌, ap, ℕ, List, true, false, true≢false, Option, Some, None, refl, sym, ◌∙◌, subst, arith, inl, inr}
-use Rattle.std.specs.Prelude.{IfSome, IsSomeAnd, OnOk, OnSome, Bool, Result, Err, Ok, if◌then◌else◌, [], ◌∷◌, is_some, option_map}
+use Rattle.std.specs.Prelude.{◌+◌, ◌≤◌, length, IfSome, IsSomeAnd, OnOk, OnSome, Bool, Result, Err, Ok, if◌then◌else◌, [], ◌∷◌, is_some, option_map}
 use Rattle.std.specs.List.{AllByRecursion}
 use Rattle.std.specs.List.Sorted.{IsStrictlySortedBy}
 use Rattle.std.specs.declared.cmp.Ordering.TheVariants.{Less}
@@ -23,7 +23,7 @@ use Rattle.hm_key.proofs.ElementLemmas.{stands_same}
 use Rattle.hm_key.proofs.KeyLemmas.{key_not_before, key_total}
 use Rattle.hm_key.proofs.SweepLemmas.{marks_stay, works_balanced, works_cleared, works_same}
 use Rattle.hm_prune.specs.Dead.{IsDeadIn, IsFirstDead, NoneDead, keeps_in}
-use Rattle.hm_prune.specs.Prunes.{Prunes, Removes}
+use Rattle.hm_prune.specs.Prunes.{LosesAtMost, Prunes, Removes}
 
 -- a dead element of the pseudo file system may go
 pub may_go : (pfs : ℕ) (kept : List (ℕ × ℕ)) (e : Element) (xs : List Extent) → IsDeadIn pfs kept e.base → MayGo (keeps_in pfs kept) (full_of xs e)
@@ -172,3 +172,36 @@ pub none_dead : (pfs : ℕ) (kept : List (ℕ × ℕ)) (was now : Option (List E
 none_dead pfs kept was now found same is look =
     subst (λ (o : Option (List Element)). IfSome o (NoneDead pfs kept)) (sym same)
     (subst (λ (f : Option Element). IfSome was (λ es. IsFirstDead pfs kept es f)) is look)
+
+-- what is taken out of a list is one element at most
+removed_one : (key : Key) (es : List Element) → length es ≤ length (removed key es) + 1
+removed_one key [] = omega arith
+removed_one key (e ∷ es) = by_test (stands_at key e) (removed_one key es) where
+  by_test : (b : Bool) → length es ≤ length (removed key es) + 1 → length (e ∷ es) ≤ length (if b then es else e ∷ removed key es) + 1
+  by_test true rest = omega arith
+  by_test false rest = omega (arith, rest)
+
+-- none went where nothing changed
+pub loses_none : (was now : Option (List Element)) → now ≡ was → LosesAtMost 0 was now
+loses_none None now same = tt
+loses_none (Some es) now same = subst (λ (o : Option (List Element)). LosesAtMost 0 (Some es) o) (sym same) (omega arith)
+
+-- one went
+pub loses_one : (e : Element) (was now new : Option (List Element)) → now ≡ was → Removes e now new → LosesAtMost 1 was new
+loses_one e None now new same removes = tt
+loses_one e (Some es) now new same removes =
+    subst (λ (o : Option (List Element)). LosesAtMost 1 (Some es) o) (sym (removes ∙ ap (option_map (removed (element_key e))) same))
+    (removed_one (element_key e) es)
+
+-- what went in two steps is no more than the sum
+pub loses_both : (m n sum : ℕ) (a b c : Option (List Element)) → LosesAtMost m a b → LosesAtMost n b c → m + n ≤ sum → LosesAtMost sum a c
+loses_both m n sum None b c one two most = tt
+loses_both m n sum (Some es) None c one two most = absurd one
+loses_both m n sum (Some es) (Some fs) None one two most = absurd two
+loses_both m n sum (Some es) (Some fs) (Some gs) one two most = omega (arith, one, two, most)
+
+-- nor more than a bound of it
+pub loses_within : (m most : ℕ) (a b : Option (List Element)) → LosesAtMost m a b → m ≤ most → LosesAtMost most a b
+loses_within m most None b one bound = tt
+loses_within m most (Some es) None one bound = absurd one
+loses_within m most (Some es) (Some fs) one bound = omega (arith, one, bound)

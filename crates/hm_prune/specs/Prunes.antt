@@ -1,5 +1,5 @@
 -- What a prune begins with, and what it makes of a store.
-use Rattle.std.specs.Prelude.{◌≡◌, ℕ, List, Option, IfSome, IsSomeAnd, OnSome, is_some, option_map}
+use Rattle.std.specs.Prelude.{◌≡◌, ℕ, ◌+◌, ◌≤◌, List, length, Option, IfSome, IsSomeAnd, OnSome, is_some, option_map}
 use Rattle.hm_types.specs.Elements.{Key}
 use Rattle.hm_key.specs.Balance.{Balanced, IsBalanced, Works, content_of}
 use Rattle.hm_key.specs.Elements.{element_key, removed}
@@ -19,6 +19,10 @@ pub record BeginsFor (pfs : ℕ) (kept : List (ℕ × ℕ)) (prune : Prune) : Ty
 -- the element went, where elements are told
 abbrev pub Removes : Element → Option (List Element) → Option (List Element) → Type 0
 Removes e old new = new ≡ option_map (removed (element_key e)) old
+
+-- at most so many elements went, where elements are told
+abbrev pub LosesAtMost : ℕ → Option (List Element) → Option (List Element) → Type 0
+LosesAtMost count old new = IfSome old (λ es. IsSomeAnd new (λ fs. length es ≤ length fs + count))
 
 -- Of a balanced store elements went that may go, with their references, and the rest stayed with its payloads. No mark
 -- fell.

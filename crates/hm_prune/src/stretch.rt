@@ -7,7 +7,7 @@ ghost use Rattle.hm_key.specs.Elements.{element_at, element_key};
 ghost use Rattle.hm_key.specs.Job.{ComesFurther};
 ghost use Rattle.hm_key.specs.Sweep.{place_from};
 ghost use Rattle.hm_prune.specs.Dead.{IsDeadIn, keeps_in};
-ghost use Rattle.hm_prune.specs.Prunes.{Prunes, Removes};
+ghost use Rattle.hm_prune.specs.Prunes.{LosesAtMost, Prunes, Removes};
 
 use crate::prune::Prune;
 use hm_key::{Base, Element, ElementStore, Extents};
@@ -42,6 +42,8 @@ impl Prune {
         ensures space { Spends T.room T.free nothing store.old store.new }
         ensures further { IfOk result (λ next.
             ComesFurther (place_from (Some from.now)) (place_from next)) }
+        ensures few { OnOk result
+            (LosesAtMost 64 (T.elements store.old) (T.elements store.new)) }
         ensures name { T.name store.new ≡ T.name store.old }
         ensures frame { T.frame store.new ≡ T.frame store.old }
         ensures cause { HasStoreCause (content_of (T.elements store.old) (T.extents store.old))
@@ -71,6 +73,8 @@ impl Prune {
         ensures further { IfOk result (λ step.
             ComesFurther (place_from (Some at.now)) (place_from step.next)) }
         ensures one { IfOk result (λ step. step.removed ≤ 1) }
+        ensures few { IfOk result (λ step.
+            LosesAtMost step.removed (T.elements store.old) (T.elements store.new)) }
         ensures name { T.name store.new ≡ T.name store.old }
         ensures frame { T.frame store.new ≡ T.frame store.old }
         ensures cause { HasStoreCause (content_of (T.elements store.old) (T.extents store.old))

@@ -2,7 +2,7 @@ use Rattle.std.proofs.Common.{Some, refl}
 use Rattle.hm_key.specs.Key.{key_of}
 use Rattle.hm_key.proofs.SweepLemmas.{found_there, goes_further}
 use Rattle.hm_prune.specs.Dead.{keeps_in}
-use Rattle.hm_prune.proofs.PruneLemmas.{prunes_none, spends_none}
+use Rattle.hm_prune.proofs.PruneLemmas.{loses_one, prunes_none, spends_none}
 use Rattle.hm_prune.proofs.prune.Prune.step.Goals as goal
 
 pub returns-in_default-clause-ok : goal.returns-in_default-clause-ok
@@ -44,3 +44,8 @@ returns-then-element-from-clause-space g c = spends_none c.args.store.now c.firs
 
 pub returns-then-not-is_dead-clause-space : goal.returns-then-not-is_dead-clause-space
 returns-then-not-is_dead-clause-space g c = spends_none c.args.store.now c.first_at_or_after.new.self c.first_at_or_after.ensures.keeps
+
+pub returns-clause-few : goal.returns-clause-few
+returns-clause-few g c =
+    loses_one c.in-Some.element (g.T.HasElements.elements c.args.store.now) (g.T.HasElements.elements c.first_at_or_after.new.self)
+    (g.T.HasElements.elements c.remove_one.new.store) c.first_at_or_after.ensures.keeps.elements c.in_ok-remove_one.ensures.gone
