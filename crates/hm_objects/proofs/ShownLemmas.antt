@@ -4,6 +4,7 @@ use Rattle.std.specs.Prelude.{Option, None, Some}
 use Rattle.hm_types.specs.Elements.{FullElement}
 use Rattle.hm_types.specs.Tree.{FileTree, directory_of, with_change, with_links, without_object}
 use Rattle.hm_types.specs.declared.id.Obj.{Obj}
+use Rattle.hm_types.specs.declared.id.Pfs.{Pfs}
 use Rattle.hm_types.specs.declared.object.Object.{Object}
 use Rattle.hm_key.specs.declared.base.Base.{Base}
 use Rattle.hm_key.specs.declared.rec_type.TheConstants.{FILE_BYTES}
@@ -16,15 +17,17 @@ use Rattle.hm_records.specs.Laws.{HasView, linked, with_inode}
 use Rattle.hm_records.specs.Target.{IsTarget}
 use Rattle.hm_records.specs.View.{IsObject, held}
 use Rattle.hm_records.specs.declared.inode.Inode.{Inode}
-use Rattle.hm_records.specs.declared.kind.TheConstants.{DIRECTORY, FILE, SOFTLINK}
-use Rattle.hm_records.proofs.MadeLemmas.{directory_made, file_made, inode_changes, links_changed, no_bytes, softlink_made, target_changes}
+use Rattle.hm_records.specs.declared.kind.TheConstants.{DIRECTORY, FILE, PFS_LINK, SOFTLINK}
+use Rattle.hm_records.proofs.MadeLemmas.{directory_made, file_made, inode_changes, links_changed, no_bytes, pfs_link_made}
+use Rattle.hm_records.proofs.MadeLemmas.{softlink_made, target_changes}
 use Rattle.hm_records.proofs.ObjectChangeLemmas.{object_added, object_changed, object_gone}
 use Rattle.hm_records.proofs.SubjectLemmas.{apart, but_object_twice}
 use Rattle.hm_cursor.specs.Views.{Shows, WritesIn}
 use Rattle.hm_cursor.specs.Write.{FollowWith, IsFreshFor, Rewrites}
 use Rattle.hm_cursor.proofs.FollowLemmas.{adding_follows, closing_follows, follow_twice, renewing_follows}
 use Rattle.hm_cursor.proofs.ViewsLemmas.{fresh_beside, fresh_later, nothing_written, writes_again, writes_within}
-use Rattle.hm_objects.specs.Objects.{AddsObject, ChangesBy, IsGone, IsMissing, IsOfObject, IsOlder, KeepEntries, file_of, inode_of, open_base, softlink_of}
+use Rattle.hm_objects.specs.Objects.{AddsObject, ChangesBy, IsGone, IsMissing, IsOfObject, IsOlder, KeepEntries, file_of, inode_of, open_base}
+use Rattle.hm_objects.specs.Objects.{pfs_link_inode, pfs_link_of, softlink_of}
 use Rattle.hm_objects.proofs.NewLemmas.{entries_twice, inode_entries, inode_within, keys_fit, makes_inode, makes_none, makes_target, steady}
 use Rattle.hm_objects.proofs.NewLemmas.{target_entries, target_within}
 
@@ -120,6 +123,26 @@ pub file_added : (pfs i : ℕ) (number : Obj) (es es' : List FullElement) → Ne
 file_added pfs i number es es' new =
     inode_added pfs i (file_of number) (inode_of FILE 0) es es' file_inode new
     (λ t late has. file_made pfs number (inode_of FILE 0) [] (Counts es' t) has refl (no_bytes pfs number.0 0 (Counts es' t) refl))
+
+pub link_inode : (to : Pfs) → to.0 < 2 ^ 16 → IsInode (pfs_link_inode to)
+link_inode to small = record {
+  sized = record {
+    known = (omega arith, omega arith);
+    directory = λ is. absurd (omega (arith, is));
+    softlink = λ is. absurd (omega (arith, is));
+    pfs_link = λ _. refl;
+  };
+  size = omega arith;
+  links = omega arith;
+  pfs = small;
+  no_pfs = λ other. absurd (other refl);
+}
+
+pub pfs_link_added : (pfs i : ℕ) (number : Obj) (to : Pfs) (es es' : List FullElement) → IsInode (pfs_link_inode to)
+    → NewInode pfs number.0 i (pfs_link_inode to) es es' → AddsObject pfs i (pfs_link_of number to) es es'
+pfs_link_added pfs i number to es es' ranges new =
+    inode_added pfs i (pfs_link_of number to) (pfs_link_inode to) es es' ranges new
+    (λ t late has. pfs_link_made pfs number (pfs_link_inode to) (Counts es' t) has refl)
 
 -- an element with an open base makes what its base and its bytes say
 pub made_as : (s : Subject) (kind i : ℕ) (base open' : Base) (bytes text : List ℕ) (es es' : List FullElement) → open' ≡ open_base base kind i

@@ -5,9 +5,10 @@ use Rattle.hm_types.specs.Space.{in_zone}
 use Rattle.hm_types.specs.Tree.{FileTree}
 use Rattle.hm_types.specs.declared.id.Id.{Id}
 use Rattle.hm_types.specs.declared.id.Obj.{Obj}
+use Rattle.hm_types.specs.declared.id.Pfs.{Pfs}
 use Rattle.hm_types.specs.declared.object.Object.{Object}
-use Rattle.hm_types.specs.declared.object.Content.TheVariants.{File as of_file, Target}
-use Rattle.hm_types.specs.declared.object.Kind.TheVariants.{File, Softlink}
+use Rattle.hm_types.specs.declared.object.Content.TheVariants.{File as of_file, Linked, Target}
+use Rattle.hm_types.specs.declared.object.Kind.TheVariants.{File, PfsLink, Softlink}
 use Rattle.hm_types.specs.declared.space.TheConstants.{INSERT_ROOM}
 use Rattle.hm_types.specs.declared.zone.TheConstants.{META_ZONE, TREE_ZONE}
 use Rattle.hm_key.specs.Balance.{content_of}
@@ -23,7 +24,7 @@ use Rattle.hm_records.specs.KeysFit.{KeysFit}
 use Rattle.hm_records.specs.Laws.{with_inode}
 use Rattle.hm_records.specs.Payload.{IsPayload}
 use Rattle.hm_records.specs.declared.inode.Inode.{Inode}
-use Rattle.hm_records.specs.declared.kind.TheConstants.{FILE}
+use Rattle.hm_records.specs.declared.kind.TheConstants.{FILE, PFS_LINK}
 use Rattle.hm_cursor.specs.Told.{Lists, fulls}
 use Rattle.hm_cursor.specs.Version.{IsNewestOf}
 use Rattle.hm_cursor.specs.Views.{Shows, WritesIn}
@@ -36,9 +37,17 @@ file_of number = record { number = number; kind = File; content = of_file []; li
 abbrev pub softlink_of : Obj → List ℕ → Object
 softlink_of number text = record { number = number; kind = Softlink; content = Target text; links = 1 }
 
+-- a link to a pseudo file system
+abbrev pub pfs_link_of : Obj → Pfs → Object
+pfs_link_of number to = record { number = number; kind = PfsLink; content = Linked to; links = 1 }
+
 -- the inode of a new object, with one link
 abbrev pub inode_of : ℕ → ℕ → Inode
 inode_of kind size = record { kind = kind; size = size; links = 1; pfs = record { 0 = 0 } }
+
+-- the inode of a new link to a pseudo file system
+abbrev pub pfs_link_inode : Pfs → Inode
+pfs_link_inode to = record { kind = PFS_LINK; size = 0; links = 1; pfs = to }
 
 -- the base of an open element of an object of a kind, which an id made
 abbrev pub open_base : Base → ℕ → ℕ → Base

@@ -16,13 +16,15 @@ ghost use Rattle.hm_objects.specs.Objects.{
   file_of,
   inode_of,
   open_base,
+  pfs_link_inode,
+  pfs_link_of,
   softlink_of,
   spent,
 };
 
 use hm_cursor::{add_version, close_versions, inode_base, target_base};
 use hm_key::{Base, ELEMENT, ElementStore, Extents, HasElements, HasRoom};
-use hm_records::{DIRECTORY, FILE, Inode, SOFTLINK, encode_inode};
+use hm_records::{DIRECTORY, FILE, Inode, PFS_LINK, SOFTLINK, encode_inode};
 use hm_types::{Counted, Fault, Id, META_ZONE, Obj, Pfs, Text};
 use std::alloc::Global;
 
@@ -112,6 +114,33 @@ pub fn add_softlink<T: ElementStore + Extents>(
     add_inode(alloc, store, pfs, number, &inode, id)
 }
 
+/// Adds a link to the pseudo file system with a number, as `add_directory` adds a directory. Whether
+/// there is such a one is the caller's.
+pub fn add_pfs_link<T: ElementStore + Extents>(
+    alloc: Global,
+    store: &mut T,
+    pfs: Pfs,
+    number: Obj,
+    to: Pfs,
+    id: Id,
+) -> Result<(), Fault>
+    requires id { 1 ≤ id.0 }
+    requires balanced { Balanced (T.elements store.old) (T.extents store.old) }
+    requires older { IsOlderIn (T.elements store.old) (T.extents store.old)
+        pfs.0 number.0 id.0 }
+    requires room { HasRooms (T.room store.old) 1 32 }
+    ensures ok { OnOk result (Writes T.elements T.extents
+        (AddsObject pfs.0 id.0 (pfs_link_of number to)) store.old store.new) }
+    ensures keeps { Keeps T.elements T.extents store.old store.new result }
+    ensures space { Spends T.room T.free (spent 1 32) store.old store.new }
+    ensures borrowed { (T.name store.new ≡ T.name store.old)
+        × (T.frame store.new ≡ T.frame store.old) }
+    ensures cause { HasStoreCause (content_of (T.elements store.old) (T.extents store.old))
+        (T.faults store.old) (T.faults store.new) result }
+{
+    add_inode(alloc, store, pfs, number, &new_link(to.0), id)
+}
+
 // Adds the inode of an object, whose other inodes are older.
 fn add_inode<T: ElementStore + Extents>(
     alloc: Global,
@@ -151,6 +180,17 @@ fn new_inode(kind: u8, size: u64) -> Inode
         size,
         links: 1,
         pfs: Pfs(0),
+    }
+}
+
+// The inode of a new link to the pseudo file system with a number.
+fn new_link(to: u16) -> Inode
+    ensures is { result ≡ pfs_link_inode (record { 0 = to }) }
+    ensures ranges { IsInode result }
+{
+    Inode {
+        pfs: Pfs(to),
+        ..new_inode(PFS_LINK, 0)
     }
 }
 

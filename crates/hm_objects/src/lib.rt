@@ -7,7 +7,7 @@ mod links;
 mod remove;
 mod sizes;
 
-pub use add::{add_directory, add_file, add_softlink};
+pub use add::{add_directory, add_file, add_pfs_link, add_softlink};
 pub use links::set_links;
 pub use remove::remove_object;
 pub use sizes::set_size;

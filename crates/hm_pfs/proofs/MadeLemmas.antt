@@ -24,7 +24,7 @@ use Rattle.hm_cursor.specs.Told.{fulls}
 use Rattle.hm_cursor.specs.Write.{HasRoomFor, IsNew, full_with, most_payload, taken}
 use Rattle.hm_cursor.proofs.FullLemmas.{element_at-has}
 use Rattle.hm_objects.specs.Objects.{HasRooms, open_base, spent}
-use Rattle.hm_pfs.specs.Systems.{IsUnusedIn, LacksElement, made_about, master_record, slave_record}
+use Rattle.hm_pfs.specs.Systems.{IsUnmadeIn, LacksElement, made_about, master_record, slave_record}
 use Rattle.hm_pfs.proofs.SystemLemmas.{new_key}
 
 -- ---- their bases
@@ -87,11 +87,12 @@ told_lacks e None xs together none = tt
 told_lacks e (Some es) None together none = absurd (true≢false (sym together))
 told_lacks e (Some es) (Some xs) together none = lacks_key e.key es xs none
 
-pub unused_lacks : (pfs : ℕ) (e : FullElement) (es : Option (List Element)) (xs : Option (List Extent)) → is_some xs ≡ is_some es
-    → pfs_of e.key.localization ≡ pfs → IsUnusedIn es xs pfs → LacksElement es e
-unused_lacks pfs e None xs together here unused = tt
-unused_lacks pfs e (Some es) None together here unused = absurd (true≢false (sym together))
-unused_lacks pfs e (Some es) (Some xs) together here unused = lacks_key e.key es xs (new_key pfs e (full_elements es xs) here unused)
+pub unmade_lacks : (pfs i : ℕ) (e : FullElement) (es : Option (List Element)) (xs : Option (List Extent)) → is_some xs ≡ is_some es
+    → pfs_of e.key.localization ≡ pfs → e.key.create ≡ i → IsUnmadeIn es xs pfs i → LacksElement es e
+unmade_lacks pfs i e None xs together here made unmade = tt
+unmade_lacks pfs i e (Some es) None together here made unmade = absurd (true≢false (sym together))
+unmade_lacks pfs i e (Some es) (Some xs) together here made unmade =
+    lacks_key e.key es xs (new_key pfs i e (full_elements es xs) here made unmade)
 
 pub lacks_at : (e f : FullElement) (es : Option (List Element)) → f ≡ e → LacksElement es e → LacksElement es f
 lacks_at e f es same = subst (λ (x : FullElement). LacksElement es x) (sym same)

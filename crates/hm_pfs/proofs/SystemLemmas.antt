@@ -27,7 +27,8 @@ use Rattle.hm_objects.proofs.ShownLemmas.{directory_added}
 use Rattle.hm_cursor.specs.Told.{Lists, fulls}
 use Rattle.hm_cursor.proofs.CallLemmas.{Then}
 use Rattle.hm_cursor.proofs.PayloadLemmas.{full_sorted}
-use Rattle.hm_pfs.specs.Systems.{AddsMaster, AddsSlave, AddsSystem, IsUnusedIn, IsUnusedNumber, master_record, made_record, made_root, slave_record}
+use Rattle.hm_pfs.specs.Systems.{AddsSystem, IsUnmade, IsUnmadeIn, IsUnusedNumber, PutsMaster, PutsSlave, PutsSystem}
+use Rattle.hm_pfs.specs.Systems.{master_record, made_record, made_root, slave_record}
 
 -- a localization names its pseudo file system
 pub inodes_named : (pfs : ℕ) → pfs_of (inodes_of pfs) ≡ pfs
@@ -58,11 +59,10 @@ pub record AreOf (pfs i : ℕ) (New : FullElement → Type 0) : Type 0 where
 abbrev pub Gains : (FullElement → Type 0) → List FullElement → List FullElement → Type 0
 Gains New es es' = (x : FullElement) → Contains es' x ↔ (New x ⊎ Contains es x)
 
-module _ (pfs i : ℕ) (New : FullElement → Type 0) (es es' : List FullElement) (unused : IsUnusedNumber pfs es) (are : AreOf pfs i New)
-    (gains : Gains New es es') (own : HaveOwnKeys es') where
+module _ (pfs i : ℕ) (New : FullElement → Type 0) (es es' : List FullElement) (are : AreOf pfs i New) (gains : Gains New es es') where
   -- of another number the same counts
-  else_same : (t : ℕ) (s : Subject) (bytes : List ℕ) → pfs_of s.localization ≢ pfs → Counts es' t s bytes ↔ Counts es t s bytes
-  else_same t s bytes not = (shown s es' es t t bytes back on, shown s es es' t t bytes on back) where
+  else_kept : (t : ℕ) (s : Subject) (bytes : List ℕ) → pfs_of s.localization ≢ pfs → Counts es' t s bytes ↔ Counts es t s bytes
+  else_kept t s bytes not = (shown s es' es t t bytes back on, shown s es es' t t bytes on back) where
     on : Shows s es t es' t
     on x has about made = (x, itself t es' x ((gains x).1 (inr has)) made)
 
@@ -71,6 +71,15 @@ module _ (pfs i : ℕ) (New : FullElement → Type 0) (es es' : List FullElement
       | inl new ↦ absurd (not (ap (λ (z : Subject). pfs_of z.localization) (sym about) ∙ are.number y new))
       | inr old ↦ (y, itself t es y old made)
     ]
+
+  -- elements that come make one pseudo file system more where the number was unused
+  puts_system : (r : PfsRecord) (tree : FileTree) → (IsUnusedNumber pfs es → AddsSystem pfs i r New tree es es') → PutsSystem pfs i r New tree es es'
+  puts_system r tree adds = record { elements = gains; elsewhere = else_kept; adds = adds }
+
+module _ (pfs i : ℕ) (New : FullElement → Type 0) (es es' : List FullElement) (unused : IsUnusedNumber pfs es) (are : AreOf pfs i New)
+    (gains : Gains New es es') (own : HaveOwnKeys es') where
+  else_same : (t : ℕ) (s : Subject) (bytes : List ℕ) → pfs_of s.localization ≢ pfs → Counts es' t s bytes ↔ Counts es t s bytes
+  else_same = else_kept pfs i New es es' are gains
 
   -- of the number only what is new counts
   only_new : (t : ℕ) (s : Subject) (bytes : List ℕ) → pfs_of s.localization ≡ pfs → (c : Counts es' t s bytes) → New c.element
@@ -175,35 +184,43 @@ record_of pfs i r = record {
   made = λ x is. ap (λ (z : FullElement). z.key.create) is;
 }
 
--- an element of an unused number has a key that none has
-pub new_key : (pfs : ℕ) (e : FullElement) (es : List FullElement) → pfs_of e.key.localization ≡ pfs → IsUnusedNumber pfs es
+-- an element of a number that an id makes has a key that none has, where that id made none there
+pub new_key : (pfs i : ℕ) (e : FullElement) (es : List FullElement) → pfs_of e.key.localization ≡ pfs → e.key.create ≡ i → IsUnmade pfs i es
     → (x : FullElement) → Contains es x → x.key ≢ e.key
-new_key pfs e es here unused x has same = unused x has (ap (λ (k : Key). pfs_of k.localization) same ∙ here)
+new_key pfs i e es here made unmade x has same =
+    unmade x has (ap (λ (k : Key). pfs_of k.localization) same ∙ here) (ap (λ (k : Key). k.create) same ∙ made)
 
-module _ (pfs i : ℕ) (r : PfsRecord) (es mid : List FullElement) (own : HaveOwnKeys es) (unused : IsUnusedNumber pfs es)
+module _ (pfs i : ℕ) (r : PfsRecord) (es mid : List FullElement) (own : HaveOwnKeys es) (unmade : IsUnmade pfs i es)
     (adds : Adds (made_record pfs r i) es mid) where
   own_mid : HaveOwnKeys mid
-  own_mid = own_keys_adds (made_record pfs r i) es mid adds (new_key pfs (made_record pfs r i) es (others_named pfs) unused) own
-
-  -- a number with a record alone shows no object
-  record_alone : (t : ℕ) → HasView (Counts mid t) pfs no_tree
-  record_alone t =
-      none_shown pfs i (λ x. x ≡ made_record pfs r i) es mid unused (record_of pfs i r) adds own_mid t
-      (λ x is made. ap (λ (z : FullElement). z.key.rec_type) is)
-
-  pub one_record : AddsSystem pfs i r (λ x. x ≡ made_record pfs r i) no_tree es mid
-  one_record =
-      adds_system pfs i (λ x. x ≡ made_record pfs r i) es mid unused (record_of pfs i r) adds own_mid r no_tree refl (λ t late. record_alone t)
-
-  -- no inode is there yet
-  pub no_root : (x : FullElement) → Contains mid x → subject_of x.key ≢ inode_subject pfs 1
-  no_root x has about = elim ((adds x).0 has) [
-    | inl new ↦ absurd (omega (arith, ap (λ (z : FullElement). z.key.rec_type) new, ap (λ (s : Subject). s.rec_type) about))
-    | inr old ↦ unused x old (ap (λ (s : Subject). pfs_of s.localization) about ∙ inodes_named pfs)
-  ]
+  own_mid = own_keys_adds (made_record pfs r i) es mid adds (new_key pfs i (made_record pfs r i) es (others_named pfs) refl unmade) own
 
   pub root_key : (x : FullElement) → Contains mid x → x.key ≢ (made_root pfs i).key
-  root_key x has same = no_root x has (ap subject_of same)
+  root_key x has same = elim ((adds x).0 has) [
+    | inl new ↦ absurd (omega (arith, ap (λ (z : FullElement). z.key.rec_type) new, ap (λ (k : Key). k.rec_type) same))
+    | inr old ↦ new_key pfs i (made_root pfs i) es (inodes_named pfs) refl unmade x old same
+  ]
+
+  module _ (unused : IsUnusedNumber pfs es) where
+    -- a number with a record alone shows no object
+    record_alone : (t : ℕ) → HasView (Counts mid t) pfs no_tree
+    record_alone t =
+        none_shown pfs i (λ x. x ≡ made_record pfs r i) es mid unused (record_of pfs i r) adds own_mid t
+        (λ x is made. ap (λ (z : FullElement). z.key.rec_type) is)
+
+    one_record : AddsSystem pfs i r (λ x. x ≡ made_record pfs r i) no_tree es mid
+    one_record =
+        adds_system pfs i (λ x. x ≡ made_record pfs r i) es mid unused (record_of pfs i r) adds own_mid r no_tree refl (λ t late. record_alone t)
+
+    -- no inode is there yet
+    no_root : (x : FullElement) → Contains mid x → subject_of x.key ≢ inode_subject pfs 1
+    no_root x has about = elim ((adds x).0 has) [
+      | inl new ↦ absurd (omega (arith, ap (λ (z : FullElement). z.key.rec_type) new, ap (λ (s : Subject). s.rec_type) about))
+      | inr old ↦ unused x old (ap (λ (s : Subject). pfs_of s.localization) about ∙ inodes_named pfs)
+    ]
+
+  pub record_put : PutsSystem pfs i r (λ x. x ≡ made_record pfs r i) no_tree es mid
+  record_put = puts_system pfs i (λ x. x ≡ made_record pfs r i) es mid (record_of pfs i r) adds r no_tree one_record
 
   module _ (es' : List FullElement) (then : Adds (made_root pfs i) mid es') where
     -- the record and the root directory
@@ -236,49 +253,53 @@ module _ (pfs i : ℕ) (r : PfsRecord) (es mid : List FullElement) (own : HaveOw
     own_both : HaveOwnKeys es'
     own_both = own_keys_adds (made_root pfs i) mid es' then root_key own_mid
 
-    -- from its id on the root directory is the tree
-    root_shown : (t : ℕ) → i ≤ t → HasView (Counts es' t) pfs root_tree
-    root_shown t late =
-        (directory_added pfs i root_number mid es'
-        (rewrites_added (made_root pfs i) mid mid es' (shuts_none (inode_subject pfs 1) i mid) then refl
-        (record { made = λ x has about. absurd (no_root x has about); closed = λ x has about. absurd (no_root x has about) }))).shows
-        (λ t late bytes c. no_root c.element c.there c.about) t no_tree late (record_alone t)
+    module _ (unused : IsUnusedNumber pfs es) where
+      -- from its id on the root directory is the tree
+      root_shown : (t : ℕ) → i ≤ t → HasView (Counts es' t) pfs root_tree
+      root_shown t late =
+          (directory_added pfs i root_number mid es'
+          (rewrites_added (made_root pfs i) mid mid es' (shuts_none (inode_subject pfs 1) i mid) then refl
+          (record { made = λ x has about. absurd (no_root unused x has about); closed = λ x has about. absurd (no_root unused x has about) }))).shows
+          (λ t late bytes c. no_root unused c.element c.there c.about) t no_tree late (record_alone unused t)
 
-    pub both_there : AddsSystem pfs i r (λ x. (x ≡ made_root pfs i) ⊎ (x ≡ made_record pfs r i)) root_tree es es'
-    both_there =
-        adds_system pfs i (λ x. (x ≡ made_root pfs i) ⊎ (x ≡ made_record pfs r i)) es es' unused both_of gains_both own_both r root_tree
-        (inr refl) root_shown
+      both_there : AddsSystem pfs i r (λ x. (x ≡ made_root pfs i) ⊎ (x ≡ made_record pfs r i)) root_tree es es'
+      both_there =
+          adds_system pfs i (λ x. (x ≡ made_root pfs i) ⊎ (x ≡ made_record pfs r i)) es es' unused both_of gains_both own_both r root_tree
+          (inr refl) root_shown
+
+    pub both_put : PutsSystem pfs i r (λ x. (x ≡ made_root pfs i) ⊎ (x ≡ made_record pfs r i)) root_tree es es'
+    both_put = puts_system pfs i (λ x. (x ≡ made_root pfs i) ⊎ (x ≡ made_record pfs r i)) es es' both_of gains_both r root_tree both_there
 
 -- ---- over what a store tells
 
--- what is known of a store to which a number is new
-pub record IsReady (pfs : ℕ) (lists : Lists) : Type 0 where
+-- what is known of a store in which an id made no element of a number
+pub record IsReady (pfs i : ℕ) (lists : Lists) : Type 0 where
   pub content : IsContent lists.0
-  pub unused : IsUnusedNumber pfs (fulls lists)
+  pub unmade : IsUnmade pfs i (fulls lists)
 
-pub ready : (pfs : ℕ) (es : Option (List Element)) (xs : Option (List Extent)) → IfSome es IsContent → IsUnusedIn es xs pfs
-    → IfSome (content_of es xs) (IsReady pfs)
-ready pfs None xs content unused = tt
-ready pfs (Some es) None content unused = tt
-ready pfs (Some es) (Some xs) content unused = record { content = content; unused = unused }
+pub ready : (pfs i : ℕ) (es : Option (List Element)) (xs : Option (List Extent)) → IfSome es IsContent → IsUnmadeIn es xs pfs i
+    → IfSome (content_of es xs) (IsReady pfs i)
+ready pfs i None xs content unmade = tt
+ready pfs i (Some es) None content unmade = tt
+ready pfs i (Some es) (Some xs) content unmade = record { content = content; unmade = unmade }
 
-own_keys : (pfs : ℕ) (lists : Lists) → IsReady pfs lists → HaveOwnKeys (fulls lists)
-own_keys pfs lists known = own_keys-sorted (fulls lists) (full_sorted lists.0 lists.1 known.content.rising)
+own_keys : (pfs i : ℕ) (lists : Lists) → IsReady pfs i lists → HaveOwnKeys (fulls lists)
+own_keys pfs i lists known = own_keys-sorted (fulls lists) (full_sorted lists.0 lists.1 known.content.rising)
 
-pub slave_added : (pfs shared i : ℕ) (r : PfsRecord) (was : Lists) (es' : List FullElement) → r ≡ slave_record shared → IsReady pfs was
-    → Adds (made_record pfs r i) (fulls was) es' → AddsSlave pfs shared i (fulls was) es'
+pub slave_added : (pfs shared i : ℕ) (r : PfsRecord) (was : Lists) (es' : List FullElement) → r ≡ slave_record shared → IsReady pfs i was
+    → Adds (made_record pfs r i) (fulls was) es' → PutsSlave pfs shared i (fulls was) es'
 slave_added pfs shared i r was es' is known adds =
-    one_record pfs i (slave_record shared) (fulls was) es' (own_keys pfs was known) known.unused
+    record_put pfs i (slave_record shared) (fulls was) es' (own_keys pfs i was known) known.unmade
     (subst (λ (z : PfsRecord). Adds (made_record pfs z i) (fulls was) es') is adds)
 
-pub master_added : (pfs shared i : ℕ) (r : PfsRecord) (was : Lists) (es' : List FullElement) → r ≡ master_record shared → IsReady pfs was
-    → Then (Adds (made_record pfs r i)) (Adds (made_root pfs i)) (fulls was) es' → AddsMaster pfs shared i (fulls was) es'
+pub master_added : (pfs shared i : ℕ) (r : PfsRecord) (was : Lists) (es' : List FullElement) → r ≡ master_record shared → IsReady pfs i was
+    → Then (Adds (made_record pfs r i)) (Adds (made_root pfs i)) (fulls was) es' → PutsMaster pfs shared i (fulls was) es'
 master_added pfs shared i r was es' is known steps =
     let (mid, first, then) = steps in
-    both_there pfs i (master_record shared) (fulls was) mid (own_keys pfs was known) known.unused
+    both_put pfs i (master_record shared) (fulls was) mid (own_keys pfs i was known) known.unmade
     (subst (λ (z : PfsRecord). Adds (made_record pfs z i) (fulls was) mid) is first) es' then
 
 -- no element stands at the key of the root directory yet
-pub root_lacks : (pfs i : ℕ) (r : PfsRecord) (was : Lists) (mid : List FullElement) → IsReady pfs was → Adds (made_record pfs r i) (fulls was) mid
+pub root_lacks : (pfs i : ℕ) (r : PfsRecord) (was : Lists) (mid : List FullElement) → IsReady pfs i was → Adds (made_record pfs r i) (fulls was) mid
     → (x : FullElement) → Contains mid x → x.key ≢ (made_root pfs i).key
-root_lacks pfs i r was mid known adds = root_key pfs i r (fulls was) mid (own_keys pfs was known) known.unused adds
+root_lacks pfs i r was mid known adds = root_key pfs i r (fulls was) mid (own_keys pfs i was known) known.unmade adds

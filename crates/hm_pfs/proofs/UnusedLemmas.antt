@@ -54,11 +54,12 @@ one_used (Some es) now (Some xs) s from number found same about is told used = �
 -- it has none
 pub first_unused : (es now : Option (List Element)) (xs : Option (List Extent)) (s : Subject) (from : ℕ) (pfs : Pfs) (found : Option Element)
     → now ≡ es → s ≡ record_subject pfs.0 → is_some found ≡ false → IfSome now (λ list. IsVersion list s open_end found) → from ≤ pfs.0
-    → AllUsedIn es xs from pfs.0 → IfSome (content_of es xs) (λ lists. IsLeastUnused (fulls lists) from (Some pfs))
-first_unused None now xs s from pfs found same about is told start used = tt
-first_unused (Some es) now None s from pfs found same about is told start used = tt
-first_unused (Some es) now (Some xs) s from pfs found same about is told start used = record {
+    → pfs.0 < 2 ^ 16 → AllUsedIn es xs from pfs.0 → IfSome (content_of es xs) (λ lists. IsLeastUnused (fulls lists) from (Some pfs))
+first_unused None now xs s from pfs found same about is told start few used = tt
+first_unused (Some es) now None s from pfs found same about is told start few used = tt
+first_unused (Some es) now (Some xs) s from pfs found same about is told start few used = record {
   onward = start;
+  few = few;
   unused = by_found found is version;
   used = used;
 } where

@@ -20,6 +20,7 @@ pub record IsUsed (es : List FullElement) (pfs : ℕ) : Type 0 where
 -- a number has no record, and each one before it from `first` on has
 pub record IsFirstUnused (es : List FullElement) (first pfs : ℕ) : Type 0 where
   pub onward : first ≤ pfs
+  pub few : pfs < 2 ^ 16
   pub unused : CountsNothing (Counts es open_end) (record_subject pfs)
   pub used : (other : ℕ) → first ≤ other → other < pfs → IsUsed es other
 

@@ -44,9 +44,13 @@ made_root pfs i = made_about (inode_subject pfs 1) i (inode_bytes (inode_of DIRE
 abbrev pub IsUnusedNumber : ℕ → List FullElement → Type 0
 IsUnusedNumber pfs es = (x : FullElement) → Contains es x → pfs_of x.key.localization ≢ pfs
 
+-- no element of a pseudo file system was made by `i`
+abbrev pub IsUnmade : ℕ → ℕ → List FullElement → Type 0
+IsUnmade pfs i es = (x : FullElement) → Contains es x → pfs_of x.key.localization ≡ pfs → x.key.create ≢ i
+
 -- the same of a store, where it tells its content
-abbrev pub IsUnusedIn : Option (List Element) → Option (List Extent) → ℕ → Type 0
-IsUnusedIn es xs pfs = IfSome (content_of es xs) (λ lists. IsUnusedNumber pfs (fulls lists))
+abbrev pub IsUnmadeIn : Option (List Element) → Option (List Extent) → ℕ → ℕ → Type 0
+IsUnmadeIn es xs pfs i = IfSome (content_of es xs) (λ lists. IsUnmade pfs i (fulls lists))
 
 -- no element of a store stands at the key of this one, where it tells them
 abbrev pub LacksElement : Option (List Element) → FullElement → Type 0
@@ -72,3 +76,18 @@ AddsMaster pfs shared i =
 -- one slave more: its record alone
 abbrev pub AddsSlave : ℕ → ℕ → ℕ → List FullElement → List FullElement → Type 0
 AddsSlave pfs shared i = AddsSystem pfs i (slave_record shared) (λ x. x ≡ made_record pfs (slave_record shared) i) no_tree
+
+-- These elements of a number come, and no others, and outside of it the same counts. Where no element was of the number, they
+-- are one pseudo file system more.
+pub record PutsSystem (pfs i : ℕ) (r : PfsRecord) (New : FullElement → Type 0) (tree : FileTree) (es es' : List FullElement) : Type 0 where
+  pub elements : (x : FullElement) → Contains es' x ↔ (New x ⊎ Contains es x)
+  pub elsewhere : (t : ℕ) (s : Subject) (bytes : List ℕ) → pfs_of s.localization ≢ pfs → Counts es' t s bytes ↔ Counts es t s bytes
+  pub adds : IsUnusedNumber pfs es → AddsSystem pfs i r New tree es es'
+
+-- so of a master, and of a slave
+abbrev pub PutsMaster : ℕ → ℕ → ℕ → List FullElement → List FullElement → Type 0
+PutsMaster pfs shared i =
+    PutsSystem pfs i (master_record shared) (λ x. (x ≡ made_root pfs i) ⊎ (x ≡ made_record pfs (master_record shared) i)) root_tree
+
+abbrev pub PutsSlave : ℕ → ℕ → ℕ → List FullElement → List FullElement → Type 0
+PutsSlave pfs shared i = PutsSystem pfs i (slave_record shared) (λ x. x ≡ made_record pfs (slave_record shared) i) no_tree

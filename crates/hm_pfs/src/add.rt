@@ -10,10 +10,10 @@ ghost use Rattle.hm_records.specs.declared.kind.TheConstants.{DIRECTORY};
 ghost use Rattle.hm_cursor.specs.Write.{Writes};
 ghost use Rattle.hm_objects.specs.Objects.{HasRooms, open_base, spent};
 ghost use Rattle.hm_pfs.specs.Systems.{
-  AddsMaster,
-  AddsSlave,
-  IsUnusedIn,
+  IsUnmadeIn,
   LacksElement,
+  PutsMaster,
+  PutsSlave,
   master_record,
   made_record,
   made_root,
@@ -28,8 +28,9 @@ use hm_retain::Retention;
 use hm_types::{Counted, Fault, Id, META_ZONE, NoMemory, Obj, Pfs};
 use std::alloc::Global;
 
-/// Adds a master with a number that no element has, by an id of 1 or more: its record, by which it
-/// keeps every id from 1 on, and its root directory. No link leads to it yet. It takes at most
+/// Adds a master by an id of 1 or more that made no element of its number: its record, by which it
+/// keeps every id from 1 on, and its root directory. It is one more where no element has the number,
+/// of which a list that no call wrote may have some. No link leads to it yet. It takes at most
 /// 81,920 bytes of zone 8 and 80 of zone 9. `NoMemory` where an allocation was refused; the other
 /// faults are those of the store. After a fault nothing is known of the content.
 pub fn add_master<T: ElementStore + Extents>(
@@ -41,10 +42,10 @@ pub fn add_master<T: ElementStore + Extents>(
 ) -> Result<(), Fault>
     requires id { 1 ≤ id.0 }
     requires balanced { Balanced (T.elements store.old) (T.extents store.old) }
-    requires unused { IsUnusedIn (T.elements store.old) (T.extents store.old) number.0 }
+    requires unmade { IsUnmadeIn (T.elements store.old) (T.extents store.old) number.0 id.0 }
     requires room { HasRooms (T.room store.old) 2 80 }
     ensures ok { OnOk result (Writes T.elements T.extents
-        (AddsMaster number.0 shared id.0) store.old store.new) }
+        (PutsMaster number.0 shared id.0) store.old store.new) }
     ensures keeps { Keeps T.elements T.extents store.old store.new result }
     ensures space { Spends T.room T.free (spent 2 80) store.old store.new }
     ensures borrowed { (T.name store.new ≡ T.name store.old)
@@ -57,8 +58,8 @@ pub fn add_master<T: ElementStore + Extents>(
     add_root(alloc, store, number, id)
 }
 
-/// Adds a slave with a number that no element has, by an id of 1 or more: its record alone, by which
-/// it has no sync end and keeps no id. So it shows no object. Room and faults are those of
+/// Adds a slave, as `add_master` adds a master: its record alone, by which it has no sync end and
+/// keeps no id. So it shows no object. Room and faults are those of
 /// `add_master`, but for 40,960 bytes of zone 8 and 32 of zone 9.
 pub fn add_slave<T: ElementStore + Extents>(
     alloc: Global,
@@ -69,10 +70,10 @@ pub fn add_slave<T: ElementStore + Extents>(
 ) -> Result<(), Fault>
     requires id { 1 ≤ id.0 }
     requires balanced { Balanced (T.elements store.old) (T.extents store.old) }
-    requires unused { IsUnusedIn (T.elements store.old) (T.extents store.old) number.0 }
+    requires unmade { IsUnmadeIn (T.elements store.old) (T.extents store.old) number.0 id.0 }
     requires room { HasRooms (T.room store.old) 1 32 }
     ensures ok { OnOk result (Writes T.elements T.extents
-        (AddsSlave number.0 shared id.0) store.old store.new) }
+        (PutsSlave number.0 shared id.0) store.old store.new) }
     ensures keeps { Keeps T.elements T.extents store.old store.new result }
     ensures space { Spends T.room T.free (spent 1 32) store.old store.new }
     ensures borrowed { (T.name store.new ≡ T.name store.old)

@@ -5,8 +5,10 @@ ghost use Rattle.hm_store_tests.specs.Tests.{IsReady};
 
 use hm_cursor::{add_version, find_inode, find_payload, inode_base, target_base};
 use hm_key::{Base, ELEMENT, HasElements, HasRoom, MemStore, SOFTLINK_TARGET};
-use hm_objects::{add_directory, add_file, add_softlink, remove_object, set_links, set_size};
-use hm_records::{DIRECTORY, FILE, SOFTLINK};
+use hm_objects::{
+    add_directory, add_file, add_pfs_link, add_softlink, remove_object, set_links, set_size,
+};
+use hm_records::{DIRECTORY, FILE, PFS_LINK, SOFTLINK};
 use hm_types::{BAD_PAYLOAD, Fault, HOff, INSERT_ROOM, Id, META_ZONE, Obj, Pfs, TREE_ZONE, Text};
 use std::alloc::Global;
 use std::test::Fail;
@@ -28,6 +30,8 @@ enum Step {
     AddFile,
     // To the target `../here`.
     AddSoftlink,
+    // To the pseudo file system with this number.
+    AddPfsLink(u16),
     // With an inode that is a byte too short.
     AddDamaged,
     SetLinks(u32),
@@ -64,6 +68,7 @@ fn take(alloc: Global, store: &mut MemStore, step: Step, obj: Obj, id: Id) -> Re
             let target = vec![in alloc; b'.', b'.', b'/', b'h', b'e', b'r', b'e']?;
             add_softlink(alloc, store, PFS, obj, &Text::of(target), id)
         }
+        Step::AddPfsLink(to) => add_pfs_link(alloc, store, PFS, obj, Pfs(to), id),
         Step::AddDamaged => {
             let base = made_by(inode_base(PFS, obj), FILE, id);
             add_version(store, &base, META_ZONE, &CUT_INODE)
@@ -157,6 +162,26 @@ fn target_after(
     }
 }
 
+// The number that the inode of an object holds after steps, as of an id.
+fn number_after(
+    alloc: Global,
+    steps: &[(Step, u64, u64)],
+    obj: u64,
+    as_of: u64,
+) -> Result<Option<u16>, Fail> {
+    let (mut store, _) = store_after(alloc, steps)?;
+    match find_inode(&mut store, PFS, Obj(obj), Id(as_of))? {
+        Some(inode) => Ok(Some(inode.pfs.0)),
+        None => Ok(None),
+    }
+}
+
+const LEADING: [(Step, u64, u64); 3] = [
+    (Step::AddPfsLink(65_535), 60, 4),
+    (Step::AddPfsLink(1), 70, 5),
+    (Step::Remove, 60, 7),
+];
+
 const LINKED: [(Step, u64, u64); 4] = [
     (Step::AddSoftlink, 40, 4),
     (Step::AddFile, 50, 5),
@@ -198,6 +223,11 @@ fn an_object_is_as_the_newest_id_left_it(rt: HostRuntime) -> Result<(), Fail> {
         (&ADDED, 1, 20, 4, None),
         (&ADDED, 1, 30, 4, None),
         (&ADDED, 1, 40, 4, None),
+        (&LEADING, 0, 60, 3, None),
+        (&LEADING, 0, 60, 4, Some((PFS_LINK, 0, 1))),
+        (&LEADING, 0, 60, 6, Some((PFS_LINK, 0, 1))),
+        (&LEADING, 0, 60, 7, None),
+        (&LEADING, 1, 60, 4, None),
         // Its links are those of the newest id.
         (&LINKED, 0, 40, 3, None),
         (&LINKED, 0, 40, 4, Some((SOFTLINK, 7, 1))),
@@ -222,6 +252,24 @@ fn an_object_is_as_the_newest_id_left_it(rt: HostRuntime) -> Result<(), Fail> {
     ] {
         let found = found_after(rt.alloc(), steps, pfs, obj, as_of)?;
         assert_eq!(rt; found, want, "{obj} of {pfs} as of {as_of}, {steps:?}");
+    }
+    Ok(())
+}
+
+#[test]
+fn a_pfs_link_holds_the_number_that_it_leads_to(rt: HostRuntime) -> Result<(), Fail> {
+    for (steps, obj, as_of, want) in [
+        (LEADING.as_slice(), 60, 3, None),
+        (&LEADING, 60, 4, Some(65_535)),
+        (&LEADING, 60, 6, Some(65_535)),
+        (&LEADING, 60, 7, None),
+        (&LEADING, 70, 5, Some(1)),
+        (&LEADING, 70, 7, Some(1)),
+        (&ADDED, 20, 4, Some(0)),
+        (&ADDED, 40, 4, Some(0)),
+    ] {
+        let number = number_after(rt.alloc(), steps, obj, as_of)?;
+        assert_eq!(rt; number, want, "{obj} as of {as_of}, {steps:?}");
     }
     Ok(())
 }

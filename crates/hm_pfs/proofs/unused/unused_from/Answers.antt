@@ -12,7 +12,7 @@ returns-then-is_none-clause-ok g c =
     let pfs : Pfs = record { 0 = c.loop-number.number } in
     first_unused (g.T.HasElements.elements c.args.store.now) (g.T.HasElements.elements c.loop-number.store) (g.T.HasRoom.extents c.args.store.now)
     (subject_of (key_of c.record_base.result)) c.args.from pfs c.in_ok-record.record invariant.keeps.elements
-    c.record_base.ensures c.if-is_none.ensures c.in_ok-record.ensures.ok invariant.from invariant.used
+    c.record_base.ensures c.if-is_none.ensures c.in_ok-record.ensures.ok invariant.from c.loop-number-test.true invariant.used
 
 pub loop-number-preserved : goal.loop-number-preserved
 loop-number-preserved g c =

@@ -8,7 +8,7 @@ use Rattle.hm_key.specs.declared.base.Base.{Base}
 use Rattle.hm_key.specs.declared.memory.MemStore.{MemStore}
 use Rattle.hm_cursor.specs.Told.{Lists, fulls}
 use Rattle.hm_cursor.specs.Write.{Rewrites}
-use Rattle.hm_objects.specs.Objects.{AddsObject, ChangesBy, ResizesObject, file_of, softlink_of}
+use Rattle.hm_objects.specs.Objects.{AddsObject, ChangesBy, ResizesObject, file_of, pfs_link_of, softlink_of}
 use Rattle.hm_store_tests.proofs.TestLemmas.{fresh_below, ready_after}
 use Rattle.hm_cursor.proofs.ViewsLemmas.{below_still}
 use Rattle.hm_store_tests.proofs.objects_tests.take.Goals as goal
@@ -38,6 +38,12 @@ returns-in_ok-target-in-AddSoftlink c =
     ready_after c.add_softlink-in-AddSoftlink.result c.args.id.0 (lists_of c.args.store.now) (lists_of c.add_softlink-in-AddSoftlink.new.store)
     (AddsObject 0 c.args.id.0 (softlink_of c.args.obj _))
     c.requires.ready (λ done. below_still done.writes.up_to) c.add_softlink-in-AddSoftlink.ensures.ok
+
+pub returns-in-AddPfsLink : goal.returns-in-AddPfsLink
+returns-in-AddPfsLink c =
+    ready_after c.add_pfs_link.result c.args.id.0 (lists_of c.args.store.now) (lists_of c.add_pfs_link.new.store)
+    (AddsObject 0 c.args.id.0 (pfs_link_of c.args.obj _))
+    c.requires.ready (λ done. below_still done.writes.up_to) c.add_pfs_link.ensures.ok
 
 pub returns-in-AddDamaged : goal.returns-in-AddDamaged
 returns-in-AddDamaged c =
