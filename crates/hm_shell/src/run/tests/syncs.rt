@@ -1,6 +1,7 @@
 // Runs with syncs: what they tell, and what is there where a flush fails or a run is cut off in one.
 
 use super::*;
+use hm_header::read_header;
 
 #[test]
 fn a_sync_tells_the_last_id_before_it(rt: HostRuntime) -> Result<(), Fail> {
@@ -144,5 +145,53 @@ fn a_stage_that_fails_refuses_the_sync_that_waits_for_it(rt: HostRuntime) -> Res
     }
     let want = [Some(0), Some(1), Some(2), Some(3), Some(4), Some(5)];
     assert_eq!(rt; seen.as_slice(), want.as_slice());
+    Ok(())
+}
+
+// Runs a change and two syncs on a new volume, where these calls of the disk fail.
+fn synced_twice<R: AllocGlobal + Threads + Wait + Sync>(
+    rt: &R,
+    fails: Vec<u64>,
+) -> Result<(u8, MemSink, MemDisk), AllocError> {
+    let script = b"mkdir /a\nsync\nsync\n".to_vec(rt.alloc())?;
+    let disk = blank(rt).failing(fails);
+    Ok(parts(run_over(rt, &MAKES, disk, script, &[], &[])?))
+}
+
+// Whether the header that counts on a disk names entries of the log.
+fn names_entries<R: AllocGlobal>(rt: &R, disk: MemDisk) -> bool {
+    let mut disk = disk.failing(Vec::new(rt.alloc()));
+    match read_header(&mut disk) {
+        Ok(Ok((header, _))) => header.undo_count > 0,
+        _ => false,
+    }
+}
+
+// The number of the call that first places a page: the one after the sync of the header that names entries.
+fn first_place<R: AllocGlobal + Threads + Wait + Sync>(rt: &R) -> Result<Option<u64>, AllocError> {
+    // Making the volume and opening it make some 270 calls.
+    for call in 270..=400 {
+        // Where the sync fails and so does all after it, that header is what the disk has.
+        let fails = vec![in rt.alloc(); call, call + 1, call + 2, call + 3]?;
+        let (_, _, disk) = synced_twice(rt, fails)?;
+        if names_entries(rt, disk) {
+            return Ok(Some(call + 1));
+        }
+    }
+    Ok(None)
+}
+
+#[test]
+fn a_sync_is_refused_where_a_page_cannot_be_placed(rt: HostRuntime) -> Result<(), Fail> {
+    let (_, _, whole) = synced_twice(&rt, Vec::new(rt.alloc()))?;
+    let Some(call) = first_place(&rt)? else {
+        panic!(rt; "no page was placed");
+    };
+    let (status, out, disk) = synced_twice(&rt, vec![in rt.alloc(); call]?)?;
+    let printed = "0x0000000000000002 ok\n0x0000000000000003 media 0 1\n0x0000000000000004 ok\n";
+    assert_eq!(rt; status, 0);
+    assert_eq!(rt; out.bytes(), printed.as_bytes());
+    // The call that failed was a write, and it was made again.
+    assert_eq!(rt; disk.changes(), whole.changes() + 1);
     Ok(())
 }
