@@ -1,13 +1,12 @@
 -- The checks of a call on the bytes of a file, and what it makes of the tree, by where its walk came to.
-use Rattle.std.proofs.Common.{◌≡◌, ℕ, ◌+◌, ◌-◌, ◌≤◌, List, [], ◌∷◌, Bool, true, false, Option, Some, None, length, refl, sym, ap, subst, ◌∙◌, arith}
+use Rattle.std.proofs.Common.{◌≡◌, ℕ, ◌+◌, ◌≤◌, List, [], ◌∷◌, Bool, true, false, Option, Some, None, length, refl, sym, ap, subst, ◌∙◌}
 use Rattle.std.specs.Prelude.{◌==◌, ◌&&◌, ◌||◌, IfSome, if◌then◌else◌, drop}
 use Rattle.std.specs.List.{AllZip}
 use Rattle.std.specs.Option.{option_map_or}
 use Rattle.hm_types.specs.Elements.{FullElement}
-use Rattle.hm_types.specs.Tree.{FileTree, object_in}
+use Rattle.hm_types.specs.Tree.{FileTree, object_in, holding}
 use Rattle.hm_types.specs.declared.limits.TheConstants.{GREATEST_ID}
-use Rattle.hm_types.specs.declared.object.Kind.{Kind}
-use Rattle.hm_types.specs.declared.object.Kind.TheVariants.{Directory, File, Softlink, PfsLink}
+use Rattle.hm_types.specs.declared.object.Kind.TheVariants.{File}
 use Rattle.hm_types.specs.declared.object.Object.{Object}
 use Rattle.hm_path.specs.Path.{IsPath}
 use Rattle.hm_path.specs.declared.part.Part.{Part}
@@ -31,14 +30,13 @@ use Rattle.hm_model.proofs.ReadLemmas.{read_once}
 use Rattle.hm_records.specs.View.{IsViewOf}
 use Rattle.hm_records.specs.declared.inode.Inode.{Inode}
 use Rattle.hm_records.proofs.LookupLemmas.{found_is_object}
-use Rattle.hm_volume.specs.Found.{IsMadeBy}
 use Rattle.hm_dirs.specs.Walk.{IsRead, Scene, place_of, when_of}
 use Rattle.hm_dirs.specs.declared.position.Course.{Course}
 use Rattle.hm_dirs.specs.declared.position.Stand.{Stand}
 use Rattle.hm_calls.specs.Call.{IsCall}
 use Rattle.hm_calls.specs.Changes.{Changes, ChangesTree, tree_now}
 use Rattle.hm_calls.specs.Due.{space_for}
-use Rattle.hm_calls.specs.Edits.{ChangesFile, command_for, edited, end_of, is_there, zones_for}
+use Rattle.hm_calls.specs.Edits.{ChangesFile, command_for, edited, end_of, zones_for}
 use Rattle.hm_calls.specs.Known.{AreBelow, AreBelowIn}
 use Rattle.hm_calls.specs.Places.{refuse_kind}
 use Rattle.hm_calls.specs.Replies.{IsAcceptedBy}
@@ -46,8 +44,8 @@ use Rattle.hm_calls.specs.declared.edit.Edit.{Edit}
 use Rattle.hm_calls.specs.declared.edit.Edit.TheVariants.{Fill, Truncate, Write}
 use Rattle.hm_calls.specs.declared.stop.Stop.{Stop}
 use Rattle.hm_calls.proofs.CatLemmas.{made_bytes, refused_kind}
-use Rattle.hm_calls.proofs.EffectLemmas.{master_view, system_there, tree_changes, view_later}
-use Rattle.hm_calls.proofs.KindLemmas.{number_found}
+use Rattle.hm_calls.proofs.EffectLemmas.{kinds_none, master_view, system_there, tree_changes, view_later}
+use Rattle.hm_calls.proofs.KindLemmas.{file_left, number_found}
 use Rattle.hm_calls.proofs.LinkLemmas.{in_slave}
 use Rattle.hm_calls.proofs.NowLemmas.{EndsNow, walk_now}
 use Rattle.hm_calls.proofs.RefusalLemmas.{AsRead, IsFirst, IsOfOne, IsRefused, PassEarly, after_early, all_checks, all_pass, one_accepts, one_refuses}
@@ -56,6 +54,8 @@ use Rattle.hm_calls.proofs.RefusalLemmas.{refuse_one, stop}
 use Rattle.hm_calls.proofs.RemoveLemmas.{IsMade, made_of, master_check}
 use Rattle.hm_calls.proofs.SceneLemmas.{IsEnd, IsSet, IsStoppedBy, OnScenes, call_in, scenes_all, scenes_both, scenes_so}
 use Rattle.hm_calls.proofs.StageLemmas.{Wrote, scenes_below, scenes_own, writes_changes}
+use Rattle.hm_calls.proofs.TreeLemmas.{change_keeps}
+use Rattle.hm_types.specs.declared.object.Content.TheVariants.{File as FileBytes}
 
 pub of_edit : (edit : Edit) (word : List ℕ) → IsOfOne (command_for edit word) (Walks Follows) word
 of_edit (Write offset bytes) word = record { uses = refl; form = λ hash room free path busy scene refusal first. first }
@@ -156,13 +156,8 @@ module _ (hash : List ℕ → ℕ) (room : ℕ → ℕ) (free : ℕ) (edit : Edi
           (refused_kind is_softlink NotFile (object_at scene.view (place_of file.at)) made.o made.there no_link)).sized
 
       is_file : made.o.kind ≡ File
-      is_file = by_kind made.o.kind (refused_kind is_dir_or_link IsDir (object_at scene.view (place_of file.at)) made.o made.there no_dir)
-          (refused_kind is_softlink NotFile (object_at scene.view (place_of file.at)) made.o made.there no_link) where
-            by_kind : (kind : Kind) → refuse_if (is_dir_or_link kind) IsDir ≡ None → refuse_if (is_softlink kind) NotFile ≡ None → kind ≡ File
-            by_kind Directory no_dir no_link = absurd (cc)
-            by_kind File no_dir no_link = refl
-            by_kind Softlink no_dir no_link = absurd (cc)
-            by_kind PfsLink no_dir no_link = absurd (cc)
+      is_file = file_left made.o.kind (refused_kind is_dir_or_link IsDir (object_at scene.view (place_of file.at)) made.o made.there no_dir)
+          (refused_kind is_softlink NotFile (object_at scene.view (place_of file.at)) made.o made.there no_link)
 
       pub edit_space : (check : Check) → space_for (zones_for edit inode.size) 4 room free ≡ check
           → space_for (zones_by edit (object_at scene.view (place_of file.at))) 4 room free ≡ check
@@ -214,6 +209,9 @@ module _ (hash : List ℕ → ℕ) (room : ℕ → ℕ) (free : ℕ) (edit : Edi
           (λ t late.
           let later = view_later pfs scene.volume.last id scene.elements (scene.view pfs Now) own below own_is view t late in
           (found_is_object pfs (scene.view pfs Now) (Counts scene.elements t) later file.at.object made.o there_now).0))
+          (λ _. kinds_none (with_bytes (tree_now the_edit) (edited edit) made.o) scene.elements es' wrote.names)
+          (λ number o there gone. absurd (change_keeps (tree_now the_edit) made.o.number
+          (holding (FileBytes (edited edit (file_bytes made.o.content)))) (λ p. refl) number o there gone)) (λ _. wrote.follows)
           (sym (edit_changed (tree_now the_edit)))
         where
           numbered : made.o.number.0 ≡ file.at.object.0

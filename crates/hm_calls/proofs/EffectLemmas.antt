@@ -23,10 +23,11 @@ use Rattle.hm_model.specs.declared.reply.Reply.TheVariants.{ReadOnly}
 use Rattle.hm_records.specs.Changes.{CountsNothing, HasInode, LacksName}
 use Rattle.hm_records.specs.declared.inode.Inode.{Inode}
 use Rattle.hm_records.specs.Entry.{entry_bytes}
+use Rattle.hm_records.specs.Follows.{StillFollow}
 use Rattle.hm_records.specs.KeysFit.{KeysFit}
 use Rattle.hm_records.specs.Laws.{HasView}
 use Rattle.hm_records.specs.Payload.{KeyFits}
-use Rattle.hm_records.specs.View.{HasEntry, IsViewOf}
+use Rattle.hm_records.specs.View.{HasEntry, IsViewOf, kind_number}
 use Rattle.hm_records.proofs.CountsLemmas.{settled}
 use Rattle.hm_records.proofs.LookupLemmas.{none_lacks}
 use Rattle.hm_records.proofs.ViewLemmas.{view_kept}
@@ -36,9 +37,9 @@ use Rattle.hm_objects.specs.Objects.{IsMissing}
 use Rattle.hm_dirs.specs.Names.{CanTakeAt, IsHidden, IsSpot, first_key, numbers}
 use Rattle.hm_dirs.specs.declared.spot.Spot.{Spot}
 use Rattle.hm_calls.specs.Call.{IsCall}
-use Rattle.hm_calls.specs.Changes.{ChangesTree, HasSystem, tree_now}
+use Rattle.hm_calls.specs.Changes.{ChangesTree, HasSystem, IsOfItsKind, LeavesNone, tree_now}
 use Rattle.hm_calls.specs.Known.{AreBelow, IsOlderThan}
-use Rattle.hm_calls.specs.Writes.{IsNewIn, IsOpen, Place, Steps}
+use Rattle.hm_calls.specs.Writes.{AllCame, IsNewIn, NamesNothing, IsOpen, NamesObject, Place, Steps}
 
 -- ---- a pseudo file system whose elements are older than an id
 
@@ -220,6 +221,27 @@ pub spot_fits : (hash : List ℕ → ℕ) (key : ℕ) (name : List ℕ) → firs
     → KeyFits hash key name
 spot_fits hash key name from to = omega (arith, from, to)
 
+-- ---- the kinds that new entries tell
+
+-- those that lead to one object tell its kind
+pub kinds_leading : (obj : Obj) (kind : ℕ) (tree : FileTree) (es es' : List FullElement)
+    → ((o : Object) → object_in tree obj ≡ Some o → kind ≡ kind_number o.kind) → AllCame (NamesObject obj kind) es es' → AllCame (IsOfItsKind tree) es es'
+kinds_leading obj kind tree es es' is names x has = elim (names x has) [
+  | inl was ↦ inl was
+  | inr new ↦ inr (record {
+    kind_is = λ entry o type ranges spelled there.
+        let led = new.leads entry type ranges spelled in
+        led.1 ∙ is o (ap (object_in tree) (sym led.0) ∙ there);
+  })
+]
+
+-- where nothing new is an entry, none tells another one
+pub kinds_none : (tree : FileTree) (es es' : List FullElement) → AllCame NamesNothing es es' → AllCame (IsOfItsKind tree) es es'
+kinds_none tree es es' names x has = elim (names x has) [
+  | inl was ↦ inl was
+  | inr new ↦ inr (record { kind_is = λ entry o type ranges spelled there. absurd (new type) })
+]
+
 -- ---- an accepted call
 
 module _ (call : Call) (hash : List ℕ → ℕ) (last id pfs : ℕ) (es : List FullElement) (asked : IsCall hash id es call) (own : HaveOwnKeys es)
@@ -231,9 +253,13 @@ module _ (call : Call) (hash : List ℕ → ℕ) (last id pfs : ℕ) (es : List 
 
   -- A writing step makes of the tree what the call makes of it.
   pub tree_changes : (f : FileTree → FileTree) (Fits : Type 0) (es' : List FullElement) → Steps pfs id hash Fits es es' → Fits
-      → (object_in (tree_now call) (record { 0 = id }) ≡ None → Shows pfs id f es es') → f (tree_now call) ≡ changed call (tree_now call)
+      → (object_in (tree_now call) (record { 0 = id }) ≡ None → Shows pfs id f es es')
+      → (object_in (tree_now call) (record { 0 = id }) ≡ None → AllCame (IsOfItsKind (f (tree_now call))) es es')
+      → ((obj : Obj) (o : Object) → object_in (tree_now call) obj ≡ Some o → object_in (f (tree_now call)) obj ≡ None
+      → LeavesNone o.kind pfs obj.0 id es')
+      → (object_in (tree_now call) (record { 0 = id }) ≡ None → StillFollow es es') → f (tree_now call) ≡ changed call (tree_now call)
       → ChangesTree call es es'
-  tree_changes f Fits es' steps fits shows same = record {
+  tree_changes f Fits es' steps fits shows kinds gone follows same = record {
     there = subst (HasSystem call.volume) (sym within) system;
     past = λ t before. steps.writes.past t (omega (arith, before, asked.own));
     others = λ t other tree late differ has. steps.writes.others t other tree (omega (arith, late, asked.own)) (λ is. differ (is ∙ sym within)) has;
@@ -241,16 +267,25 @@ module _ (call : Call) (hash : List ℕ → ℕ) (last id pfs : ℕ) (es : List 
     records = steps.writes.records;
     tree = λ none t late. subst (λ (p : ℕ). IsViewOf es' p t (changed call (tree_now call))) (sym within)
         (subst (λ (tree : FileTree). IsViewOf es' pfs t tree) same
-        (shows (subst (λ (i : ℕ). object_in (tree_now call) (record { 0 = i }) ≡ None) asked.own none) t (tree_now call)
+        (shows (unused none) t (tree_now call)
         (omega (arith, late, asked.own)) (view_later pfs last id es (tree_now call) own below next view t (omega (arith, late, asked.own)))).view);
     came = λ x has. came_as x (steps.writes.came x has);
     up_to = subst (λ (i : ℕ). (localization : ℕ) → AreUpTo localization i es → AreUpTo localization i es') (sym asked.own) steps.writes.up_to;
     keys = subst (λ (h : List ℕ → ℕ). KeysFit h es') (sym asked.hash_is) (steps.keys fits asked.keys);
-  }
+    kinds = λ none. subst (λ (tree : FileTree). AllCame (IsOfItsKind tree) es es') same (kinds (unused none));
+    gone = λ obj o there lost.
+        subst (λ (p : ℕ). LeavesNone o.kind p obj.0 (own_id call) es') (sym within)
+        (subst (λ (i : ℕ). LeavesNone o.kind pfs obj.0 i es') (sym asked.own)
+        (gone obj o there (ap (λ (tree : FileTree). object_in tree obj) same ∙ lost)));
+    follows = λ none. follows (unused none);
+  } where
+    unused : object_in (tree_now call) (record { 0 = own_id call }) ≡ None → object_in (tree_now call) (record { 0 = id }) ≡ None
+    unused = subst (λ (i : ℕ). object_in (tree_now call) (record { 0 = i }) ≡ None) asked.own
 
   -- a call that writes nothing makes nothing of it
   pub tree_stays : tree_now call ≡ changed call (tree_now call) → ChangesTree call es es
   tree_stays same =
       tree_changes (λ tree. tree) (Unit {0}) es
       (record { writes = nothing_written pfs id (IsNewIn pfs id) es; keys = λ fits keys. keys }) tt
-      (λ none t tree late has. has) same
+      (λ none t tree late has. has) (λ none. (nothing_written pfs id (IsOfItsKind (tree_now call)) es).came)
+      (λ obj o there gone. absurd (none_some o (sym gone ∙ there))) (λ none other t follow. follow) same

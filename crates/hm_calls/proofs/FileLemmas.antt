@@ -1,16 +1,14 @@
 -- What new bytes of a file do to the tree.
-use Rattle.std.proofs.Common.{◌≡◌, ◌≢◌, ℕ, ◌+◌, ◌-◌, ◌<◌, ◌≤◌, List, ◌++◌, [], Some, length, max, min, replicate, take, refl, sym, ap, subst, ◌∙◌}
+use Rattle.std.proofs.Common.{◌≡◌, ◌≢◌, ℕ, ◌+◌, ◌-◌, ◌≤◌, List, ◌++◌, length, max, replicate, take, refl, sym, ap, subst, ◌∙◌}
 use Rattle.std.proofs.Common.{inl, inr, arith}
 use Rattle.std.specs.Prelude.{◌↔◌, ◌*◌, Bool, false, true, if◌then◌else◌, nat_eq, slice_index}
 use Rattle.std.proofs.lemmas.Bool.{eqb-true, false≢true}
 use Rattle.std.proofs.lemmas.List.{append-nil, length-replicate, take_all}
 use Rattle.hm_types.specs.Elements.{FullElement}
 use Rattle.hm_types.specs.Space.{Spends}
-use Rattle.hm_types.specs.Tree.{FileTree, holding}
+use Rattle.hm_types.specs.Tree.{holding}
 use Rattle.hm_types.specs.declared.limits.TheConstants.{BLOCK_BYTES, MOST_WRITE_BYTES}
-use Rattle.hm_types.specs.declared.object.Content.{Content as Held}
 use Rattle.hm_types.specs.declared.object.Content.TheVariants.{File as FileBytes}
-use Rattle.hm_types.specs.declared.object.Kind.{Kind}
 use Rattle.hm_types.specs.declared.object.Kind.TheVariants.{File}
 use Rattle.hm_types.specs.declared.object.Object.{Object}
 use Rattle.hm_types.specs.declared.space.TheConstants.{INSERT_ROOM, PAYLOAD_RESERVE, TREE_RESERVE}
@@ -18,21 +16,20 @@ use Rattle.hm_types.specs.declared.zone.TheConstants.{LARGE_ZONE, META_ZONE, SMA
 use Rattle.hm_key.specs.Counts.{Content, Counts, Subject, bytes_subject, entry_subject, inode_subject, others_of, subject_of, target_subject}
 use Rattle.hm_key.specs.Element.{pfs_of}
 use Rattle.hm_key.specs.Versions.{HaveOwnKeys}
-use Rattle.hm_key.specs.declared.rec_type.TheConstants.{DIRECTORY_ENTRY, FILE_BYTES}
 use Rattle.hm_model.specs.Answer.{file_bytes}
 use Rattle.hm_model.specs.Bytes.{resized, written}
 use Rattle.hm_model.specs.Change.{with_bytes}
-use Rattle.hm_records.specs.Changes.{AgreeButObject, ChangesObject, HasInode, IsSettled}
+use Rattle.hm_records.specs.Changes.{AgreeButObject, HasInode, IsSettled}
 use Rattle.hm_records.specs.Entry.{entry_bytes}
 use Rattle.hm_records.specs.Inode.{inode_bytes}
 use Rattle.hm_records.specs.KeysFit.{KeysFit}
-use Rattle.hm_records.specs.Laws.{HasView}
-use Rattle.hm_records.specs.View.{AreFileBytes, IsFileByte, IsHeld, IsObject, kind_number}
+use Rattle.hm_records.specs.View.{AreFileBytes, IsObject, kind_number}
 use Rattle.hm_records.specs.declared.inode.Inode.{Inode}
 use Rattle.hm_records.specs.declared.kind.TheConstants.{FILE}
 use Rattle.hm_records.proofs.CountsLemmas.{settled}
 use Rattle.hm_records.proofs.ObjectChangeLemmas.{known_changed}
 use Rattle.hm_cursor.specs.Views.{Shows, WritesIn}
+use Rattle.hm_cursor.proofs.FollowLemmas.{follow_twice}
 use Rattle.hm_cursor.proofs.ViewsLemmas.{keys_fit_still, nothing_written, writes_wider}
 use Rattle.hm_objects.specs.Objects.{IsOfObject, ResizesObject, sized, spent}
 use Rattle.hm_files.specs.Close.{AreOlder}
@@ -44,9 +41,9 @@ use Rattle.hm_calls.specs.Edits.{ChangesBytes, ChangesFile, HasAllReserves, all_
 use Rattle.hm_calls.specs.Known.{AreBelow}
 use Rattle.hm_calls.specs.declared.edit.Edit.{Edit}
 use Rattle.hm_calls.specs.declared.edit.Edit.TheVariants.{Fill, Truncate, Write}
-use Rattle.hm_calls.specs.Writes.{IsNewIn}
+use Rattle.hm_calls.specs.Writes.{IsNewIn, NamesNothing}
 use Rattle.hm_calls.proofs.CatLemmas.{file_held}
-use Rattle.hm_calls.proofs.StepLemmas.{new_of_object, steps_twice}
+use Rattle.hm_calls.proofs.StepLemmas.{new_of_object, no_entries_then, no_entry_of_object, steps_twice}
 
 -- ---- new bytes
 
@@ -74,6 +71,9 @@ are_alike pfs obj size bytes C D same are = record {
   sized = are.sized;
   each = λ x below. byte_alike pfs obj x (slice_index bytes x) C D (λ n other after. same n other) (are.each x below);
 }
+
+pub no_entry_of_bytes : (pfs obj i : ℕ) (x : FullElement) → IsBytesOf pfs obj i x → NamesNothing x
+no_entry_of_bytes pfs obj i x is type = absurd (omega (arith, type, ap (λ (s : Subject). s.rec_type) is.about))
 
 -- ---- an object whose bytes and inode alone are others
 
@@ -147,6 +147,8 @@ module _ (pfs i size after : ℕ) (change : List ℕ → List ℕ) (es mid : Lis
   bytes_changed obj same bytes = record {
     writes = writes_wider pfs i (IsBytesOf pfs obj i) (IsNewIn pfs i) es mid (new_of_bytes pfs obj i) bytes.writes;
     fits = bytes_fit pfs obj i es mid bytes.writes;
+    names = (writes_wider pfs i (IsBytesOf pfs obj i) NamesNothing es mid (no_entry_of_bytes pfs obj i) bytes.writes).came;
+    follows = bytes.follows;
     shows = λ o number kind long objects.
         let wrote : ChangesBytes pfs o.number.0 i size after change es mid = subst (λ (n : ℕ). ChangesBytes pfs n i size after change es mid) (sym number) bytes
         in
@@ -179,6 +181,9 @@ module _ (pfs i size after : ℕ) (change : List ℕ → List ℕ) (es mid es' :
     writes = steps_twice pfs i (IsOfObject pfs obj i) (IsBytesOf pfs obj i) es mid es' (new_of_object pfs obj i) (new_of_bytes pfs obj i) resizes.writes
         bytes.writes;
     fits = λ hash keys. bytes_fit pfs obj i mid es' bytes.writes hash (resizes.fits hash keys);
+    names = (no_entries_then pfs i (IsOfObject pfs obj i) (IsBytesOf pfs obj i) es mid es' (no_entry_of_object pfs obj i) (no_entry_of_bytes pfs obj i)
+        resizes.writes bytes.writes).came;
+    follows = follow_twice es mid es' resizes.follows bytes.follows;
     shows = λ o number kind long objects.
         let first : ResizesObject pfs o.number.0 i after es mid = subst (λ (n : ℕ). ResizesObject pfs n i after es mid) (sym number) resizes in
         let second : ChangesBytes pfs o.number.0 i size after change mid es' =
@@ -223,6 +228,8 @@ pub nothing_changed : (pfs obj i size : ℕ) (es : List FullElement) → HaveOwn
 nothing_changed pfs obj i size es own = record {
   writes = nothing_written pfs i (IsNewIn pfs i) es;
   fits = λ hash keys. keys;
+  names = (nothing_written pfs i NamesNothing es).came;
+  follows = λ other t follow. follow;
   shows = λ o number kind long objects.
       file_shows pfs i o es es own (λ t s b no_bytes no_inode. (λ h. h, λ h. h)) (resized size) kind objects
       (λ t late settled inode file. (
@@ -334,11 +341,21 @@ module _ {S : Type 0} (room : S → ℕ → ℕ) (free : S → ℕ) where
 
 pub bytes_written : (pfs obj i size offset : ℕ) (new : List ℕ) (es es' : List FullElement) → WritesBytes pfs obj i size offset new es es'
     → ChangesBytes pfs obj i size (max size (offset + length new)) (written offset new) es es'
-bytes_written pfs obj i size offset new es es' wrote = record { writes = wrote.writes; holds = wrote.holds; others = wrote.others }
+bytes_written pfs obj i size offset new es es' wrote = record {
+  writes = wrote.writes;
+  holds = wrote.holds;
+  others = wrote.others;
+  follows = wrote.follows;
+}
 
 pub bytes_resized : (pfs obj i size new : ℕ) (es es' : List FullElement) → ResizesBytes pfs obj i size new es es'
     → ChangesBytes pfs obj i size new (resized new) es es'
-bytes_resized pfs obj i size new es es' wrote = record { writes = wrote.writes; holds = wrote.resizes; others = wrote.others }
+bytes_resized pfs obj i size new es es' wrote = record {
+  writes = wrote.writes;
+  holds = wrote.resizes;
+  others = wrote.others;
+  follows = wrote.follows;
+}
 
 pub bytes_filled : (pfs obj i size offset count byte : ℕ) (es es' : List FullElement) → WritesBytes pfs obj i size offset (replicate count byte) es es'
     → ChangesBytes pfs obj i size (max size (offset + count)) (written offset (replicate count byte)) es es'

@@ -107,6 +107,13 @@ passed_fourth None None (Some r) d rest is = absurd (cc)
 passed_fourth None (Some r) c d rest is = absurd (cc)
 passed_fourth (Some r) b c d rest is = absurd (cc)
 
+-- and so did those before it
+pub passed_before : (a b c d : Check) (rest : List Check) → first_refusal (a ∷ b ∷ c ∷ d ∷ rest) ≡ None → (a ≡ None) × (b ≡ None) × (c ≡ None)
+passed_before None None None d rest is = (refl, refl, refl)
+passed_before None None (Some r) d rest is = absurd (cc)
+passed_before None (Some r) c d rest is = absurd (cc)
+passed_before (Some r) b c d rest is = absurd (cc)
+
 -- ---- all checks of a call, by its stages
 
 regroup : (early walked own : List Check) (left slaves full cut space : Check)

@@ -1,5 +1,5 @@
 -- What inodes tell of the kinds of their objects.
-use Rattle.std.proofs.Common.{◌≡◌, ℕ, Bool, true, false, List, [], ◌∷◌, Option, Some, None, cond, refl, sym, ap, subst, ◌∙◌}
+use Rattle.std.proofs.Common.{◌≡◌, ℕ, Bool, true, false, List, [], ◌∷◌, Option, Some, None, cond, refl, sym, ap, subst, ◌∙◌, ◌≤◌, arith}
 use Rattle.std.specs.Prelude.{◌==◌, ◌&&◌, ◌||◌, IfSome, find, if◌then◌else◌}
 use Rattle.std.specs.Option.{option_map_or}
 use Rattle.std.proofs.lemmas.Bool.{eqb-true, eq-eqb, false≢true}
@@ -10,7 +10,7 @@ use Rattle.hm_types.specs.declared.object.Kind.TheVariants.{Directory, File, Sof
 use Rattle.hm_types.specs.declared.object.Object.{Object}
 use Rattle.hm_key.specs.Counts.{Content, Counts}
 use Rattle.hm_model.specs.Call.{Call}
-use Rattle.hm_model.specs.Due.{gives_way, is_dir, is_dir_or_link}
+use Rattle.hm_model.specs.Due.{gives_way, is_dir, is_dir_or_link, is_softlink, refuse_if}
 use Rattle.hm_model.specs.View.{object_at}
 use Rattle.hm_records.specs.View.{kind_number}
 use Rattle.hm_records.specs.declared.inode.Inode.{Inode}
@@ -18,11 +18,45 @@ use Rattle.hm_records.specs.declared.kind.TheConstants.{DIRECTORY, PFS_LINK}
 use Rattle.hm_volume.specs.Found.{IsFoundBy, IsMadeBy}
 use Rattle.hm_dirs.specs.Walk.{IsRead, Scene, place_of, when_of}
 use Rattle.hm_dirs.specs.declared.position.Stand.{Stand}
-use Rattle.hm_calls.specs.Places.{gives_way_by}
+use Rattle.hm_calls.specs.Places.{gives_way_by, IsKindOf, ask_kind}
+use Rattle.hm_model.specs.declared.reply.Reply.TheVariants.{IsDir, NotDir, NotFile}
 
 -- the kind of an object is that of its inode
 pub kind_is : (counts : Content) (pfs : ℕ) (inode : Inode) (o : Object) → IsMadeBy counts pfs inode o → inode.kind ≡ kind_number o.kind
 kind_is counts pfs inode o made = ap (λ (i : Inode). i.kind) (sym made.same) ∙ made.object.kind
+
+-- a number that is that of the kind that an inode tells is that of its object
+pub told_kind : (counts : Content) (pfs : ℕ) (found : Option Object) (inode : Option Inode) (o : Object) (kind : ℕ) → found ≡ Some o
+    → IsFoundBy counts pfs found inode → IsKindOf kind inode → kind ≡ kind_number o.kind
+told_kind counts pfs None inode o kind there by is = absurd (cc)
+told_kind counts pfs (Some p) None o kind there by is = absurd by
+told_kind counts pfs (Some p) (Some inode) o kind there by is =
+    let same : p ≡ o = cc in
+    let tells = kind_is counts pfs inode p by in
+    let range = in_range p.kind in
+    is (omega (arith, tells, range.0)) (omega (arith, tells, range.1)) ∙ tells ∙ ap (λ (x : Object). kind_number x.kind) same
+  where
+    in_range : (k : Kind) → (1 ≤ kind_number k) × (kind_number k ≤ 4)
+    in_range Directory = (omega arith, omega arith)
+    in_range File = (omega arith, omega arith)
+    in_range Softlink = (omega arith, omega arith)
+    in_range PfsLink = (omega arith, omega arith)
+
+-- what is neither a directory nor a link is a file
+pub file_left : (kind : Kind) → refuse_if (is_dir_or_link kind) IsDir ≡ None → refuse_if (is_softlink kind) NotFile ≡ None → kind ≡ File
+file_left Directory no_dir no_link = absurd (cc)
+file_left File no_dir no_link = refl
+file_left Softlink no_dir no_link = absurd (cc)
+file_left PfsLink no_dir no_link = absurd (cc)
+
+-- what was asked to be a directory is one
+pub directory_asked : (object : Option Object) (o : Object) → object ≡ Some o → ask_kind is_dir NotDir object ≡ None → o.kind ≡ Directory
+directory_asked object o there asked = by_kind o.kind (subst (λ (x : Option Object). ask_kind is_dir NotDir x ≡ None) there asked) where
+  by_kind : (kind : Kind) → (if is_dir kind then None else Some NotDir) ≡ None → kind ≡ Directory
+  by_kind Directory is = refl
+  by_kind File is = absurd (cc)
+  by_kind Softlink is = absurd (cc)
+  by_kind PfsLink is = absurd (cc)
 
 dir_is : (kind : Kind) → (kind_number kind == DIRECTORY) ≡ is_dir kind
 dir_is Directory = refl

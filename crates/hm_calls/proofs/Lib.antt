@@ -4,6 +4,7 @@ pub mod WordLemmas
 pub mod KindLemmas
 pub mod CheckLemmas
 pub mod PlaceLemmas
+pub mod TreeLemmas
 pub mod EffectLemmas
 pub mod LookLemmas
 pub mod CatLemmas

@@ -43,8 +43,8 @@ use Rattle.hm_calls.specs.declared.links.Linked.{Linked}
 use Rattle.hm_calls.specs.declared.stages.NewName.{NewName}
 use Rattle.hm_calls.specs.declared.stop.Stop.{Stop}
 use Rattle.hm_calls.specs.declared.stop.Stop.TheVariants.{Failed, Refused}
-use Rattle.hm_calls.proofs.LinkLemmas.{ln_changes, ln_checks, ln_unchanged, paths_linked}
-use Rattle.hm_calls.proofs.FrontLemmas.{IsAsked, back_in, back_over, both_in, map_in, on_in, passed_fourth, second_none}
+use Rattle.hm_calls.proofs.LinkLemmas.{ln_changes, ln_checks, ln_file, ln_unchanged, paths_linked}
+use Rattle.hm_calls.proofs.FrontLemmas.{IsAsked, back_in, back_over, both_in, map_in, on_in, passed_before, passed_fourth, second_none}
 use Rattle.hm_calls.proofs.MakeLemmas.{IsNewPlace, full_check, new_check, new_place, new_place_there, new_view, not_named, tree_at}
 use Rattle.hm_calls.proofs.PlaceLemmas.{front_has_none}
 use Rattle.hm_calls.proofs.RefusalLemmas.{refuse_first, refuse_second}
@@ -267,6 +267,9 @@ module _ {S : Type 0} {elements_of : S → Option (List Element)} {mark_of : S �
   record IsLinking (spot : Spot) (scene : Scene) : Type 0 where
     pub linked_is : IsLinked parts more id named found scene
     pub own : HaveOwnKeys scene.elements
+    pub no_dir : refuse_kind is_dir_or_link IsDir (object_at scene.view (place_of found.object.at)) ≡ None
+    pub no_link : refuse_kind is_softlink NotFile (object_at scene.view (place_of found.object.at)) ≡ None
+    pub one_pfs : (if found.object.at.pfs.0 == found.directory.at.pfs.0 then None else Some CrossPfs) ≡ None
     pub fresh : named_in (tree_at scene found.directory) found.directory.at.object named.name.now ≡ None
     pub spot_is : IsSpot (Counts scene.elements found.directory.as_of.0) found.directory.at.pfs.0 found.directory.at.object (first_key (hash named.name.now))
         spot
@@ -286,6 +289,16 @@ module _ {S : Type 0} {elements_of : S → Option (List Element)} {mark_of : S �
         (if found.object.at.pfs.0 == found.directory.at.pfs.0 then None else Some CrossPfs) (new_check scene found.directory named.name.now)
         (links_check scene found.object ∷ full_check hash scene found.directory named.name.now ∷ space_for names_zones 4 r f ∷ []) told.is
 
+    front_passed : (r : ℕ → ℕ) (f : ℕ) (scene : Scene) → AnswersAll (link_checks hash r f named.name.now found scene) (Ok spot)
+        → (refuse_kind is_dir_or_link IsDir (object_at scene.view (place_of found.object.at)) ≡ None)
+        × (refuse_kind is_softlink NotFile (object_at scene.view (place_of found.object.at)) ≡ None)
+        × ((if found.object.at.pfs.0 == found.directory.at.pfs.0 then None else Some CrossPfs) ≡ None)
+    front_passed r f scene told =
+        passed_before (refuse_kind is_dir_or_link IsDir (object_at scene.view (place_of found.object.at)))
+        (refuse_kind is_softlink NotFile (object_at scene.view (place_of found.object.at)))
+        (if found.object.at.pfs.0 == found.directory.at.pfs.0 then None else Some CrossPfs) (new_check scene found.directory named.name.now)
+        (links_check scene found.object ∷ full_check hash scene found.directory named.name.now ∷ space_for names_zones 4 r f ∷ []) told.is
+
     linking : InScenes hash course (elements_of start) (extents_of start) (IsLinking spot)
     linking =
         map_in {P = λ scene. (IsLinked parts more id named found scene × HaveOwnKeys scene.elements)
@@ -294,6 +307,9 @@ module _ {S : Type 0} {elements_of : S → Option (List Element)} {mark_of : S �
         (λ scene set is. record {
           linked_is = is.0.0;
           own = is.0.1;
+          no_dir = (front_passed room free scene is.1.0).0;
+          no_link = (front_passed room free scene is.1.0).1;
+          one_pfs = (front_passed room free scene is.1.0).2;
           fresh = not_named (named_in (tree_at scene found.directory) found.directory.at.object named.name.now)
               (fresh_passed room free scene is.1.0);
           spot_is = is.1.1;
@@ -302,10 +318,10 @@ module _ {S : Type 0} {elements_of : S → Option (List Element)} {mark_of : S �
         (both_in (back_in same (told seen)) (back_in same (spots seen))))
 
     -- what `ln` wrote is its change
-    pub ln_writes : (inode : Inode) (links : ℕ) → found.object.inode ≡ Some inode → links ≡ inode.links + 1
+    pub ln_writes : (inode : Inode) (links : ℕ) → has_id (Parts parts) ≡ false → found.object.inode ≡ Some inode → links ≡ inode.links + 1
         → Wrote (PutsLink hash (place_in found.directory named.name.now) spot id found.object.at.object links) (elements_of start) (extents_of start) es' xs'
         → Wrote (Changes hash id (λ call. call.command ≡ Ln old new)) (elements_of start) (extents_of start) es' xs'
-    ln_writes inode links has links_is writes =
+    ln_writes inode links none has links_is writes =
         writes_changes hash id course (Ln old new) (PutsLink hash (place_in found.directory named.name.now) spot id found.object.at.object links)
         (IsLinking spot) (elements_of start) es' (extents_of start) xs' before
         (λ busy paths scene list reads set is puts.
@@ -314,7 +330,9 @@ module _ {S : Type 0} {elements_of : S → Option (List Element)} {mark_of : S �
         (ln_changes hash (λ _. 0) 0 old new scene parts more named.name.now found.object found.directory is.linked_is.end is.linked_is.place busy inode has id
         course spot links list before path next set is.own is.linked_is.below is.linked_is.master is.fresh
         (subst (λ (t : ℕ). IsSpot (Counts scene.elements t) found.directory.at.pfs.0 found.directory.at.object (first_key (hash named.name.now)) spot)
-        (ap (λ i. i.0) is.linked_is.last ∙ ap (λ (c : Course). c.last.0) set.course_is) is.spot_is) links_is puts))
+        (ap (λ i. i.0) is.linked_is.last ∙ ap (λ (c : Course). c.last.0) set.course_is) is.spot_is) links_is
+        (ln_file hash (λ _. 0) 0 old new scene parts more named.name.now found.object found.directory is.linked_is.end is.linked_is.place busy none
+        is.no_dir is.no_link is.one_pfs) puts))
         linking.each writes
 
     -- an object that is not there gets no link

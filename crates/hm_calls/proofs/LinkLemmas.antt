@@ -1,10 +1,10 @@
 -- The checks of `ln`, and what it makes of a tree, by where its walks came to.
-use Rattle.std.proofs.Common.{◌≡◌, ℕ, ◌+◌, ◌-◌, List, [], ◌∷◌, Bool, false, Option, Some, None, Result, refl, sym, ap, subst, ◌∙◌}
+use Rattle.std.proofs.Common.{◌≡◌, ℕ, ◌+◌, List, [], ◌∷◌, Bool, false, Option, Some, None, Result, refl, sym, ap, subst, ◌∙◌, true}
 use Rattle.std.specs.Prelude.{◌==◌, ◌||◌, if◌then◌else◌}
 use Rattle.std.specs.Bool.{nat_le}
 use Rattle.std.specs.Option.{option_map_or}
 use Rattle.hm_types.specs.Elements.{FullElement}
-use Rattle.hm_types.specs.Tree.{FileTree, named_in, with_change, with_links, with_name}
+use Rattle.hm_types.specs.Tree.{FileTree, named_in, with_change, with_links, with_name, object_in}
 use Rattle.hm_types.specs.declared.id.Obj.{Obj}
 use Rattle.hm_types.specs.declared.object.Object.{Object}
 use Rattle.hm_path.specs.Path.{IsPath}
@@ -14,16 +14,17 @@ use Rattle.hm_key.specs.Versions.{HaveOwnKeys}
 use Rattle.hm_model.specs.Call.{Call, site_in}
 use Rattle.hm_model.specs.Change.{changed, changed_pfs, linked}
 use Rattle.hm_model.specs.Due.{Check, a_file, first_refusal, hash_is_full, is_dir_or_link, is_in_slave, is_softlink, links_left, name_is_new, new_name, no_dir}
+use Rattle.hm_model.specs.Due.{has_id}
 use Rattle.hm_model.specs.Due.{refuse_if, walks}
 use Rattle.hm_model.specs.Needs.{names_zones}
 use Rattle.hm_model.specs.Sites.{At, Located, MakesName, Parsed, Parts, ReadsWords, Walks, at_end, locate}
 use Rattle.hm_model.specs.View.{Now, Position, When, object_at}
-use Rattle.hm_model.specs.Walk.{Stays, walk}
+use Rattle.hm_model.specs.Walk.{Stays, walk, start}
 use Rattle.hm_model.specs.declared.command.Command.TheVariants.{Ln}
 use Rattle.hm_model.specs.declared.reply.Reply.TheVariants.{CrossPfs, Exists, HashFull, IsDir, NotFile, ReadOnly}
 use Rattle.hm_model.proofs.ReadLemmas.{read_once}
 use Rattle.hm_records.specs.Payload.{KeyFits}
-use Rattle.hm_records.specs.View.{IsViewOf}
+use Rattle.hm_records.specs.View.{IsViewOf, kind_number}
 use Rattle.hm_records.specs.declared.inode.Inode.{Inode}
 use Rattle.hm_records.proofs.NameLemmas.{same_obj}
 use Rattle.hm_volume.specs.Found.{IsFoundBy}
@@ -41,15 +42,21 @@ use Rattle.hm_calls.specs.Stages.{AnswersAll, last_checks, place_checks}
 use Rattle.hm_calls.specs.Stop.{Answers}
 use Rattle.hm_calls.specs.Writes.{IsOpen, PutsLink, place_in}
 use Rattle.hm_calls.specs.declared.stop.Stop.{Stop}
-use Rattle.hm_calls.proofs.EffectLemmas.{opens, spot_fits, tree_changes, tree_stays}
+use Rattle.hm_calls.proofs.EffectLemmas.{kinds_leading, opens, spot_fits, tree_changes, tree_stays}
 use Rattle.hm_calls.proofs.FrontLemmas.{skips}
-use Rattle.hm_calls.proofs.KindLemmas.{number_found}
+use Rattle.hm_calls.proofs.KindLemmas.{file_left, number_found}
 use Rattle.hm_calls.proofs.MakeLemmas.{IsNewPlace, new_system, new_view, tree_at}
 use Rattle.hm_calls.proofs.RefusalLemmas.{read_two}
 use Rattle.hm_calls.proofs.RemoveLemmas.{IsMade, made_links, made_of, master_check}
 use Rattle.hm_calls.proofs.SceneLemmas.{IsEnd, IsSet, call_in}
 use Rattle.hm_calls.specs.Scenes.{is_slave}
 use Rattle.hm_calls.specs.Links.{link_checks, links_check}
+use Rattle.hm_calls.proofs.TreeLemmas.{change_before, change_keeps, change_kind}
+use Rattle.hm_calls.proofs.CatLemmas.{refused_kind}
+use Rattle.hm_calls.proofs.NowLemmas.{EndsNow, walk_now}
+use Rattle.hm_records.specs.declared.kind.TheConstants.{FILE}
+use Rattle.hm_types.specs.declared.object.Kind.TheVariants.{File}
+use Rattle.std.proofs.lemmas.Bool.{eqb-true}
 
 -- ---- the checks after the walks, by where these led
 
@@ -137,6 +144,32 @@ module _ (hash : List ℕ → ℕ) (room : ℕ → ℕ) (free : ℕ) (old new : 
   ln_pfs : changed_pfs ln ≡ directory.at.pfs.0
   ln_pfs = ap (λ (l : Located). (site_in l).at.pfs) two_is
 
+  -- the object is a file in the tree of now
+  pub ln_file : has_id (Parts parts) ≡ false → refuse_kind is_dir_or_link IsDir (object_at scene.view (place_of object.at)) ≡ None
+      → refuse_kind is_softlink NotFile (object_at scene.view (place_of object.at)) ≡ None
+      → (if object.at.pfs.0 == directory.at.pfs.0 then None else Some CrossPfs) ≡ None
+      → (o : Object) → object_in (tree_now ln) object.at.object ≡ Some o → o.kind ≡ File
+  ln_file none no_dir no_link same o there =
+      file_left o.kind (refused_kind is_dir_or_link IsDir (object_at scene.view (place_of object.at)) o here no_dir)
+      (refused_kind is_softlink NotFile (object_at scene.view (place_of object.at)) o here no_link)
+    where
+      now_is : when_of object.at.when ≡ Now
+      now_is =
+          ap (λ (p : Position). p.when) end.ends.place
+          ∙ subst EndsNow end.walked_is (walk_now scene.volume scene.view Stays parts start ((0, 1) ∷ []) none refl)
+
+      one_pfs : (b : Bool) → (object.at.pfs.0 == directory.at.pfs.0) ≡ b → (if b then None else Some CrossPfs) ≡ None
+          → object.at.pfs.0 ≡ directory.at.pfs.0
+      one_pfs true is passes = eqb-true object.at.pfs.0 directory.at.pfs.0 is
+      one_pfs false is passes = absurd (cc)
+
+      here : object_at scene.view (place_of object.at) ≡ Some o
+      here =
+          ap (λ (w : When). object_in (scene.view object.at.pfs.0 w) object.at.object) now_is
+          ∙ ap (λ (p : ℕ). object_in (scene.view p Now) object.at.object)
+          (one_pfs (object.at.pfs.0 == directory.at.pfs.0) refl same ∙ sym ln_pfs)
+          ∙ there
+
   module _ (inode : Inode) (has : object.inode ≡ Some inode) where
     made : IsMade (Counts scene.elements object.as_of.0) object.at.pfs.0 (object_at scene.view (place_of object.at)) inode
     made = made_of (Counts scene.elements object.as_of.0) object.at.pfs.0 (object_at scene.view (place_of object.at)) object.inode inode has
@@ -164,8 +197,9 @@ module _ (hash : List ℕ → ℕ) (room : ℕ → ℕ) (free : ℕ) (old new : 
         → IsSet hash course scene → HaveOwnKeys scene.elements → AreBelow directory.at.pfs.0 id scene.elements → master_check scene directory.at.pfs.0 ≡ None
         → named_in (tree_at scene directory) directory.at.object name ≡ None
         → IsSpot (Counts scene.elements course.last.0) directory.at.pfs.0 directory.at.object (first_key (hash name)) spot → links ≡ inode.links + 1
+        → ((o : Object) → object_in (tree_now ln) object.at.object ≡ Some o → o.kind ≡ File)
         → PutsLink hash (place_in directory name) spot id object.at.object links scene.elements es' → ChangesTree ln scene.elements es'
-    ln_changes id course spot links es' before path next set own below passes fresh spot_is links_is puts =
+    ln_changes id course spot links es' before path next set own below passes fresh spot_is links_is file puts =
         let pfs : ℕ = directory.at.pfs.0 in
         let own_is : scene.volume.last + 1 ≡ id = ap (λ (n : ℕ). n + 1) set.last ∙ before in
         let asked : IsCall hash id scene.elements ln = record {
@@ -185,6 +219,15 @@ module _ (hash : List ℕ → ℕ) (room : ℕ → ℕ) (free : ℕ) (old new : 
         (subst (λ (tree : FileTree). IsViewOf scene.elements pfs course.last.0 tree) tree_is view)
         (λ tree. with_name (with_change tree object.at.object (with_links links)) directory.at.object name object.at.object) (KeyFits hash spot.key name) es'
         puts.steps (spot_fits hash spot.key name spot_is.from spot_is.to) (λ none. puts.shows open_is)
+        (λ none. kinds_leading object.at.object FILE
+        (with_name (with_change (tree_now ln) object.at.object (with_links links)) directory.at.object name object.at.object) scene.elements es'
+        (λ o now.
+        let (was, there) = change_before (tree_now ln) object.at.object (with_links links) (λ p. refl) object.at.object o now in
+        ap kind_number (sym (change_kind (tree_now ln) object.at.object (with_links links) (λ p. refl) (λ p. refl) object.at.object was o there now
+        ∙ file was there)))
+        puts.names)
+        (λ number o there gone. absurd (change_keeps (tree_now ln) object.at.object (with_links links) (λ p. refl) number o there gone))
+        (λ none. puts.follows open_is)
         (ap (λ (n : ℕ). with_name (with_change (tree_now ln) object.at.object (with_links n)) directory.at.object name object.at.object) links_is
         ∙ sym (ln_changed (tree_now ln)))
 

@@ -1,5 +1,5 @@
 -- The calls that make an object: their checks, and what they make of a tree.
-use Rattle.std.proofs.Common.{◌≡◌, ℕ, ◌+◌, ◌-◌, List, [], ◌∷◌, Bool, true, false, Option, Some, None, drop, refl, sym, ap, subst, ◌∙◌}
+use Rattle.std.proofs.Common.{◌≡◌, ℕ, ◌+◌, List, [], ◌∷◌, Bool, true, false, Option, Some, None, drop, refl, sym, ap, subst, ◌∙◌}
 use Rattle.std.specs.Prelude.{◌||◌, if◌then◌else◌}
 use Rattle.std.specs.Bool.{nat_le}
 use Rattle.std.specs.List.{AllZip}
@@ -25,7 +25,7 @@ use Rattle.hm_model.specs.declared.command.Command.TheVariants.{Mkdir}
 use Rattle.hm_model.specs.declared.reply.Reply.TheVariants.{Done, Exists, HashFull, NotDir, ReadOnly}
 use Rattle.hm_model.proofs.ReadLemmas.{read_once}
 use Rattle.hm_records.specs.Payload.{KeyFits}
-use Rattle.hm_records.specs.View.{IsViewOf}
+use Rattle.hm_records.specs.View.{IsViewOf, kind_number}
 use Rattle.hm_records.specs.declared.inode.Inode.{Inode}
 use Rattle.hm_volume.specs.Shown.{ShowsAs}
 use Rattle.hm_objects.specs.Objects.{IsMissing}
@@ -41,12 +41,13 @@ use Rattle.hm_calls.specs.New.{command_by, object_by}
 use Rattle.hm_calls.specs.Writes.{IsOpen, PutsObject, place_in}
 use Rattle.hm_calls.specs.declared.new.New.{New}
 use Rattle.hm_calls.specs.declared.new.New.TheVariants.{Directory, File, Snapshot, Softlink}
-use Rattle.hm_calls.proofs.EffectLemmas.{IsFoundThen, master_view, misses, opens, spot_fits, system_there, tree_changes}
+use Rattle.hm_calls.proofs.EffectLemmas.{IsFoundThen, kinds_leading, master_view, misses, opens, spot_fits, system_there, tree_changes}
 use Rattle.hm_calls.proofs.PlaceLemmas.{front_walks_now}
 use Rattle.hm_calls.proofs.RefusalLemmas.{AsRead, IsFirst, all_checks, pass, read_one, refuse_one}
 use Rattle.hm_calls.proofs.SceneLemmas.{IsPlace, IsSet, call_in}
 use Rattle.hm_calls.proofs.RemoveLemmas.{master_check}
 pub use Rattle.hm_calls.specs.Scenes.{IsNewPlace, full_check, new_check, tree_at}
+use Rattle.hm_calls.proofs.TreeLemmas.{new_keeps, new_there}
 
 -- ---- the four commands alike
 
@@ -296,6 +297,14 @@ module _ (hash : List ℕ → ℕ) (id : ℕ) (course : Course) (before : course
         (λ tree. with_object tree directory.at.object name (object_by new id)) (KeyFits hash spot.key name) list puts.steps
         (spot_fits hash spot.key name is.spot_is.from is.spot_is.to)
         (λ gone. puts.shows open_is
+        (subst (λ (n : ℕ). IsMissing the_pfs n id scene.elements) (sym (made_number new id)) (missing gone)))
+        (λ gone. kinds_leading (object_by new id).number (kind_number (object_by new id).kind)
+        (with_object (tree_now the_call) directory.at.object name (object_by new id)) scene.elements list
+        (λ o there. ap (λ (x : Object). kind_number x.kind) (sym (new_there (tree_now the_call) directory.at.object name (object_by new id) o
+        (subst (λ (n : ℕ). object_in (tree_now the_call) (record { 0 = n }) ≡ None) (sym (made_number new id)) gone) there)))
+        puts.names)
+        (λ number o there gone. absurd (new_keeps (tree_now the_call) directory.at.object number name (object_by new id) o there gone))
+        (λ gone. puts.follows open_is
         (subst (λ (n : ℕ). IsMissing the_pfs n id scene.elements) (sym (made_number new id)) (missing gone))) made_same
 
   pub puts_changes : (busy : Option ℕ) (paths : List Parsed) (scene : Scene) (list : List FullElement) → ReadsWords (command_by new word) paths

@@ -77,12 +77,12 @@ module _ (hash : List ℕ → ℕ) (course : Course) (es : Option (List Element)
 
 -- what was written between the places that the step was given, as the call names them
 pub beside_placed : (hash : List ℕ → ℕ) (id : ℕ) (es es' : Option (List Element)) (xs xs' : Option (List Extent)) (from from' to to' : Stand)
-    (old old' name name' : List ℕ) (obj obj' : Obj) → from' ≡ from → to' ≡ to → old' ≡ old → name' ≡ name → obj' ≡ obj
-    → Wrote (MovesBeside hash (place_in from' old') (place_in to' name') to'.as_of.0 id obj') es xs es' xs'
-    → Wrote (MovesBeside hash (place_in from old) (place_in to name) to.as_of.0 id obj) es xs es' xs'
-beside_placed hash id es es' xs xs' from from' to to' old old' name name' obj obj' from_is to_is old_is name_is obj_is wrote =
-    subst (λ (o : Obj). Wrote (MovesBeside hash (place_in from old) (place_in to name) to.as_of.0 id o) es xs es' xs') obj_is
-    (subst (λ (n : List ℕ). Wrote (MovesBeside hash (place_in from old) (place_in to n) to.as_of.0 id obj') es xs es' xs') name_is
-    (subst (λ (n : List ℕ). Wrote (MovesBeside hash (place_in from n) (place_in to name') to.as_of.0 id obj') es xs es' xs') old_is
-    (subst (λ (t : Stand). Wrote (MovesBeside hash (place_in from old') (place_in t name') t.as_of.0 id obj') es xs es' xs') to_is
-    (subst (λ (f : Stand). Wrote (MovesBeside hash (place_in f old') (place_in to' name') to'.as_of.0 id obj') es xs es' xs') from_is wrote))))
+    (old old' name name' : List ℕ) (obj obj' : Obj) (kind : ℕ) → from' ≡ from → to' ≡ to → old' ≡ old → name' ≡ name → obj' ≡ obj
+    → Wrote (MovesBeside hash (place_in from' old') (place_in to' name') to'.as_of.0 id obj' kind) es xs es' xs'
+    → Wrote (MovesBeside hash (place_in from old) (place_in to name) to.as_of.0 id obj kind) es xs es' xs'
+beside_placed hash id es es' xs xs' from from' to to' old old' name name' obj obj' kind from_is to_is old_is name_is obj_is wrote =
+    subst (λ (o : Obj). Wrote (MovesBeside hash (place_in from old) (place_in to name) to.as_of.0 id o kind) es xs es' xs') obj_is
+    (subst (λ (n : List ℕ). Wrote (MovesBeside hash (place_in from old) (place_in to n) to.as_of.0 id obj' kind) es xs es' xs') name_is
+    (subst (λ (n : List ℕ). Wrote (MovesBeside hash (place_in from n) (place_in to name') to.as_of.0 id obj' kind) es xs es' xs') old_is
+    (subst (λ (t : Stand). Wrote (MovesBeside hash (place_in from old') (place_in t name') t.as_of.0 id obj' kind) es xs es' xs') to_is
+    (subst (λ (f : Stand). Wrote (MovesBeside hash (place_in f old') (place_in to' name') to'.as_of.0 id obj' kind) es xs es' xs') from_is wrote))))

@@ -24,7 +24,7 @@ use Rattle.hm_model.specs.declared.reply.Reply.TheVariants.{CrossPfs, Exists, Ha
 use Rattle.hm_model.proofs.ReadLemmas.{read_once}
 use Rattle.hm_records.specs.KeysFit.{KeysFit}
 use Rattle.hm_records.specs.Payload.{KeyFits}
-use Rattle.hm_records.specs.View.{HasEntry, IsViewOf}
+use Rattle.hm_records.specs.View.{HasEntry, IsViewOf, kind_number}
 use Rattle.hm_records.proofs.NameLemmas.{same_obj}
 use Rattle.hm_dirs.proofs.NamedLemmas.{entry_keys}
 use Rattle.hm_dirs.specs.Names.{IsSpot, first_key, names_of_hash}
@@ -36,15 +36,17 @@ use Rattle.hm_calls.specs.Call.{IsCall}
 use Rattle.hm_calls.specs.Changes.{ChangesTree, HasSystem, tree_now}
 use Rattle.hm_calls.specs.Due.{space_for}
 use Rattle.hm_calls.specs.Known.{AreBelow}
-use Rattle.hm_calls.specs.Writes.{AreOnePlace, IsOpen, Renames, Replaces, less_link, place_in}
-use Rattle.hm_calls.proofs.EffectLemmas.{has_entry_then, opens, spot_fits, tree_changes, tree_stays}
-use Rattle.hm_calls.proofs.KindLemmas.{number_found}
+use Rattle.hm_calls.specs.Writes.{AreOnePlace, IsOpen, Renames, Replaces, less_link, place_in, LeavesNothing}
+use Rattle.hm_calls.proofs.EffectLemmas.{has_entry_then, opens, spot_fits, tree_changes, tree_stays, kinds_leading}
+use Rattle.hm_calls.proofs.KindLemmas.{number_found, told_kind}
 use Rattle.hm_calls.proofs.LinkLemmas.{in_slave}
 use Rattle.hm_calls.proofs.MakeLemmas.{IsNewPlace, new_system, new_view, tree_at}
 use Rattle.hm_calls.proofs.RefusalLemmas.{IsFirst, all_checks, pass, read_two}
 use Rattle.hm_calls.proofs.RemoveLemmas.{master_check, taken_pfs}
 use Rattle.hm_calls.proofs.SceneLemmas.{IsSet, call_in}
 use Rattle.hm_calls.proofs.StageLemmas.{IsTaken}
+use Rattle.hm_calls.specs.Places.{IsKindOf}
+use Rattle.hm_calls.proofs.TreeLemmas.{leaves_none, link_before, link_gone, link_kind, some_none}
 
 -- ---- the checks after the walks, by where these led
 
@@ -256,11 +258,24 @@ module _ (hash : List ℕ → ℕ) (room : ℕ → ℕ) (free : ℕ) (old new : 
         ap (λ (p : Position). p.object) (sym taken.standing.at_is) ∙ ap (λ (p : Position). p.object) (sym taken.end_is) in
         other (ap (λ (n : Obj). n.0) (one_number ∙ itself))
 
+    -- the moved object is of the kind that its inode tells
+    moved_kind : from.at.pfs.0 ≡ to.at.pfs.0 → (kind : ℕ) → IsKindOf kind object.inode → (o : Object)
+        → object_in (tree_now mv) object.at.object ≡ Some o → kind ≡ kind_number o.kind
+    moved_kind same kind kind_is o there =
+        told_kind (Counts scene.elements object.as_of.0) object.at.pfs.0 (object_at scene.view (place_of object.at)) object.inode o kind
+        (seen_now ∙ there) taken.read.inode kind_is
+      where
+        seen_now : object_at scene.view (place_of object.at) ≡ object_in (tree_now mv) object.at.object
+        seen_now =
+            ap (λ (w : When). object_in (scene.view object.at.pfs.0 w) object.at.object)
+            (ap (λ (p : Position). p.when) taken.end_is ∙ ap (λ (p : Position). p.when) taken.standing.at_is ∙ taken.standing.now)
+            ∙ ap (λ (p : ℕ). object_in (scene.view p Now) object.at.object) (object_pfs ∙ same ∙ sym mv_pfs)
+
     -- to a name that is not there yet
-    pub mv_beside : from.at.pfs.0 ≡ to.at.pfs.0 → leads ≡ None → (spot : Spot) (es' : List FullElement)
+    pub mv_beside : from.at.pfs.0 ≡ to.at.pfs.0 → leads ≡ None → (kind : ℕ) → IsKindOf kind object.inode → (spot : Spot) (es' : List FullElement)
         → IsSpot (Counts scene.elements course.last.0) to.at.pfs.0 to.at.object (first_key (hash name)) spot
-        → Renames hash (place_in from old_name) (place_in to name) spot id object.at.object scene.elements es' → ChangesTree mv scene.elements es'
-    mv_beside same fresh spot es' spot_is renames =
+        → Renames hash (place_in from old_name) (place_in to name) spot id object.at.object kind scene.elements es' → ChangesTree mv scene.elements es'
+    mv_beside same fresh kind kind_is spot es' spot_is renames =
         let fits : KeyFits hash spot.key name = spot_fits hash spot.key name spot_is.from spot_is.to in
         let open_is : IsOpen (place_in to name) spot id scene.elements =
         opens to.at.pfs.0 course.last.0 id scene.elements (tree_at scene to) own below before view_last (place_in to name) (first_key (hash name)) spot refl
@@ -270,6 +285,10 @@ module _ (hash : List ℕ → ℕ) (room : ℕ → ℕ) (free : ℕ) (old new : 
         tree_changes mv hash course.last.0 id to.at.pfs.0 scene.elements asked own mv_pfs system below before view_now
         (λ tree. with_name (without_name tree from.at.object old_name) to.at.object name object.at.object) (KeyFits hash spot.key name) es' renames.steps fits
         (λ none. renames.shows set.keys fits open_is (not_one same fresh))
+        (λ none. kinds_leading object.at.object kind (with_name (without_name (tree_now mv) from.at.object old_name) to.at.object name object.at.object)
+        scene.elements es' (λ o there. moved_kind same kind kind_is o there) renames.names)
+        (λ number o there gone. absurd (some_none o (sym there ∙ gone)))
+        (λ none. renames.follows set.keys open_is)
         (sym (mv_changed (tree_now mv) ∙ (ap (λ o. change o leads (tree_now mv)) object_is ∙ (ap (λ f. change (Some taken.standing.object) f (tree_now mv))
         fresh
         ∙ ap (λ (n : Obj). with_name (without_name (tree_now mv) from.at.object old_name) to.at.object name n) number_of))))
@@ -305,11 +324,12 @@ module _ (hash : List ℕ → ℕ) (room : ℕ → ℕ) (free : ℕ) (old new : 
     -- over another object
     pub mv_over : from.at.pfs.0 ≡ to.at.pfs.0 → (number : Obj) → leads ≡ Some number → (number.0 ≡ object.at.object.0 → ⊥)
         → way_check mv (object_at scene.view (place_of object.at)) (tree_at scene to) leads ≡ None → (links : ℕ)
-        → ((o : Object) → stands_under (tree_at scene to) leads ≡ Some o → o.links ≡ links) → (key : ℕ) (es' : List FullElement)
+        → ((o : Object) → stands_under (tree_at scene to) leads ≡ Some o → o.links ≡ links) → (key kind : ℕ) → IsKindOf kind object.inode
+        → (es' : List FullElement)
         → HasEntry (Counts scene.elements course.last.0) to.at.pfs.0 to.at.object key name number
-        → Replaces hash (place_in from old_name) (place_in to name) key id object.at.object number links scene.elements es' → ChangesTree mv scene.elements
-        es'
-    mv_over same number there other free_way links links_are key es' entry replaces =
+        → Replaces hash (place_in from old_name) (place_in to name) key id object.at.object kind number links scene.elements es'
+        → ChangesTree mv scene.elements es'
+    mv_over same number there other free_way links links_are key kind kind_is es' entry replaces =
         let standing = under number there free_way in
         let apart : (standing.o.number.0 == taken.standing.object.number.0) ≡ false =
         not_equal standing.o.number.0 taken.standing.object.number.0
@@ -322,6 +342,18 @@ module _ (hash : List ℕ → ℕ) (room : ℕ → ℕ) (free : ℕ) (old new : 
         tree_changes mv hash course.last.0 id to.at.pfs.0 scene.elements asked own mv_pfs system below before view_now
         (λ tree. renamed_by links number object.at.object tree) (KeyFits hash key name) es' replaces.steps fits
         (λ none. replaces.shows set.keys fits later (not_one_other same number there other))
+        (λ none. kinds_leading object.at.object kind (renamed_by links number object.at.object (tree_now mv)) scene.elements es'
+        (λ o now. let (before_is, was) = link_before (without_name (tree_now mv) to.at.object name) number object.at.object links o
+        (λ is. other (sym is)) now in
+        moved_kind same kind kind_is before_is was
+        ∙ ap kind_number (sym (link_kind (without_name (tree_now mv) to.at.object name) number object.at.object links before_is o
+        (λ is. other (sym is)) was now)))
+        replaces.names)
+        (λ gone_number o was gone.
+        let (is, few) = link_gone (without_name (tree_now mv) to.at.object name) number gone_number links o was gone in
+        leaves_none o.kind to.at.pfs.0 gone_number.0 id es'
+        (subst (λ (n : ℕ). LeavesNothing to.at.pfs.0 n id es') (sym is) (replaces.leaves few)))
+        (λ none. replaces.follows set.keys later)
         (sym (changed_over standing.o standing.there
         ∙ (ap (λ (b : Bool). if b then tree_now mv else renamed (without_entry (tree_now mv) to.at.object name standing.o) site_one site_two
         taken.standing.object.number)

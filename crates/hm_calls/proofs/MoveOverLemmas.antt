@@ -29,6 +29,7 @@ use Rattle.hm_dirs.specs.declared.position.Stand.{Stand}
 use Rattle.hm_calls.specs.Changes.{Changes}
 use Rattle.hm_calls.specs.Known.{AreBelow}
 use Rattle.hm_calls.specs.Moves.{IsMovedOver, over_checks}
+use Rattle.hm_calls.specs.Places.{IsKindOf}
 use Rattle.hm_calls.specs.Replies.{IsAcceptedBy}
 use Rattle.hm_calls.specs.Writes.{IsNewIn, Place, place_in}
 use Rattle.hm_calls.specs.Stop.{Answers}
@@ -42,23 +43,23 @@ use Rattle.hm_calls.proofs.SceneLemmas.{IsSet, IsStoppedBy, OnScenes, answered, 
 use Rattle.hm_calls.proofs.StageLemmas.{IsTaken, Wrote, on_balanced, space_before}
 
 -- it writes in the pseudo file system of the new name
-pub over_writes_in : (hash : List ℕ → ℕ) (old new : Place) (key i : ℕ) (object : Stand) (obj number : Obj) (es es' : List FullElement)
-    → IsMovedOver hash old new key i object obj number es es' → WritesIn new.pfs i (IsNewIn new.pfs i) es es'
-over_writes_in hash old new key i object obj number es es' (inl (itself, unchanged)) =
+pub over_writes_in : (hash : List ℕ → ℕ) (old new : Place) (key i : ℕ) (object : Stand) (obj : Obj) (kind : ℕ) (number : Obj) (es es' : List FullElement)
+    → IsMovedOver hash old new key i object obj kind number es es' → WritesIn new.pfs i (IsNewIn new.pfs i) es es'
+over_writes_in hash old new key i object obj kind number es es' (inl (itself, unchanged)) =
     subst (λ (l : List FullElement). WritesIn new.pfs i (IsNewIn new.pfs i) es l) (sym unchanged) (nothing_written new.pfs i (IsNewIn new.pfs i) es)
-over_writes_in hash old new key i object obj number es es' (inr replaced) = replaced.replaces.steps.writes
+over_writes_in hash old new key i object obj kind number es es' (inr replaced) = replaced.replaces.steps.writes
 
 -- between the places of the names in the directories of the walks
-pub over_places : (hash : List ℕ → ℕ) (from to a b : Stand) (old_name name x y : List ℕ) (key id : ℕ) (object : Stand) (obj obj' number : Obj)
-    (es es' : Option (List Element)) (xs xs' : Option (List Extent)) → a ≡ from → x ≡ old_name → b ≡ to → y ≡ name → obj' ≡ obj
-    → Wrote (IsMovedOver hash (place_in a x) (place_in b y) key id object obj' number) es xs es' xs'
-    → Wrote (IsMovedOver hash (place_in from old_name) (place_in to name) key id object obj number) es xs es' xs'
-over_places hash from to a b old_name name x y key id object obj obj' number es es' xs xs' one called two named same wrote =
-    subst (λ (s : Stand). Wrote (IsMovedOver hash (place_in s old_name) (place_in to name) key id object obj number) es xs es' xs') one
-    (subst (λ (n : List ℕ). Wrote (IsMovedOver hash (place_in a n) (place_in to name) key id object obj number) es xs es' xs') called
-    (subst (λ (s : Stand). Wrote (IsMovedOver hash (place_in a x) (place_in s name) key id object obj number) es xs es' xs') two
-    (subst (λ (n : List ℕ). Wrote (IsMovedOver hash (place_in a x) (place_in b n) key id object obj number) es xs es' xs') named
-    (subst (λ (o : Obj). Wrote (IsMovedOver hash (place_in a x) (place_in b y) key id object o number) es xs es' xs') same wrote))))
+pub over_places : (hash : List ℕ → ℕ) (from to a b : Stand) (old_name name x y : List ℕ) (key id : ℕ) (object : Stand) (obj obj' : Obj) (kind : ℕ)
+    (number : Obj) (es es' : Option (List Element)) (xs xs' : Option (List Extent)) → a ≡ from → x ≡ old_name → b ≡ to → y ≡ name → obj' ≡ obj
+    → Wrote (IsMovedOver hash (place_in a x) (place_in b y) key id object obj' kind number) es xs es' xs'
+    → Wrote (IsMovedOver hash (place_in from old_name) (place_in to name) key id object obj kind number) es xs es' xs'
+over_places hash from to a b old_name name x y key id object obj obj' kind number es es' xs xs' one called two named same wrote =
+    subst (λ (s : Stand). Wrote (IsMovedOver hash (place_in s old_name) (place_in to name) key id object obj kind number) es xs es' xs') one
+    (subst (λ (n : List ℕ). Wrote (IsMovedOver hash (place_in a n) (place_in to name) key id object obj kind number) es xs es' xs') called
+    (subst (λ (s : Stand). Wrote (IsMovedOver hash (place_in a x) (place_in s name) key id object obj kind number) es xs es' xs') two
+    (subst (λ (n : List ℕ). Wrote (IsMovedOver hash (place_in a x) (place_in b n) key id object obj kind number) es xs es' xs') named
+    (subst (λ (o : Obj). Wrote (IsMovedOver hash (place_in a x) (place_in b y) key id object o kind number) es xs es' xs') same wrote))))
 
 -- what a look for the new name found, in a store that stayed
 pub record IsFoundIn (hash : List ℕ → ℕ) (es : Option (List Element)) (xs : Option (List Extent)) (to : Stand) (name : List ℕ) (found : Option (ℕ × Obj)) :
@@ -165,14 +166,14 @@ module _ (hash : List ℕ → ℕ) (id : ℕ) (course : Course) (before : course
       mv_over_accepts hash id course before most old new parts more path next es xs room free old_name name from object to taken places watch early one two same
       into number leads_to (told_over (λ check. check ≡ None) told)
 
-  pub over_changes : OnScenes hash es xs course (λ scene. HaveOwnKeys scene.elements)
+  pub over_changes : (kind : ℕ) → IsKindOf kind object.inode → OnScenes hash es xs course (λ scene. HaveOwnKeys scene.elements)
       → OnScenes hash es xs course (λ scene. AreBelow to.at.pfs.0 id scene.elements) → OnOver es' xs' object number (λ check. check ≡ None) room free
       → (es'' : Option (List Element)) (xs'' : Option (List Extent))
-      → Wrote (IsMovedOver hash (place_in from old_name) (place_in to name) key id object object.at.object number) es xs es'' xs''
+      → Wrote (IsMovedOver hash (place_in from old_name) (place_in to name) key id object object.at.object kind number) es xs es'' xs''
       → Wrote (Changes hash id (λ call. call.command ≡ Mv old new)) es xs es'' xs''
-  over_changes own below told =
+  over_changes kind kind_is own below told =
       mv_over_writes hash id course before most old new parts more path next es xs room free old_name name from object to taken places watch early one two same
-      into number leads_to key
+      into number leads_to key kind kind_is
       (moved_known hash id course before most old new parts more path next es xs room free old_name name from object to taken places watch early one two same
       into (Some number) own below leads_to)
       (told_over (λ check. check ≡ None) told) entry_there

@@ -1,10 +1,10 @@
 -- What the steps of `mv` tell of its checks, beside a name and over one.
-use Rattle.std.proofs.Common.{◌≡◌, ◌≢◌, ℕ, ◌-◌, List, [], ◌∷◌, Bool, true, false, Option, Some, None, Result, Ok, Err, refl, sym, ap, subst, ◌∙◌, inl}
+use Rattle.std.proofs.Common.{◌≡◌, ◌≢◌, ℕ, ◌-◌, List, [], ◌∷◌, Bool, false, Option, Some, None, Err, refl, sym, subst}
 use Rattle.std.proofs.Common.{inr, arith}
 use Rattle.std.specs.Prelude.{◌==◌, IfSome, IsSomeAnd, if◌then◌else◌}
 use Rattle.std.specs.Bool.{nat_lt}
 use Rattle.std.specs.Option.{option_map_or}
-use Rattle.std.proofs.lemmas.Bool.{eq-eqb, eqb-false, le-ltb}
+use Rattle.std.proofs.lemmas.Bool.{le-ltb}
 use Rattle.hm_types.specs.Elements.{FullElement}
 use Rattle.hm_types.specs.Tree.{FileTree, object_in}
 use Rattle.hm_types.specs.declared.id.Obj.{Obj}
@@ -34,7 +34,7 @@ use Rattle.hm_dirs.specs.Walk.{IsRead, Scene, place_of, when_of}
 use Rattle.hm_dirs.specs.declared.position.Stand.{Stand}
 use Rattle.hm_dirs.specs.declared.spot.Spot.{Spot}
 use Rattle.hm_calls.specs.Due.{space_for}
-use Rattle.hm_calls.specs.Moves.{IsMovedOver, MovesBeside, ReplacesOther, object_beside, over_checks}
+use Rattle.hm_calls.specs.Moves.{IsMovedOver, MovesBeside, object_beside, over_checks}
 use Rattle.hm_calls.specs.Stop.{Answers, Decides}
 use Rattle.hm_calls.specs.Writes.{Place, Renames, Replaces}
 use Rattle.hm_calls.specs.declared.stop.Stop.{Stop}
@@ -76,18 +76,19 @@ on_named_so hash None xs P Q step told = tt
 on_named_so hash (Some es) None P Q step told = tt
 on_named_so hash (Some es) (Some xs) P Q step told = λ balanced fit. step (es, xs) (told balanced fit)
 
-pub beside_wrote : (hash : List ℕ → ℕ) (old new : Place) (t i : ℕ) (obj : Obj) (spot : Spot) (es es' : Option (List Element)) (xs xs' : Option (List Extent))
+pub beside_wrote : (hash : List ℕ → ℕ) (old new : Place) (t i : ℕ) (obj : Obj) (kind : ℕ) (spot : Spot) (es es' : Option (List Element))
+    (xs xs' : Option (List Extent))
     → OnNamed hash es xs (λ lists. (tree : FileTree) → IsViewOf (fulls lists) new.pfs t tree
     → IsSpot (Counts (fulls lists) t) new.pfs new.directory (first_key (hash new.name)) spot)
-    → Wrote (Renames hash old new spot i obj) es xs es' xs' → Wrote (MovesBeside hash old new t i obj) es xs es' xs'
-beside_wrote hash old new t i obj spot None es' xs xs' told wrote = tt
-beside_wrote hash old new t i obj spot (Some es) es' None xs' told wrote = tt
-beside_wrote hash old new t i obj spot (Some es) es' (Some xs) xs' told wrote = λ balanced.
+    → Wrote (Renames hash old new spot i obj kind) es xs es' xs' → Wrote (MovesBeside hash old new t i obj kind) es xs es' xs'
+beside_wrote hash old new t i obj kind spot None es' xs xs' told wrote = tt
+beside_wrote hash old new t i obj kind spot (Some es) es' None xs' told wrote = tt
+beside_wrote hash old new t i obj kind spot (Some es) es' (Some xs) xs' told wrote = λ balanced.
     by_content (content_of es' xs') (wrote balanced) (told balanced) where
-      by_content : (now : Option Lists) → IsSomeAnd now (λ now. IsBalanced now.0 now.1 × Renames hash old new spot i obj (fulls (es, xs)) (fulls now))
+      by_content : (now : Option Lists) → IsSomeAnd now (λ now. IsBalanced now.0 now.1 × Renames hash old new spot i obj kind (fulls (es, xs)) (fulls now))
           → (KeysFit hash (fulls (es, xs)) → (tree : FileTree) → IsViewOf (fulls (es, xs)) new.pfs t tree
           → IsSpot (Counts (fulls (es, xs)) t) new.pfs new.directory (first_key (hash new.name)) spot)
-          → IsSomeAnd now (λ now. IsBalanced now.0 now.1 × MovesBeside hash old new t i obj (fulls (es, xs)) (fulls now))
+          → IsSomeAnd now (λ now. IsBalanced now.0 now.1 × MovesBeside hash old new t i obj kind (fulls (es, xs)) (fulls now))
       by_content None did told = absurd did
       by_content (Some now) did told = (did.0, record { spot = spot; spot_is = λ tree fit view. told fit tree view; renames = did.1 })
 
@@ -207,14 +208,15 @@ over_passes es xs object number room free same is told room_is =
     (subst (λ (b : Bool). space_for (if b then [] else names_zones) 4 room free ≡ None) (sym is) room_is)) told
 
 -- what was written over another object
-pub over_wrote : (hash : List ℕ → ℕ) (old new : Place) (key i : ℕ) (object : Stand) (obj number : Obj) (inode : Inode) (es es' : Option (List Element))
-    (xs xs' : Option (List Extent)) → number.0 ≢ object.at.object.0
+pub over_wrote : (hash : List ℕ → ℕ) (old new : Place) (key i : ℕ) (object : Stand) (obj : Obj) (kind : ℕ) (number : Obj) (inode : Inode)
+    (es es' : Option (List Element)) (xs xs' : Option (List Extent)) → number.0 ≢ object.at.object.0
     → OnMoved es xs object (λ scene call. IsRead scene object × IsFoundBy (Counts scene.elements object.as_of.0) object.at.pfs.0
     (object_beside scene object number) (Some inode))
-    → Wrote (Replaces hash old new key i obj number inode.links) es xs es' xs' → Wrote (IsMovedOver hash old new key i object obj number) es xs es' xs'
-over_wrote hash old new key i object obj number inode None es' xs xs' other known wrote = tt
-over_wrote hash old new key i object obj number inode (Some es) es' None xs' other known wrote = tt
-over_wrote hash old new key i object obj number inode (Some es) es' (Some xs) xs' other known wrote = λ balanced.
+    → Wrote (Replaces hash old new key i obj kind number inode.links) es xs es' xs'
+    → Wrote (IsMovedOver hash old new key i object obj kind number) es xs es' xs'
+over_wrote hash old new key i object obj kind number inode None es' xs xs' other known wrote = tt
+over_wrote hash old new key i object obj kind number inode (Some es) es' None xs' other known wrote = tt
+over_wrote hash old new key i object obj kind number inode (Some es) es' (Some xs) xs' other known wrote = λ balanced.
     by_content (content_of es' xs') (wrote balanced) (known balanced) where
       links_of : (counts : Content) (pfs : ℕ) (o : Option Object) (there : Object) → o ≡ Some there → IsFoundBy counts pfs o (Some inode)
           → there.links ≡ inode.links
@@ -223,11 +225,11 @@ over_wrote hash old new key i object obj number inode (Some es) es' (Some xs) xs
           let same : o ≡ there = cc in
           subst (λ (x : Object). x.links ≡ inode.links) same (made_links counts pfs inode o by)
 
-      by_content : (now : Option Lists) → IsSomeAnd now (λ now. IsBalanced now.0 now.1 × Replaces hash old new key i obj number inode.links (fulls
+      by_content : (now : Option Lists) → IsSomeAnd now (λ now. IsBalanced now.0 now.1 × Replaces hash old new key i obj kind number inode.links (fulls
           (es, xs)) (fulls now))
           → ((scene : Scene) (call : Call) → scene.elements ≡ fulls (es, xs) → IsRead scene object
           → IsRead scene object × IsFoundBy (Counts scene.elements object.as_of.0) object.at.pfs.0 (object_beside scene object number) (Some inode))
-          → IsSomeAnd now (λ now. IsBalanced now.0 now.1 × IsMovedOver hash old new key i object obj number (fulls (es, xs)) (fulls now))
+          → IsSomeAnd now (λ now. IsBalanced now.0 now.1 × IsMovedOver hash old new key i object obj kind number (fulls (es, xs)) (fulls now))
       by_content None did known = absurd did
       by_content (Some now) did known = (
         did.0,

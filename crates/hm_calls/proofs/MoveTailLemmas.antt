@@ -1,6 +1,6 @@
 -- What `mv` answers and writes beside a name and over one.
 use Rattle.std.proofs.Common.{◌≡◌, ℕ, ◌+◌, ◌≤◌, List, [], ◌∷◌, Bool, true, false, Option, Some, None, refl, sym, ap, subst, ◌∙◌, arith, inl, inr}
-use Rattle.std.specs.Prelude.{◌==◌, ◌&&◌, ◌||◌, ◌⊎◌, if◌then◌else◌, is_some}
+use Rattle.std.specs.Prelude.{◌==◌, ◌&&◌, ◌||◌, if◌then◌else◌, is_some}
 use Rattle.std.specs.List.{list_any}
 use Rattle.std.specs.Option.{option_map_or}
 use Rattle.std.proofs.lemmas.Bool.{eqb-true}
@@ -9,7 +9,6 @@ use Rattle.hm_types.specs.Tree.{FileTree, named_in, object_in}
 use Rattle.hm_types.specs.declared.id.Obj.{Obj}
 use Rattle.hm_types.specs.declared.id.Pfs.{Pfs}
 use Rattle.hm_types.specs.declared.limits.TheConstants.{GREATEST_ID}
-use Rattle.hm_types.specs.declared.object.Object.{Object}
 use Rattle.hm_path.specs.Path.{IsPath}
 use Rattle.hm_path.specs.declared.part.Part.{Part}
 use Rattle.hm_key.specs.Counts.{Counts}
@@ -18,7 +17,7 @@ use Rattle.hm_key.specs.Versions.{HaveOwnKeys}
 use Rattle.hm_key.specs.declared.element.Element.{Element}
 use Rattle.hm_model.specs.Due.{Check, first_refusal, gives_way, refuse_if}
 use Rattle.hm_model.specs.Needs.{names_zones}
-use Rattle.hm_model.specs.Sites.{MakesName, Parsed, Parts, ReadsWords, TakesName}
+use Rattle.hm_model.specs.Sites.{MakesName, Parsed, Parts, TakesName}
 use Rattle.hm_model.specs.View.{object_at}
 use Rattle.hm_model.specs.declared.command.Command.TheVariants.{Mv}
 use Rattle.hm_model.specs.declared.reply.Reply.{Reply}
@@ -31,7 +30,8 @@ use Rattle.hm_dirs.specs.declared.position.Stand.{Stand}
 use Rattle.hm_calls.specs.Changes.{Changes, ChangesTree}
 use Rattle.hm_calls.specs.Due.{space_for}
 use Rattle.hm_calls.specs.Known.{AreBelow, AreBelowIn}
-use Rattle.hm_calls.specs.Moves.{IsMovedOver, MovesBeside, ReplacesOther, object_beside, over_checks}
+use Rattle.hm_calls.specs.Places.{IsKindOf}
+use Rattle.hm_calls.specs.Moves.{IsMovedOver, MovesBeside, over_checks}
 use Rattle.hm_calls.specs.Replies.{IsAcceptedBy}
 use Rattle.hm_calls.specs.Writes.{place_in}
 use Rattle.hm_calls.specs.declared.stop.Stop.{Stop}
@@ -171,11 +171,13 @@ module _ (hash : List ℕ → ℕ) (id : ℕ) (course : Course) (before : course
       (scenes_both hash course es xs (λ scene. HaveOwnKeys scene.elements) (λ scene. AreBelow to.at.pfs.0 id scene.elements) own below))
       (scenes_both hash course es xs (λ scene. master_check scene to.at.pfs.0 ≡ None) (Leads found) two leads_are))
 
-  pub mv_beside_writes : to.as_of ≡ course.last → OnScenes hash es xs course (IsMoved None) → (es' : Option (List Element)) (xs' : Option (List Extent))
-      → Wrote (MovesBeside hash (place_in from old_name) (place_in to name) to.as_of.0 id object.at.object) es xs es' xs'
+  pub mv_beside_writes : (kind : ℕ) → IsKindOf kind object.inode → to.as_of ≡ course.last → OnScenes hash es xs course (IsMoved None)
+      → (es' : Option (List Element)) (xs' : Option (List Extent))
+      → Wrote (MovesBeside hash (place_in from old_name) (place_in to name) to.as_of.0 id object.at.object kind) es xs es' xs'
       → Wrote (Changes hash id (λ call. call.command ≡ Mv old new)) es xs es' xs'
-  mv_beside_writes last_is known es' xs' writes =
-      writes_changes hash id course (Mv old new) (MovesBeside hash (place_in from old_name) (place_in to name) to.as_of.0 id object.at.object) (IsMoved None)
+  mv_beside_writes kind kind_is last_is known es' xs' writes =
+      writes_changes hash id course (Mv old new) (MovesBeside hash (place_in from old_name) (place_in to name) to.as_of.0 id object.at.object kind)
+      (IsMoved None)
       es es' xs xs' before
       (λ busy paths scene list reads set is moves.
       let view : IsViewOf scene.elements to.at.pfs.0 to.as_of.0 (tree_at scene to) =
@@ -184,7 +186,7 @@ module _ (hash : List ℕ → ℕ) (id : ℕ) (course : Course) (before : course
       subst (λ (ps : List Parsed). ChangesTree (call_in hash (Mv old new) ps busy scene) scene.elements list)
       (sym (paths_moved old new parts more paths path next reads))
       (mv_beside hash room free old new scene parts more old_name name from object to is.taken_is is.place (watch scene set is.place) busy id course before path
-      next set is.own is.below is.master (one_pfs_is from.at.pfs.0 to.at.pfs.0 same) is.leads_is moves.spot list
+      next set is.own is.below is.master (one_pfs_is from.at.pfs.0 to.at.pfs.0 same) is.leads_is kind kind_is moves.spot list
       (subst (λ (t : ℕ). IsSpot (Counts scene.elements t) to.at.pfs.0 to.at.object (first_key (hash name)) moves.spot) (ap (λ i. i.0) last_is)
       (moves.spot_is (tree_at scene to) set.keys view)) moves.renames))
       known writes
@@ -237,14 +239,14 @@ module _ (hash : List ℕ → ℕ) (id : ℕ) (course : Course) (before : course
         (scenes_both hash course es xs Masters (Leads (Some number)) both there) told)
         stopped (scenes_all hash course es xs (λ _. IsStoppedBy (stop_reply stopped) stopped) (λ _ _. by_itself stopped))
 
-    pub mv_over_writes : (key : ℕ) → OnScenes hash es xs course (IsMoved (Some number))
+    pub mv_over_writes : (key kind : ℕ) → IsKindOf kind object.inode → OnScenes hash es xs course (IsMoved (Some number))
         → OnScenes hash es xs course (Over (λ scene check. check ≡ None))
         → OnScenes hash es xs course (λ scene. HasEntry (Counts scene.elements course.last.0) to.at.pfs.0 to.at.object key name number)
         → (es' : Option (List Element)) (xs' : Option (List Extent))
-        → Wrote (IsMovedOver hash (place_in from old_name) (place_in to name) key id object object.at.object number) es xs es' xs'
+        → Wrote (IsMovedOver hash (place_in from old_name) (place_in to name) key id object object.at.object kind number) es xs es' xs'
         → Wrote (Changes hash id (λ call. call.command ≡ Mv old new)) es xs es' xs'
-    mv_over_writes key known passes entries es' xs' writes =
-        writes_changes hash id course (Mv old new) (IsMovedOver hash (place_in from old_name) (place_in to name) key id object object.at.object number)
+    mv_over_writes key kind kind_is known passes entries es' xs' writes =
+        writes_changes hash id course (Mv old new) (IsMovedOver hash (place_in from old_name) (place_in to name) key id object object.at.object kind number)
         (λ scene. (IsMoved (Some number) scene × Over (λ scene check. check ≡ None) scene)
         × HasEntry (Counts scene.elements course.last.0) to.at.pfs.0 to.at.object key name number)
         es es' xs xs' before
@@ -258,7 +260,7 @@ module _ (hash : List ℕ → ℕ) (id : ℕ) (course : Course) (before : course
         changes : (busy : Option ℕ) (scene : Scene) (list : List FullElement) → IsSet hash course scene → (is : IsMoved (Some number) scene)
             → first_refusal (over_checks (call_in hash (Mv old new) (Parts parts ∷ Parts more ∷ []) busy scene) scene object number room free) ≡ None
             → HasEntry (Counts scene.elements course.last.0) to.at.pfs.0 to.at.object key name number
-            → IsMovedOver hash (place_in from old_name) (place_in to name) key id object object.at.object number scene.elements list
+            → IsMovedOver hash (place_in from old_name) (place_in to name) key id object object.at.object kind number scene.elements list
             → ChangesTree (call_in hash (Mv old new) (Parts parts ∷ Parts more ∷ []) busy scene) scene.elements list
         changes busy scene list set is pass_all entry moves =
             let one_is = one_tree scene parts more old_name name from object to is.taken_is is.place (one_pfs_is from.at.pfs.0 to.at.pfs.0 same) in
@@ -271,7 +273,7 @@ module _ (hash : List ℕ → ℕ) (id : ℕ) (course : Course) (before : course
             by_move way moves where
               by_move : way_check (call_in hash (Mv old new) (Parts parts ∷ Parts more ∷ []) busy scene) (object_at scene.view (place_of object.at))
                   (tree_at scene to) (named_in (tree_at scene to) to.at.object name) ≡ None
-                  → IsMovedOver hash (place_in from old_name) (place_in to name) key id object object.at.object number scene.elements list
+                  → IsMovedOver hash (place_in from old_name) (place_in to name) key id object object.at.object kind number scene.elements list
                   → ChangesTree (call_in hash (Mv old new) (Parts parts ∷ Parts more ∷ []) busy scene) scene.elements list
               by_move way (inl (itself, unchanged)) =
                   subst (λ (l : List FullElement). ChangesTree (call_in hash (Mv old new) (Parts parts ∷ Parts more ∷ []) busy scene) scene.elements l)
@@ -286,7 +288,7 @@ module _ (hash : List ℕ → ℕ) (id : ℕ) (course : Course) (before : course
                   (ap (λ (tree : FileTree). object_in tree number)
                   (one_tree scene parts more old_name name from object to is.taken_is is.place (one_pfs_is from.at.pfs.0 to.at.pfs.0 same))
                   ∙ (ap (λ (f : Option Obj). stands_under (tree_at scene to) f) (sym is.leads_is) ∙ there_is)))
-                  key list entry replaced.replaces
+                  key kind kind_is list entry replaced.replaces
 
 -- the walk to the new name watched for an object
 pub watches : (hash : List ℕ → ℕ) (course : Course) (more : List Part) (name : List ℕ) (to : Stand) (watched : Pfs × Obj) → course.watch ≡ Some watched

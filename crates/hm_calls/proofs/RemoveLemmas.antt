@@ -37,24 +37,26 @@ use Rattle.hm_records.specs.declared.inode.Inode.{Inode}
 use Rattle.hm_records.specs.declared.kind.TheConstants.{FILE}
 use Rattle.hm_records.proofs.NameLemmas.{same_obj}
 use Rattle.hm_volume.specs.Found.{IsFoundBy, IsMadeBy}
+use Rattle.hm_objects.specs.Objects.{IsGone}
 use Rattle.hm_volume.specs.Shown.{ShowsAs}
 use Rattle.hm_dirs.specs.Walk.{IsRead, Scene, place_of, when_of}
 use Rattle.hm_dirs.specs.declared.position.Course.{Course}
 use Rattle.hm_dirs.specs.declared.position.Stand.{Stand}
 use Rattle.hm_calls.specs.Call.{IsCall}
-use Rattle.hm_calls.specs.Changes.{Changes, ChangesTree, HasSystem, tree_now}
+use Rattle.hm_calls.specs.Changes.{Changes, ChangesTree, HasSystem, LeavesNone, tree_now}
 use Rattle.hm_calls.specs.Due.{space_for, space_left, zones_beside}
 use Rattle.hm_calls.specs.Known.{AreBelow, AreBelowIn}
 use Rattle.hm_calls.specs.Places.{ask_kind, refuse_kind}
 use Rattle.hm_calls.specs.Replies.{IsAcceptedBy}
 use Rattle.hm_calls.specs.declared.stop.Stop.{Stop}
-use Rattle.hm_calls.specs.Writes.{TakesDirectory, TakesLink, less_link, place_in}
-use Rattle.hm_calls.proofs.EffectLemmas.{master_view, system_there, tree_changes}
-use Rattle.hm_calls.proofs.KindLemmas.{number_found}
+use Rattle.hm_calls.specs.Writes.{LeavesNothing, TakesDirectory, TakesLink, less_link, place_in}
+use Rattle.hm_calls.proofs.EffectLemmas.{kinds_none, master_view, system_there, tree_changes}
+use Rattle.hm_calls.proofs.KindLemmas.{directory_asked, number_found}
 use Rattle.hm_calls.proofs.RefusalLemmas.{IsFirst, IsRefused, PassEarly, after_early, all_checks, all_pass, of_rm, of_rmdir, one_accepts, one_refuses}
 use Rattle.hm_calls.proofs.RefusalLemmas.{pass, read_one, refuse_one, stop}
 use Rattle.hm_calls.proofs.SceneLemmas.{IsSet, IsStoppedBy, OnScenes, call_in, scenes_all, scenes_back, scenes_balanced, scenes_both, scenes_so}
 use Rattle.hm_calls.proofs.StageLemmas.{IsTaken, Wrote, scenes_below, scenes_own, slave_check, writes_changes}
+use Rattle.hm_calls.proofs.TreeLemmas.{leaves_none, link_gone, object_gone}
 
 -- ---- an object by its inode
 
@@ -218,7 +220,13 @@ module _ (hash : List ℕ → ℕ) (word : List ℕ) (scene : Scene) (parts : Li
         tree_changes rm hash scene.volume.last id directory.at.pfs.0 scene.elements asked own within
         (taken_system hash scene parts name directory end is set.shows) below (ap (λ (n : ℕ). n + 1) set.last ∙ before) view
         (λ tree. less_link inode.links end.at.object (without_name tree directory.at.object name)) (Unit {0}) es' takes.steps tt
-        (λ none. takes.shows set.keys) (sym (rm_changed (tree_now rm)))
+        (λ none. takes.shows set.keys)
+        (λ none. kinds_none (less_link inode.links end.at.object (without_name (tree_now rm) directory.at.object name)) scene.elements es' takes.names)
+        (λ number o there gone.
+        let (is, few) = link_gone (without_name (tree_now rm) directory.at.object name) end.at.object number inode.links o there gone in
+        leaves_none o.kind directory.at.pfs.0 number.0 id es'
+        (subst (λ (n : ℕ). LeavesNothing directory.at.pfs.0 n id es') (sym is) (takes.leaves few)))
+        (λ none. takes.follows) (sym (rm_changed (tree_now rm)))
 
 -- ---- `rmdir`
 
@@ -251,8 +259,9 @@ module _ (hash : List ℕ → ℕ) (word : List ℕ) (scene : Scene) (parts : Li
 
   pub rmdir_changes : (id : ℕ) (course : Course) (es' : List FullElement) → course.last.0 + 1 ≡ id → IsPath word parts → IsSet hash course scene
       → HaveOwnKeys scene.elements → AreBelow directory.at.pfs.0 id scene.elements → master_check scene directory.at.pfs.0 ≡ None
+      → ask_kind is_dir NotDir (object_at scene.view (place_of end.at)) ≡ None
       → TakesDirectory hash (place_in directory name) id end.at.object scene.elements es' → ChangesTree rmdir scene.elements es'
-  rmdir_changes id course es' before path set own below passes takes =
+  rmdir_changes id course es' before path set own below passes kind takes =
       let within : changed_pfs rmdir ≡ directory.at.pfs.0 =
       subst (λ (l : Located). (site_in l).at.pfs ≡ directory.at.pfs.0) (sym is.place_is) (taken_pfs hash scene parts name directory end is) in
       let asked : IsCall hash id scene.elements rmdir =
@@ -263,7 +272,24 @@ module _ (hash : List ℕ → ℕ) (word : List ℕ) (scene : Scene) (parts : Li
       tree_changes rmdir hash scene.volume.last id directory.at.pfs.0 scene.elements asked own within
       (taken_system hash scene parts name directory end is set.shows) below (ap (λ (n : ℕ). n + 1) set.last ∙ before) view
       (λ tree. without_object (without_name tree directory.at.object name) end.at.object) (Unit {0}) es' takes.steps tt
-      (λ none. takes.shows set.keys) (sym (rmdir_changed (tree_now rmdir)))
+      (λ none. takes.shows set.keys)
+      (λ none. kinds_none (without_object (without_name (tree_now rmdir) directory.at.object name) end.at.object) scene.elements es' takes.names)
+      (λ number o there gone.
+      let is = object_gone (without_name (tree_now rmdir) directory.at.object name) end.at.object number o there gone in
+      let here : object_in (tree_now rmdir) end.at.object ≡ Some o =
+      subst (λ (n : Obj). object_in (tree_now rmdir) n ≡ Some o) (same_obj number end.at.object is) there in
+      subst (λ (k : Kind). LeavesNone k directory.at.pfs.0 number.0 id es')
+      (sym (directory_asked (object_at scene.view (place_of end.at)) o (seen_now within ∙ here) kind))
+      (subst (λ (n : ℕ). IsGone directory.at.pfs.0 n id es') (sym is) takes.leaves))
+      (λ none. takes.follows) (sym (rmdir_changed (tree_now rmdir)))
+    where
+      -- the directory is looked at in the tree of now
+      seen_now : changed_pfs rmdir ≡ directory.at.pfs.0 → object_at scene.view (place_of end.at) ≡ object_in (tree_now rmdir) end.at.object
+      seen_now within =
+          ap (λ (w : When). object_in (scene.view end.at.pfs.0 w) end.at.object)
+          (ap (λ (p : Position). p.when) is.end_is ∙ ap (λ (p : Position). p.when) is.standing.at_is ∙ is.standing.now)
+          ∙ ap (λ (p : ℕ). object_in (scene.view p Now) end.at.object)
+          (ap (λ (p : Position). p.pfs) is.end_is ∙ taken_pfs hash scene parts name directory end is ∙ sym within)
 
 -- a call of one word that was read so has those parts
 pub paths_taken : (word : List ℕ) (parts : List Part) (paths : List Parsed) → IsPath word parts → ReadsWords (Rm word) paths → paths ≡ Parts parts ∷ []
@@ -481,16 +507,18 @@ module _ (hash : List ℕ → ℕ) (id : ℕ) (course : Course) (before : course
             (λ scene. empty_check scene end ≡ None) rmdir_both empty)
 
   -- what `rmdir` wrote is its change
-  pub rmdir_writes : OnScenes hash es xs course (λ scene. IsRemoval scene parts name directory end id)
+  pub rmdir_writes : ((scene : Scene) → IsRead scene end → ask_kind is_dir NotDir (object_at scene.view (place_of end.at)) ≡ None)
+      → OnScenes hash es xs course (λ scene. IsRemoval scene parts name directory end id)
       → (es' : Option (List Element)) (xs' : Option (List Extent))
       → Wrote (TakesDirectory hash (place_in directory name) id end.at.object) es xs es' xs'
       → Wrote (Changes hash id (λ call. call.command ≡ Rmdir word)) es xs es' xs'
-  rmdir_writes known es' xs' writes =
+  rmdir_writes kind known es' xs' writes =
       writes_changes hash id course (Rmdir word) (TakesDirectory hash (place_in directory name) id end.at.object)
       (λ scene. IsRemoval scene parts name directory end id) es es' xs xs' before
       (λ busy paths scene list reads set is takes.
       subst (λ (ps : List Parsed). ChangesTree (call_in hash (Rmdir word) ps busy scene) scene.elements list) (sym (paths_taken word parts paths path reads))
-      (rmdir_changes hash word scene parts name directory end is.taken busy id course list before path set is.own is.below is.master takes))
+      (rmdir_changes hash word scene parts name directory end is.taken busy id course list before path set is.own is.below is.master
+      (kind scene is.taken.read) takes))
       known writes
 
   -- what a look for a name in the directory tells

@@ -9,6 +9,7 @@ use Rattle.hm_key.specs.Element.{IsInBlock, pfs_of}
 use Rattle.hm_records.specs.Payload.{HasGrammar, IsPayload, SpellsEntry, SpellsInode, SpellsPfs}
 use Rattle.hm_records.specs.Target.{IsTarget}
 use Rattle.hm_records.specs.declared.entry.DirEntry.{DirEntry}
+use Rattle.hm_records.proofs.NameLemmas.{entry_one}
 use Rattle.hm_cursor.specs.Told.{Lists}
 use Rattle.hm_cursor.specs.Views.{WritesIn}
 use Rattle.hm_cursor.specs.Write.{IsFreshFor}
@@ -16,7 +17,7 @@ use Rattle.hm_cursor.proofs.ViewsLemmas.{IsSteady, writes_again, writes_wider}
 use Rattle.hm_objects.specs.Objects.{IsOfObject, IsOlder}
 use Rattle.hm_dirs.specs.Names.{AreOlder, IsEntryAt, IsNothing}
 use Rattle.hm_calls.specs.Known.{AreBelow}
-use Rattle.hm_calls.specs.Writes.{IsNewIn}
+use Rattle.hm_calls.specs.Writes.{AllCame, IsNewIn, NamesNothing, NamesObject}
 
 -- ---- payloads
 
@@ -54,8 +55,9 @@ others_pfs pfs = omega arith
 
 -- ---- what is new
 
-pub new_entry : (pfs i key : ℕ) (directory : Obj) (entry : DirEntry) (x : FullElement) → IsEntryAt pfs directory key i entry x → IsNewIn pfs i x
-new_entry pfs i key directory entry x is = record {
+pub new_entry : (pfs i key : ℕ) (directory : Obj) (entry : DirEntry) (kind : ℕ) (x : FullElement) → IsEntryAt pfs directory key i entry kind x
+    → IsNewIn pfs i x
+new_entry pfs i key directory entry kind x is = record {
   place = ap (λ (s : Subject). pfs_of s.localization) is.about ∙ others_pfs pfs;
   made = is.made;
   payload = entry_payload x (ap (λ (s : Subject). s.rec_type) is.about) (entry, is.entry_is, is.bytes);
@@ -77,6 +79,55 @@ steady pfs i x e key kind bytes is = record {
   made = ap (λ (k : Key). k.create) key ∙ is.made;
   payload = payload_kept x e key bytes is.payload;
 }
+
+-- ---- where new entries lead
+
+pub entry_leads : (pfs i key : ℕ) (directory : Obj) (entry : DirEntry) (kind : ℕ) (x : FullElement) → IsEntryAt pfs directory key i entry kind x
+    → NamesObject entry.obj kind x
+entry_leads pfs i key directory entry kind x is = record {
+  leads = λ found type ranges spelled. (
+    ap (λ (e : DirEntry). e.obj) (entry_one found entry ranges is.entry_is (sym spelled ∙ is.bytes)),
+    is.kind_is,
+  );
+}
+
+pub no_entry_leads : (obj : Obj) (kind : ℕ) (x : FullElement) → NamesNothing x → NamesObject obj kind x
+no_entry_leads obj kind x other = record { leads = λ found type ranges spelled. absurd (other type) }
+
+pub no_entry_of_object : (pfs obj i : ℕ) (x : FullElement) → IsOfObject pfs obj i x → NamesNothing x
+no_entry_of_object pfs obj i x is type = elim is.about [
+  | inl inode ↦ absurd (omega (arith, type, ap (λ (s : Subject). s.rec_type) inode))
+  | inr target ↦ absurd (omega (arith, type, ap (λ (s : Subject). s.rec_type) target))
+]
+
+pub no_entry_none : (x : FullElement) → IsNothing x → NamesNothing x
+no_entry_none x is = absurd is
+
+leads_steady : (obj : Obj) (kind : ℕ) → IsSteady (NamesObject obj kind)
+leads_steady obj kind x e key type bytes is = record {
+  leads = λ found is_entry ranges spelled.
+      let old = is.leads found (sym (ap (λ (k : Key). k.rec_type) key) ∙ is_entry) ranges (sym bytes ∙ spelled) in
+      (old.0, type ∙ old.1);
+}
+
+no_entry_steady : IsSteady NamesNothing
+no_entry_steady x e key type bytes is other = is (sym (ap (λ (k : Key). k.rec_type) key) ∙ other)
+
+-- an object comes by steps of which the last makes its name, and else no step makes an entry
+pub leads_then : (pfs i : ℕ) (obj : Obj) (kind : ℕ) (First Second : FullElement → Type 0) (es mid es' : List FullElement)
+    → ((x : FullElement) → First x → NamesNothing x) → ((x : FullElement) → Second x → NamesObject obj kind x) → WritesIn pfs i First es mid
+    → WritesIn pfs i Second mid es' → AllCame (NamesObject obj kind) es es'
+leads_then pfs i obj kind First Second es mid es' one other first second =
+    (writes_again pfs i (NamesObject obj kind) es mid es' (leads_steady obj kind)
+    (writes_wider pfs i First (NamesObject obj kind) es mid (λ x new. no_entry_leads obj kind x (one x new)) first)
+    (writes_wider pfs i Second (NamesObject obj kind) mid es' other second)).came
+
+pub no_entries_then : (pfs i : ℕ) (First Second : FullElement → Type 0) (es mid es' : List FullElement)
+    → ((x : FullElement) → First x → NamesNothing x) → ((x : FullElement) → Second x → NamesNothing x) → WritesIn pfs i First es mid
+    → WritesIn pfs i Second mid es' → WritesIn pfs i NamesNothing es es'
+no_entries_then pfs i First Second es mid es' one other first second =
+    writes_again pfs i NamesNothing es mid es' no_entry_steady (writes_wider pfs i First NamesNothing es mid one first)
+    (writes_wider pfs i Second NamesNothing mid es' other second)
 
 -- ---- two steps
 

@@ -16,10 +16,11 @@ use Rattle.hm_model.specs.Needs.{bytes_zones}
 use Rattle.hm_model.specs.declared.command.Command.{Command}
 use Rattle.hm_model.specs.declared.command.Command.TheVariants.{Fill as FillFile, Truncate as TruncateFile, Write as WriteFile}
 use Rattle.hm_cursor.specs.Views.{Shows, WritesIn}
+use Rattle.hm_records.specs.Follows.{StillFollow}
 use Rattle.hm_records.specs.KeysFit.{KeysFit}
 use Rattle.hm_records.specs.View.{AreFileBytes, IsObject}
 use Rattle.hm_files.specs.Put.{IsBytesOf, KeepOthers}
-use Rattle.hm_calls.specs.Writes.{IsNewIn}
+use Rattle.hm_calls.specs.Writes.{AllCame, IsNewIn, NamesNothing}
 use Rattle.hm_calls.specs.declared.edit.Edit.{Edit}
 use Rattle.hm_calls.specs.declared.edit.Edit.TheVariants.{Fill, Truncate, Write}
 
@@ -77,6 +78,7 @@ pub record ChangesBytes (pfs obj i size after : ℕ) (change : List ℕ → List
   pub holds : (t : ℕ) (content : List ℕ) → i ≤ t → AreFileBytes (Counts es t) pfs obj size content
       → AreFileBytes (Counts es' t) pfs obj after (change content)
   pub others : KeepOthers pfs obj es es'
+  pub follows : StillFollow es es'
 
 -- From `i` on the file of this number, of a size, holds other bytes. The keys of entries stay fit.
 pub record ChangesFile (pfs obj i size : ℕ) (change : List ℕ → List ℕ) (es es' : List FullElement) : Type 0 where
@@ -84,6 +86,8 @@ pub record ChangesFile (pfs obj i size : ℕ) (change : List ℕ → List ℕ) (
   pub fits : (hash : List ℕ → ℕ) → KeysFit hash es → KeysFit hash es'
   pub shows : (o : Object) → o.number.0 ≡ obj → o.kind ≡ File → length (file_bytes o.content) ≡ size
       → ((t : ℕ) → i ≤ t → IsObject (Counts es t) pfs o) → Shows pfs i (λ tree. with_bytes tree change o) es es'
+  pub names : AllCame NamesNothing es es'
+  pub follows : StillFollow es es'
 
 -- the reserves of the zones 8, 9, 10 and 11
 abbrev pub all_reserves : ℕ → ℕ

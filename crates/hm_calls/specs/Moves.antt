@@ -31,21 +31,22 @@ over_checks call scene object number room free =
     (object_beside scene object number) false then None else Some Exists)
     ∷ space_for (if number.0 == object.at.object.0 then [] else names_zones) 4 room free ∷ []
 
--- an object's name gives way to a new one at a spot for it, as of `t`
-pub record MovesBeside (hash : List ℕ → ℕ) (old new : Place) (t i : ℕ) (obj : Obj) (es es' : List FullElement) : Type 0 where
+-- the name of an object of a kind gives way to a new one at a spot for it, as of `t`
+pub record MovesBeside (hash : List ℕ → ℕ) (old new : Place) (t i : ℕ) (obj : Obj) (kind : ℕ) (es es' : List FullElement) : Type 0 where
   pub spot : Spot
   pub spot_is : (tree : FileTree) → KeysFit hash es → IsViewOf es new.pfs t tree → IsSpot (Counts es t) new.pfs new.directory (first_key (hash new.name)) spot
-  pub renames : Renames hash old new spot i obj es es'
+  pub renames : Renames hash old new spot i obj kind es es'
 
--- an object's name takes the place of that of another one, which has so many links
-pub record ReplacesOther (hash : List ℕ → ℕ) (old new : Place) (key i : ℕ) (object : Stand) (obj number : Obj) (es es' : List FullElement) : Type 0 where
+-- the name of an object of a kind takes the place of that of another one, which has so many links
+pub record ReplacesOther (hash : List ℕ → ℕ) (old new : Place) (key i : ℕ) (object : Stand) (obj : Obj) (kind : ℕ) (number : Obj)
+    (es es' : List FullElement) : Type 0 where
   pub other : number.0 ≢ object.at.object.0
   pub links : ℕ
   pub links_are : (scene : Scene) (there : Object) → scene.elements ≡ es → IsRead scene object → object_beside scene object number ≡ Some there
       → there.links ≡ links
-  pub replaces : Replaces hash old new key i obj number links es es'
+  pub replaces : Replaces hash old new key i obj kind number links es es'
 
 -- to a name that leads to the moved object itself nothing is done
-abbrev pub IsMovedOver : (List ℕ → ℕ) → Place → Place → ℕ → ℕ → Stand → Obj → Obj → List FullElement → List FullElement → Type 0
-IsMovedOver hash old new key i object obj number es es' =
-    ((number.0 ≡ object.at.object.0) × (es' ≡ es)) ⊎ ReplacesOther hash old new key i object obj number es es'
+abbrev pub IsMovedOver : (List ℕ → ℕ) → Place → Place → ℕ → ℕ → Stand → Obj → ℕ → Obj → List FullElement → List FullElement → Type 0
+IsMovedOver hash old new key i object obj kind number es es' =
+    ((number.0 ≡ object.at.object.0) × (es' ≡ es)) ⊎ ReplacesOther hash old new key i object obj kind number es es'

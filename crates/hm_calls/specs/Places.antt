@@ -1,5 +1,5 @@
 -- Where the paths of a call lead: the same as in the model.
-use Rattle.std.specs.Prelude.{◌≡◌, ◌==◌, ◌&&◌, ◌||◌, ℕ, List, Option, Result, None, Some, Ok, Err, Bool, false, true, if◌then◌else◌}
+use Rattle.std.specs.Prelude.{◌≡◌, ◌==◌, ◌&&◌, ◌||◌, ℕ, ◌≤◌, List, Option, IfSome, Result, None, Some, Ok, Err, Bool, false, true, if◌then◌else◌}
 use Rattle.std.specs.Option.{option_map_or}
 use Rattle.hm_types.specs.declared.object.Object.{Object}
 use Rattle.hm_types.specs.declared.object.Kind.{Kind}
@@ -56,6 +56,10 @@ refuse_kind test refusal object = refuse_if (option_map_or (λ (o : Object). tes
 
 abbrev pub ask_kind : (Kind → Bool) → Reply → Option Object → Check
 ask_kind test refusal object = if option_map_or (λ (o : Object). test o.kind) object false then None else Some refusal
+
+-- a number is that of the kind that an inode tells
+abbrev pub IsKindOf : ℕ → Option Inode → Type 0
+IsKindOf number inode = IfSome inode (λ inode. 1 ≤ inode.kind → inode.kind ≤ 4 → number ≡ inode.kind)
 
 -- whether an object gives way to one that is moved to its name, by both inodes, and by whether the two are one: it does
 -- where they are, or where it is neither a directory nor a PFS link and the moved one is no directory

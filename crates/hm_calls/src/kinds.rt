@@ -17,7 +17,7 @@ ghost use Rattle.hm_model.specs.declared.reply.Reply.TheVariants.{TooBig as too_
 ghost use Rattle.hm_dirs.specs.Walk.{IsRead, Scene, place_of};
 ghost use Rattle.hm_records.specs.declared.inode.Inode.{Inode as Node};
 ghost use Rattle.hm_volume.specs.Found.{IsFoundBy};
-ghost use Rattle.hm_calls.specs.Places.{ask_kind, gives_way_by, refuse_kind};
+ghost use Rattle.hm_calls.specs.Places.{IsKindOf, ask_kind, gives_way_by, refuse_kind};
 ghost use Rattle.hm_calls.specs.Stop.{Decides, IfRefused, OfFault};
 
 use crate::rename::Moved;
@@ -136,6 +136,7 @@ fn gives_way(moved: Option<Inode>, there: Option<Inode>, same: bool) -> bool
 pub(crate) fn moved_of(stand: &Stand) -> Option<Moved>
     ensures object { IfSome result (λ moved. moved.obj ≡ stand.now.at.object) }
     ensures kind { IfSome result (λ moved. (1 ≤ moved.kind) × (moved.kind ≤ 4)) }
+    ensures kind_is { IfSome result (λ moved. IsKindOf moved.kind stand.now.inode) }
     ensures there { is_some result ≡ is_some stand.now.inode }
 {
     let inode = stand.inode?;

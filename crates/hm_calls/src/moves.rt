@@ -126,7 +126,7 @@ fn move_beside<T: ElementStore + Extents, H: NameHash>(
         Same T.elements T.mark T.extents T.room T.free store.old store.new) }
     ensures ok { OnOk result (Writes T.elements T.extents
         (MovesBeside (H.hash_of hash.now) (place_of_name old.entry) (place_of_name new.entry)
-        new.entry.directory.now.as_of.0 id.0 moved.obj) store.old store.new) }
+        new.entry.directory.now.as_of.0 id.0 moved.obj moved.kind) store.old store.new) }
     ensures gives { IfRefused result RefusesBeside }
     ensures keeps { Keeps T.elements T.extents store.old store.new result }
     ensures room { TakesAtMost T.room T.free reserves store.old store.new result
@@ -167,7 +167,7 @@ fn move_over<T: ElementStore + Extents, H: NameHash>(
         Same T.elements T.mark T.extents T.room T.free store.old store.new) }
     ensures ok { OnOk result (Writes T.elements T.extents
         (IsMovedOver (H.hash_of hash.now) (place_of_name old.entry) (place_of_name new.entry) key id.0
-        object.now moved.obj there) store.old store.new) }
+        object.now moved.obj moved.kind there) store.old store.new) }
     ensures gives { IfRefused result RefusesOver }
     ensures keeps { Keeps T.elements T.extents store.old store.new result }
     ensures room { TakesAtMost T.room T.free reserves store.old store.new result

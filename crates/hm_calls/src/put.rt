@@ -110,7 +110,7 @@ pub(crate) fn put_name<T: ElementStore + Extents>(
         directory.now.at.pfs.0 directory.now.at.object id.0 }
     requires room { HasRooms (T.room store.old) 1 272 }
     ensures ok { OnOk result (Writes T.elements T.extents
-        (PutsName (place_in directory.now name.now) spot id.0 obj) store.old store.new) }
+        (PutsName (place_in directory.now name.now) spot id.0 obj kind) store.old store.new) }
     ensures keeps { Keeps T.elements T.extents store.old store.new result }
     ensures space { Spends T.room T.free (spent 1 272) store.old store.new }
     ensures borrowed { (T.name store.new ≡ T.name store.old)

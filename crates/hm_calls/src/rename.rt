@@ -47,8 +47,8 @@ pub(crate) fn rename<T: ElementStore + Extents, H: NameHash>(
     requires older { AreOlderAround (T.elements store.old) (T.extents store.old) old new id.0 }
     requires room { HasReserves (T.room store.old) }
     ensures ok { OnOk result (Writes T.elements T.extents
-        (Renames (H.hash_of hash.now) (place_of_name old.entry) (place_of_name new.entry) spot id.0 moved.obj)
-        store.old store.new) }
+        (Renames (H.hash_of hash.now) (place_of_name old.entry) (place_of_name new.entry) spot id.0
+        moved.obj moved.kind) store.old store.new) }
     ensures keeps { Keeps T.elements T.extents store.old store.new result }
     ensures space { Spends T.room T.free reserves store.old store.new }
     ensures borrowed { (T.name store.new ≡ T.name store.old)
@@ -105,7 +105,7 @@ pub(crate) fn replace<T: ElementStore + Extents, H: NameHash>(
     requires room { HasReserves (T.room store.old) }
     ensures ok { OnOk result (Writes T.elements T.extents
         (Replaces (H.hash_of hash.now) (place_of_name old.entry) (place_of_name new.entry) there.key id.0
-        moved.obj there.obj there.links) store.old store.new) }
+        moved.obj moved.kind there.obj there.links) store.old store.new) }
     ensures keeps { Keeps T.elements T.extents store.old store.new result }
     ensures space { Spends T.room T.free reserves store.old store.new }
     ensures borrowed { (T.name store.new ≡ T.name store.old)

@@ -127,7 +127,7 @@ returns-clause-answers g c =
           c.course_before-course.ensures.last (subst (IsPath c.args.old.now) (sym c.parts-parts.ensures) c.in_ok-old.ensures.ok)
           (subst (IsPath c.args.new.now) (sym c.parts-more.ensures) c.in_ok-new.ensures.ok)
           (g.T.HasElements.elements c.put_link.new.store) (g.T.HasRoom.extents c.put_link.new.store) c.in-Some.inode (c.in-Some.inode.links + 1)
-          c.in-Some.is refl (told_before _ _ _ _ (content.elements ∙ same.elements) (content.extents ∙ same.extents)
+          c.in_ok-named.ensures.new.first_now c.in-Some.is refl (told_before _ _ _ _ (content.elements ∙ same.elements) (content.extents ∙ same.extents)
           (λ es xs. Wrote (PutsLink hash (place_in c.in_ok-found.found.directory c.in_ok-named.named.name.now) c.in_ok-spot.spot c.args.id.0
           c.in_ok-found.found.object.at.object (c.in-Some.inode.links + 1)) es xs (g.T.HasElements.elements c.put_link.new.store)
           (g.T.HasRoom.extents c.put_link.new.store)) (c.in_ok-put_link.ensures.ok hash)),

@@ -1,4 +1,4 @@
-use Rattle.std.proofs.Common.{◌≡◌, ◌∙◌, List, [], ◌∷◌, None, Err, Result, ap, subst, sym}
+use Rattle.std.proofs.Common.{◌≡◌, ◌∙◌, [], ◌∷◌, None, Err, Result, ap, subst, sym}
 use Rattle.std.specs.Bool.{nat_le}
 use Rattle.std.proofs.lemmas.Result.{err_from_is_err_and}
 use Rattle.hm_types.specs.Tree.{FileTree}
@@ -70,13 +70,13 @@ returns-clause-ok g c =
     let same = c.in_ok-spot.ensures.keeps in
     let content = c.in_ok-admit_names.ensures.content in
     beside_wrote (g.H.NameHash.hash_of c.args.hash.now) (place_of_name c.args.old) (place_of_name c.args.new) c.args.new.directory.now.as_of.0
-    c.args.id.0 c.args.moved.obj
+    c.args.id.0 c.args.moved.obj c.args.moved.kind
     c.in_ok-spot.spot (g.T.HasElements.elements c.args.store.now) (g.T.HasElements.elements c.rename.new.store) (g.T.HasRoom.extents
     c.args.store.now) (g.T.HasRoom.extents c.rename.new.store) c.in_ok-spot.ensures.spot
     (told_before (g.T.HasElements.elements c.args.store.now) (g.T.HasElements.elements c.admit_names.new.store) (g.T.HasRoom.extents
     c.args.store.now) (g.T.HasRoom.extents c.admit_names.new.store) (content.elements ∙ same.elements) (content.extents ∙ same.extents)
     (λ es xs. Wrote (Renames (g.H.NameHash.hash_of c.args.hash.now) (place_of_name c.args.old) (place_of_name c.args.new) c.in_ok-spot.spot
-    c.args.id.0 c.args.moved.obj) es xs
+    c.args.id.0 c.args.moved.obj c.args.moved.kind) es xs
     (g.T.HasElements.elements c.rename.new.store) (g.T.HasRoom.extents c.rename.new.store)) c.in_ok-rename.ensures.ok)
 
 pub returns-clause-room : goal.returns-clause-room

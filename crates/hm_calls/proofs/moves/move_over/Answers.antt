@@ -93,7 +93,7 @@ returns-clause-ok g c =
     let same = c.in_ok-inode.ensures.keeps in
     let content = c.in_ok-admit_names.ensures.content in
     over_wrote (g.H.NameHash.hash_of c.args.hash.now) (place_of_name c.args.old) (place_of_name c.args.new) c.args.key c.args.id.0 c.args.object.now
-    c.args.moved.obj c.args.there c.in-Some.inode (g.T.HasElements.elements c.args.store.now) (g.T.HasElements.elements c.replace.new.store)
+    c.args.moved.obj c.args.moved.kind c.args.there c.in-Some.inode (g.T.HasElements.elements c.args.store.now) (g.T.HasElements.elements c.replace.new.store)
     (g.T.HasRoom.extents c.args.store.now) (g.T.HasRoom.extents c.replace.new.store) c.if-there-object.false
     (moved_found (g.T.HasElements.elements c.args.store.now) (g.T.HasRoom.extents c.args.store.now) c.args.object.now c.args.there (Some
     c.in-Some.inode) (g.met.T.ElementStore.sorted c.args.store.now)
@@ -103,7 +103,7 @@ returns-clause-ok g c =
     (told_before (g.T.HasElements.elements c.args.store.now) (g.T.HasElements.elements c.admit_names.new.store) (g.T.HasRoom.extents
     c.args.store.now) (g.T.HasRoom.extents c.admit_names.new.store) (content.elements ∙ same.elements) (content.extents ∙ same.extents)
     (λ es xs. Wrote (Replaces (g.H.NameHash.hash_of c.args.hash.now) (place_of_name c.args.old) (place_of_name c.args.new) c.args.key c.args.id.0
-    c.args.moved.obj c.args.there c.in-Some.inode.links) es xs (g.T.HasElements.elements c.replace.new.store) (g.T.HasRoom.extents
+    c.args.moved.obj c.args.moved.kind c.args.there c.in-Some.inode.links) es xs (g.T.HasElements.elements c.replace.new.store) (g.T.HasRoom.extents
     c.replace.new.store)) c.in_ok-replace.ensures.ok)
 
 pub returns-then-there-object-clause-room : goal.returns-then-there-object-clause-room

@@ -701,12 +701,13 @@ returns-in_default-2-clause-answers g c =
     (g.T.HasElements.elements c.move_beside.new.store) (g.T.HasRoom.extents c.args.store.now)
     (g.T.HasRoom.extents c.move_beside.new.store) c.in_ok-from.from c.named-old.result.directory.now c.read_last-to.result c.named-new.result.directory.now
     c.in_ok-old_name.old_name.now c.named-old.result.name.now c.in_ok-front.new_name.now c.named-new.result.name.now c.in_ok-from.object.at.object
-    c.in-Some.moved.obj
+    c.in-Some.moved.obj c.in-Some.moved.kind
     c.named-old.ensures.0 c.named-new.ensures.0 c.named-old.ensures.1 c.named-new.ensures.1 c.in-Some.ensures.object
     (told_before (g.T.HasElements.elements c.args.store.now) (g.T.HasElements.elements c.find_entry.new.store) (g.T.HasRoom.extents c.args.store.now)
     (g.T.HasRoom.extents c.find_entry.new.store) same.elements
     same.extents (λ es xs. Wrote (MovesBeside (g.H.NameHash.hash_of c.args.hash.now) (place_in c.named-old.result.directory.now c.named-old.result.name.now)
-    (place_in c.named-new.result.directory.now c.named-new.result.name.now) c.named-new.result.directory.now.as_of.0 c.args.id.0 c.in-Some.moved.obj)
+    (place_in c.named-new.result.directory.now c.named-new.result.name.now) c.named-new.result.directory.now.as_of.0 c.args.id.0 c.in-Some.moved.obj
+    c.in-Some.moved.kind)
     es xs (g.T.HasElements.elements c.move_beside.new.store) (g.T.HasRoom.extents c.move_beside.new.store)) c.in_ok-move_beside.ensures.ok) in (
       mv_beside_accepts (g.H.NameHash.hash_of c.args.hash.now) c.args.id.0 c.course_before-watching.result c.course_before-watching.ensures.last
           c.requires.id.1
@@ -767,7 +768,7 @@ returns-in_default-2-clause-answers g c =
             past = refuse_second (has_id (Parts c.parts-parts.result.now)) (has_id (Parts c.parts-more.result.now)) ReadOnly None c.in_ok-check_present.ensures
                 c.in_ok-check_present-2.ensures;
           })
-          one two c.in_ok-check_one_pfs.ensures (ap (λ b. refuse_if b IntoItself) c.if-to.false) last_is
+          one two c.in_ok-check_one_pfs.ensures (ap (λ b. refuse_if b IntoItself) c.if-to.false) c.in-Some.moved.kind c.in-Some.ensures.kind_is last_is
           (moved_known (g.H.NameHash.hash_of c.args.hash.now) c.args.id.0 c.course_before-watching.result c.course_before-watching.ensures.last
           c.requires.id.1
           c.args.old.now c.args.new.now c.parts-parts.result.now c.parts-more.result.now
@@ -810,7 +811,8 @@ returns-in_default-2-clause-known g c =
     let pfs = c.named-new.result.directory.now.at.pfs.0 in
     known_then g.T.HasElements.elements g.T.HasRoom.extents
     (MovesBeside (g.H.NameHash.hash_of c.args.hash.now) (place_in c.named-old.result.directory.now c.named-old.result.name.now)
-    (place_in c.named-new.result.directory.now c.named-new.result.name.now) c.named-new.result.directory.now.as_of.0 c.args.id.0 c.in-Some.moved.obj)
+    (place_in c.named-new.result.directory.now c.named-new.result.name.now) c.named-new.result.directory.now.as_of.0 c.args.id.0 c.in-Some.moved.obj
+    c.in-Some.moved.kind)
     pfs c.args.id.0 (IsNewIn pfs c.args.id.0) c.args.store.now c.find_entry.new.store c.move_beside.new.store
     (λ a b moves. moves.renames.steps.writes) same.elements same.extents c.in_ok-move_beside.ensures.keeps.elements
     c.in_ok-move_beside.ensures.keeps.extents c.requires.balanced c.requires.known c.in_ok-move_beside.ensures.ok
@@ -823,9 +825,9 @@ returns-clause-known g c =
     let hash = g.H.NameHash.hash_of c.args.hash.now in
     known_then g.T.HasElements.elements g.T.HasRoom.extents
     (IsMovedOver hash (place_of_name c.named-old.result) (place_of_name c.named-new.result) c.in-Some-2.key c.args.id.0 c.in_ok-from.object c.in-Some.moved.obj
-    c.in-Some-2.there) pfs c.args.id.0 (IsNewIn pfs c.args.id.0) c.args.store.now c.find_entry.new.store c.move_over.new.store
+    c.in-Some.moved.kind c.in-Some-2.there) pfs c.args.id.0 (IsNewIn pfs c.args.id.0) c.args.store.now c.find_entry.new.store c.move_over.new.store
     (over_writes_in hash (place_of_name c.named-old.result) (place_of_name c.named-new.result) c.in-Some-2.key c.args.id.0 c.in_ok-from.object
-    c.in-Some.moved.obj c.in-Some-2.there) same.elements same.extents
+    c.in-Some.moved.obj c.in-Some.moved.kind c.in-Some-2.there) same.elements same.extents
     c.in_ok-move_over.ensures.keeps.elements c.in_ok-move_over.ensures.keeps.extents c.requires.balanced c.requires.known c.in_ok-move_over.ensures.ok
 
 pub returns-in_err-move_over-clause-answers : goal.returns-in_err-move_over-clause-answers
@@ -912,14 +914,15 @@ returns-clause-answers g c =
     (g.T.HasRoom.extents c.check_master.new.store) start.elements start.extents (λ es xs. AreKnown es xs c.args.id.0) c.requires.known))) in
     let writes = over_places (g.H.NameHash.hash_of c.args.hash.now) c.in_ok-from.from c.read_last-to.result c.named-old.result.directory.now
     c.named-new.result.directory.now c.in_ok-old_name.old_name.now c.in_ok-front.new_name.now c.named-old.result.name.now c.named-new.result.name.now
-    c.in-Some-2.key c.args.id.0 c.in_ok-from.object c.in_ok-from.object.at.object c.in-Some.moved.obj c.in-Some-2.there
+    c.in-Some-2.key c.args.id.0 c.in_ok-from.object c.in_ok-from.object.at.object c.in-Some.moved.obj c.in-Some.moved.kind
+    c.in-Some-2.there
     (g.T.HasElements.elements c.args.store.now) (g.T.HasElements.elements c.move_over.new.store) (g.T.HasRoom.extents c.args.store.now)
     (g.T.HasRoom.extents c.move_over.new.store) c.named-old.ensures.0 c.named-old.ensures.1 c.named-new.ensures.0 c.named-new.ensures.1
     c.in-Some.ensures.object
     (told_before (g.T.HasElements.elements c.args.store.now) (g.T.HasElements.elements c.find_entry.new.store) (g.T.HasRoom.extents c.args.store.now)
     (g.T.HasRoom.extents c.find_entry.new.store) same.elements same.extents
     (λ es xs. Wrote (IsMovedOver (g.H.NameHash.hash_of c.args.hash.now) (place_of_name c.named-old.result) (place_of_name c.named-new.result) c.in-Some-2.key
-    c.args.id.0 c.in_ok-from.object c.in-Some.moved.obj c.in-Some-2.there) es xs (g.T.HasElements.elements c.move_over.new.store)
+    c.args.id.0 c.in_ok-from.object c.in-Some.moved.obj c.in-Some.moved.kind c.in-Some-2.there) es xs (g.T.HasElements.elements c.move_over.new.store)
     (g.T.HasRoom.extents c.move_over.new.store)) c.in_ok-move_over.ensures.ok) in (
       over_accepts (g.H.NameHash.hash_of c.args.hash.now) c.args.id.0 c.course_before-watching.result c.course_before-watching.ensures.last c.requires.id.1
           c.args.old.now c.args.new.now c.parts-parts.result.now c.parts-more.result.now
@@ -1040,6 +1043,7 @@ returns-clause-answers g c =
           (g.T.HasRoom.extents c.check_master-2.new.store)
           c.read_last-to.result c.in_ok-front.new_name.now c.bytes.result.now c.in_ok-key.field-0 (Some (c.in-Some-2.key, c.in-Some-2.there)) c.bytes.ensures
           c.in-Some-2.is c.in_ok-key.ensures.ok))
+          c.in-Some.moved.kind c.in-Some.ensures.kind_is
           (scenes_own (g.H.NameHash.hash_of c.args.hash.now) c.course_before-watching.result (g.T.HasElements.elements c.args.store.now)
           (g.T.HasRoom.extents c.args.store.now) (g.met.T.ElementStore.sorted c.args.store.now))
           (scenes_below (g.H.NameHash.hash_of c.args.hash.now) c.course_before-watching.result (g.T.HasElements.elements c.args.store.now)

@@ -3,6 +3,7 @@ use Rattle.hm_types.specs.Tree.{with_change, with_links}
 use Rattle.hm_key.specs.Balance.{content_of}
 use Rattle.hm_cursor.specs.Told.{fulls}
 use Rattle.hm_cursor.proofs.CallLemmas.{Change, Then, known_after, writes_both, writes_so}
+use Rattle.hm_records.specs.declared.kind.TheConstants.{FILE}
 use Rattle.hm_objects.specs.Objects.{ChangesBy}
 use Rattle.hm_dirs.specs.Names.{AreOlder}
 use Rattle.hm_calls.specs.Known.{AreBelow}
@@ -32,7 +33,7 @@ returns-clause-ok g c hash =
     let at = c.args.directory.now.at in
     let place = place_in c.args.directory.now c.args.name.now in
     let One : Change = ChangesBy at.pfs.0 c.args.obj.0 c.args.id.0 (λ tree. with_change tree c.args.obj (with_links c.args.links)) in
-    let Other : Change = PutsName place c.args.spot c.args.id.0 c.args.obj in
+    let Other : Change = PutsName place c.args.spot c.args.id.0 c.args.obj FILE in
     on_ok_weaker c.put_name.result
     (λ second. writes_so g.T.HasElements.elements g.T.HasRoom.extents (Then One Other)
     (PutsLink hash place c.args.spot c.args.id.0 c.args.obj c.args.links) (λ lists. AreBelow at.pfs.0 c.args.id.0 (fulls lists)) c.args.store.now

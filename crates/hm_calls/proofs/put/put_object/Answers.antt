@@ -1,15 +1,18 @@
-use Rattle.std.proofs.Common.{sym, subst}
+use Rattle.std.proofs.Common.{ℕ, sym, subst, ◌∙◌}
+use Rattle.std.specs.Prelude.{OnOk}
 use Rattle.std.proofs.lemmas.Result.{on_ok_weaker}
 use Rattle.hm_types.specs.declared.id.Obj.{Obj}
 use Rattle.hm_key.specs.Balance.{content_of}
 use Rattle.hm_cursor.specs.Told.{fulls}
+use Rattle.hm_cursor.specs.Write.{Writes}
 use Rattle.hm_cursor.proofs.CallLemmas.{Change, Then, known_after, writes_both, writes_so}
+use Rattle.hm_records.specs.View.{kind_number}
 use Rattle.hm_objects.specs.Objects.{AddsObject}
 use Rattle.hm_dirs.specs.Names.{AreOlder}
 use Rattle.hm_calls.specs.Known.{AreBelow}
 use Rattle.hm_calls.specs.New.{object_by}
 use Rattle.hm_calls.specs.Writes.{PutsName, PutsObject, place_in}
-use Rattle.hm_calls.proofs.NameStepLemmas.{made_number, object_put}
+use Rattle.hm_calls.proofs.NameStepLemmas.{made_kind, made_number, object_put}
 use Rattle.hm_calls.proofs.StepLemmas.{entries_older, entries_older_beside, object_older, told_so}
 use Rattle.hm_calls.proofs.put.put_object.Goals as goal
 
@@ -36,7 +39,8 @@ returns-clause-ok g c hash =
     let object = object_by c.args.new c.args.id.0 in
     let number : Obj = record { 0 = c.args.id.0 } in
     let One : Change = AddsObject at.pfs.0 c.args.id.0 object in
-    let Other : Change = PutsName place c.args.spot c.args.id.0 number in
+    let kind = kind_number object.kind in
+    let Other : Change = PutsName place c.args.spot c.args.id.0 number kind in
     on_ok_weaker c.put_name.result
     (λ second. writes_so g.T.HasElements.elements g.T.HasRoom.extents (Then One Other)
     (PutsObject hash place c.args.spot c.args.id.0 object) (λ lists. AreBelow at.pfs.0 c.args.id.0 (fulls lists)) c.args.store.now
@@ -44,7 +48,8 @@ returns-clause-ok g c hash =
     (λ was es' below steps.
     let (mid, first, then) = steps in
     object_put hash place c.args.spot c.args.id.0 object (fulls was) mid es' first
-    (subst (λ (o : Obj). PutsName place c.args.spot c.args.id.0 o mid es') (sym (made_number c.args.new c.args.id.0)) then))
+    (subst (λ (o : Obj). PutsName place c.args.spot c.args.id.0 o kind mid es') (sym (made_number c.args.new c.args.id.0)) then))
     (writes_both g.T.HasElements.elements g.T.HasRoom.extents One Other c.args.store.now c.add_object.new.store c.put_name.new.store
     c.in_ok-add_object.ensures.ok second))
-    c.put_name.ensures.ok
+    (subst (λ (k : ℕ). OnOk c.put_name.result (Writes g.T.HasElements.elements g.T.HasRoom.extents (PutsName place c.args.spot c.args.id.0 number k)
+    c.add_object.new.store c.put_name.new.store)) (c.kind.ensures ∙ made_kind c.args.new c.args.id.0) c.put_name.ensures.ok)

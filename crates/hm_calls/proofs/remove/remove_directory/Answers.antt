@@ -244,6 +244,7 @@ returns-clause-answers g c =
           (taken (g.H.NameHash.hash_of c.args.hash.now) c.course_before-course.result (g.T.HasElements.elements c.args.store.now) (g.T.HasRoom.extents
           c.args.store.now) c.parts-parts.result.now c.in_ok-name.name.now c.in_ok-name.ensures.name (no_ids c.parts-parts.result.now
           c.in_ok-check_present.ensures) (c.in_ok-directory.directory, c.in_ok-directory.object) c.in_ok-directory.ensures.ok)
+          c.in_ok-check_directory.ensures.check
           (removal (g.H.NameHash.hash_of c.args.hash.now) c.args.id.0 c.course_before-course.result c.course_before-course.ensures.last c.requires.id.1
           c.args.word.now c.parts-parts.result.now (subst (IsPath c.args.word.now) (sym c.parts-parts.ensures) c.in_ok-path.ensures.ok)
           (g.T.HasElements.elements c.args.store.now) (g.T.HasRoom.extents c.args.store.now) (g.T.HasRoom.room c.args.store.now) (g.T.HasRoom.free

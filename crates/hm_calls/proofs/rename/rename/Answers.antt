@@ -15,13 +15,14 @@ returns-clause-ok g c =
     let old = place_of_name c.args.old in
     let new = place_of_name c.args.new in
     let One : Change = TakesName hash new.pfs old.directory c.bytes.result.now i in
-    let Other : Change = PutsName new c.args.spot i c.args.moved.obj in
+    let Other : Change = PutsName new c.args.spot i c.args.moved.obj c.args.moved.kind in
     on_ok_weaker c.put_name.result
-    (λ second. writes_so g.T.HasElements.elements g.T.HasRoom.extents (Then One Other) (Renames hash old new c.args.spot i c.args.moved.obj)
+    (λ second. writes_so g.T.HasElements.elements g.T.HasRoom.extents (Then One Other)
+    (Renames hash old new c.args.spot i c.args.moved.obj c.args.moved.kind)
     (λ lists. IsBalanced lists.0 lists.1) c.args.store.now c.put_name.new.store c.requires.balanced
     (λ was es' below steps.
     let (mid, first, then) = steps in
-    name_moved hash old new c.args.spot i c.args.moved.obj (fulls was) mid es'
+    name_moved hash old new c.args.spot i c.args.moved.obj c.args.moved.kind (fulls was) mid es'
     (subst (λ (name : List ℕ). TakesName hash new.pfs old.directory name i (fulls was) mid) c.bytes.ensures first) then)
     (writes_both g.T.HasElements.elements g.T.HasRoom.extents One Other c.args.store.now c.close_name.new.store c.put_name.new.store
     c.in_ok-close_name.ensures.ok second))

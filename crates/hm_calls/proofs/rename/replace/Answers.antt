@@ -121,7 +121,7 @@ put_name-requires-clause-older g c =
     c.requires.balanced c.requires.below
     (λ was es' below steps.
     let (two, (one, first, second), third) = steps in
-    entries_older_beside new.pfs i c.args.there.obj.0 new.directory two es' third.writes
+    entries_older_beside new.pfs i c.args.there.obj.0 new.directory two es' third.changes.writes
     (entries_older_still new.pfs i new.directory one two second.writes
     (entries_older_still new.pfs i new.directory (fulls was) one first.writes (entries_older new.pfs i new.directory (fulls was) below))))
     (writes_both g.T.HasElements.elements g.T.HasRoom.extents (Then One Two) Three c.args.store.now c.close_name-2.new.store c.drop_link.new.store
@@ -139,14 +139,14 @@ returns-clause-ok g c =
     let One : Change = TakesName hash new.pfs new.directory c.bytes.result.now i in
     let Two : Change = TakesName hash new.pfs old.directory c.bytes-2.result.now i in
     let Three : Change = DropsLink new.pfs i there.obj there.links in
-    let Four : Change = PutsName new (record { key = there.key; hidden = false }) i c.args.moved.obj in
+    let Four : Change = PutsName new (record { key = there.key; hidden = false }) i c.args.moved.obj c.args.moved.kind in
     on_ok_weaker c.put_name.result
     (λ put. writes_so g.T.HasElements.elements g.T.HasRoom.extents (Then (Then (Then One Two) Three) Four)
-    (Replaces hash old new there.key i c.args.moved.obj there.obj there.links) (λ lists. AreBelow new.pfs i (fulls lists)) c.args.store.now
+    (Replaces hash old new there.key i c.args.moved.obj c.args.moved.kind there.obj there.links) (λ lists. AreBelow new.pfs i (fulls lists)) c.args.store.now
     c.put_name.new.store c.requires.below
     (λ was es' below steps.
     let (three, (two, (one, first, second), third), last) = steps in
-    name_replaced hash old new there.key i c.args.moved.obj there.obj there.links (fulls was) one two three es'
+    name_replaced hash old new there.key i c.args.moved.obj c.args.moved.kind there.obj there.links (fulls was) one two three es'
     (subst (λ (name : List ℕ). TakesName hash new.pfs new.directory name i (fulls was) one) c.bytes.ensures first)
     (subst (λ (name : List ℕ). TakesName hash new.pfs old.directory name i one two) c.bytes-2.ensures second) third last)
     (writes_both g.T.HasElements.elements g.T.HasRoom.extents (Then (Then One Two) Three) Four c.args.store.now c.drop_link.new.store c.put_name.new.store

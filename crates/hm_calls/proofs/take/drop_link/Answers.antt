@@ -25,5 +25,5 @@ returns-else-links-gt1-clause-ok g c =
     (DropsLink c.args.pfs.0 c.args.id.0 c.args.obj c.args.links) (λ lists. IsOlder c.args.pfs.0 c.args.obj.0 c.args.id.0 (fulls lists))
     c.args.store.now c.drop_object.new.store c.requires.older
     (λ was es' older drops. last_link c.args.pfs.0 c.args.id.0 c.args.obj c.args.links (fulls was) es' (omega (arith, c.if-links-gt1.false))
-    drops.changes))
+    drops))
     c.drop_object.ensures.ok

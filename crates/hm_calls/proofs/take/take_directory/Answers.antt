@@ -3,8 +3,8 @@ use Rattle.std.proofs.lemmas.Result.{on_ok_weaker}
 use Rattle.hm_types.specs.Tree.{without_object}
 use Rattle.hm_key.specs.Balance.{content_of}
 use Rattle.hm_cursor.specs.Told.{fulls}
-use Rattle.hm_cursor.proofs.CallLemmas.{Change, Then, known_after, writes_both, writes_so}
-use Rattle.hm_objects.specs.Objects.{ChangesBy, IsOlder}
+use Rattle.hm_cursor.proofs.CallLemmas.{Change, Then, known_after, writes_both, writes_ok, writes_so}
+use Rattle.hm_objects.specs.Objects.{ChangesBy, IsGone, IsOlder}
 use Rattle.hm_dirs.specs.Names.{TakesName}
 use Rattle.hm_calls.specs.Known.{AreBelow}
 use Rattle.hm_calls.specs.Writes.{TakesDirectory, place_in}
@@ -35,14 +35,17 @@ returns-clause-ok g c =
     let hash = g.H.NameHash.hash_of c.args.hash.now in
     let place = place_in c.args.directory.now c.args.name.now in
     let One : Change = TakesName hash at.pfs.0 at.object c.bytes.result.now c.args.id.0 in
-    let Other : Change = ChangesBy at.pfs.0 c.args.obj.0 c.args.id.0 (λ tree. without_object tree c.args.obj) in
+    let Goes : Change = ChangesBy at.pfs.0 c.args.obj.0 c.args.id.0 (λ tree. without_object tree c.args.obj) in
+    let Leaves : Change = λ _ es. IsGone at.pfs.0 c.args.obj.0 c.args.id.0 es in
+    let Other : Change = λ es es'. Goes es es' × Leaves es es' in
     on_ok_weaker c.remove_object.result
     (λ second. writes_so g.T.HasElements.elements g.T.HasRoom.extents (Then One Other) (TakesDirectory hash place c.args.id.0 c.args.obj)
     (λ lists. AreBelow at.pfs.0 c.args.id.0 (fulls lists)) c.args.store.now c.remove_object.new.store c.requires.below
     (λ was es' below steps.
     let (mid, first, then) = steps in
     directory_taken hash place c.args.id.0 c.args.obj (fulls was) mid es'
-    (subst (λ (name : List ℕ). TakesName hash at.pfs.0 at.object name c.args.id.0 (fulls was) mid) c.bytes.ensures first) then)
+    (subst (λ (name : List ℕ). TakesName hash at.pfs.0 at.object name c.args.id.0 (fulls was) mid) c.bytes.ensures first) then.0 then.1)
     (writes_both g.T.HasElements.elements g.T.HasRoom.extents One Other c.args.store.now c.close_name.new.store c.remove_object.new.store
     c.in_ok-close_name.ensures.ok second))
-    c.remove_object.ensures.ok
+    (writes_ok g.T.HasElements.elements g.T.HasRoom.extents Goes Leaves c.close_name.new.store c.remove_object.new.store c.remove_object.result
+    c.remove_object.ensures.ok c.remove_object.ensures.gone)
