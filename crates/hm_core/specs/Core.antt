@@ -56,8 +56,8 @@ pub record GoesOnBy (past since : LeftSince) (old new : CoreState) (opening : Vo
 
 -- For each volume on which the run may have begun, it stands for it still, by the events of before and more: what it had
 -- answered by then was right over the same trees.
-abbrev pub GoesOn : LeftSince → LeftSince → CoreState → CoreState → Type 0
-GoesOn past since old new = (opening : Volume) (foreigners : Foreigners) (events : List Event) → StandsOver old opening foreigners events
+abbrev pub GoesOnOverEach : LeftSince → LeftSince → CoreState → CoreState → Type 0
+GoesOnOverEach past since old new = (opening : Volume) (foreigners : Foreigners) (events : List Event) → StandsOver old opening foreigners events
     → GoesOnBy past since old new opening foreigners events
 
 -- each reply of its history has its cause, from the last id and the counts of faults as it was mounted on: so it is of every core
@@ -90,7 +90,7 @@ pub record Follows (past since : LeftSince) (old new : CoreState) : Type 0 where
   pub boundary : old.boundary ≤ new.boundary
   pub never_falls : AreLater old.counts new.counts
   pub sound : IsSoundCore new
-  pub goes_on : GoesOn past since old new
+  pub goes_on : GoesOnOverEach past since old new
 
 -- Each image that a crash within a step may have left recovers to the committed volume or to the frozen one, and to none between.
 abbrev pub LeavesHeld : LeftSince → LeftSince → CoreState → Type 0
