@@ -68,6 +68,7 @@ follows_spare past core spare sound =
         caused = sound.caused;
         told = sound.told;
         between = sound.between;
+        header = sound.header;
         read = λ opening foreigners events stands. sound.read opening foreigners events (record { legal = stands.legal; read = stands.read });
         now = sound.now;
         settled = sound.settled;

@@ -17,7 +17,7 @@ use Rattle.hm_state.specs.Live.{AreLiveSettled}
 use Rattle.hm_core.specs.Caused.{IsCausedFrom}
 use Rattle.hm_core.specs.History.{IsLegalOver, up_to, volume_of}
 use Rattle.hm_core.specs.Counts.{AreLater}
-use Rattle.hm_core.specs.Crash.{IsBetween, IsLeftBoundary, LeavesPrefixes, RecoversToPrefix}
+use Rattle.hm_core.specs.Crash.{HasHeaderOf, IsBetween, IsLeftBoundary, LeavesPrefixes, RecoversToPrefix}
 use Rattle.hm_core.specs.Inside.{AreUpTo}
 use Rattle.hm_core.specs.Served.{IsSync}
 use Rattle.hm_core.specs.State.{CoreDevices, CoreState}
@@ -65,13 +65,15 @@ abbrev pub IsCausedRun : CoreState → Type 0
 IsCausedRun core = ∥ IsCausedFrom core.mounted.first core.mounted.counts core.counts core.last core.history ∥₁
 
 -- What is so of every core. Each reply has its cause, none told a boundary past the committed one, and each boundary that a crash
--- within a stage may leave is drawn. Where it stands for a volume, its disk recovers to the volume after a prefix of the events, up to
--- a boundary that a crash may leave; and where it is guarded, so does each image that a crash now may leave, and no unsettled range meets
--- what such an image needs.
+-- within a stage may leave is drawn. The header that counts on its disk is the committed one, or the one that may have taken its place,
+-- whether the disk stands for a volume or not. Where the core stands for a volume, its disk recovers to the volume after a prefix of the
+-- events, up to a boundary that a crash may leave; and where it is guarded, so does each image that a crash now may leave, and no unsettled
+-- range meets what such an image needs.
 pub record IsSoundCore (core : CoreState) : Type 0 where
   pub caused : IsCausedRun core
   pub told : AreUpTo core.boundary core.history
   pub between : (boundary : ℕ) → IsLeftBoundary (tried core.flush) boundary → IsBetween core.boundary core.last boundary
+  pub header : IfSome core.heap.disk (λ t. HasHeaderOf core.flush t.bytes)
   pub read : (opening : Volume) (foreigners : Foreigners) (events : List Event) → StandsOver core opening foreigners events
       → IfSome core.heap.disk (λ t. RecoversToPrefix (IsLeftBoundary core.flush) opening foreigners events t.bytes)
   pub now : (opening : Volume) (foreigners : Foreigners) (events : List Event) → IsGuarded core opening foreigners events
