@@ -46,7 +46,7 @@ use Rattle.hm_stored.specs.Standing.{Holds}
 use Rattle.hm_stored.specs.Turn.{IsClosed, IsDropped, IsKeptOf, IsOpened}
 use Rattle.hm_stored.proofs.KnownLemmas.{known_each}
 use Rattle.hm_stored.proofs.OpenedLemmas.{opens_content, told_held}
-use Rattle.hm_core.specs.Answer.{Answers, IsEntryOf, KeepsFlush}
+use Rattle.hm_core.specs.Answer.{AnswersOver, IsEntryOf, KeepsFlush}
 use Rattle.hm_core.specs.Calls.{IsNextCall}
 use Rattle.hm_core.specs.Counts.{AreLater, with_disk}
 use Rattle.hm_core.specs.Ledger.{IsPaid, calls_in}
@@ -284,7 +284,7 @@ module _ {S : Type 0} (heap : S → Heap) (root_of : S → ℕ) (h : Heap) (root
       (step : IsStep elements extents free (record { command = command; last = last; busy = None }) old new reply)
       (charges : Charges room free (reserves_for command) old new) (may : MayReply last None command reply)
       (due : IsDueOver elements extents room free (record { command = command; last = last; busy = None }) old reply) where
-    pub kept_answers : (boundary : ℕ) → Answers boundary faults faults' last command h h' root root' reply
+    pub kept_answers : (boundary : ℕ) → AnswersOver boundary faults faults' last command h h' root root' reply
     kept_answers boundary = record {
       closed = record { begin = keeps.pages.begin; whole = ap (λ (x : Heap). x.whole) keeps.rest ∙ whole };
       counted = counted;
@@ -351,7 +351,7 @@ module _ {S : Type 0} (heap : S → Heap) (root_of : S → ℕ) (h : Heap) (root
     size_is : h'.bigblocks ≡ h.bigblocks
     size_is = ap (λ (x : Heap). x.bigblocks) drops.rest ∙ bigblocks
 
-    pub dropped_answers : (boundary : ℕ) → Answers boundary faults faults' last command h h' root root' reply
+    pub dropped_answers : (boundary : ℕ) → AnswersOver boundary faults faults' last command h h' root root' reply
     dropped_answers boundary = record {
       closed = record { begin = drops.pages.begin; whole = ap (λ (x : Heap). x.whole) drops.rest };
       counted = counted;

@@ -18,7 +18,7 @@ use Rattle.hm_model.specs.declared.entry.Entry.{Entry}
 use Rattle.hm_stored.specs.Heap.{free_of}
 use Rattle.hm_state.specs.Flushing.{HoldsFlush}
 use Rattle.hm_state.specs.Volume.{HoldsVolume}
-use Rattle.hm_core.specs.Answer.{Answers, IsEntryOf}
+use Rattle.hm_core.specs.Answer.{AnswersOver, IsEntryOf}
 use Rattle.hm_core.specs.Core.{Follows, HoldsUpTo, IsGuarded, IsSoundCore, LeavesHeld, StandsOver}
 use Rattle.hm_core.specs.Counts.{AreLater, with_disk}
 use Rattle.hm_core.specs.Crash.{IsBetween, IsLeftBoundary, LeavesNow, LeavesPrefixes, RecoversToPrefix}
@@ -45,7 +45,7 @@ module _ (past since : LeftSince) (core new : CoreState) (command : Command) (en
     (target : core.flush.at ≢ Idle → (core.flush.header.last.0 ≤ core.flush.target.last.0) × (core.flush.target.last.0 ≤ core.last))
     (least : floor core.mounted.free core.history ≤ free_of core.heap) (entered : IsEntered core new entry)
     (is : IsEntryOf core.last command entry.reply entry)
-    (answers : Answers core.boundary core.counts.disk new.counts.disk core.last command core.heap new.heap core.root new.root entry.reply)
+    (answers : AnswersOver core.boundary core.counts.disk new.counts.disk core.last command core.heap new.heap core.root new.root entry.reply)
     (leaves : LeavesNow past since new.heap.disk) where
   now_between : IsBetween core.boundary core.last core.flush.header.last.0
   now_between = begun.between core.flush.header.last.0 (inl refl)

@@ -5,7 +5,7 @@ use Rattle.hm_model.specs.After.{Event}
 use Rattle.hm_model.specs.Foreign.{Foreigners}
 use Rattle.hm_model.specs.Volume.{Volume}
 use Rattle.hm_model.specs.declared.entry.Entry.{Entry}
-use Rattle.hm_core.specs.Core.{Follows, GoesOn, GoesOnBy, IsGuarded, IsSoundCore, StandsOver}
+use Rattle.hm_core.specs.Core.{Follows, GoesOnOverEach, GoesOnBy, IsGuarded, IsSoundCore, StandsOver}
 use Rattle.hm_core.specs.Crash.{IsBetween, LeavesPrefixes}
 use Rattle.hm_core.specs.History.{up_to}
 use Rattle.hm_core.specs.State.{CoreState}
@@ -31,7 +31,7 @@ module _ (past since : LeftSince) (old new : CoreState) (opening : Volume) (fore
 
 -- and by those of two steps, one after the other
 module _ (past mid since : LeftSince) (a b c : CoreState) (drawn : a.last ≤ b.last) (later : b.last ≤ c.last) (settled : a.boundary ≤ b.boundary) where
-  pub goes_on_further : GoesOn past mid a b → GoesOn mid since b c → GoesOn past since a c
+  pub goes_on_further : GoesOnOverEach past mid a b → GoesOnOverEach mid since b c → GoesOnOverEach past since a c
   goes_on_further first second opening foreigners events stands =
       let half = first opening foreigners events stands in
       let end = second opening foreigners (events ++ half.more) half.stands in
@@ -68,6 +68,7 @@ follows_spare past core spare sound =
         caused = sound.caused;
         told = sound.told;
         between = sound.between;
+        header = sound.header;
         read = λ opening foreigners events stands. sound.read opening foreigners events (record { legal = stands.legal; read = stands.read });
         now = sound.now;
         settled = sound.settled;

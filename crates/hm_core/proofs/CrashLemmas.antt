@@ -1,29 +1,35 @@
 -- What a crash may have left of the disk of a core, and what that recovers to.
-use Rattle.std.proofs.Common.{◌≡◌, ◌≢◌, ◌⊎◌, inl, inr, ℕ, ◌≤◌, List, Option, true, refl, sym, ap, subst, ◌∙◌, arith}
+use Rattle.std.proofs.Common.{◌≡◌, ◌≢◌, ◌⊎◌, inl, inr, ℕ, ◌-◌, ◌≤◌, List, Option, true, false, refl, sym, ap, subst, ◌∙◌, arith}
 use Rattle.std.proofs.lemmas.Bool.{cases_lt}
 use Rattle.hm_types.specs.declared.id.Id.{Id}
 use Rattle.hm_disk.specs.Crash.{MayLeave, Told}
 use Rattle.hm_disk.specs.Moments.{Each, Elapses, LeftSince}
 use Rattle.hm_disk.proofs.CrashLemmas.{MayLeave-same}
 use Rattle.hm_header.specs.declared.header.Header.{Header}
+use Rattle.hm_header.specs.Change.{AnyCrash, HasNextBody, IsBodyWritten, IsClosedBeside, IsCounting}
+use Rattle.hm_header.specs.OnDisk.{HasHeader}
 use Rattle.hm_undo.specs.Recovered.{RecoversTo}
-use Rattle.hm_flush.specs.declared.change.Change.TheVariants.{Open}
+use Rattle.hm_flush.specs.declared.change.Change.{Change}
+use Rattle.hm_flush.specs.declared.change.Change.TheVariants.{Close, Write, Open}
 use Rattle.hm_flush.specs.declared.flush.Flush.{Flush}
-use Rattle.hm_flush.specs.declared.flush.Position.TheVariants.{Idle, Committing}
+use Rattle.hm_flush.specs.declared.flush.Position.{Position}
+use Rattle.hm_flush.specs.declared.flush.Position.TheVariants.{Idle, Undoing, Arming, Placing, Committing}
+use Rattle.hm_flush.specs.Calls.{HeaderStands, StandsForChange}
 use Rattle.hm_flush.specs.Ends.{as_read}
-use Rattle.hm_flush.specs.Flush.{IsFlush, tried, tried_at}
+use Rattle.hm_flush.specs.Flush.{IsFlush, header_to_write, tried, tried_at}
 use Rattle.hm_image.specs.Stands.{StandsFor}
 use Rattle.hm_model.specs.After.{Event}
 use Rattle.hm_model.specs.Foreign.{Foreigners}
 use Rattle.hm_model.specs.Volume.{Volume}
 use Rattle.hm_recover.proofs.BoundaryLemmas.{boundary-kept}
 use Rattle.hm_pages.specs.Sound.{IsSound}
+use Rattle.hm_stored.specs.Flushed.{IsFlushedBy}
 use Rattle.hm_stored.specs.Heap.{Heap}
 use Rattle.hm_state.specs.Flushing.{HoldsFlush, RecoversToVolume}
 use Rattle.hm_state.proofs.RecoveredVolumeLemmas.{left_recovers}
 use Rattle.hm_state.proofs.SettledLemmas.{live_settled}
 use Rattle.hm_core.specs.Core.{HoldsUpTo, IsCausedRun, IsSoundCore}
-use Rattle.hm_core.specs.Crash.{IsBetween, IsLeftBoundary, LeavesNow, LeavesPrefixes, RecoversToPrefix}
+use Rattle.hm_core.specs.Crash.{HasHeaderOf, IsBetween, IsLeftBoundary, LeavesNow, LeavesPrefixes, MayHaveChanged, RecoversToPrefix}
 use Rattle.hm_core.specs.History.{up_to, volume_of}
 use Rattle.hm_core.specs.Inside.{AreUpTo}
 use Rattle.hm_core.specs.State.{CoreState}
@@ -94,14 +100,42 @@ pub left_tried : (f : Flush) (boundary : ℕ) → IsLeftBoundary f boundary → 
 left_tried f boundary (inl is) = inl is
 left_tried f boundary (inr (opened, is)) = inr (ap tried_at opened, is)
 
+-- what each image has that a crash may leave, the disk has as it reads
+as_it_reads : (t : Told) (Has : List ℕ → Type 0) → AnyCrash Has t → Has t.bytes
+as_it_reads t Has each = each t.bytes (MayLeave-same t.bytes t.unsettled)
+
+-- A change of the header that is due: the header counts, or, once the last stage was tried, the next one may.
+header_of_change : (change : Change) (f : Flush) (t : Told) (P : Type 0) → (change ≡ Open true → P) → StandsForChange change f t
+    → HasHeader t.bytes f.header f.slot ⊎ (P × HasHeader t.bytes (header_to_write f) (1 - f.slot))
+header_of_change Close f t P opened stands = inl (as_it_reads t (IsCounting f.header f.slot) stands)
+header_of_change Write f t P opened stands = inl (as_it_reads t (IsClosedBeside f.header f.slot) stands).header_is
+header_of_change (Open false) f t P opened stands =
+    inl (as_it_reads t (IsBodyWritten f.header f.slot (header_to_write f)) (stands.1 refl)).0.header_is
+header_of_change (Open true) f t P opened stands =
+    elim (as_it_reads t (HasNextBody f.header f.slot (header_to_write f)) stands.0).header_is [
+      | inl counts ↦ inl counts
+      | inr counts ↦ inr (opened refl, counts)
+    ]
+
+-- whatever stage is due
+header_at : (at : Position) (f : Flush) (t : Told) → f.at ≡ at → HeaderStands at f t → HasHeaderOf f t.bytes
+header_at Idle f t is stands = inl stands
+header_at (Undoing from) f t is stands = inl stands
+header_at (Arming change) f t is stands =
+    header_of_change change f t (MayHaveChanged f) (λ opened. inl (is ∙ ap Arming opened)) stands
+header_at (Placing i) f t is stands = inl (as_it_reads t (IsCounting f.header f.slot) stands)
+header_at (Committing change) f t is stands =
+    header_of_change change f t (MayHaveChanged f) (λ opened. inr (is ∙ ap Committing opened)) stands
+
 -- what is so of every core
 pub sound_core : (core : CoreState) → IsFlush core.flush → core.boundary ≡ core.flush.header.last.0 → core.flush.header.last.0 ≤ core.last
     → (core.flush.at ≢ Idle → (core.flush.header.last.0 ≤ core.flush.target.last.0) × (core.flush.target.last.0 ≤ core.last))
-    → IsCausedRun core → AreUpTo core.boundary core.history → IsSound core.heap.pages → IsSoundCore core
-sound_core core flush boundary later target caused told sound = record {
+    → IsCausedRun core → AreUpTo core.boundary core.history → IsFlushedBy core.flush core.heap → IsSound core.heap.pages → IsSoundCore core
+sound_core core flush boundary later target caused told ready sound = record {
   caused = caused;
   told = told;
   between = λ at left. subst (λ (least : ℕ). IsBetween least core.last at) (sym boundary) (left_between core.flush core.last later target at left);
+  header = if_told core.heap.disk (λ t stands. header_at core.flush.at core.flush t refl stands.header) ready.stands;
   read = λ opening foreigners events stands.
       if_told core.heap.disk
       (λ t held. now_is_prefix core flush opening foreigners events (as_read t) held t.bytes (MayLeave-same t.bytes (as_read t).unsettled)) stands.read;

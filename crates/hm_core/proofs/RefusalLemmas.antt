@@ -11,7 +11,7 @@ use Rattle.hm_model.specs.declared.command.Command.{Command}
 use Rattle.hm_model.specs.declared.entry.Entry.{Entry}
 use Rattle.hm_model.specs.declared.reply.Reply.{Reply}
 use Rattle.hm_core.specs.Caused.{IsCausedFrom}
-use Rattle.hm_core.specs.Core.{Follows, GoesOn, IsCausedRun, IsSoundCore}
+use Rattle.hm_core.specs.Core.{Follows, GoesOnOverEach, IsCausedRun, IsSoundCore}
 use Rattle.hm_core.specs.History.{IsLegalOver}
 use Rattle.hm_core.specs.Inside.{IsInOrder}
 use Rattle.hm_core.specs.Served.{IsServed}
@@ -88,7 +88,7 @@ module _ (past since : LeftSince) (old mid : CoreState) (fails : FailsStage old 
       abbrev uncounted : CoreState
       uncounted = record mid { counts = old.counts }
 
-      enters : GoesOn since since uncounted new
+      enters : GoesOnOverEach since since uncounted new
       enters opening foreigners events stands =
           let next = refused_call mid.mounted.free mid.mounted.counts old.counts mid.counts mid.history mid.heap mid.root mid.last mid.running opening
           foreigners events stands.legal follows.never_falls left entry served refl mid.heap mid.root
@@ -101,7 +101,7 @@ module _ (past since : LeftSince) (old mid : CoreState) (fails : FailsStage old 
           later (λ flies. (target_drawn mid.flush mid.last mid.mounted.free mid.heap mid.history ordered flies).1) stands.read (λ was. was)
           (λ was moment image before. inl before)
 
-      pub refused_follows : GoesOn past since old uncounted → IsSoundCore new → Follows past since old new
+      pub refused_follows : GoesOnOverEach past since old uncounted → IsSoundCore new → Follows past since old new
       refused_follows staged sound = record {
         mounted = follows.mounted;
         history = (entry ∷ [], history_is);

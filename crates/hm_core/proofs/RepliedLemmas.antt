@@ -27,7 +27,11 @@ use Rattle.hm_model.specs.declared.command.Command.{Command}
 use Rattle.hm_model.specs.declared.command.Command.TheVariants.{Df, Sync, Synctid}
 use Rattle.hm_model.specs.declared.entry.Entry.{Entry}
 use Rattle.hm_model.specs.declared.reply.Reply.{Reply}
-use Rattle.hm_model.specs.declared.reply.Reply.TheVariants.{Media}
+use Rattle.hm_model.specs.declared.reply.Reply.TheVariants.{Done, Listing, Content, Status, Target, Synced, MadePfs, PfsIs, Space, Finished, Passed, Cut}
+use Rattle.hm_model.specs.declared.reply.Reply.TheVariants.{Exists, NotFound, NotDir, IsDir, NotEmpty, BadPath, ReadOnly, NotRetained, Future, TooBig}
+use Rattle.hm_model.specs.declared.reply.Reply.TheVariants.{CrossPfs, IntoItself, HashFull, PfsFull, NoSnapshots, TooManyIntervals, NotSlave, NotMaster}
+use Rattle.hm_model.specs.declared.reply.Reply.TheVariants.{IdsSpent, NoSpace, Media, Damaged, NoMemory, SharedDiffers, BeginDiffers, StreamBad, StreamShort}
+use Rattle.hm_model.specs.declared.reply.Reply.TheVariants.{StreamFault, EndPruned, Busy, NotLink, NotFile}
 use Rattle.hm_calls.specs.Call.{IsCall, OnCalls}
 use Rattle.hm_calls.specs.Commands.{IsOnTrees}
 use Rattle.hm_calls.specs.Due.{due_over}
@@ -84,7 +88,49 @@ module _ (last : ℕ) (command : Command) (reply : Reply) where
 -- a call's own reply tells no failed device
 pub own_media : (old new : ℕ) (reply : Reply) → IsOwn reply → TellsMedia old new reply
 own_media old new (Media before after) own = absurd own
-own_media old new other own = tt
+own_media old new (Synced boundary) own = tt
+own_media old new Done own = tt
+own_media old new (Listing names) own = tt
+own_media old new (Content bytes) own = tt
+own_media old new (Status kind obj size links) own = tt
+own_media old new (Target text) own = tt
+own_media old new (MadePfs number) own = tt
+own_media old new (PfsIs master number shared intervals sync_end) own = tt
+own_media old new (Space pool free) own = tt
+own_media old new Finished own = tt
+own_media old new (Passed begin end) own = tt
+own_media old new (Cut items) own = tt
+own_media old new Exists own = tt
+own_media old new NotFound own = tt
+own_media old new NotDir own = tt
+own_media old new IsDir own = tt
+own_media old new NotEmpty own = tt
+own_media old new (BadPath place) own = tt
+own_media old new ReadOnly own = tt
+own_media old new NotRetained own = tt
+own_media old new (Future last) own = tt
+own_media old new TooBig own = tt
+own_media old new CrossPfs own = tt
+own_media old new IntoItself own = tt
+own_media old new HashFull own = tt
+own_media old new PfsFull own = tt
+own_media old new NoSnapshots own = tt
+own_media old new (TooManyIntervals count) own = tt
+own_media old new NotSlave own = tt
+own_media old new NotMaster own = tt
+own_media old new IdsSpent own = tt
+own_media old new (NoSpace free needed) own = tt
+own_media old new (Damaged at kind) own = tt
+own_media old new NoMemory own = tt
+own_media old new (SharedDiffers slave stream) own = tt
+own_media old new (BeginDiffers slave stream) own = tt
+own_media old new (StreamBad place) own = tt
+own_media old new (StreamShort taken) own = tt
+own_media old new (StreamFault before after) own = tt
+own_media old new (EndPruned end first) own = tt
+own_media old new (Busy opening) own = tt
+own_media old new NotLink own = tt
+own_media old new NotFile own = tt
 
 pub fault_media : (old new : ℕ) (fault : Fault) → IsCaused old new fault → TellsMedia old new (reply_to fault)
 fault_media old new (device before after) caused = caused

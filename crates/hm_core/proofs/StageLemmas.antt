@@ -35,7 +35,7 @@ use Rattle.hm_state.proofs.LiveLemmas.{stage_keeps_live}
 use Rattle.hm_state.proofs.MovedLemmas.{free_less, room_same}
 use Rattle.hm_state.proofs.RecoveredVolumeLemmas.{left_recovers, within_recovers}
 use Rattle.hm_state.proofs.StageHeldLemmas.{held_after, stage_touches, touches_as_read}
-use Rattle.hm_core.specs.Core.{Follows, GoesOn, HoldsUpTo, IsGuarded, IsSoundCore, LeavesHeld, StandsOver}
+use Rattle.hm_core.specs.Core.{Follows, GoesOnOverEach, HoldsUpTo, IsGuarded, IsSoundCore, LeavesHeld, StandsOver}
 use Rattle.hm_core.specs.Counts.{AreLater}
 use Rattle.hm_core.specs.Crash.{IsBetween, IsLeftBoundary, LeavesPrefixes, RecoversToPrefix}
 use Rattle.hm_core.specs.History.{setting_of, up_to, volume_of}
@@ -323,8 +323,8 @@ module _ (core : CoreState) (f' : Flush) (h' : Heap) (counts : Counts) (result :
 
   -- with the root, which is the same
   module _ (is : core.boundary ≡ core.flush.header.last.0) (root : ℕ) (same : root ≡ core.root) where
-    pub stage_goes_on : GoesOn past since core (record new { root = root })
-    stage_goes_on = subst (λ (n : ℕ). GoesOn past since core (record new { root = n })) (sym same)
+    pub stage_goes_on : GoesOnOverEach past since core (record new { root = root })
+    stage_goes_on = subst (λ (n : ℕ). GoesOnOverEach past since core (record new { root = n })) (sym same)
         (λ opening foreigners events stands.
         let came = after opening foreigners events stands in
         goes_on_by_none past since core new opening foreigners events (new_stands opening foreigners events stands) came.guarded

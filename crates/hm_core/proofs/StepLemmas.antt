@@ -30,7 +30,7 @@ use Rattle.hm_model.specs.declared.entry.Entry.{Entry}
 use Rattle.hm_model.specs.declared.reply.Reply.{Reply}
 use Rattle.hm_stored.specs.Heap.{Heap, free_of, room_of}
 use Rattle.hm_stored.specs.Turn.{IsClosed}
-use Rattle.hm_core.specs.Answer.{Answers, IsEntryOf}
+use Rattle.hm_core.specs.Answer.{AnswersOver, IsEntryOf}
 use Rattle.hm_core.specs.Core.{TellsBoundary}
 use Rattle.hm_core.specs.Inside.{AreDrawnBy, AreUpTo, IsInOrder}
 use Rattle.hm_core.specs.Ledger.{IsPaid}
@@ -151,7 +151,7 @@ module _ (f : Flush) (last free : ℕ) (h : Heap) (history : List Entry) where
 
   -- so it is after a call that a store answered
   pub ordered_next : (h' : Heap) (root root' faults faults' : ℕ) (command : Command) (reply : Reply) (entry : Entry) → last < GREATEST_ID → IsEntryOf last command reply entry
-      → Answers f.header.last.0 faults faults' last command h h' root root' reply → IsInOrder f last free h history
+      → AnswersOver f.header.last.0 faults faults' last command h h' root root' reply → IsInOrder f last free h history
       → IsInOrder f (last + 1) free h' (history ++ entry ∷ [])
   ordered_next h' root root' faults faults' command reply entry left is answers o =
       ordered_more h' entry left is.own (subst (λ (r : Reply). boundary_in r ≤ f.header.last.0) (sym is.reply_is) (told_in f.header.last.0 command reply answers.told)) (record {

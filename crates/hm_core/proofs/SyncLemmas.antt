@@ -8,7 +8,7 @@ use Rattle.hm_stored.specs.Heap.{Heap, free_of, room_of}
 use Rattle.hm_stored.specs.Turn.{IsClosed}
 use Rattle.hm_state.specs.Live.{NoByte}
 use Rattle.hm_state.proofs.LiveLemmas.{live_same}
-use Rattle.hm_core.specs.Answer.{Answers}
+use Rattle.hm_core.specs.Answer.{AnswersOver}
 use Rattle.hm_core.specs.Counts.{with_disk}
 use Rattle.hm_core.specs.Served.{IsSync}
 use Rattle.hm_core.proofs.AnswerLemmas.{paid_later}
@@ -19,7 +19,7 @@ use Rattle.hm_core.proofs.RepliedLemmas.{sync_alone, sync_no_space}
 use Rattle.hm_core.proofs.SpaceLemmas.{sync_told}
 
 pub sync_answers : (boundary : Id) (faults last : ℕ) (command : Command) (h : Heap) (root : ℕ) → IsSync command → IsClosed h → last < GREATEST_ID
-    → Answers boundary.0 faults faults last command h h root root (Synced boundary)
+    → AnswersOver boundary.0 faults faults last command h h root root (Synced boundary)
 sync_answers boundary faults last command h root sync closed left = record {
   closed = closed;
   counted = omega arith;

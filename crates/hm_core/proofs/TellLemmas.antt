@@ -25,7 +25,7 @@ use Rattle.hm_stored.specs.Turn.{IsClosed, LooksSame}
 use Rattle.hm_state.specs.Live.{NoByte}
 use Rattle.hm_state.proofs.LiveLemmas.{live_same}
 use Rattle.hm_state.proofs.SameLemmas.{held_firm}
-use Rattle.hm_core.specs.Answer.{Answers, KeepsFlush}
+use Rattle.hm_core.specs.Answer.{AnswersOver, KeepsFlush}
 use Rattle.hm_core.specs.Counts.{AreLater, with_disk}
 use Rattle.hm_core.specs.History.{IsLegalBeyond, IsLegalOver}
 use Rattle.hm_core.specs.Ledger.{IsPaid}
@@ -106,7 +106,7 @@ module _ (old new : Heap) (root root' faults faults' : ℕ) (closed : IsClosed o
     )
 
     pub told_answers : (boundary space free : ℕ) → space ≡ old.bigblocks - first_pool old.bigblocks → free ≡ free_of old
-        → Answers boundary faults faults' last Df old new root root' (Space space free)
+        → AnswersOver boundary faults faults' last Df old new root root' (Space space free)
     told_answers boundary space free pool_is is_free = record {
       closed = looked_closed old new looks closed;
       counted = counted;
@@ -131,7 +131,7 @@ module _ (old new : Heap) (root root' faults faults' : ℕ) (closed : IsClosed o
     }
 
     pub failed_answers : (boundary : ℕ) (fault : Fault) → IsFreemapDamage old.bigblocks old.append (IsPool old.bigblocks) (maps_of old) fault → IsCaused 0 0 fault
-        → Answers boundary faults faults' last Df old new root root' (reply_to fault)
+        → AnswersOver boundary faults faults' last Df old new root root' (reply_to fault)
     failed_answers boundary fault bad caused = record {
       closed = looked_closed old new looks closed;
       counted = counted;

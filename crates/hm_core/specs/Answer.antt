@@ -49,7 +49,7 @@ pub record KeepsFlush (Known : Type 0) (h h' : Heap) : Type 0 where
 -- big-blocks that were begun are paid for, what a flush holds is still there, no byte that was live is written, and each history that
 -- was legal goes on legally with the entry of the call, and keeps the events of those before it. Whatever the space holds, the reply
 -- has its cause.
-pub record Answers (boundary faults faults' last : ℕ) (command : Command) (h h' : Heap) (root root' : ℕ) (reply : Reply) : Type 0 where
+pub record AnswersOver (boundary faults faults' last : ℕ) (command : Command) (h h' : Heap) (root root' : ℕ) (reply : Reply) : Type 0 where
   pub closed : IsClosed h'
   pub counted : faults ≤ faults'
   pub told : IfSome (told_boundary reply) (λ id. IsSync command × (id.0 ≡ boundary))

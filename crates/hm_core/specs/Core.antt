@@ -17,7 +17,7 @@ use Rattle.hm_state.specs.Live.{AreLiveSettled}
 use Rattle.hm_core.specs.Caused.{IsCausedFrom}
 use Rattle.hm_core.specs.History.{IsLegalOver, up_to, volume_of}
 use Rattle.hm_core.specs.Counts.{AreLater}
-use Rattle.hm_core.specs.Crash.{IsBetween, IsLeftBoundary, LeavesPrefixes, RecoversToPrefix}
+use Rattle.hm_core.specs.Crash.{HasHeaderOf, IsBetween, IsLeftBoundary, LeavesPrefixes, RecoversToPrefix}
 use Rattle.hm_core.specs.Inside.{AreUpTo}
 use Rattle.hm_core.specs.Served.{IsSync}
 use Rattle.hm_core.specs.State.{CoreDevices, CoreState}
@@ -56,8 +56,8 @@ pub record GoesOnBy (past since : LeftSince) (old new : CoreState) (opening : Vo
 
 -- For each volume on which the run may have begun, it stands for it still, by the events of before and more: what it had
 -- answered by then was right over the same trees.
-abbrev pub GoesOn : LeftSince → LeftSince → CoreState → CoreState → Type 0
-GoesOn past since old new = (opening : Volume) (foreigners : Foreigners) (events : List Event) → StandsOver old opening foreigners events
+abbrev pub GoesOnOverEach : LeftSince → LeftSince → CoreState → CoreState → Type 0
+GoesOnOverEach past since old new = (opening : Volume) (foreigners : Foreigners) (events : List Event) → StandsOver old opening foreigners events
     → GoesOnBy past since old new opening foreigners events
 
 -- each reply of its history has its cause, from the last id and the counts of faults as it was mounted on: so it is of every core
@@ -65,13 +65,15 @@ abbrev pub IsCausedRun : CoreState → Type 0
 IsCausedRun core = ∥ IsCausedFrom core.mounted.first core.mounted.counts core.counts core.last core.history ∥₁
 
 -- What is so of every core. Each reply has its cause, none told a boundary past the committed one, and each boundary that a crash
--- within a stage may leave is drawn. Where it stands for a volume, its disk recovers to the volume after a prefix of the events, up to
--- a boundary that a crash may leave; and where it is guarded, so does each image that a crash now may leave, and no unsettled range meets
--- what such an image needs.
+-- within a stage may leave is drawn. The header that counts on its disk is the committed one, or the one that may have taken its place,
+-- whether the disk stands for a volume or not. Where the core stands for a volume, its disk recovers to the volume after a prefix of the
+-- events, up to a boundary that a crash may leave; and where it is guarded, so does each image that a crash now may leave, and no unsettled
+-- range meets what such an image needs.
 pub record IsSoundCore (core : CoreState) : Type 0 where
   pub caused : IsCausedRun core
   pub told : AreUpTo core.boundary core.history
   pub between : (boundary : ℕ) → IsLeftBoundary (tried core.flush) boundary → IsBetween core.boundary core.last boundary
+  pub header : IfSome core.heap.disk (λ t. HasHeaderOf core.flush t.bytes)
   pub read : (opening : Volume) (foreigners : Foreigners) (events : List Event) → StandsOver core opening foreigners events
       → IfSome core.heap.disk (λ t. RecoversToPrefix (IsLeftBoundary core.flush) opening foreigners events t.bytes)
   pub now : (opening : Volume) (foreigners : Foreigners) (events : List Event) → IsGuarded core opening foreigners events
@@ -90,7 +92,7 @@ pub record Follows (past since : LeftSince) (old new : CoreState) : Type 0 where
   pub boundary : old.boundary ≤ new.boundary
   pub never_falls : AreLater old.counts new.counts
   pub sound : IsSoundCore new
-  pub goes_on : GoesOn past since old new
+  pub goes_on : GoesOnOverEach past since old new
 
 -- Each image that a crash within a step may have left recovers to the committed volume or to the frozen one, and to none between.
 abbrev pub LeavesHeld : LeftSince → LeftSince → CoreState → Type 0

@@ -11,14 +11,14 @@ use Rattle.hm_core.specs.History.{volume_of}
 use Rattle.hm_core.specs.State.{CoreDevices, CoreState}
 
 -- whatever volume the run began on, the bytes stand for the volume after the history
-abbrev pub LeavesVolume : CoreState → List ℕ → Type 0
-LeavesVolume core bytes = (opening : Volume) (foreigners : Foreigners) (events : List Event) → StandsOver core opening foreigners events
+abbrev pub HasVolumeAfter : CoreState → List ℕ → Type 0
+HasVolumeAfter core bytes = (opening : Volume) (foreigners : Foreigners) (events : List Event) → StandsOver core opening foreigners events
     → StandsFor bytes (volume_of opening foreigners events)
 
 -- the header that counts does so on the disk, which leaves the volume
 pub record IsCommittedOn (core : CoreState) (t : Told) : Type 0 where
   pub counts : HasHeader t.bytes core.flush.header core.flush.slot
-  pub volume : LeavesVolume core t.bytes
+  pub volume : HasVolumeAfter core t.bytes
 
 module _ {D I O : Type 0} where
   -- these are the disk and the streams of a core

@@ -11,7 +11,11 @@ use Rattle.hm_model.specs.declared.command.Command.{Command}
 use Rattle.hm_model.specs.declared.command.Command.TheVariants.{Df}
 use Rattle.hm_model.specs.declared.entry.Entry.{Entry}
 use Rattle.hm_model.specs.declared.reply.Reply.{Reply}
-use Rattle.hm_model.specs.declared.reply.Reply.TheVariants.{Media, Space}
+use Rattle.hm_model.specs.declared.reply.Reply.TheVariants.{Done, Listing, Content, Status, Target, Synced, MadePfs, PfsIs, Space, Finished, Passed, Cut}
+use Rattle.hm_model.specs.declared.reply.Reply.TheVariants.{Exists, NotFound, NotDir, IsDir, NotEmpty, BadPath, ReadOnly, NotRetained, Future, TooBig}
+use Rattle.hm_model.specs.declared.reply.Reply.TheVariants.{CrossPfs, IntoItself, HashFull, PfsFull, NoSnapshots, TooManyIntervals, NotSlave, NotMaster}
+use Rattle.hm_model.specs.declared.reply.Reply.TheVariants.{IdsSpent, NoSpace, Media, Damaged, NoMemory, SharedDiffers, BeginDiffers, StreamBad, StreamShort}
+use Rattle.hm_model.specs.declared.reply.Reply.TheVariants.{StreamFault, EndPruned, Busy, NotLink, NotFile}
 use Rattle.hm_calls.specs.Call.{IsCall}
 use Rattle.hm_calls.specs.Commands.{IsOnTrees}
 use Rattle.hm_calls.specs.Due.{due_over}
@@ -37,7 +41,49 @@ OnHeld h root last P = (volume : Volume) (held : HoldsVolume h root last volume)
 -- a reply that tells a failed device tells it of a call over which the count of its faults went from one to another
 abbrev pub TellsMedia : ℕ → ℕ → Reply → Type 0
 TellsMedia old new (Media before after) = IsMedia old new before after
-TellsMedia old new other = Unit {0}
+TellsMedia old new (Synced boundary) = Unit {0}
+TellsMedia old new Done = Unit {0}
+TellsMedia old new (Listing names) = Unit {0}
+TellsMedia old new (Content bytes) = Unit {0}
+TellsMedia old new (Status kind obj size links) = Unit {0}
+TellsMedia old new (Target text) = Unit {0}
+TellsMedia old new (MadePfs number) = Unit {0}
+TellsMedia old new (PfsIs master number shared intervals sync_end) = Unit {0}
+TellsMedia old new (Space pool free) = Unit {0}
+TellsMedia old new Finished = Unit {0}
+TellsMedia old new (Passed begin end) = Unit {0}
+TellsMedia old new (Cut items) = Unit {0}
+TellsMedia old new Exists = Unit {0}
+TellsMedia old new NotFound = Unit {0}
+TellsMedia old new NotDir = Unit {0}
+TellsMedia old new IsDir = Unit {0}
+TellsMedia old new NotEmpty = Unit {0}
+TellsMedia old new (BadPath place) = Unit {0}
+TellsMedia old new ReadOnly = Unit {0}
+TellsMedia old new NotRetained = Unit {0}
+TellsMedia old new (Future last) = Unit {0}
+TellsMedia old new TooBig = Unit {0}
+TellsMedia old new CrossPfs = Unit {0}
+TellsMedia old new IntoItself = Unit {0}
+TellsMedia old new HashFull = Unit {0}
+TellsMedia old new PfsFull = Unit {0}
+TellsMedia old new NoSnapshots = Unit {0}
+TellsMedia old new (TooManyIntervals count) = Unit {0}
+TellsMedia old new NotSlave = Unit {0}
+TellsMedia old new NotMaster = Unit {0}
+TellsMedia old new IdsSpent = Unit {0}
+TellsMedia old new (NoSpace free needed) = Unit {0}
+TellsMedia old new (Damaged at kind) = Unit {0}
+TellsMedia old new NoMemory = Unit {0}
+TellsMedia old new (SharedDiffers slave stream) = Unit {0}
+TellsMedia old new (BeginDiffers slave stream) = Unit {0}
+TellsMedia old new (StreamBad place) = Unit {0}
+TellsMedia old new (StreamShort taken) = Unit {0}
+TellsMedia old new (StreamFault before after) = Unit {0}
+TellsMedia old new (EndPruned end first) = Unit {0}
+TellsMedia old new (Busy opening) = Unit {0}
+TellsMedia old new NotLink = Unit {0}
+TellsMedia old new NotFile = Unit {0}
 
 -- The reply of a call over a space, over which the count of the device's faults went from one to another. Of a call on names or on
 -- the bytes of files it is the one that each such call is due whose trees the elements show, by the next id: `no space` exactly where

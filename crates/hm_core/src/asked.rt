@@ -3,7 +3,7 @@ ghost use Rattle.std.specs.Prelude.{◌<◌};
 ghost use Rattle.hm_types.specs.declared.limits.TheConstants.{GREATEST_ID};
 ghost use Rattle.hm_stored.specs.Space.{heap};
 ghost use Rattle.hm_stored.specs.Turn.{IsClosed};
-ghost use Rattle.hm_core.specs.Answer.{Answers};
+ghost use Rattle.hm_core.specs.Answer.{AnswersOver};
 ghost use Rattle.hm_core.specs.Crash.{LeavesNow};
 ghost use Rattle.hm_core.specs.Served.{IsAsked};
 
@@ -28,7 +28,7 @@ pub(crate) fn answer_asked<D: Disk>(
     requires closed { IsClosed (heap stored.old.space) }
     requires asked { IsAsked command.now }
     requires left { last.0 < GREATEST_ID }
-    ensures answers { Answers flusher.now.header.last.0 (D.faults stored.old.space.disk)
+    ensures answers { AnswersOver flusher.now.header.last.0 (D.faults stored.old.space.disk)
         (D.faults stored.new.space.disk) last.0 command.now
         (heap stored.old.space) (heap stored.new.space) stored.old.root stored.new.root result }
     ensures crashes { LeavesNow (D.left_since stored.old.space.disk) (D.left_since stored.new.space.disk)

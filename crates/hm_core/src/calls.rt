@@ -5,7 +5,7 @@ ghost use Rattle.hm_model.specs.Forms.{IsInRange};
 ghost use Rattle.hm_calls.specs.Commands.{IsOnTrees};
 ghost use Rattle.hm_stored.specs.Space.{heap};
 ghost use Rattle.hm_stored.specs.Turn.{IsClosed};
-ghost use Rattle.hm_core.specs.Answer.{Answers};
+ghost use Rattle.hm_core.specs.Answer.{AnswersOver};
 ghost use Rattle.hm_core.specs.Crash.{LeavesNow};
 ghost use Rattle.hm_core.specs.Told.{reply_to};
 
@@ -30,7 +30,7 @@ pub fn answer_over<D: Disk>(
     requires closed { IsClosed (heap stored.old.space) }
     requires served { IsOnTrees command.now × IsInRange command.now }
     requires left { last.0 < GREATEST_ID }
-    ensures answers { (boundary : ℕ) → Answers boundary (D.faults stored.old.space.disk)
+    ensures answers { (boundary : ℕ) → AnswersOver boundary (D.faults stored.old.space.disk)
         (D.faults stored.new.space.disk) last.0 command.now
         (heap stored.old.space) (heap stored.new.space) stored.old.root stored.new.root result }
     ensures crashes { LeavesNow (D.left_since stored.old.space.disk) (D.left_since stored.new.space.disk)

@@ -3,22 +3,18 @@
 
 mod asked;
 mod calls;
-mod ending;
-mod entries;
 pub mod laws;
+mod making;
 mod mounting;
-mod opening;
 mod served;
 mod space;
 mod staged;
-mod stages;
 mod step;
-mod steps;
 mod volume;
 
 pub use calls::answer_over;
 pub use hm_recover::OpenFault;
-pub use opening::newfs;
+pub use making::newfs;
 pub use served::is_served;
 pub use space::tell_space;
 pub use staged::Staged;

@@ -4,7 +4,7 @@ ghost use Rattle.hm_types.specs.declared.limits.TheConstants.{GREATEST_ID};
 ghost use Rattle.hm_model.specs.declared.command.Command.TheVariants.{Df};
 ghost use Rattle.hm_stored.specs.Space.{heap};
 ghost use Rattle.hm_stored.specs.Turn.{IsClosed};
-ghost use Rattle.hm_core.specs.Answer.{Answers};
+ghost use Rattle.hm_core.specs.Answer.{AnswersOver};
 ghost use Rattle.hm_core.specs.Crash.{LeavesNow};
 
 use crate::calls::failure;
@@ -18,7 +18,7 @@ use hm_types::first_pool;
 pub fn tell_space<D: Disk>(stored: &mut Stored<D>) -> Reply
     requires closed { IsClosed (heap stored.old.space) }
     ensures answers { (boundary last : ℕ) → last < GREATEST_ID →
-        Answers boundary (D.faults stored.old.space.disk) (D.faults stored.new.space.disk) last Df
+        AnswersOver boundary (D.faults stored.old.space.disk) (D.faults stored.new.space.disk) last Df
         (heap stored.old.space) (heap stored.new.space) stored.old.root stored.new.root result }
     ensures crashes { LeavesNow (D.left_since stored.old.space.disk) (D.left_since stored.new.space.disk)
         (D.told stored.new.space.disk) }

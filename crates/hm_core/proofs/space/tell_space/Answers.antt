@@ -6,7 +6,7 @@ use Rattle.hm_model.specs.declared.reply.Reply.{Reply}
 use Rattle.hm_pages.specs.Store.{contents}
 use Rattle.hm_stored.specs.Heap.{heap_of}
 use Rattle.hm_stored.specs.declared.books.Books.{Books}
-use Rattle.hm_core.specs.Answer.{Answers}
+use Rattle.hm_core.specs.Answer.{AnswersOver}
 use Rattle.hm_core.proofs.CrashLemmas.{leaves_same}
 use Rattle.hm_core.proofs.TellLemmas.{failed_answers, told_answers}
 use Rattle.hm_core.proofs.space.tell_space.Goals as goal
@@ -37,7 +37,7 @@ returns-in-Err g c =
     let h' = heap_of (contents t.space.pages.store) (g.D.Disk.told t.space.disk) t.space.books in
     record {
       answers = λ boundary last left.
-          subst (λ (r : Reply). Answers boundary (g.D.Disk.faults s.space.disk) (g.D.Disk.faults t.space.disk) last Df h h' s.root t.root r)
+          subst (λ (r : Reply). AnswersOver boundary (g.D.Disk.faults s.space.disk) (g.D.Disk.faults t.space.disk) last Df h h' s.root t.root r)
           (sym c.failure.ensures)
           (failed_answers h h' s.root t.root (g.D.Disk.faults s.space.disk) (g.D.Disk.faults t.space.disk) c.requires.closed
           c.free_blocks.ensures.same c.free_blocks.ensures.rest.0 (ap g.D.Disk.faults c.free_blocks.ensures.rest.1) last left boundary c.in-Err.fault

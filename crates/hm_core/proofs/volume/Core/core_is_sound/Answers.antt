@@ -4,7 +4,7 @@ use Rattle.hm_pages.specs.Store.{contents}
 use Rattle.hm_stored.specs.Heap.{heap_of}
 use Rattle.hm_core.specs.Seen.{seen}
 use Rattle.hm_core.proofs.CrashLemmas.{sound_core}
-use Rattle.hm_core.proofs.StepLemmas.{boundary_drawn, boundary_told, target_drawn}
+use Rattle.hm_core.proofs.StepLemmas.{boundary_drawn, boundary_told, flushed_now, target_drawn}
 use Rattle.hm_core.proofs.volume.Core.core_is_sound.Goals as goal
 
 pub returns : goal.returns
@@ -13,4 +13,5 @@ returns g c =
     let h = heap_of (contents s.stored.space.pages.store) (g.D.Disk.told s.stored.space.disk) s.stored.space.books in
     sound_core (seen s) c.flush_is_sound.ensures refl (boundary_drawn s.flusher s.last.0 s.free h s.history.items s.ordered)
     (target_drawn s.flusher s.last.0 s.free h s.history.items s.ordered) s.caused
-    (boundary_told s.flusher s.last.0 s.free h s.history.items s.ordered) c.pages_are_sound.ensures
+    (boundary_told s.flusher s.last.0 s.free h s.history.items s.ordered)
+    (flushed_now s.flusher s.last.0 s.free h s.history.items s.ordered) c.pages_are_sound.ensures

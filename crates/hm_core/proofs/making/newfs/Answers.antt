@@ -3,7 +3,7 @@ use Rattle.hm_types.specs.Told.{BothTell}
 use Rattle.hm_disk.specs.Crash.{Told}
 use Rattle.hm_newfs.specs.Volume.{MakesVolume}
 use Rattle.hm_core.proofs.OpeningLemmas.{has_room, made}
-use Rattle.hm_core.proofs.opening.newfs.Goals as goal
+use Rattle.hm_core.proofs.making.newfs.Goals as goal
 
 pub returns-in-Ok-write_volume-clause-ok : goal.returns-in-Ok-write_volume-clause-ok
 returns-in-Ok-write_volume-clause-ok g c =
