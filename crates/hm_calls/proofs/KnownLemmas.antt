@@ -16,7 +16,7 @@ use Rattle.hm_dirs.proofs.WriteLemmas.{writes_as}
 use Rattle.hm_calls.specs.Known.{AreBelow, AreKnown, AreOlderOrSlaves, IsSlaves}
 
 -- after a call by `i` that wrote in one pseudo file system
-older_still : (pfs i : ℕ) (New : FullElement → Type 0) (es es' : List FullElement) → WritesIn pfs i New es es' → AreOlderOrSlaves i es
+pub older_still : (pfs i : ℕ) (New : FullElement → Type 0) (es es' : List FullElement) → WritesIn pfs i New es es' → AreOlderOrSlaves i es
     → AreOlderOrSlaves (i + 1) es'
 older_still pfs i New es es' writes known other = elim (known other) [
   | inl (r, range, here, is) ↦ inl (r, range, (writes.records_then open_end other (pfs_bytes r)).1 here, is)

@@ -38,3 +38,8 @@ pub mod MoveBesideLemmas
 pub mod GivenLemmas
 pub mod MayReplyLemmas
 pub mod SystemLemmas
+mod NewNumberLemmas
+mod NewSystemLemmas
+mod NewCallLemmas
+mod NewEffectLemmas
+mod NewStageLemmas

@@ -73,7 +73,7 @@ same_head None one two same = same
 same_head (Some refusal) one two same = refl
 
 -- the hash of a name counts where the name is new
-hash_counts : (found : Option Obj) (links : Check) (full : Bool) (space : Check)
+pub hash_counts : (found : Option Obj) (links : Check) (full : Bool) (space : Check)
     → first_refusal (option_map_or (λ _. Some Exists) found None ∷ links ∷ refuse_if full HashFull ∷ space ∷ [])
     ≡ first_refusal (option_map_or (λ _. Some Exists) found None ∷ links ∷ refuse_if (option_map_or (λ _. false) found full) HashFull ∷ None ∷ space ∷ [])
 hash_counts None links full space = same_head links _ _ (same_head (refuse_if full HashFull) _ _ refl)

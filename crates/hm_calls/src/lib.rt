@@ -1,5 +1,5 @@
 //! The calls on names and on the bytes of files: what each answers, and what it does to the elements
-//! of a store. `pfs_status` tells of a pseudo file system.
+//! of a store. `pfs_status` tells of a pseudo file system, and `make_system` makes one.
 #![tactic(auto)]
 
 mod bytes;
@@ -15,6 +15,7 @@ mod looks;
 mod make;
 mod moves;
 mod new;
+mod new_systems;
 mod places;
 mod put;
 mod remove;
@@ -27,4 +28,5 @@ mod take;
 mod words;
 
 pub use calls::answer;
+pub use new_systems::{NewSystem, make_system};
 pub use systems::pfs_status;

@@ -20,6 +20,8 @@ mod lines;
 #[cfg(test)]
 mod metered;
 #[cfg(test)]
+mod new_system_tests;
+#[cfg(test)]
 mod past_trees;
 #[cfg(test)]
 mod random_tests;
