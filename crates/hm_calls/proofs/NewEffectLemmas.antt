@@ -6,6 +6,7 @@ use Rattle.std.proofs.lemmas.List.Elements.{All-contains}
 use Rattle.hm_types.specs.Elements.{FullElement, Key}
 use Rattle.hm_types.specs.Tree.{FileTree, object_in, with_object}
 use Rattle.hm_types.specs.declared.id.Pfs.{Pfs}
+use Rattle.hm_types.specs.declared.object.Object.{Object}
 use Rattle.hm_path.specs.Path.{IsPath}
 use Rattle.hm_path.specs.declared.part.Part.{Part}
 use Rattle.hm_key.specs.Balance.{IsBalanced, content_of}
@@ -24,7 +25,7 @@ use Rattle.hm_model.specs.declared.command.Command.{Command}
 use Rattle.hm_model.proofs.GrowthLemmas.{same_or_not}
 use Rattle.hm_records.specs.Payload.{KeyFits}
 use Rattle.hm_records.specs.PfsRecord.{open_end, pfs_bytes}
-use Rattle.hm_records.specs.View.{IsViewOf}
+use Rattle.hm_records.specs.View.{IsViewOf, kind_number}
 use Rattle.hm_records.specs.declared.inode.Inode.{Inode}
 use Rattle.hm_objects.specs.Objects.{IsMissing, pfs_link_of}
 use Rattle.hm_dirs.specs.Names.{IsSpot, first_key}
@@ -41,13 +42,14 @@ use Rattle.hm_calls.specs.Scenes.{IsSet, OnScenes, call_in, scene_in, tree_at}
 use Rattle.hm_calls.specs.Writes.{IsNewIn, IsOpen, place_in}
 use Rattle.hm_calls.specs.declared.new_systems.NewSystem.{NewSystem}
 use Rattle.hm_calls.specs.declared.new_systems.NewSystem.TheVariants.{Master, Slave}
-use Rattle.hm_calls.proofs.EffectLemmas.{IsFoundThen, misses, opens, spot_fits, tree_changes}
+use Rattle.hm_calls.proofs.EffectLemmas.{IsFoundThen, kinds_leading, misses, opens, spot_fits, tree_changes}
 use Rattle.hm_calls.proofs.KnownLemmas.{older_still}
 use Rattle.hm_calls.proofs.MakeLemmas.{IsReady, new_system, new_view}
 use Rattle.hm_calls.proofs.NewNumberLemmas.{no_system, number_gone, number_is}
 use Rattle.hm_calls.proofs.NewSystemLemmas.{new_at, new_is, system_paths}
 use Rattle.hm_calls.proofs.SceneLemmas.{call_set, call_so}
 use Rattle.hm_calls.proofs.StageLemmas.{Wrote}
+use Rattle.hm_calls.proofs.TreeLemmas.{new_keeps, new_there}
 
 -- ---- a new one, by what was put
 
@@ -196,6 +198,9 @@ module _ (hash : List ℕ → ℕ) (id : ℕ) (course : Course) (before : course
           by Master tree = refl
           by Slave tree = refl
 
+      abbrev new_link : Object
+      new_link = pfs_link_of (record { 0 = id }) number
+
       module _ (es' : List FullElement) (puts : PutsLinked hash (place_in directory name) spot id new number shared scene.elements es') where
         tree_linked : ReadsWords (system_command new word shared) (Parts parts ∷ []) → ChangesTree the_call scene.elements puts.between
         tree_linked reads =
@@ -204,7 +209,13 @@ module _ (hash : List ℕ → ℕ) (id : ℕ) (course : Course) (before : course
             is.ready.own within in_system is.ready.below before view_now
             (λ tree. with_object tree directory.at.object name (pfs_link_of (record { 0 = id }) number)) (KeyFits hash spot.key name) puts.between
             puts.link.steps (spot_fits hash spot.key name is.ready.spot_is.from is.ready.spot_is.to)
-            (λ gone. puts.link.shows open_is (missing gone)) linked
+            (λ gone. puts.link.shows open_is (missing gone))
+            (λ gone. kinds_leading new_link.number (kind_number new_link.kind) (with_object (tree_now the_call) directory.at.object name new_link)
+            scene.elements puts.between
+            (λ o there. ap (λ (x : Object). kind_number x.kind) (sym (new_there (tree_now the_call) directory.at.object name new_link o gone there)))
+            puts.link.names)
+            (λ other o there gone. absurd (new_keeps (tree_now the_call) directory.at.object other name new_link o there gone))
+            (λ gone. puts.link.follows open_is (missing gone)) linked
 
         none : HasSystem scene.volume number.0 → ⊥
         none = no_system scene.volume number.0 (number_gone scene.elements scene.volume scene.view number.0 set.shows is.first.unused)

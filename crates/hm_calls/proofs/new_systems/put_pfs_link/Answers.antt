@@ -1,8 +1,10 @@
 use Rattle.std.proofs.lemmas.Result.{on_ok_weaker}
 use Rattle.hm_types.specs.declared.id.Obj.{Obj}
+use Rattle.hm_types.specs.declared.object.Kind.TheVariants.{PfsLink}
 use Rattle.hm_key.specs.Balance.{content_of}
 use Rattle.hm_cursor.specs.Told.{fulls}
 use Rattle.hm_cursor.proofs.CallLemmas.{Change, Then, known_after, writes_both, writes_so}
+use Rattle.hm_records.specs.View.{kind_number}
 use Rattle.hm_objects.specs.Objects.{AddsObject, pfs_link_of}
 use Rattle.hm_dirs.specs.Names.{AreOlder}
 use Rattle.hm_calls.specs.Known.{AreBelow}
@@ -33,7 +35,7 @@ returns-clause-ok g c hash =
     let place = place_in c.args.directory.now c.args.name.now in
     let number : Obj = record { 0 = c.args.id.0 } in
     let One : Change = AddsObject at.pfs.0 c.args.id.0 (pfs_link_of number c.args.to) in
-    let Other : Change = PutsName place c.args.spot c.args.id.0 number in
+    let Other : Change = PutsName place c.args.spot c.args.id.0 number (kind_number PfsLink) in
     on_ok_weaker c.put_name.result
     (λ second. writes_so g.T.HasElements.elements g.T.HasRoom.extents (Then One Other)
     (PutsObject hash place c.args.spot c.args.id.0 (pfs_link_of number c.args.to)) (λ lists. AreBelow at.pfs.0 c.args.id.0 (fulls lists))
