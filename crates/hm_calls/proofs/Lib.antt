@@ -37,3 +37,5 @@ pub mod MoveBesideLemmas
 pub mod GivenLemmas
 pub mod MayReplyLemmas
 pub mod SystemLemmas
+pub mod RetentionLemmas
+pub mod PruneLemmas

@@ -17,3 +17,4 @@ pub mod Bytes
 pub mod Edits
 pub mod Moves
 pub mod Systems
+pub mod Prunes

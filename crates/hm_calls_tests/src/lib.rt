@@ -22,6 +22,8 @@ mod metered;
 #[cfg(test)]
 mod past_trees;
 #[cfg(test)]
+mod prune_tests;
+#[cfg(test)]
 mod random_tests;
 #[cfg(test)]
 mod refusal_tests;
