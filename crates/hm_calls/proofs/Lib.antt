@@ -43,3 +43,5 @@ mod NewSystemLemmas
 mod NewCallLemmas
 mod NewEffectLemmas
 mod NewStageLemmas
+pub mod RetentionLemmas
+pub mod PruneLemmas

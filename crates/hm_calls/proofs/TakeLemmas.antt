@@ -34,7 +34,7 @@ module _ {S : Type 0} (room_of : S → ℕ → ℕ) (free_of : S → ℕ) where
   }
 
   -- the room falls by no more, since a big-block that was begun has more than there was
-  charges_lower : (most : ℕ → ℕ) (s u : S) → Charges room_of free_of most s u → (zone : ℕ) → room_of s zone ≤ room_of u zone + most zone
+  pub charges_lower : (most : ℕ → ℕ) (s u : S) → Charges room_of free_of most s u → (zone : ℕ) → room_of s zone ≤ room_of u zone + most zone
   charges_lower most s u charged zone = by_zone (charged.begun zone) refl where
     by_zone : (begun : Bool) → charged.begun zone ≡ begun → room_of s zone ≤ room_of u zone + most zone
     by_zone true is =

@@ -18,3 +18,4 @@ pub mod Edits
 pub mod Moves
 pub mod Systems
 pub mod NewSystems
+pub mod Prunes

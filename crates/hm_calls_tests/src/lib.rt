@@ -24,6 +24,8 @@ mod new_system_tests;
 #[cfg(test)]
 mod past_trees;
 #[cfg(test)]
+mod prune_tests;
+#[cfg(test)]
 mod random_tests;
 #[cfg(test)]
 mod refusal_tests;

@@ -113,10 +113,14 @@ pub(crate) enum Item {
     Master(u16),
     /// A slave that keeps the ids from the first one to its sync end.
     Slave(u16, u64, u64),
+    /// A pseudo file system that keeps these ids: a slave with its sync end, or a master.
+    Keeping(u16, Option<u64>, &'static [(u64, u64)]),
     /// An object of a PFS: its number, its kind and its links.
     Object(u16, u64, u8, u32),
     /// A link of PFS 0 to another PFS.
     Link(u64, u16),
+    /// A link of a PFS, the first one, to another.
+    LinkIn(u16, u64, u16),
     /// A name in a directory of a PFS, under a collision number, and its object.
     Entry(u16, u64, &'static str, u64, u64),
     Target(u16, u64, &'static str),
@@ -133,11 +137,15 @@ fn entry_place<H: NameHash>(hash: &H, pfs: u16, directory: u64, name: &str, numb
 
 fn base_of<H: NameHash>(hash: &H, item: Item) -> Base {
     match item {
-        Item::Master(pfs) | Item::Slave(pfs, _, _) | Item::CutRecord(pfs) => record_base(Pfs(pfs)),
+        Item::Master(pfs)
+        | Item::Slave(pfs, _, _)
+        | Item::Keeping(pfs, _, _)
+        | Item::CutRecord(pfs) => record_base(Pfs(pfs)),
         Item::Object(pfs, object, _, _) | Item::CutObject(pfs, object) => {
             inode_base(Pfs(pfs), Obj(object))
         }
         Item::Link(object, _) => inode_base(Pfs(0), Obj(object)),
+        Item::LinkIn(pfs, object, _) => inode_base(Pfs(pfs), Obj(object)),
         Item::Entry(pfs, directory, name, number, _) => {
             entry_place(hash, pfs, directory, name, number)
         }
@@ -158,6 +166,28 @@ fn record_bytes(alloc: Global, kept: Option<(u64, u64)>) -> Result<Vec<u8>, Fail
         master: kept.is_none(),
         shared: 7,
         sync_end: Id(sync_end),
+        retention,
+    };
+    Ok(encode_pfs(alloc, &record)?)
+}
+
+// The payload of the record of a pseudo file system that keeps these ids.
+pub(crate) fn keeping_bytes(
+    alloc: Global,
+    sync_end: Option<u64>,
+    kept: &[(u64, u64)],
+) -> Result<Vec<u8>, Fail> {
+    let mut list = Vec::new(alloc);
+    for (first, last) in kept {
+        list.push((Id(*first), Id(*last)))?;
+    }
+    let Some(retention) = Retention::of(list) else {
+        return Err("no retention")?;
+    };
+    let record = PfsRecord {
+        master: sync_end.is_none(),
+        shared: 7,
+        sync_end: Id(sync_end.unwrap_or(0)),
         retention,
     };
     Ok(encode_pfs(alloc, &record)?)
@@ -186,8 +216,9 @@ fn payload_of(alloc: Global, item: Item) -> Result<Vec<u8>, Fail> {
     match item {
         Item::Master(_) => record_bytes(alloc, None),
         Item::Slave(_, first, sync_end) => record_bytes(alloc, Some((first, sync_end))),
+        Item::Keeping(_, sync_end, kept) => keeping_bytes(alloc, sync_end, kept),
         Item::Object(_, _, kind, links) => inode_as_bytes(alloc, kind, links, 0),
-        Item::Link(_, pfs) => inode_as_bytes(alloc, PFS_LINK, 1, pfs),
+        Item::Link(_, pfs) | Item::LinkIn(_, _, pfs) => inode_as_bytes(alloc, PFS_LINK, 1, pfs),
         Item::Entry(_, _, name, _, object) => entry_as_bytes(alloc, name, object),
         Item::Target(_, _, text) => Ok(Vec::from_slice(alloc, text.as_bytes())?),
         Item::CutRecord(_) | Item::CutObject(_, _) | Item::CutEntry(_, _, _) => {
