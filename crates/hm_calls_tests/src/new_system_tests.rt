@@ -200,14 +200,14 @@ fn the_least_unused_number_is_looked_for_from_one_on(rt: HostRuntime) -> Result<
         (Line::Master("/a"), "pfs full."),
         (Line::Slave("/b"), "pfs full."),
     ];
-    for (numbers, rows) in [
-        (0, gaps.as_slice()),
-        (2, &gaps),
-        (65_534, &later),
-        (65_535, &none),
-        (65_536, &none),
-    ] {
-        let other = first_other_over(rt.alloc(), &GAPS, numbers, rows)?;
+    for numbers in [0, 2] {
+        let other = first_other_over(rt.alloc(), &GAPS, numbers, &gaps)?;
+        assert_eq!(rt; other.is_none(), true, "{numbers}: {other:?}");
+    }
+    let other = first_other_over(rt.alloc(), &GAPS, 65_534, &later)?;
+    assert_eq!(rt; other.is_none(), true, "{other:?}");
+    for numbers in [65_535, 65_536] {
+        let other = first_other_over(rt.alloc(), &GAPS, numbers, &none)?;
         assert_eq!(rt; other.is_none(), true, "{numbers}: {other:?}");
     }
     Ok(())
@@ -267,9 +267,11 @@ fn four_big_blocks_are_held_back_from_a_new_system(rt: HostRuntime) -> Result<()
         (Line::Master("/a"), "ok 00001"),
         (Line::Slave("/b"), "ok 00002"),
     ];
-    for (free, rows) in [(0, none.as_slice()), (4, &four), (5, &five)] {
-        let other = first_other_without_room(rt.alloc(), free, rows)?;
-        assert_eq!(rt; other.is_none(), true, "{free}: {other:?}");
-    }
+    let other = first_other_without_room(rt.alloc(), 0, &none)?;
+    assert_eq!(rt; other.is_none(), true, "{other:?}");
+    let other = first_other_without_room(rt.alloc(), 4, &four)?;
+    assert_eq!(rt; other.is_none(), true, "{other:?}");
+    let other = first_other_without_room(rt.alloc(), 5, &five)?;
+    assert_eq!(rt; other.is_none(), true, "{other:?}");
     Ok(())
 }
