@@ -72,8 +72,8 @@ module _ (lines : List Line) (history : List Entry) (line : Line) (later : (l : 
     }
 
   -- a line was answered
-  module _ (end : ℕ) (e : Entry) (h : AnswersEach end lines history) (left : end < GREATEST_ID) (of : IsOf line e) (told : TellsAfter history line.number e.reply)
-      (above : (a : Entry) → Contains history a → a.id.0 < e.id.0) where
+  module _ (end : ℕ) (e : Entry) (h : AnswersEach end lines history) (left : end < GREATEST_ID) (of : IsOf line e)
+      (told : TellsAfter history line.number e.reply) (above : (a : Entry) → Contains history a → a.id.0 < e.id.0) where
     abbrev after : List Entry
     after = history ++ e ∷ []
 
