@@ -1,12 +1,13 @@
 // Crashes within a flush: each image that one may leave is recovered, and compared with the two that are due.
+use crate::plain::{SLOT, recovered};
 use crate::start::{PLAIN, Start, disk_at, place, volume_at};
 use crate::test_disk::{TestDisk, read_inside};
-use crate::volume::{LAYER2, TREE, Volume, filled, header, target};
+use crate::volume::{LAYER2, TREE, Volume, filled, header, slot_of, target};
 use hm_disk_forms::{Crash, MemDisk};
 use hm_flush::Stage;
 use hm_header::Header;
 use hm_recover::recover;
-use hm_types::{Fault, Id, PAGE_BYTES};
+use hm_types::{Failed, Fault, PAGE_BYTES};
 use std::alloc::Global;
 use std::process::Abort;
 use std::test::Fail;
@@ -32,29 +33,41 @@ struct Due {
     frozen: bool,
 }
 
-// Recovers an image, and compares it with the state that it recovered to.
-fn check(rt: &impl Abort, mut image: MemDisk, due: Due, start: Start, count: usize) {
-    let opened = match recover(&mut image) {
-        Ok(opened) => opened.header,
-        Err(_) => panic!(rt; "not recovered: {start:?} {count}"),
+// Compares an image that was recovered, whose slot that counts is this one, with the state that it recovered to.
+// Two of the frozen pages were live as committed, so the log has two entries more.
+fn compare(
+    rt: &impl Abort,
+    image: &mut MemDisk,
+    slot: &[u8; SLOT],
+    due: Due,
+    start: Start,
+    count: usize,
+) {
+    let untouched = header(start.generation, 0, 0, start.next);
+    let log_used = Header {
+        generation: start.generation.wrapping_add(2),
+        undo_first: start.next,
+        undo_next: (start.next % 16_256 + 2) % 16_256,
+        ..untouched
     };
-    let frozen = opened.last == Id(9);
+    let frozen = slot[..]
+        == slot_of(&Header {
+            last: target().last,
+            root: target().root,
+            append: target().append,
+            ..log_used
+        })[..];
+    assert!(rt;
+        frozen || slot[..] == slot_of(&untouched)[..] || slot[..] == slot_of(&log_used)[..],
+        "{start:?} {count}"
+    );
     assert!(rt;
         if frozen { due.frozen } else { due.committed },
         "{start:?} {count}"
     );
-    let state = if frozen { target() } else { header(0, 0, 0, 0) };
-    let want = Header {
-        generation: opened.generation,
-        undo_first: opened.undo_first,
-        undo_count: 0,
-        undo_next: opened.undo_next,
-        ..state
-    };
-    assert_eq!(rt; opened, want, "{start:?} {count}");
     for (raw, before, after) in PAGES {
         let mut page = [0; PAGE_BYTES];
-        assert_eq!(rt; read_inside(&mut image, place(raw), &mut page), Ok(()));
+        assert_eq!(rt; read_inside(image, place(raw), &mut page), Ok(()));
         match if frozen { Some(after) } else { before } {
             Some(byte) => assert!(rt;
                 page[..] == filled(byte).bytes()[..],
@@ -89,6 +102,7 @@ fn check_all(rt: &impl Abort, disk: &TestDisk, due: Due, start: Start, count: us
     }
 }
 
+// Recovers an image by the plain rules, and once more by hm_recover, and compares it each time.
 fn check_one(
     rt: &impl Abort,
     disk: &TestDisk,
@@ -97,9 +111,19 @@ fn check_one(
     start: Start,
     count: usize,
 ) {
-    match disk.crashed(count, crash) {
-        Ok(image) => check(rt, image, due, start, count),
-        Err(_) => panic!(rt; "no image"),
+    for by_crate in [false, true] {
+        match disk.crashed(count, crash) {
+            Ok(mut image) => {
+                if by_crate {
+                    assert!(rt; recover(&mut image).is_ok(), "{start:?} {count}");
+                }
+                match recovered(&mut image) {
+                    Ok(slot) => compare(rt, &mut image, &slot, due, start, count),
+                    Err(Failed) => panic!(rt; "not recovered: {start:?} {count}"),
+                }
+            }
+            Err(_) => panic!(rt; "no image"),
+        }
     }
 }
 

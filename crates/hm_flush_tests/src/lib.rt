@@ -9,6 +9,8 @@ mod crash_tests;
 #[cfg(test)]
 mod flush_tests;
 #[cfg(test)]
+mod plain;
+#[cfg(test)]
 mod start;
 #[cfg(test)]
 mod test_disk;

@@ -137,7 +137,7 @@ pub fn read_inside(disk: &mut MemDisk, place: u64, buf: &mut [u8]) -> Result<(),
 }
 
 // Writes where the range lies inside the disk.
-fn write_inside(disk: &mut MemDisk, place: u64, bytes: &[u8]) -> Result<(), Failed>
+pub fn write_inside(disk: &mut MemDisk, place: u64, bytes: &[u8]) -> Result<(), Failed>
     requires { length bytes.now ≤ MOST_CALL_BYTES }
 {
     let size = disk.size()?;
