@@ -99,11 +99,11 @@ fn a_name_of_1000_versions_takes_no_search_more(rt: HostRuntime) -> Result<(), F
     Ok(())
 }
 
-// The counts of a call after a name came and went so many times.
-fn counts_of_gone(alloc: Global, times: u64, line: &str) -> Result<Counts, Fail> {
+// The counts of a call after a name came, as a line makes it, and went so many times.
+fn counts_of_gone(alloc: Global, made: &str, times: u64, line: &str) -> Result<Counts, Fail> {
     let mut lines = Vec::new(alloc);
     for _ in 0..times {
-        lines.push("touch /a")?;
+        lines.push(made)?;
         lines.push("rm /a")?;
     }
     counts_after(alloc, &lines, line)
@@ -111,10 +111,16 @@ fn counts_of_gone(alloc: Global, times: u64, line: &str) -> Result<Counts, Fail>
 
 #[test]
 fn a_name_that_came_and_went_2000_times_takes_no_search_more(rt: HostRuntime) -> Result<(), Fail> {
-    for line in ["stat /a", "touch /a", "mkdir /a"] {
-        let few = counts_of_gone(rt.alloc(), 1, line)?;
-        let many = counts_of_gone(rt.alloc(), 2_000, line)?;
-        assert_eq!(rt; many.searches, few.searches, "{line}");
+    for (made, line) in [
+        ("touch /a", "stat /a"),
+        ("touch /a", "touch /a"),
+        ("touch /a", "mkdir /a"),
+        ("symlink t /a", "readlink /a"),
+        ("symlink t /a", "symlink t /a"),
+    ] {
+        let few = counts_of_gone(rt.alloc(), made, 1, line)?;
+        let many = counts_of_gone(rt.alloc(), made, 2_000, line)?;
+        assert_eq!(rt; many.searches, few.searches, "{made}, {line}");
     }
     Ok(())
 }

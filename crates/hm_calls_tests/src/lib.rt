@@ -30,6 +30,8 @@ mod random_tests;
 #[cfg(test)]
 mod refusal_tests;
 #[cfg(test)]
+mod slave_tests;
+#[cfg(test)]
 mod status_tests;
 #[cfg(test)]
 mod system_tests;

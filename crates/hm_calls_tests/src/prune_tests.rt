@@ -84,7 +84,10 @@ fn opening_text(
 }
 
 // A store with some elements, after some lines, each of which was accepted.
-fn volume_after(alloc: Global, items: &[Item], lines: &[&str]) -> Result<Volume<MemStore>, Fail> {
+fn volume_after(alloc: Global, items: &[Item], lines: &[&str]) -> Result<Volume<MemStore>, Fail>
+    ensures { IfOk result (λ volume. IsReady (⟦<MemStore as HasElements>⟧.elements volume.store)
+        (⟦<MemStore as HasRoom>⟧.extents volume.store) volume.next) }
+{
     let mut volume = volume_of(alloc, &Fnv, items)?;
     for line in lines {
         if ask(alloc, &mut volume, &Fnv, line)?.as_slice() != "ok".as_bytes() {
@@ -332,6 +335,7 @@ fn more_than_4096_intervals_are_refused(rt: HostRuntime) -> Result<(), Fail> {
     let got = opening_text(alloc, &mut volume, Pruning::Snapshots, "/b")?;
     assert_eq!(rt; got.as_slice(), "too many intervals 4098".as_bytes());
     // The ids 3 to 9, and the 4,095 intervals behind them.
+    let mut volume = many_intervals(alloc)?;
     let got = opening_text(alloc, &mut volume, Pruning::Snapshots, "/a")?;
     assert_eq!(rt; got.starts_with(b"ok 0 3-9 11-11 13-13"), true);
     assert_eq!(rt; got.ends_with(b" 8197-8197 9000-"), true);
@@ -375,8 +379,10 @@ fn a_volume_on_which_each_change_is_refused_is_pruned(rt: HostRuntime) -> Result
     let mut volume = full_volume(alloc, 0)?;
     let got = opening_text(alloc, &mut volume, Pruning::Snapshots, "/one")?;
     assert_eq!(rt; got.as_slice(), "not a directory".as_bytes());
+    let mut volume = full_volume(alloc, 0)?;
     let got = opening_text(alloc, &mut volume, Pruning::Snapshots, "/")?;
     assert_eq!(rt; got.as_slice(), "no space 0 1".as_bytes());
+    let mut volume = full_volume(alloc, 0)?;
     let got = opening_text(alloc, &mut volume, Pruning::Present, "/")?;
     assert_eq!(rt; got.as_slice(), "no space 0 1".as_bytes());
     Ok(())

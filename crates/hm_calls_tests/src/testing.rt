@@ -1,5 +1,5 @@
 // Stores that tests forge, and what is asked of them.
-ghost use Rattle.std.specs.Prelude.{◌≡◌, ◌≤◌, IfOk, OnOk};
+ghost use Rattle.std.specs.Prelude.{◌≡◌, ◌<◌, ◌≤◌, ◌-◌, ◌^◌, IfOk, OnOk};
 ghost use Rattle.hm_types.specs.declared.limits.TheConstants.{GREATEST_ID};
 ghost use Rattle.hm_model.specs.Forms.{IsInRange};
 ghost use Rattle.hm_calls.specs.Commands.{IsOnTrees};
@@ -135,7 +135,7 @@ fn entry_place<H: NameHash>(hash: &H, pfs: u16, directory: u64, name: &str, numb
     entry_base(Pfs(pfs), Obj(directory), key)
 }
 
-fn base_of<H: NameHash>(hash: &H, item: Item) -> Base {
+pub(crate) fn base_of<H: NameHash>(hash: &H, item: Item) -> Base {
     match item {
         Item::Master(pfs)
         | Item::Slave(pfs, _, _)
@@ -212,7 +212,7 @@ pub(crate) fn entry_as_bytes(alloc: Global, name: &str, object: u64) -> Result<V
     Ok(encode_entry(alloc, &entry)?)
 }
 
-fn payload_of(alloc: Global, item: Item) -> Result<Vec<u8>, Fail> {
+pub(crate) fn payload_of(alloc: Global, item: Item) -> Result<Vec<u8>, Fail> {
     match item {
         Item::Master(_) => record_bytes(alloc, None),
         Item::Slave(_, first, sync_end) => record_bytes(alloc, Some((first, sync_end))),
@@ -260,6 +260,54 @@ pub(crate) fn forge(volume: &mut Volume<MemStore>, about: &Base, bytes: &[u8]) -
     add_version(&mut volume.store, &base, META_ZONE, bytes)?;
     volume.next += 1;
     Ok(())
+}
+
+/// Adds an element with these ids, which may be any: that of the next call is above them.
+pub(crate) fn forge_as(
+    volume: &mut Volume<MemStore>,
+    about: &Base,
+    create: u64,
+    delete: u64,
+    bytes: &[u8],
+) -> Result<(), Fail>
+    requires { IsMade (⟦<MemStore as HasElements>⟧.elements volume.old.store)
+        (⟦<MemStore as HasRoom>⟧.extents volume.old.store) volume.old.next }
+    ensures { IfOk result (λ _. IsMade (⟦<MemStore as HasElements>⟧.elements volume.new.store)
+        (⟦<MemStore as HasRoom>⟧.extents volume.new.store) volume.new.next) }
+{
+    if create == u64::MAX || delete == u64::MAX || bytes.is_empty() || bytes.len() > 65_568 {
+        return Err("no element")?;
+    }
+    let base = Base {
+        create,
+        delete,
+        ..*about
+    };
+    let mut element = Element {
+        base,
+        payload: HOff::default(),
+        len: bytes.len() as u32,
+    };
+    if !is_element(&element) || volume.store.has(&base) {
+        return Err("no new element")?;
+    }
+    if volume.store.room(TREE_ZONE) < u64::from(INSERT_ROOM)
+        || volume.store.room(META_ZONE) < rounded(bytes.len() as u64)
+    {
+        return Err("no room")?;
+    }
+    element.payload = volume.store.place(META_ZONE, bytes)?;
+    volume.store.insert(&element)?;
+    volume.next = above(above(volume.next, create), delete);
+    Ok(())
+}
+
+// The lesser number that is above an id, and not below another one.
+fn above(next: u64, id: u64) -> u64
+    requires { id < 2 ^ 64 - 1 }
+    ensures { (next ≤ result) × (id < result) }
+{
+    if next <= id { id + 1 } else { next }
 }
 
 /// An empty store, of which as many big-blocks are free.
