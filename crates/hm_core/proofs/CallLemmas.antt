@@ -32,11 +32,12 @@ use Rattle.hm_step.proofs.SubstituteLemmas.{trees_given}
 use Rattle.hm_core.specs.Calls.{Fails, IsNextCall, Serves}
 use Rattle.hm_core.specs.Counts.{AreLater}
 use Rattle.hm_core.specs.History.{HoldsState, IsLegalBeyond, IsLegalOver, setting_of}
+use Rattle.hm_core.specs.State.{OpenPrune}
 use Rattle.hm_core.proofs.CountLemmas.{NumbersOf, later_still, legal_later, told_most}
-use Rattle.hm_core.proofs.StateLemmas.{holds_after, served_state}
+use Rattle.hm_core.proofs.StateLemmas.{holds_after, served_adds, served_state}
 use Rattle.hm_core.proofs.WordLemmas.{words_are_read}
 
-module _ (free : ℕ) (start faults faults' : Counts) (history : List Entry) (h : Heap) (root last : ℕ) (running : List ℕ) (opening : Volume)
+module _ (free : ℕ) (start faults faults' : Counts) (history : List Entry) (h : Heap) (root last : ℕ) (running : List OpenPrune) (opening : Volume)
     (foreigners : Foreigners) (events : List Event) (so_far : IsLegalOver free start faults history h root last running opening foreigners events)
     (counted : AreLater faults faults') where
   -- the run with the count of now, and what it has come to
@@ -115,7 +116,7 @@ module _ (free : ℕ) (start faults faults' : Counts) (history : List Entry) (h 
         → HoldsState h' root' (last + 1) running (state_after run (events ++ event ∷ []))
     next_held h' root' now same holds stand allowed =
         holds_after h h' root root' last running state (state_after run (events ++ event ∷ [])) (is_change entry.call entry.reply) call now
-        so_far.held refl (served_state run events event is.served own allowed) same holds stand
+        (λ changes. served_adds entry.call is.served) so_far.held refl (served_state run events event is.served own allowed) same holds stand
 
     -- a store served it
     module _ {S : Type 0} (elements_of : S → Option (List Element)) (extents_of : S → Option (List Extent)) (free_of : S → ℕ)

@@ -24,7 +24,9 @@ pub mod KnownLemmas
 pub mod OpenLemmas
 pub mod LookedLemmas
 pub mod RepliedLemmas
+pub mod TurnLemmas
 pub mod AnswerLemmas
+pub mod UnitLemmas
 pub mod PropLemmas
 pub mod StepLemmas
 pub mod KeptLemmas
@@ -32,7 +34,9 @@ pub mod StageLemmas
 pub mod TellLemmas
 pub mod SyncLemmas
 pub mod EnterLemmas
+pub mod HeldLemmas
 pub mod CallLeavesLemmas
+pub mod UnitFollowsLemmas
 pub mod RefusalLemmas
 pub mod EndLemmas
 pub mod TargetLemmas

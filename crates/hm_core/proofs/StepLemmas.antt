@@ -36,9 +36,9 @@ use Rattle.hm_core.specs.Inside.{AreDrawnBy, AreUpTo, IsInOrder}
 use Rattle.hm_core.specs.Ledger.{IsPaid}
 use Rattle.hm_core.specs.Served.{IsSync}
 use Rattle.hm_core.specs.Told.{TellsFailure, reply_to}
-use Rattle.hm_core.proofs.AnswerLemmas.{paid_later}
 use Rattle.hm_core.proofs.FloorLemmas.{floor_paid}
 use Rattle.hm_core.proofs.PropLemmas.{flushed_prop}
+use Rattle.hm_core.proofs.TurnLemmas.{paid_later}
 
 -- the entry of a call with these
 abbrev pub entry_of : ℕ → ℕ → ℕ → Command → Reply → Entry

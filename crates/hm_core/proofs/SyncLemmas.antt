@@ -11,7 +11,7 @@ use Rattle.hm_state.proofs.LiveLemmas.{live_same}
 use Rattle.hm_core.specs.Answer.{AnswersOver}
 use Rattle.hm_core.specs.Counts.{with_disk}
 use Rattle.hm_core.specs.Served.{IsSync}
-use Rattle.hm_core.proofs.AnswerLemmas.{paid_later}
+use Rattle.hm_core.proofs.TurnLemmas.{paid_later}
 use Rattle.hm_core.proofs.CausedLemmas.{sync_goes_on}
 use Rattle.hm_core.proofs.CountLemmas.{later_same}
 use Rattle.hm_core.proofs.KeptLemmas.{kept_same}

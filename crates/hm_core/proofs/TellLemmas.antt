@@ -30,6 +30,7 @@ use Rattle.hm_core.specs.Counts.{AreLater, with_disk}
 use Rattle.hm_core.specs.History.{IsLegalBeyond, IsLegalOver}
 use Rattle.hm_core.specs.Ledger.{IsPaid}
 use Rattle.hm_core.specs.Live.{KeepsLiveOver}
+use Rattle.hm_core.specs.State.{OpenPrune}
 use Rattle.hm_core.specs.Told.{reply_to}
 use Rattle.hm_core.proofs.AnswerLemmas.{fault_silent, none_told}
 use Rattle.hm_core.proofs.CausedLemmas.{space_fault_goes_on, space_goes_on}
@@ -96,7 +97,7 @@ module _ (old new : Heap) (root root' faults faults' : ℕ) (closed : IsClosed o
 
   module _ (last : ℕ) (left : last < GREATEST_ID) where
     -- what was legal before the look is so after it
-    there : (first : ℕ) (start counts : Counts) (history : List Entry) (running : List ℕ) (opening : Volume) (foreigners : Foreigners) (events : List Event)
+    there : (first : ℕ) (start counts : Counts) (history : List Entry) (running : List OpenPrune) (opening : Volume) (foreigners : Foreigners) (events : List Event)
         → IsLegalBeyond first start counts history old root (last + 1) running opening foreigners events
         → IsLegalBeyond first start counts history new root' (last + 1) running opening foreigners events
     there first start counts history running opening foreigners events (more, legal) = (

@@ -26,6 +26,7 @@ use Rattle.hm_core.specs.Ledger.{IsPaid}
 use Rattle.hm_core.specs.Live.{KeepsLiveOver}
 use Rattle.hm_core.specs.Replied.{IsReplied}
 use Rattle.hm_core.specs.Served.{IsSync}
+use Rattle.hm_core.specs.State.{OpenPrune}
 
 -- the entry of a call with this reply, by the id after the last one
 pub record IsEntryOf (last : ℕ) (command : Command) (reply : Reply) (entry : Entry) : Type 0 where
@@ -60,7 +61,7 @@ pub record AnswersOver (boundary faults faults' last : ℕ) (command : Command) 
   pub caused : (first : ℕ) (start counts : Counts) (history : List Entry) (entry : Entry) → IsEntryOf last command reply entry
       → AreUpTo boundary history → boundary ≤ last → IsCausedFrom first start (with_disk counts faults) last history
       → IsCausedFrom first start (with_disk counts faults') (last + 1) (history ++ entry ∷ [])
-  pub legal : (free : ℕ) (start counts : Counts) (history : List Entry) (running : List ℕ) (opening : Volume) (foreigners : Foreigners)
+  pub legal : (free : ℕ) (start counts : Counts) (history : List Entry) (running : List OpenPrune) (opening : Volume) (foreigners : Foreigners)
       (events : List Event) (entry : Entry)
       → floor free history ≤ free_of h → IsEntryOf last command reply entry → AreUpTo boundary history → boundary ≤ last
       → IsLegalOver free start (with_disk counts faults) history h root last running opening foreigners events

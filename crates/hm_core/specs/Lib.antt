@@ -1,5 +1,6 @@
 pub mod Ledger
 pub mod Counts
+pub mod State
 pub mod History
 pub mod Caused
 pub mod Told
@@ -7,9 +8,9 @@ pub mod Calls
 pub mod Inside
 pub mod Served
 pub mod Live
-pub mod State
 pub mod Replied
 pub mod Answer
+pub mod Unit
 pub mod Seen
 pub mod Crash
 pub mod Core

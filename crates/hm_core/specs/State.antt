@@ -12,13 +12,19 @@ pub record Mounted : Type 0 where
   pub free : ℕ
   pub counts : Counts
 
--- The run's history, the opening ids of the calls that are open, and how many more entries there is room for beside the endings of
+-- A prune that is open: the id that opened it, the PFS that it works on, and the ids that it keeps there.
+pub record OpenPrune : Type 0 where
+  pub opening : ℕ
+  pub pfs : ℕ
+  pub kept : List (ℕ × ℕ)
+
+-- The run's history, the prunes that are open, the latest first, and how many more entries there is room for beside the endings of
 -- these; the last id that was drawn, and the last one that is committed;
 -- what there was at mounting, and the counts of faults by now; the header that counts on the disk and how far a flush has come;
 -- what its space holds, and where the tree begins in it. No device is part of it.
 pub record CoreState : Type 0 where
   pub history : List Entry
-  pub running : List ℕ
+  pub running : List OpenPrune
   pub spare : ℕ
   pub last : ℕ
   pub boundary : ℕ

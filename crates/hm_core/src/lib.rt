@@ -6,10 +6,12 @@ mod calls;
 pub mod laws;
 mod making;
 mod mounting;
+mod running;
 mod served;
 mod space;
 mod staged;
 mod step;
+mod unit;
 mod volume;
 
 pub use calls::answer_over;
@@ -19,4 +21,5 @@ pub use served::is_served;
 pub use space::tell_space;
 pub use staged::Staged;
 pub use step::Step;
+pub use unit::unit_over;
 pub use volume::Core;

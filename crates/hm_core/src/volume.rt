@@ -1,4 +1,5 @@
 // One volume in use.
+ghost use Rattle.std.specs.Prelude.{◌-◌, ◌≤◌, length, vec_capacity, vec_len};
 ghost use Rattle.hm_stored.specs.Space.{heap};
 ghost use Rattle.hm_core.specs.Caused.{IsCausedFrom};
 ghost use Rattle.hm_core.specs.Counts.{disk_counts};
@@ -7,6 +8,7 @@ ghost use Rattle.hm_core.specs.Inside.{IsInOrder};
 use crate::asked::answer_asked;
 use crate::calls::failure;
 use crate::mounting::open_space;
+use crate::running::Running;
 use crate::served::is_sync;
 use crate::staged::Staged;
 use crate::step::Step;
@@ -36,6 +38,9 @@ pub struct Core<D: Disk, I, O> {
     free: u32,
     start: u64,
     history: Vec<Entry>,
+    // The prunes that are open, the latest first. The history has a place for the ending of each.
+    running: Vec<Running>,
+    ghost placed: { length running.items ≤ vec_capacity history - vec_len history },
     ghost ordered: { ∥ IsInOrder flusher last.0 free (heap stored.space) history.items ∥₁ },
     ghost caused: { ∥ IsCausedFrom first.0 (disk_counts start)
         (disk_counts (D.faults stored.space.disk)) last.0 history.items ∥₁ },
@@ -89,6 +94,7 @@ impl<D: Disk, I, O> Core<D, I, O> {
                     free,
                     start: space.disk().faults(),
                     history: Vec::new(alloc),
+                    running: Vec::new(alloc),
                     stored: Stored::over(space, header.root),
                 };
                 core.core_is_sound();
@@ -160,7 +166,7 @@ impl<D: Disk, I, O> Core<D, I, O> {
         ensures keeps { seen self.new ≡ record (seen self.old) { spare = (seen self.new).spare } }
         ensures streams { devices self.new ≡ devices self.old }
     {
-        self.history.reserve(entries as usize)?;
+        self.history.reserve(entries as usize + self.running.len())?;
         Ok(())
     }
 }

@@ -75,6 +75,7 @@ invariant_of-self g c =
     let h' = heap_of (contents t.space.pages.store) (g.D.Disk.told t.space.disk) t.space.books in
     let entry = entry_of (s.last.0 + 1) c.args.lane c.args.line c.args.command c.answer_asked-reply.result in
     record {
+      placed = omega (arith, c.requires.room, c.push_reserved.ensures.len, c.push_reserved.ensures.capacity);
       ordered = ∥∥₁_map s.ordered (λ o.
           subst (λ (l : List Entry). IsInOrder f (s.last.0 + 1) s.free h' l) (sym c.push_reserved.ensures.items)
           (ordered_next f s.last.0 s.free h s.history.items h' s.stored.root t.root (g.D.Disk.faults s.stored.space.disk)
