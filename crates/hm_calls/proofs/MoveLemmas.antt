@@ -36,7 +36,7 @@ use Rattle.hm_calls.specs.Call.{IsCall}
 use Rattle.hm_calls.specs.Changes.{ChangesTree, HasSystem, tree_now}
 use Rattle.hm_calls.specs.Due.{space_for}
 use Rattle.hm_calls.specs.Known.{AreBelow}
-use Rattle.hm_calls.specs.Writes.{AreOnePlace, IsOpen, Renames, Replaces, less_link, place_in, LeavesNothing}
+use Rattle.hm_calls.specs.Writes.{AreOnePlace, IsOpen, Renames, ReplacesName, less_link, place_in, LeavesNothing}
 use Rattle.hm_calls.proofs.EffectLemmas.{has_entry_then, opens, spot_fits, tree_changes, tree_stays, kinds_leading}
 use Rattle.hm_calls.proofs.KindLemmas.{number_found, told_kind}
 use Rattle.hm_calls.proofs.LinkLemmas.{in_slave}
@@ -327,7 +327,7 @@ module _ (hash : List ℕ → ℕ) (room : ℕ → ℕ) (free : ℕ) (old new : 
         → ((o : Object) → stands_under (tree_at scene to) leads ≡ Some o → o.links ≡ links) → (key kind : ℕ) → IsKindOf kind object.inode
         → (es' : List FullElement)
         → HasEntry (Counts scene.elements course.last.0) to.at.pfs.0 to.at.object key name number
-        → Replaces hash (place_in from old_name) (place_in to name) key id object.at.object kind number links scene.elements es'
+        → ReplacesName hash (place_in from old_name) (place_in to name) key id object.at.object kind number links scene.elements es'
         → ChangesTree mv scene.elements es'
     mv_over same number there other free_way links links_are key kind kind_is es' entry replaces =
         let standing = under number there free_way in

@@ -36,7 +36,7 @@ use Rattle.hm_dirs.specs.declared.spot.Spot.{Spot}
 use Rattle.hm_calls.specs.Due.{space_for}
 use Rattle.hm_calls.specs.Moves.{IsMovedOver, MovesBeside, object_beside, over_checks}
 use Rattle.hm_calls.specs.Stop.{Answers, Decides}
-use Rattle.hm_calls.specs.Writes.{Place, Renames, Replaces}
+use Rattle.hm_calls.specs.Writes.{Place, Renames, ReplacesName}
 use Rattle.hm_calls.specs.declared.stop.Stop.{Stop}
 use Rattle.hm_calls.specs.declared.stop.Stop.TheVariants.{Failed, Refused}
 use Rattle.hm_calls.proofs.EffectLemmas.{IsFoundThen}
@@ -212,7 +212,7 @@ pub over_wrote : (hash : List ℕ → ℕ) (old new : Place) (key i : ℕ) (obje
     (es es' : Option (List Element)) (xs xs' : Option (List Extent)) → number.0 ≢ object.at.object.0
     → OnMoved es xs object (λ scene call. IsRead scene object × IsFoundBy (Counts scene.elements object.as_of.0) object.at.pfs.0
     (object_beside scene object number) (Some inode))
-    → Wrote (Replaces hash old new key i obj kind number inode.links) es xs es' xs'
+    → Wrote (ReplacesName hash old new key i obj kind number inode.links) es xs es' xs'
     → Wrote (IsMovedOver hash old new key i object obj kind number) es xs es' xs'
 over_wrote hash old new key i object obj kind number inode None es' xs xs' other known wrote = tt
 over_wrote hash old new key i object obj kind number inode (Some es) es' None xs' other known wrote = tt
@@ -225,7 +225,7 @@ over_wrote hash old new key i object obj kind number inode (Some es) es' (Some x
           let same : o ≡ there = cc in
           subst (λ (x : Object). x.links ≡ inode.links) same (made_links counts pfs inode o by)
 
-      by_content : (now : Option Lists) → IsSomeAnd now (λ now. IsBalanced now.0 now.1 × Replaces hash old new key i obj kind number inode.links (fulls
+      by_content : (now : Option Lists) → IsSomeAnd now (λ now. IsBalanced now.0 now.1 × ReplacesName hash old new key i obj kind number inode.links (fulls
           (es, xs)) (fulls now))
           → ((scene : Scene) (call : Call) → scene.elements ≡ fulls (es, xs) → IsRead scene object
           → IsRead scene object × IsFoundBy (Counts scene.elements object.as_of.0) object.at.pfs.0 (object_beside scene object number) (Some inode))

@@ -26,7 +26,7 @@ use Rattle.hm_calls.specs.New.{kind_by, object_by}
 use Rattle.hm_calls.specs.declared.new.New.{New}
 use Rattle.hm_calls.specs.declared.new.New.TheVariants.{Directory, File, Softlink, Snapshot}
 use Rattle.hm_calls.specs.Writes.{AllCame, DropsLink, DropsObject, IsNewIn, NamesNothing, IsOpen, NamesObject, LeavesNothing, Place, PutsLink, PutsName}
-use Rattle.hm_calls.specs.Writes.{PutsObject, Renames, Replaces, TakesDirectory, TakesLink, less_link}
+use Rattle.hm_calls.specs.Writes.{PutsObject, Renames, ReplacesName, TakesDirectory, TakesLink, less_link}
 use Rattle.hm_calls.proofs.StepLemmas.{entry_leads, leads_then, new_entry, new_of_object, no_entries_then, no_entry_none, no_entry_of_object}
 use Rattle.hm_calls.proofs.StepLemmas.{none_new, steps_twice}
 
@@ -342,7 +342,7 @@ module _ (hash : List ℕ → ℕ) (old new : Place) (key i : ℕ) (obj : Obj) (
       (follow_twice es two three (follow_twice es one two first.follows second.follows) third.changes.follows)
       (last.follows (replaced_opens keys has).takes)
 
-  pub name_replaced : Replaces hash old new key i obj kind there links es es'
+  pub name_replaced : ReplacesName hash old new key i obj kind there links es es'
   name_replaced = record {
     steps = record {
       writes = replaced_writes;

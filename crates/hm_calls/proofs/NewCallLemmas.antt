@@ -24,10 +24,10 @@ use Rattle.hm_model.specs.declared.reply.Reply.TheVariants.{MadePfs, NotFound, P
 use Rattle.hm_model.proofs.PlainCheckLemmas.{first_none, first_some}
 use Rattle.hm_dirs.specs.Walk.{Scene}
 use Rattle.hm_dirs.specs.declared.position.Course.{Course}
-use Rattle.hm_pfs.specs.Systems.{IsUnmade}
+use Rattle.hm_pfs.specs.Systems.{IsNotMadeBy}
 use Rattle.hm_calls.specs.Call.{OnCalls}
 use Rattle.hm_calls.specs.Due.{due_over, refusal_over}
-use Rattle.hm_calls.specs.NewSystems.{Founds, IsCounted, IsDueTo, name_checks, on_a_system, system_command}
+use Rattle.hm_calls.specs.NewSystems.{Founds, HasKnownNumbers, IsDueTo, name_checks, on_a_system, system_command}
 use Rattle.hm_calls.specs.Possible.{IsGiven, IsOwn}
 use Rattle.hm_calls.specs.Scenes.{InScenes, IsSet, call_in}
 use Rattle.hm_calls.specs.Stages.{AnswersAll, IsAmong, last_checks, place_checks}
@@ -54,8 +54,8 @@ number_among reply (inr is) = one_among on_a_system NotFound tt (6, omega arith,
 -- ---- what was made
 
 -- a write in one pseudo file system makes nothing of another one
-pub unmade_still : (pfs other i : ℕ) (es es' : List FullElement) → other ≢ pfs → WritesIn pfs i (IsNewIn pfs i) es es' → IsUnmade other i es
-    → IsUnmade other i es'
+pub unmade_still : (pfs other i : ℕ) (es es' : List FullElement) → other ≢ pfs → WritesIn pfs i (IsNewIn pfs i) es es' → IsNotMadeBy other i es
+    → IsNotMadeBy other i es'
 unmade_still pfs other i es es' differ writes unmade x has at made = elim (writes.came x has) [
   | inl (e, there, key, kind, bytes) ↦
       unmade e there (ap (λ (k : Key). pfs_of k.localization) (sym key) ∙ at) (ap (λ (k : Key). k.create) (sym key) ∙ made)
@@ -136,18 +136,18 @@ module _ {id : ℕ} {course : Course} {command : Command} {paths : List Parsed} 
   abbrev IsLast : ℕ → Check → Scene → Type 0
   IsLast numbers check scene =
       ((busy : Option ℕ) → first_refusal (place_checks (call_in hash command paths busy scene)) ≡ None)
-      × ((busy : Option ℕ) → IsCounted numbers scene.elements scene.volume
+      × ((busy : Option ℕ) → HasKnownNumbers numbers scene.elements scene.volume
       → first_refusal (last_checks (call_in hash command paths busy scene) room free) ≡ check)
 
   late_due : (numbers : ℕ) (es : Option (List Element)) (xs : Option (List Extent)) (F : Scene → Type 0) (check : Check) (reply : Reply)
-      → ((ps : List Parsed) (busy : Option ℕ) (scene : Scene) → IsSet hash course scene → F scene → IsCounted numbers scene.elements scene.volume
+      → ((ps : List Parsed) (busy : Option ℕ) (scene : Scene) → IsSet hash course scene → F scene → HasKnownNumbers numbers scene.elements scene.volume
       → option_map_or (λ r. r) check (accepted (call_in hash command ps busy scene)) ≡ reply)
       → InScenes hash course es xs (λ scene. F scene × IsLast numbers check scene) → IsDueTo hash id numbers command es xs room free reply
   late_due numbers es xs F check reply told known =
-      calls_of hash id course command es xs (λ list call. IsCounted numbers list call.volume → reply ≡ due_over call room free) asked.before
+      calls_of hash id course command es xs (λ list call. HasKnownNumbers numbers list call.volume → reply ≡ due_over call room free) asked.before
       (λ busy ps reads.
       scenes_so hash course es xs (λ scene. F scene × IsLast numbers check scene)
-      (λ scene. IsCounted numbers scene.elements scene.volume → reply ≡ due_over (call_in hash command ps busy scene) room free)
+      (λ scene. HasKnownNumbers numbers scene.elements scene.volume → reply ≡ due_over (call_in hash command ps busy scene) room free)
       (λ scene set is counted.
       sym (ap (λ (c : Check). option_map_or (λ r. r) c (accepted (call_in hash command ps busy scene)))
       (subst (λ (l : List Parsed). refusal_over (call_in hash command l busy scene) room free ≡ check) (sym (asked.only ps reads))
@@ -159,30 +159,30 @@ module _ {id : ℕ} {course : Course} {command : Command} {paths : List Parsed} 
   -- it refuses
   pub last_refuses : {T U : Type 0} {x : T} (numbers : ℕ) (es : Option (List Element)) (xs : Option (List Extent)) (stopped : Stop)
       → InScenes hash course es xs (λ scene. (busy : Option ℕ) → AnswersAll (place_checks (call_in hash command paths busy scene)) (Ok x))
-      → InScenes hash course es xs (λ scene. (busy : Option ℕ) → IsCounted numbers scene.elements scene.volume
+      → InScenes hash course es xs (λ scene. (busy : Option ℕ) → HasKnownNumbers numbers scene.elements scene.volume
       → AnswersAll {T = U} (last_checks (call_in hash command paths busy scene) room free) (Err stopped))
       → OfRefusal (IsDueTo hash id numbers command es xs room free) stopped
   last_refuses numbers es xs (Failed fault) places told = tt
   last_refuses {T = T} {U = U} {x = x} numbers es xs (Refused reply) places told =
       late_due numbers es xs (λ _. Unit {0}) (Some reply) reply (λ ps busy scene set known counted. refl)
       (map_in {P = λ scene. ((busy : Option ℕ) → AnswersAll (place_checks (call_in hash command paths busy scene)) (Ok x))
-      × ((busy : Option ℕ) → IsCounted numbers scene.elements scene.volume
+      × ((busy : Option ℕ) → HasKnownNumbers numbers scene.elements scene.volume
       → AnswersAll {T = U} (last_checks (call_in hash command paths busy scene) room free) (Err (Refused reply)))}
       (λ scene set is. (tt, (λ busy. (is.0 busy).is, λ busy counted. (is.1 busy counted).is))) (both_in places told))
 
   -- all pass
   pub all_passed : {T U : Type 0} {x : T} {y : U} (numbers : ℕ) (es : Option (List Element)) (xs : Option (List Extent)) (F : Scene → Type 0) (reply : Reply)
-      → ((ps : List Parsed) (busy : Option ℕ) (scene : Scene) → IsSet hash course scene → F scene → IsCounted numbers scene.elements scene.volume
+      → ((ps : List Parsed) (busy : Option ℕ) (scene : Scene) → IsSet hash course scene → F scene → HasKnownNumbers numbers scene.elements scene.volume
       → accepted (call_in hash command ps busy scene) ≡ reply)
       → InScenes hash course es xs F
       → InScenes hash course es xs (λ scene. (busy : Option ℕ) → AnswersAll (place_checks (call_in hash command paths busy scene)) (Ok x))
-      → InScenes hash course es xs (λ scene. (busy : Option ℕ) → IsCounted numbers scene.elements scene.volume
+      → InScenes hash course es xs (λ scene. (busy : Option ℕ) → HasKnownNumbers numbers scene.elements scene.volume
       → AnswersAll (last_checks (call_in hash command paths busy scene) room free) (Ok y))
       → IsDueTo hash id numbers command es xs room free reply
   all_passed {x = x} {y = y} numbers es xs F reply accepts known places told =
       late_due numbers es xs F None reply accepts
       (map_in {P = λ scene. F scene × (((busy : Option ℕ) → AnswersAll (place_checks (call_in hash command paths busy scene)) (Ok x))
-      × ((busy : Option ℕ) → IsCounted numbers scene.elements scene.volume
+      × ((busy : Option ℕ) → HasKnownNumbers numbers scene.elements scene.volume
       → AnswersAll (last_checks (call_in hash command paths busy scene) room free) (Ok y)))}
       (λ scene set is. (is.0, (λ busy. (is.1.0 busy).is, λ busy counted. (is.1.1 busy counted).is))) (both_in known (both_in places told)))
 

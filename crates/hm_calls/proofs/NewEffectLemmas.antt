@@ -34,10 +34,10 @@ use Rattle.hm_dirs.specs.declared.position.Course.{Course}
 use Rattle.hm_dirs.specs.declared.position.Stand.{Stand}
 use Rattle.hm_dirs.specs.declared.spot.Spot.{Spot}
 use Rattle.hm_pfs.specs.Records.{IsFirstUnused, IsLeastUnused}
-use Rattle.hm_pfs.specs.Systems.{IsUnmade, IsUnusedNumber}
+use Rattle.hm_pfs.specs.Systems.{IsNotMadeBy, IsUnusedNumber}
 use Rattle.hm_calls.specs.Changes.{ChangesTree, HasSystem, tree_now}
 use Rattle.hm_calls.specs.Known.{AreBelow, AreOlderOrSlaves, IsOlderThan}
-use Rattle.hm_calls.specs.NewSystems.{AddsNew, IsCounted, MakesSystem, MakesSystems, PutsLinked, PutsNew, system_command}
+use Rattle.hm_calls.specs.NewSystems.{AddsNew, HasKnownNumbers, MakesSystem, MakesSystems, PutsLinked, PutsNewSystem, system_command}
 use Rattle.hm_calls.specs.Scenes.{IsSet, OnScenes, call_in, scene_in, tree_at}
 use Rattle.hm_calls.specs.Writes.{IsNewIn, IsOpen, place_in}
 use Rattle.hm_calls.specs.declared.new_systems.NewSystem.{NewSystem}
@@ -54,7 +54,7 @@ use Rattle.hm_calls.proofs.TreeLemmas.{new_keeps, new_there}
 -- ---- a new one, by what was put
 
 -- its elements are made by `i` and open, and no others come
-puts_young : (new : NewSystem) (pfs shared i : ℕ) (es es' : List FullElement) → PutsNew new pfs shared i es es' → (x : FullElement) → Contains es' x
+puts_young : (new : NewSystem) (pfs shared i : ℕ) (es es' : List FullElement) → PutsNewSystem new pfs shared i es es' → (x : FullElement) → Contains es' x
     → IsOlderThan (i + 1) x ⊎ Contains es x
 puts_young Master pfs shared i es es' puts x has = elim ((puts.elements x).0 has) [
   | inl (inl root) ↦ inl (subst (IsOlderThan (i + 1)) (sym root) (record { made = omega arith; closed = omega arith }))
@@ -66,12 +66,12 @@ puts_young Slave pfs shared i es es' puts x has = elim ((puts.elements x).0 has)
   | inr old ↦ inr old
 ]
 
-puts_elsewhere : (new : NewSystem) (pfs shared i : ℕ) (es es' : List FullElement) → PutsNew new pfs shared i es es' → (t : ℕ) (s : Subject) (bytes : List ℕ)
+puts_elsewhere : (new : NewSystem) (pfs shared i : ℕ) (es es' : List FullElement) → PutsNewSystem new pfs shared i es es' → (t : ℕ) (s : Subject) (bytes : List ℕ)
     → pfs_of s.localization ≢ pfs → Counts es t s bytes → Counts es' t s bytes
 puts_elsewhere Master pfs shared i es es' puts t s bytes differ counts = (puts.elsewhere t s bytes differ).1 counts
 puts_elsewhere Slave pfs shared i es es' puts t s bytes differ counts = (puts.elsewhere t s bytes differ).1 counts
 
-puts_adds : (new : NewSystem) (pfs shared i : ℕ) (es es' : List FullElement) → PutsNew new pfs shared i es es' → IsUnusedNumber pfs es
+puts_adds : (new : NewSystem) (pfs shared i : ℕ) (es es' : List FullElement) → PutsNewSystem new pfs shared i es es' → IsUnusedNumber pfs es
     → AddsNew new pfs shared i es es'
 puts_adds Master pfs shared i es es' puts unused = puts.adds unused
 puts_adds Slave pfs shared i es es' puts unused = puts.adds unused
@@ -86,7 +86,7 @@ below_unused numbers pfs i es first known = elim (known pfs) [
 ]
 
 pub unmade_unused : (numbers i : ℕ) (pfs : Pfs) (told : Option Lists) → IfSome told (λ lists. IsLeastUnused (fulls lists) numbers (Some pfs))
-    → IfSome told (λ lists. AreOlderOrSlaves i (fulls lists)) → IfSome told (λ lists. IsUnmade pfs.0 i (fulls lists))
+    → IfSome told (λ lists. AreOlderOrSlaves i (fulls lists)) → IfSome told (λ lists. IsNotMadeBy pfs.0 i (fulls lists))
 unmade_unused numbers i pfs None first known = tt
 unmade_unused numbers i pfs (Some lists) first known = λ x has at made.
     let older = (below_unused numbers pfs.0 i (fulls lists) first known x has at).made in
@@ -178,7 +178,7 @@ module _ (hash : List ℕ → ℕ) (id : ℕ) (course : Course) (before : course
     in_system : HasSystem scene.volume the_pfs
     in_system = new_system scene parts name directory is.ready.place set.shows
 
-    module _ (counted : IsCounted numbers scene.elements scene.volume) where
+    module _ (counted : HasKnownNumbers numbers scene.elements scene.volume) where
       taken : new_pfs scene.volume ≡ number.0
       taken = number_is numbers scene.elements scene.volume scene.view set.shows counted number.0 is.first
 
@@ -240,7 +240,7 @@ module _ (hash : List ℕ → ℕ) (id : ℕ) (course : Course) (before : course
 
   -- from what was written to what each such call makes
   pub writes_systems : (es es' : Option (List Element)) (xs xs' : Option (List Extent))
-      → OnScenes hash es xs course (λ scene. IsCounted numbers scene.elements scene.volume → IsReadyFor scene)
+      → OnScenes hash es xs course (λ scene. HasKnownNumbers numbers scene.elements scene.volume → IsReadyFor scene)
       → Wrote (PutsLinked hash (place_in directory name) spot id new number shared) es xs es' xs'
       → Wrote (MakesSystems hash id numbers new word shared) es xs es' xs'
   writes_systems None es' xs xs' known writes = tt
@@ -250,7 +250,7 @@ module _ (hash : List ℕ → ℕ) (id : ℕ) (course : Course) (before : course
         → IsSomeAnd now (λ now. IsBalanced now.0 now.1
         × PutsLinked hash (place_in directory name) spot id new number shared (fulls (es, xs)) (fulls now))
         → ((volume : Volume) (view : View) → IsSet hash course (scene_in (fulls (es, xs)) volume view course)
-        → IsCounted numbers (fulls (es, xs)) volume → IsReadyFor (scene_in (fulls (es, xs)) volume view course))
+        → HasKnownNumbers numbers (fulls (es, xs)) volume → IsReadyFor (scene_in (fulls (es, xs)) volume view course))
         → IsSomeAnd now (λ now. IsBalanced now.0 now.1 × MakesSystems hash id numbers new word shared (fulls (es, xs)) (fulls now))
     by_content None did ready = absurd did
     by_content (Some now) did ready = (

@@ -28,7 +28,7 @@ use Rattle.hm_dirs.specs.declared.position.Stand.{Stand}
 use Rattle.hm_dirs.specs.declared.spot.Spot.{Spot}
 use Rattle.hm_pfs.specs.Records.{IsFirstUnused, IsLeastUnused}
 use Rattle.hm_calls.specs.Known.{AreKnown, AreOlderOrSlaves}
-use Rattle.hm_calls.specs.NewSystems.{Founds, IsCounted, IsDueTo, IsNewThere, IsReadThere, PutsLinked, system_checks, system_command}
+use Rattle.hm_calls.specs.NewSystems.{Founds, HasKnownNumbers, IsDueTo, IsNewThere, IsReadThere, PutsLinked, system_checks, system_command}
 use Rattle.hm_calls.specs.Scenes.{InScenes, call_in, tree_at}
 use Rattle.hm_calls.specs.Stages.{AnswersAll, last_checks, place_checks}
 use Rattle.hm_calls.specs.Stop.{OfRefusal}
@@ -76,16 +76,16 @@ module _ {S : Type 0} {elements_of : S → Option (List Element)} {mark_of : S �
     -- what the last stage tells, of each volume that is counted
     abbrev pub TellsLast : {T : Type 0} → Result T Stop → Type 0
     TellsLast result = InScenes hash course (elements_of mid) (extents_of mid) (IsReadThere directory)
-        → InScenes hash course (elements_of mid) (extents_of mid) (λ scene. IsCounted numbers scene.elements scene.volume
+        → InScenes hash course (elements_of mid) (extents_of mid) (λ scene. HasKnownNumbers numbers scene.elements scene.volume
         → AnswersAll (system_checks hash (room_of mid) (free_of mid) name directory scene) result)
 
     tells_last : {T : Type 0} {result : Result T Stop} → TellsLast result
-        → InScenes hash course (elements_of start) (extents_of start) (λ scene. (busy : Option ℕ) → IsCounted numbers scene.elements scene.volume
+        → InScenes hash course (elements_of start) (extents_of start) (λ scene. (busy : Option ℕ) → HasKnownNumbers numbers scene.elements scene.volume
         → AnswersAll (last_checks (call_in hash (system_command new word shared) (Parts parts ∷ []) busy scene) (room_of start) (free_of start)) result)
     tells_last {result = result} told =
         map_in (λ scene set is busy counted.
         new_last hash word shared scene parts busy name directory is.0.place new (room_of start) (free_of start) (is.1 counted))
-        (both_in there (back_over same (λ room free scene. IsCounted numbers scene.elements scene.volume
+        (both_in there (back_over same (λ room free scene. HasKnownNumbers numbers scene.elements scene.volume
         → AnswersAll (system_checks hash room free name directory scene) result) (told seen)))
 
     -- it refuses
@@ -144,12 +144,12 @@ module _ {S : Type 0} {elements_of : S → Option (List Element)} {mark_of : S �
         writes_systems hash id course asked.before new word shared parts name path_is directory spot found number numbers (elements_of start)
             (elements_of now) (extents_of start) (extents_of now) ready.each wrote,
       ) where
-        ready : InScenes hash course (elements_of start) (extents_of start) (λ scene. IsCounted numbers scene.elements scene.volume
+        ready : InScenes hash course (elements_of start) (extents_of start) (λ scene. HasKnownNumbers numbers scene.elements scene.volume
             → IsReadyFor hash id course asked.before new word shared parts name path_is directory spot found number numbers scene)
         ready =
             map_in {P = λ scene. (IsNewThere parts id name directory scene × HaveOwnKeys scene.elements)
             × ((IsFirstUnused scene.elements numbers number.0 × IsFoundThen scene.elements directory.as_of.0 directory.at.pfs.0 id found)
-            × ((IsCounted numbers scene.elements scene.volume
+            × ((HasKnownNumbers numbers scene.elements scene.volume
             → AnswersAll (system_checks hash (room_of mid) (free_of mid) name directory scene) (Ok (number, spot)))
             × IsSpot (Counts scene.elements directory.as_of.0) directory.at.pfs.0 directory.at.object (first_key (hash name)) spot))}
             (λ scene set is counted. record {

@@ -34,7 +34,7 @@ use Rattle.hm_pfs.specs.Records.{IsLeastUnused}
 use Rattle.hm_calls.specs.Changes.{HasSystem}
 use Rattle.hm_calls.specs.Due.{space_for}
 use Rattle.hm_calls.specs.Known.{AreBelow}
-use Rattle.hm_calls.specs.NewSystems.{IsCounted, IsNewThere, IsReadThere, name_checks, pfs_check, system_checks, system_command}
+use Rattle.hm_calls.specs.NewSystems.{HasKnownNumbers, IsNewThere, IsReadThere, name_checks, pfs_check, system_checks, system_command}
 use Rattle.hm_calls.specs.Scenes.{InScenes, IsNewPlace, call_in, full_check, is_slave, new_check, slave_check, tree_at}
 use Rattle.hm_calls.specs.Stages.{AnswersAll, last_checks, place_checks}
 use Rattle.hm_calls.specs.Stop.{Answers, Decides}
@@ -172,7 +172,7 @@ module _ (told : Option Lists) (from beside : ℕ) where
   -- what a look at the numbers answers, of each volume that is shown
   abbrev OfCounted : (Volume → Type 0) → Type 0
   OfCounted P = IfSome told (λ lists. IsBalanced lists.0 lists.1 → (volume : Volume) (view : View) → ShowsAs (fulls lists) volume view
-      → IsCounted from (fulls lists) volume → HasSystem volume beside → P volume)
+      → HasKnownNumbers from (fulls lists) volume → HasSystem volume beside → P volume)
 
   pub numbers_full : (found : Option Pfs) → found ≡ None → IfSome told (λ lists. IsLeastUnused (fulls lists) from found)
       → OfCounted (λ volume. pfs_check volume ≡ Some PfsFull)
@@ -235,14 +235,14 @@ module _ (hash : List ℕ → ℕ) (course : Course) (es : Option (List Element)
         in_tree (λ list tree. IsSpot (Counts list directory.as_of.0) directory.at.pfs.0 directory.at.object (first_key (hash name)) spot)
 
     pub number_in : (from : ℕ) {T : Type 0} (result : Result T Stop)
-        → OnBalanced es xs (λ lists. (volume : Volume) (view : View) → ShowsAs (fulls lists) volume view → IsCounted from (fulls lists) volume
+        → OnBalanced es xs (λ lists. (volume : Volume) (view : View) → ShowsAs (fulls lists) volume view → HasKnownNumbers from (fulls lists) volume
         → HasSystem volume directory.at.pfs.0 → Answers (pfs_check volume) result)
-        → InScenes hash course es xs (λ scene. IsCounted from scene.elements scene.volume → Answers (pfs_check scene.volume) result)
+        → InScenes hash course es xs (λ scene. HasKnownNumbers from scene.elements scene.volume → Answers (pfs_check scene.volume) result)
     number_in from result told =
         map_in {P = λ scene. IsReadThere directory scene
-        × (IsCounted from scene.elements scene.volume → HasSystem scene.volume directory.at.pfs.0 → Answers (pfs_check scene.volume) result)}
+        × (HasKnownNumbers from scene.elements scene.volume → HasSystem scene.volume directory.at.pfs.0 → Answers (pfs_check scene.volume) result)}
         (λ scene set is counted. is.1 counted is.0.system)
         (both_in seen (record {
           each = scenes_volumes hash course es xs
-              (λ list volume view. IsCounted from list volume → HasSystem volume directory.at.pfs.0 → Answers (pfs_check volume) result) told;
+              (λ list volume view. HasKnownNumbers from list volume → HasSystem volume directory.at.pfs.0 → Answers (pfs_check volume) result) told;
         }))

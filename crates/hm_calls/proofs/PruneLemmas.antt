@@ -62,7 +62,7 @@ use Rattle.hm_calls.specs.Due.{refusal_over, space_for, space_left}
 use Rattle.hm_calls.specs.Known.{AreBelow, AreKnown, AreOlderOrSlaves, IsOlderThan, IsSlaves}
 use Rattle.hm_calls.specs.Places.{ask_kind}
 use Rattle.hm_calls.specs.Possible.{IsGiven, IsNoSpace}
-use Rattle.hm_calls.specs.Prunes.{Cuts, CutsEach, GivesOpening, IsAfter, IsRecordAfter, IsRetained, IsPresentOf, IsRetainedIn, LeadsTo, SetsTo, command_of, kept_by, mode_by, system_after}
+use Rattle.hm_calls.specs.Prunes.{Cuts, CutsEach, GivesOpening, HasRecordAfter, IsRecordAfter, IsRetained, IsPresentOf, IsRetainedIn, OpeningLeadsTo, SetsTo, command_of, kept_by, mode_by, system_after}
 use Rattle.hm_calls.specs.Replies.{IsAcceptedBy, IsRefusalOf}
 use Rattle.hm_calls.specs.Stop.{Answers, Decides, IfRefused, OfRefusal}
 use Rattle.hm_calls.specs.Space.{TakesAtMost}
@@ -358,17 +358,17 @@ present_retained id pfs was left list ranges counts small of_master of_slave = b
 -- it has no record
 pub present_none : (hash : List ℕ → ℕ) (id pfs : ℕ) (es : Option (List Element)) (xs : Option (List Extent)) → IfSome es IsContent
     → OnBalanced es xs (λ lists. IsRecordNow lists pfs None)
-    → OnCalls hash id es xs (λ list call. IsAfter (system_after Present call) call.volume pfs None list)
+    → OnCalls hash id es xs (λ list call. HasRecordAfter (system_after Present call) call.volume pfs None list)
 present_none hash id pfs es xs content told =
-    calls_so hash id es xs (λ list call. IsAfter (system_after Present call) call.volume pfs None list) (λ lists. IsRecordNow lists pfs None) content told
+    calls_so hash id es xs (λ list call. HasRecordAfter (system_after Present call) call.volume pfs None list) (λ lists. IsRecordNow lists pfs None) content told
     (λ lists call own now is. record { counts = now; none = system_gone lists call.volume call.view pfs is.shows now })
 
 -- it has one, and this is left of its retention
 pub present_some : (hash : List ℕ → ℕ) (id pfs : ℕ) (es : Option (List Element)) (xs : Option (List Extent)) (was : PfsRecord) (left : List (ℕ × ℕ))
     → IfSome es IsContent → OnBalanced es xs (λ lists. IsRecordNow lists pfs (Some was)) → IsRetention left → IsPresentOf was id left → id < 2 ^ 64
-    → OnCalls hash id es xs (λ list call. IsAfter (system_after Present call) call.volume pfs (Some (record was { retention = left })) list)
+    → OnCalls hash id es xs (λ list call. HasRecordAfter (system_after Present call) call.volume pfs (Some (record was { retention = left })) list)
 present_some hash id pfs es xs was left content told small present less =
-    calls_so hash id es xs (λ list call. IsAfter (system_after Present call) call.volume pfs (Some (record was { retention = left })) list)
+    calls_so hash id es xs (λ list call. HasRecordAfter (system_after Present call) call.volume pfs (Some (record was { retention = left })) list)
     (λ lists. IsRecordNow lists pfs (Some was)) content told
     (λ lists call own now is.
     let (s, there, for) = system_there lists call.volume call.view pfs was own is.shows now in
@@ -396,7 +396,7 @@ abbrev pub Tells : Pruning → List ℕ → (ℕ → ℕ) → ℕ → Stand → 
 Tells pruning word room free stand result list call =
     call.command ≡ command_of pruning word → ComesTo (mode_by pruning) room free stand list call
     → Answers (first_refusal (later_checks call)) result
-    × IfOk result (λ to. IsAfter (system_after pruning call) call.volume stand.at.pfs.0 to list)
+    × IfOk result (λ to. HasRecordAfter (system_after pruning call) call.volume stand.at.pfs.0 to list)
 
 module _ (word : List ℕ) (room : ℕ → ℕ) (free : ℕ) (stand : Stand) (hash : List ℕ → ℕ) (id : ℕ) (es : Option (List Element)) (xs : Option (List Extent)) where
   -- the walk came to no directory
@@ -502,11 +502,11 @@ module _ (word : List ℕ) (room : ℕ → ℕ) (free : ℕ) (stand : Stand) (ha
 
   -- so was that of `prune-everything`
   pub tells_present : (to : Option PfsRecord)
-      → OnCalls hash id es xs (λ list call. IsAfter (system_after Present call) call.volume stand.at.pfs.0 to list)
+      → OnCalls hash id es xs (λ list call. HasRecordAfter (system_after Present call) call.volume stand.at.pfs.0 to list)
       → OnCalls hash id es xs (Tells Present word room free stand (Ok to))
   tells_present to told =
-      calls_both hash id es xs (λ list call. IsAfter (system_after Present call) call.volume stand.at.pfs.0 to list)
-      (λ list call. IsAfter (system_after Present call) call.volume stand.at.pfs.0 to list)
+      calls_both hash id es xs (λ list call. HasRecordAfter (system_after Present call) call.volume stand.at.pfs.0 to list)
+      (λ list call. HasRecordAfter (system_after Present call) call.volume stand.at.pfs.0 to list)
       (Tells Present word room free stand (Ok to)) (λ list call of_call one two asks comes. (present_passes call word asks, one)) told told
 
 -- ---- what the opening leads to
@@ -520,12 +520,12 @@ module _ {S : Type 0} (elements_of : S → Option (List Element)) (mark_of : S �
   pub leads_refused : (old new : S) (result : Result Led Stop) (stopped : Stop) → result ≡ Err stopped
       → OfRefusal (IsRefusalOf hash id Asks (elements_of old) (extents_of old) (room_of old) (free_of old)) stopped
       → Same elements_of mark_of extents_of room_of free_of old new
-      → LeadsTo elements_of mark_of extents_of room_of free_of hash id pruning word old new result
+      → OpeningLeadsTo elements_of mark_of extents_of room_of free_of hash id pruning word old new result
   leads_refused old new result stopped is refuses same =
-      subst (λ (r : Result Led Stop). LeadsTo elements_of mark_of extents_of room_of free_of hash id pruning word old new r) (sym is)
+      subst (λ (r : Result Led Stop). OpeningLeadsTo elements_of mark_of extents_of room_of free_of hash id pruning word old new r) (sym is)
       (by_stop stopped refuses) where
         by_stop : (s : Stop) → OfRefusal (IsRefusalOf hash id Asks (elements_of old) (extents_of old) (room_of old) (free_of old)) s
-            → LeadsTo elements_of mark_of extents_of room_of free_of hash id pruning word old new (Err s)
+            → OpeningLeadsTo elements_of mark_of extents_of room_of free_of hash id pruning word old new (Err s)
         by_stop (Refused reply) refuses = (refuses, same)
         by_stop (Failed fault) refuses = tt
 
@@ -553,7 +553,7 @@ module _ {S : Type 0} (elements_of : S → Option (List Element)) (mark_of : S �
       abbrev Finds : List FullElement → Call → Type 0
       Finds list call =
           Asks call → ComesTo (mode_by pruning) (room_of old) (free_of old) stand list call × (first_refusal (later_checks call) ≡ None)
-          × IsAfter (system_after pruning call) call.volume stand.at.pfs.0 to list
+          × HasRecordAfter (system_after pruning call) call.volume stand.at.pfs.0 to list
 
       finds : OnCalls hash id (elements_of old) (extents_of old) Finds
       finds =
@@ -581,7 +581,7 @@ module _ {S : Type 0} (elements_of : S → Option (List Element)) (mark_of : S �
           → IfOk result (λ led. (led.pfs ≡ stand.at.pfs) × (led.kept ≡ kept_by to))
           → OnOk result (Writes elements_of extents_of (SetsTo stand.at.pfs.0 to) mid new)
           → IfRefused result (λ _. Same elements_of mark_of extents_of room_of free_of mid new)
-          → LeadsTo elements_of mark_of extents_of room_of free_of hash id pruning word old new result
+          → OpeningLeadsTo elements_of mark_of extents_of room_of free_of hash id pruning word old new result
       leads_cut new (Ok led) balanced check is sets stayed = (
         calls_both hash id (elements_of old) (extents_of old)
             (λ list call. Asks call → first_refusal (None ∷ []) ≡ refusal_over call (room_of old) (free_of old))
@@ -596,7 +596,7 @@ module _ {S : Type 0} (elements_of : S → Option (List Element)) (mark_of : S �
             record {
               pfs = ap (λ (p : Pfs). p.0) is.0 ∙ sym (ap (λ (p : Place). p.pfs) come.at);
               to = to;
-              after = subst (λ (p : Pfs). IsAfter (system_after pruning call) call.volume p.0 to (fulls was)) (sym is.0) has;
+              after = subst (λ (p : Pfs). HasRecordAfter (system_after pruning call) call.volume p.0 to (fulls was)) (sym is.0) has;
               kept = is.1;
               sets = subst (λ (p : Pfs). SetsTo p.0 to (fulls was) es') (sym is.0) set;
             })

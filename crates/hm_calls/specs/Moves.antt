@@ -18,7 +18,7 @@ use Rattle.hm_dirs.specs.Walk.{IsRead, Scene, place_of, when_of}
 use Rattle.hm_dirs.specs.declared.position.Stand.{Stand}
 use Rattle.hm_dirs.specs.declared.spot.Spot.{Spot}
 use Rattle.hm_calls.specs.Due.{space_for}
-use Rattle.hm_calls.specs.Writes.{Place, Renames, Replaces}
+use Rattle.hm_calls.specs.Writes.{Place, Renames, ReplacesName}
 
 -- the object with a number in the tree in which another one is seen
 abbrev pub object_beside : Scene → Stand → Obj → Option Object
@@ -44,7 +44,7 @@ pub record ReplacesOther (hash : List ℕ → ℕ) (old new : Place) (key i : �
   pub links : ℕ
   pub links_are : (scene : Scene) (there : Object) → scene.elements ≡ es → IsRead scene object → object_beside scene object number ≡ Some there
       → there.links ≡ links
-  pub replaces : Replaces hash old new key i obj kind number links es es'
+  pub replaces : ReplacesName hash old new key i obj kind number links es es'
 
 -- to a name that leads to the moved object itself nothing is done
 abbrev pub IsMovedOver : (List ℕ → ℕ) → Place → Place → ℕ → ℕ → Stand → Obj → ℕ → Obj → List FullElement → List FullElement → Type 0

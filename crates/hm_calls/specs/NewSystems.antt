@@ -45,7 +45,7 @@ system_command Slave path shared = PfsSlave path shared
 
 -- What is known of a volume where a number is looked for from one on: all numbers below that are used, no two of its pseudo
 -- file systems have one, and each element is of one of them.
-pub record IsCounted (numbers : ℕ) (es : List FullElement) (volume : Volume) : Type 0 where
+pub record HasKnownNumbers (numbers : ℕ) (es : List FullElement) (volume : Volume) : Type 0 where
   pub used : (n : ℕ) → n < numbers → HasSystem volume n
   pub apart : IsDistinct eqb (map (λ (s : PseudoFileSystem). s.number) volume.systems)
   pub few : All (λ (s : PseudoFileSystem). s.number < MOST_PFS) volume.systems
@@ -90,16 +90,16 @@ abbrev pub AddsNew : NewSystem → ℕ → ℕ → ℕ → List FullElement → 
 AddsNew Master = AddsMaster
 AddsNew Slave = AddsSlave
 
-abbrev pub PutsNew : NewSystem → ℕ → ℕ → ℕ → List FullElement → List FullElement → Type 0
-PutsNew Master = PutsMaster
-PutsNew Slave = PutsSlave
+abbrev pub PutsNewSystem : NewSystem → ℕ → ℕ → ℕ → List FullElement → List FullElement → Type 0
+PutsNewSystem Master = PutsMaster
+PutsNewSystem Slave = PutsSlave
 
 -- a link with its object and its name, and then what it leads to
 pub record PutsLinked (hash : List ℕ → ℕ) (place : Place) (spot : Spot) (i : ℕ) (new : NewSystem) (pfs : Pfs) (shared : ℕ)
     (es es' : List FullElement) : Type 0 where
   pub between : List FullElement
   pub link : PutsObject hash place spot i (pfs_link_of (record { 0 = i }) pfs) es between
-  pub system : PutsNew new pfs.0 shared i between es'
+  pub system : PutsNewSystem new pfs.0 shared i between es'
 
 -- An accepted call adds the link to the tree in which its walk ends, which leaves all else as any call on trees does, and then
 -- the pseudo file system with the least unused number, which leaves all else again.
@@ -111,13 +111,13 @@ pub record MakesSystem (new : NewSystem) (shared : ℕ) (call : Call) (es es' : 
 -- each call by this id of this command makes it so, where its volume is counted from a number on
 abbrev pub MakesSystems : (List ℕ → ℕ) → ℕ → ℕ → NewSystem → List ℕ → ℕ → List FullElement → List FullElement → Type 0
 MakesSystems hash id numbers new path shared es es' =
-    (call : Call) → IsCall hash id es call → call.command ≡ system_command new path shared → IsCounted numbers es call.volume
+    (call : Call) → IsCall hash id es call → call.command ≡ system_command new path shared → HasKnownNumbers numbers es call.volume
     → MakesSystem new shared call es es'
 
 -- the reply is the one that such a call is due
 abbrev pub IsDueTo : (List ℕ → ℕ) → ℕ → ℕ → Command → Option (List Element) → Option (List Extent) → (ℕ → ℕ) → ℕ → Reply → Type 0
 IsDueTo hash id numbers command es xs room free reply =
-    OnCalls hash id es xs (λ list call. call.command ≡ command → IsCounted numbers list call.volume → reply ≡ due_over call room free)
+    OnCalls hash id es xs (λ list call. call.command ≡ command → HasKnownNumbers numbers list call.volume → reply ≡ due_over call room free)
 
 module _ {S : Type 0} (elements_of : S → Option (List Element)) (mark_of : S → Key → ℕ) (extents_of : S → Option (List Extent))
     (room_of : S → ℕ → ℕ) (free_of : S → ℕ) where

@@ -74,9 +74,9 @@ pub record HasNoRecord (volume : Volume) (pfs : ℕ) (es : List FullElement) : T
   pub none : system_of volume pfs ≡ None
 
 -- the record that a pseudo file system is to have, if it has one
-abbrev pub IsAfter : (PseudoFileSystem → PseudoFileSystem) → Volume → ℕ → Option PfsRecord → List FullElement → Type 0
-IsAfter change volume pfs None = HasNoRecord volume pfs
-IsAfter change volume pfs (Some to) = IsRecordAfter change volume pfs to
+abbrev pub HasRecordAfter : (PseudoFileSystem → PseudoFileSystem) → Volume → ℕ → Option PfsRecord → List FullElement → Type 0
+HasRecordAfter change volume pfs None = HasNoRecord volume pfs
+HasRecordAfter change volume pfs (Some to) = IsRecordAfter change volume pfs to
 
 -- the same of the elements alone
 abbrev pub IsRetainedIn : ℕ → Option PfsRecord → List FullElement → Type 0
@@ -105,7 +105,7 @@ pub record IsPresentOf (was : PfsRecord) (id : ℕ) (left : List (ℕ × ℕ)) :
 pub record Cuts (pruning : Pruning) (call : Call) (led : Led) (es es' : List FullElement) : Type 0 where
   pub pfs : led.pfs.0 ≡ (first_site call).at.pfs
   pub to : Option PfsRecord
-  pub after : IsAfter (system_after pruning call) call.volume led.pfs.0 to es
+  pub after : HasRecordAfter (system_after pruning call) call.volume led.pfs.0 to es
   pub kept : led.kept ≡ kept_by to
   pub sets : SetsTo led.pfs.0 to es es'
 
@@ -131,24 +131,24 @@ module _ {S : Type 0} (elements_of : S → Option (List Element)) (mark_of : S �
       IsAcceptedBy hash id (λ call. call.command ≡ command_of pruning path) (elements_of old) (extents_of old) (room_of old) (free_of old) Done
       × Writes elements_of extents_of (CutsEach hash id pruning path led) old new
 
-  abbrev pub Refuses : (List ℕ → ℕ) → ℕ → Pruning → List ℕ → S → S → Reply → Type 0
-  Refuses hash id pruning path old new reply =
+  abbrev pub RefusesOpening : (List ℕ → ℕ) → ℕ → Pruning → List ℕ → S → S → Reply → Type 0
+  RefusesOpening hash id pruning path old new reply =
       IsRefusalOf hash id (λ call. call.command ≡ command_of pruning path) (elements_of old) (extents_of old) (room_of old) (free_of old) reply
       × Same elements_of mark_of extents_of room_of free_of old new
 
   -- what a step tells of the opening
-  abbrev pub LeadsTo : (List ℕ → ℕ) → ℕ → Pruning → List ℕ → S → S → Result Led Stop → Type 0
-  LeadsTo hash id pruning path old new (Ok led) = Accepts hash id pruning path old new led
-  LeadsTo hash id pruning path old new (Err (Refused reply)) = Refuses hash id pruning path old new reply
-  LeadsTo hash id pruning path old new (Err (Failed fault)) = Unit {0}
+  abbrev pub OpeningLeadsTo : (List ℕ → ℕ) → ℕ → Pruning → List ℕ → S → S → Result Led Stop → Type 0
+  OpeningLeadsTo hash id pruning path old new (Ok led) = Accepts hash id pruning path old new led
+  OpeningLeadsTo hash id pruning path old new (Err (Refused reply)) = RefusesOpening hash id pruning path old new reply
+  OpeningLeadsTo hash id pruning path old new (Err (Failed fault)) = Unit {0}
 
   -- what became of the opening
   abbrev pub EndsIn : (List ℕ → ℕ) → ℕ → Pruning → List ℕ → S → S → Opened → Type 0
   EndsIn hash id pruning path old new (opened.Led led) = Accepts hash id pruning path old new led
-  EndsIn hash id pruning path old new (opened.Refused reply) = Refuses hash id pruning path old new reply
+  EndsIn hash id pruning path old new (opened.Refused reply) = RefusesOpening hash id pruning path old new reply
 
   -- The reply to the opening is the one that the call is due, and what it does is what the model says.
-  pub record Opens (hash : List ℕ → ℕ) (id : ℕ) (pruning : Pruning) (path : List ℕ) (old new : S) (told : Opened) : Type 0 where
+  pub record OpensPrune (hash : List ℕ → ℕ) (id : ℕ) (pruning : Pruning) (path : List ℕ) (old new : S) (told : Opened) : Type 0 where
     pub due : OnCalls hash id (elements_of old) (extents_of old)
         (λ _ call. call.command ≡ command_of pruning path → reply_of told ≡ due_over call (room_of old) (free_of old))
     pub ends : EndsIn hash id pruning path old new told

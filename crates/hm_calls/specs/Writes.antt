@@ -132,7 +132,7 @@ pub record Renames (hash : List ℕ → ℕ) (old new : Place) (spot : Spot) (i 
   pub follows : KeysFit hash es → IsOpen new spot i es → StillFollow es es'
 
 -- the name of an object of a kind takes the place of another one's, which had so many links and whose entry stood under a key
-pub record Replaces (hash : List ℕ → ℕ) (old new : Place) (key i : ℕ) (obj : Obj) (kind : ℕ) (there : Obj) (links : ℕ)
+pub record ReplacesName (hash : List ℕ → ℕ) (old new : Place) (key i : ℕ) (obj : Obj) (kind : ℕ) (there : Obj) (links : ℕ)
     (es es' : List FullElement) : Type 0 where
   pub steps : Steps new.pfs i hash (KeyFits hash key new.name) es es'
   pub shows : KeysFit hash es → KeyFits hash key new.name → HasEntry (Counts es i) new.pfs new.directory key new.name there

@@ -25,7 +25,7 @@ ghost use Rattle.hm_calls.specs.Changes.{HasSystem};
 ghost use Rattle.hm_calls.specs.Known.{AreBelowIn, AreKnown};
 ghost use Rattle.hm_calls.specs.NewSystems.{
   Founds,
-  IsCounted,
+  HasKnownNumbers,
   IsFounded,
   IsNewThere,
   IsReadThere,
@@ -212,7 +212,7 @@ fn check_system<T: ElementStore + Extents, H: NameHash>(
         InScenes (H.hash_of hash.now) course (T.elements store.old) (T.extents store.old)
         (IsReadThere directory.now) →
         InScenes (H.hash_of hash.now) course (T.elements store.old) (T.extents store.old) (λ scene.
-        IsCounted numbers scene.elements scene.volume → AnswersAll (system_checks
+        HasKnownNumbers numbers scene.elements scene.volume → AnswersAll (system_checks
         (H.hash_of hash.now) (T.room store.old) (T.free store.old) name.now directory.now scene)
         result) }
     ensures spot { IfOk result (λ found. (course : Way) →
@@ -252,7 +252,7 @@ fn check_numbers<T: ElementStore + Extents>(
 ) -> Result<Pfs, Stop>
     ensures check { OnBalanced (T.elements store.old) (T.extents store.old) (λ lists.
         (volume : Volume) (view : View) → ShowsAs (fulls lists) volume view →
-        IsCounted from (fulls lists) volume → HasSystem volume beside.0 →
+        HasKnownNumbers from (fulls lists) volume → HasSystem volume beside.0 →
         Answers (pfs_check volume) result) }
     ensures unused { IfOk result (λ pfs.
         IfSome (content_of (T.elements store.old) (T.extents store.old)) (λ lists.

@@ -20,13 +20,13 @@ ghost use Rattle.hm_calls.specs.Known.{AreKnown};
 ghost use Rattle.hm_calls.specs.Possible.{IsGiven, IsNoSpace};
 ghost use Rattle.hm_calls.specs.Prunes.{
   GivesOpening,
-  IsAfter,
+  HasRecordAfter,
   IsPresentOf,
   IsRecordAfter,
   IsRetained,
   IsRetainedIn,
-  LeadsTo,
-  Opens,
+  OpeningLeadsTo,
+  OpensPrune,
   SetsTo,
   command_of,
   kept_by,
@@ -57,7 +57,7 @@ use hm_types::{Counted, Fault, Id, NoMemory, Pfs, Text};
 use hm_view::snapshot_ids;
 use std::alloc::Global;
 
-/// Opens `prune` or `prune-everything` of a path by its id, the one after the last that was drawn.
+/// OpensPrune `prune` or `prune-everything` of a path by its id, the one after the last that was drawn.
 /// The reply is the one that the call is due, by the volume that the elements show: the refusal of
 /// the first of its checks that fails, and `no space` as the last of them, or else `ok`. What is
 /// accepted leads to the pseudo file system in which the path ends, whose record tells from now on
@@ -80,7 +80,7 @@ pub fn open_prune<T: ElementStore + Extents, H: NameHash>(
 ) -> Result<Opened, Fault>
     requires id { (1 ≤ id.0) × (id.0 ≤ GREATEST_ID) }
     requires balanced { Balanced (T.elements store.old) (T.extents store.old) }
-    ensures opens { IfOk result (Opens T.elements T.mark T.extents T.room T.free
+    ensures opens { IfOk result (OpensPrune T.elements T.mark T.extents T.room T.free
         (H.hash_of hash.now) id.0 pruning path.now store.old store.new) }
     ensures possible { IfOk result (λ opened.
         IsGiven id.0 (command_of pruning path.now) (reply_of opened)) }
@@ -111,7 +111,7 @@ fn begin_prune<T: ElementStore + Extents, H: NameHash>(
 ) -> Result<Led, Stop>
     requires id { (1 ≤ id.0) × (id.0 ≤ GREATEST_ID) }
     requires balanced { Balanced (T.elements store.old) (T.extents store.old) }
-    ensures leads { LeadsTo T.elements T.mark T.extents T.room T.free
+    ensures leads { OpeningLeadsTo T.elements T.mark T.extents T.room T.free
         (H.hash_of hash.now) id.0 pruning word.now store.old store.new result }
     ensures gives { GivesOpening id.0 (command_of pruning word.now) result }
     ensures known { OnOk result ((i : ℕ) → AreKnown (T.elements store.old) (T.extents store.old) i →
@@ -142,7 +142,7 @@ fn record_after<T: ElementStore + Extents>(
         call.command ≡ command_of pruning word →
         ComesTo (mode_by pruning) room free stand.now es call →
         Answers (first_refusal (later_checks call)) result × IfOk result (λ to.
-        IsAfter (system_after pruning call) call.volume stand.now.at.pfs.0 to es)) }
+        HasRecordAfter (system_after pruning call) call.volume stand.now.at.pfs.0 to es)) }
     ensures retained { IfOk result (λ to. OnBalanced (T.elements store.old) (T.extents store.old)
         (λ lists. IsRetainedIn stand.now.at.pfs.0 to (fulls lists))) }
     ensures few { IfOk result (λ to. IfSome to (λ (r : Told). IsRetention r.retention)) }
@@ -222,7 +222,7 @@ fn keep_present<T: ElementStore + Extents>(
     requires balanced { Balanced (T.elements store.old) (T.extents store.old) }
     ensures told { (hash : List ℕ → ℕ) →
         OnCalls hash id.0 (T.elements store.old) (T.extents store.old) (λ es call.
-        IfOk result (λ to. IsAfter (system_after present call) call.volume pfs.0 to es)) }
+        IfOk result (λ to. HasRecordAfter (system_after present call) call.volume pfs.0 to es)) }
     ensures retained { IfOk result (λ to. OnBalanced (T.elements store.old) (T.extents store.old)
         (λ lists. IsRetainedIn pfs.0 to (fulls lists))) }
     ensures few { IfOk result (λ to. IfSome to (λ (r : Told). IsRetention r.retention)) }

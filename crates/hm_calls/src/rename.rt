@@ -7,7 +7,7 @@ ghost use Rattle.hm_key.specs.Stores.{Keeps};
 ghost use Rattle.hm_cursor.specs.Told.{HasReadingCause};
 ghost use Rattle.hm_cursor.specs.Write.{Writes};
 ghost use Rattle.hm_calls.specs.Known.{AreBelowIn};
-ghost use Rattle.hm_calls.specs.Writes.{AreOlderAround, HasReserves, IsMoving, Renames, Replaces, place_of_name, reserves};
+ghost use Rattle.hm_calls.specs.Writes.{AreOlderAround, HasReserves, IsMoving, Renames, ReplacesName, place_of_name, reserves};
 
 use crate::put::put_name;
 use crate::take::drop_link;
@@ -104,7 +104,7 @@ pub(crate) fn replace<T: ElementStore + Extents, H: NameHash>(
         new.directory.now.at.pfs.0 id.0 }
     requires room { HasReserves (T.room store.old) }
     ensures ok { OnOk result (Writes T.elements T.extents
-        (Replaces (H.hash_of hash.now) (place_of_name old.entry) (place_of_name new.entry) there.key id.0
+        (ReplacesName (H.hash_of hash.now) (place_of_name old.entry) (place_of_name new.entry) there.key id.0
         moved.obj moved.kind there.obj there.links) store.old store.new) }
     ensures keeps { Keeps T.elements T.extents store.old store.new result }
     ensures space { Spends T.room T.free reserves store.old store.new }

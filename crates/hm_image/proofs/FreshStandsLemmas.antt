@@ -17,7 +17,7 @@ use Rattle.hm_records.specs.View.{IsViewOf}
 use Rattle.hm_records.specs.declared.pfs_record.PfsRecord.{PfsRecord}
 use Rattle.hm_image.specs.Fresh.{IsFresh, fresh_header, fresh_record}
 use Rattle.hm_volume.specs.Records.{AreOfSystems, HasRecord, HaveRecords, IsRecordFor}
-use Rattle.hm_image.specs.StandFor.{AreAtMost, AreBegun, HasIds, HasMasterIds, HasViews, IsUnfed, OnEach, StandFor}
+use Rattle.hm_image.specs.StandFor.{AreAtMost, AreBegun, HasIds, HasMasterIds, HasViews, IsSourceless, OnEach, StandFor}
 use Rattle.hm_image.specs.Stands.{StandsFor}
 use Rattle.hm_image.proofs.FollowLemmas.{follows_one, of_no_record}
 use Rattle.hm_image.proofs.FreshLemmas.{fresh_is_sound}
@@ -156,7 +156,7 @@ module _ (bigblocks : ℕ) where
     ids = on_system bigblocks (HasIds full_elements 1) ids;
     begun = on_system bigblocks (λ pfs s. AreBegun s) (all_one (λ v. 1 ≤ v.0) (1, root_tree) (omega arith));
     views = on_system bigblocks (λ pfs s. s.clear ≡ true → HasViews full_elements (fresh bigblocks) pfs s) (λ clear. has_views);
-    sourceless = on_system bigblocks (λ pfs s. s.role ≡ Slave → s.origin ≡ Nowhere → IsUnfed full_elements pfs s) (λ slave none. absurd (cc));
+    sourceless = on_system bigblocks (λ pfs s. s.role ≡ Slave → s.origin ≡ Nowhere → IsSourceless full_elements pfs s) (λ slave none. absurd (cc));
   }
 
   module _ (image : List ℕ) (size : IsSize bigblocks) (is : IsFresh bigblocks image) where

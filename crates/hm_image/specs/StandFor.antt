@@ -61,7 +61,7 @@ pub record HasViews (es : List FullElement) (volume : Volume) (pfs : ℕ) (s : P
   pub follows : Follows pfs (shown_id volume.last s) es
 
 -- a slave into which nothing came: it has no sync end, and no element but its record
-pub record IsUnfed (es : List FullElement) (pfs : ℕ) (s : PseudoFileSystem) : Type 0 where
+pub record IsSourceless (es : List FullElement) (pfs : ℕ) (s : PseudoFileSystem) : Type 0 where
   pub unsynced : s.sync_end ≡ 0
   pub alone : (e : FullElement) → Contains es e → pfs_of e.key.localization ≡ pfs → subject_of e.key ≡ record_subject pfs
 
@@ -78,4 +78,4 @@ pub record StandFor (es : List FullElement) (volume : Volume) : Type 0 where
   pub ids : OnEach volume (HasIds es volume.last)
   pub begun : OnEach volume (λ pfs s. AreBegun s)
   pub views : OnEach volume (λ pfs s. s.clear ≡ true → HasViews es volume pfs s)
-  pub sourceless : OnEach volume (λ pfs s. s.role ≡ Slave → s.origin ≡ Nowhere → IsUnfed es pfs s)
+  pub sourceless : OnEach volume (λ pfs s. s.role ≡ Slave → s.origin ≡ Nowhere → IsSourceless es pfs s)

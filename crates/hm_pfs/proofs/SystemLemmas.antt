@@ -27,7 +27,7 @@ use Rattle.hm_objects.proofs.ShownLemmas.{directory_added}
 use Rattle.hm_cursor.specs.Told.{Lists, fulls}
 use Rattle.hm_cursor.proofs.CallLemmas.{Then}
 use Rattle.hm_cursor.proofs.PayloadLemmas.{full_sorted}
-use Rattle.hm_pfs.specs.Systems.{AddsSystem, IsUnmade, IsUnmadeIn, IsUnusedNumber, PutsMaster, PutsSlave, PutsSystem}
+use Rattle.hm_pfs.specs.Systems.{AddsSystem, IsNotMadeBy, IsUnmadeIn, IsUnusedNumber, PutsMaster, PutsSlave, PutsSystem}
 use Rattle.hm_pfs.specs.Systems.{master_record, made_record, made_root, slave_record}
 
 -- a localization names its pseudo file system
@@ -185,12 +185,12 @@ record_of pfs i r = record {
 }
 
 -- an element of a number that an id makes has a key that none has, where that id made none there
-pub new_key : (pfs i : ℕ) (e : FullElement) (es : List FullElement) → pfs_of e.key.localization ≡ pfs → e.key.create ≡ i → IsUnmade pfs i es
+pub new_key : (pfs i : ℕ) (e : FullElement) (es : List FullElement) → pfs_of e.key.localization ≡ pfs → e.key.create ≡ i → IsNotMadeBy pfs i es
     → (x : FullElement) → Contains es x → x.key ≢ e.key
 new_key pfs i e es here made unmade x has same =
     unmade x has (ap (λ (k : Key). pfs_of k.localization) same ∙ here) (ap (λ (k : Key). k.create) same ∙ made)
 
-module _ (pfs i : ℕ) (r : PfsRecord) (es mid : List FullElement) (own : HaveOwnKeys es) (unmade : IsUnmade pfs i es)
+module _ (pfs i : ℕ) (r : PfsRecord) (es mid : List FullElement) (own : HaveOwnKeys es) (unmade : IsNotMadeBy pfs i es)
     (adds : Adds (made_record pfs r i) es mid) where
   own_mid : HaveOwnKeys mid
   own_mid = own_keys_adds (made_record pfs r i) es mid adds (new_key pfs i (made_record pfs r i) es (others_named pfs) refl unmade) own
@@ -275,7 +275,7 @@ module _ (pfs i : ℕ) (r : PfsRecord) (es mid : List FullElement) (own : HaveOw
 -- what is known of a store in which an id made no element of a number
 pub record IsReady (pfs i : ℕ) (lists : Lists) : Type 0 where
   pub content : IsContent lists.0
-  pub unmade : IsUnmade pfs i (fulls lists)
+  pub unmade : IsNotMadeBy pfs i (fulls lists)
 
 pub ready : (pfs i : ℕ) (es : Option (List Element)) (xs : Option (List Extent)) → IfSome es IsContent → IsUnmadeIn es xs pfs i
     → IfSome (content_of es xs) (IsReady pfs i)

@@ -45,12 +45,12 @@ abbrev pub IsUnusedNumber : ℕ → List FullElement → Type 0
 IsUnusedNumber pfs es = (x : FullElement) → Contains es x → pfs_of x.key.localization ≢ pfs
 
 -- no element of a pseudo file system was made by `i`
-abbrev pub IsUnmade : ℕ → ℕ → List FullElement → Type 0
-IsUnmade pfs i es = (x : FullElement) → Contains es x → pfs_of x.key.localization ≡ pfs → x.key.create ≢ i
+abbrev pub IsNotMadeBy : ℕ → ℕ → List FullElement → Type 0
+IsNotMadeBy pfs i es = (x : FullElement) → Contains es x → pfs_of x.key.localization ≡ pfs → x.key.create ≢ i
 
 -- the same of a store, where it tells its content
 abbrev pub IsUnmadeIn : Option (List Element) → Option (List Extent) → ℕ → ℕ → Type 0
-IsUnmadeIn es xs pfs i = IfSome (content_of es xs) (λ lists. IsUnmade pfs i (fulls lists))
+IsUnmadeIn es xs pfs i = IfSome (content_of es xs) (λ lists. IsNotMadeBy pfs i (fulls lists))
 
 -- no element of a store stands at the key of this one, where it tells them
 abbrev pub LacksElement : Option (List Element) → FullElement → Type 0

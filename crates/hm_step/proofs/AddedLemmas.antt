@@ -32,7 +32,7 @@ use Rattle.hm_volume.specs.Records.{AreOfSystems, HasRecord, HaveRecords, IsReco
 use Rattle.hm_objects.specs.Objects.{inode_of}
 use Rattle.hm_objects.proofs.ShownLemmas.{directory_inode}
 use Rattle.hm_pfs.specs.Systems.{AddsMaster, AddsSlave, AddsSystem, IsUnusedNumber, made_record, made_root, master_record, slave_record}
-use Rattle.hm_image.specs.StandFor.{AreAtMost, AreBegun, AreUpTo, HasIds, HasViews, IsUnfed, OnEach, StandFor}
+use Rattle.hm_image.specs.StandFor.{AreAtMost, AreBegun, AreUpTo, HasIds, HasViews, IsSourceless, OnEach, StandFor}
 use Rattle.hm_image.proofs.FollowLemmas.{follows_one, follows_where, inodes_named, of_no_record, of_place, others_named}
 use Rattle.hm_image.proofs.ListLemmas.{all_one, only_one}
 use Rattle.hm_step.specs.Pruned.{HasSystemFor, IsEnough, StandAfter, StillKeeps}
@@ -162,7 +162,7 @@ pub record IsNewSystem (last pfs i : ℕ) (tree : FileTree) (r : PfsRecord) (es'
   pub is_for : IsRecordFor new r
   pub ids : AreUpTo last pfs es' → HasIds es' last pfs new
   pub begun : AreBegun new
-  pub unfed : new.role ≡ Slave → IsUnfed es' pfs new
+  pub unfed : new.role ≡ Slave → IsSourceless es' pfs new
   pub numbered : All (λ v. AreAtMost v.0 v.1) new.versions
   pub past : (t : ℕ) → t < i → as_of t no_tree new.versions ≡ no_tree
   pub present : (t : ℕ) → i ≤ t → as_of t no_tree new.versions ≡ tree
@@ -363,9 +363,9 @@ module _ (es es' : List FullElement) (volume : Volume) (pfs i : ℕ) (r : PfsRec
 
     -- ---- slaves into which nothing came
 
-    unfed_still : OnEach volume (λ other s. s.role ≡ Slave → s.origin ≡ Nowhere → IsUnfed es' other s)
+    unfed_still : OnEach volume (λ other s. s.role ≡ Slave → s.origin ≡ Nowhere → IsSourceless es' other s)
     unfed_still other s is slave nowhere =
-        let old : IsUnfed es other s = stand.sourceless other s is slave nowhere in
+        let old : IsSourceless es other s = stand.sourceless other s is slave nowhere in
         record {
           unsynced = old.unsynced;
           alone = λ x has of_pfs. elim (came x has) [
@@ -387,7 +387,7 @@ module _ (es es' : List FullElement) (volume : Volume) (pfs i : ℕ) (r : PfsRec
       ids = on_added volume pfs new none number (HasIds es' volume.last) ids_still ids_new;
       begun = on_added volume pfs new none number (λ other s. AreBegun s) stand.begun is_new.begun;
       views = on_added volume pfs new none number (λ other s. s.clear ≡ true → HasViews es' after other s) views_still (λ clear. views_new);
-      sourceless = on_added volume pfs new none number (λ other s. s.role ≡ Slave → s.origin ≡ Nowhere → IsUnfed es' other s) unfed_still
+      sourceless = on_added volume pfs new none number (λ other s. s.role ≡ Slave → s.origin ≡ Nowhere → IsSourceless es' other s) unfed_still
           (λ slave nowhere. is_new.unfed slave);
     }
 

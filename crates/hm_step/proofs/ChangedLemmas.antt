@@ -36,7 +36,7 @@ use Rattle.hm_volume.specs.Records.{AreOfSystems, HasRecord, HaveRecords, IsReco
 use Rattle.hm_volume.specs.Shown.{ShowsAs}
 use Rattle.hm_calls.specs.Changes.{ChangesTree, tree_now}
 use Rattle.hm_calls.specs.Writes.{IsNewIn}
-use Rattle.hm_image.specs.StandFor.{AreAtMost, AreBegun, AreUpTo, HasIds, HasMasterIds, HasSlaveIds, HasViews, IsUnfed, StandFor}
+use Rattle.hm_image.specs.StandFor.{AreAtMost, AreBegun, AreUpTo, HasIds, HasMasterIds, HasSlaveIds, HasViews, IsSourceless, StandFor}
 use Rattle.hm_image.proofs.FollowLemmas.{follows_where, of_place}
 use Rattle.hm_step.specs.Step.{after_call, drawn}
 use Rattle.hm_step.proofs.NextLemmas.{follows_next, slave_later, system_at, versions_later, view_next}
@@ -225,15 +225,15 @@ module _ (call : Call) (es es' : List FullElement) (stand : StandFor es call.vol
 
   -- a slave into which nothing came is not the master that changed
   unfed_beside : (other : ℕ) (s : PseudoFileSystem) → other ≢ pfs → system_of volume other ≡ Some s → s.role ≡ Slave → s.origin ≡ Nowhere
-      → IsUnfed es' other s
+      → IsSourceless es' other s
   unfed_beside other s differ is slave nowhere =
-      let old : IsUnfed es other s = stand.sourceless other s is slave nowhere in
+      let old : IsSourceless es other s = stand.sourceless other s is slave nowhere in
       record {
         unsynced = old.unsynced;
         alone = λ x has of_pfs. old.alone x ((changes.elsewhere x (λ is. differ (sym of_pfs ∙ is))).0 has) of_pfs;
       }
 
-  unfed_here : (s : PseudoFileSystem) → system_of volume pfs ≡ Some s → (newer s).role ≡ Slave → (newer s).origin ≡ Nowhere → IsUnfed es' pfs (newer s)
+  unfed_here : (s : PseudoFileSystem) → system_of volume pfs ≡ Some s → (newer s).role ≡ Slave → (newer s).origin ≡ Nowhere → IsSourceless es' pfs (newer s)
   unfed_here s is slave nowhere =
       let same : s ≡ one = cc in
       let role : s.role ≡ Master = ap (λ (x : PseudoFileSystem). x.role) same ∙ master in
@@ -297,7 +297,7 @@ module _ (call : Call) (es es' : List FullElement) (stand : StandFor es call.vol
     ids = on_each volume pfs newer newer_keeps (HasIds es' id) ids_beside ids_here;
     begun = on_each volume pfs newer newer_keeps (λ other s. AreBegun s) (λ other s differ is. stand.begun other s is) begun_here;
     views = on_each volume pfs newer newer_keeps (λ other s. s.clear ≡ true → HasViews es' after other s) views_beside views_here;
-    sourceless = on_each volume pfs newer newer_keeps (λ other s. s.role ≡ Slave → s.origin ≡ Nowhere → IsUnfed es' other s) unfed_beside unfed_here;
+    sourceless = on_each volume pfs newer newer_keeps (λ other s. s.role ≡ Slave → s.origin ≡ Nowhere → IsSourceless es' other s) unfed_beside unfed_here;
   }
 
   -- a call that adds no PFS does no more

@@ -29,7 +29,7 @@ use Rattle.hm_records.proofs.MemberLemmas.{All-from_has}
 use Rattle.hm_volume.specs.Records.{AreOfSystems, HasRecord, HaveRecords, IsRecordFor, is_master}
 use Rattle.hm_volume.proofs.RecordLemmas.{system_some}
 use Rattle.hm_pfs.specs.Records.{SetsRecord}
-use Rattle.hm_image.specs.StandFor.{AreAtMost, AreBegun, HasIds, HasViews, IsUnfed, OnEach, StandFor}
+use Rattle.hm_image.specs.StandFor.{AreAtMost, AreBegun, HasIds, HasViews, IsSourceless, OnEach, StandFor}
 use Rattle.hm_step.specs.Cut.{IsCutTo, SetsRecordBy}
 use Rattle.hm_step.specs.Pruned.{IsEnough, StandAfter, StillKeeps}
 use Rattle.hm_step.proofs.JobLemmas.{enough_less, system_for}
@@ -192,12 +192,12 @@ module _ (es es' : List FullElement) (volume : Volume) (pfs : ℕ) (change : Pse
       (λ s is. subst (λ (x : PseudoFileSystem). x.clear ≡ true → HasViews es' after pfs x) (sym (one_alone s is)) (λ clear.
       views_of pfs one (retaining kept one) by_cut.there found_cut refl refl cuts.fewer (stand.views pfs one by_cut.there clear)))
 
-  unfed : (other : ℕ) (s : PseudoFileSystem) → IsUnfed es other s → IsUnfed es' other s
+  unfed : (other : ℕ) (s : PseudoFileSystem) → IsSourceless es other s → IsSourceless es' other s
   unfed = set_unfed pfs (pfs_bytes now) es es' sets
 
-  unfed_here : one.role ≡ Slave → one.origin ≡ Nowhere → IsUnfed es' pfs (retaining kept one)
+  unfed_here : one.role ≡ Slave → one.origin ≡ Nowhere → IsSourceless es' pfs (retaining kept one)
   unfed_here slave none =
-      let old : IsUnfed es' pfs one = unfed pfs one (stand.sourceless pfs one by_cut.there slave none) in
+      let old : IsSourceless es' pfs one = unfed pfs one (stand.sourceless pfs one by_cut.there slave none) in
       record { unsynced = old.unsynced; alone = old.alone }
 
   stand_cut : StandFor es' after
@@ -213,7 +213,7 @@ module _ (es es' : List FullElement) (volume : Volume) (pfs : ℕ) (change : Pse
     ids = on_cut (HasIds es' volume.last) ids_beside ids_here;
     begun = on_cut (λ other s. AreBegun s) stand.begun (stand.begun pfs one by_cut.there);
     views = views;
-    sourceless = on_cut (λ other s. s.role ≡ Slave → s.origin ≡ Nowhere → IsUnfed es' other s)
+    sourceless = on_cut (λ other s. s.role ≡ Slave → s.origin ≡ Nowhere → IsSourceless es' other s)
         (λ other s is slave none. unfed other s (stand.sourceless other s is slave none)) unfed_here;
   }
 

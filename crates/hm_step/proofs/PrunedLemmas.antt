@@ -21,7 +21,7 @@ use Rattle.hm_records.proofs.MeetLemmas.{follows_versions}
 use Rattle.hm_records.proofs.MemberLemmas.{All-from_has, has_cases, has_head, has_tail}
 use Rattle.hm_records.proofs.ViewLemmas.{view_kept}
 use Rattle.hm_volume.specs.Records.{HasRecord, HaveRecords, IsRecordFor}
-use Rattle.hm_image.specs.StandFor.{HasIds, HasViews, IsUnfed, StandFor}
+use Rattle.hm_image.specs.StandFor.{HasIds, HasViews, IsSourceless, StandFor}
 use Rattle.hm_step.specs.Pruned.{KeepsWithin}
 use Rattle.hm_step.proofs.NextLemmas.{kept_shown}
 
@@ -196,7 +196,7 @@ module _ (kept : ℕ → Option (List (ℕ × ℕ))) (es es' : List FullElement)
     follows = follows_still pfs (shown_id volume.last s) es es' left was.follows;
   }
 
-  unfed_left : (pfs : ℕ) (s : PseudoFileSystem) → IsUnfed es pfs s → IsUnfed es' pfs s
+  unfed_left : (pfs : ℕ) (s : PseudoFileSystem) → IsSourceless es pfs s → IsSourceless es' pfs s
   unfed_left pfs s was = record { unsynced = was.unsynced; alone = λ e has. was.alone e (left e has) }
 
   pub stand_pruned : StandFor es' volume

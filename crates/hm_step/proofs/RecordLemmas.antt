@@ -18,7 +18,7 @@ use Rattle.hm_records.specs.declared.pfs_record.PfsRecord.{PfsRecord}
 use Rattle.hm_records.proofs.CountsLemmas.{record_counts, settled}
 use Rattle.hm_records.proofs.MemberLemmas.{All-from_has}
 use Rattle.hm_pfs.specs.Records.{Becomes, IsRecordElement, SetsRecord, rewritten, stays}
-use Rattle.hm_image.specs.StandFor.{AreUpTo, IsUnfed}
+use Rattle.hm_image.specs.StandFor.{AreUpTo, IsSourceless}
 use Rattle.hm_image.proofs.FollowLemmas.{follows_where, of_no_record}
 use Rattle.hm_model.specs.Volume.{PseudoFileSystem}
 
@@ -82,7 +82,7 @@ module _ (pfs : ℕ) (bytes : List ℕ) (es : List FullElement) where
     }
 
     -- a slave into which nothing came is so still
-    pub set_unfed : (other : ℕ) (s : PseudoFileSystem) → IsUnfed es other s → IsUnfed es' other s
+    pub set_unfed : (other : ℕ) (s : PseudoFileSystem) → IsSourceless es other s → IsSourceless es' other s
     set_unfed other s old = record {
       unsynced = old.unsynced;
       alone = λ y has of_pfs.

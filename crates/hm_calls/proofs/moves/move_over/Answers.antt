@@ -9,7 +9,7 @@ use Rattle.hm_records.specs.declared.inode.Inode.{Inode}
 use Rattle.hm_calls.specs.Due.{space_for}
 use Rattle.hm_calls.specs.Moves.{over_checks}
 use Rattle.hm_calls.specs.Stop.{Answers}
-use Rattle.hm_calls.specs.Writes.{Replaces, place_of_name, reserves}
+use Rattle.hm_calls.specs.Writes.{ReplacesName, place_of_name, reserves}
 use Rattle.hm_calls.specs.declared.stop.Stop.{Stop}
 use Rattle.hm_calls.specs.declared.stop.Stop.TheVariants.{Refused}
 use Rattle.hm_calls.proofs.MoveLemmas.{not_equal}
@@ -102,7 +102,7 @@ returns-clause-ok g c =
     c.in-Some.is c.in_ok-inode.ensures.ok))
     (told_before (g.T.HasElements.elements c.args.store.now) (g.T.HasElements.elements c.admit_names.new.store) (g.T.HasRoom.extents
     c.args.store.now) (g.T.HasRoom.extents c.admit_names.new.store) (content.elements ∙ same.elements) (content.extents ∙ same.extents)
-    (λ es xs. Wrote (Replaces (g.H.NameHash.hash_of c.args.hash.now) (place_of_name c.args.old) (place_of_name c.args.new) c.args.key c.args.id.0
+    (λ es xs. Wrote (ReplacesName (g.H.NameHash.hash_of c.args.hash.now) (place_of_name c.args.old) (place_of_name c.args.new) c.args.key c.args.id.0
     c.args.moved.obj c.args.moved.kind c.args.there c.in-Some.inode.links) es xs (g.T.HasElements.elements c.replace.new.store) (g.T.HasRoom.extents
     c.replace.new.store)) c.in_ok-replace.ensures.ok)
 

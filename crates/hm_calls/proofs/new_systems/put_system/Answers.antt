@@ -3,8 +3,8 @@ use Rattle.std.proofs.lemmas.Result.{on_ok_weaker}
 use Rattle.hm_cursor.specs.Told.{fulls}
 use Rattle.hm_cursor.proofs.CallLemmas.{Change, Then, known_after, writes_both, writes_so}
 use Rattle.hm_objects.specs.Objects.{pfs_link_of}
-use Rattle.hm_pfs.specs.Systems.{IsUnmade, PutsMaster, PutsSlave}
-use Rattle.hm_calls.specs.NewSystems.{PutsLinked, PutsNew}
+use Rattle.hm_pfs.specs.Systems.{IsNotMadeBy, PutsMaster, PutsSlave}
+use Rattle.hm_calls.specs.NewSystems.{PutsLinked, PutsNewSystem}
 use Rattle.hm_calls.specs.Writes.{PutsObject, place_in}
 use Rattle.hm_calls.specs.declared.new_systems.NewSystem.{NewSystem}
 use Rattle.hm_calls.proofs.NewCallLemmas.{balanced_then, pfs_apart, unmade_still}
@@ -31,7 +31,7 @@ add_master-requires-clause-unmade g c =
     let at = c.args.directory.now.at in
     known_after g.T.HasElements.elements g.T.HasRoom.extents
     (PutsObject (λ _. 0) (place_in c.args.directory.now c.args.name.now) c.args.spot c.args.id.0 (pfs_link_of (record { 0 = c.args.id.0 }) c.args.number))
-    (λ lists. IsUnmade c.args.number.0 c.args.id.0 (fulls lists)) (IsUnmade c.args.number.0 c.args.id.0) c.args.store.now c.put_pfs_link.new.store
+    (λ lists. IsNotMadeBy c.args.number.0 c.args.id.0 (fulls lists)) (IsNotMadeBy c.args.number.0 c.args.id.0) c.args.store.now c.put_pfs_link.new.store
     c.in_ok-put_pfs_link.ensures.keeps.elements c.in_ok-put_pfs_link.ensures.keeps.extents c.requires.balanced c.requires.unmade
     (λ was mid unmade puts. unmade_still at.pfs.0 c.args.number.0 c.args.id.0 (fulls was) mid (pfs_apart c.args.number at.pfs c.requires.apart)
     puts.steps.writes unmade)
@@ -42,7 +42,7 @@ add_slave-requires-clause-unmade g c =
     let at = c.args.directory.now.at in
     known_after g.T.HasElements.elements g.T.HasRoom.extents
     (PutsObject (λ _. 0) (place_in c.args.directory.now c.args.name.now) c.args.spot c.args.id.0 (pfs_link_of (record { 0 = c.args.id.0 }) c.args.number))
-    (λ lists. IsUnmade c.args.number.0 c.args.id.0 (fulls lists)) (IsUnmade c.args.number.0 c.args.id.0) c.args.store.now c.put_pfs_link.new.store
+    (λ lists. IsNotMadeBy c.args.number.0 c.args.id.0 (fulls lists)) (IsNotMadeBy c.args.number.0 c.args.id.0) c.args.store.now c.put_pfs_link.new.store
     c.in_ok-put_pfs_link.ensures.keeps.elements c.in_ok-put_pfs_link.ensures.keeps.extents c.requires.balanced c.requires.unmade
     (λ was mid unmade puts. unmade_still at.pfs.0 c.args.number.0 c.args.id.0 (fulls was) mid (pfs_apart c.args.number at.pfs c.requires.apart)
     puts.steps.writes unmade)
@@ -55,12 +55,12 @@ returns-in-Master-clause-ok g c hash =
     let Other : Change = PutsMaster c.args.number.0 c.args.shared c.args.id.0 in
     on_ok_weaker c.add_master.result
     (λ second. writes_so g.T.HasElements.elements g.T.HasRoom.extents (Then One Other)
-    (PutsLinked hash place c.args.spot c.args.id.0 c.args.new c.args.number c.args.shared) (λ lists. IsUnmade c.args.number.0 c.args.id.0 (fulls lists))
+    (PutsLinked hash place c.args.spot c.args.id.0 c.args.new c.args.number c.args.shared) (λ lists. IsNotMadeBy c.args.number.0 c.args.id.0 (fulls lists))
     c.args.store.now c.add_master.new.store c.requires.unmade
     (λ was es' unmade steps. let (mid, first, then) = steps in record {
       between = mid;
       link = first;
-      system = subst (λ (n : NewSystem). PutsNew n c.args.number.0 c.args.shared c.args.id.0 mid es') (sym c.in-Master.is) then;
+      system = subst (λ (n : NewSystem). PutsNewSystem n c.args.number.0 c.args.shared c.args.id.0 mid es') (sym c.in-Master.is) then;
     })
     (writes_both g.T.HasElements.elements g.T.HasRoom.extents One Other c.args.store.now c.put_pfs_link.new.store c.add_master.new.store
     (c.in_ok-put_pfs_link.ensures.ok hash) second))
@@ -73,12 +73,12 @@ returns-in-Slave-clause-ok g c hash =
     let Other : Change = PutsSlave c.args.number.0 c.args.shared c.args.id.0 in
     on_ok_weaker c.add_slave.result
     (λ second. writes_so g.T.HasElements.elements g.T.HasRoom.extents (Then One Other)
-    (PutsLinked hash place c.args.spot c.args.id.0 c.args.new c.args.number c.args.shared) (λ lists. IsUnmade c.args.number.0 c.args.id.0 (fulls lists))
+    (PutsLinked hash place c.args.spot c.args.id.0 c.args.new c.args.number c.args.shared) (λ lists. IsNotMadeBy c.args.number.0 c.args.id.0 (fulls lists))
     c.args.store.now c.add_slave.new.store c.requires.unmade
     (λ was es' unmade steps. let (mid, first, then) = steps in record {
       between = mid;
       link = first;
-      system = subst (λ (n : NewSystem). PutsNew n c.args.number.0 c.args.shared c.args.id.0 mid es') (sym c.in-Slave.is) then;
+      system = subst (λ (n : NewSystem). PutsNewSystem n c.args.number.0 c.args.shared c.args.id.0 mid es') (sym c.in-Slave.is) then;
     })
     (writes_both g.T.HasElements.elements g.T.HasRoom.extents One Other c.args.store.now c.put_pfs_link.new.store c.add_slave.new.store
     (c.in_ok-put_pfs_link.ensures.ok hash) second))

@@ -7,7 +7,7 @@ use Rattle.hm_files.specs.Close.{AreOlder as AreBytesOlder}
 use Rattle.hm_objects.specs.Objects.{IsOlder}
 use Rattle.hm_dirs.specs.Names.{AreOlder, TakesName}
 use Rattle.hm_calls.specs.Known.{AreBelow}
-use Rattle.hm_calls.specs.Writes.{DropsLink, PutsName, Replaces, place_of_name}
+use Rattle.hm_calls.specs.Writes.{DropsLink, PutsName, ReplacesName, place_of_name}
 use Rattle.hm_calls.proofs.CauseLemmas.{reading_cause_after}
 use Rattle.hm_calls.proofs.DropLemmas.{bytes_older_still}
 use Rattle.hm_calls.proofs.FileLemmas.{bytes_older}
@@ -142,7 +142,7 @@ returns-clause-ok g c =
     let Four : Change = PutsName new (record { key = there.key; hidden = false }) i c.args.moved.obj c.args.moved.kind in
     on_ok_weaker c.put_name.result
     (λ put. writes_so g.T.HasElements.elements g.T.HasRoom.extents (Then (Then (Then One Two) Three) Four)
-    (Replaces hash old new there.key i c.args.moved.obj c.args.moved.kind there.obj there.links) (λ lists. AreBelow new.pfs i (fulls lists)) c.args.store.now
+    (ReplacesName hash old new there.key i c.args.moved.obj c.args.moved.kind there.obj there.links) (λ lists. AreBelow new.pfs i (fulls lists)) c.args.store.now
     c.put_name.new.store c.requires.below
     (λ was es' below steps.
     let (three, (two, (one, first, second), third), last) = steps in
