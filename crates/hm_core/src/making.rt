@@ -2,14 +2,12 @@
 ghost use Rattle.std.specs.Prelude.{◌≡◌, IfErr, OnOk};
 ghost use Rattle.hm_types.specs.Told.{BothTell};
 ghost use Rattle.hm_header.specs.Range.{IsSize};
-ghost use Rattle.hm_types.specs.declared.fault.Fault.TheVariants.{Media};
-ghost use Rattle.hm_recover.specs.declared.fault.OpenFault.TheVariants.{Fault as of_disk};
 ghost use Rattle.hm_core.specs.Opened.{HasOpenCause, IsMade, IsNotMade};
 
-use hm_disk::Disk;
+use hm_disk::{Disk, disk_fault};
 use hm_newfs::write_volume;
 use hm_recover::OpenFault;
-use hm_types::{BIGBLOCK_BYTES, Failed, Fault};
+use hm_types::{BIGBLOCK_BYTES, Failed};
 
 // Where the number of big-blocks stands in a header slot, in bytes.
 const BIGBLOCKS_PLACE: u32 = 12;
@@ -31,18 +29,8 @@ pub fn newfs<D: Disk>(disk: &mut D, bigblocks: u32) -> Result<(), OpenFault>
         }),
         Ok(_) => match write_volume(disk, bigblocks) {
             Ok(()) => Ok(()),
-            Err(Failed) => Err(disk_fault(disk, before)),
+            Err(Failed) => Err(OpenFault::Fault(disk_fault(disk, before))),
         },
-        Err(Failed) => Err(disk_fault(disk, before)),
+        Err(Failed) => Err(OpenFault::Fault(disk_fault(disk, before))),
     }
-}
-
-/// The fault of a disk that failed, whose faults were counted so many before.
-fn disk_fault<D: Disk>(disk: &D, before: u64) -> OpenFault
-    ensures { result ≡ of_disk (Media before (D.faults disk.now)) }
-{
-    OpenFault::Fault(Fault::Media {
-        before,
-        after: disk.faults(),
-    })
 }

@@ -2,11 +2,13 @@
 #![tactic(auto)]
 
 mod disk;
+mod fault;
 mod laws;
 mod limits;
 mod transfer;
 
 pub use disk::Disk;
+pub use fault::disk_fault;
 pub use laws::{
     Property, a_byte_is_outside_where_the_test_says_so, a_property_holds_now,
     a_property_holds_over_a_read, a_property_holds_over_a_sync, a_property_holds_over_a_write,

@@ -18,7 +18,7 @@ ghost use Rattle.hm_flush.specs.Stages.{DueStageMade, asks, range_of};
 use crate::flush::{Flush, Position};
 use crate::group::count_live;
 use crate::stage::Stage;
-use hm_disk::Disk;
+use hm_disk::{Disk, disk_fault};
 use hm_header::Header;
 use hm_pages::{PageStore, store_is_sound};
 use hm_types::{Failed, Fault, Id};
@@ -175,10 +175,7 @@ impl Flusher {
             }
             Err(Failed) => {
                 self.flush = flush.tried();
-                Err(Fault::Media {
-                    before,
-                    after: disk.faults(),
-                })
+                Err(disk_fault(disk, before))
             }
         }
     }

@@ -6,7 +6,7 @@ ghost use Rattle.hm_types.specs.declared.limits.TheConstants.{MOST_BIGBLOCKS, PA
 ghost use Rattle.hm_disk.specs.declared.limits.TheConstants.{MOST_CALL_BYTES};
 ghost use Rattle.hm_load.specs.Reading.{HasDiskCause, HasSpace, volume_bytes};
 
-use hm_disk::{Disk, MOST_CALL_BYTES};
+use hm_disk::{Disk, MOST_CALL_BYTES, disk_fault};
 use hm_fields::Page;
 use hm_types::{BIGBLOCK_BYTES, Failed, Fault, HOff, PAGE_BYTES};
 use std::alloc::Global;
@@ -83,9 +83,6 @@ fn read_at<D: Disk>(disk: &mut D, place: u64, buf: &mut [u8]) -> Result<(), Faul
     let before = disk.faults();
     match disk.read_at(place, buf) {
         Ok(()) => Ok(()),
-        Err(Failed) => Err(Fault::Media {
-            before,
-            after: disk.faults(),
-        }),
+        Err(Failed) => Err(disk_fault(disk, before)),
     }
 }

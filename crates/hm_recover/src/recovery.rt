@@ -12,9 +12,9 @@ use crate::fault::OpenFault;
 use crate::opened::Opened;
 use crate::range::{check_range, put_back};
 use crate::stop::Stop;
-use hm_disk::Disk;
+use hm_disk::{Disk, disk_fault};
 use hm_header::{Header, HeaderFault, change_header};
-use hm_types::{Failed, Fault};
+use hm_types::Failed;
 
 /// Recovers a disk after a crash, and tells the header that counts then, which names no range of entries.
 /// Where the header that counted named none, nothing is written. Else the entries of its range are read and
@@ -39,10 +39,7 @@ pub fn recover<D: Disk>(disk: &mut D) -> Result<Opened, OpenFault>
     let before = disk.faults();
     match try_recover(disk) {
         Ok(opened) => Ok(opened),
-        Err(Stop::Failed) => Err(OpenFault::Fault(Fault::Media {
-            before,
-            after: disk.faults(),
-        })),
+        Err(Stop::Failed) => Err(OpenFault::Fault(disk_fault(disk, before))),
         Err(Stop::Refused(fault)) => Err(fault),
     }
 }

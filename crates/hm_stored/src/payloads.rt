@@ -16,7 +16,7 @@ ghost use Rattle.hm_stored.specs.Nodes.{spots};
 use crate::books::Books;
 use crate::extents::take;
 use crate::pages::VolumePages;
-use hm_disk::Disk;
+use hm_disk::{Disk, disk_fault};
 use hm_types::{Fault, HOff};
 
 /// Takes an extent for bytes, and writes them there.
@@ -53,10 +53,7 @@ pub(crate) fn put<D: Disk>(
         Ok(()) => Ok(at),
         Err(_) => {
             books.whole = false;
-            Err(Fault::Media {
-                before,
-                after: disk.faults(),
-            })
+            Err(disk_fault(disk, before))
         }
     }
 }
@@ -75,9 +72,6 @@ pub(crate) fn read<D: Disk>(disk: &mut D, place: u64, buf: &mut [u8]) -> Result<
     let before = disk.faults();
     match disk.read_at(place, buf) {
         Ok(()) => Ok(()),
-        Err(_) => Err(Fault::Media {
-            before,
-            after: disk.faults(),
-        }),
+        Err(_) => Err(disk_fault(disk, before)),
     }
 }
