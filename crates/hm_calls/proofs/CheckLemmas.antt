@@ -24,7 +24,8 @@ use Rattle.hm_model.specs.View.{View}
 use Rattle.hm_model.specs.Volume.{PseudoFileSystem, Role, Volume, Master, Slave, system_of}
 use Rattle.hm_model.specs.declared.reply.Reply.TheVariants.{HashFull as hash_full, NotEmpty as not_empty, ReadOnly as read_only}
 use Rattle.hm_records.specs.KeysFit.{KeysFit}
-use Rattle.hm_records.specs.PfsRecord.{open_end, pfs_bytes}
+use Rattle.hm_records.specs.PfsRecord.{pfs_bytes}
+use Rattle.hm_types.specs.Intervals.{open_end}
 use Rattle.hm_records.specs.View.{HasEntry, IsTriple, IsViewOf}
 use Rattle.hm_records.specs.declared.entry.DirEntry.{DirEntry}
 use Rattle.hm_records.specs.declared.pfs_record.PfsRecord.{PfsRecord}

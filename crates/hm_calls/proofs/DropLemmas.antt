@@ -8,7 +8,7 @@ use Rattle.hm_key.specs.Balance.{IsBalanced}
 use Rattle.hm_key.specs.Counts.{Subject, bytes_subject, entry_subject, inode_subject, target_subject}
 use Rattle.hm_key.specs.declared.rec_type.TheConstants.{FILE_BYTES}
 use Rattle.hm_cursor.specs.Told.{Lists, fulls}
-use Rattle.hm_cursor.specs.Views.{WritesIn}
+use Rattle.hm_cursor.specs.Views.{IsNothing, WritesIn}
 use Rattle.hm_cursor.specs.Write.{Writes}
 use Rattle.hm_cursor.proofs.CallLemmas.{Change, told_by}
 use Rattle.hm_cursor.proofs.FollowLemmas.{follow_twice}
@@ -17,7 +17,7 @@ use Rattle.hm_key.specs.Extents.{Extent}
 use Rattle.hm_key.specs.declared.element.Element.{Element}
 use Rattle.hm_objects.specs.Objects.{ChangesBy, IsGone, IsOfObject}
 use Rattle.hm_objects.proofs.NewLemmas.{entries_twice, steady}
-use Rattle.hm_files.specs.Close.{AreOlder, IsApart, IsNothing, RemovesBytes}
+use Rattle.hm_files.specs.Close.{AreOlder, IsApart, RemovesBytes}
 use Rattle.hm_calls.specs.Writes.{DropsObject}
 
 -- ---- two facts of one call

@@ -11,7 +11,7 @@ use Rattle.hm_key.specs.Counts.{Counts, IsSeen, Subject, bytes_subject, entry_su
 use Rattle.hm_key.specs.Element.{pfs_of}
 use Rattle.hm_key.specs.Versions.{HaveOwnKeys}
 use Rattle.hm_cursor.specs.Write.{AreUpTo}
-use Rattle.hm_cursor.specs.Views.{CameAs, Shows}
+use Rattle.hm_cursor.specs.Views.{CameAs, IsMissing, Shows}
 use Rattle.hm_cursor.proofs.ViewsLemmas.{nothing_written}
 use Rattle.hm_model.specs.Answer.{is_master}
 use Rattle.hm_model.specs.Call.{Call, own_id}
@@ -33,7 +33,6 @@ use Rattle.hm_records.proofs.LookupLemmas.{none_lacks}
 use Rattle.hm_records.proofs.ViewLemmas.{view_kept}
 use Rattle.hm_volume.specs.Shown.{ShowsAs}
 use Rattle.hm_volume.proofs.MadeLemmas.{found}
-use Rattle.hm_objects.specs.Objects.{IsMissing}
 use Rattle.hm_dirs.specs.Names.{CanTakeAt, IsHidden, IsSpot, first_key, numbers}
 use Rattle.hm_dirs.specs.declared.spot.Spot.{Spot}
 use Rattle.hm_calls.specs.Call.{IsCall}

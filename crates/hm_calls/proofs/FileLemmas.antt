@@ -17,7 +17,8 @@ use Rattle.hm_key.specs.Counts.{Content, Counts, Subject, bytes_subject, entry_s
 use Rattle.hm_key.specs.Element.{pfs_of}
 use Rattle.hm_key.specs.Versions.{HaveOwnKeys}
 use Rattle.hm_model.specs.Answer.{file_bytes}
-use Rattle.hm_model.specs.Bytes.{resized, written}
+use Rattle.hm_model.specs.Bytes.{written}
+use Rattle.hm_types.specs.Bytes.{resized}
 use Rattle.hm_model.specs.Change.{with_bytes}
 use Rattle.hm_records.specs.Changes.{AgreeButObject, HasInode, IsSettled}
 use Rattle.hm_records.specs.Entry.{entry_bytes}

@@ -7,7 +7,8 @@ use Rattle.hm_key.specs.Balance.{Balanced, content_of}
 use Rattle.hm_key.specs.Element.{pfs_of}
 use Rattle.hm_key.specs.Extents.{Extent}
 use Rattle.hm_key.specs.declared.element.Element.{Element}
-use Rattle.hm_records.specs.PfsRecord.{open_end, pfs_bytes}
+use Rattle.hm_records.specs.PfsRecord.{pfs_bytes}
+use Rattle.hm_types.specs.Intervals.{open_end}
 use Rattle.hm_cursor.specs.Told.{fulls}
 use Rattle.hm_cursor.specs.Views.{WritesIn}
 use Rattle.hm_cursor.specs.Write.{AreUpTo, Writes}

@@ -28,7 +28,7 @@ use Rattle.hm_records.specs.Payload.{KeyFits}
 use Rattle.hm_records.specs.View.{IsViewOf, kind_number}
 use Rattle.hm_records.specs.declared.inode.Inode.{Inode}
 use Rattle.hm_volume.specs.Shown.{ShowsAs}
-use Rattle.hm_objects.specs.Objects.{IsMissing}
+use Rattle.hm_cursor.specs.Views.{IsMissing}
 use Rattle.hm_dirs.specs.Names.{IsSpot, first_key, names_of_hash}
 use Rattle.hm_dirs.specs.Walk.{Scene, place_of, when_of}
 use Rattle.hm_dirs.specs.declared.position.Course.{Course}

@@ -16,11 +16,11 @@ use Rattle.hm_records.specs.Laws.{HasView, with_inode}
 use Rattle.hm_records.specs.View.{HasEntry, kind_number}
 use Rattle.hm_records.specs.declared.kind.TheConstants.{FILE}
 use Rattle.hm_records.proofs.NameLemmas.{Stands, same_obj, stands_or_not}
-use Rattle.hm_cursor.specs.Views.{Shows, WritesIn}
+use Rattle.hm_cursor.specs.Views.{IsNothing, Shows, WritesIn}
 use Rattle.hm_cursor.proofs.FollowLemmas.{follow_twice}
 use Rattle.hm_cursor.proofs.ViewsLemmas.{shows_twice}
 use Rattle.hm_objects.specs.Objects.{AddsObject, ChangesBy, IsGone, IsOfObject, KeepEntries}
-use Rattle.hm_dirs.specs.Names.{CanTakeAt, IsEntryAt, IsHidden, IsNothing, TakesName}
+use Rattle.hm_dirs.specs.Names.{CanTakeAt, IsEntryAt, IsHidden, TakesName}
 use Rattle.hm_dirs.specs.declared.spot.Spot.{Spot}
 use Rattle.hm_calls.specs.New.{kind_by, object_by}
 use Rattle.hm_calls.specs.declared.new.New.{New}

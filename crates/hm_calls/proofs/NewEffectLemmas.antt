@@ -24,10 +24,12 @@ use Rattle.hm_model.specs.Volume.{Volume}
 use Rattle.hm_model.specs.declared.command.Command.{Command}
 use Rattle.hm_model.proofs.GrowthLemmas.{same_or_not}
 use Rattle.hm_records.specs.Payload.{KeyFits}
-use Rattle.hm_records.specs.PfsRecord.{open_end, pfs_bytes}
+use Rattle.hm_records.specs.PfsRecord.{pfs_bytes}
+use Rattle.hm_types.specs.Intervals.{open_end}
 use Rattle.hm_records.specs.View.{IsViewOf, kind_number}
 use Rattle.hm_records.specs.declared.inode.Inode.{Inode}
-use Rattle.hm_objects.specs.Objects.{IsMissing, pfs_link_of}
+use Rattle.hm_objects.specs.Objects.{pfs_link_of}
+use Rattle.hm_cursor.specs.Views.{IsMissing}
 use Rattle.hm_dirs.specs.Names.{IsSpot, first_key}
 use Rattle.hm_dirs.specs.Walk.{Scene, place_of}
 use Rattle.hm_dirs.specs.declared.position.Course.{Course}

@@ -19,7 +19,7 @@ use Rattle.hm_model.specs.declared.reply.Reply.TheVariants.{PfsFull}
 use Rattle.hm_model.proofs.NewPfsLemmas.{none-new}
 use Rattle.hm_model.proofs.NumberLemmas.{is_used, least_unused-is, no_more_than, numbers_in, used_some}
 use Rattle.hm_records.specs.Changes.{CountsNothing}
-use Rattle.hm_records.specs.PfsRecord.{open_end}
+use Rattle.hm_types.specs.Intervals.{open_end}
 use Rattle.hm_records.proofs.CountsLemmas.{record_counts}
 use Rattle.hm_records.proofs.MemberLemmas.{has_head, has_tail}
 use Rattle.hm_volume.specs.Records.{AreOfSystems}

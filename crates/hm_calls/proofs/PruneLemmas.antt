@@ -48,7 +48,8 @@ use Rattle.hm_model.proofs.PlainCheckLemmas.{first_none, first_some}
 use Rattle.hm_records.proofs.CountsLemmas.{own_keys-sorted, settled}
 use Rattle.hm_records.proofs.PfsLemmas.{length-pfs, one_record}
 use Rattle.hm_records.specs.KeysFit.{KeysFit}
-use Rattle.hm_records.specs.PfsRecord.{IsPfsRecord, open_end, pfs_bytes}
+use Rattle.hm_records.specs.PfsRecord.{IsPfsRecord, pfs_bytes}
+use Rattle.hm_types.specs.Intervals.{open_end}
 use Rattle.hm_records.specs.View.{IsViewOf}
 use Rattle.hm_records.specs.declared.pfs_record.PfsRecord.{PfsRecord}
 use Rattle.hm_volume.specs.Records.{IsRecordFor, is_master as is_master_role}

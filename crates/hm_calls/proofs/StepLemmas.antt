@@ -11,11 +11,11 @@ use Rattle.hm_records.specs.Target.{IsTarget}
 use Rattle.hm_records.specs.declared.entry.DirEntry.{DirEntry}
 use Rattle.hm_records.proofs.NameLemmas.{entry_one}
 use Rattle.hm_cursor.specs.Told.{Lists}
-use Rattle.hm_cursor.specs.Views.{WritesIn}
+use Rattle.hm_cursor.specs.Views.{IsNothing, WritesIn}
 use Rattle.hm_cursor.specs.Write.{IsFreshFor}
 use Rattle.hm_cursor.proofs.ViewsLemmas.{IsSteady, writes_again, writes_wider}
 use Rattle.hm_objects.specs.Objects.{IsOfObject, IsOlder}
-use Rattle.hm_dirs.specs.Names.{AreOlder, IsEntryAt, IsNothing}
+use Rattle.hm_dirs.specs.Names.{AreOlder, IsEntryAt}
 use Rattle.hm_calls.specs.Known.{AreBelow}
 use Rattle.hm_calls.specs.Writes.{AllCame, IsNewIn, NamesNothing, NamesObject}
 

@@ -34,7 +34,8 @@ use Rattle.hm_model.specs.declared.reply.Reply.{Reply}
 use Rattle.hm_model.specs.declared.reply.Reply.TheVariants.{NotFound, PfsIs, ReadOnly}
 use Rattle.hm_model.proofs.ReadLemmas.{read_once}
 use Rattle.hm_records.specs.KeysFit.{KeysFit}
-use Rattle.hm_records.specs.PfsRecord.{open_end, pfs_bytes}
+use Rattle.hm_records.specs.PfsRecord.{pfs_bytes}
+use Rattle.hm_types.specs.Intervals.{open_end}
 use Rattle.hm_records.specs.declared.pfs_record.PfsRecord.{PfsRecord}
 use Rattle.hm_records.proofs.CountsLemmas.{own_keys-sorted, record_counts}
 use Rattle.hm_volume.specs.Records.{IsRecordFor, is_master as is_master_role}

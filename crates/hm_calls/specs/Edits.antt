@@ -9,7 +9,8 @@ use Rattle.hm_types.specs.declared.space.TheConstants.{PAYLOAD_RESERVE, TREE_RES
 use Rattle.hm_types.specs.declared.zone.TheConstants.{LARGE_ZONE, META_ZONE, SMALL_ZONE, TREE_ZONE}
 use Rattle.hm_key.specs.Counts.{Counts}
 use Rattle.hm_model.specs.Answer.{file_bytes}
-use Rattle.hm_model.specs.Bytes.{resized, written}
+use Rattle.hm_model.specs.Bytes.{written}
+use Rattle.hm_types.specs.Bytes.{resized}
 use Rattle.hm_model.specs.Change.{with_bytes}
 use Rattle.hm_model.specs.Forms.{Between}
 use Rattle.hm_model.specs.Needs.{bytes_zones}

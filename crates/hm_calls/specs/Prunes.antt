@@ -17,7 +17,8 @@ use Rattle.hm_model.specs.declared.reply.Reply.{Reply}
 use Rattle.hm_model.specs.declared.reply.Reply.TheVariants.{Done}
 use Rattle.hm_retain.specs.Retention.{IsCut}
 use Rattle.hm_records.specs.Changes.{CountsNothing}
-use Rattle.hm_records.specs.PfsRecord.{IsPfsRecord, open_end, pfs_bytes}
+use Rattle.hm_records.specs.PfsRecord.{IsPfsRecord, pfs_bytes}
+use Rattle.hm_types.specs.Intervals.{open_end}
 use Rattle.hm_records.specs.declared.pfs_record.PfsRecord.{PfsRecord}
 use Rattle.hm_cursor.specs.Write.{Writes}
 use Rattle.hm_pfs.specs.Records.{SetsRecord}

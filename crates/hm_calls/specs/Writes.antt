@@ -14,7 +14,7 @@ use Rattle.hm_key.specs.Element.{pfs_of}
 use Rattle.hm_key.specs.Extents.{Extent}
 use Rattle.hm_key.specs.declared.element.Element.{Element}
 use Rattle.hm_key.specs.declared.rec_type.TheConstants.{DIRECTORY_ENTRY}
-use Rattle.hm_cursor.specs.Views.{CameAs, Shows, WritesIn}
+use Rattle.hm_cursor.specs.Views.{CameAs, IsMissing, Shows, WritesIn}
 use Rattle.hm_records.specs.Changes.{CountsNothing, LacksName}
 use Rattle.hm_records.specs.Entry.{IsEntry, entry_bytes}
 use Rattle.hm_records.specs.Follows.{StillFollow}
@@ -23,7 +23,7 @@ use Rattle.hm_records.specs.Payload.{IsPayload, KeyFits}
 use Rattle.hm_records.specs.View.{HasEntry, kind_number}
 use Rattle.hm_records.specs.declared.entry.DirEntry.{DirEntry}
 use Rattle.hm_records.specs.declared.kind.TheConstants.{FILE}
-use Rattle.hm_objects.specs.Objects.{ChangesBy, IsGone, IsMissing}
+use Rattle.hm_objects.specs.Objects.{ChangesBy, IsGone}
 use Rattle.hm_dirs.specs.Names.{AddsName, AreOlderIn, CanTake}
 use Rattle.hm_dirs.specs.declared.position.Stand.{Stand}
 use Rattle.hm_dirs.specs.declared.spot.Spot.{Spot}

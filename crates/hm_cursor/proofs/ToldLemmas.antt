@@ -7,7 +7,8 @@ use Rattle.hm_key.specs.Counts.{Counts, IsSeen, Subject, inode_subject, record_s
 use Rattle.hm_key.specs.Extents.{Extent}
 use Rattle.hm_key.specs.declared.element.Element.{Element}
 use Rattle.hm_records.specs.Changes.{CountsNothing}
-use Rattle.hm_records.specs.PfsRecord.{IsPfsRecord, open_end, pfs_bytes}
+use Rattle.hm_records.specs.PfsRecord.{IsPfsRecord, pfs_bytes}
+use Rattle.hm_types.specs.Intervals.{open_end}
 use Rattle.hm_records.specs.declared.pfs_record.PfsRecord.{PfsRecord}
 use Rattle.hm_records.proofs.MemberLemmas.{has_map, map_has}
 use Rattle.hm_cursor.specs.Read.{IsReadInto}

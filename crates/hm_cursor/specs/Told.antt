@@ -13,7 +13,8 @@ use Rattle.hm_key.specs.Extents.{Extent}
 use Rattle.hm_key.specs.declared.element.Element.{Element}
 use Rattle.hm_records.specs.Changes.{CountsNothing, HasInode}
 use Rattle.hm_records.specs.Payload.{IsPayload}
-use Rattle.hm_records.specs.PfsRecord.{IsPfsRecord, open_end, pfs_bytes}
+use Rattle.hm_records.specs.PfsRecord.{IsPfsRecord, pfs_bytes}
+use Rattle.hm_types.specs.Intervals.{open_end}
 use Rattle.hm_records.specs.declared.inode.Inode.{Inode}
 use Rattle.hm_records.specs.declared.pfs_record.PfsRecord.{PfsRecord}
 use Rattle.hm_cursor.specs.Read.{IsTooLong}

@@ -3,11 +3,19 @@ use Rattle.std.specs.Prelude.{◌≡◌, ◌≢◌, ◌↔◌, ◌⊎◌, ℕ, �
 use Rattle.std.specs.List.{Contains}
 use Rattle.hm_types.specs.Elements.{FullElement}
 use Rattle.hm_types.specs.Tree.{FileTree}
-use Rattle.hm_key.specs.Counts.{Counts, IsRecordOf, Subject, record_subject, subject_of}
+use Rattle.hm_key.specs.Counts.{Counts, IsRecordOf, Subject, inode_subject, record_subject, subject_of}
 use Rattle.hm_key.specs.Element.{pfs_of}
-use Rattle.hm_records.specs.Changes.{CountSame}
+use Rattle.hm_records.specs.Changes.{CountSame, CountsNothing}
 use Rattle.hm_records.specs.Laws.{HasView}
 use Rattle.hm_cursor.specs.Write.{AreUpTo, IsFreshFor}
+
+-- no element is new
+abbrev pub IsNothing : FullElement → Type 0
+IsNothing x = ⊥
+
+-- an object has no inode from `i` on
+abbrev pub IsMissing : ℕ → ℕ → ℕ → List FullElement → Type 0
+IsMissing pfs obj i es = (t : ℕ) → i ≤ t → CountsNothing (Counts es t) (inode_subject pfs obj)
 
 -- an element of a changed list: one that was there, perhaps closed since, or a new one
 abbrev pub CameAs : (FullElement → Type 0) → List FullElement → FullElement → Type 0

@@ -26,13 +26,13 @@ use Rattle.hm_records.proofs.SubjectLemmas.{same_subject}
 use Rattle.hm_cursor.specs.Told.{IsPayloadDamage, Lists, fulls}
 use Rattle.hm_cursor.specs.Names.{IsNoEntry, IsObjectNamed, LacksNameIn}
 use Rattle.hm_cursor.specs.Version.{IsFirst}
-use Rattle.hm_cursor.specs.Views.{WritesIn}
+use Rattle.hm_cursor.specs.Views.{IsNothing, WritesIn}
 use Rattle.hm_cursor.specs.Write.{IsFreshFor, KeepPlaces, Rewrites}
 use Rattle.hm_cursor.proofs.EntryLemmas.{about_entry, first_counts}
 use Rattle.hm_cursor.proofs.FollowLemmas.{closing_follows, follow_twice}
 use Rattle.hm_cursor.proofs.NameLemmas.{lacks_before, lacks_more, none_lacks, settled_content}
 use Rattle.hm_cursor.proofs.ViewsLemmas.{fresh_beside, fresh_later, keys_fit_still, nothing_written, writes_again, writes_within}
-use Rattle.hm_dirs.specs.Names.{AreOlder, IsNothing, TakesName, first_key}
+use Rattle.hm_dirs.specs.Names.{AreOlder, TakesName, first_key}
 use Rattle.hm_dirs.proofs.NamedLemmas.{lacks_all}
 use Rattle.hm_dirs.proofs.WriteLemmas.{counts_less, entry_before, entry_later, entry_within}
 

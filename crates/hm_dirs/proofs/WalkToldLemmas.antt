@@ -2,7 +2,7 @@
 use Rattle.std.proofs.Common.{◌≡◌, ℕ, ◌^◌, arith, Bool, true, false, List, [], ◌∷◌, ◌++◌, Option, Some, None, Result, Ok, Err, refl, sym, ap, subst, ◌∙◌, inl, inr, unwrap_or}
 use Rattle.std.specs.Prelude.{◌||◌, IfOk, IfSome, option_map}
 use Rattle.hm_types.specs.Elements.{FullElement}
-use Rattle.hm_types.specs.Intervals.{Keeps}
+use Rattle.hm_types.specs.Intervals.{Keeps, open_end}
 use Rattle.hm_types.specs.declared.fault.Fault.{Fault}
 use Rattle.hm_types.specs.declared.id.Id.{Id}
 use Rattle.hm_types.specs.declared.id.Obj.{Obj}
@@ -19,7 +19,7 @@ use Rattle.hm_model.specs.Walk.{Passed, Follow as Mode, Stays as stays, Follows 
 use Rattle.hm_model.specs.Walk.{find_object, follow_before, from_found, over_link, root_of, start, step, take_pfs, walk}
 use Rattle.hm_records.specs.Changes.{CountsNothing, HasInode, LacksName}
 use Rattle.hm_records.specs.KeysFit.{KeysFit}
-use Rattle.hm_records.specs.PfsRecord.{IsPfsRecord, open_end, pfs_bytes}
+use Rattle.hm_records.specs.PfsRecord.{IsPfsRecord, pfs_bytes}
 use Rattle.hm_records.proofs.CountsLemmas.{record_counts}
 use Rattle.hm_records.specs.View.{IsViewOf}
 use Rattle.hm_records.specs.declared.inode.Inode.{Inode}

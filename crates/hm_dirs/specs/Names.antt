@@ -18,7 +18,7 @@ use Rattle.hm_records.specs.View.{HasEntry}
 use Rattle.hm_records.specs.declared.entry.DirEntry.{DirEntry}
 use Rattle.hm_cursor.specs.Names.{IsFirstEntry}
 use Rattle.hm_cursor.specs.Told.{Lists, OnBalanced, fulls}
-use Rattle.hm_cursor.specs.Views.{Shows, WritesIn}
+use Rattle.hm_cursor.specs.Views.{IsNothing, Shows, WritesIn}
 use Rattle.hm_cursor.specs.Write.{IsFreshFor}
 use Rattle.hm_model.specs.Due.{same_hash}
 use Rattle.hm_dirs.specs.declared.spot.Spot.{Spot}
@@ -82,10 +82,6 @@ pub record IsEntryAt (pfs : ℕ) (directory : Obj) (key i : ℕ) (entry : DirEnt
   pub kind_is : x.obj_type ≡ kind
   pub entry_is : IsEntry entry
   pub bytes : x.bytes ≡ entry_bytes entry
-
--- nothing is new
-abbrev pub IsNothing : FullElement → Type 0
-IsNothing x = ⊥
 
 -- A name of an object of a kind is added by `i`, under a key that can take it as of `i`: where the directory has no entry of
 -- the name, the tree gets the name. An entry that was hidden there goes, which no tree shows. For all that is about another

@@ -19,7 +19,8 @@ use Rattle.hm_cursor.specs.Write.{IsFreshFor, KeepPlaces, Rewrites}
 use Rattle.hm_cursor.proofs.FollowLemmas.{closing_follows, follow_twice}
 use Rattle.hm_cursor.proofs.ToldLemmas.{newest_counted}
 use Rattle.hm_cursor.proofs.ViewsLemmas.{IsWithin, fresh_later, nothing_written, writes_again, writes_within}
-use Rattle.hm_files.specs.Close.{AreOlder, ClosesBytes, IsApart, IsNothing, RemovesBytes}
+use Rattle.hm_files.specs.Close.{AreOlder, ClosesBytes, IsApart, RemovesBytes}
+use Rattle.hm_cursor.specs.Views.{IsNothing}
 use Rattle.hm_files.proofs.PieceLemmas.{counted_in, span_about}
 
 -- bytes are of their pseudo file system, and no record

@@ -17,7 +17,8 @@ use Rattle.hm_cursor.proofs.FollowLemmas.{follow_twice}
 use Rattle.hm_cursor.proofs.ViewsLemmas.{fresh_later, writes_again}
 use Rattle.hm_files.specs.Bytes.{AreBytesFrom}
 use Rattle.hm_files.specs.Close.{AreOlder, ClosesBytes}
-use Rattle.hm_files.specs.Put.{CutsBytes, IsBytesOf, KeepOthers, PutsBlock, ResizesBytes, resized}
+use Rattle.hm_files.specs.Put.{CutsBytes, IsBytesOf, KeepOthers, PutsBlock, ResizesBytes}
+use Rattle.hm_types.specs.Bytes.{resized}
 use Rattle.hm_files.proofs.ByteLemmas.{byte_one}
 use Rattle.hm_files.proofs.PutLemmas.{byte_alike, byte_earlier, byte_put, closes_writes, steady}
 

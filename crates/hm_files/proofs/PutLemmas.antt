@@ -16,10 +16,10 @@ use Rattle.hm_records.specs.declared.kind.TheConstants.{FILE}
 use Rattle.hm_records.specs.Follows.{StillFollow}
 use Rattle.hm_records.specs.Payload.{IsPayload}
 use Rattle.hm_records.specs.View.{IsFileByte, IsFirstAfter, covered, hole, past}
-use Rattle.hm_cursor.specs.Views.{WritesIn}
+use Rattle.hm_cursor.specs.Views.{IsNothing, WritesIn}
 use Rattle.hm_cursor.specs.Write.{IsNew, Rewrites}
 use Rattle.hm_cursor.proofs.ViewsLemmas.{IsSteady, fresh_beside, writes_again, writes_wider, writes_within}
-use Rattle.hm_files.specs.Close.{ClosesBytes, IsApart, IsNothing}
+use Rattle.hm_files.specs.Close.{ClosesBytes, IsApart}
 use Rattle.hm_files.specs.Put.{IsBytesOf, PutsBlock, zone_of}
 use Rattle.hm_files.proofs.CloseLemmas.{bytes_within, ends_apart}
 

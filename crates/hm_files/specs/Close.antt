@@ -2,13 +2,13 @@
 use Rattle.std.specs.Prelude.{◌≢◌, ◌↔◌, ℕ, ◌<◌, ◌≤◌, List, Option, IfSome}
 use Rattle.hm_types.specs.Elements.{FullElement}
 use Rattle.hm_key.specs.Balance.{content_of}
-use Rattle.hm_key.specs.Counts.{Counts, Subject, bytes_subject, inode_subject}
+use Rattle.hm_key.specs.Counts.{Counts, Subject, bytes_subject}
 use Rattle.hm_key.specs.Extents.{Extent}
 use Rattle.hm_key.specs.declared.element.Element.{Element}
 use Rattle.hm_records.specs.Changes.{CountsNothing}
 use Rattle.hm_records.specs.Follows.{StillFollow}
 use Rattle.hm_cursor.specs.Told.{fulls}
-use Rattle.hm_cursor.specs.Views.{Shows, WritesIn}
+use Rattle.hm_cursor.specs.Views.{IsMissing, IsNothing, Shows, WritesIn}
 use Rattle.hm_cursor.specs.Write.{IsFreshFor}
 
 -- the bytes of a file that end from an offset on are older than `i`
@@ -18,10 +18,6 @@ AreOlder pfs obj i first es = (n : ℕ) → first ≤ n → IsFreshFor (bytes_su
 -- the same of a store, where it tells its content
 abbrev pub AreOlderIn : Option (List Element) → Option (List Extent) → ℕ → ℕ → ℕ → ℕ → Type 0
 AreOlderIn es xs pfs obj i first = IfSome (content_of es xs) (λ lists. AreOlder pfs obj i first (fulls lists))
-
--- no element is new
-abbrev pub IsNothing : FullElement → Type 0
-IsNothing x = ⊥
 
 -- a subject is none of the bytes of a file that end from one offset on and before another one
 abbrev pub IsApart : ℕ → ℕ → ℕ → ℕ → Subject → Type 0
@@ -34,10 +30,6 @@ pub record ClosesBytes (pfs obj i first end : ℕ) (es es' : List FullElement) :
   pub gone : (t n : ℕ) → i ≤ t → first ≤ n → n < end → CountsNothing (Counts es' t) (bytes_subject pfs obj n)
   pub beside : (t : ℕ) (s : Subject) (bytes : List ℕ) → IsApart pfs obj first end s → Counts es' t s bytes ↔ Counts es t s bytes
   pub follows : StillFollow es es'
-
--- an object has no inode from `i` on
-abbrev pub IsMissing : ℕ → ℕ → ℕ → List FullElement → Type 0
-IsMissing pfs obj i es = (t : ℕ) → i ≤ t → CountsNothing (Counts es t) (inode_subject pfs obj)
 
 -- The bytes of an object that has no inode any more are closed at `i`, and its tree stays.
 pub record RemovesBytes (pfs obj i end : ℕ) (es es' : List FullElement) : Type 0 where

@@ -1,5 +1,6 @@
 -- Bytes that are put into a file, or cut off it.
-use Rattle.std.specs.Prelude.{◌≡◌, ◌≢◌, ◌↔◌, ℕ, ◌+◌, ◌-◌, ◌*◌, ◌^◌, ◌<◌, ◌≤◌, List, ◌++◌, if◌then◌else◌, length, min, nat_lt, replicate, take}
+use Rattle.std.specs.Prelude.{◌≡◌, ◌≢◌, ◌↔◌, ℕ, ◌+◌, ◌-◌, ◌*◌, ◌^◌, ◌<◌, ◌≤◌, List, ◌++◌, if◌then◌else◌, length, min, nat_lt, take}
+use Rattle.hm_types.specs.Bytes.{resized}
 use Rattle.hm_types.specs.Elements.{FullElement}
 use Rattle.hm_types.specs.Space.{in_zone}
 use Rattle.hm_types.specs.declared.limits.TheConstants.{BLOCK_BYTES}
@@ -46,10 +47,6 @@ pub record CutsBytes (pfs obj i keep : ℕ) (es es' : List FullElement) : Type 0
   pub fresh : (n : ℕ) → n ≢ keep → IsFreshFor (bytes_subject pfs obj n) i es → IsFreshFor (bytes_subject pfs obj n) i es'
   pub others : KeepOthers pfs obj es es'
   pub follows : StillFollow es es'
-
--- the bytes of a file with another size: cut, or with zeros added
-abbrev pub resized : ℕ → List ℕ → List ℕ
-resized size bytes = take size (bytes ++ replicate (size - length bytes) 0)
 
 -- From `i` on a file of a size has another one, whatever bytes it had. From the lesser of both on all bytes are zero, so that
 -- what was cut off, or what the old size hid, does not show in a longer file either.

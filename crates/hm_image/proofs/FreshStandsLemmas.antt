@@ -4,12 +4,12 @@ use Rattle.std.specs.Prelude.{if◌then◌else◌}
 use Rattle.std.specs.List.{Contains}
 use Rattle.std.proofs.lemmas.Bool.{eqb-true}
 use Rattle.hm_types.specs.Elements.{FullElement, Key}
-use Rattle.hm_types.specs.Intervals.{Keeps}
+use Rattle.hm_types.specs.Intervals.{Keeps, open_end}
 use Rattle.hm_types.specs.Tree.{directory_of, root_number, root_tree}
 use Rattle.hm_types.specs.declared.object.Object.{Object}
 use Rattle.hm_header.specs.Range.{IsSize}
 use Rattle.hm_key.specs.Element.{pfs_of}
-use Rattle.hm_model.specs.Volume.{Nowhere, PseudoFileSystem, Slave, at, fresh, new_master, open_end, system_of}
+use Rattle.hm_model.specs.Volume.{Nowhere, PseudoFileSystem, Slave, at, fresh, new_master, system_of}
 use Rattle.hm_key.specs.Counts.{Subject, record_subject, subject_of}
 use Rattle.hm_key.specs.Versions.{HaveOwnKeys, IsBelow}
 use Rattle.hm_records.specs.Follows.{Follows, IsOf}

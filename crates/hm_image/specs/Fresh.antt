@@ -14,7 +14,7 @@ use Rattle.hm_key.specs.declared.base.Base.{Base}
 use Rattle.hm_key.specs.declared.base.TheConstants.{ELEMENT}
 use Rattle.hm_key.specs.declared.element.Element.{Element}
 use Rattle.hm_key.specs.declared.rec_type.TheConstants.{INODE, PFS_RECORD, INODE_PART, OTHER_PART}
-use Rattle.hm_model.specs.Volume.{open_end}
+use Rattle.hm_types.specs.Intervals.{open_end}
 use Rattle.hm_node.specs.Node.{Spells}
 use Rattle.hm_node.specs.declared.node.Node.{Node}
 use Rattle.hm_node.specs.declared.node.Node.TheVariants.{Leaf}

@@ -3,14 +3,14 @@ use Rattle.std.specs.Prelude.{◌≡◌, ℕ, ◌^◌, ◌<◌, ◌≤◌, true,
 use Rattle.std.specs.List.{All, Contains}
 use Rattle.hm_types.specs.Elements.{FullElement}
 use Rattle.hm_types.specs.Hash.{name_hash}
-use Rattle.hm_types.specs.Intervals.{Keeps}
+use Rattle.hm_types.specs.Intervals.{Keeps, open_end}
 use Rattle.hm_types.specs.Tree.{FileTree}
 use Rattle.hm_types.specs.declared.limits.TheConstants.{GREATEST_ID}
 use Rattle.hm_types.specs.declared.object.Object.{Object}
 use Rattle.hm_key.specs.Counts.{record_subject, subject_of}
 use Rattle.hm_key.specs.Element.{pfs_of}
 use Rattle.hm_key.specs.Versions.{HaveOwnKeys, IsBelow}
-use Rattle.hm_model.specs.Volume.{PseudoFileSystem, Volume, Master, Nowhere, Slave, at, open_end, shown_id, system_of}
+use Rattle.hm_model.specs.Volume.{PseudoFileSystem, Volume, Master, Nowhere, Slave, at, shown_id, system_of}
 use Rattle.hm_records.specs.Follows.{Follows}
 use Rattle.hm_records.specs.KeysFit.{KeysFit}
 use Rattle.hm_records.specs.Payload.{IsPayload}

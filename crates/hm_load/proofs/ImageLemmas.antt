@@ -19,7 +19,7 @@ use Rattle.hm_load.specs.Freemap.{IsLayer2Damage, layer2_pages}
 use Rattle.hm_load.specs.Held.{HasFirstPages, HasFreemap, HoldsImage, IsRead, IsReadBelow}
 use Rattle.hm_load.specs.Layer1.{IsLayer1Damage}
 use Rattle.hm_load.specs.Loaded.{IsPlain}
-use Rattle.hm_load.specs.Reading.{HasSpace}
+use Rattle.hm_newfs.specs.Steps.{HasSpace}
 use Rattle.hm_load.specs.Tree.{AddsTree}
 use Rattle.hm_load.proofs.RangeLemmas.{all_inside}
 use Rattle.hm_load.proofs.StoreLemmas.{tells_so}

@@ -3,12 +3,6 @@ use Rattle.std.specs.Prelude.{ℕ, ◌+◌, ◌-◌, List, ◌++◌, Result, IfE
 use Rattle.hm_types.specs.Faults.{HasFaultCause, IsUndamaged}
 use Rattle.hm_types.specs.Layout.{start_of}
 use Rattle.hm_types.specs.declared.fault.Fault.{Fault}
-use Rattle.hm_disk.specs.Crash.{Told}
-use Rattle.hm_header.specs.Range.{HasRoom}
-
--- a disk that tells this has room for so many big-blocks
-abbrev pub HasSpace : ℕ → Told → Type 0
-HasSpace bigblocks t = HasRoom (length t.bytes) bigblocks
 
 -- how many of so many bytes from one on are inside the volume
 abbrev pub inside : ℕ → ℕ → ℕ → ℕ

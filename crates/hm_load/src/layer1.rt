@@ -9,7 +9,7 @@ ghost use Rattle.hm_fields.specs.Fields.{get};
 ghost use Rattle.hm_image.specs.Sound.{HasLayer1};
 ghost use Rattle.hm_load.specs.Faults.{IsFirstBad, Tells};
 ghost use Rattle.hm_load.specs.Layer1.{HasOffset, HasZeros, IsInPiece, IsLayer1Damage, layer1_page};
-ghost use Rattle.hm_load.specs.Reading.{HasSpace};
+ghost use Rattle.hm_newfs.specs.Steps.{HasSpace};
 ghost use Rattle.hm_load.specs.declared.layer1.TheConstants.{ENTRIES_PER_PIECE};
 
 use crate::volume::Volume;

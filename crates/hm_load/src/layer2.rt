@@ -11,7 +11,7 @@ ghost use Rattle.hm_load.specs.Freemap.{HoldsEntries, HoldsEntryOf, HoldsLayer2,
 ghost use Rattle.hm_load.specs.Freemap.{IsLayer2Damage, IsPageDamage, IsPieceDamage, layer2_page, layer2_pages};
 ghost use Rattle.hm_load.specs.Held.{HasFirstPages};
 ghost use Rattle.hm_load.specs.Loaded.{IsPlain, LoadsPage, LoadsPages};
-ghost use Rattle.hm_load.specs.Reading.{HasSpace};
+ghost use Rattle.hm_newfs.specs.Steps.{HasSpace};
 
 use crate::put::put;
 use crate::volume::Volume;

@@ -8,7 +8,8 @@ ghost use Rattle.hm_node.specs.Leaf.{IsPlaced};
 ghost use Rattle.hm_records.specs.Payload.{SpellsInode, SpellsPfs};
 ghost use Rattle.hm_load.specs.Faults.{Tells};
 ghost use Rattle.hm_load.specs.Payload.{HasPayload, IsEntryAt, IsOfRead, IsPayloadDamage, IsPayloadOf};
-ghost use Rattle.hm_load.specs.Reading.{HasDiskCause, HasSpace};
+ghost use Rattle.hm_load.specs.Reading.{HasDiskCause};
+ghost use Rattle.hm_newfs.specs.Steps.{HasSpace};
 
 use crate::volume::Volume;
 use hm_disk::Disk;

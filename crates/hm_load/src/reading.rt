@@ -10,7 +10,7 @@ ghost use Rattle.hm_load.specs.Faults.{Tells};
 ghost use Rattle.hm_load.specs.Freemap.{HoldsLayer2, layer2_pages};
 ghost use Rattle.hm_load.specs.Held.{HasFreemap, HoldsImage};
 ghost use Rattle.hm_load.specs.Loaded.{IsLoaded, IsPlain};
-ghost use Rattle.hm_load.specs.Reading.{HasSpace};
+ghost use Rattle.hm_newfs.specs.Steps.{HasSpace};
 
 use crate::layer1::check_layer1;
 use crate::layer2::load_layer2;

@@ -8,7 +8,7 @@ ghost use Rattle.hm_load.specs.Damage.{IsNodeDamage, IsTreeDamage};
 ghost use Rattle.hm_load.specs.Faults.{Tells};
 ghost use Rattle.hm_load.specs.Held.{AreRead, IsApart, IsReadBelow};
 ghost use Rattle.hm_load.specs.Loaded.{IsPlain};
-ghost use Rattle.hm_load.specs.Reading.{HasSpace};
+ghost use Rattle.hm_newfs.specs.Steps.{HasSpace};
 ghost use Rattle.hm_load.specs.Tree.{AddsNode, AddsTree};
 
 use crate::payload::check_payloads;

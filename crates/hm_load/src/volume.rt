@@ -4,7 +4,8 @@ ghost use Rattle.hm_types.specs.Layout.{start_of};
 ghost use Rattle.hm_types.specs.Offset.{byte_of};
 ghost use Rattle.hm_types.specs.declared.limits.TheConstants.{MOST_BIGBLOCKS, PAGE_BYTES};
 ghost use Rattle.hm_disk.specs.declared.limits.TheConstants.{MOST_CALL_BYTES};
-ghost use Rattle.hm_load.specs.Reading.{HasDiskCause, HasSpace, volume_bytes};
+ghost use Rattle.hm_load.specs.Reading.{HasDiskCause, volume_bytes};
+ghost use Rattle.hm_newfs.specs.Steps.{HasSpace};
 
 use hm_disk::{Disk, MOST_CALL_BYTES, disk_fault};
 use hm_fields::Page;

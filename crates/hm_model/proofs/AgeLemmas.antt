@@ -2,7 +2,7 @@
 use Rattle.std.proofs.Common.{◌≡◌, ℕ, ◌≤◌, ◌^◌, true, false, List, [], ◌∷◌, ◌++◌, refl, ap, inl, inr, arith}
 use Rattle.std.specs.Prelude.{◌⊎◌, Bool, Option, Some, None, if◌then◌else◌}
 use Rattle.std.specs.Option.{option_map_or}
-use Rattle.hm_types.specs.Intervals.{Keeps}
+use Rattle.hm_types.specs.Intervals.{Keeps, open_end}
 use Rattle.hm_model.specs.After.{State, accepted_effect, fed_from, next_stream, of_pfs, on_volume, origin_of, present_only, retaining, stream_origin, with_origin}
 use Rattle.hm_model.specs.Call.{Call, first_site, own_id, second_site}
 use Rattle.hm_model.specs.Change.{change, changed, changed_pfs, new_slave}
@@ -10,7 +10,7 @@ use Rattle.hm_model.specs.Cut.{cut, greatest, pruned, single, within}
 use Rattle.hm_model.specs.Due.{is_tree_call, kept_ids, new_pfs}
 use Rattle.hm_types.specs.Tree.{FileTree, no_tree, root_tree}
 use Rattle.hm_model.specs.View.{Now}
-use Rattle.hm_model.specs.Volume.{Origin, Nowhere, Local, PseudoFileSystem, Volume, add_version, as_of, new_master, open_end, system_of}
+use Rattle.hm_model.specs.Volume.{Origin, Nowhere, Local, PseudoFileSystem, Volume, add_version, as_of, new_master, system_of}
 use Rattle.hm_model.proofs.ChangeLemmas.{new_cases, versioned}
 use Rattle.hm_model.proofs.EffectLemmas.{accepted_cases, by_role}
 use Rattle.hm_model.proofs.GrowthLemmas.{KeepsNumber, as_of-grown, changed_in, found-changed, found-other, found-pushed, found_in, same_or_not}

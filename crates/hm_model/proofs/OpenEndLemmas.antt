@@ -6,7 +6,7 @@ use Rattle.std.specs.Prelude.{Bool, Option, Some, None, if◌then◌else◌}
 use Rattle.std.specs.Bool.{nat_le}
 use Rattle.std.specs.Option.{option_map_or}
 use Rattle.hm_types.specs.declared.text.Text.{Text}
-use Rattle.hm_types.specs.Intervals.{Keeps}
+use Rattle.hm_types.specs.Intervals.{Keeps, open_end}
 use Rattle.hm_retain.specs.Intervals.{RiseFrom}
 use Rattle.hm_model.specs.declared.command.Command.TheVariants.{PfsMaster}
 use Rattle.hm_model.specs.After.{Event, State, accepted_effect, after_event, call_of, effect, fed_from, next_stream, no_hash, of_pfs, on_volume, opening_state, origin_of, present_only, retaining, stream_origin, with_origin}
@@ -19,7 +19,7 @@ use Rattle.hm_model.specs.Laws.{IsMasterFrom, IsOpenEnded, IsSteadyMaster, IsUnf
 use Rattle.hm_model.specs.Legal.{IsLegal, MayFollow, Setting, state_after}
 use Rattle.hm_types.specs.Tree.{FileTree, root_tree}
 use Rattle.hm_model.specs.View.{Now}
-use Rattle.hm_model.specs.Volume.{Local, Master, PseudoFileSystem, Role, Slave, Volume, add_version, new_master, open_end, system_of}
+use Rattle.hm_model.specs.Volume.{Local, Master, PseudoFileSystem, Role, Slave, Volume, add_version, new_master, system_of}
 use Rattle.hm_model.proofs.ChangeLemmas.{new_cases, versioned}
 use Rattle.hm_model.proofs.EffectLemmas.{accepted_cases, by_role, effect_cases, ended_system}
 use Rattle.hm_model.proofs.EventLemmas.{after_events-push}

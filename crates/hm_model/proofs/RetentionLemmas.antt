@@ -5,7 +5,7 @@ use Rattle.hm_retain.specs.Intervals.{IsIntervals, KeepsExactly}
 use Rattle.hm_retain.specs.Retention.{IsCut, IsJoin}
 use Rattle.hm_retain.proofs.SameLemmas.{same_list}
 use Rattle.hm_model.specs.Cut.{cut, join, single, within}
-use Rattle.hm_model.specs.Volume.{open_end}
+use Rattle.hm_types.specs.Intervals.{open_end}
 use Rattle.hm_model.proofs.IntervalLemmas.{Keeps-append, Keeps-maximal, Keeps-single, Keeps-within, RiseFrom-maximal, among_listed, both_intervals, each_interval, listed_among, single_intervals, within_intervals}
 
 -- one list alone of maximal intervals stands for a set

@@ -26,7 +26,8 @@ use Rattle.hm_model.specs.Reply.{is_refusal}
 use Rattle.hm_model.specs.Sites.{Site, uses_of}
 use Rattle.hm_types.specs.Tree.{FileTree, root_tree}
 use Rattle.hm_model.specs.View.{Now}
-use Rattle.hm_model.specs.Volume.{Local, PseudoFileSystem, Volume, add_version, new_master, open_end, system_of}
+use Rattle.hm_model.specs.Volume.{Local, PseudoFileSystem, Volume, add_version, new_master, system_of}
+use Rattle.hm_types.specs.Intervals.{open_end}
 use Rattle.hm_model.specs.Walk.{holds}
 use Rattle.hm_model.proofs.ChangeLemmas.{new_cases, versioned}
 use Rattle.hm_model.proofs.EffectLemmas.{by_role}

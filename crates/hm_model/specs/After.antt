@@ -11,7 +11,8 @@ use Rattle.hm_model.specs.declared.reply.Reply.TheVariants.{Passed, Finished, Sh
 use Rattle.hm_model.specs.Command.{named_opening}
 use Rattle.hm_model.specs.Reply.{is_refusal, passed_ids}
 use Rattle.hm_types.specs.Tree.{FileTree, no_tree}
-use Rattle.hm_model.specs.Volume.{Volume, PseudoFileSystem, Role, Master, Slave, Origin, Nowhere, Local, Foreign, Mixed, at, open_end, system_of}
+use Rattle.hm_model.specs.Volume.{Volume, PseudoFileSystem, Role, Master, Slave, Origin, Nowhere, Local, Foreign, Mixed, at, system_of}
+use Rattle.hm_types.specs.Intervals.{open_end}
 use Rattle.hm_model.specs.View.{Substitute, view_of}
 use Rattle.hm_model.specs.Sites.{Parsed}
 use Rattle.hm_model.specs.Cut.{cut, join, pruned}

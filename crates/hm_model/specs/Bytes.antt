@@ -1,13 +1,6 @@
 -- The bytes of a file. Bytes that were never written are zero.
-use Rattle.std.specs.Prelude.{ℕ, ◌+◌, ◌-◌, List, ◌++◌, length, take, drop, replicate}
-
--- the bytes with zeros added, up to this size where they are shorter
-abbrev pub extended : ℕ → List ℕ → List ℕ
-extended size bytes = bytes ++ replicate (size - length bytes) 0
-
--- the bytes with this size: cut, or with zeros added
-abbrev pub resized : ℕ → List ℕ → List ℕ
-resized size bytes = take size (extended size bytes)
+use Rattle.std.specs.Prelude.{ℕ, ◌+◌, List, ◌++◌, length, take, drop}
+use Rattle.hm_types.specs.Bytes.{extended}
 
 -- the bytes with these from the offset on, and zeros where the offset lies past their end
 abbrev pub written : ℕ → List ℕ → List ℕ → List ℕ

@@ -10,7 +10,8 @@ use Rattle.hm_types.specs.declared.object.Kind.{Kind}
 use Rattle.hm_types.specs.declared.object.Kind.TheVariants.{Directory, File, Softlink, PfsLink}
 use Rattle.hm_types.specs.declared.object.Content.{Content}
 use Rattle.hm_types.specs.declared.object.Content.TheVariants.{Nothing, File as FileBytes, Target, Linked}
-use Rattle.hm_model.specs.Bytes.{resized, written}
+use Rattle.hm_model.specs.Bytes.{written}
+use Rattle.hm_types.specs.Bytes.{resized}
 use Rattle.hm_types.specs.Tree.{FileTree, root_tree, with_object, with_name, without_name, without_object, without_entry, with_change, with_links, holding}
 use Rattle.hm_model.specs.Volume.{Volume, PseudoFileSystem, Role, Master, Slave, Origin, Nowhere, new_master, with_version}
 use Rattle.hm_model.specs.Sites.{Site}

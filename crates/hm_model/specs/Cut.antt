@@ -11,7 +11,7 @@ use Rattle.hm_types.specs.declared.object.Object.{Object}
 use Rattle.hm_types.specs.declared.object.Triple.{Triple}
 use Rattle.hm_types.specs.declared.id.Obj.{Obj}
 use Rattle.hm_types.specs.Tree.{FileTree, entries_in, object_in}
-use Rattle.hm_model.specs.Volume.{open_end}
+use Rattle.hm_types.specs.Intervals.{open_end}
 use Rattle.hm_model.specs.Walk.{holds}
 
 -- with one more interval, made one with those that it meets or touches

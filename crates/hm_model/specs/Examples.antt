@@ -6,7 +6,8 @@ use Rattle.hm_model.specs.declared.command.Command.TheVariants.{Touch, Mkdir, Wr
 use Rattle.hm_model.specs.declared.reply.Reply.{Reply}
 use Rattle.hm_model.specs.declared.reply.Reply.TheVariants.{Done, Content, Listing, Target, Finished, Passed, Cut, MadePfs, PfsIs, Busy, EndPruned, NoSnapshots, NotRetained, ReadOnly}
 use Rattle.hm_model.specs.Sites.{Parts}
-use Rattle.hm_model.specs.Volume.{fresh, open_end}
+use Rattle.hm_model.specs.Volume.{fresh}
+use Rattle.hm_types.specs.Intervals.{open_end}
 use Rattle.hm_model.specs.Foreign.{Feed, ForeignMaster, StreamEnd, no_foreigners}
 use Rattle.hm_model.specs.After.{Event}
 use Rattle.hm_model.specs.Legal.{Setting, no_counts, pool_of}

@@ -5,7 +5,7 @@ use Rattle.std.specs.List.{AllByRecursion, list_any}
 use Rattle.std.specs.Option.{option_map_or}
 use Rattle.hm_types.specs.declared.id.Id.{Id}
 use Rattle.hm_types.specs.declared.text.Text.{Text}
-use Rattle.hm_types.specs.Intervals.{Keeps}
+use Rattle.hm_types.specs.Intervals.{Keeps, open_end}
 use Rattle.hm_retain.specs.Intervals.{IsIntervals}
 use Rattle.hm_types.specs.declared.limits.TheConstants.{MOST_INTERVALS}
 use Rattle.hm_model.specs.declared.command.Command.{Command}
@@ -19,7 +19,7 @@ use Rattle.hm_model.specs.Legal.{Setting, call_after, enters_unclear, state_afte
 use Rattle.hm_types.specs.Tree.{FileTree, named_in}
 use Rattle.hm_model.specs.View.{Position, View, object_at}
 use Rattle.hm_model.specs.Walk.{is_directory, linked_in}
-use Rattle.hm_model.specs.Volume.{PseudoFileSystem, Master, Slave, Nowhere, Foreign, Local, Volume, at, open_end, system_of}
+use Rattle.hm_model.specs.Volume.{PseudoFileSystem, Master, Slave, Nowhere, Foreign, Local, Volume, at, system_of}
 
 -- the same PFS, but for the source of its elements
 abbrev pub IsButOrigin : PseudoFileSystem → PseudoFileSystem → Type 0

@@ -6,7 +6,8 @@ use Rattle.hm_model.specs.declared.command.Command.TheVariants.{Mkdir, Touch, Sy
 use Rattle.hm_types.specs.declared.object.Kind.TheVariants.{Directory, File, Softlink}
 use Rattle.hm_types.specs.declared.object.Content.TheVariants.{Nothing, File as FileBytes, Target}
 use Rattle.hm_types.specs.declared.object.Object.{Object}
-use Rattle.hm_model.specs.Bytes.{resized, written}
+use Rattle.hm_model.specs.Bytes.{written}
+use Rattle.hm_types.specs.Bytes.{resized}
 use Rattle.hm_types.specs.Tree.{FileTree, without_entry, without_name, without_object}
 use Rattle.hm_model.specs.Sites.{Site}
 use Rattle.hm_model.specs.Call.{standing}

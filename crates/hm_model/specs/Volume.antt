@@ -1,7 +1,8 @@
 -- A volume: its pseudo file systems, each with every tree that it had.
-use Rattle.std.specs.Prelude.{ℕ, ◌-◌, ◌^◌, ◌++◌, List, [], ◌∷◌, Bool, true, Option, ◌==◌, if◌then◌else◌, map, find}
+use Rattle.std.specs.Prelude.{ℕ, ◌++◌, List, [], ◌∷◌, Bool, true, Option, ◌==◌, if◌then◌else◌, map, find}
 use Rattle.std.specs.Bool.{nat_le}
 use Rattle.std.specs.Option.{option_map_or}
+use Rattle.hm_types.specs.Intervals.{open_end}
 use Rattle.hm_types.specs.Tree.{FileTree, root_tree, no_tree}
 
 -- a master changes by calls, a slave by mirroring alone
@@ -35,10 +36,6 @@ pub record Volume : Type 0 where
   pub bigblocks : ℕ
   pub last : ℕ
   pub systems : List PseudoFileSystem
-
--- the end of an interval that has none
-abbrev pub open_end : ℕ
-open_end = 2 ^ 64 - 1
 
 -- a master with these versions, which keeps every id
 abbrev pub new_master : ℕ → ℕ → List (ℕ × FileTree) → PseudoFileSystem

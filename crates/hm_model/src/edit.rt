@@ -1,6 +1,7 @@
 // What the calls that change a tree make of it.
 ghost use Rattle.std.specs.Prelude.{◌≡◌, ◌<◌, ◌^◌, ◌-◌, None, IfOk, replicate};
-ghost use Rattle.hm_model.specs.Bytes.{resized, written};
+ghost use Rattle.hm_model.specs.Bytes.{written};
+ghost use Rattle.hm_types.specs.Bytes.{resized};
 ghost use Rattle.hm_model.specs.Change.{linked, made, of_object, renamed, snapshot_target, with_bytes, with_made};
 ghost use Rattle.hm_model.specs.Due.{first_refusal, links_left};
 ghost use Rattle.hm_model.specs.Plain.{site_of};

@@ -1,6 +1,7 @@
 // The bytes of files. Bytes that were never written are zero.
 ghost use Rattle.std.specs.Prelude.{◌≡◌, IfOk, drop};
-ghost use Rattle.hm_model.specs.Bytes.{resized, written};
+ghost use Rattle.hm_model.specs.Bytes.{written};
+ghost use Rattle.hm_types.specs.Bytes.{resized};
 
 use hm_types::NoMemory;
 use std::alloc::Global;

@@ -22,11 +22,11 @@ use Rattle.hm_records.proofs.MadeLemmas.{directory_made, file_made, inode_change
 use Rattle.hm_records.proofs.MadeLemmas.{softlink_made, target_changes}
 use Rattle.hm_records.proofs.ObjectChangeLemmas.{object_added, object_changed, object_gone}
 use Rattle.hm_records.proofs.SubjectLemmas.{apart, but_object_twice}
-use Rattle.hm_cursor.specs.Views.{Shows, WritesIn}
+use Rattle.hm_cursor.specs.Views.{IsMissing, Shows, WritesIn}
 use Rattle.hm_cursor.specs.Write.{FollowWith, IsFreshFor, Rewrites}
 use Rattle.hm_cursor.proofs.FollowLemmas.{adding_follows, closing_follows, follow_twice, renewing_follows}
 use Rattle.hm_cursor.proofs.ViewsLemmas.{fresh_beside, fresh_later, nothing_written, writes_again, writes_within}
-use Rattle.hm_objects.specs.Objects.{AddsObject, ChangesBy, IsGone, IsMissing, IsOfObject, IsOlder, KeepEntries, file_of, inode_of, open_base}
+use Rattle.hm_objects.specs.Objects.{AddsObject, ChangesBy, IsGone, IsOfObject, IsOlder, KeepEntries, file_of, inode_of, open_base}
 use Rattle.hm_objects.specs.Objects.{pfs_link_inode, pfs_link_of, softlink_of}
 use Rattle.hm_objects.proofs.NewLemmas.{entries_twice, inode_entries, inode_within, keys_fit, makes_inode, makes_none, makes_target, steady}
 use Rattle.hm_objects.proofs.NewLemmas.{target_entries, target_within}

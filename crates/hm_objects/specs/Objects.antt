@@ -27,7 +27,7 @@ use Rattle.hm_records.specs.declared.inode.Inode.{Inode}
 use Rattle.hm_records.specs.declared.kind.TheConstants.{FILE, PFS_LINK}
 use Rattle.hm_cursor.specs.Told.{Lists, fulls}
 use Rattle.hm_cursor.specs.Version.{IsNewestOf}
-use Rattle.hm_cursor.specs.Views.{Shows, WritesIn}
+use Rattle.hm_cursor.specs.Views.{IsMissing, Shows, WritesIn}
 use Rattle.hm_cursor.specs.Write.{IsClosedIn, IsFreshFor}
 
 -- an empty file of its own, and a softlink, each with one link
@@ -78,10 +78,6 @@ IsInodeMade lists t pfs obj (Some found) =
 -- the inode of an object that counted as of `i` is closed at it, where a store tells its elements
 abbrev pub IsInodeClosed : Lists → ℕ → ℕ → ℕ → Option (List Element) → Type 0
 IsInodeClosed was pfs obj i told = (e : Element) → IsNewestOf was.0 (inode_subject pfs obj) i e → IsClosedIn told (element_key e) i
-
--- an object has no inode from `i` on
-abbrev pub IsMissing : ℕ → ℕ → ℕ → List FullElement → Type 0
-IsMissing pfs obj i es = (t : ℕ) → i ≤ t → CountsNothing (Counts es t) (inode_subject pfs obj)
 
 -- nothing counts of an object from `i` on: neither an inode nor a target
 pub record IsGone (pfs obj i : ℕ) (es : List FullElement) : Type 0 where

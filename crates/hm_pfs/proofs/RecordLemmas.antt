@@ -13,7 +13,8 @@ use Rattle.hm_key.specs.declared.element.Element.{Element}
 use Rattle.hm_key.specs.Versions.{Adds, HaveOwnKeys, IsBelow}
 use Rattle.hm_records.specs.Changes.{CountsNothing, IsBeside}
 use Rattle.hm_records.specs.Laws.{HasView}
-use Rattle.hm_records.specs.PfsRecord.{open_end, pfs_bytes}
+use Rattle.hm_records.specs.PfsRecord.{pfs_bytes}
+use Rattle.hm_types.specs.Intervals.{open_end}
 use Rattle.hm_records.specs.declared.pfs_record.PfsRecord.{PfsRecord}
 use Rattle.hm_records.proofs.ChangeLemmas.{Shows, itself, own_keys_adds, shown}
 use Rattle.hm_records.proofs.CountsLemmas.{own_keys-sorted, same_key, settled}

@@ -9,7 +9,7 @@ use Rattle.hm_key.specs.Counts.{Counts, Subject, record_subject}
 use Rattle.hm_key.specs.Extents.{Extent}
 use Rattle.hm_key.specs.declared.element.Element.{Element}
 use Rattle.hm_records.specs.Changes.{CountsNothing}
-use Rattle.hm_records.specs.PfsRecord.{open_end}
+use Rattle.hm_types.specs.Intervals.{open_end}
 use Rattle.hm_cursor.specs.Told.{fulls}
 use Rattle.hm_cursor.specs.Version.{IsVersion}
 use Rattle.hm_cursor.proofs.ToldLemmas.{counts_newest, counts_none}

@@ -8,7 +8,7 @@ use Rattle.hm_key.specs.Counts.{Counts, IsSeen, Subject, record_subject, subject
 use Rattle.hm_key.specs.Versions.{IsBelow}
 use Rattle.hm_records.specs.Changes.{CountsNothing}
 use Rattle.hm_records.specs.Laws.{HasView}
-use Rattle.hm_records.specs.PfsRecord.{open_end}
+use Rattle.hm_types.specs.Intervals.{open_end}
 
 -- ---- numbers
 

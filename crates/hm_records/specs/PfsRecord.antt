@@ -1,17 +1,13 @@
 -- The records of pseudo file systems, and the one spelling of each: 32 bytes, and 16 for each interval of
 -- its retention. A number stands with its lowest byte first.
-use Rattle.std.specs.Prelude.{◌≡◌, ◌≢◌, ℕ, ◌+◌, ◌-◌, ◌*◌, ◌%◌, ◌^◌, ◌<◌, ◌≤◌, Bool, IsTrue, if◌then◌else◌, List, [], ◌∷◌, ◌++◌, length, replicate}
+use Rattle.std.specs.Prelude.{◌≡◌, ◌≢◌, ℕ, ◌+◌, ◌*◌, ◌%◌, ◌<◌, ◌≤◌, Bool, IsTrue, if◌then◌else◌, List, [], ◌∷◌, ◌++◌, length, replicate}
 use Rattle.std.specs.List.{flat_map, AllByRecursion}
 use Rattle.byteorder.specs.Endian.{little_bytes}
-use Rattle.hm_types.specs.Intervals.{Keeps}
+use Rattle.hm_types.specs.Intervals.{Keeps, open_end}
 use Rattle.hm_types.specs.declared.limits.TheConstants.{MOST_INTERVALS}
 use Rattle.hm_retain.specs.Retention.{IsRetention}
 use Rattle.hm_records.specs.declared.pfs_record.PfsRecord.{PfsRecord}
 use Rattle.hm_records.specs.declared.pfs_record.TheConstants.{HEAD_BYTES, INTERVAL_BYTES, MASTER, SLAVE}
-
--- the id that ends an interval without an end
-abbrev pub open_end : ℕ
-open_end = 2 ^ 64 - 1
 
 -- The retention has an open end. An interval that holds the greatest id ends with it, and it is the last
 -- one, since intervals rise.

@@ -5,7 +5,7 @@ use Rattle.std.specs.List.{All, Contains}
 use Rattle.std.proofs.lemmas.List.Elements.{All-contains, All-head, All-tail}
 use Rattle.hm_types.specs.Elements.{FullElement}
 use Rattle.hm_types.specs.Hash.{name_hash}
-use Rattle.hm_types.specs.Intervals.{Keeps}
+use Rattle.hm_types.specs.Intervals.{Keeps, open_end}
 use Rattle.hm_types.specs.Tree.{FileTree, no_tree}
 use Rattle.hm_types.specs.declared.limits.TheConstants.{MOST_INTERVALS}
 use Rattle.hm_key.specs.Counts.{IsRecordOf, Subject, record_subject}
@@ -15,7 +15,7 @@ use Rattle.hm_retain.specs.Retention.{IsRetention}
 use Rattle.hm_retain.proofs.SetLemmas.{kept_from}
 use Rattle.hm_model.specs.After.{of_pfs, present_only, retaining}
 use Rattle.hm_model.specs.Cut.{cut, greatest, pruned, single, within}
-use Rattle.hm_model.specs.Volume.{Master, Nowhere, PseudoFileSystem, Role, Slave, Volume, as_of, at, open_end, shown_id, system_of}
+use Rattle.hm_model.specs.Volume.{Master, Nowhere, PseudoFileSystem, Role, Slave, Volume, as_of, at, shown_id, system_of}
 use Rattle.hm_model.proofs.EffectLemmas.{by_role}
 use Rattle.hm_model.proofs.GrowthLemmas.{KeepsNumber}
 use Rattle.hm_model.proofs.IntervalLemmas.{IsAmong, Keeps-append, Keeps-maximal, Keeps-single, Keeps-within}

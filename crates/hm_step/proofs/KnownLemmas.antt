@@ -10,7 +10,8 @@ use Rattle.hm_cursor.specs.Told.{IsBroken, Lists, fulls}
 use Rattle.hm_model.specs.Volume.{Master, PseudoFileSystem, Role, Slave, Volume, system_of}
 use Rattle.hm_model.proofs.GrowthLemmas.{found_in}
 use Rattle.hm_records.specs.Payload.{IsPayload}
-use Rattle.hm_records.specs.PfsRecord.{open_end, pfs_bytes}
+use Rattle.hm_records.specs.PfsRecord.{pfs_bytes}
+use Rattle.hm_types.specs.Intervals.{open_end}
 use Rattle.hm_records.specs.declared.pfs_record.PfsRecord.{PfsRecord}
 use Rattle.hm_records.proofs.CountsLemmas.{record_counts}
 use Rattle.hm_records.proofs.MemberLemmas.{has_map}

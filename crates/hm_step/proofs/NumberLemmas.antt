@@ -13,7 +13,8 @@ use Rattle.hm_types.specs.declared.object.Kind.{Kind}
 use Rattle.hm_types.specs.declared.object.Kind.TheVariants.{Directory, File, Softlink, PfsLink}
 use Rattle.hm_model.specs.declared.command.Command.{Command}
 use Rattle.hm_model.specs.declared.command.Command.TheVariants.{Mkdir, Touch, Symlink, Snapshot, Ln, Mv, Write, Fill, Truncate, Rm, Rmdir, PfsMaster, PfsSlave}
-use Rattle.hm_model.specs.Bytes.{resized, written}
+use Rattle.hm_model.specs.Bytes.{written}
+use Rattle.hm_types.specs.Bytes.{resized}
 use Rattle.hm_model.specs.Call.{Call, first_site, own_id, second_site, site_object, standing}
 use Rattle.hm_model.specs.Change.{changed, linked, made, moved, moved_over, of_object, renamed, snapshot_target, with_bytes, with_made}
 use Rattle.hm_model.specs.Due.{new_pfs}

@@ -12,7 +12,8 @@ use Rattle.hm_records.specs.Entry.{entry_bytes}
 use Rattle.hm_records.specs.Follows.{Follows}
 use Rattle.hm_records.specs.KeysFit.{KeysFit}
 use Rattle.hm_records.specs.Payload.{IsPayload, KeyFits}
-use Rattle.hm_records.specs.PfsRecord.{IsPfsRecord, open_end, pfs_bytes}
+use Rattle.hm_records.specs.PfsRecord.{IsPfsRecord, pfs_bytes}
+use Rattle.hm_types.specs.Intervals.{open_end}
 use Rattle.hm_records.specs.View.{IsViewOf}
 use Rattle.hm_records.specs.declared.pfs_record.PfsRecord.{PfsRecord}
 use Rattle.hm_records.proofs.CountsLemmas.{record_counts, settled}

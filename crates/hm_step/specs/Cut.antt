@@ -1,10 +1,10 @@
 -- What a cut of a retention makes of a PFS and of its record.
 use Rattle.std.specs.Prelude.{◌≡◌, ℕ, ◌<◌, ◌≤◌, List, Some}
 use Rattle.hm_types.specs.Elements.{FullElement}
-use Rattle.hm_types.specs.Intervals.{Keeps}
+use Rattle.hm_types.specs.Intervals.{Keeps, open_end}
 use Rattle.hm_key.specs.Counts.{Counts, record_subject}
 use Rattle.hm_retain.specs.Retention.{IsRetention}
-use Rattle.hm_model.specs.Volume.{Master, PseudoFileSystem, Slave, Volume, open_end, system_of}
+use Rattle.hm_model.specs.Volume.{Master, PseudoFileSystem, Slave, Volume, system_of}
 use Rattle.hm_records.specs.PfsRecord.{IsPfsRecord, pfs_bytes}
 use Rattle.hm_records.specs.declared.pfs_record.PfsRecord.{PfsRecord}
 use Rattle.hm_pfs.specs.Records.{SetsRecord}

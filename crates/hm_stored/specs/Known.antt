@@ -11,14 +11,14 @@ use native.Mathlib.Decide.{ℕ_discrete, dec_le, dec_lt, map_dec}
 use mathlib.Core.Bool.{Bool-discrete}
 use mathlib.Core.List.{List-discrete}
 use Rattle.hm_types.specs.Elements.{FullElement}
-use Rattle.hm_types.specs.Intervals.{Keeps}
+use Rattle.hm_types.specs.Intervals.{Keeps, open_end}
 use Rattle.hm_types.specs.declared.limits.TheConstants.{MOST_INTERVALS}
 use Rattle.hm_fields.specs.Fields.{get}
 use Rattle.hm_key.specs.Counts.{Counts, IsSeen, Subject, record_subject, subject_of}
 use Rattle.hm_key.specs.Element.{pfs_of}
 use Rattle.hm_retain.specs.Intervals.{IsInterval, RiseFrom}
 use Rattle.hm_retain.specs.Retention.{IsRetention}
-use Rattle.hm_records.specs.PfsRecord.{AreIds, FitsRole, IsPfsRecord, interval_bytes, intervals_bytes, open_end, pfs_bytes}
+use Rattle.hm_records.specs.PfsRecord.{AreIds, FitsRole, IsPfsRecord, interval_bytes, intervals_bytes, pfs_bytes}
 use Rattle.hm_records.specs.declared.pfs_record.PfsRecord.{PfsRecord}
 use Rattle.hm_records.proofs.IntervalLemmas.{retention_ids}
 use Rattle.hm_records.proofs.NumberLemmas.{number_back}

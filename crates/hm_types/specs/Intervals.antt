@@ -1,5 +1,9 @@
 -- Sets of ids, written as lists of intervals. An interval is the pair of its first and its last id.
-use Rattle.std.specs.Prelude.{◌⊎◌, ℕ, ◌≤◌, List, [], ◌∷◌}
+use Rattle.std.specs.Prelude.{◌⊎◌, ℕ, ◌-◌, ◌^◌, ◌≤◌, List, [], ◌∷◌}
+
+-- the id that ends an interval without an end
+abbrev pub open_end : ℕ
+open_end = 2 ^ 64 - 1
 
 -- the interval holds the id
 abbrev pub Holds : ℕ × ℕ → ℕ → Type 0

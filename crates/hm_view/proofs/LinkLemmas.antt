@@ -23,7 +23,8 @@ use Rattle.hm_model.specs.Reply.{five_digits}
 use Rattle.hm_model.specs.Volume.{PseudoFileSystem, Role, Volume, Master, Slave, system_of}
 use Rattle.hm_records.specs.Changes.{CountsNothing}
 use Rattle.hm_records.specs.Faults.{IsBadPayload, IsReadFault, Reads}
-use Rattle.hm_records.specs.PfsRecord.{open_end, pfs_bytes}
+use Rattle.hm_records.specs.PfsRecord.{pfs_bytes}
+use Rattle.hm_types.specs.Intervals.{open_end}
 use Rattle.hm_records.specs.Target.{IsTarget, target_bytes}
 use Rattle.hm_records.specs.View.{IsHeld as IsHeldAs, IsTargetOf, missing}
 use Rattle.hm_records.specs.declared.inode.Inode.{Inode}

@@ -6,7 +6,7 @@ ghost use Rattle.hm_model.specs.After.{Event};
 ghost use Rattle.hm_model.specs.Due.{new_pfs};
 ghost use Rattle.hm_model.specs.Laws.{AreSmall, IsMasterFrom, IsOpenEnded, Makes, retention_of};
 ghost use Rattle.hm_model.specs.Legal.{IsLegal, Setting, state_after};
-ghost use Rattle.hm_model.specs.Volume.{open_end};
+ghost use Rattle.hm_types.specs.Intervals.{open_end};
 
 /// No retention has more than 4,096 intervals after any event of a legal history, where none had more
 /// in the volume at the start.

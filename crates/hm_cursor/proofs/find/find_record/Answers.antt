@@ -4,7 +4,7 @@ use Rattle.hm_key.specs.Counts.{subject_of}
 use Rattle.hm_key.specs.Key.{key_of}
 use Rattle.hm_records.specs.Faults.{IsBadPayload}
 use Rattle.hm_records.specs.Payload.{SpellsPfs}
-use Rattle.hm_records.specs.PfsRecord.{open_end}
+use Rattle.hm_types.specs.Intervals.{open_end}
 use Rattle.hm_cursor.proofs.ToldLemmas.{record_none, record_some}
 use Rattle.hm_cursor.proofs.PayloadLemmas.{long_record, read_whole, unread_record}
 use Rattle.hm_cursor.proofs.find.find_record.Goals as goal

@@ -5,7 +5,8 @@ use Rattle.hm_key.specs.Elements.{element_key}
 use Rattle.hm_key.specs.Key.{key_of}
 use Rattle.hm_key.specs.Versions.{Adds}
 use Rattle.hm_records.specs.Changes.{CountsNothing}
-use Rattle.hm_records.specs.PfsRecord.{open_end, pfs_bytes}
+use Rattle.hm_records.specs.PfsRecord.{pfs_bytes}
+use Rattle.hm_types.specs.Intervals.{open_end}
 use Rattle.hm_cursor.specs.Told.{fulls}
 use Rattle.hm_cursor.specs.Write.{full_with}
 use Rattle.hm_cursor.proofs.CallLemmas.{Change, Then, writes_both, writes_from, writes_none, writes_so}
