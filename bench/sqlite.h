@@ -1,5 +1,6 @@
-// What the programs over the library of SQLite share that are measured beside hammer: a database of which
-// nothing is synced, statements that must end well, and replies as hammer prints its own.
+// What the programs over the library of SQLite share that are measured beside hammer: a database in WAL mode of
+// which nothing is synced, or what the word SYNCHRONOUS of the environment says, as NORMAL; statements that must
+// end well, and replies as hammer prints its own.
 #include <sqlite3.h>
 #include <stdio.h>
 #include <stdlib.h>
@@ -18,10 +19,13 @@ static void run(const char *sql) {
 
 // Opens the database, and has each reply printed before the next call.
 static void open_base(const char *path) {
+    const char *synchronous = getenv("SYNCHRONOUS");
+    char pragma[64];
     if (sqlite3_open(path, &base) != SQLITE_OK) exit(2);
     setvbuf(stdout, NULL, _IOLBF, 4096);
     run("PRAGMA journal_mode = WAL");
-    run("PRAGMA synchronous = OFF");
+    snprintf(pragma, sizeof pragma, "PRAGMA synchronous = %s", synchronous ? synchronous : "OFF");
+    run(pragma);
 }
 
 static void close_base(void) {

@@ -4,8 +4,9 @@
 //     sqlite_files DATABASE stat FROM COUNT     looks each of them up, and prints what it finds
 //     sqlite_files DATABASE check               opens the table and checks it
 //
-// A row has the object, its name, and the ids of the calls that made and removed it. Nothing is synced, and each
-// reply is printed before the next call, as hammer prints its own.
+// A row has the object, its name, and the ids of the calls that made and removed it. Nothing is synced, unless the
+// word SYNCHRONOUS of the environment says so, and each reply is printed before the next call, as hammer prints its
+// own.
 #include "sqlite.h"
 
 static sqlite3_int64 number(const char *sql) {
