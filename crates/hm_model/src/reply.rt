@@ -120,7 +120,8 @@ pub enum Reply {
         at: HOff,
         kind: u8,
     },
-    /// `no memory`: an allocation was refused.
+    /// `no memory`: an allocation was refused, or the call has no other answer, which a forged volume
+    /// alone brings about.
     NoMemory,
     /// `shared differs SLAVE STREAM`: the shared ids of a slave and of what it is fed from.
     SharedDiffers {

@@ -23,7 +23,8 @@ pub enum Fault {
     /// The bytes at this offset break the grammar of what stands there. `kind` is the number of the
     /// rule that they break.
     Damaged { at: HOff, kind: u8 },
-    /// An allocation was refused.
+    /// An allocation was refused, or what was asked has no other answer: only a store that holds what
+    /// no volume holds, or tells nothing, has that.
     NoMemory,
 }
 
