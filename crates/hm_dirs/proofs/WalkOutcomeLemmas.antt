@@ -19,7 +19,7 @@ use Rattle.hm_records.specs.View.{IsViewOf}
 use Rattle.hm_records.specs.declared.inode.Inode.{Inode}
 use Rattle.hm_records.specs.declared.kind.TheConstants.{DIRECTORY, PFS_LINK}
 use Rattle.hm_volume.specs.Found.{IsFoundBy, IsMadeBy}
-use Rattle.hm_dirs.specs.Walk.{ComesOut, EndsAt, GoesOn, Scene, IsDrawn, IsOn, IsRead, IsTaken, IsTold, found_at, is_directory_by, link_by, place_of, reply_of, when_of}
+use Rattle.hm_dirs.specs.Walk.{ComesOut, EndsAt, WalkGoesOn, Scene, IsDrawn, IsOn, IsRead, IsTaken, IsTold, found_at, is_directory_by, link_by, place_of, reply_of, when_of}
 use Rattle.hm_dirs.specs.declared.position.Lost.{Lost}
 use Rattle.hm_dirs.specs.declared.position.Lost.TheVariants.{NotFound, NotDir, NotRetained}
 use Rattle.hm_dirs.specs.declared.position.Position.{Position}
@@ -35,7 +35,7 @@ module _ (scene : Scene) where
 
   -- it goes on
   pub goes_on : (mode : Mode) (w : Walked) (next : Place → Passed → Walked) (stand : Stand) (walked : Result Stand Lost) → ComesOut scene follows w (Ok stand)
-      → GoesOn scene mode next stand walked → ComesOut scene mode (and_then w next) walked
+      → WalkGoesOn scene mode next stand walked → ComesOut scene mode (and_then w next) walked
   goes_on mode (Refuses reply passed) next stand walked out on = absurd out
   goes_on mode (Reaches here passed) next stand walked out on =
       subst (λ (p : Place). ComesOut scene mode (next p passed) walked) out.place (on passed (record { told = out.told; read = out.read tt }))
@@ -142,13 +142,13 @@ module _ (scene : Scene) where
     on_link leads here passed =
         option_map_or (λ pfs. over_link scene.volume scene.view mode pfs here passed) leads (Reaches here passed)
 
-    pub over : (pfs : ℕ) → linked_in object.content ≡ Some pfs → GoesOn scene mode (over_link scene.volume scene.view mode pfs) stand walked
-        → GoesOn scene mode (from_found scene.volume scene.view mode object) stand walked
+    pub over : (pfs : ℕ) → linked_in object.content ≡ Some pfs → WalkGoesOn scene mode (over_link scene.volume scene.view mode pfs) stand walked
+        → WalkGoesOn scene mode (from_found scene.volume scene.view mode object) stand walked
     over pfs leads on = λ passed is.
         subst (λ (o : Option ℕ). ComesOut scene mode (on_link o (place_of stand.at) passed) walked) (sym leads) (on passed is)
 
   pub no_link : (mode : Mode) (object : Object) (stand : Stand) → linked_in object.content ≡ None
-      → GoesOn scene mode (from_found scene.volume scene.view mode object) stand (Ok stand)
+      → WalkGoesOn scene mode (from_found scene.volume scene.view mode object) stand (Ok stand)
   no_link mode object stand none = λ passed is.
       subst (λ (o : Option ℕ). ComesOut scene mode (on_link mode object stand (Ok stand) o (place_of stand.at) passed) (Ok stand)) (sym none)
       (stays_on mode passed stand is)
@@ -162,7 +162,7 @@ module _ (scene : Scene) where
         (Refuses not_found passed)
 
     pub finds : (stand : Stand) → ComesOut scene follows (found_at scene.view here (passed ++ (here.pfs, here.object.0) ∷ [])) (Ok stand)
-        → ((object : Object) → object_at scene.view (place_of stand.at) ≡ Some object → GoesOn scene mode
+        → ((object : Object) → object_at scene.view (place_of stand.at) ≡ Some object → WalkGoesOn scene mode
         (from_found scene.volume scene.view mode object) stand walked)
         → ComesOut scene mode (find_object scene.volume scene.view mode here passed) walked
     finds stand out on =

@@ -28,7 +28,7 @@ use Rattle.hm_volume.specs.Found.{IsFoundBy}
 use Rattle.hm_cursor.specs.Told.{IsInodeThen, IsRecordNow, Lists, OnBalanced, fulls}
 use Rattle.hm_cursor.specs.Names.{IsFirstEntry}
 use Rattle.hm_dirs.specs.Names.{IsLookedUp, OnNamed}
-use Rattle.hm_dirs.specs.Walk.{AreDrawn, ComesOut, EndsAt, GoesOn, IsDrawn, IsSeenAs, IsShownAs, IsTaken, IsTold, OnShown, Scene, found_at}
+use Rattle.hm_dirs.specs.Walk.{AreDrawn, ComesOut, EndsAt, WalkGoesOn, IsDrawn, IsSeenAs, IsShownAs, IsTaken, IsTold, OnShown, Scene, found_at}
 use Rattle.hm_dirs.specs.Walk.{is_directory_by, is_watched, link_by, mode_of, place_of, root_at, shown_by, when_of}
 use Rattle.hm_dirs.specs.declared.position.Course.{Course}
 use Rattle.hm_dirs.specs.declared.position.Follow.{Follow}
@@ -137,32 +137,32 @@ Taken pfs when passed walked scene =
     (list : Passed) → IsTold scene list passed → ComesOut scene takes_pfs (take_pfs scene.volume pfs.0 (when_of when) list) walked
 
 abbrev pub Led : Follow → Pfs → Stand → Result Stand Lost → Scene → Type 0
-Led choice pfs stand walked scene = GoesOn scene (mode_of choice) (over_link scene.volume scene.view (mode_of choice) pfs.0) stand walked
+Led choice pfs stand walked scene = WalkGoesOn scene (mode_of choice) (over_link scene.volume scene.view (mode_of choice) pfs.0) stand walked
 
 abbrev pub Gone : Follow → Stand → Result Stand Lost → Scene → Type 0
 Gone choice stand walked scene =
     (object : Object) → object_at scene.view (place_of stand.at) ≡ Some object
-    → GoesOn scene (mode_of choice) (from_found scene.volume scene.view (mode_of choice) object) stand walked
+    → WalkGoesOn scene (mode_of choice) (from_found scene.volume scene.view (mode_of choice) object) stand walked
 
 abbrev pub ToObject : Follow → Obj → Stand → Result Stand Lost → Scene → Type 0
 ToObject choice object stand walked scene =
-    GoesOn scene (mode_of choice) (λ here. find_object scene.volume scene.view (mode_of choice) (record here { object = object })) stand walked
+    WalkGoesOn scene (mode_of choice) (λ here. find_object scene.volume scene.view (mode_of choice) (record here { object = object })) stand walked
 
 abbrev pub ToName : (List ℕ → ℕ) → Follow → List ℕ → Stand → Result Stand Lost → Scene → Type 0
 ToName hash choice name stand walked scene =
-    KeysFit hash scene.elements → GoesOn scene (mode_of choice) (find_name scene.volume scene.view (mode_of choice) name) stand walked
+    KeysFit hash scene.elements → WalkGoesOn scene (mode_of choice) (find_name scene.volume scene.view (mode_of choice) name) stand walked
 
 abbrev pub ByName : (List ℕ → ℕ) → Follow → Option (List ℕ) → Stand → Result Stand Lost → Scene → Type 0
 ByName hash choice name stand walked scene =
-    KeysFit hash scene.elements → GoesOn scene (mode_of choice) (by_name scene.volume scene.view (mode_of choice) name) stand walked
+    KeysFit hash scene.elements → WalkGoesOn scene (mode_of choice) (by_name scene.volume scene.view (mode_of choice) name) stand walked
 
 abbrev pub ById : Option Id → Stand → Result Stand Lost → Scene → Type 0
-ById as_of stand walked scene = IsDrawn scene.course.last as_of → GoesOn scene follows (by_id scene.volume scene.view as_of) stand walked
+ById as_of stand walked scene = IsDrawn scene.course.last as_of → WalkGoesOn scene follows (by_id scene.volume scene.view as_of) stand walked
 
 abbrev pub Stepped : (List ℕ → ℕ) → Follow → Part → Stand → Result Stand Lost → Scene → Type 0
 Stepped hash choice part stand walked scene =
     KeysFit hash scene.elements → IsDrawn scene.course.last part.as_of
-    → GoesOn scene (mode_of choice) (step scene.volume scene.view (mode_of choice) part) stand walked
+    → WalkGoesOn scene (mode_of choice) (step scene.volume scene.view (mode_of choice) part) stand walked
 
 abbrev pub Over : (List ℕ → ℕ) → Follow → List Part → List Part → Stand → Scene → Type 0
 Over hash choice parts rest stand scene =

@@ -177,6 +177,6 @@ StaysNow (Err NotDir) = Unit {0}
 StaysNow (Err NotRetained) = ⊥
 
 -- from where a walk is it goes on as that of the model
-abbrev pub GoesOn : Scene → Mode → (Place → Passed → Walked) → Stand → Result Stand Lost → Type 0
-GoesOn scene mode next from walked =
+abbrev pub WalkGoesOn : Scene → Mode → (Place → Passed → Walked) → Stand → Result Stand Lost → Type 0
+WalkGoesOn scene mode next from walked =
     (passed : Passed) → IsOn scene passed from → ComesOut scene mode (next (place_of from.at) passed) walked

@@ -9,7 +9,7 @@ ghost use Rattle.hm_model.specs.Walk.{by_id as seen, by_name as named, find_name
 ghost use Rattle.hm_model.specs.Walk.{from_found as gone, over_link as led};
 ghost use Rattle.hm_records.specs.KeysFit.{KeysFit};
 ghost use Rattle.hm_cursor.specs.Told.{HasReadingCause};
-ghost use Rattle.hm_dirs.specs.Walk.{GoesOn, IsDrawn, OnShown, StaysNow, mode_of, place_of};
+ghost use Rattle.hm_dirs.specs.Walk.{WalkGoesOn, IsDrawn, OnShown, StaysNow, mode_of, place_of};
 
 use crate::hash::NameHash;
 use crate::lookup::look_up;
@@ -33,7 +33,7 @@ fn over_link<T: ElementStore + Extents>(
     requires balanced { Balanced (T.elements store.old) (T.extents store.old) }
     ensures ok { IfOk result (λ walked.
         OnShown (T.elements store.old) (T.extents store.old) course (λ scene.
-        GoesOn scene (mode_of follow)
+        WalkGoesOn scene (mode_of follow)
         (led scene.volume scene.view (mode_of follow) pfs.0) stand walked)) }
     ensures now { stand.at.when ≡ None → IfOk result StaysNow }
     ensures keeps { Same T.elements T.mark T.extents T.room T.free store.old store.new }
@@ -61,7 +61,7 @@ fn from_found<T: ElementStore + Extents>(
     ensures ok { IfOk result (λ walked.
         OnShown (T.elements store.old) (T.extents store.old) course (λ scene.
         (object : Object) → object_at scene.view (place_of stand.at) ≡ Some object
-        → GoesOn scene (mode_of follow)
+        → WalkGoesOn scene (mode_of follow)
         (gone scene.volume scene.view (mode_of follow) object) stand walked)) }
     ensures now { stand.at.when ≡ None → IfOk result StaysNow }
     ensures keeps { Same T.elements T.mark T.extents T.room T.free store.old store.new }
@@ -88,7 +88,7 @@ fn to_object<T: ElementStore + Extents>(
     requires balanced { Balanced (T.elements store.old) (T.extents store.old) }
     ensures ok { IfOk result (λ walked.
         OnShown (T.elements store.old) (T.extents store.old) course (λ scene.
-        GoesOn scene (mode_of follow) (λ here. find_object scene.volume scene.view
+        WalkGoesOn scene (mode_of follow) (λ here. find_object scene.volume scene.view
         (mode_of follow) (record here { object = object })) stand walked)) }
     ensures now { stand.at.when ≡ None → IfOk result StaysNow }
     ensures keeps { Same T.elements T.mark T.extents T.room T.free store.old store.new }
@@ -117,7 +117,7 @@ fn to_name<T: ElementStore + Extents, H: NameHash>(
     requires balanced { Balanced (T.elements store.old) (T.extents store.old) }
     ensures ok { IfOk result (λ walked.
         OnShown (T.elements store.old) (T.extents store.old) course (λ scene.
-        KeysFit (H.hash_of hash.now) scene.elements → GoesOn scene (mode_of follow)
+        KeysFit (H.hash_of hash.now) scene.elements → WalkGoesOn scene (mode_of follow)
         (find_name scene.volume scene.view (mode_of follow) name.now) stand walked)) }
     ensures now { stand.at.when ≡ None → IfOk result StaysNow }
     ensures keeps { Same T.elements T.mark T.extents T.room T.free store.old store.new }
@@ -152,7 +152,7 @@ pub(crate) fn by_name<T: ElementStore + Extents, H: NameHash>(
     requires balanced { Balanced (T.elements store.old) (T.extents store.old) }
     ensures ok { IfOk result (λ walked.
         OnShown (T.elements store.old) (T.extents store.old) course (λ scene.
-        KeysFit (H.hash_of hash.now) scene.elements → GoesOn scene (mode_of follow)
+        KeysFit (H.hash_of hash.now) scene.elements → WalkGoesOn scene (mode_of follow)
         (named scene.volume scene.view (mode_of follow) part.now.name) stand walked)) }
     ensures now { stand.at.when ≡ None → IfOk result StaysNow }
     ensures keeps { Same T.elements T.mark T.extents T.room T.free store.old store.new }
@@ -182,7 +182,7 @@ pub(crate) fn by_id<T: ElementStore + Extents>(
     ensures ok { IfOk result (λ walked. (course : Course) →
         OnShown (T.elements store.old) (T.extents store.old) course (λ scene.
         IsDrawn scene.course.last as_of
-        → GoesOn scene follows (seen scene.volume scene.view as_of) stand walked)) }
+        → WalkGoesOn scene follows (seen scene.volume scene.view as_of) stand walked)) }
     ensures now { as_of ≡ None → stand.at.when ≡ None → IfOk result StaysNow }
     ensures keeps { Same T.elements T.mark T.extents T.room T.free store.old store.new }
     ensures borrowed { (T.name store.new ≡ T.name store.old)

@@ -7,7 +7,7 @@ ghost use Rattle.hm_model.specs.Sites.{Parts};
 ghost use Rattle.hm_model.specs.Walk.{step as stepped, walk as walked_along};
 ghost use Rattle.hm_records.specs.KeysFit.{KeysFit};
 ghost use Rattle.hm_cursor.specs.Told.{HasReadingCause};
-ghost use Rattle.hm_dirs.specs.Walk.{AreDrawn, ComesOut, GoesOn, IsDrawn, OnShown, StaysNow, mode_of};
+ghost use Rattle.hm_dirs.specs.Walk.{AreDrawn, ComesOut, WalkGoesOn, IsDrawn, OnShown, StaysNow, mode_of};
 
 use crate::hash::NameHash;
 use crate::position::{Course, Follow, Lost, Stand};
@@ -76,7 +76,7 @@ pub fn step<T: ElementStore + Extents, H: NameHash>(
     ensures ok { IfOk result (λ walked.
         OnShown (T.elements store.old) (T.extents store.old) course (λ scene.
         KeysFit (H.hash_of hash.now) scene.elements → IsDrawn scene.course.last part.now.as_of
-        → GoesOn scene (mode_of follow)
+        → WalkGoesOn scene (mode_of follow)
         (stepped scene.volume scene.view (mode_of follow) part.now) stand walked)) }
     ensures now { part.now.as_of ≡ None → stand.at.when ≡ None → IfOk result StaysNow }
     ensures keeps { Same T.elements T.mark T.extents T.room T.free store.old store.new }

@@ -14,7 +14,7 @@ use Rattle.hm_records.specs.Payload.{IsPayload}
 use Rattle.hm_header.specs.OnDisk.{HasHeader}
 use Rattle.hm_image.specs.Image.{elements_from, pages_of, references_from}
 use Rattle.hm_image.specs.Same.{HasSameFreemap, HasSameTree}
-use Rattle.hm_image.specs.Sound.{HasEntry, HasExtents, HasLayer2, HasPayloads, IsAmongPayloads, IsFilled, IsSoundBy, free_in}
+use Rattle.hm_image.specs.Sound.{HasEntry, HasExtents, HasLayer2, HasPayloads, IsAmongPayloads, IsFilled, IsSoundBy, free_bytes_in}
 use Rattle.hm_image.specs.StandFor.{StandFor}
 use Rattle.hm_image.specs.Stands.{StandsFor}
 use Rattle.hm_image.proofs.SameLemmas.{elements_same, plain_same, references_same, tree_same}
@@ -61,7 +61,7 @@ module _ (old new : List ℕ) (header : Header) (freemap : HasSameFreemap old ne
     tree = tree_same old new header.root same sound.tree;
     payloads = payloads_same sound.payloads;
     extents = extents_same sound.entries sound.extents;
-    free_bytes = λ block pool. sound.free_bytes block pool ∙ ap (λ (rs : List Reference). free_in rs block) rs_same;
+    free_bytes = λ block pool. sound.free_bytes block pool ∙ ap (λ (rs : List Reference). free_bytes_in rs block) rs_same;
   }
 
 module _ (old new : List ℕ) (volume : Volume) (stands : StandsFor old volume) where

@@ -13,7 +13,7 @@ use Rattle.hm_records.specs.KeysFit.{KeysFit}
 use Rattle.hm_records.specs.Payload.{KeyFits}
 use Rattle.hm_image.specs.Examples.{entry_a, entry_at, key_of_a, payload_at}
 use Rattle.hm_image.specs.Fresh.{fresh_entry, inode_element, root_at}
-use Rattle.hm_image.specs.Sound.{IsAmongPayloads, IsFilled, free_in}
+use Rattle.hm_image.specs.Sound.{IsAmongPayloads, IsFilled, free_bytes_in}
 use Rattle.hm_image.proofs.ListLemmas.{all_one}
 
 -- ---- overlaps
@@ -74,10 +74,10 @@ few_there =
 
 -- ---- free bytes
 
-pub free_counted : free_in (payload_at 0 32 ∷ payload_at 32 40 ∷ payload_at 32 40 ∷ []) 12 ≡ pos 8388480
+pub free_counted : free_bytes_in (payload_at 0 32 ∷ payload_at 32 40 ∷ payload_at 32 40 ∷ []) 12 ≡ pos 8388480
 free_counted = refl
 
-pub free_refused : pos 8388481 ≢ free_in (payload_at 0 32 ∷ payload_at 32 40 ∷ payload_at 32 40 ∷ []) 12
+pub free_refused : pos 8388481 ≢ free_bytes_in (payload_at 0 32 ∷ payload_at 32 40 ∷ payload_at 32 40 ∷ []) 12
 free_refused same = omega (arith, ints)
 
 -- ---- keys

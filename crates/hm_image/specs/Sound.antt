@@ -70,14 +70,14 @@ pub record HasExtents (image : List ℕ) (header : Header) (entries : ℕ → En
   pub few : AreFew (references_from (pages_of image) header.root)
 
 -- how many bytes of a big-block are free by what a tree refers to: fewer than none where extents are shared often
-abbrev pub free_in : List Reference → ℕ → ℤ
-free_in references block = pos BIGBLOCK_BYTES -ℤ pos (live_bytes references block)
+abbrev pub free_bytes_in : List Reference → ℕ → ℤ
+free_bytes_in references block = pos BIGBLOCK_BYTES -ℤ pos (live_bytes references block)
 
 -- each big-block of the pool has as many free bytes as are not live in it
 abbrev pub HasFreeBytes : List ℕ → Header → (ℕ → Entry) → Type 0
 HasFreeBytes image header entries =
     (block : ℕ) → IsPool header.bigblocks block
-    → (entries block).bytes_free ≡ free_in (references_from (pages_of image) header.root) block
+    → (entries block).bytes_free ≡ free_bytes_in (references_from (pages_of image) header.root) block
 
 -- a sound image, with the header that counts
 pub record IsSoundBy (image : List ℕ) (header : Header) : Type 0 where

@@ -8,8 +8,8 @@ use Rattle.hm_model.specs.declared.paths.Use.{Use as Purpose}
 use Rattle.hm_model.specs.declared.paths.Use.TheVariants.{New, Named, End}
 use Rattle.hm_model.specs.declared.place.Place.{Place}
 use Rattle.hm_model.specs.declared.reply.Reply.{Reply}
-use Rattle.hm_model.specs.declared.stop.Stop.{Stop}
-use Rattle.hm_model.specs.declared.stop.Stop.TheVariants.{Refused, NoMemory}
+use Rattle.hm_model.specs.declared.stop.PlainStop.{PlainStop}
+use Rattle.hm_model.specs.declared.stop.PlainStop.TheVariants.{Refused, NoMemory}
 use Rattle.hm_types.specs.Tree.{FileTree}
 use Rattle.hm_model.specs.Volume.{fresh_with}
 use Rattle.hm_model.specs.Sites.{Use, MakesName, Parsed, Parts, IsParsed, Site, At, locate, no_site, uses_of}
@@ -83,7 +83,7 @@ walk_stops call reply early walked =
     (first_none (ids_left call ∷ early_checks call.volume.last call.busy call.command call.paths) (map walks (all_located call)) early ∙ walked))
 
 -- a call of one path: its word is no good, its walk is refused, or it comes to its place
-pub unread_one : (tree : FileTree) (command : Command) (u : Purpose) (word : List ℕ) (stop : Stop) → uses_of command ≡ (use_of u, word) ∷ [] →
+pub unread_one : (tree : FileTree) (command : Command) (u : Purpose) (word : List ℕ) (stop : PlainStop) → uses_of command ≡ (use_of u, word) ∷ [] →
     IsUnread (needs_name u) word stop → StopsCall tree command stop
 unread_one tree command u word NoMemory uses unread = tt
 unread_one tree command u word (Refused reply) uses unread = record {
@@ -106,7 +106,7 @@ only_one command u word parts paths uses read reads =
     let one = reads_one command (use_of u) word paths uses reads in
     one.1 ∙ ap (λ p. p ∷ []) (read_once word parts one.0 read.path one.2)
 
-pub nowhere_one : (tree : FileTree) (command : Command) (u : Purpose) (word : List ℕ) (parts : List Part) (stop : Stop) →
+pub nowhere_one : (tree : FileTree) (command : Command) (u : Purpose) (word : List ℕ) (parts : List Part) (stop : PlainStop) →
     uses_of command ≡ (use_of u, word) ∷ [] → IsRead (needs_name u) word parts → LeadsNowhere (locate_in tree (use_of u) parts) stop →
     StopsCall tree command stop
 nowhere_one tree command u word parts NoMemory uses read nowhere = tt
@@ -133,7 +133,7 @@ placed_one tree command u word parts a b uses read leads none = record {
 }
 
 -- a call of two paths
-pub unread_first : (tree : FileTree) (command : Command) (u v : Purpose) (word other : List ℕ) (stop : Stop) →
+pub unread_first : (tree : FileTree) (command : Command) (u v : Purpose) (word other : List ℕ) (stop : PlainStop) →
     uses_of command ≡ (use_of u, word) ∷ (use_of v, other) ∷ [] → IsUnread (needs_name u) word stop → StopsCall tree command stop
 unread_first tree command u v word other NoMemory uses unread = tt
 unread_first tree command u v word other (Refused reply) uses unread = record {
@@ -151,7 +151,7 @@ first_is command u v word other parts paths uses read reads =
     let two = reads_two command (use_of u) (use_of v) word other paths uses reads in
     (two.1, two.2 ∙ ap (λ p. p ∷ two.1 ∷ []) (read_once word parts two.0 read.path two.3), two.5, two.6)
 
-pub unread_second : (tree : FileTree) (command : Command) (u v : Purpose) (word other : List ℕ) (parts : List Part) (stop : Stop) →
+pub unread_second : (tree : FileTree) (command : Command) (u v : Purpose) (word other : List ℕ) (parts : List Part) (stop : PlainStop) →
     uses_of command ≡ (use_of u, word) ∷ (use_of v, other) ∷ [] → IsRead (needs_name u) word parts → IsUnread (needs_name v) other stop →
     StopsCall tree command stop
 unread_second tree command u v word other parts NoMemory uses read unread = tt
@@ -179,7 +179,7 @@ both_are command u v word other parts more paths uses read next reads =
     let one = first_is command u v word other parts paths uses read reads in
     one.1 ∙ ap (λ p. Parts parts ∷ p ∷ []) (read_once other more one.0 next.path one.2)
 
-pub nowhere_first : (tree : FileTree) (command : Command) (u v : Purpose) (word other : List ℕ) (parts more : List Part) (stop : Stop) →
+pub nowhere_first : (tree : FileTree) (command : Command) (u v : Purpose) (word other : List ℕ) (parts more : List Part) (stop : PlainStop) →
     uses_of command ≡ (use_of u, word) ∷ (use_of v, other) ∷ [] → IsRead (needs_name u) word parts → IsRead (needs_name v) other more →
     LeadsNowhere (locate_in tree (use_of u) parts) stop → StopsCall tree command stop
 nowhere_first tree command u v word other parts more NoMemory uses read next nowhere = tt
@@ -191,7 +191,7 @@ nowhere_first tree command u v word other parts more (Refused reply) uses read n
       (rw (uses, is, locate_same size last tree (use_of u) parts, nowhere) refl);
 }
 
-pub nowhere_second : (tree : FileTree) (command : Command) (u v : Purpose) (word other : List ℕ) (parts more : List Part) (a : Place) (stop : Stop) →
+pub nowhere_second : (tree : FileTree) (command : Command) (u v : Purpose) (word other : List ℕ) (parts more : List Part) (a : Place) (stop : PlainStop) →
     uses_of command ≡ (use_of u, word) ∷ (use_of v, other) ∷ [] → IsRead (needs_name u) word parts → IsRead (needs_name v) other more →
     LeadsTo (locate_in tree (use_of u) parts) a → LeadsNowhere (locate_in tree (use_of v) more) stop → StopsCall tree command stop
 nowhere_second tree command u v word other parts more a NoMemory uses read next leads nowhere = tt

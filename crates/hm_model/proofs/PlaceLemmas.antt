@@ -6,8 +6,8 @@ use Rattle.hm_types.specs.declared.id.Obj.{Obj}
 use Rattle.hm_path.specs.declared.part.Part.{Part}
 use Rattle.hm_model.specs.declared.reply.Reply.{Reply}
 use Rattle.hm_model.specs.declared.reply.Reply.TheVariants.{NotDir, BadPath}
-use Rattle.hm_model.specs.declared.stop.Stop.{Stop}
-use Rattle.hm_model.specs.declared.stop.Stop.TheVariants.{Refused, NoMemory}
+use Rattle.hm_model.specs.declared.stop.PlainStop.{PlainStop}
+use Rattle.hm_model.specs.declared.stop.PlainStop.TheVariants.{Refused, NoMemory}
 use Rattle.hm_model.specs.declared.walk.Walk.{Walk}
 use Rattle.hm_types.specs.Tree.{FileTree, object_in}
 use Rattle.hm_model.specs.View.{Position}
@@ -53,13 +53,13 @@ pub new_not_in : (tree : FileTree) (parts front : List Part) (last : Part) (name
 new_not_in tree parts front last name w split named ends is =
     rw (named-split parts front last name split named, front-split parts front last split, ends, is) refl
 
-in_directory-stops : (tree : FileTree) (name : List ℕ) (walked : Walked) (stop : Stop) → StopsWalk walked stop →
+in_directory-stops : (tree : FileTree) (name : List ℕ) (walked : Walked) (stop : PlainStop) → StopsWalk walked stop →
     LeadsNowhere (in_directory (plain_view tree) (Some name) walked) stop
 in_directory-stops tree name (Reaches here passed) (Refused reply) stops = absurd (cc)
 in_directory-stops tree name (Refuses other passed) (Refused reply) stops = stops
 in_directory-stops tree name walked NoMemory stops = tt
 
-pub new_stops : (tree : FileTree) (parts front : List Part) (last : Part) (name : List ℕ) (stop : Stop) → parts ≡ front ++ last ∷ [] →
+pub new_stops : (tree : FileTree) (parts front : List Part) (last : Part) (name : List ℕ) (stop : PlainStop) → parts ≡ front ++ last ∷ [] →
     last.name ≡ Some name → StopsWalk (walk_in tree true front) stop → LeadsNowhere (locate_in tree MakesName parts) stop
 new_stops tree parts front last name stop split named stops =
     rw (named-split parts front last name split named, front-split parts front last split) (in_directory-stops tree name (walk_in tree true front) stop stops)
@@ -77,24 +77,24 @@ name_at tree parts front last name before whole split named ends steps =
       steps,
     ) refl
 
-standing-stops : (name : List ℕ) (walked whole : Walked) (stop : Stop) → StopsWalk walked stop → LeadsNowhere (standing_name (Some name) walked whole) stop
+standing-stops : (name : List ℕ) (walked whole : Walked) (stop : PlainStop) → StopsWalk walked stop → LeadsNowhere (standing_name (Some name) walked whole) stop
 standing-stops name (Reaches here passed) whole (Refused reply) stops = absurd (cc)
 standing-stops name (Refuses other passed) whole (Refused reply) stops = stops
 standing-stops name walked whole NoMemory stops = tt
 
-pub name_stops : (tree : FileTree) (parts front : List Part) (last : Part) (name : List ℕ) (stop : Stop) → parts ≡ front ++ last ∷ [] →
+pub name_stops : (tree : FileTree) (parts front : List Part) (last : Part) (name : List ℕ) (stop : PlainStop) → parts ≡ front ++ last ∷ [] →
     last.name ≡ Some name → StopsWalk (walk_in tree true front) stop → LeadsNowhere (locate_in tree TakesName parts) stop
 name_stops tree parts front last name stop split named stops =
     rw (named-split parts front last name split named, front-split parts front last split)
     (standing-stops name (walk_in tree true front) (walk_in tree false parts) stop stops)
 
-standing-ends : (name : List ℕ) (here : Position) (passed : List (ℕ × ℕ)) (whole : Walked) (stop : Stop) → StopsWalk whole stop →
+standing-ends : (name : List ℕ) (here : Position) (passed : List (ℕ × ℕ)) (whole : Walked) (stop : PlainStop) → StopsWalk whole stop →
     LeadsNowhere (standing_name (Some name) (Reaches here passed) whole) stop
 standing-ends name here passed (Reaches there more) (Refused reply) stops = absurd (cc)
 standing-ends name here passed (Refuses other more) (Refused reply) stops = stops
 standing-ends name here passed whole NoMemory stops = tt
 
-pub name_ends : (tree : FileTree) (parts front : List Part) (last : Part) (name : List ℕ) (before : Walk) (stop : Stop) → parts ≡ front ++ last ∷ [] →
+pub name_ends : (tree : FileTree) (parts front : List Part) (last : Part) (name : List ℕ) (before : Walk) (stop : PlainStop) → parts ≡ front ++ last ∷ [] →
     last.name ≡ Some name → EndsWalk (walk_in tree true front) before → StopsWalk (step_in tree false last before) stop →
     LeadsNowhere (locate_in tree TakesName parts) stop
 name_ends tree parts front last name before stop split named ends stops =
@@ -102,7 +102,7 @@ name_ends tree parts front last name before stop split named ends stops =
     (standing-ends name (place before.here) (pairs before.passed.items) (step_in tree false last before) stop stops)
 
 -- the place of a path's end
-pub end_stops : (walked : Walked) (stop : Stop) → StopsWalk walked stop → LeadsNowhere (at_end walked) stop
+pub end_stops : (walked : Walked) (stop : PlainStop) → StopsWalk walked stop → LeadsNowhere (at_end walked) stop
 end_stops (Reaches here passed) (Refused reply) stops = absurd (cc)
 end_stops (Refuses other passed) (Refused reply) stops = stops
 end_stops walked NoMemory stops = tt

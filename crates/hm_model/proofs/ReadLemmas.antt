@@ -8,7 +8,7 @@ use Rattle.hm_path.specs.Path.{IsPath, IsPathFault}
 use Rattle.hm_path.proofs.PathLemmas.{bad_place_is_one, no_bad_path, path_is_one}
 use Rattle.hm_model.specs.declared.reply.Reply.{Reply}
 use Rattle.hm_model.specs.declared.reply.Reply.TheVariants.{BadPath}
-use Rattle.hm_model.specs.declared.stop.Stop.TheVariants.{Refused}
+use Rattle.hm_model.specs.declared.stop.PlainStop.TheVariants.{Refused}
 use Rattle.hm_model.specs.Sites.{Parsed, Parts, BadAt, IsParsed, last_name}
 use Rattle.hm_model.specs.Stop.{stop_of}
 use Rattle.hm_model.specs.Due.{good_path, has_id}

@@ -3,8 +3,8 @@ use Rattle.std.proofs.Common.{◌≡◌, ℕ, suc, ◌+◌, ◌<◌, List, [], �
 use Rattle.std.proofs.Math.Seq.{drop-cons}
 use Rattle.hm_path.specs.declared.part.Part.{Part}
 use Rattle.hm_model.specs.declared.reply.Reply.{Reply}
-use Rattle.hm_model.specs.declared.stop.Stop.{Stop}
-use Rattle.hm_model.specs.declared.stop.Stop.TheVariants.{Refused, NoMemory}
+use Rattle.hm_model.specs.declared.stop.PlainStop.{PlainStop}
+use Rattle.hm_model.specs.declared.stop.PlainStop.TheVariants.{Refused, NoMemory}
 use Rattle.hm_model.specs.declared.walk.Walk.{Walk}
 use Rattle.hm_types.specs.Tree.{FileTree}
 use Rattle.hm_model.specs.Volume.{Volume}
@@ -47,7 +47,7 @@ walk_on-next volume view parts i d here passed within =
     rw (drop-cons parts i d within, follow_before-Follows (drop (suc i) parts)) refl
 
 -- what stops a step stops the walk
-pub stops-first : (walked : Walked) (k : Position → Passed → Walked) (stop : Stop) → StopsWalk walked stop → StopsWalk (and_then walked k) stop
+pub stops-first : (walked : Walked) (k : Position → Passed → Walked) (stop : PlainStop) → StopsWalk walked stop → StopsWalk (and_then walked k) stop
 stops-first (Reaches here passed) k (Refused reply) stops = absurd (cc)
 stops-first (Refuses other passed) k (Refused reply) stops = stops
 stops-first walked k NoMemory stops = tt
@@ -58,14 +58,14 @@ pub walk_in-last : (tree : FileTree) (follows : Bool) (parts front : List Part) 
 walk_in-last tree follows parts front last before split ends =
     rw (split, walk_on-last (plain_volume tree) (plain_view tree) (follow_of follows) front last start ((0, 1) ∷ []), ends) refl
 
-pub walk_in-stops : (tree : FileTree) (follows : Bool) (parts front : List Part) (last : Part) (stop : Stop) → parts ≡ front ++ last ∷ [] →
+pub walk_in-stops : (tree : FileTree) (follows : Bool) (parts front : List Part) (last : Part) (stop : PlainStop) → parts ≡ front ++ last ∷ [] →
     StopsWalk (walk_in tree true front) stop → StopsWalk (walk_in tree follows parts) stop
 walk_in-stops tree follows parts front last stop split stops =
     rw (split, walk_on-last (plain_volume tree) (plain_view tree) (follow_of follows) front last start ((0, 1) ∷ []))
     (stops-first (walk_in tree true front) (step (plain_volume tree) (plain_view tree) (follow_of follows) last) stop stops)
 
 -- a part of a walk that stops
-pub walk_on-stops : (tree : FileTree) (parts : List Part) (i : ℕ) (d : Part) (here : Walk) (stop : Stop) → i < length parts →
+pub walk_on-stops : (tree : FileTree) (parts : List Part) (i : ℕ) (d : Part) (here : Walk) (stop : PlainStop) → i < length parts →
     walk_in tree true parts ≡ walk_on (plain_volume tree) (plain_view tree) Follows (drop i parts) (place here.here) (pairs here.passed.items) →
     StopsWalk (step_in tree true (get_or parts i d) here) stop → StopsWalk (walk_in tree true parts) stop
 walk_on-stops tree parts i d here stop within same stops =

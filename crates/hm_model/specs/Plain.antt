@@ -5,8 +5,8 @@ use Rattle.hm_types.specs.declared.id.Obj.{Obj}
 use Rattle.hm_path.specs.Path.{IsPath}
 use Rattle.hm_path.specs.declared.part.Part.{Part}
 use Rattle.hm_model.specs.declared.reply.Reply.{Reply}
-use Rattle.hm_model.specs.declared.stop.Stop.{Stop}
-use Rattle.hm_model.specs.declared.stop.Stop.TheVariants.{Refused, NoMemory}
+use Rattle.hm_model.specs.declared.stop.PlainStop.{PlainStop}
+use Rattle.hm_model.specs.declared.stop.PlainStop.TheVariants.{Refused, NoMemory}
 use Rattle.hm_model.specs.declared.place.Place.{Place}
 use Rattle.hm_model.specs.declared.walk.Walk.{Walk}
 use Rattle.hm_model.specs.Reply.{is_refusal}
@@ -72,12 +72,12 @@ refusal_in (Reaches here passed) = None
 refusal_in (Refuses reply passed) = Some reply
 
 -- why a walk did not come to its end: it is refused so, or memory ran out
-abbrev pub StopsWalk : Walked → Stop → Type 0
+abbrev pub StopsWalk : Walked → PlainStop → Type 0
 StopsWalk walked (Refused reply) = refusal_in walked ≡ Some reply
 StopsWalk walked NoMemory = Unit {0}
 
 -- what stops a call is a refusal, or memory ran out
-abbrev pub IsRefusing : Stop → Type 0
+abbrev pub IsRefusing : PlainStop → Type 0
 IsRefusing (Refused reply) = is_refusal reply ≡ true
 IsRefusing NoMemory = Unit {0}
 
@@ -93,7 +93,7 @@ pub record IsRead (named : Bool) (word : List ℕ) (parts : List Part) : Type 0 
   pub good : good_path (use_needing named) (Parts parts) ≡ None
 
 -- why a word is not read: however it is read without an id, it is refused so; or memory ran out
-abbrev pub IsUnread : Bool → List ℕ → Stop → Type 0
+abbrev pub IsUnread : Bool → List ℕ → PlainStop → Type 0
 IsUnread named word (Refused reply) =
     (path : Parsed) → IsParsed word path → has_id path ≡ false → good_path (use_needing named) path ≡ Some reply
 IsUnread named word NoMemory = Unit {0}
@@ -116,6 +116,6 @@ abbrev pub LeadsTo : Located → Place → Type 0
 LeadsTo located p = located ≡ At (site_of p)
 
 -- why it leads nowhere: it is refused so, or memory ran out
-abbrev pub LeadsNowhere : Located → Stop → Type 0
+abbrev pub LeadsNowhere : Located → PlainStop → Type 0
 LeadsNowhere located (Refused reply) = walks located ≡ Some reply
 LeadsNowhere located NoMemory = Unit {0}

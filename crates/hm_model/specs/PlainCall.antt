@@ -10,8 +10,8 @@ use Rattle.hm_model.specs.declared.paths.Use.{Use as Purpose}
 use Rattle.hm_model.specs.declared.paths.Use.TheVariants.{New, Named, End}
 use Rattle.hm_model.specs.declared.place.Place.{Place}
 use Rattle.hm_model.specs.declared.reply.Reply.{Reply}
-use Rattle.hm_model.specs.declared.stop.Stop.{Stop}
-use Rattle.hm_model.specs.declared.stop.Stop.TheVariants.{Refused, NoMemory}
+use Rattle.hm_model.specs.declared.stop.PlainStop.{PlainStop}
+use Rattle.hm_model.specs.declared.stop.PlainStop.TheVariants.{Refused, NoMemory}
 use Rattle.hm_types.specs.Hash.{name_hash}
 use Rattle.hm_model.specs.Reply.{is_refusal}
 use Rattle.hm_types.specs.Tree.{FileTree}
@@ -148,6 +148,6 @@ pub record IsDueRefusal (tree : FileTree) (command : Command) (reply : Reply) : 
       ReadsNow command paths → refusal (inner_call size last tree command paths) ≡ Some reply
 
 -- why a command stopped: it is due a refusal, or memory ran out
-abbrev pub StopsCall : FileTree → Command → Stop → Type 0
+abbrev pub StopsCall : FileTree → Command → PlainStop → Type 0
 StopsCall tree command (Refused reply) = IsDueRefusal tree command reply
 StopsCall tree command NoMemory = Unit {0}

@@ -2,10 +2,10 @@
 use Rattle.hm_path.specs.declared.fault.PathFault.{PathFault}
 use Rattle.hm_path.specs.declared.fault.PathFault.TheVariants.{BadPath as BadAt, NoMemory as NoSpare}
 use Rattle.hm_model.specs.declared.reply.Reply.TheVariants.{BadPath}
-use Rattle.hm_model.specs.declared.stop.Stop.{Stop}
-use Rattle.hm_model.specs.declared.stop.Stop.TheVariants.{Refused, NoMemory}
+use Rattle.hm_model.specs.declared.stop.PlainStop.{PlainStop}
+use Rattle.hm_model.specs.declared.stop.PlainStop.TheVariants.{Refused, NoMemory}
 
 -- a path that is bad is refused with its place
-abbrev pub stop_of : PathFault → Stop
+abbrev pub stop_of : PathFault → PlainStop
 stop_of (BadAt place) = Refused (BadPath place)
 stop_of NoSpare = NoMemory

@@ -9,7 +9,7 @@ use crate::command::Command;
 use crate::place::{Place, place_of_end, place_of_name, place_of_new};
 use crate::read::read_path;
 use crate::reply::Reply;
-use crate::stop::Stop;
+use crate::stop::PlainStop;
 use crate::tree::Tree;
 use crate::walk::ROOT;
 use hm_path::Part;
@@ -70,7 +70,7 @@ pub(crate) fn find_places(
     alloc: Global,
     tree: &Tree,
     call: &Command,
-) -> Result<(Place, Place), Stop>
+) -> Result<(Place, Place), PlainStop>
     ensures ok { IfOk result (λ places. IsPlaced tree.now call.now places.0 places.1) }
     ensures err { IfErr result (StopsCall tree.now call.now) }
     ensures refuses { IfErr result IsRefusing }
@@ -88,12 +88,12 @@ pub(crate) fn find_places(
             let second = find_place(alloc, tree, v, next.parts())?;
             Ok((place, second))
         }
-        Paths::Other => Err(Stop::Refused(Reply::NotFile)),
+        Paths::Other => Err(PlainStop::Refused(Reply::NotFile)),
     }
 }
 
 // Where a path leads.
-fn find_place(alloc: Global, tree: &Tree, u: Use, parts: &[Part]) -> Result<Place, Stop>
+fn find_place(alloc: Global, tree: &Tree, u: Use, parts: &[Part]) -> Result<Place, PlainStop>
     requires now { All IsOfNow parts.now }
     requires named { good_path (use_needing (needs_name u)) (Parts parts.now) ≡ None }
     ensures ok { IfOk result (LeadsTo (locate_in tree.now (use_of u) parts.now)) }

@@ -5,7 +5,7 @@ ghost use Rattle.hm_model.specs.Due.{good_path};
 ghost use Rattle.hm_model.specs.Plain.{IsRefusing, IsOfNow, LeadsTo, LeadsNowhere, follow_of, locate_in};
 
 use crate::reply::Reply;
-use crate::stop::Stop;
+use crate::stop::PlainStop;
 use crate::tree::Tree;
 use crate::walk::{go_over, walk_along, walk_front};
 use hm_path::Part;
@@ -23,7 +23,7 @@ pub(crate) struct Place {
 }
 
 /// The place of a new name: the walk before it must end in a directory.
-pub(crate) fn place_of_new(alloc: Global, tree: &Tree, parts: &[Part]) -> Result<Place, Stop>
+pub(crate) fn place_of_new(alloc: Global, tree: &Tree, parts: &[Part]) -> Result<Place, PlainStop>
     requires now { All IsOfNow parts.now }
     requires named { good_path MakesName (Parts parts.now) ≡ None }
     ensures ok { IfOk result (LeadsTo (locate_in tree.now MakesName parts.now)) }
@@ -38,7 +38,7 @@ pub(crate) fn place_of_new(alloc: Global, tree: &Tree, parts: &[Part]) -> Result
     };
     let walk = walk_front(alloc, tree, front)?;
     if !tree.is_directory(walk.here) {
-        return Err(Stop::Refused(Reply::NotDir));
+        return Err(PlainStop::Refused(Reply::NotDir));
     }
     Ok(Place {
         at: walk.here,
@@ -49,7 +49,7 @@ pub(crate) fn place_of_new(alloc: Global, tree: &Tree, parts: &[Part]) -> Result
 }
 
 /// The place of a name that stands there.
-pub(crate) fn place_of_name(alloc: Global, tree: &Tree, parts: &[Part]) -> Result<Place, Stop>
+pub(crate) fn place_of_name(alloc: Global, tree: &Tree, parts: &[Part]) -> Result<Place, PlainStop>
     requires now { All IsOfNow parts.now }
     requires named { good_path TakesName (Parts parts.now) ≡ None }
     ensures ok { IfOk result (LeadsTo (locate_in tree.now TakesName parts.now)) }
@@ -80,7 +80,7 @@ pub(crate) fn place_of_end(
     tree: &Tree,
     follows: bool,
     parts: &[Part],
-) -> Result<Place, Stop>
+) -> Result<Place, PlainStop>
     requires { All IsOfNow parts.now }
     ensures ok { IfOk result (LeadsTo (locate_in tree.now (Walks (follow_of follows)) parts.now)) }
     ensures err { IfErr result

@@ -10,7 +10,7 @@ use crate::edit::edit;
 use crate::hash::hash_refusal;
 use crate::paths::find_places;
 use crate::reply::Reply;
-use crate::stop::Stop;
+use crate::stop::PlainStop;
 use crate::tree::Tree;
 use crate::tree_edit::copy_of;
 use hm_types::{Id, NoMemory};
@@ -53,11 +53,11 @@ pub fn apply(alloc: Global, tree: &Tree, call: &Command, id: Id) -> Result<(Repl
 }
 
 // The refusal that stopped a call, if it was one.
-fn refusal_of(stop: Stop) -> Result<Reply, NoMemory>
-    ensures { IfOk result (λ reply. stop ≡ Stop.Refused reply) }
+fn refusal_of(stop: PlainStop) -> Result<Reply, NoMemory>
+    ensures { IfOk result (λ reply. stop ≡ PlainStop.Refused reply) }
 {
     match stop {
-        Stop::Refused(reply) => Ok(reply),
-        Stop::NoMemory => Err(NoMemory),
+        PlainStop::Refused(reply) => Ok(reply),
+        PlainStop::NoMemory => Err(NoMemory),
     }
 }

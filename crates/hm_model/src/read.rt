@@ -7,24 +7,24 @@ ghost use Rattle.hm_model.specs.Due.{has_id};
 ghost use Rattle.hm_model.specs.Plain.{IsRefusing, IsRead, IsUnread};
 
 use crate::reply::Reply;
-use crate::stop::Stop;
+use crate::stop::PlainStop;
 use hm_path::{Part, Path, parse};
 use hm_types::Text;
 use std::alloc::Global;
 
 /// Reads a path word, which must have a last name where `named` says so. One tree has no past: a path
 /// with an id is refused with `ReadOnly`.
-pub(crate) fn read_path(alloc: Global, named: bool, word: &Text) -> Result<Path, Stop>
+pub(crate) fn read_path(alloc: Global, named: bool, word: &Text) -> Result<Path, PlainStop>
     ensures ok { IfOk result (IsRead named word.now) }
     ensures err { IfErr result (IsUnread named word.now) }
     ensures refuses { IfErr result IsRefusing }
 {
     let path = parse(alloc, word.bytes())?;
     if carries_id(path.parts()) {
-        return Err(Stop::Refused(Reply::ReadOnly));
+        return Err(PlainStop::Refused(Reply::ReadOnly));
     }
     if named && !has_last_name(path.parts()) {
-        return Err(Stop::Refused(Reply::BadPath { place: 0 }));
+        return Err(PlainStop::Refused(Reply::BadPath { place: 0 }));
     }
     Ok(path)
 }

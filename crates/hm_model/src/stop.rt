@@ -1,6 +1,6 @@
 // Why a plain call stopped before its end.
 ghost use Rattle.std.specs.Prelude.{◌≡◌};
-ghost use Rattle.hm_model.specs.declared.stop.Stop.TheVariants.{NoMemory as no_memory};
+ghost use Rattle.hm_model.specs.declared.stop.PlainStop.TheVariants.{NoMemory as no_memory};
 ghost use Rattle.hm_model.specs.Stop.{stop_of};
 
 use crate::reply::Reply;
@@ -10,44 +10,44 @@ use std::alloc::{AllocError, AllocFailed};
 
 /// Why a plain call stopped before its end.
 #[derive(Debug, Drop)]
-pub(crate) enum Stop {
+pub(crate) enum PlainStop {
     /// It is refused.
     Refused(Reply),
     /// An allocation was refused.
     NoMemory,
 }
 
-impl From<NoMemory> for Stop {
+impl From<NoMemory> for PlainStop {
     ghost from_gives = { λ _ stop. stop ≡ no_memory };
 
-    fn from(_: NoMemory) -> Stop {
-        Stop::NoMemory
+    fn from(_: NoMemory) -> PlainStop {
+        PlainStop::NoMemory
     }
 }
 
-impl From<AllocError> for Stop {
+impl From<AllocError> for PlainStop {
     ghost from_gives = { λ _ stop. stop ≡ no_memory };
 
-    fn from(_: AllocError) -> Stop {
-        Stop::NoMemory
+    fn from(_: AllocError) -> PlainStop {
+        PlainStop::NoMemory
     }
 }
 
-impl<T: Drop> From<AllocFailed<T>> for Stop {
+impl<T: Drop> From<AllocFailed<T>> for PlainStop {
     ghost from_gives = { λ _ stop. stop ≡ no_memory };
 
-    fn from(_: AllocFailed<T>) -> Stop {
-        Stop::NoMemory
+    fn from(_: AllocFailed<T>) -> PlainStop {
+        PlainStop::NoMemory
     }
 }
 
-impl From<PathFault> for Stop {
+impl From<PathFault> for PlainStop {
     ghost from_gives = { λ fault stop. stop ≡ stop_of fault };
 
-    fn from(fault: PathFault) -> Stop {
+    fn from(fault: PathFault) -> PlainStop {
         match fault {
-            PathFault::BadPath { place } => Stop::Refused(Reply::BadPath { place }),
-            PathFault::NoMemory => Stop::NoMemory,
+            PathFault::BadPath { place } => PlainStop::Refused(Reply::BadPath { place }),
+            PathFault::NoMemory => PlainStop::NoMemory,
         }
     }
 }

@@ -5,7 +5,7 @@ ghost use Rattle.hm_model.specs.Plain.{IsRefusing, IsOfNow, EndsWalk, StopsWalk,
 ghost use Rattle.hm_model.specs.Plain.{walk_in, step_in, name_in, object_on, entered_in};
 
 use crate::reply::Reply;
-use crate::stop::Stop;
+use crate::stop::PlainStop;
 use crate::tree::Tree;
 use hm_path::Part;
 use hm_types::{Content, Name, Obj, Pfs};
@@ -23,7 +23,7 @@ pub(crate) struct Walk {
 
 impl Walk {
     /// Goes on to this object.
-    fn reach(self, object: Obj) -> Result<Walk, Stop>
+    fn reach(self, object: Obj) -> Result<Walk, PlainStop>
         ensures ok { IfOk result (EndsWalk (reach (place object) (pairs self.passed.items))) }
         ensures err { IfErr result (StopsWalk (reach (place object) (pairs self.passed.items))) }
         ensures refuses { IfErr result IsRefusing }
@@ -38,7 +38,7 @@ impl Walk {
 }
 
 /// Walks over these parts from the root. A PFS link is followed, at their end too.
-pub(crate) fn walk_front(alloc: Global, tree: &Tree, parts: &[Part]) -> Result<Walk, Stop>
+pub(crate) fn walk_front(alloc: Global, tree: &Tree, parts: &[Part]) -> Result<Walk, PlainStop>
     requires { All IsOfNow parts.now }
     ensures ok { IfOk result (EndsWalk (walk_in tree.now true parts.now)) }
     ensures err { IfErr result (StopsWalk (walk_in tree.now true parts.now)) }
@@ -60,7 +60,7 @@ pub(crate) fn walk_along(
     tree: &Tree,
     follows: bool,
     parts: &[Part],
-) -> Result<Walk, Stop>
+) -> Result<Walk, PlainStop>
     requires { All IsOfNow parts.now }
     ensures ok { IfOk result (EndsWalk (walk_in tree.now follows parts.now)) }
     ensures err { IfErr result (StopsWalk (walk_in tree.now follows parts.now)) }
@@ -76,7 +76,12 @@ pub(crate) fn walk_along(
 }
 
 /// Goes over one part.
-pub(crate) fn go_over(tree: &Tree, follows: bool, part: &Part, walk: Walk) -> Result<Walk, Stop>
+pub(crate) fn go_over(
+    tree: &Tree,
+    follows: bool,
+    part: &Part,
+    walk: Walk,
+) -> Result<Walk, PlainStop>
     requires { IsOfNow part.now }
     ensures ok { IfOk result (EndsWalk (step_in tree.now follows part.now walk)) }
     ensures err { IfErr result (StopsWalk (step_in tree.now follows part.now walk)) }
@@ -86,31 +91,31 @@ pub(crate) fn go_over(tree: &Tree, follows: bool, part: &Part, walk: Walk) -> Re
         return Ok(walk);
     };
     if !tree.is_directory(walk.here) {
-        return Err(Stop::Refused(Reply::NotDir));
+        return Err(PlainStop::Refused(Reply::NotDir));
     }
     go_to_name(tree, follows, name, walk)
 }
 
 // Goes on to a name in the directory in hand.
-fn go_to_name(tree: &Tree, follows: bool, name: &Name, walk: Walk) -> Result<Walk, Stop>
+fn go_to_name(tree: &Tree, follows: bool, name: &Name, walk: Walk) -> Result<Walk, PlainStop>
     ensures ok { IfOk result (EndsWalk (name_in tree.now follows name.now walk)) }
     ensures err { IfErr result (StopsWalk (name_in tree.now follows name.now walk)) }
     ensures refuses { IfErr result IsRefusing }
 {
     match tree.named(walk.here, name) {
         Some(number) => go_to_object(tree, follows, number, walk),
-        None => Err(Stop::Refused(Reply::NotFound)),
+        None => Err(PlainStop::Refused(Reply::NotFound)),
     }
 }
 
 // Goes on to an object, which the tree must have.
-fn go_to_object(tree: &Tree, follows: bool, number: Obj, walk: Walk) -> Result<Walk, Stop>
+fn go_to_object(tree: &Tree, follows: bool, number: Obj, walk: Walk) -> Result<Walk, PlainStop>
     ensures ok { IfOk result (EndsWalk (object_on tree.now follows number walk)) }
     ensures err { IfErr result (StopsWalk (object_on tree.now follows number walk)) }
     ensures refuses { IfErr result IsRefusing }
 {
     let Some(object) = tree.object(number) else {
-        return Err(Stop::Refused(Reply::NotFound));
+        return Err(PlainStop::Refused(Reply::NotFound));
     };
     let there = walk.reach(number)?;
     match object.content {
@@ -120,13 +125,13 @@ fn go_to_object(tree: &Tree, follows: bool, number: Obj, walk: Walk) -> Result<W
 }
 
 // Goes over a PFS link. The only PFS is the one with number 0.
-fn go_over_link(tree: &Tree, pfs: Pfs, walk: Walk) -> Result<Walk, Stop>
+fn go_over_link(tree: &Tree, pfs: Pfs, walk: Walk) -> Result<Walk, PlainStop>
     ensures ok { IfOk result (EndsWalk (entered_in tree.now pfs.0 walk)) }
     ensures err { IfErr result (StopsWalk (entered_in tree.now pfs.0 walk)) }
     ensures refuses { IfErr result IsRefusing }
 {
     if pfs.0 != 0 || tree.object(ROOT).is_none() {
-        return Err(Stop::Refused(Reply::NotFound));
+        return Err(PlainStop::Refused(Reply::NotFound));
     }
     walk.reach(ROOT)
 }

@@ -32,8 +32,8 @@ use Rattle.hm_recover.specs.Put.{HasPutAll, MayPutAll}
 use Rattle.hm_recover.specs.Recovery.{HasWholeRange, IsRangeReady, IsRecovered, IsUntouched, KeepsRecovery, StillRecovers}
 use Rattle.hm_recover.specs.Stop.{IsFailed, IsStopped}
 use Rattle.hm_recover.specs.declared.opened.Opened.{Opened}
-use Rattle.hm_recover.specs.declared.stop.Stop.{Stop}
-use Rattle.hm_recover.specs.declared.stop.Stop.TheVariants.{Failed, Refused}
+use Rattle.hm_recover.specs.declared.stop.RecoveryStop.{RecoveryStop}
+use Rattle.hm_recover.specs.declared.stop.RecoveryStop.TheVariants.{Failed, Refused}
 use Rattle.hm_recover.proofs.PutLemmas.{elapses-after-read}
 use Rattle.hm_recover.proofs.PageLemmas.{entry-small, header-stays, range-out}
 
@@ -407,11 +407,11 @@ checked-whole old told header slot same some counts range =
     at (Some t) counts range = record { header = header; slot = slot; counts = counts; some = some; olds = range.0; range = range.1 }
 
 -- the disk failed while the pages of a whole range were put back
-failed-stops : (past since : LeftSince) (s t : Told) (stop : Stop) → HasWholeRange s.bytes → IsFailed stop → IsStopped stop past since s t
+failed-stops : (past since : LeftSince) (s t : Told) (stop : RecoveryStop) → HasWholeRange s.bytes → IsFailed stop → IsStopped stop past since s t
 failed-stops past since s t Failed whole failed = inr whole
 failed-stops past since s t (Refused fault) whole failed = absurd failed
 
-pub range-stops : (past middle since : LeftSince) (old told new : Option Told) (stop : Stop) → told ≡ old → IfSome old (λ t. HasWholeRange t.bytes)
+pub range-stops : (past middle since : LeftSince) (old told new : Option Told) (stop : RecoveryStop) → told ≡ old → IfSome old (λ t. HasWholeRange t.bytes)
     → BothTell told new (KeepsRecovery middle since) → IfSome told (λ _. IsFailed stop) → BothTell old new (IsStopped stop past since)
 range-stops past middle since old told new stop same whole both failed =
     at old new (subst (λ (o : Option Told). BothTell o new (KeepsRecovery middle since)) same both) whole

@@ -13,11 +13,11 @@ use Rattle.hm_recover.specs.Damage.{IsRangeDamage, IsWholeEntry}
 use Rattle.hm_recover.specs.Recovery.{HasWholeRange, IsRecoveryRefused, IsUntouched}
 use Rattle.hm_recover.specs.declared.fault.OpenFault.{OpenFault}
 use Rattle.hm_recover.specs.declared.fault.OpenFault.TheVariants.{BadField, Fault as of_disk, NotVolume}
-use Rattle.hm_recover.specs.declared.stop.Stop.{Stop}
-use Rattle.hm_recover.specs.declared.stop.Stop.TheVariants.{Failed, Refused}
+use Rattle.hm_recover.specs.declared.stop.RecoveryStop.{RecoveryStop}
+use Rattle.hm_recover.specs.declared.stop.RecoveryStop.TheVariants.{Failed, Refused}
 
 -- the disk failed
-abbrev pub IsFailed : Stop → Type 0
+abbrev pub IsFailed : RecoveryStop → Type 0
 IsFailed Failed = Unit {0}
 IsFailed (Refused fault) = ⊥
 
@@ -35,12 +35,12 @@ IsRefusal (of_disk (Damaged at kind)) = kind ≡ BAD_UNDO
 IsRefusal (of_disk NoMemory) = ⊥
 
 -- the disk failed only where its count of faults rose
-abbrev pub IsStopCaused : ℕ → ℕ → Stop → Type 0
+abbrev pub IsStopCaused : ℕ → ℕ → RecoveryStop → Type 0
 IsStopCaused old new Failed = Rose old new
 IsStopCaused old new (Refused fault) = IsRefusal fault
 
 -- a call kept or raised the count, and failed only where it rose
-pub record HasEndCause {T : Type 0} (old new : ℕ) (result : Result T Stop) : Type 0 where
+pub record HasEndCause {T : Type 0} (old new : ℕ) (result : Result T RecoveryStop) : Type 0 where
   pub never_falls : old ≤ new
   pub caused : IfErr result (IsStopCaused old new)
 
@@ -53,19 +53,19 @@ TellsRangeDamage image header (of_disk (Damaged at kind)) = (kind ≡ BAD_UNDO) 
 TellsRangeDamage image header (of_disk NoMemory) = ⊥
 
 -- the check of a range ended: the disk failed, or this is the damage that comes first
-abbrev pub IsRangeStop : List ℕ → Header → Stop → Type 0
+abbrev pub IsRangeStop : List ℕ → Header → RecoveryStop → Type 0
 IsRangeStop image header Failed = Unit {0}
 IsRangeStop image header (Refused fault) = TellsRangeDamage image header fault
 
 -- an entry with an old page stops nothing but by a failure of the disk
-abbrev pub IsNoDamage : Header → ℕ → Stop → Told → Type 0
+abbrev pub IsNoDamage : Header → ℕ → RecoveryStop → Told → Type 0
 IsNoDamage header entry stop t = IsWholeEntry t.bytes header entry → IsFailed stop
 
 -- so does a range of such entries
-abbrev pub IsNoRange : Header → Stop → Told → Type 0
+abbrev pub IsNoRange : Header → RecoveryStop → Told → Type 0
 IsNoRange header stop t = (olds : List OldPage) → HasRange t.bytes header olds → IsFailed stop
 
 -- a recovery ended early, and this is why: nothing was written, or the disk failed while the pages of a whole range were put back
-abbrev pub IsStopped : Stop → LeftSince → LeftSince → Told → Told → Type 0
+abbrev pub IsStopped : RecoveryStop → LeftSince → LeftSince → Told → Told → Type 0
 IsStopped Failed past since old new = IsUntouched past since old new ⊎ HasWholeRange old.bytes
 IsStopped (Refused fault) past since old new = IsRecoveryRefused fault past since old new

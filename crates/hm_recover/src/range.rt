@@ -14,7 +14,7 @@ ghost use Rattle.hm_recover.specs.Put.{HasPutPage, HasPutAll, MayPut, MayPutAll,
 ghost use Rattle.hm_recover.specs.Stop.{HasEndCause, IsNoDamage, IsNoRange, IsRangeStop};
 
 use crate::entry::{damage, read_entry};
-use crate::stop::Stop;
+use crate::stop::RecoveryStop;
 use hm_disk::Disk;
 use hm_fields::Page;
 use hm_header::Header;
@@ -23,7 +23,7 @@ use hm_undo::entry_at;
 
 /// Reads all entries of the range, from the last to the first, and stops at one that is damaged. One call
 /// of the disk an entry. It changes nothing on the disk.
-pub(crate) fn check_range<D: Disk>(disk: &mut D, header: &Header) -> Result<(), Stop>
+pub(crate) fn check_range<D: Disk>(disk: &mut D, header: &Header) -> Result<(), RecoveryStop>
     requires header { IsHeader header.now }
     requires space { IfSome (D.told disk.old) (HasSpaceFor header.now.bigblocks) }
     ensures ok { OnOk result (IfSome (D.told disk.old) (λ t.
@@ -38,7 +38,7 @@ pub(crate) fn check_range<D: Disk>(disk: &mut D, header: &Header) -> Result<(), 
     for i in (0..header.undo_count).rev() {
         let entry = entry_at(header.undo_first, i);
         if read_entry(disk, header, entry)?.is_none() {
-            return Err(Stop::Refused(damage(header.bigblocks, entry)));
+            return Err(RecoveryStop::Refused(damage(header.bigblocks, entry)));
         }
     }
     Ok(())
@@ -46,7 +46,7 @@ pub(crate) fn check_range<D: Disk>(disk: &mut D, header: &Header) -> Result<(), 
 
 /// Puts the old pages of the range back, from the last entry to the first. Two calls of the disk an entry.
 /// After an error some of the pages are put back, and some may be torn.
-pub(crate) fn put_back<D: Disk>(disk: &mut D, header: &Header) -> Result<(), Stop>
+pub(crate) fn put_back<D: Disk>(disk: &mut D, header: &Header) -> Result<(), RecoveryStop>
     requires header { IsHeader header.now }
     requires space { IfSome (D.told disk.old) (HasSpaceFor header.now.bigblocks) }
     ensures ok { OnOk result (BothTell (D.told disk.old) (D.told disk.new) (HasPutAll header.now)) }
@@ -62,7 +62,7 @@ pub(crate) fn put_back<D: Disk>(disk: &mut D, header: &Header) -> Result<(), Sto
 }
 
 /// Puts the old page of one entry back.
-fn put_page<D: Disk>(disk: &mut D, header: &Header, entry: u32) -> Result<(), Stop>
+fn put_page<D: Disk>(disk: &mut D, header: &Header, entry: u32) -> Result<(), RecoveryStop>
     requires header { IsHeader header.now }
     requires entry { entry < UNDO_ENTRIES }
     requires space { IfSome (D.told disk.old) (HasSpaceFor header.now.bigblocks) }
@@ -77,7 +77,7 @@ fn put_page<D: Disk>(disk: &mut D, header: &Header, entry: u32) -> Result<(), St
 {
     match read_entry(disk, header, entry)? {
         Some(old) => Ok(write_page(disk, &old)?),
-        None => Err(Stop::Refused(damage(header.bigblocks, entry))),
+        None => Err(RecoveryStop::Refused(damage(header.bigblocks, entry))),
     }
 }
 

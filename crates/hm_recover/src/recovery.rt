@@ -11,7 +11,7 @@ ghost use Rattle.hm_recover.specs.Stop.{HasEndCause, IsFailed, IsOfHeader, IsSto
 use crate::fault::OpenFault;
 use crate::opened::Opened;
 use crate::range::{check_range, put_back};
-use crate::stop::Stop;
+use crate::stop::RecoveryStop;
 use hm_disk::{Disk, disk_fault};
 use hm_header::{Header, HeaderFault, change_header};
 use hm_types::Failed;
@@ -39,13 +39,13 @@ pub fn recover<D: Disk>(disk: &mut D) -> Result<Opened, OpenFault>
     let before = disk.faults();
     match try_recover(disk) {
         Ok(opened) => Ok(opened),
-        Err(Stop::Failed) => Err(OpenFault::Fault(disk_fault(disk, before))),
-        Err(Stop::Refused(fault)) => Err(fault),
+        Err(RecoveryStop::Failed) => Err(OpenFault::Fault(disk_fault(disk, before))),
+        Err(RecoveryStop::Refused(fault)) => Err(fault),
     }
 }
 
 /// The same, with its errors as they are met.
-fn try_recover<D: Disk>(disk: &mut D) -> Result<Opened, Stop>
+fn try_recover<D: Disk>(disk: &mut D) -> Result<Opened, RecoveryStop>
     ensures opened { IfOk result IsOpenedHeader }
     ensures ok { IfOk result (λ opened. BothTell (D.told disk.old) (D.told disk.new)
         (IsRecovered opened (D.left_since disk.old) (D.left_since disk.new))) }
@@ -57,7 +57,7 @@ fn try_recover<D: Disk>(disk: &mut D) -> Result<Opened, Stop>
 {
     let (header, slot) = match hm_header::read_header(disk)? {
         Ok(answer) => answer,
-        Err(fault) => return Err(Stop::Refused(of_header(fault))),
+        Err(fault) => return Err(RecoveryStop::Refused(of_header(fault))),
     };
     if header.undo_count == 0 {
         return Ok(Opened { header, slot });
@@ -77,7 +77,7 @@ fn of_header(fault: HeaderFault) -> OpenFault
 }
 
 /// Undoes the range of the header that counts, in this slot. Each entry was checked.
-fn undo_range<D: Disk>(disk: &mut D, header: &Header, slot: u8) -> Result<Opened, Stop>
+fn undo_range<D: Disk>(disk: &mut D, header: &Header, slot: u8) -> Result<Opened, RecoveryStop>
     requires header { IsHeader header.now }
     requires slot { slot ≤ 1 }
     requires ready { IfSome (D.told disk.old) (IsRangeReady header.now slot) }

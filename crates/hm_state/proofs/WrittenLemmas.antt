@@ -30,7 +30,7 @@ use Rattle.hm_freemap.proofs.ListLemmas.{all_left, apart_left}
 use Rattle.hm_freemap.proofs.SpellLemmas.{entry_back, entry_spelled}
 use Rattle.hm_model.specs.Volume.{Volume}
 use Rattle.hm_image.specs.Image.{bytes_at, elements_from, full_of, pages_of, references_from}
-use Rattle.hm_image.specs.Sound.{HasEntry, IsAmongPayloads, IsFilled, IsSoundBy, free_in}
+use Rattle.hm_image.specs.Sound.{HasEntry, IsAmongPayloads, IsFilled, IsSoundBy, free_bytes_in}
 use Rattle.hm_image.specs.StandFor.{StandFor}
 use Rattle.hm_image.specs.Stands.{StandsFor}
 use Rattle.hm_load.proofs.TreeLemmas.{same_there}
@@ -158,7 +158,7 @@ module _ (h : Heap) (root : ℕ) (firm : IsFirm (basis_now h root)) (image : Lis
       (All-contains (IsBelow current) refs r (all_left (IsBelow current) refs _ firm.stand.below) at))
       refs (All-contains_itself refs)
 
-  free : (block : ℕ) → IsPool h.bigblocks block → (entries block).bytes_free ≡ free_in refs block
+  free : (block : ℕ) → IsPool h.bigblocks block → (entries block).bytes_free ≡ free_bytes_in refs block
   free block pool =
       ap (λ (e : Entry). e.bytes_free) (entry_same block pool)
       ∙ free_rest (entry_of current block).bytes_free (live_bytes refs block) (firm.stand.current block pool).free
@@ -189,7 +189,7 @@ module _ (h : Heap) (root : ℕ) (firm : IsFirm (basis_now h root)) (image : Lis
           apart = subst NoneOverlap (sym refs_same) (apart_left refs _ firm.stand.apart);
           few = subst AreFew (sym refs_same) firm.stand.few.2;
         };
-        free_bytes = λ block pool. subst (λ (rs : List Reference). (entries block).bytes_free ≡ free_in rs block) (sym refs_same) (free block pool);
+        free_bytes = λ block pool. subst (λ (rs : List Reference). (entries block).bytes_free ≡ free_bytes_in rs block) (sym refs_same) (free block pool);
       }
 
   -- and its elements are those of the space

@@ -7,7 +7,7 @@ ghost use Rattle.hm_records.specs.KeysFit.{KeysFit};
 ghost use Rattle.hm_records.specs.Payload.{KeyFits};
 ghost use Rattle.hm_image.specs.Examples.{entry_at, key_of_a, payload_at};
 ghost use Rattle.hm_image.specs.Fresh.{fresh_entry, inode_element, root_at};
-ghost use Rattle.hm_image.specs.Sound.{IsAmongPayloads, IsFilled, free_in};
+ghost use Rattle.hm_image.specs.Sound.{IsAmongPayloads, IsFilled, free_bytes_in};
 
 /// Two extents that share 16 bytes are refused. One that begins where the other ends is not, and
 /// neither are two references to one extent, whose lengths may differ by less than 16 bytes.
@@ -47,10 +47,10 @@ pub fn references_past_64_are_refused()
 /// Of a big-block with one extent of 32 bytes and two references to one of 40 bytes, which takes
 /// 48, 128 bytes are live, and no other number of free bytes counts than what is left.
 pub fn other_counts_of_free_bytes_are_refused()
-    ensures counted { free_in (payload_at 0 32 ∷ payload_at 32 40 ∷ payload_at 32 40 ∷ []) 12
+    ensures counted { free_bytes_in (payload_at 0 32 ∷ payload_at 32 40 ∷ payload_at 32 40 ∷ []) 12
         ≡ pos 8388480 }
     ensures refused { pos 8388481
-        ≢ free_in (payload_at 0 32 ∷ payload_at 32 40 ∷ payload_at 32 40 ∷ []) 12 }
+        ≢ free_bytes_in (payload_at 0 32 ∷ payload_at 32 40 ∷ payload_at 32 40 ∷ []) 12 }
 {}
 
 /// A directory entry is refused whose key differs from that of its name above the low 16 bits, and

@@ -1,7 +1,7 @@
 use Rattle.std.proofs.Common.{◌≡◌, ◌∙◌, sym, subst}
 use Rattle.hm_model.specs.declared.reply.Reply.{Reply}
-use Rattle.hm_model.specs.declared.stop.Stop.{Stop}
-use Rattle.hm_model.specs.declared.stop.Stop.TheVariants.{Refused}
+use Rattle.hm_model.specs.declared.stop.PlainStop.{PlainStop}
+use Rattle.hm_model.specs.declared.stop.PlainStop.TheVariants.{Refused}
 use Rattle.hm_model.specs.Plain.{IsRefusing}
 use Rattle.hm_model.specs.PlainCall.{StopsCall}
 use Rattle.hm_model.proofs.PlainDueLemmas.{own_refuses}
@@ -10,8 +10,8 @@ use Rattle.hm_model.proofs.plain.apply.Goals as goal
 
 pub returns-in-Err : goal.returns-in-Err
 returns-in-Err c =
-    let P : Stop → Type 0 = StopsCall c.args.tree.now c.args.call.now in
-    let Q : Stop → Type 0 = IsRefusing in
+    let P : PlainStop → Type 0 = StopsCall c.args.tree.now c.args.call.now in
+    let Q : PlainStop → Type 0 = IsRefusing in
     apply_refused c.args.tree.now c.args.call.now c.args.id.0 c.in_ok-refusal_of-in-Err.field-0 c.in_ok-copy_of-in-Err.field-0 c.requires.0 c.requires.1
     (subst P c.in_ok-refusal_of-in-Err.ensures c.in-Err.ensures.err) (subst Q c.in_ok-refusal_of-in-Err.ensures c.in-Err.ensures.refuses)
     c.in_ok-copy_of-in-Err.ensures

@@ -1,8 +1,8 @@
 use Rattle.std.proofs.Common.{◌≡◌, ◌∙◌, sym, subst}
 use Rattle.std.proofs.lemmas.Result.{IfOk-weaker}
 use Rattle.hm_model.specs.declared.reply.Reply.{Reply}
-use Rattle.hm_model.specs.declared.stop.Stop.{Stop}
-use Rattle.hm_model.specs.declared.stop.Stop.TheVariants.{Refused}
+use Rattle.hm_model.specs.declared.stop.PlainStop.{PlainStop}
+use Rattle.hm_model.specs.declared.stop.PlainStop.TheVariants.{Refused}
 use Rattle.hm_model.specs.Plain.{site_of}
 use Rattle.hm_model.specs.PlainCall.{IsLooked, StopsCall}
 use Rattle.hm_model.specs.PlainChecks.{answered_at}
@@ -11,7 +11,7 @@ use Rattle.hm_model.proofs.plain.look.Goals as goal
 
 pub returns-in-Err : goal.returns-in-Err
 returns-in-Err c =
-    let P : Stop → Type 0 = StopsCall c.args.tree.now c.args.call.now in
+    let P : PlainStop → Type 0 = StopsCall c.args.tree.now c.args.call.now in
     IfOk-weaker c.refusal_of.result (λ (r : Reply). c.in-Err.stop ≡ Refused r) (IsLooked c.args.tree.now c.args.call.now)
     (λ (r : Reply) (is : c.in-Err.stop ≡ Refused r). look_refused c.args.tree.now c.args.call.now r (subst P is c.in-Err.ensures.err))
     c.refusal_of.ensures
