@@ -57,7 +57,7 @@ use hm_types::{Counted, Fault, Id, NoMemory, Pfs, Text};
 use hm_view::snapshot_ids;
 use std::alloc::Global;
 
-/// OpensPrune `prune` or `prune-everything` of a path by its id, the one after the last that was drawn.
+/// Opens `prune` or `prune-everything` of a path by its id, the one after the last that was drawn.
 /// The reply is the one that the call is due, by the volume that the elements show: the refusal of
 /// the first of its checks that fails, and `no space` as the last of them, or else `ok`. What is
 /// accepted leads to the pseudo file system in which the path ends, whose record tells from now on
