@@ -139,7 +139,8 @@ module _ (old new : Store) (disk : Option Told) (books : Books) (whole : books.w
   keep_kept kept = kept_closed (heap_of new disk books) keeps.begin (subst AreNodes (sym keeps.current) (kept.nodes whole)) kept.size
 
 -- One that was dropped.
-module _ (old new : Store) (disk : Option Told) (books books' : Books) (drops : IsUndone old new) (opened : IsSome old.begin) where
+module _ (old new : Store) (disk : Option Told) (books books' : Books) (drops : IsUndone old new)
+    (opened : IsSome (heap_of old disk books).pages.begin) where
   pub undo_kept : books'.bigblocks ≡ books.bigblocks → IsKept (heap_of old disk books) → IsKept (heap_of new disk books')
   unfolding heap_of
   undo_kept same kept = kept_closed (heap_of new disk books') drops.begin (by_begin old.begin drops.current kept.begun opened)
