@@ -19,29 +19,22 @@ use Rattle.hm_pages.specs.Store.{Store}
 use Rattle.hm_undo.specs.Entry.{IsUndoPageOf}
 use Rattle.hm_flush.specs.declared.flush.Flush.{Flush}
 use Rattle.hm_flush.specs.declared.flush.Position.{Position}
-use Rattle.hm_flush.specs.declared.flush.Position.TheVariants.{Idle, Undoing, Arming, Placing, Committing}
+use Rattle.hm_flush.specs.declared.flush.Position.TheVariants.{Idle}
 use Rattle.hm_flush.specs.declared.stage.Stage.{Stage}
 use Rattle.hm_flush.specs.Calls.{AreFlushPlaces, FlushStands, HeaderStands, PagesMove, StageFails, StageSucceeds}
 use Rattle.hm_flush.specs.Ends.{StageDoes, StageEnds, StageTells}
-use Rattle.hm_flush.specs.Flush.{IsFlush, IsGroupAt, IsGroupOf, armed_header, begun_flush, tried}
+use Rattle.hm_flush.specs.Flush.{IsFlush, IsGroupOf, armed_header, begun_flush, tried}
 use Rattle.hm_flush.specs.Group.{Group, group_of}
 use Rattle.hm_flush.specs.Guard.{ArePlaced, ElapsesRecoverable, Guards, GuardsOn, HasSaved, IsUnarmedAt, guarded_at}
 use Rattle.hm_flush.specs.Recoverable.{HoldsPages}
 use Rattle.hm_flush.specs.Stages.{DueStageMade, MakesStage, asks, asks_at, due_stage, due_stage_at, moved_flush, range_of}
-use Rattle.hm_flush.proofs.StandLemmas.{lies-past, stands-on, stands-tried}
+use Rattle.hm_flush.proofs.StandLemmas.{group-len, lies-past, stands-on, stands-tried}
 use Rattle.hm_flush.proofs.StepLemmas.{Fits, elapses-recoverable, guards-on, guards-tried}
-
-pub group-pages : (p : Position) (f : Flush) (s : Store) → IsGroupAt p f s → p ≢ Idle → length s.frozen_group ≡ f.pages
-group-pages Idle f s group flight = absurd (flight refl)
-group-pages (Undoing from) f s group flight = group.pages
-group-pages (Arming change) f s group flight = group.pages
-group-pages (Placing i) f s group flight = group.pages
-group-pages (Committing change) f s group flight = group.pages
 
 module _ (f : Flush) (s : Store) (sound : IsFlush f) (group : IsGroupOf f s) (placed : AreFlushPlaces f.header.bigblocks s) (store : IsSound s)
     (flight : f.at ≢ Idle) (old new : Option Told) (stands : IfSome old (FlushStands f)) where
   fits : Fits f s
-  fits = record { sound = sound; len = group-pages f.at f s group; placed = placed; store = store.flush }
+  fits = record { sound = sound; len = λ flight. group-len f.at f s flight group; placed = placed; store = store.flush }
 
   pub guards-then : (s' : Store) (now : Header) → PagesMove f.at now s s' → BothTell old new (DueStageMade f (group_of s))
       → BothTell old new (GuardsOn f s (moved_flush (due_stage f (group_of s)) f) s')

@@ -15,4 +15,8 @@ pub mod SaveLemmas
 pub mod StepLemmas
 pub mod CallLemmas
 pub mod MadeUpLemmas
+pub mod PossibleLemmas
+pub mod ExampleLemmas
+pub mod PositionLemmas
 pub mod ReadLemmas
+pub mod SomeHeaderLemmas

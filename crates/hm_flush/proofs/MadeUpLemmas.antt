@@ -1,18 +1,14 @@
 -- Disks on which a guard holds.
-use Rattle.std.proofs.Common.{◌≡◌, ◌⊎◌, inl, inr, ⊎_elim, ℕ, ◌+◌, ◌-◌, ◌*◌, ◌<◌, ◌≤◌, Bool, true, false, List, [], ◌∷◌, ◌++◌, length, length-append, get_or, refl, sym, ◌∙◌, ap, subst, arith, nat_eq, replicate, slice_index, slice_range, Option, Some, None, unwrap_or, if◌then◌else◌}
-use Rattle.std.proofs.lemmas.Bool.{true≢false}
-use Rattle.std.proofs.lemmas.Bool.Decides.{Decides-eqb}
+use Rattle.std.proofs.Common.{◌≡◌, inl, inr, ℕ, ◌+◌, ◌-◌, ◌*◌, ◌≤◌, List, [], ◌∷◌, ◌++◌, length, length-append, get_or, sym, ◌∙◌, ap, subst, arith, replicate, slice_index, slice_range}
 use Rattle.std.proofs.lemmas.List.{length-replicate, get_or-replicate}
 use Rattle.hm_types.specs.declared.limits.TheConstants.{BIGBLOCK_BYTES, PAGE_BYTES}
 use Rattle.hm_types.specs.Offset.{byte_of}
-use Rattle.hm_disk.specs.Crash.{Told, MayLeave}
+use Rattle.hm_disk.specs.Crash.{Told}
 use Rattle.hm_disk.specs.Disk.{overwritten}
-use Rattle.hm_disk.proofs.OverwriteLemmas.{MayLeave-overwritten, get_or-overwritten_out, length-overwritten}
-use Rattle.hm_fields.specs.Fields.{Apart}
-use Rattle.hm_fields.specs.Pages.{PageMap}
+use Rattle.hm_disk.proofs.OverwriteLemmas.{get_or-overwritten_out, length-overwritten}
 use Rattle.hm_header.specs.declared.header.Header.{Header}
 use Rattle.hm_header.specs.declared.header.TheConstants.{GATE_OPEN, GATE_PLACE, SLOT_BYTES}
-use Rattle.hm_header.specs.Change.{AnyCrash, IsCounting}
+use Rattle.hm_header.specs.Change.{IsCounting}
 use Rattle.hm_header.specs.Layout.{body_of}
 use Rattle.hm_header.specs.OnDisk.{HasHeader, first_slot, second_slot, slot_in, slot_place}
 use Rattle.hm_header.specs.Range.{IsHeader}
@@ -21,17 +17,14 @@ use Rattle.hm_header.proofs.ChangeLemmas.{settled-any}
 use Rattle.hm_header.proofs.OnDiskLemmas.{slot-byte, slot-range}
 use Rattle.hm_header.proofs.SliceLemmas.{slice-overwritten}
 use Rattle.hm_header.proofs.SlotLemmas.{encoded_is_chosen, encoded_takes_part, length-body}
-use Rattle.hm_pages.specs.Store.{Store, empty_store}
+use Rattle.hm_pages.specs.Store.{Store}
 use Rattle.hm_undo.specs.Entry.{IsUndoPageOf}
 use Rattle.hm_undo.specs.Recovered.{with_slot}
 use Rattle.hm_undo.proofs.LogLemmas.{page-past_slots, page-within}
-use Rattle.hm_flush.specs.declared.flush.Flush.{Flush}
 use Rattle.hm_flush.specs.declared.flush.Position.TheVariants.{Idle}
-use Rattle.hm_flush.specs.Calls.{IsFlushReady}
 use Rattle.hm_flush.specs.Flush.{idle_flush}
 use Rattle.hm_flush.specs.Guard.{ArePlaced, Guards, guarded_at}
-use Rattle.hm_flush.specs.Recoverable.{HoldsPages, IsInPages}
-use Rattle.hm_flush.proofs.GuardLemmas.{guarded-same, needs_at}
+use Rattle.hm_flush.specs.Recoverable.{HoldsPages}
 use Rattle.hm_flush.proofs.PageLemmas.{page-same, page-written}
 
 -- where a header counts that names no range, on a disk that is settled
@@ -112,76 +105,3 @@ module _ (header : Header) (page : List ℕ) (is : IsHeader header) (sized : len
       (λ byte within below.
       get_or-overwritten_out based (slot_place 0) slot-bytes byte slot-fits below (inr (omega (arith, within, past, slot-long))))
       (page-written blank header.root page sized inside)
-
-  -- the store that has this page alone
-  abbrev root-map : PageMap
-  root-map at = if nat_eq at header.root then Some page else None
-
-  abbrev pub root-store : Store
-  root-store = record empty_store { committed = root-map; frozen = root-map; current = root-map }
-
-  root-only : (at : ℕ) (other : List ℕ) → root-map at ≡ Some other → (at ≡ header.root) × (page ≡ other)
-  root-only at other there = step (nat_eq at header.root) refl there
-    where
-      step : (b : Bool) → nat_eq at header.root ≡ b → (if b then Some page else None) ≡ Some other → (at ≡ header.root) × (page ≡ other)
-      step true same some = ((Decides-eqb at header.root).0 same, ap (λ (o : Option (List ℕ)). unwrap_or o []) some)
-      step false same some = absurd (cc)
-
-  pub root-there : root-map header.root ≡ Some page
-  root-there = ap (λ (b : Bool). if b then Some page else None) ((Decides-eqb header.root header.root).1 refl)
-
-  placed : ArePlaced header.bigblocks root-map
-  placed at other there = subst (λ (k : ℕ). IsUndoPageOf header.bigblocks k) (sym (root-only at other there).0) root
-
-  holds : HoldsPages root-map made-up
-  holds at other there =
-      let only = root-only at other there in
-      subst (λ (k : ℕ). slice_range made-up (byte_of k) (byte_of k + PAGE_BYTES) ≡ other) (sym only.0) (root-stands ∙ only.1)
-
-  pub root-ready : IsFlushReady (idle_flush header 0) root-store
-  root-ready = record {
-    closed = refl;
-    group = refl;
-    placed = record { current = λ at changed there. absurd (true≢false (sym changed)); frozen = λ i below. absurd (omega (arith, below)) };
-  }
-
-  module _ (place count : ℕ) (away : 2 * SLOT_BYTES ≤ place) (apart : Apart (byte_of header.root) PAGE_BYTES place count) where
-    abbrev pub made-told : Told
-    made-told = record { bytes = made-up; unsettled = (place, count) ∷ []; moment = 0 }
-
-    out : (byte : ℕ) → needs_at Idle (idle_flush header 0) root-store byte → (byte < place) ⊎ (place + count ≤ byte)
-    out byte (inl slots) = inl (omega (arith, slots, away))
-    out byte (inr within) = side apart
-      where
-        same : byte_of within.0 ≡ byte_of header.root
-        same = ap (λ (k : ℕ). byte_of k) (root-only within.0 within.1 within.2).0
-
-        side : Apart (byte_of header.root) PAGE_BYTES place count → (byte < place) ⊎ (place + count ≤ byte)
-        side (inl low) = inl (omega (arith, low, within.3, same))
-        side (inr high) = inr (omega (arith, high, within.3, same))
-
-    pub some-guarded : header.undo_count ≡ 0 → Guards (idle_flush header 0) root-store made-told
-    some-guarded none = record {
-      stands = record { room = counts.room; header = counts };
-      committed = placed;
-      frozen = placed;
-      unarmed = none;
-      crash = λ image left.
-          guarded-same made-up image left.size Idle (idle_flush header 0) root-store (λ byte need below. left.same byte below (out byte need, tt))
-          (counts, holds);
-      read = tt;
-    }
-
--- a flush that is idle is guarded on some disk, with a page that is committed, and a range that is unsettled
-pub some-disk : (header : Header) (page : List ℕ) (place count : ℕ) → IsHeader header → header.undo_count ≡ 0 → length page ≡ PAGE_BYTES
-    → 2 * SLOT_BYTES ≤ place → Apart (byte_of header.root) PAGE_BYTES place count
-    → (s : Store) × (t : Told) × IsFlushReady (idle_flush header 0) s × Guards (idle_flush header 0) s t
-    × (s.committed header.root ≡ Some page) × (t.unsettled ≡ (place, count) ∷ [])
-some-disk header page place count is none sized away apart = (
-  root-store header page is sized,
-  made-told header page is sized place count away apart,
-  root-ready header page is sized,
-  some-guarded header page is sized place count away apart none,
-  root-there header page is sized,
-  refl,
-)

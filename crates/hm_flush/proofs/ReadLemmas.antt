@@ -25,9 +25,9 @@ use Rattle.hm_flush.specs.Flush.{IsFlush, begun_flush, next_generation, tried, t
 use Rattle.hm_flush.specs.Group.{Group, group_of, live_before}
 use Rattle.hm_flush.specs.Guard.{Guards, guarded_at}
 use Rattle.hm_flush.specs.Stages.{DueStageMade, IsStageMade, MakesStage, asks, due_stage, due_stage_at, moved_flush, range_of, stage_range, undo_range}
-use Rattle.hm_flush.proofs.CallLemmas.{group-pages, guards-begun}
+use Rattle.hm_flush.proofs.CallLemmas.{guards-begun}
 use Rattle.hm_flush.proofs.MakeLemmas.{made-place, made-undo}
-use Rattle.hm_flush.proofs.StandLemmas.{LiesPast, header-none, lies-past, stands-on, stands-tried}
+use Rattle.hm_flush.proofs.StandLemmas.{LiesPast, group-len, header-none, lies-past, stands-on, stands-tried}
 use Rattle.hm_flush.proofs.StepLemmas.{Fits, guards-on, guards-tried}
 
 -- an image of the bytes alone is one that a crash may leave
@@ -115,7 +115,7 @@ failed-as-read Has place count old new failed = record {
 
 module _ (f : Flush) (s : Store) (sound : IsFlush f) (ready : IsFlushReady f s) (store : IsSound s) (old new : Told) (guards : Guards f s (as_read old)) where
   fits : Fits f s
-  fits = record { sound = sound; len = group-pages f.at f s ready.group; placed = ready.placed; store = store.flush }
+  fits = record { sound = sound; len = λ flight. group-len f.at f s flight ready.group; placed = ready.placed; store = store.flush }
 
   past : f.at ≢ Idle → LiesPast (due_stage f (group_of s)) f (group_of s) (length old.bytes)
   past flight = lies-past f s (length old.bytes) flight sound ready.group ready.placed guards.stands.room

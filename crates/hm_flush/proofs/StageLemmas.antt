@@ -126,7 +126,7 @@ module _ (f : Flush) (s : Store) (sound : IsFlush f) (group : IsGroupOf f s) (pl
       each a b here did = stands-tried f (group_of s) a b flight here (past (due_stage f (group_of s)) refl a here) did
 
 -- What a stage asks for stands where the flush does.
-asks-stand : (p : Position) (f : Flush) (t : Told) → HeaderStands p f t → AnyCrash (asks_at p f) t
+pub asks-stand : (p : Position) (f : Flush) (t : Told) → HeaderStands p f t → AnyCrash (asks_at p f) t
 asks-stand Idle f t stands = λ image left. tt
 asks-stand (Undoing from) f t stands = λ image left. tt
 asks-stand (Arming change) f t stands = for-change change f t stands
@@ -171,7 +171,7 @@ freeze-no : IsChangeDue Freeze → ⊥
 freeze-no (inl (x, is)) = cc
 freeze-no (inr (x, is)) = cc
 
-change-stands : (p : Position) (f : Flush) (g : Group) (t : Told) → IsChangeDue (due_stage_at p f g) → HeaderStands p f t
+pub change-stands : (p : Position) (f : Flush) (g : Group) (t : Told) → IsChangeDue (due_stage_at p f g) → HeaderStands p f t
     → AnyCrash (change_asks (due_change p) f.header f.slot (header_to_write f)) t
 change-stands Idle f g t is stands = absurd (freeze-no is)
 change-stands (Undoing from) f g t is stands = absurd (undo-no (nat_lt (next_live g.was_live from (f.pages - from)) f.pages) _ is)

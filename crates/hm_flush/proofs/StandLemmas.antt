@@ -52,7 +52,7 @@ numbered-place : (b : Bool) (n pages : ℕ) → nat_lt n pages ≡ b → IsNumbe
 numbered-place true n pages is = ltb-true _ _ is
 numbered-place false n pages is = tt
 
-numbered : (p : Position) (f : Flush) (g : Group) → IsNumbered (due_stage_at p f g) f.pages
+pub numbered : (p : Position) (f : Flush) (g : Group) → IsNumbered (due_stage_at p f g) f.pages
 numbered Idle f g = tt
 numbered (Undoing from) f g =
     numbered-undo (nat_lt (next_live g.was_live from (f.pages - from)) f.pages) (next_live g.was_live from (f.pages - from)) f.pages refl
@@ -79,7 +79,7 @@ lies (Place i) f s size sound len placed room number =
 lies PlaceSync f s size sound len placed room number = tt
 lies (Commit n) f s size sound len placed room number = tt
 
-group-len : (p : Position) (f : Flush) (s : Store) → p ≢ Idle → IsGroupAt p f s → length s.frozen_group ≡ f.pages
+pub group-len : (p : Position) (f : Flush) (s : Store) → p ≢ Idle → IsGroupAt p f s → length s.frozen_group ≡ f.pages
 group-len Idle f s flight group = absurd (flight refl)
 group-len (Undoing from) f s flight group = group.pages
 group-len (Arming change) f s flight group = group.pages

@@ -160,7 +160,7 @@ saved-on header written s a b from next page is room few named live stood skips 
         ∙ (length-slice a.bytes (byte_of (slice_index s.frozen_group next)) (byte_of (slice_index s.frozen_group next) + PAGE_BYTES) inside ∙ cut)
 
 -- all of them do
-saved-all : (header : Header) (s : Store) (from to len : ℕ) (bytes : List ℕ) → len ≤ to
+pub saved-all : (header : Header) (s : Store) (from to len : ℕ) (bytes : List ℕ) → len ≤ to
     → ((i : ℕ) → from ≤ i → i < to → is_some (s.committed (slice_index s.frozen_group i)) ≡ false)
     → HasSaved header s from bytes → HasSaved header s len bytes
 saved-all header s from to len bytes past skips saved = record {

@@ -7,3 +7,4 @@ pub mod Calls
 pub mod Recoverable
 pub mod Guard
 pub mod Ends
+pub mod Example

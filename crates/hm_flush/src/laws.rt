@@ -1,20 +1,17 @@
 // What follows from the definitions alone: each function states one law, and does nothing.
-ghost use Rattle.std.specs.Prelude.{◌≡◌, ◌↔◌, ◌≤◌, ◌*◌, ℕ, List, [], ◌∷◌, Result, Some, length};
+ghost use Rattle.std.specs.Prelude.{◌≡◌, ◌↔◌, ℕ, [], Result};
 ghost use Rattle.hm_disk.specs.Crash.{Told, MayLeave};
 ghost use Rattle.hm_disk.specs.Moments.{Each};
 ghost use Rattle.hm_types.specs.declared.fault.Fault.{Fault};
-ghost use Rattle.hm_types.specs.declared.limits.TheConstants.{PAGE_BYTES};
-ghost use Rattle.hm_types.specs.Offset.{byte_of};
-ghost use Rattle.hm_fields.specs.Fields.{Apart};
 ghost use Rattle.hm_header.specs.declared.header.Header.{Header};
-ghost use Rattle.hm_header.specs.declared.header.TheConstants.{SLOT_BYTES};
-ghost use Rattle.hm_header.specs.Range.{IsHeader};
 ghost use Rattle.hm_header.specs.Change.{HaveSameSlots, IsCounting};
 ghost use Rattle.hm_flush.specs.declared.flush.Flush.{Flush};
+ghost use Rattle.hm_flush.specs.declared.flush.Position.{Position};
 ghost use Rattle.hm_flush.specs.declared.flush.Position.TheVariants.{Idle};
 ghost use Rattle.hm_flush.specs.declared.stage.Stage.{Stage};
 ghost use Rattle.hm_flush.specs.Calls.{FlushStands, IsFlushReady};
 ghost use Rattle.hm_flush.specs.Ends.{StageDoes, StageEnds, as_read};
+ghost use Rattle.hm_flush.specs.Example.{GuardedAt, IsPositionOf};
 ghost use Rattle.hm_flush.specs.Flush.{IsFlush, idle_flush, left};
 ghost use Rattle.hm_flush.specs.Group.{group_of};
 ghost use Rattle.hm_flush.specs.Guard.{ArePlaced, Guards, HaveSameGuarded};
@@ -69,13 +66,10 @@ pub fn a_settled_disk_is_guarded()
         t.unsettled ≡ [] → Guards (idle_flush header slot) s t }
 {}
 
-/// For each header in range that names no range there is a disk on which an idle flush is guarded and
-/// ready, with a committed page where the root stands, and with any range unsettled that meets neither
-/// the slots nor this page. So the guard is no contradiction.
-pub fn some_disk_is_guarded()
-    ensures { (header : Header) (page : List ℕ) (place count : ℕ) → IsHeader header →
-        header.undo_count ≡ 0 → length page ≡ PAGE_BYTES → 2 * SLOT_BYTES ≤ place →
-        Apart (byte_of header.root) PAGE_BYTES place count → (s : Store) × (t : Told)
-        × IsFlushReady (idle_flush header 0) s × Guards (idle_flush header 0) s t
-        × (s.committed header.root ≡ Some page) × (t.unsettled ≡ (place, count) ∷ []) }
+/// For each position that a flush of two pages may have, tried or not, there are a flush at it, a store and
+/// a disk for which the guard holds, and of which the stage that is due can be made. One page of the group
+/// was live as committed, one was not, and a payload is unsettled. So no position's guard is a
+/// contradiction.
+pub fn each_position_is_guarded_on_some_disk()
+    ensures { (p : Position) → IsPositionOf 2 p → GuardedAt p }
 {}

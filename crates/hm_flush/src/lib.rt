@@ -12,8 +12,9 @@ mod stage;
 
 pub use flusher::Flusher;
 pub use laws::{
-    a_settled_disk_is_guarded, no_stage_is_left_where_none_is_in_flight,
-    same_guarded_bytes_keep_the_guard, same_slots_keep_what_a_flush_asks_for, some_disk_is_guarded,
-    what_is_guarded_as_read_stays_so, what_is_guarded_is_recoverable,
+    a_settled_disk_is_guarded, each_position_is_guarded_on_some_disk,
+    no_stage_is_left_where_none_is_in_flight, same_guarded_bytes_keep_the_guard,
+    same_slots_keep_what_a_flush_asks_for, what_is_guarded_as_read_stays_so,
+    what_is_guarded_is_recoverable,
 };
 pub use stage::Stage;
