@@ -15,11 +15,15 @@ pub enum Ask {
     Write(u32),
     // Puts this byte into its first 20,000: a whole block, and a part of the next.
     Fill(u32, u8),
+    // Puts this byte into its first ones, one more than it says.
+    Grow(u32, u8),
     Truncate(u32, u64),
     // Its first nine bytes.
     Cat(u32),
-    // The same, as of an id below 10.
-    CatAt(u8, u32),
+    // As of an id, its bytes in this block of 16,384.
+    BlockAt(u8, u32, u8),
+    // The first nine of these.
+    FrontAt(u8, u32, u8),
     Stat(u32),
     Rm(u32),
     Ls,
@@ -60,12 +64,43 @@ impl Ask {
                     byte,
                 })
             }
+            Ask::Grow(file, byte) => {
+                let path = path(alloc, None, file)?;
+                Ok(Command::Fill {
+                    path,
+                    offset: 0,
+                    count: 1 + u32::from(byte),
+                    byte,
+                })
+            }
             Ask::Truncate(file, size) => {
                 let path = path(alloc, None, file)?;
                 Ok(Command::Truncate { path, size })
             }
-            Ask::Cat(file) => cat(path(alloc, None, file)?),
-            Ask::CatAt(id, file) => cat(path(alloc, Some(id), file)?),
+            Ask::Cat(file) => {
+                let path = path(alloc, None, file)?;
+                Ok(Command::Cat {
+                    path,
+                    offset: 0,
+                    count: 9,
+                })
+            }
+            Ask::BlockAt(id, file, block) => {
+                let path = path(alloc, Some(id), file)?;
+                Ok(Command::Cat {
+                    path,
+                    offset: 16_384 * u64::from(block),
+                    count: 16_384,
+                })
+            }
+            Ask::FrontAt(id, file, block) => {
+                let path = path(alloc, Some(id), file)?;
+                Ok(Command::Cat {
+                    path,
+                    offset: 16_384 * u64::from(block),
+                    count: 9,
+                })
+            }
             Ask::Stat(file) => {
                 let path = path(alloc, None, file)?;
                 Ok(Command::Stat { path })
@@ -93,25 +128,24 @@ impl Ask {
     }
 }
 
-fn cat(path: Text) -> Result<Command, NoMemory>
-    ensures { IfOk result IsAsked }
-{
-    Ok(Command::Cat {
-        path,
-        offset: 0,
-        count: 9,
-    })
-}
-
-// The root, as of an id below 10.
+// The root, as of an id.
 fn root(alloc: Global, id: Option<u8>) -> Result<Vec<u8>, NoMemory> {
     let mut bytes = Vec::new(alloc);
     bytes.push(b'/')?;
     if let Some(id) = id {
-        bytes.extend_from_slice(b"@@0x000000000000000")?;
-        bytes.push(b'0' + id % 10)?;
+        bytes.extend_from_slice(b"@@0x00000000000000")?;
+        bytes.push(digit(id / 16))?;
+        bytes.push(digit(id % 16))?;
     }
     Ok(bytes)
+}
+
+// The hexadecimal digit of a number below 16.
+fn digit(value: u8) -> u8 {
+    match value % 16 {
+        low if low < 10 => b'0' + low,
+        high => b'a' + (high - 10),
+    }
 }
 
 // The path of a file: four letters after the slash, which say its number.

@@ -1,20 +1,22 @@
 // Crashes within a flush, between whose stages calls go on, and within the recoveries that follow: each image is
 // mounted, and compared with a volume that ran the calls up to its boundary alone.
 use crate::asks::Ask;
+use crate::crashes::{Due, Volumes, mount_all};
+use crate::shown::{Look, Shown};
 use crate::test_disk::TestDisk;
 use crate::volume::{
-    CALLS_OF_MOUNT, FAILED, Volume, answered, answers, do_all, finished, made, mounted, stopped,
-    synced, tell_same,
+    CALLS_OF_MOUNT, Volume, answered, answers, do_all, finished, has_free, made, mounted, stopped,
+    synced,
 };
-use hm_disk_forms::Crash;
+use hm_disk::Disk;
 use hm_model::Reply;
-use hm_types::{Id, NoMemory};
+use hm_types::{BIGBLOCK_BYTES, Id, NoMemory};
 use std::alloc::Global;
 use std::process::Abort;
 use std::test::Fail;
 
-// What is committed before the flush, with the ids 2 to 9.
-const FIRST: [Ask; 8] = [
+// What is committed before the flush, with the ids 2 to 10.
+const FIRST: [Ask; 9] = [
     Ask::Touch(0),
     Ask::Fill(0, 1),
     Ask::Mkdir(1),
@@ -23,69 +25,96 @@ const FIRST: [Ask; 8] = [
     Ask::Touch(3),
     Ask::Fill(3, 3),
     Ask::Rm(2),
+    Ask::Touch(4),
 ];
 
-// How many files are made after these, so that the tree has a root above its leaves.
-const FILES: u32 = 30;
+// How often the last of these files grows then, so that the tree has a root above its leaves.
+const GROWS: u8 = 24;
 
-const COMMITTED: Id = Id(39);
+const COMMITTED: Id = Id(34);
 
-// What the flush brings, after a sync with the id 40.
+// What the flush brings, after a sync with the id 35.
 const SECOND: [Ask; 5] = [
     Ask::Fill(0, 4),
     Ask::Truncate(3, 5),
-    Ask::Touch(4),
-    Ask::Write(4),
     Ask::Touch(5),
+    Ask::Write(5),
+    Ask::Touch(6),
 ];
 
-const FROZEN: Id = Id(45);
+const FROZEN: Id = Id(40);
 
 // Four pages changed, all of them live: the root, two leaves and one of layer 2.
 const STAGES: u32 = 17;
 
-// What goes on between its stages. The root and all leaves are frozen, and change again.
-fn between(stage: u32) -> Ask {
-    match stage % 5 {
-        0 => Ask::Touch(stage.saturating_add(10)),
-        1 => Ask::Fill(0, 9),
-        2 => Ask::Truncate(3, 0),
-        3 => Ask::Rm(stage.saturating_add(7)),
-        _ => Ask::Write(5),
-    }
+// After so many of them the header is opened that names the log, and after so many half of the pages are placed, and
+// all of them.
+const ARMED: u32 = 9;
+
+const HALF_PLACED: u32 = 11;
+
+const PLACED: u32 = 13;
+
+// What goes on between two stages.
+#[derive(Clone, Copy)]
+enum Between {
+    // A call is done.
+    Done(Ask),
+    // One that begins a new big-block is done, of so many free ones.
+    Begins(Ask, u32),
+    // One fails after so many faults, and is dropped.
+    Fails(Ask, u64),
 }
 
-// After this stage a call fails and is dropped: the second write of its bytes is this call of the disk, which fails.
-const DROPS: u32 = 6;
-
-const DROPPED: u64 = 319;
-
-// What is asked of each volume, as of now and as of earlier ids.
-const VIEWS: [Ask; 11] = [
-    Ask::Ls,
-    Ask::Cat(0),
-    Ask::Stat(0),
-    Ask::Cat(3),
-    Ask::Stat(3),
-    Ask::Cat(4),
-    Ask::LsAt(6),
-    Ask::LsAt(9),
-    Ask::CatAt(2, 0),
-    Ask::CatAt(6, 2),
-    Ask::CatAt(8, 3),
+// After each stage but the last. The root and all leaves are frozen, and change again.
+const BETWEEN: [Between; 16] = [
+    // Freeze, and four of Undo.
+    Between::Done(Ask::Touch(10)),
+    Between::Done(Ask::Fill(0, 9)),
+    Between::Begins(Ask::Fill(3, 6), 9),
+    Between::Done(Ask::Rm(10)),
+    Between::Done(Ask::Truncate(3, 0)),
+    // UndoSync, and three of Arm.
+    Between::Fails(Ask::Fill(5, 7), 0),
+    Between::Done(Ask::Touch(11)),
+    Between::Done(Ask::Write(6)),
+    Between::Done(Ask::Fill(0, 8)),
+    // Four of Place, and PlaceSync.
+    Between::Begins(Ask::Fill(3, 2), 8),
+    Between::Fails(Ask::Fill(5, 7), 1),
+    Between::Done(Ask::Touch(12)),
+    Between::Done(Ask::Truncate(0, 5)),
+    Between::Done(Ask::Rm(11)),
+    // Two of Commit.
+    Between::Done(Ask::Write(5)),
+    Between::Done(Ask::Truncate(3, 1)),
 ];
+
+// The calls of the disk that fail: of each call that fails the second write of its bytes.
+const FAILS: [u64; 2] = [CALLS_OF_MOUNT + 383, CALLS_OF_MOUNT + 431];
+
+// Where the entries of layer 2 say how far the append big-blocks of zones 10 and 11 are filled: 13 and 14. To the
+// reserve of 131,072 bytes one lacks three blocks of 16,384 bytes, and the other 20,000 bytes.
+const FILLED: [(u64, u32); 2] = [
+    (2 * BIGBLOCK_BYTES + 16 * 13 + 4, 8_257_536 - 3 * 16_384),
+    (2 * BIGBLOCK_BYTES + 16 * 14 + 4, 8_257_536 - 20_000),
+];
+
+// A new volume two of whose append big-blocks are nearly filled.
+fn nearly_filled(rt: &impl Abort, alloc: Global) -> Result<TestDisk, NoMemory> {
+    let mut disk = made(rt, alloc);
+    for (place, filled) in FILLED {
+        assert_eq!(rt; disk.write_at(place, &filled.to_le_bytes()), Ok(()));
+    }
+    disk.copy(alloc)
+}
 
 // A volume as it is to be committed first.
 fn used(rt: &impl Abort, alloc: Global, disk: TestDisk) -> Result<Volume, NoMemory> {
     let mut core = mounted(rt, alloc, disk);
     do_all(rt, alloc, &mut core, &FIRST)?;
-    for file in 0..FILES {
-        do_all(
-            rt,
-            alloc,
-            &mut core,
-            &[Ask::Touch(file.saturating_add(100))],
-        )?;
+    for byte in 1..=GROWS {
+        do_all(rt, alloc, &mut core, &[Ask::Grow(4, byte)])?;
     }
     Ok(core)
 }
@@ -99,230 +128,155 @@ fn begun(rt: &impl Abort, alloc: Global, disk: TestDisk) -> Result<Volume, NoMem
     Ok(core)
 }
 
-// What goes on after a stage, with the call that is dropped and its reply.
+// What goes on between two stages. Where no call of the disk fails, another that does nothing stands for the call that
+// is dropped.
 fn go_on(
     rt: &impl Abort,
     alloc: Global,
     core: &mut Volume,
-    stage: u32,
-    dropped: Ask,
-    want: &Reply,
+    between: Between,
+    fails: bool,
 ) -> Result<(), NoMemory> {
-    if stage == DROPS {
-        assert!(rt; answers(rt, alloc, core, dropped, want)?);
-        Ok(())
-    } else {
-        do_all(rt, alloc, core, &[between(stage)])
+    match between {
+        Between::Done(ask) => do_all(rt, alloc, core, &[ask]),
+        Between::Begins(ask, free) => {
+            has_free(rt, alloc, core, free)?;
+            do_all(rt, alloc, core, &[ask])?;
+            has_free(rt, alloc, core, free.saturating_sub(1))
+        }
+        Between::Fails(ask, before) if fails => {
+            let after = before.saturating_add(1);
+            let want = Reply::Media { before, after };
+            assert!(rt; answers(rt, alloc, core, ask, &want)?, "{before}");
+            Ok(())
+        }
+        Between::Fails(..) => {
+            assert!(rt; answers(rt, alloc, core, Ask::Touch(0), &Reply::Exists)?);
+            Ok(())
+        }
     }
 }
 
-// A volume after its flush, between whose stages calls went on.
-fn flushed(rt: &impl Abort, alloc: Global, new: &TestDisk) -> Result<Volume, NoMemory> {
-    let fails = vec![in alloc; CALLS_OF_MOUNT + DROPPED]?;
+// A volume after so many stages of its flush, between which calls went on.
+fn flushed(
+    rt: &impl Abort,
+    alloc: Global,
+    new: &TestDisk,
+    stages: u32,
+) -> Result<Volume, NoMemory> {
+    let fails = Vec::from_slice(alloc, &FAILS)?;
     let mut core = begun(rt, alloc, new.copy(alloc)?.failing(fails))?;
-    for stage in 0..STAGES {
+    for stage in 0..stages {
         assert_eq!(rt; core.end_stage(), Ok(false), "{stage}");
-        if stage + 1 < STAGES {
+        if let Some(between) = BETWEEN.get(stage as usize) {
             assert_eq!(rt; core.boundary(), COMMITTED);
-            go_on(rt, alloc, &mut core, stage, Ask::Fill(4, 7), &FAILED)?;
+            go_on(rt, alloc, &mut core, *between, true)?;
         }
     }
-    assert_eq!(rt; core.boundary(), FROZEN);
     Ok(core)
 }
 
-// The volumes that ran the calls up to the committed and the frozen boundary alone.
-#[derive(Drop)]
-struct Alone {
-    committed: Volume,
-    frozen: Volume,
-}
-
-fn both_alone(rt: &impl Abort, alloc: Global, new: &TestDisk) -> Result<Alone, NoMemory> {
-    let core = used(rt, alloc, new.copy(alloc)?)?;
-    let committed = mounted(rt, alloc, finished(rt, core));
-    let core = begun(rt, alloc, new.copy(alloc)?)?;
-    let frozen = mounted(rt, alloc, finished(rt, core));
-    assert_eq!(rt; (committed.last(), frozen.last()), (COMMITTED, FROZEN));
-    Ok(Alone { committed, frozen })
-}
-
-// Which of the two an image may recover to.
-#[derive(Clone, Copy, Debug)]
-struct Due {
-    committed: bool,
-    frozen: bool,
-}
-
-// Mounts an image, compares what it shows, and gives back its disk.
-fn check(
-    rt: &impl Abort,
-    alloc: Global,
-    alone: &mut Alone,
-    image: TestDisk,
-    due: Due,
-) -> Result<TestDisk, NoMemory> {
-    let mut core = mounted(rt, alloc, image);
-    let ids = (core.last(), core.boundary());
-    let frozen = ids == (FROZEN, FROZEN);
-    assert!(rt; frozen || ids == (COMMITTED, COMMITTED));
-    assert!(rt; if frozen { due.frozen } else { due.committed });
-    let other = if frozen {
-        &mut alone.frozen
-    } else {
-        &mut alone.committed
-    };
-    for ask in VIEWS {
-        assert!(rt; tell_same(alloc, &mut core, other, ask)?, "{ask:?}");
-    }
-    Ok(stopped(rt, core))
-}
-
-// Checks an image of a crash after so many changes of a disk.
-fn check_one(
-    rt: &impl Abort,
-    alloc: Global,
-    alone: &mut Alone,
-    disk: &TestDisk,
-    count: usize,
-    crash: Crash<'_>,
-    due: Due,
-) -> Result<(), NoMemory> {
-    let image = disk.crashed(alloc, count, crash)?;
-    check(rt, alloc, alone, image, due)?;
-    Ok(())
-}
-
-// How much is put of a write that is torn.
-const FRONTS: [usize; 4] = [1, 16, 2_048, 4_095];
-
-// Checks images of a crash after so many changes: as the disk reads; and with one unsettled write lost, or torn, or
-// where a sync is next with each of them.
-fn check_all(
-    rt: &impl Abort,
-    alloc: Global,
-    alone: &mut Alone,
-    disk: &TestDisk,
-    count: usize,
-    due: Due,
-) -> Result<(), NoMemory> {
-    check_one(rt, alloc, alone, disk, count, Crash::Lost(&[]), due)?;
-    let unsettled = disk.unsettled(count);
-    let all = disk.unsettled(count.saturating_add(1)) == 0;
-    for write in 0..unsettled {
-        if all || count % unsettled.max(1) == write {
-            check_one(rt, alloc, alone, disk, count, Crash::Lost(&[write]), due)?;
-            let front = FRONTS[write % 4];
-            check_one(
-                rt,
-                alloc,
-                alone,
-                disk,
-                count,
-                Crash::Torn { write, front },
-                due,
-            )?;
-        }
-    }
-    Ok(())
-}
-
-// A flush, and the images of crashes within.
-#[derive(Drop)]
-struct Crashes {
-    alone: Alone,
-    disk: TestDisk,
-    // How many changes there were before its first stage, and after its last one.
-    first: usize,
-    last: usize,
-}
-
-fn made_crashes(rt: &impl Abort, alloc: Global, new: &TestDisk) -> Result<Crashes, NoMemory> {
-    let alone = both_alone(rt, alloc, new)?;
-    let first = stopped(rt, begun(rt, alloc, new.copy(alloc)?)?).changes();
-    let disk = stopped(rt, flushed(rt, alloc, new)?);
-    let last = disk.changes();
-    assert!(rt; 35 < last.saturating_sub(first));
-    Ok(Crashes {
-        alone,
-        disk,
-        first,
-        last,
-    })
-}
-
 // The calls that went on between the stages are all there once the volume is flushed again: it shows what one shows
-// that ran them all alone, with one in place of the dropped call that does nothing.
+// that ran them all alone, with one in place of each dropped call that does nothing.
 fn ends_as_alone(rt: &impl Abort, alloc: Global, new: &TestDisk) -> Result<(), NoMemory> {
-    let mut core = mounted(rt, alloc, finished(rt, flushed(rt, alloc, new)?));
     let mut other = begun(rt, alloc, new.copy(alloc)?)?;
-    for stage in 0..STAGES - 1 {
-        go_on(rt, alloc, &mut other, stage, Ask::Touch(0), &Reply::Exists)?;
+    for between in BETWEEN {
+        go_on(rt, alloc, &mut other, between, false)?;
     }
-    assert_eq!(rt; core.last(), other.last());
-    for ask in VIEWS {
-        assert!(rt; tell_same(alloc, &mut core, &mut other, ask)?, "{ask:?}");
-    }
-    Ok(())
+    let shown = Shown::of(rt, alloc, &mut other)?;
+    let core = flushed(rt, alloc, new, STAGES)?;
+    assert_eq!(rt; core.boundary(), FROZEN);
+    let mut core = mounted(rt, alloc, finished(rt, core));
+    assert_eq!(rt; core.last(), shown.last);
+    shown.is_of(rt, alloc, &mut core, Look::Whole)
 }
 
-#[test]
-fn a_crash_within_a_flush_leaves_one_of_two_volumes(rt: HostRuntime) -> Result<(), Fail> {
-    let alloc = rt.alloc();
-    let new = made(&rt, alloc);
-    let mut crashes = made_crashes(&rt, alloc, &new)?;
-    for count in crashes.first..=crashes.last {
+// What a volume shows once its use was ended.
+fn shown_alone(rt: &impl Abort, alloc: Global, core: Volume) -> Result<Shown, NoMemory> {
+    let mut core = mounted(rt, alloc, finished(rt, core));
+    Shown::of(rt, alloc, &mut core)
+}
+
+// The volumes that ran the calls up to the committed and the frozen boundary alone.
+fn volumes_alone(rt: &impl Abort, alloc: Global, new: &TestDisk) -> Result<Volumes, NoMemory> {
+    let committed = shown_alone(rt, alloc, used(rt, alloc, new.copy(alloc)?)?)?;
+    let frozen = shown_alone(rt, alloc, begun(rt, alloc, new.copy(alloc)?)?)?;
+    assert_eq!(rt; (committed.last, frozen.last), (COMMITTED, FROZEN));
+    Ok(Volumes { committed, frozen })
+}
+
+// How many changes of the disk there are after so many stages and what follows them.
+fn changes_of(
+    rt: &impl Abort,
+    alloc: Global,
+    new: &TestDisk,
+    stages: u32,
+) -> Result<usize, NoMemory> {
+    Ok(stopped(rt, flushed(rt, alloc, new, stages)?).changes())
+}
+
+// Mounts what crashes may leave from the end of one of these stages to that of the other. How many images were
+// recovered.
+fn mount_between(
+    rt: &impl Abort,
+    alloc: Global,
+    new: &TestDisk,
+    from: u32,
+    to: u32,
+) -> Result<u32, NoMemory> {
+    let volumes = volumes_alone(rt, alloc, new)?;
+    let disk = stopped(rt, flushed(rt, alloc, new, STAGES)?);
+    let first = changes_of(rt, alloc, new, from)?;
+    let last = changes_of(rt, alloc, new, to)?;
+    let mut recovered: u32 = 0;
+    for count in first..=last {
         // Before the last two changes, the last stage was not begun.
         let due = Due {
-            committed: count < crashes.last,
-            frozen: crashes.last < count.saturating_add(2),
+            committed: count < disk.changes(),
+            frozen: disk.changes() < count.saturating_add(2),
         };
-        check_all(&rt, alloc, &mut crashes.alone, &crashes.disk, count, due)?;
+        recovered = recovered.saturating_add(mount_all(rt, alloc, &volumes, &disk, count, due)?);
     }
-    ends_as_alone(&rt, alloc, &new)?;
-    Ok(())
+    Ok(recovered)
 }
 
-// The recovery of an image is cut off at each change, and so is, as the disk reads then, the recovery that follows.
-fn check_recovery(
-    rt: &impl Abort,
-    alloc: Global,
-    alone: &mut Alone,
-    image: TestDisk,
-    again: bool,
-) -> Result<(), NoMemory> {
-    let due = Due {
-        committed: true,
-        frozen: false,
-    };
-    let first = image.changes();
-    let disk = check(rt, alloc, alone, image, due)?;
-    let last = disk.changes();
-    assert!(rt; 5 < last.saturating_sub(first));
-    for count in first..=last {
-        check_all(rt, alloc, alone, &disk, count, due)?;
-        if again {
-            let image = disk.crashed(alloc, count, Crash::Lost(&[]))?;
-            let begun = image.changes();
-            let next = check(rt, alloc, alone, image, due)?;
-            for count in begun..=next.changes() {
-                check_one(rt, alloc, alone, &next, count, Crash::Lost(&[]), due)?;
-            }
-        }
-    }
+#[test]
+fn a_crash_before_the_log_counts_leaves_the_old_volume(rt: HostRuntime) -> Result<(), Fail> {
+    let alloc = rt.alloc();
+    let new = nearly_filled(&rt, alloc)?;
+    ends_as_alone(&rt, alloc, &new)?;
+    let recovered = mount_between(&rt, alloc, &new, 0, ARMED - 1)?;
+    assert_eq!(rt; recovered, 0);
     Ok(())
 }
 
 #[test]
-fn a_crash_within_a_recovery_leaves_the_same(rt: HostRuntime) -> Result<(), Fail> {
+fn a_crash_while_the_first_pages_are_placed_leaves_the_old_volume(
+    rt: HostRuntime,
+) -> Result<(), Fail> {
     let alloc = rt.alloc();
-    let new = made(&rt, alloc);
-    let mut crashes = made_crashes(&rt, alloc, &new)?;
-    // Once a page was placed, and before the last stage.
-    for (before, again) in [(16, false), (2, true)] {
-        let count = crashes.last.saturating_sub(before);
-        let image = crashes.disk.crashed(alloc, count, Crash::Lost(&[]))?;
-        check_recovery(&rt, alloc, &mut crashes.alone, image, again)?;
-    }
+    let new = nearly_filled(&rt, alloc)?;
+    let recovered = mount_between(&rt, alloc, &new, ARMED - 1, HALF_PLACED)?;
+    assert!(rt; recovered > 50);
+    Ok(())
+}
+
+#[test]
+fn a_crash_while_the_last_pages_are_placed_leaves_the_old_volume(
+    rt: HostRuntime,
+) -> Result<(), Fail> {
+    let alloc = rt.alloc();
+    let new = nearly_filled(&rt, alloc)?;
+    let recovered = mount_between(&rt, alloc, &new, HALF_PLACED, PLACED)?;
+    assert!(rt; recovered > 50);
+    Ok(())
+}
+
+#[test]
+fn a_crash_while_the_header_changes_leaves_one_of_two_volumes(rt: HostRuntime) -> Result<(), Fail> {
+    let alloc = rt.alloc();
+    let new = nearly_filled(&rt, alloc)?;
+    let recovered = mount_between(&rt, alloc, &new, PLACED, STAGES)?;
+    assert!(rt; recovered > 20);
     Ok(())
 }

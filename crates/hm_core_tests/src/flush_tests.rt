@@ -2,8 +2,8 @@
 use crate::asks::Ask;
 use crate::test_disk::TestDisk;
 use crate::volume::{
-    CALLS_OF_MOUNT, Came, FAILED, Volume, answered, answers, do_all, ended, finished, have_same,
-    header_of, made, mounted, stage_for, stopped, synced, tried,
+    CALLS_OF_MOUNT, Came, FAILED, STAGES_OF_FLUSH, Volume, answered, answers, do_all, ended,
+    finished, have_same, header_of, made, mounted, stage_for, stopped, synced, tried,
 };
 use hm_disk::Disk;
 use hm_model::Reply;
@@ -14,11 +14,6 @@ use std::test::Fail;
 
 // A file that is made reads three payloads and writes two.
 const CALLS_OF_TOUCH: u64 = 5;
-
-// The flush of a file that was made on a new volume. Two pages changed, the root and one of layer 2, both of
-// them live as committed: so its stages are Freeze, two of Undo, UndoSync, three of Arm, two of Place,
-// PlaceSync and three of Commit.
-const STAGES_OF_FLUSH: u32 = 13;
 
 // Undo reads and writes, and Place writes. Arm 1 reads the gate of the slot that was never written, and
 // syncs; Commit 1 closes the other one's besides. The other stages of Arm and of Commit write and sync.

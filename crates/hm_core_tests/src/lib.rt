@@ -9,9 +9,17 @@ mod asks;
 #[cfg(test)]
 mod crash_tests;
 #[cfg(test)]
+mod crashes;
+#[cfg(test)]
 mod flush_tests;
 #[cfg(test)]
 mod many_tests;
+#[cfg(test)]
+mod memory_tests;
+#[cfg(test)]
+mod page_tests;
+#[cfg(test)]
+mod shown;
 #[cfg(test)]
 mod sync_tests;
 #[cfg(test)]

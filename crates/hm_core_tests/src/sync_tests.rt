@@ -2,21 +2,14 @@
 use crate::asks::{Ask, content};
 use crate::test_disk::TestDisk;
 use crate::volume::{
-    Came, Volume, answered, answers, do_all, ended, finished, made, mounted, stopped, synced,
-    tried, try_since,
+    Came, OTHER_STAGES, STAGES_OF_FLUSH, Volume, answered, answers, do_all, ended, finished, made,
+    mounted, stopped, synced, tried, try_since,
 };
 use hm_model::Reply;
 use hm_types::{Id, NoMemory};
 use std::alloc::Global;
 use std::process::Abort;
 use std::test::Fail;
-
-// How many stages a flush has beside one for each page, and one more for each that was live as committed:
-// Freeze, UndoSync, three of Arm, PlaceSync and three of Commit.
-const OTHER_STAGES: u32 = 9;
-
-// Those of the flush of a file that was made on a new volume. Two pages changed, both of them live.
-const STAGES_OF_FLUSH: u32 = OTHER_STAGES + 4;
 
 // Syncs with their ids, and the stages that each waits for, on a new volume. A directory changes the pages that
 // a file does; a group without pages takes the other stages alone. What no sync told is lost where the run

@@ -1,7 +1,9 @@
 // Volumes in use, whose use is ended, and which are mounted again.
 use crate::asks::{Ask, content};
 use crate::test_disk::TestDisk;
-use crate::volume::{CALLS_OF_MOUNT, answers, do_all, finished, header_of, made, mounted, tried};
+use crate::volume::{
+    CALLS_OF_MOUNT, answers, do_all, finished, has_free, header_of, made, mounted, tried,
+};
 use hm_core::{Core, OpenFault, newfs};
 use hm_disk::Disk;
 use hm_model::Reply;
@@ -163,5 +165,23 @@ fn what_cannot_be_opened_is_told(rt: HostRuntime) -> Result<(), Fail> {
     ] {
         name_entries(&rt, alloc, count, want);
     }
+    Ok(())
+}
+
+// A fill takes 16,384 bytes of a big-block of large pieces, and begins another where it finds less than 131,072
+// there. So 505 of them go into the first one, and the next 505 into the second.
+#[test]
+fn df_tells_when_a_big_block_was_begun(rt: HostRuntime) -> Result<(), Fail> {
+    let alloc = rt.alloc();
+    let mut core = mounted(&rt, alloc, made(&rt, alloc));
+    do_all(&rt, alloc, &mut core, &[Ask::Touch(0)])?;
+    for free in [9, 8, 7] {
+        for _ in 0..505 {
+            do_all(&rt, alloc, &mut core, &[Ask::Fill(0, 7)])?;
+            has_free(&rt, alloc, &mut core, free)?;
+        }
+    }
+    do_all(&rt, alloc, &mut core, &[Ask::Fill(0, 7)])?;
+    has_free(&rt, alloc, &mut core, 6)?;
     Ok(())
 }

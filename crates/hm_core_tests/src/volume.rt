@@ -17,8 +17,16 @@ pub type Volume = Core<TestDisk, u8, u8>;
 // freemap, one the root, and two the payloads.
 pub const CALLS_OF_MOUNT: u64 = 133;
 
+// How many stages a flush has beside one for each page, and one more for each that was live as committed:
+// Freeze, UndoSync, three of Arm, PlaceSync and three of Commit.
+pub const OTHER_STAGES: u32 = 9;
+
+// Those of the flush of a file that was made on a new volume. Two pages changed, the root and one of layer 2, both of
+// them live as committed.
+pub const STAGES_OF_FLUSH: u32 = OTHER_STAGES + 4;
+
 // No flush of these tests has more stages.
-const MOST_STAGES: u32 = 4_096;
+const MOST_STAGES: u32 = 8_192;
 
 // What a call is answered for which a stage of a flush fails, where no call of the disk failed before.
 pub const FAILED: Reply = Reply::Media {
@@ -245,22 +253,14 @@ pub fn have_same(
     Ok(true)
 }
 
-// Whether two volumes answer a call the same, without a flush.
-pub fn tell_same(
+// So many big-blocks of the pool are free, of 13.
+pub fn has_free(
+    rt: &impl Abort,
     alloc: Global,
-    one: &mut Volume,
-    other: &mut Volume,
-    ask: Ask,
-) -> Result<bool, NoMemory> {
-    one.reserve(2)?;
-    other.reserve(2)?;
-    let since = one.last();
-    let Step::Answered(first) = one.call(3, 7, since, ask.command(alloc)?) else {
-        return Ok(false);
-    };
-    let since = other.last();
-    let Step::Answered(second) = other.call(3, 7, since, ask.command(alloc)?) else {
-        return Ok(false);
-    };
-    Ok(one.entry(first).reply == other.entry(second).reply)
+    core: &mut Volume,
+    free: u32,
+) -> Result<(), NoMemory> {
+    let want = Reply::Space { pool: 13, free };
+    assert!(rt; answers(rt, alloc, core, Ask::Df, &want)?, "{free}");
+    Ok(())
 }

@@ -1,0 +1,173 @@
+// Images of crashes, of which each is mounted, and what it recovers to compared with what it may be.
+use crate::shown::{Look, Shown};
+use crate::test_disk::TestDisk;
+use crate::volume::{mounted, stopped};
+use hm_disk_forms::Crash;
+use hm_types::NoMemory;
+use std::alloc::Global;
+use std::process::Abort;
+
+// Which of two volumes an image may recover to.
+#[derive(Clone, Copy, Debug)]
+pub struct Due {
+    pub committed: bool,
+    pub frozen: bool,
+}
+
+// What the volumes show that ran the calls up to the committed and up to the frozen boundary alone.
+#[derive(Drop)]
+pub struct Volumes {
+    pub committed: Shown,
+    pub frozen: Shown,
+}
+
+impl Volumes {
+    // Mounts an image, and compares what it shows. Gives its disk, and which of the two it is.
+    fn check(
+        &self,
+        rt: &impl Abort,
+        alloc: Global,
+        image: TestDisk,
+        due: Due,
+        look: Look,
+    ) -> Result<(TestDisk, Due), NoMemory> {
+        let mut core = mounted(rt, alloc, image);
+        let is_frozen = core.last() == self.frozen.last;
+        assert!(rt; if is_frozen { due.frozen } else { due.committed });
+        let shown = if is_frozen {
+            &self.frozen
+        } else {
+            &self.committed
+        };
+        assert_eq!(rt; (core.last(), core.boundary()), (shown.last, shown.last));
+        shown.is_of(rt, alloc, &mut core, look)?;
+        let is = Due {
+            committed: !is_frozen,
+            frozen: is_frozen,
+        };
+        Ok((stopped(rt, core), is))
+    }
+}
+
+// How much is put of a write that is torn.
+const FRONTS: [usize; 4] = [1, 16, 2_048, 4_095];
+
+// In how many ways a crash after so many changes of a disk is tried. It loses nothing, or it loses or tears one
+// unsettled write, by turns, and where a sync is next both.
+fn ways(disk: &TestDisk, count: usize) -> usize {
+    let unsettled = disk.unsettled(count);
+    let turns = if is_before_sync(disk, count) { 2 } else { 1 };
+    unsettled.saturating_mul(turns).saturating_add(1)
+}
+
+fn is_before_sync(disk: &TestDisk, count: usize) -> bool {
+    disk.unsettled(count.saturating_add(1)) == 0
+}
+
+// What such a crash leaves.
+fn image_of(
+    alloc: Global,
+    disk: &TestDisk,
+    count: usize,
+    way: usize,
+) -> Result<TestDisk, NoMemory> {
+    if way == 0 {
+        return disk.crashed(alloc, count, Crash::Lost(&[]));
+    }
+    let number = way - 1;
+    let unsettled = disk.unsettled(count);
+    let (write, is_second) = if number < unsettled {
+        (number, false)
+    } else {
+        (number - unsettled, true)
+    };
+    let is_lost = (write % 2 == count % 2) != is_second;
+    if is_lost {
+        return disk.crashed(alloc, count, Crash::Lost(&[write]));
+    }
+    let front = FRONTS[write % 4];
+    disk.crashed(alloc, count, Crash::Torn { write, front })
+}
+
+// Mounts what a crash after so many changes of a disk may leave, and what crashes within the recoveries may. How many
+// of the images were recovered.
+pub fn mount_all(
+    rt: &impl Abort,
+    alloc: Global,
+    volumes: &Volumes,
+    disk: &TestDisk,
+    count: usize,
+    due: Due,
+) -> Result<u32, NoMemory> {
+    let mut recovered: u32 = 0;
+    for way in 0..ways(disk, count) {
+        let image = image_of(alloc, disk, count, way)?;
+        let first = image.changes();
+        let (next, is) = volumes.check(rt, alloc, image, due, Look::Whole)?;
+        if first < next.changes() {
+            recovered = recovered.saturating_add(1);
+        }
+        let cuts = match way {
+            0 if is_before_sync(disk, count) => Cuts::EachTwice,
+            0 => Cuts::Each,
+            _ => Cuts::One(way % 8),
+        };
+        mount_within(rt, alloc, volumes, &next, first, is, cuts)?;
+    }
+    Ok(recovered)
+}
+
+// At which of its changes a recovery is cut off.
+#[derive(Clone, Copy)]
+enum Cuts {
+    // At one of eight, as the disk reads.
+    One(usize),
+    // At each, as the disk reads.
+    Each,
+    // At each, and where a sync is next in all ways. As the disk reads, so is each recovery that follows.
+    EachTwice,
+}
+
+// Mounts what crashes within a recovery may leave.
+fn mount_within(
+    rt: &impl Abort,
+    alloc: Global,
+    volumes: &Volumes,
+    disk: &TestDisk,
+    first: usize,
+    due: Due,
+    cuts: Cuts,
+) -> Result<(), NoMemory> {
+    for count in first..disk.changes() {
+        let most = match cuts {
+            Cuts::One(place) if count % 8 != place => 0,
+            Cuts::EachTwice if is_before_sync(disk, count) => ways(disk, count),
+            _ => 1,
+        };
+        for way in 0..most {
+            let image = image_of(alloc, disk, count, way)?;
+            let first = image.changes();
+            let (next, _) = volumes.check(rt, alloc, image, due, Look::Short)?;
+            if way == 0 && matches!(cuts, Cuts::EachTwice) {
+                mount_again(rt, alloc, volumes, &next, first, due)?;
+            }
+        }
+    }
+    Ok(())
+}
+
+// Mounts what a crash within the recovery that follows may leave, at each of its changes, as the disk reads.
+fn mount_again(
+    rt: &impl Abort,
+    alloc: Global,
+    volumes: &Volumes,
+    disk: &TestDisk,
+    first: usize,
+    due: Due,
+) -> Result<(), NoMemory> {
+    for count in first..disk.changes() {
+        let image = image_of(alloc, disk, count, 0)?;
+        volumes.check(rt, alloc, image, due, Look::Short)?;
+    }
+    Ok(())
+}
