@@ -45,3 +45,4 @@ mod NewEffectLemmas
 mod NewStageLemmas
 pub mod RetentionLemmas
 pub mod PruneLemmas
+pub mod AnsweredLemmas

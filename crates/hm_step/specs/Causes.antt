@@ -1,4 +1,4 @@
--- A call on names or on the bytes of files, after what is known without trees.
+-- A call that is answered, after what is known without trees.
 use Rattle.std.specs.Prelude.{◌≡◌, ◌+◌, ◌<◌}
 use Rattle.hm_types.specs.declared.limits.TheConstants.{GREATEST_ID}
 use Rattle.hm_model.specs.After.{Event}
@@ -6,11 +6,11 @@ use Rattle.hm_model.specs.Caused.{Known}
 use Rattle.hm_model.specs.Sites.{ReadsWords}
 use Rattle.hm_model.specs.declared.reply.Reply.{Reply}
 use Rattle.hm_model.specs.declared.reply.Reply.TheVariants.{Damaged, Media, NoMemory}
-use Rattle.hm_calls.specs.Commands.{IsOnTrees}
+use Rattle.hm_calls.specs.Answered.{IsAnswerable}
 
 -- An event is the next one after what is known: such a call, by the id after the last, with readings of its path words.
 pub record IsNextOf (known : Known) (event : Event) : Type 0 where
-  pub served : IsOnTrees event.entry.call
+  pub served : IsAnswerable event.entry.call
   pub left : known.last < GREATEST_ID
   pub own : event.entry.id.0 ≡ known.last + 1
   pub reads : ReadsWords event.entry.call event.paths
