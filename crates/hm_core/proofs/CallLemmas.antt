@@ -32,11 +32,12 @@ use Rattle.hm_step.proofs.SubstituteLemmas.{trees_given}
 use Rattle.hm_core.specs.Calls.{Fails, IsNextCall, Serves}
 use Rattle.hm_core.specs.Counts.{AreLater}
 use Rattle.hm_core.specs.History.{HoldsState, IsLegalBeyond, IsLegalOver, setting_of}
+use Rattle.hm_core.specs.State.{OpenPrune}
 use Rattle.hm_core.proofs.CountLemmas.{NumbersOf, later_still, legal_later, told_most}
-use Rattle.hm_core.proofs.StateLemmas.{holds_after, served_state}
+use Rattle.hm_core.proofs.StateLemmas.{holds_after, served_adds, served_state}
 use Rattle.hm_core.proofs.WordLemmas.{words_are_read}
 
-module _ (free : ℕ) (start faults faults' : Counts) (history : List Entry) (h : Heap) (root last : ℕ) (running : List ℕ) (opening : Volume)
+module _ (free : ℕ) (start faults faults' : Counts) (history : List Entry) (h : Heap) (root last : ℕ) (running : List OpenPrune) (opening : Volume)
     (foreigners : Foreigners) (events : List Event) (so_far : IsLegalOver free start faults history h root last running opening foreigners events)
     (counted : AreLater faults faults') where
   -- the run with the count of now, and what it has come to
@@ -56,10 +57,10 @@ module _ (free : ℕ) (start faults faults' : Counts) (history : List Entry) (h 
   told_now : AreLater known.counts faults'
   told_now = later_still known.counts faults faults' so_far.counted counted
 
-  pub goes_on : (event : Event) (h' : Heap) (root' : ℕ) → MayFollow run events event
-      → HoldsState h' root' (last + 1) running (state_after run (events ++ event ∷ []))
-      → IsLegalOver free start faults' (history ++ event.entry ∷ []) h' root' (last + 1) running opening foreigners (events ++ event ∷ [])
-  goes_on event h' root' follows held = record {
+  pub goes_on : (event : Event) (h' : Heap) (root' : ℕ) (running' : List OpenPrune) → MayFollow run events event
+      → HoldsState h' root' (last + 1) running' (state_after run (events ++ event ∷ []))
+      → IsLegalOver free start faults' (history ++ event.entry ∷ []) h' root' (last + 1) running' opening foreigners (events ++ event ∷ [])
+  goes_on event h' root' running' follows held = record {
     entries = map-append (λ (e : Event). e.entry) events (event ∷ []) ∙ ap (λ (es : List Entry). es ++ event.entry ∷ []) so_far.entries;
     legal = IsLegal-goes_on run events event legal follows;
     counted = subst (λ (k : Known). AreLater k.counts faults') (sym (known_after-push (known_at opening.last start) events event))
@@ -115,7 +116,7 @@ module _ (free : ℕ) (start faults faults' : Counts) (history : List Entry) (h 
         → HoldsState h' root' (last + 1) running (state_after run (events ++ event ∷ []))
     next_held h' root' now same holds stand allowed =
         holds_after h h' root root' last running state (state_after run (events ++ event ∷ [])) (is_change entry.call entry.reply) call now
-        so_far.held refl (served_state run events event is.served own allowed) same holds stand
+        (λ changes. served_adds entry.call is.served) so_far.held refl (served_state run events event is.served own allowed) same holds stand
 
     -- a store served it
     module _ {S : Type 0} (elements_of : S → Option (List Element)) (extents_of : S → Option (List Extent)) (free_of : S → ℕ)
@@ -153,7 +154,7 @@ module _ (free : ℕ) (start faults faults' : Counts) (history : List Entry) (h 
             next_held h' root' (fulls now) serves.size there.holds (stands.1 there.fit) stepped.allowed
 
       pub served_call : IsLegalBeyond free start faults' (history ++ entry ∷ []) h' root' (last + 1) running opening foreigners events
-      served_call = (event ∷ [], goes_on event h' root' stepped.follows held)
+      served_call = (event ∷ [], goes_on event h' root' running stepped.follows held)
 
     -- the device failed in it, or memory was refused
     module _ (h' : Heap) (root' : ℕ) (failed : Fails faults.disk faults'.disk entry h h' root root') where
@@ -181,7 +182,7 @@ module _ (free : ℕ) (start faults faults' : Counts) (history : List Entry) (h 
       pub failed_call : IsLegalBeyond free start faults' (history ++ entry ∷ []) h' root' (last + 1) running opening foreigners events
       failed_call = (
         event ∷ [],
-        goes_on event h' root' (may_follow_failed run events event least es at_least fails numbers)
+        goes_on event h' root' running (may_follow_failed run events event least es at_least fails numbers)
             (next_held h' root' es failed.size (failed.holds es so_far.held.holds.elements.1)
             (stands_failed run events event least es at_least fails) (allowed_failed run events event least es at_least fails)),
       )

@@ -47,6 +47,7 @@ use Rattle.hm_state.proofs.SameLemmas.{held_firm}
 use Rattle.hm_core.specs.History.{IsLegalOver, setting_of}
 use Rattle.hm_core.specs.Replied.{IsReplied, TellsMedia, free_now}
 use Rattle.hm_core.specs.Served.{IsSync}
+use Rattle.hm_core.specs.State.{OpenPrune}
 use Rattle.hm_core.specs.Told.{Tells, TellsFailure, TellsHeld, reply_to}
 
 -- as many big-blocks are free by the freemap of a space as its trees leave, where it holds elements
@@ -159,7 +160,7 @@ entry_there history entry found place there is =
     ∙ last_entry history entry entry
 
 -- The call that comes next in a legal history is one that the elements of the space show, so its reply is due over it.
-module _ (free : ℕ) (start counts : Counts) (history : List Entry) (h : Heap) (root last : ℕ) (running : List ℕ) (opening : Volume) (foreigners : Foreigners)
+module _ (free : ℕ) (start counts : Counts) (history : List Entry) (h : Heap) (root last : ℕ) (running : List OpenPrune) (opening : Volume) (foreigners : Foreigners)
     (events : List Event) (event : Event) (faults faults' : ℕ) where
   abbrev run : Setting
   run = setting_of free start counts opening foreigners

@@ -36,9 +36,9 @@ use Rattle.hm_core.specs.Inside.{AreDrawnBy, AreUpTo, IsInOrder}
 use Rattle.hm_core.specs.Ledger.{IsPaid}
 use Rattle.hm_core.specs.Served.{IsSync}
 use Rattle.hm_core.specs.Told.{TellsFailure, reply_to}
-use Rattle.hm_core.proofs.AnswerLemmas.{paid_later}
 use Rattle.hm_core.proofs.FloorLemmas.{floor_paid}
 use Rattle.hm_core.proofs.PropLemmas.{flushed_prop}
+use Rattle.hm_core.proofs.TurnLemmas.{paid_later}
 
 -- the entry of a call with these
 abbrev pub entry_of : ℕ → ℕ → ℕ → Command → Reply → Entry
@@ -76,7 +76,7 @@ module _ (history : List Entry) (entry : Entry) where
   ]
 
 -- a flush is one over the pages of a space whose committed and frozen pages are the same
-group_same : (f : Flush) (s s' : Store) → IsSameFlush s s' → IsGroupOf f s → IsGroupOf f s'
+pub group_same : (f : Flush) (s s' : Store) → IsSameFlush s s' → IsGroupOf f s → IsGroupOf f s'
 group_same f s s' same group =
     by s'.committed s'.frozen s'.frozen_group s'.boundary same.committed same.frozen same.frozen_group same.boundary where
       by : (c z : PageMap) (l : List ℕ) (b : Option Id) → c ≡ s.committed → z ≡ s.frozen → l ≡ s.frozen_group → b ≡ s.boundary

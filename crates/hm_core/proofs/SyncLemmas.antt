@@ -11,7 +11,7 @@ use Rattle.hm_state.proofs.LiveLemmas.{live_same}
 use Rattle.hm_core.specs.Answer.{AnswersOver}
 use Rattle.hm_core.specs.Counts.{with_disk}
 use Rattle.hm_core.specs.Served.{IsSync}
-use Rattle.hm_core.proofs.AnswerLemmas.{paid_later}
+use Rattle.hm_core.proofs.TurnLemmas.{paid_later}
 use Rattle.hm_core.proofs.CausedLemmas.{sync_goes_on}
 use Rattle.hm_core.proofs.CountLemmas.{later_same}
 use Rattle.hm_core.proofs.KeptLemmas.{kept_same}
@@ -38,8 +38,8 @@ sync_answers boundary faults last command h root sync closed left = record {
   });
   live = λ volume holds. live_same NoByte h root h.disk refl;
   paid = λ first calls paid. paid_later first (free_of h) calls (room_of h) paid;
-  caused = λ first start counts history entry is told before so_far.
-      sync_goes_on first start (with_disk counts faults) (with_disk counts faults) last history so_far (later_same (with_disk counts faults)) entry left is.own
+  caused = λ first start counts history running entry is told before so_far.
+      sync_goes_on first start (with_disk counts faults) (with_disk counts faults) last running history so_far (later_same (with_disk counts faults)) entry left is.own
       (subst IsSync (sym is.call_is) sync) boundary is.reply_is before told;
   legal = λ first start counts history running opening foreigners events entry least is told before so_far.
       sync_told first start (with_disk counts faults) (with_disk counts faults) history h root last running opening foreigners events so_far

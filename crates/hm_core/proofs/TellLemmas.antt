@@ -30,6 +30,7 @@ use Rattle.hm_core.specs.Counts.{AreLater, with_disk}
 use Rattle.hm_core.specs.History.{IsLegalBeyond, IsLegalOver}
 use Rattle.hm_core.specs.Ledger.{IsPaid}
 use Rattle.hm_core.specs.Live.{KeepsLiveOver}
+use Rattle.hm_core.specs.State.{OpenPrune}
 use Rattle.hm_core.specs.Told.{reply_to}
 use Rattle.hm_core.proofs.AnswerLemmas.{fault_silent, none_told}
 use Rattle.hm_core.proofs.CausedLemmas.{space_fault_goes_on, space_goes_on}
@@ -96,7 +97,7 @@ module _ (old new : Heap) (root root' faults faults' : ℕ) (closed : IsClosed o
 
   module _ (last : ℕ) (left : last < GREATEST_ID) where
     -- what was legal before the look is so after it
-    there : (first : ℕ) (start counts : Counts) (history : List Entry) (running : List ℕ) (opening : Volume) (foreigners : Foreigners) (events : List Event)
+    there : (first : ℕ) (start counts : Counts) (history : List Entry) (running : List OpenPrune) (opening : Volume) (foreigners : Foreigners) (events : List Event)
         → IsLegalBeyond first start counts history old root (last + 1) running opening foreigners events
         → IsLegalBeyond first start counts history new root' (last + 1) running opening foreigners events
     there first start counts history running opening foreigners events (more, legal) = (
@@ -118,8 +119,8 @@ module _ (old new : Heap) (root root' faults faults' : ℕ) (closed : IsClosed o
             inl (ap (λ (n : ℕ). Space n free) pool_is
             ∙ ap (Space (old.bigblocks - first_pool old.bigblocks)) (is_free ∙ free_counted old root held.elements.0 closed held.elements.1));
       };
-      caused = λ first start counts history entry of told before so_far.
-          space_goes_on first start (with_disk counts faults) (with_disk counts faults') last history so_far (later counts) entry left of.own of.call_is space free of.reply_is;
+      caused = λ first start counts history running entry of told before so_far.
+          space_goes_on first start (with_disk counts faults) (with_disk counts faults') last running history so_far (later counts) entry left of.own of.call_is space free of.reply_is;
       flush = kept;
       live = live_looked last;
       paid = paid_same;
@@ -141,8 +142,8 @@ module _ (old new : Heap) (root root' faults faults' : ℕ) (closed : IsClosed o
         due = λ of_trees. absurd of_trees;
         space = λ is volume held. inr (inr (memory_alone fault bad caused (held_firm old root held.elements.0 held.elements.1)));
       };
-      caused = λ first start counts history entry of told before so_far.
-          space_fault_goes_on first start (with_disk counts faults) (with_disk counts faults') last history so_far (later counts) entry left of.own of.call_is fault of.reply_is
+      caused = λ first start counts history running entry of told before so_far.
+          space_fault_goes_on first start (with_disk counts faults) (with_disk counts faults') last running history so_far (later counts) entry left of.own of.call_is fault of.reply_is
           (no_device fault caused);
       flush = kept;
       live = live_looked last;

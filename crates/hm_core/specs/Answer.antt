@@ -18,7 +18,7 @@ use Rattle.hm_stored.specs.Turn.{IsClosed}
 use Rattle.hm_state.specs.Flushing.{HoldsFlush}
 use Rattle.hm_state.specs.Live.{NoByte}
 use Rattle.hm_state.specs.Volume.{HoldsVolume}
-use Rattle.hm_core.specs.Caused.{IsCausedFrom}
+use Rattle.hm_core.specs.Caused.{IsCausedWith}
 use Rattle.hm_core.specs.Counts.{with_disk}
 use Rattle.hm_core.specs.History.{IsLegalBeyond, IsLegalOver}
 use Rattle.hm_core.specs.Inside.{AreUpTo}
@@ -26,6 +26,7 @@ use Rattle.hm_core.specs.Ledger.{IsPaid}
 use Rattle.hm_core.specs.Live.{KeepsLiveOver}
 use Rattle.hm_core.specs.Replied.{IsReplied}
 use Rattle.hm_core.specs.Served.{IsSync}
+use Rattle.hm_core.specs.State.{OpenPrune}
 
 -- the entry of a call with this reply, by the id after the last one
 pub record IsEntryOf (last : ℕ) (command : Command) (reply : Reply) (entry : Entry) : Type 0 where
@@ -57,10 +58,11 @@ pub record AnswersOver (boundary faults faults' last : ℕ) (command : Command) 
   pub flush : KeepsFlush ((volume : Volume) × HoldsVolume h root last volume) h h'
   pub live : KeepsLiveOver NoByte root last h h'
   pub paid : (first calls : ℕ) → IsPaid first (free_of h) calls (room_of h) → IsPaid first (free_of h') (calls + 1) (room_of h')
-  pub caused : (first : ℕ) (start counts : Counts) (history : List Entry) (entry : Entry) → IsEntryOf last command reply entry
-      → AreUpTo boundary history → boundary ≤ last → IsCausedFrom first start (with_disk counts faults) last history
-      → IsCausedFrom first start (with_disk counts faults') (last + 1) (history ++ entry ∷ [])
-  pub legal : (free : ℕ) (start counts : Counts) (history : List Entry) (running : List ℕ) (opening : Volume) (foreigners : Foreigners)
+  pub caused : (first : ℕ) (start counts : Counts) (history : List Entry) (running : List OpenPrune) (entry : Entry)
+      → IsEntryOf last command reply entry → AreUpTo boundary history → boundary ≤ last
+      → IsCausedWith first start (with_disk counts faults) last running history
+      → IsCausedWith first start (with_disk counts faults') (last + 1) running (history ++ entry ∷ [])
+  pub legal : (free : ℕ) (start counts : Counts) (history : List Entry) (running : List OpenPrune) (opening : Volume) (foreigners : Foreigners)
       (events : List Event) (entry : Entry)
       → floor free history ≤ free_of h → IsEntryOf last command reply entry → AreUpTo boundary history → boundary ≤ last
       → IsLegalOver free start (with_disk counts faults) history h root last running opening foreigners events

@@ -42,7 +42,7 @@ ghost use Rattle.hm_core.specs.Inside.{AreDrawnBy, AreUpTo};
 ghost use Rattle.hm_core.specs.Ledger.{IsPaid};
 ghost use Rattle.hm_core.specs.Replied.{IsReplied, free_now};
 ghost use Rattle.hm_core.specs.Served.{IsServed, IsSync};
-ghost use Rattle.hm_core.specs.State.{CoreState};
+ghost use Rattle.hm_core.specs.State.{CoreState, OpenPrune};
 ghost use Rattle.hm_core.specs.Told.{ArePages, HoldsSame, HoldsTold, OpensStore, TellsFailure, TellsHeld, TellsSpace, reply_to};
 ghost use Rattle.hm_state.specs.Volume.{HoldsVolume};
 
@@ -73,7 +73,7 @@ pub fn a_core_begins_with_no_history()
 /// nothing of the volume.
 pub fn a_served_call_goes_on<T: ElementStore + Extents>()
     ensures { (free : ℕ) (start faults faults' : Counts) (history : List Entry) (h h' : Heap)
-        (root root' last : ℕ) (running : List ℕ) (opening : Volume) (foreigners : Foreigners) (events : List Event)
+        (root root' last : ℕ) (running : List OpenPrune) (opening : Volume) (foreigners : Foreigners) (events : List Event)
         (entry : Entry) (old new : T) →
         IsLegalOver free start faults history h root last running opening foreigners events →
         AreLater faults faults' → IsNextCall last entry →
@@ -85,7 +85,7 @@ pub fn a_served_call_goes_on<T: ElementStore + Extents>()
 /// came of it holds what the one before held.
 pub fn a_failed_call_goes_on()
     ensures { (free : ℕ) (start faults faults' : Counts) (history : List Entry) (h h' : Heap)
-        (root root' last : ℕ) (running : List ℕ) (opening : Volume) (foreigners : Foreigners) (events : List Event)
+        (root root' last : ℕ) (running : List OpenPrune) (opening : Volume) (foreigners : Foreigners) (events : List Event)
         (entry : Entry) →
         IsLegalOver free start faults history h root last running opening foreigners events →
         AreLater faults faults' → IsNextCall last entry → Fails faults.disk faults'.disk entry h h' root root' →
@@ -96,7 +96,7 @@ pub fn a_failed_call_goes_on()
 /// least: the same, and the space stays.
 pub fn a_call_that_tells_space_goes_on()
     ensures { (free : ℕ) (start faults faults' : Counts) (history : List Entry) (h : Heap)
-        (root last : ℕ) (running : List ℕ) (opening : Volume) (foreigners : Foreigners) (events : List Event)
+        (root last : ℕ) (running : List OpenPrune) (opening : Volume) (foreigners : Foreigners) (events : List Event)
         (entry : Entry) →
         IsLegalOver free start faults history h root last running opening foreigners events →
         AreLater faults faults' → last < GREATEST_ID → entry.call ≡ Df → entry.id.0 ≡ last + 1 →
@@ -108,7 +108,7 @@ pub fn a_call_that_tells_space_goes_on()
 /// most this one.
 pub fn a_sync_goes_on()
     ensures { (free : ℕ) (start faults faults' : Counts) (history : List Entry) (h : Heap)
-        (root last : ℕ) (running : List ℕ) (opening : Volume) (foreigners : Foreigners) (events : List Event)
+        (root last : ℕ) (running : List OpenPrune) (opening : Volume) (foreigners : Foreigners) (events : List Event)
         (entry : Entry) (boundary : Id) →
         IsLegalOver free start faults history h root last running opening foreigners events →
         AreLater faults faults' → last < GREATEST_ID → IsSync entry.call → entry.id.0 ≡ last + 1 →
@@ -121,7 +121,7 @@ pub fn a_sync_goes_on()
 /// before held.
 pub fn a_refused_call_goes_on()
     ensures { (free : ℕ) (start faults faults' : Counts) (history : List Entry) (h h' : Heap)
-        (root root' last : ℕ) (running : List ℕ) (opening : Volume) (foreigners : Foreigners) (events : List Event)
+        (root root' last : ℕ) (running : List OpenPrune) (opening : Volume) (foreigners : Foreigners) (events : List Event)
         (entry : Entry) →
         IsLegalOver free start faults history h root last running opening foreigners events →
         AreLater faults faults' → last < GREATEST_ID → IsServed entry.call → entry.id.0 ≡ last + 1 →
@@ -228,7 +228,7 @@ pub fn as_many_are_free_as_the_trees_leave()
 /// trees that the space has, or it tells a failure.
 pub fn a_reply_is_due_in_its_history()
     ensures { (free : ℕ) (start counts : Counts) (history : List Entry) (h : Heap) (root last : ℕ)
-        (running : List ℕ) (opening : Volume) (foreigners : Foreigners) (events : List Event) (event : Event)
+        (running : List OpenPrune) (opening : Volume) (foreigners : Foreigners) (events : List Event) (event : Event)
         (faults faults' : ℕ) →
         IsLegalOver free start counts history h root last running opening foreigners events →
         IsOnTrees event.entry.call →

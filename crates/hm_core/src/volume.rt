@@ -1,12 +1,15 @@
 // One volume in use.
+ghost use Rattle.std.specs.Prelude.{◌-◌, ◌≤◌, length, vec_capacity, vec_len};
 ghost use Rattle.hm_stored.specs.Space.{heap};
-ghost use Rattle.hm_core.specs.Caused.{IsCausedFrom};
+ghost use Rattle.hm_core.specs.Caused.{IsCausedWith};
 ghost use Rattle.hm_core.specs.Counts.{disk_counts};
 ghost use Rattle.hm_core.specs.Inside.{IsInOrder};
+ghost use Rattle.hm_core.specs.Running.{open_prunes};
 
 use crate::asked::answer_asked;
 use crate::calls::failure;
 use crate::mounting::open_space;
+use crate::running::Running;
 use crate::served::is_sync;
 use crate::staged::Staged;
 use crate::step::Step;
@@ -26,19 +29,22 @@ use std::alloc::Global;
 /// stood, and all else by a flush, stage by stage, between any two calls.
 #[derive(Drop)]
 pub struct Core<D: Disk, I, O> {
-    alloc: Global,
-    stored: Stored<D>,
-    input: I,
-    output: O,
-    flusher: Flusher,
-    last: Id,
-    first: Id,
-    free: u32,
-    start: u64,
-    history: Vec<Entry>,
+    pub(crate) alloc: Global,
+    pub(crate) stored: Stored<D>,
+    pub(crate) input: I,
+    pub(crate) output: O,
+    pub(crate) flusher: Flusher,
+    pub(crate) last: Id,
+    pub(crate) first: Id,
+    pub(crate) free: u32,
+    pub(crate) start: u64,
+    pub(crate) history: Vec<Entry>,
+    // The prunes that are open. The history has a place for the ending of each.
+    pub(crate) running: Vec<Running>,
+    ghost placed: { length running.items ≤ vec_capacity history - vec_len history },
     ghost ordered: { ∥ IsInOrder flusher last.0 free (heap stored.space) history.items ∥₁ },
-    ghost caused: { ∥ IsCausedFrom first.0 (disk_counts start)
-        (disk_counts (D.faults stored.space.disk)) last.0 history.items ∥₁ },
+    ghost caused: { ∥ IsCausedWith first.0 (disk_counts start)
+        (disk_counts (D.faults stored.space.disk)) last.0 (open_prunes running.items) history.items ∥₁ },
 }
 
 // How it is opened, and what its use ends with.
@@ -89,6 +95,7 @@ impl<D: Disk, I, O> Core<D, I, O> {
                     free,
                     start: space.disk().faults(),
                     history: Vec::new(alloc),
+                    running: Vec::new(alloc),
                     stored: Stored::over(space, header.root),
                 };
                 core.core_is_sound();
@@ -160,7 +167,7 @@ impl<D: Disk, I, O> Core<D, I, O> {
         ensures keeps { seen self.new ≡ record (seen self.old) { spare = (seen self.new).spare } }
         ensures streams { devices self.new ≡ devices self.old }
     {
-        self.history.reserve(entries as usize)?;
+        self.history.reserve(entries as usize + self.running.len())?;
         Ok(())
     }
 }
@@ -300,7 +307,7 @@ impl<D: Disk, I, O> Core<D, I, O> {
 
     // Makes the stage that is due. The core goes on also as if no fault had been counted meanwhile: so the
     // call for which it was made can be refused with one.
-    fn make_stage(&mut self) -> Result<Stage, Fault>
+    pub(crate) fn make_stage(&mut self) -> Result<Stage, Fault>
         ensures stage { IsStaged (seen self.old) (seen self.new) result }
         ensures follows { Follows (D.left_since (devices self.old).disk) (D.left_since (devices self.new).disk)
             (seen self.old) (seen self.new) }

@@ -6,8 +6,9 @@ use Rattle.hm_types.specs.declared.fault.Fault.TheVariants.{NoMemory as no_memor
 use Rattle.hm_pages.specs.Store.{contents}
 use Rattle.hm_stored.specs.Heap.{heap_of}
 use Rattle.hm_core.specs.Told.{TellsFailure}
-use Rattle.hm_core.proofs.AnswerLemmas.{balanced_begun, begun_some, caused_over, dropped_answers, fault_told, kept_answers, known_begun}
+use Rattle.hm_core.proofs.AnswerLemmas.{caused_over, dropped_answers, fault_told, kept_answers}
 use Rattle.hm_core.proofs.CrashLemmas.{leaves_around}
+use Rattle.hm_core.proofs.TurnLemmas.{balanced_begun, begun_some, known_begun}
 use Rattle.hm_core.proofs.calls.answer_over.Goals as goal
 
 pub answer_next-requires-clause-balanced : goal.answer_next-requires-clause-balanced

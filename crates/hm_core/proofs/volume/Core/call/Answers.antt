@@ -6,7 +6,7 @@ use Rattle.hm_pages.specs.Store.{contents}
 use Rattle.hm_stored.specs.Heap.{heap_of}
 use Rattle.hm_state.specs.Live.{NoByte}
 use Rattle.hm_state.proofs.LiveLemmas.{live_same}
-use Rattle.hm_core.specs.Caused.{IsCausedFrom}
+use Rattle.hm_core.specs.Caused.{IsCausedWith}
 use Rattle.hm_core.specs.Core.{NeedsFlush}
 use Rattle.hm_core.specs.Counts.{disk_counts}
 use Rattle.hm_core.specs.Inside.{IsInOrder}
@@ -75,6 +75,7 @@ invariant_of-self g c =
     let h' = heap_of (contents t.space.pages.store) (g.D.Disk.told t.space.disk) t.space.books in
     let entry = entry_of (s.last.0 + 1) c.args.lane c.args.line c.args.command c.answer_asked-reply.result in
     record {
+      placed = omega (arith, c.requires.room, c.push_reserved.ensures.len, c.push_reserved.ensures.capacity);
       ordered = ∥∥₁_map s.ordered (λ o.
           subst (λ (l : List Entry). IsInOrder f (s.last.0 + 1) s.free h' l) (sym c.push_reserved.ensures.items)
           (ordered_next f s.last.0 s.free h s.history.items h' s.stored.root t.root (g.D.Disk.faults s.stored.space.disk)
@@ -82,9 +83,9 @@ invariant_of-self g c =
           (let greatest = o.greatest in omega (arith, greatest)) (record { call_is = refl; reply_is = refl; own = refl })
           c.answer_asked-reply.ensures.answers o));
       caused = ∥∥₁_map s.caused (λ so_far.
-          subst (λ (l : List Entry). IsCausedFrom s.first.0 (disk_counts s.start) (disk_counts (g.D.Disk.faults t.space.disk)) (s.last.0 + 1) l)
+          subst (λ (l : List Entry). IsCausedWith s.first.0 (disk_counts s.start) (disk_counts (g.D.Disk.faults t.space.disk)) (s.last.0 + 1) (seen s).running l)
           (sym c.push_reserved.ensures.items)
-          (c.answer_asked-reply.ensures.answers.caused s.first.0 (disk_counts s.start) (disk_counts 0) s.history.items entry
+          (c.answer_asked-reply.ensures.answers.caused s.first.0 (disk_counts s.start) (disk_counts 0) s.history.items (seen s).running entry
           (record { call_is = refl; reply_is = refl; own = refl })
           (boundary_told f s.last.0 s.free h s.history.items s.ordered) (boundary_drawn f s.last.0 s.free h s.history.items s.ordered) so_far));
     }

@@ -14,6 +14,7 @@ invariant_of-self g c =
     let past = g.D.Disk.left_since s.stored.space.disk in
     let since = g.D.Disk.left_since m.stored.space.disk in
     record {
+      placed = omega (arith, c.requires.room, stage.stage.waits.spare, c.push_reserved.ensures.len, c.push_reserved.ensures.capacity);
       ordered = refused_ordered past since (seen s) (seen m) stage.stage stage.follows c.in-Err.field-0 stage.cause m.ordered
           c.if-self-eq-GREATEST_ID.false a.lane a.line a.command c.requires.asked.served c.failure.result c.failure.ensures c.push_reserved.new.self.items
           c.push_reserved.ensures.items;
