@@ -44,4 +44,6 @@ mod NewCallLemmas
 mod NewEffectLemmas
 mod NewStageLemmas
 pub mod RetentionLemmas
-pub mod PruneLemmas
+mod PruneCheckLemmas
+mod PruneLemmas
+mod PruneRecordLemmas

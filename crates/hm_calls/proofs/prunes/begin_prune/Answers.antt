@@ -5,7 +5,9 @@ use Rattle.hm_dirs.specs.Walk.{mode_of}
 use Rattle.hm_dirs.proofs.WalkLoopLemmas.{same_twice}
 use Rattle.hm_calls.specs.Call.{OnCalls}
 use Rattle.hm_calls.specs.Prunes.{IsRetainedIn, command_of}
-use Rattle.hm_calls.proofs.PruneLemmas.{Tells, comes_by, gives_cut, gives_later, gives_stopped, known_cut, later_refused, leads_cut, leads_refused, on_by}
+use Rattle.hm_calls.proofs.PruneCheckLemmas.{comes_by, on_by}
+use Rattle.hm_calls.proofs.PruneLemmas.{Tells, gives_cut, gives_later, gives_stopped, later_refused, leads_cut, leads_refused}
+use Rattle.hm_calls.proofs.PruneRecordLemmas.{known_cut}
 use Rattle.hm_calls.proofs.StageLemmas.{told_before}
 use Rattle.hm_calls.proofs.prunes.begin_prune.Goals as goal
 
