@@ -11,7 +11,7 @@ use Rattle.hm_model.specs.declared.line.Line.{Line}
 use Rattle.hm_model.specs.Caused.{is_ending, opens}
 use Rattle.hm_model.specs.Out.{AreOrdered, IsAnswered, IsBlockText, IsCallLine, IsLineText, IsOut, IsSpent, KeepsBoundary, answers, begins, ends, endings_of, joined, lines_in, openings_of}
 use Rattle.hm_model.specs.Reply.{told_boundary}
-use Rattle.hm_shell.specs.Alone.{AnswersEach, FoundNone, HasEntry, IsAlone, alone, line_text, out_text}
+use Rattle.hm_shell.specs.Alone.{AnswersEach, FoundNone, HasEntryOfLine, IsAlone, alone, line_text, out_text}
 
 -- what a line of a call prints is the text of its line
 module _ (history : List Entry) (end : ℕ) (block : List Line) (line : Line) (text : List ℕ) where
@@ -101,7 +101,7 @@ module _ (end : ℕ) (history : List Entry) where
   joined_alone (line ∷ lines) = cc (append-nil (line_text history line), joined_alone lines)
 
   module _ (none : NoneEnds history) (line : Line) (is_alone : IsAlone line) where
-    answered_by : HasEntry history line → IsAnswered history end (line ∷ []) line (openings_of history line) (endings_of history line)
+    answered_by : HasEntryOfLine history line → IsAnswered history end (line ∷ []) line (openings_of history line) (endings_of history line)
     answered_by h = rw (begins_all line.number history none, h.only, ends_none line.number history none) (h.own, keeps, inl closed) where
       keeps : KeepsBoundary history (line ∷ []) line h.entry.reply
       keeps = IfSome_then (told_boundary h.entry.reply) h.told (λ boundary after e has earlier. after e has (⊎_elim (λ lower. lower) (λ lower. lower.1) earlier))
@@ -114,12 +114,12 @@ module _ (end : ℕ) (history : List Entry) where
       spent : IsSpent history end (line ∷ []) line
       spent = record { greatest = h.greatest; none_later = λ e has later. h.none_later e has (⊎_elim (λ lt. lt) (λ lt. lt.1) later) }
 
-    text_is : HasEntry history line ⊎ FoundNone history end line → IsLineText history end (line ∷ []) line (line_text history line)
+    text_is : HasEntryOfLine history line ⊎ FoundNone history end line → IsLineText history end (line ∷ []) line (line_text history line)
     text_is h = call_text history end (line ∷ []) line (line_text history line) line.command is_alone.single.calls
         (record { answered = ⊎_elim answered_by answered_none h; printed = refl })
 
   each_text : NoneEnds history → (lines : List Line) → AllByRecursion IsAlone lines
-      → AllByRecursion (λ line. HasEntry history line ⊎ FoundNone history end line) lines
+      → AllByRecursion (λ line. HasEntryOfLine history line ⊎ FoundNone history end line) lines
       → AllZip (IsBlockText history end) (alone lines) (texts_of lines)
   each_text none [] are each = tt
   each_text none (line ∷ lines) are each = ((text_is none line are.0 each.0, tt), each_text none lines are.1 each.1)

@@ -12,7 +12,7 @@ use Rattle.hm_model.specs.Out.{IsOf, answers, begins, ends}
 use Rattle.hm_model.specs.Reply.{told_boundary}
 use Rattle.hm_model.specs.declared.reply.Reply.{Reply}
 use Rattle.hm_image.proofs.ListLemmas.{only_one}
-use Rattle.hm_shell.specs.Alone.{AnswersEach, FoundNone, HasAnswer, HasEntry, TellsAfter}
+use Rattle.hm_shell.specs.Alone.{AnswersEach, FoundNone, HasAnswer, HasEntryOfLine, TellsAfter}
 
 -- no line was run
 pub answers_none : (end : ℕ) → AnswersEach end [] []
@@ -87,7 +87,7 @@ module _ (lines : List Line) (history : List Entry) (line : Line) (later : (l : 
     answers_own : filter (answers line.number) (e ∷ []) ≡ e ∷ []
     answers_own = rw (eq-eqb e.line line.number of.number) refl
 
-    old_entry : (l : Line) → Contains lines l → HasAnswer history end l → HasEntry after l
+    old_entry : (l : Line) → Contains lines l → HasAnswer history end l → HasEntryOfLine after l
     old_entry l has (inr none) = (let greatest = none.greatest in absurd (omega (arith, left, greatest)))
     old_entry l has (inl old) = record {
       entry = old.entry;
@@ -101,7 +101,7 @@ module _ (lines : List Line) (history : List Entry) (line : Line) (later : (l : 
       only : filter (answers l.number) (history ++ e ∷ []) ≡ old.entry ∷ []
       only = filter-append (answers l.number) history (e ∷ []) ∙ rw (none_answers l.number (e ∷ []) (other, tt), old.only) refl
 
-    new_entry : HasEntry after line
+    new_entry : HasEntryOfLine after line
     new_entry = record {
       entry = e;
       only = filter-append (answers line.number) history (e ∷ []) ∙ rw (none_yet end h, answers_own) refl;
@@ -109,9 +109,9 @@ module _ (lines : List Line) (history : List Entry) (line : Line) (later : (l : 
       told = tells_after line.number e.reply (omega arith) told;
     }
 
-    has_entry : (l : Line) → Contains (lines ++ line ∷ []) l → HasEntry after l
+    has_entry : (l : Line) → Contains (lines ++ line ∷ []) l → HasEntryOfLine after l
     has_entry l has = ⊎_elim (λ old. old_entry l old (All-contains (HasAnswer history end) lines l h.each old))
-        (λ new. subst (HasEntry after) (only_one line l new) new_entry) (Contains-append_cases lines (line ∷ []) l has)
+        (λ new. subst (HasEntryOfLine after) (only_one line l new) new_entry) (Contains-append_cases lines (line ∷ []) l has)
 
     owned : (x : Entry) → Contains after x → (l : Line) × Contains (lines ++ line ∷ []) l × IsOf l x
     owned x has = ⊎_elim

@@ -26,7 +26,7 @@ use Rattle.hm_core.proofs.CoreLemmas.{follows_further}
 use Rattle.hm_shell.specs.Alone.{AnswersEach, out_text}
 use Rattle.hm_shell.specs.Running.{IsWriteCause}
 use Rattle.hm_shell.specs.Seen.{Seen}
-use Rattle.hm_shell.specs.Serving.{Commits, IsBehind, IsEnded, Served, StopsUsing, UsesAll}
+use Rattle.hm_shell.specs.Serving.{Commits, IsUncommitted, IsCommittedAtEnd, KeepsSize, Served, StopsUsing, UsesAll}
 use Rattle.hm_shell.specs.Stop.{of_fault}
 use Rattle.hm_shell.specs.declared.stop.RunStop.{RunStop}
 use Rattle.hm_shell.proofs.WaitLemmas.{waits_more}
@@ -43,6 +43,18 @@ waits_by mid new (Ok true) ends = elim ends.1 [
 ]
 waits_by mid new (Ok false) ends = ends.2.waits
 waits_by mid new (Err fault) ends = ends.1.waits
+
+-- and the header is of as many big-blocks
+size_by : (mid new : CoreState) (r : Result Bool Fault) → EndsBy mid new r → KeepsSize mid new
+size_by mid new (Ok true) ends = elim ends.1 [
+  | inl same ↦ ap (λ (c : CoreState). c.flush.header.bigblocks) same
+  | inr flush ↦ flush.makes.made.volume
+]
+size_by mid new (Ok false) ends = ends.2.made.volume
+size_by mid new (Err fault) ends = ends.1.failed.volume
+
+pub size_at_end : (old mid new : CoreState) (r : Result Bool Fault) → KeepsSize old mid → EndsBy mid new r → KeepsSize old new
+size_at_end old mid new r size ends = size_by mid new r ends ∙ size
 
 pub waits_at_end : (old mid new : CoreState) (r : Result Bool Fault) → Waits old mid → EndsBy mid new r → Waits old new
 waits_at_end old mid new r waits ends = waits_more old mid new waits (waits_by mid new r ends)
@@ -89,10 +101,12 @@ disk_of core = record { told = core.heap.disk; faults = core.counts.disk }
 
 -- The use of an open volume whose lines were all served, once the last flush was tried.
 module _ (lines : List Line) (past left since : LeftSince) (begun mid core : CoreState) (held holds : Option (List ℕ))
-    (served : Served lines past left begun mid held holds) (waits : Waits mid core) (follows : Follows left since mid core) where
+    (served : Served lines past left begun mid held holds) (waits : Waits mid core) (follows : Follows left since mid core)
+    (size : KeepsSize mid core) where
   Served-committed : Served lines past since begun core held holds
   Served-committed = record {
     from = follows_further past left since begun mid core served.from follows;
+    size = size ∙ served.size;
     answers = subst (λ (n : ℕ). AnswersEach n lines core.history) (sym waits.last)
         (subst (λ (h : List Entry). AnswersEach mid.last lines h) (sym waits.history) served.answers);
     up_to = λ e has. (let last = waits.last in
@@ -100,12 +114,12 @@ module _ (lines : List Line) (past left since : LeftSince) (begun mid core : Cor
     gained = subst (λ (h : List Entry). Gains held (out_text lines h) holds) (sym waits.history) served.gained;
   }
 
-  module _ (flushed : IsFlushed begun) (behind : IsBehind begun mid) (commits : Commits mid core) where
+  module _ (flushed : IsFlushed begun) (behind : IsUncommitted begun mid) (commits : Commits mid core) where
     -- where nothing was entered, all was committed before
     idle_flushed : mid.history ≡ [] → IsFlushed mid
     idle_flushed none = subst IsFlushed (sym (behind.idle none)) (record { idle = flushed.idle; last = flushed.last })
 
-    is_ended : IsEnded begun core
+    is_ended : IsCommittedAtEnd begun core
     is_ended = record {
       committed = commits.committed;
       settled = λ some. settled (λ none. some (waits.history ∙ none)) commits.made;
@@ -126,7 +140,7 @@ module _ (lines : List Line) (past left since : LeftSince) (begun mid core : Cor
       unwritten none (inr made) = absurd (made.0 (idle_flushed none))
 
   -- it came to its end
-  pub UsesAll-committed : IsFlushed begun → IsBehind begun mid → (r : Result (Unit {0}) RunStop) → OnOk r (Commits mid core)
+  pub UsesAll-committed : IsFlushed begun → IsUncommitted begun mid → (r : Result (Unit {0}) RunStop) → OnOk r (Commits mid core)
       → OnOk r (UsesAll lines past since begun (disk_of core) held holds)
   UsesAll-committed flushed behind (Ok done) commits = record {
     core = core;
@@ -151,12 +165,13 @@ caused_before left since mid core sound waits follows =
 
 -- or it stopped there
 pub StopsUsing-failed : (lines : List Line) (past left since : LeftSince) (begun mid core : CoreState) (old new : Seen (List ℕ))
-    → Served lines past left begun mid old.told new.told → Waits mid core → Follows left since mid core → (r : Result (Unit {0}) RunStop)
+    → Served lines past left begun mid old.told new.told → Waits mid core → Follows left since mid core → KeepsSize mid core
+    → (r : Result (Unit {0}) RunStop)
     → IfErr r (IsWriteCause mid.counts.disk core.counts.disk) → IfErr r (StopsUsing lines past since begun (disk_of core) old new)
-StopsUsing-failed lines past left since begun mid core old new served waits follows (Ok done) cause = tt
-StopsUsing-failed lines past left since begun mid core old new served waits follows (Err stop) cause = inr (record {
+StopsUsing-failed lines past left since begun mid core old new served waits follows size (Ok done) cause = tt
+StopsUsing-failed lines past left since begun mid core old new served waits follows size (Err stop) cause = inr (record {
   core = core;
-  served = Served-committed lines past left since begun mid core old.told new.told served waits follows;
+  served = Served-committed lines past left since begun mid core old.told new.told served waits follows size;
   before = mid.counts.disk;
   later = served.from.never_falls.disk;
   caused = caused_before left since mid core served.from.sound waits follows;

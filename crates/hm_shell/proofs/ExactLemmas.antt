@@ -30,9 +30,9 @@ use Rattle.hm_shell.specs.declared.stop.RunStop.{RunStop}
 use Rattle.hm_shell.specs.declared.stop.RunStop.TheVariants.{Usage, NotVolume, BadField, DiskFault, Damaged, ScriptFault, OutFault, NoMemory, BadLine, TooLong}
 use Rattle.hm_shell.specs.Devices.{Sight}
 use Rattle.hm_shell.specs.Exact.{Brings, DiskBrings, NewBrings, OldBrings, ScriptBrings}
-use Rattle.hm_shell.specs.Lines.{IsFirstBad, IsGoodScript, IsServedText}
-use Rattle.hm_shell.specs.Making.{MakesVolume}
-use Rattle.hm_shell.specs.Opening.{HasWhole, IsUnopened, Opens, StaysAsMade, StoppedOpening}
+use Rattle.hm_shell.specs.Lines.{IsFirstRefused, IsGoodScript, IsServedText}
+use Rattle.hm_shell.specs.Making.{MakesWhereAsked}
+use Rattle.hm_shell.specs.Opening.{HasWhole, IsUnopened, OpensDisk, StaysAsMade, StoppedOpening}
 use Rattle.hm_shell.specs.Preparing.{IsPrepared, StoppedPreparing}
 use Rattle.hm_shell.specs.Reading.{WasRead}
 use Rattle.hm_shell.specs.Run.{Stops}
@@ -82,7 +82,7 @@ served_after : (texts more : List (List ℕ)) → AllByRecursion IsServedText (t
 served_after [] more good = good
 served_after (t ∷ ts) more good = served_after ts more good.1
 
-no_bad : (script : List ℕ) (number : ℕ) → IsGoodScript script → IsFirstBad script number → ⊥
+no_bad : (script : List ℕ) (number : ℕ) → IsGoodScript script → IsFirstRefused script number → ⊥
 no_bad script number good bad =
     let all : AllByRecursion IsServedText (bad.before ++ bad.bad ∷ bad.rest) =
     subst (AllByRecursion IsServedText) bad.texts (recursion_from_All IsServedText (texts_of script) good) in
@@ -128,7 +128,7 @@ seven_anyway : (newfs : Option ℕ) (o : Option Told) → IfSome o (λ t. DiskBr
 seven_anyway newfs o = told_gives o (λ t. DiskBrings newfs t 7) (λ t _. any_disk newfs t 7 (3, lit< tt, refl) (4, lit< tt, refl) (3, lit< tt, refl))
 
 -- with a volume that was opened
-old_opened : (s t : Told) (status : ℕ) → Opens s t → Contains (0 ∷ 4 ∷ 5 ∷ 6 ∷ 7 ∷ []) status → OldBrings s status
+old_opened : (s t : Told) (status : ℕ) → OpensDisk s t → Contains (0 ∷ 4 ∷ 5 ∷ 6 ∷ 7 ∷ []) status → OldBrings s status
 old_opened s t status opens has = record {
   none = λ fault is. absurd (recovers-faultless s.bytes t.bytes fault opens.recovers is);
   range = λ at kind is. absurd (recovers-whole s.bytes t.bytes at kind opens.recovers is);
@@ -138,11 +138,11 @@ old_opened s t status opens has = record {
   recovers = λ _ _. wider status has;
 }
 
-opened_brings : (newfs : Option ℕ) (disk began opened : Option Told) (status : ℕ) → MakesVolume newfs disk began → BothTell began opened Opens
+opened_brings : (newfs : Option ℕ) (disk began opened : Option Told) (status : ℕ) → MakesWhereAsked newfs disk began → BothTell began opened OpensDisk
     → Contains (0 ∷ 4 ∷ 5 ∷ 6 ∷ 7 ∷ []) status → IfSome disk (λ t. DiskBrings newfs t status)
 opened_brings None disk began opened status makes opens has =
-    both_gives disk opened Opens (λ t. OldBrings t status) (λ s t opens. old_opened s t status opens has)
-    (subst (λ (o : Option Told). BothTell o opened Opens) makes opens)
+    both_gives disk opened OpensDisk (λ t. OldBrings t status) (λ s t opens. old_opened s t status opens has)
+    (subst (λ (o : Option Told). BothTell o opened OpensDisk) makes opens)
 opened_brings (Some size) disk began opened status makes opens has =
     both_gives disk began (IsMade size) (λ t. NewBrings size t status) (λ s t made. record {
       small = λ small. absurd (made.room small);

@@ -32,9 +32,6 @@ fixed_zero zero acc = refl
 fixed_zero (suc k) acc = fixed_zero k (48 ∷ acc) ∙ zero_first k acc
 
 -- the digits of n, from those of what is left of it
-Filled : ℕ → ℕ → ℕ → List ℕ → Type 0
-Filled m k n acc = IsFilled (suc k + length acc) (fixed_onto (suc k) n acc) (digits_onto m 16 false n acc)
-
 filled_by : (x : Bool) (m k n : ℕ) (acc : List ℕ) → eqb (n / 16) 0 ≡ x → HasDigits (suc k) n → ((j : ℕ) → suc j ≡ k → HasDigits (suc j) (n / 16) → IsFilled (suc j + length (digit_glyph false (n % 16) ∷ acc)) (fixed_onto (suc j) (n / 16) (digit_glyph false (n % 16) ∷ acc)) (digits_onto m 16 false (n / 16) (digit_glyph false (n % 16) ∷ acc))) → IsFilled (suc k + length acc) (fixed_onto (suc k) n acc) (digits_onto (suc m) 16 false n acc)
 filled_by true m k n acc test has more =
     let none : n / 16 ≡ 0 = grind (arith, nat_tests, test) in

@@ -18,7 +18,7 @@ use Rattle.hm_model.specs.Script.{Gives, IsFirstBadLine, IsGood, IsScriptOf, IsT
 use Rattle.hm_script.proofs.ScriptLemmas.{gives_is_one}
 use Rattle.hm_core.specs.Served.{IsServed}
 use Rattle.hm_shell.specs.Alone.{IsSingle, alone}
-use Rattle.hm_shell.specs.Lines.{AreRising, AreServedLines, IsFirstBad, IsFirstUnserved, IsServable, IsServedLine, IsServedText}
+use Rattle.hm_shell.specs.Lines.{NumbersRise, AreServedLines, IsFirstRefused, IsFirstUnserved, IsServable, IsServedLine, IsServedText}
 
 -- the lines of a script beside those that answer nothing
 abbrev pub somes : List (Option Line) → List Line
@@ -159,7 +159,7 @@ rising bound (b ∷ before) rest line earlier rise has = elim (first_or_later b 
   | inr later ↦ rising (b.number + 1) before rest line earlier rise.1 later
 ]
 
-are_rising : (number : ℕ) (texts : List (List ℕ)) (lines : List (Option Line)) → ReadEach number texts lines → AreRising (somes lines)
+are_rising : (number : ℕ) (texts : List (List ℕ)) (lines : List (Option Line)) → ReadEach number texts lines → NumbersRise (somes lines)
 are_rising number texts lines read before rest line earlier split has =
     rising number before rest line earlier (subst (Rise number) split (numbers_rise number texts lines read)) has
 
@@ -233,7 +233,7 @@ bad_from number (text ∷ texts) (Some l ∷ lines) (b ∷ before) line rest rea
 
 -- the first line that is not served, of a script all of whose lines are in the grammar
 pub unserved_from : (script : List ℕ) (blocks : List (List Line)) (number : ℕ) → IsScriptOf script blocks → IsFirstUnserved (lines_in blocks) number
-    → IsFirstBad script number
+    → IsFirstRefused script number
 unserved_from script blocks number is first =
     let same : lines_in blocks ≡ somes is.lines = ap lines_in is.blocks_are ∙ lines_in_blocks is.lines in
     let bad : FirstBad 1 (texts_of script) first.line.number =
@@ -250,8 +250,8 @@ unserved_from script blocks number is first =
     }
 
 -- a bad line of the first lines is one of the script
-pub bad_in_front : (script front : List ℕ) (count number : ℕ) → texts_of front ≡ take count (texts_of script) → IsFirstBad front number
-    → IsFirstBad script number
+pub bad_in_front : (script front : List ℕ) (count number : ℕ) → texts_of front ≡ take count (texts_of script) → IsFirstRefused front number
+    → IsFirstRefused script number
 bad_in_front script front count number are bad =
     let split : texts_of script ≡ (bad.before ++ bad.bad ∷ bad.rest) ++ drop count (texts_of script) =
     sym (take-append-drop count (texts_of script)) ∙ ap (λ ts. ts ++ drop count (texts_of script)) (sym are ∙ bad.texts) in
@@ -282,7 +282,7 @@ module _ (script front : List ℕ) (number : ℕ) (first : IsFirstBadLine script
       (Contains-append_right other.before (other.bad ∷ other.rest) other.bad (0, omega arith, refl))))
 
   -- where they are served, that one is the first bad one
-  pub bad_itself : (blocks : List (List Line)) → IsScriptOf front blocks → All IsServable (lines_in blocks) → IsFirstBad script number
+  pub bad_itself : (blocks : List (List Line)) → IsScriptOf front blocks → All IsServable (lines_in blocks) → IsFirstRefused script number
   bad_itself blocks is each = record {
     before = first.before;
     bad = first.bad;

@@ -14,14 +14,14 @@ use Rattle.hm_recover.specs.declared.fault.OpenFault.TheVariants.{NotVolume as n
 use Rattle.hm_recover.proofs.DamageLemmas.{same-header}
 use Rattle.hm_core.specs.Opened.{IsMade, IsNotMounted, IsOpenCaused, IsUnarmed}
 use Rattle.hm_shell.specs.declared.stop.RunStop.{RunStop}
-use Rattle.hm_shell.specs.Making.{MakesVolume}
+use Rattle.hm_shell.specs.Making.{MakesWhereAsked}
 use Rattle.hm_shell.specs.Opening.{IsUnopened, StaysAsMade, StoppedOpening}
 use Rattle.hm_shell.specs.Seen.{Seen}
 use Rattle.hm_shell.specs.Stop.{of_open}
 
 -- what did not fail has made a volume, where one was asked for
-pub made_not_err : (newfs : Option ℕ) (old new : Option Told) (r : Result (Unit {0}) RunStop) → OnOk r (MakesVolume newfs old new)
-    → ((stop : RunStop) → r ≡ Err stop → ⊥) → MakesVolume newfs old new
+pub made_not_err : (newfs : Option ℕ) (old new : Option Told) (r : Result (Unit {0}) RunStop) → OnOk r (MakesWhereAsked newfs old new)
+    → ((stop : RunStop) → r ≡ Err stop → ⊥) → MakesWhereAsked newfs old new
 made_not_err newfs old new (Ok done) made not_err = made
 made_not_err newfs old new (Err stop) made not_err = absurd (not_err stop refl)
 
@@ -95,7 +95,7 @@ module _ (past left since : LeftSince) (fault : OpenFault) where
   unmounted size (Some s) (Some t) None made not_mounted only = absurd not_mounted
   unmounted size (Some s) (Some t) (Some u) made not_mounted only = stays_as_made size s t u made not_mounted only
 
-  unopened : (newfs : Option ℕ) (a b c : Option Told) → MakesVolume newfs a b → (newfs ≡ None → left ≡ past)
+  unopened : (newfs : Option ℕ) (a b c : Option Told) → MakesWhereAsked newfs a b → (newfs ≡ None → left ≡ past)
       → BothTell b c (IsNotMounted fault left since) → IfSome b (LeavesOnly left) → IsUnopened newfs past since a c fault
   unopened None a b c made as_was not_mounted only =
       subst (λ (before : LeftSince). BothTell a c (IsNotMounted fault before since)) (as_was refl)
@@ -103,7 +103,7 @@ module _ (past left since : LeftSince) (fault : OpenFault) where
   unopened (Some size) a b c made as_was not_mounted only = inr (unmounted size a b c made not_mounted only)
 
   -- a disk on which a volume was made or not, and none was opened
-  pub StoppedOpening-mount : (newfs : Option ℕ) (a b c : Seen Told) → MakesVolume newfs a.told b.told → (newfs ≡ None → left ≡ past)
+  pub StoppedOpening-mount : (newfs : Option ℕ) (a b c : Seen Told) → MakesWhereAsked newfs a.told b.told → (newfs ≡ None → left ≡ past)
       → BothTell b.told c.told (IsNotMounted fault left since) → IfSome b.told (LeavesOnly left) → a.faults ≤ b.faults
       → IsOpenCaused b.faults c.faults fault → StoppedOpening newfs past since a c (of_open fault)
   StoppedOpening-mount newfs a b c made as_was not_mounted only earlier caused = record {

@@ -2,10 +2,10 @@
 use Rattle.std.proofs.Common.{◌≡◌, inl, inr, ℕ, List, [], ◌∷◌, Some, None, refl, sym, ap, subst, ◌∙◌, arith}
 use Rattle.std.specs.Prelude.{Option, slice_index}
 use Rattle.std.proofs.lemmas.Fmt.{decimal_injective}
-use Rattle.hm_shell.specs.Words.{IsPlan, IsPlanWithSize, IsSize, IsVolumeWord, newfs_option}
+use Rattle.hm_shell.specs.Words.{IsPlan, IsPlanWithSize, SpellsSize, IsVolumeWord, newfs_option}
 
 -- a size is written in one way
-size_is_one : (word : List ℕ) (a b : ℕ) → IsSize word a → IsSize word b → a ≡ b
+size_is_one : (word : List ℕ) (a b : ℕ) → SpellsSize word a → SpellsSize word b → a ≡ b
 size_is_one word a b first second =
     decimal_injective a b (omega (arith, first.most)) (omega (arith, second.most)) (sym first.digits ∙ second.digits)
 
@@ -20,7 +20,7 @@ module _ (words : List (List ℕ)) (volume other : List ℕ) (size another : ℕ
       | inl second ↦
           let same : volume ∷ newfs_option ∷ a.word ∷ [] ≡ other ∷ newfs_option ∷ b.word ∷ [] = sym first ∙ second in
           let word : a.word ≡ b.word = cc in
-          (cc, size_is_one b.word size another (subst (λ (w : List ℕ). IsSize w size) word a.size_is) b.size_is)
+          (cc, size_is_one b.word size another (subst (λ (w : List ℕ). SpellsSize w size) word a.size_is) b.size_is)
       | inr second ↦
           let same : volume ∷ newfs_option ∷ a.word ∷ [] ≡ newfs_option ∷ b.word ∷ other ∷ [] = sym first ∙ second in
           absurd (no_option volume a.volume_is (cc))
@@ -32,7 +32,7 @@ module _ (words : List (List ℕ)) (volume other : List ℕ) (size another : ℕ
       | inr second ↦
           let same : newfs_option ∷ a.word ∷ volume ∷ [] ≡ newfs_option ∷ b.word ∷ other ∷ [] = sym first ∙ second in
           let word : a.word ≡ b.word = cc in
-          (cc, size_is_one b.word size another (subst (λ (w : List ℕ). IsSize w size) word a.size_is) b.size_is)
+          (cc, size_is_one b.word size another (subst (λ (w : List ℕ). SpellsSize w size) word a.size_is) b.size_is)
     ]
   ]
 

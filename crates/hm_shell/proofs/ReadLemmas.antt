@@ -2,7 +2,7 @@
 use Rattle.std.proofs.Common.{◌≡◌, ◌≢◌, ℕ, zero, suc, ◌+◌, ◌<◌, ◌≤◌, Bool, true, false, List, [], ◌∷◌, ◌++◌, length, get_or, refl, ◌∙◌, ap, arith, eqb, cond, length-append, if◌then◌else◌}
 use Rattle.std.proofs.lemmas.Bool.Decides.{nat_tests}
 use Rattle.std.proofs.lemmas.List.{get_or-append-add}
-use Rattle.std.proofs.lemmas.List.Sums.{count_by-le-length, sum_by-append, sum_by-cons}
+use Rattle.std.proofs.lemmas.List.Sums.{sum_by-append, sum_by-cons}
 use Rattle.hm_model.specs.Lines.{line_feed, texts_of, with_first}
 use Rattle.hm_shell.specs.Reading.{feeds}
 
@@ -15,9 +15,6 @@ feeds-append s p = sum_by-append one_at s p
 
 feeds-cons : (b : ℕ) (bs : List ℕ) → feeds (b ∷ bs) ≡ one_at b + feeds bs
 feeds-cons b bs = sum_by-cons one_at b bs
-
-pub feeds-few : (s : List ℕ) → feeds s ≤ length s
-feeds-few s = count_by-le-length (λ b. eqb b line_feed) s
 
 length-with_first : (b : ℕ) (texts : List (List ℕ)) → 0 < length texts → length (with_first b texts) ≡ length texts
 length-with_first b [] some = absurd (omega arith)

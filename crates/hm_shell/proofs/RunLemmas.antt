@@ -1,5 +1,6 @@
 -- From the lines that were served on an open volume to the run of a script's lines on a disk.
-use Rattle.std.proofs.Common.{◌≡◌, ◌⊎◌, ℕ, ◌≤◌, List, [], ◌++◌, take, refl, sym, ◌∙◌, ap, append_assoc, arith, subst, inl, inr}
+use Rattle.std.proofs.Common.{◌≡◌, ◌⊎◌, ℕ, ◌-◌, ◌≤◌, List, [], ◌++◌, take, refl, sym, ◌∙◌, ap, append_assoc, arith, subst}
+use Rattle.std.proofs.Common.{inl, inr}
 use Rattle.std.specs.Prelude.{All, Contains, Err, IfErr, IfSome, IsSomeAnd, None, Ok, OnOk, Option, Result, Some}
 use Rattle.std.proofs.lemmas.List.Elements.{All-contains, Contains-append_left}
 use Rattle.hm_types.specs.Told.{BothTell}
@@ -7,6 +8,11 @@ use Rattle.hm_types.specs.declared.id.Id.{Id}
 use Rattle.hm_disk.specs.Crash.{MayLeave, Told}
 use Rattle.hm_disk.specs.Moments.{Each, LeftSince}
 use Rattle.hm_disk.proofs.CrashLemmas.{MayLeave-settled}
+use Rattle.hm_header.specs.OnDisk.{HasHeader}
+use Rattle.hm_flush.specs.Flush.{header_to_write, header_to_write_at}
+use Rattle.hm_flush.specs.declared.flush.Flush.{Flush}
+use Rattle.hm_flush.specs.declared.flush.Position.{Position}
+use Rattle.hm_flush.specs.declared.flush.Position.TheVariants.{Arming, Committing, Idle, Placing, Undoing}
 use Rattle.hm_image.specs.Stands.{StandsFor}
 use Rattle.hm_model.specs.declared.line.Line.{Line}
 use Rattle.hm_model.specs.After.{Event}
@@ -16,7 +22,7 @@ use Rattle.hm_model.specs.Volume.{Volume}
 use Rattle.hm_recover.proofs.BoundaryLemmas.{boundary-kept}
 use Rattle.hm_core.specs.Core.{Follows, GoesOnBy, IsGuarded}
 use Rattle.hm_core.specs.Counts.{AreLater}
-use Rattle.hm_core.specs.Crash.{IsBetween, IsLeftBoundary, RecoversToPrefix}
+use Rattle.hm_core.specs.Crash.{HasHeaderOf, IsBetween, IsLeftBoundary, MayHaveChanged, RecoversToPrefix}
 use Rattle.hm_core.specs.Finished.{IsCommittedOn}
 use Rattle.hm_core.specs.History.{up_to, volume_of}
 use Rattle.hm_core.specs.Opened.{IsMounted, MountsDisk}
@@ -25,11 +31,12 @@ use Rattle.hm_core.proofs.CrashLemmas.{left_tried, prefix_weaker}
 use Rattle.hm_shell.specs.declared.stop.RunStop.{RunStop}
 use Rattle.hm_shell.specs.Alone.{IsAlone, out_text}
 use Rattle.hm_shell.specs.Lines.{IsServedLine}
-use Rattle.hm_shell.specs.Making.{MakesVolume}
-use Rattle.hm_shell.specs.Opening.{Opens}
-use Rattle.hm_shell.specs.Running.{AnswersAll, AnswersInPart, BeginsOn, HasHistory, HoldsSyncs, IsCounted, IsKept, OverEach, Ran, RunsAll, StandsForHistory, StopsAtLine, StopsWriting, StoppedRunning, StoppedUsing}
+use Rattle.hm_shell.specs.Making.{MakesWhereAsked}
+use Rattle.hm_shell.specs.Opening.{OpensDisk}
+use Rattle.hm_shell.specs.Running.{AnswersEveryLine, AnswersInPart, BeginsOn, HasHistory, HoldsSyncs, IsCountedBetween, KeepsVolume, KeepsHeader, KeepsHeaderOn, OverEach, Ran}
+use Rattle.hm_shell.specs.Running.{RunsAll, StandsForHistory, StopsAtLine, StopsWriting, StoppedRunning, StoppedUsing}
 use Rattle.hm_shell.specs.Seen.{Seen}
-use Rattle.hm_shell.specs.Serving.{IsEnded, Served, ServedInPart, StopsUsing, UsesAll}
+use Rattle.hm_shell.specs.Serving.{IsCommittedAtEnd, KeepsSize, Served, ServedInPart, StopsUsing, UsesAll}
 use Rattle.hm_shell.proofs.AloneLemmas.{answers_out}
 use Rattle.hm_shell.proofs.AloneMoreLemmas.{each_from}
 use Rattle.hm_shell.proofs.OpenLemmas.{LeavesOnly}
@@ -46,8 +53,8 @@ each_told : (o : Option Told) (P Q : Told → Type 0) → ((t : Told) → P t �
 each_told None P Q from p = tt
 each_told (Some t) P Q from p = from t p
 
-both_told : (s : Told) (o : Option Told) (P Q : Told → Type 0) (R : Told → Told → Type 0) → ((t : Told) → Q t → R s t) → IsSomeAnd o P → IfSome o Q
-    → BothTell (Some s) o R
+both_told : (s : Told) (o : Option Told) (P Q : Told → Type 0) (R : Told → Told → Type 0) → ((t : Told) → Q t → R s t) → IsSomeAnd o P
+    → IfSome o Q → BothTell (Some s) o R
 both_told s None P Q R from some q = absurd some
 both_told s (Some t) P Q R from some q = from t q
 
@@ -56,6 +63,18 @@ both_each None None P Q from both = tt
 both_each None (Some t) P Q from both = absurd both
 both_each (Some s) None P Q from both = absurd both
 both_each (Some s) (Some t) P Q from both = from s t both
+
+-- the header that is written next is of as many big-blocks, and has a boundary that a crash may leave once it may count
+written_size : (at : Position) (f : Flush) → (header_to_write_at at f).bigblocks ≡ f.header.bigblocks
+written_size Idle f = refl
+written_size (Undoing from) f = refl
+written_size (Arming change) f = refl
+written_size (Placing i) f = refl
+written_size (Committing change) f = refl
+
+written_boundary : (f : Flush) → MayHaveChanged f → IsLeftBoundary f (header_to_write f).last.0
+written_boundary f (inl arming) = inl (ap (λ (p : Position). (header_to_write_at p f).last.0) arming)
+written_boundary f (inr committing) = inr (committing, ap (λ (p : Position). (header_to_write_at p f).last.0) committing)
 
 -- what a core tells of the run
 abbrev pub ran_of : CoreState → Ran
@@ -76,7 +95,7 @@ module _ (faults : ℕ) (begun core : CoreState) (past mid since : LeftSince) (m
   first_is : core.mounted.first ≡ begun.boundary
   first_is = ap (λ (m : Mounted). m.first) from.mounted ∙ mounted.ids.1
 
-  counted : (old new : ℕ) → old ≤ faults → core.counts.disk ≤ new → IsCounted old new (ran_of core)
+  counted : (old new : ℕ) → old ≤ faults → core.counts.disk ≤ new → IsCountedBetween old new (ran_of core)
   counted old new earlier later =
       let first = mounted.counts.0 in let start = ap (λ (c : Counts). c.disk) start_is in
       record {
@@ -95,6 +114,30 @@ module _ (faults : ℕ) (begun core : CoreState) (past mid since : LeftSince) (m
         synced = λ e has. (let told = from.sound.told e has in omega (arith, told, between.0));
       }
 
+  -- the header that counts is of the volume that was opened
+  header_on : KeepsSize begun core → (s t : Told) → HasHeader s.bytes begun.flush.header begun.flush.slot → HasHeaderOf core.flush t.bytes
+      → KeepsHeader (ran_of core) s t
+  header_on size s t was (inl same) = record {
+    was = begun.flush.header;
+    was_slot = begun.flush.slot;
+    counted = was;
+    now = core.flush.header;
+    now_slot = core.flush.slot;
+    counts = same;
+    bigblocks = size;
+    boundary = holds_syncs core.flush.header.last.0 (inl refl);
+  }
+  header_on size s t was (inr changed) = record {
+    was = begun.flush.header;
+    was_slot = begun.flush.slot;
+    counted = was;
+    now = header_to_write core.flush;
+    now_slot = 1 - core.flush.slot;
+    counts = changed.1;
+    bigblocks = written_size core.flush.at core.flush ∙ size;
+    boundary = holds_syncs (header_to_write core.flush).last.0 (written_boundary core.flush changed.0);
+  }
+
   prefix_holds : (opening : Volume) (foreigners : Foreigners) (events : List Event) (image : List ℕ)
       → RecoversToPrefix (IsLeftBoundary core.flush) opening foreigners events image
       → RecoversToPrefix (HoldsSyncs (ran_of core)) opening foreigners events image
@@ -103,7 +146,7 @@ module _ (faults : ℕ) (begun core : CoreState) (past mid since : LeftSince) (m
 
   -- on a disk that told the one as mounting began, and the other as it ended
   module _ (s u : Told) (mounts : MountsDisk begun past mid s u) where
-    opens_on : Opens s u
+    opens_on : OpensDisk s u
     opens_on = record {
       recovers = mounts.recovers;
       written = mounts.written;
@@ -216,7 +259,7 @@ module _ (faults : ℕ) (begun core : CoreState) (past mid since : LeftSince) (m
         }) on.stands.legal.held.holds.elements.1 leaves_now;
       }
 
-      leaves : IsEnded begun core → StandsForHistory (ran_of core) since (Some s) core.heap.disk opening foreigners
+      leaves : IsCommittedAtEnd begun core → StandsForHistory (ran_of core) since (Some s) core.heap.disk opening foreigners
       unfolding has_history
       leaves ended = record {
         has = has_history;
@@ -225,8 +268,8 @@ module _ (faults : ℕ) (begun core : CoreState) (past mid since : LeftSince) (m
       }
 
   module _ (began : Option Told) (mounts : BothTell began begun.heap.disk (MountsDisk begun past mid)) (only : IfSome began (LeavesOnly past)) where
-    opens : BothTell began begun.heap.disk Opens
-    opens = both_each began begun.heap.disk (MountsDisk begun past mid) Opens opens_on mounts
+    opens : BothTell began begun.heap.disk OpensDisk
+    opens = both_each began begun.heap.disk (MountsDisk begun past mid) OpensDisk opens_on mounts
 
     begins : IfSome begun.heap.disk (BeginsOn (ran_of core))
     begins = by began begun.heap.disk mounts where
@@ -235,6 +278,15 @@ module _ (faults : ℕ) (begun core : CoreState) (past mid since : LeftSince) (m
       by None (Some u) mounts = absurd mounts
       by (Some s) None mounts = tt
       by (Some s) (Some u) mounts = begins_on s u mounts
+
+    headers : KeepsSize begun core → KeepsHeaderOn (ran_of core) begun.heap.disk core.heap.disk
+    headers size = by began begun.heap.disk mounts where
+      by : (o p : Option Told) → BothTell o p (MountsDisk begun past mid) → KeepsHeaderOn (ran_of core) p core.heap.disk
+      by None None mounts = tt
+      by None (Some u) mounts = absurd mounts
+      by (Some s) None mounts = tt
+      by (Some s) (Some u) mounts = each_told core.heap.disk (λ t. HasHeaderOf core.flush t.bytes) (KeepsHeader (ran_of core) u)
+          (λ t has. header_on size u t mounts.counts has) from.sound.header
 
     histories : OverEach begun.heap.disk (HasHistory (ran_of core) since began core.heap.disk)
     histories = by began begun.heap.disk mounts only where
@@ -245,7 +297,7 @@ module _ (faults : ℕ) (begun core : CoreState) (past mid since : LeftSince) (m
       by (Some s) None mounts only = tt
       by (Some s) (Some u) mounts only = λ opening foreigners stood. has_history s u mounts only opening foreigners stood
 
-    is_kept : IsEnded begun core → IsKept since began begun.heap.disk core.heap.disk (ran_of core)
+    is_kept : IsCommittedAtEnd begun core → KeepsVolume since began begun.heap.disk core.heap.disk (ran_of core)
     is_kept ended = record {
       unwritten = ended.unwritten;
       settled = ended.settled;
@@ -259,7 +311,7 @@ module _ (faults : ℕ) (begun core : CoreState) (past mid since : LeftSince) (m
       by (Some s) (Some u) mounts only = λ opening foreigners stood. leaves s u mounts only opening foreigners stood ended
 
 module _ (lines : List Line) (each : All IsServedLine lines) (past since : LeftSince) (begun core : CoreState) where
-  answers_all : (old new : Option (List ℕ)) → Served lines past since begun core old new → AnswersAll lines (ran_of core) old new
+  answers_all : (old new : Option (List ℕ)) → Served lines past since begun core old new → AnswersEveryLine lines (ran_of core) old new
   answers_all old new served = record {
     text = out_text lines core.history;
     out = answers_out core.last core.history lines (are_alone lines each) served.answers;
@@ -284,7 +336,7 @@ module _ (lines : List Line) (each : All IsServedLine lines) (past since : LeftS
         (Contains-append_left (part.before ++ part.last) part.rest l has)))
 
 module _ (newfs : Option ℕ) (lines : List Line) (each : All IsServedLine lines) (old made new : Seen Told) (begun : CoreState)
-    (before past mid since : LeftSince) (makes : MakesVolume newfs old.told made.told) (earlier : old.faults ≤ made.faults)
+    (before past mid since : LeftSince) (makes : MakesWhereAsked newfs old.told made.told) (earlier : old.faults ≤ made.faults)
     (mounted : IsMounted made.faults begun) (mounts : BothTell made.told begun.heap.disk (MountsDisk begun past mid))
     (only : IfSome made.told (LeavesOnly past)) where
   -- all lines were run, and all is committed
@@ -304,17 +356,19 @@ module _ (newfs : Option ℕ) (lines : List Line) (each : All IsServedLine lines
             (let faults = used.disk_is.faults in omega (arith, faults));
         caused = from.sound.caused;
         answered = answers_all lines each mid since begun core old_out new_out used.served;
-        kept = subst (λ (o : Option Told). IsKept since made.told begun.heap.disk o (ran_of core)) (sym used.disk_is.told)
+        header = subst (λ (o : Option Told). KeepsHeaderOn (ran_of core) begun.heap.disk o) (sym used.disk_is.told)
+            (headers made.faults begun core past mid since mounted from made.told mounts only used.served.size);
+        kept = subst (λ (o : Option Told). KeepsVolume since made.told begun.heap.disk o (ran_of core)) (sym used.disk_is.told)
             (is_kept made.faults begun core past mid since mounted from made.told mounts only used.ended);
       }
 
   -- the run stopped, at a line or in the last flush
-  stopped_by : (core : CoreState) → Follows mid since begun core → new.told ≡ core.heap.disk → new.faults ≡ core.counts.disk
+  stopped_by : (core : CoreState) → Follows mid since begun core → KeepsSize begun core → new.told ≡ core.heap.disk → new.faults ≡ core.counts.disk
       → (old_out new_out : Seen (List ℕ)) (stop : RunStop)
       → StopsAtLine lines (ran_of core) old_out new_out stop
       ⊎ StopsWriting lines (ran_of core) new.faults old_out.told new_out.told stop
       → StoppedUsing newfs lines since old new old_out new_out stop
-  stopped_by core from told faults old_out new_out stop stops = record {
+  stopped_by core from size told faults old_out new_out stop stops = record {
     began = made.told;
     makes = makes;
     opened = begun.heap.disk;
@@ -323,6 +377,8 @@ module _ (newfs : Option ℕ) (lines : List Line) (each : All IsServedLine lines
     begins = begins made.faults begun core past mid since mounted from made.told mounts only;
     counted = counted made.faults begun core past mid since mounted from old.faults new.faults earlier (omega (arith, faults));
     caused = from.sound.caused;
+    header = subst (λ (o : Option Told). KeepsHeaderOn (ran_of core) begun.heap.disk o) (sym told)
+        (headers made.faults begun core past mid since mounted from made.told mounts only size);
     legal = subst (λ (o : Option Told). OverEach begun.heap.disk (HasHistory (ran_of core) since made.told o)) (sym told)
         (histories made.faults begun core past mid since mounted from made.told mounts only);
     stops = stops;
@@ -333,7 +389,7 @@ module _ (newfs : Option ℕ) (lines : List Line) (each : All IsServedLine lines
   unfolding answers_in_part
   StoppedUsing-stopped old_out new_out stop (inl line) =
       let part = line.served in
-      stopped_by line.core part.from line.disk_is.told line.disk_is.faults old_out new_out stop (inl (record {
+      stopped_by line.core part.from part.size line.disk_is.told line.disk_is.faults old_out new_out stop (inl (record {
         text = out_text part.before line.core.history ++ take part.printed (out_text part.last line.core.history);
         answered = answers_in_part lines each mid since begun line.core old_out new_out part;
         gained = part.gained;
@@ -345,7 +401,7 @@ module _ (newfs : Option ℕ) (lines : List Line) (each : All IsServedLine lines
       let from = writing.served.from in
       let later = writing.later in
       let start = ap (λ (c : Counts). c.disk) (start_is made.faults begun core past mid since mounted from) in
-      stopped_by core from writing.disk_is.told writing.disk_is.faults old_out new_out stop (inr (record {
+      stopped_by core from writing.served.size writing.disk_is.told writing.disk_is.faults old_out new_out stop (inr (record {
         answered = answers_all lines each mid since begun core old_out.told new_out.told writing.served;
         before = writing.before;
         later = omega (arith, later, start);

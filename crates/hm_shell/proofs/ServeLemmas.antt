@@ -1,5 +1,6 @@
 -- Lines that are served from the front.
-use Rattle.std.proofs.Common.{◌≡◌, ℕ, ◌+◌, ◌*◌, ◌<◌, ◌≤◌, List, [], ◌∷◌, ◌++◌, length, take, refl, subst, sym, ◌∙◌, ap, inl, inr, arith, append_assoc, append-nil, length-append}
+use Rattle.std.proofs.Common.{◌≡◌, ℕ, ◌+◌, ◌*◌, ◌<◌, ◌≤◌, List, [], ◌∷◌, ◌++◌, length, take, refl, subst, sym}
+use Rattle.std.proofs.Common.{◌∙◌, ap, inl, inr, arith, append_assoc, append-nil, length-append}
 use Rattle.std.specs.Prelude.{◌⊎◌, All, Contains, IfErr, OnErr, OnOk, Option, None, Some, Result, Ok, Err, slice_get}
 use Rattle.std.proofs.lemmas.List.Elements.{All-contains, Contains-append_cases, Contains-append_right}
 use Rattle.std.proofs.lemmas.Option.{IfSome_then}
@@ -20,11 +21,10 @@ use Rattle.hm_core.proofs.RepliedLemmas.{entry_there}
 use Rattle.hm_shell.specs.declared.stop.RunStop.{RunStop}
 use Rattle.hm_shell.specs.declared.stop.RunStop.TheVariants.{Usage, NotVolume, BadField, DiskFault, Damaged, ScriptFault, OutFault, NoMemory, BadLine, TooLong}
 use Rattle.hm_shell.specs.Alone.{AnswersEach, IsAlone, TellsAfter, line_text, out_text}
-use Rattle.hm_shell.specs.Lines.{AreRising, IsServedLine}
+use Rattle.hm_shell.specs.Lines.{NumbersRise, IsServedLine}
 use Rattle.hm_shell.specs.Printing.{StoppedPrinting}
-use Rattle.hm_shell.specs.Running.{IsOutCause}
 use Rattle.hm_shell.specs.Seen.{Seen}
-use Rattle.hm_shell.specs.Serving.{AnswersLine, IsBehind, RunsLine, Served, ServedInPart, ServesLine, Serving, StoppedServing}
+use Rattle.hm_shell.specs.Serving.{AnswersLine, IsUncommitted, KeepsSize, RunsLine, Served, ServedInPart, ServesLine, Serving, StoppedServing}
 use Rattle.hm_shell.proofs.AloneMoreLemmas.{answers_more, answers_none, answers_spent}
 use Rattle.hm_shell.proofs.TextLemmas.{out_before, out_spent, out_answered, text_answered, text_spent}
 
@@ -42,21 +42,8 @@ stopped_front line old new (ScriptFault before after) stopped = absurd stopped
 stopped_front line old new (BadLine number why) stopped = absurd stopped
 stopped_front line old new TooLong stopped = absurd stopped
 
--- why a line was not printed is why lines are not served
-IsOutCause-printing : (line : List ℕ) (old new : Seen (List ℕ)) (stop : RunStop) → StoppedPrinting line old new stop → IsOutCause old.faults new.faults stop
-IsOutCause-printing line old new OutFault stopped = stopped.0
-IsOutCause-printing line old new NoMemory stopped = tt
-IsOutCause-printing line old new Usage stopped = absurd stopped
-IsOutCause-printing line old new NotVolume stopped = absurd stopped
-IsOutCause-printing line old new (BadField place) stopped = absurd stopped
-IsOutCause-printing line old new (DiskFault before after) stopped = absurd stopped
-IsOutCause-printing line old new (Damaged at kind) stopped = absurd stopped
-IsOutCause-printing line old new (ScriptFault before after) stopped = absurd stopped
-IsOutCause-printing line old new (BadLine number why) stopped = absurd stopped
-IsOutCause-printing line old new TooLong stopped = absurd stopped
-
 -- the lines before one that stands in rising lines have lower numbers
-below_next : (lines before rest : List Line) (line : Line) → AreRising lines → lines ≡ before ++ line ∷ rest → (l : Line) → Contains before l
+below_next : (lines before rest : List Line) (line : Line) → NumbersRise lines → lines ≡ before ++ line ∷ rest → (l : Line) → Contains before l
     → l.number < line.number
 below_next lines before rest line rising split l has = rising before rest line l split has
 
@@ -74,7 +61,7 @@ not_empty history e none = (let length_is = ap length none in let more = length-
 record HasRun (lines : List Line) (line : Line) (begun old new : CoreState) (text : List ℕ) : Type 0 where
   pub answers : AnswersEach new.last (lines ++ line ∷ []) new.history
   pub up_to : (e : Entry) → Contains new.history e → e.id.0 ≤ new.last
-  pub behind : IsBehind begun old → IsBehind begun new
+  pub behind : IsUncommitted begun old → IsUncommitted begun new
   pub earlier : out_text lines new.history ≡ out_text lines old.history
   pub own : out_text (line ∷ []) new.history ≡ text
   pub both : out_text (lines ++ line ∷ []) new.history ≡ out_text lines old.history ++ text
@@ -132,7 +119,7 @@ module _ (lines : List Line) (line : Line) (later : (l : Line) → Contains line
   has_run new text (inl entered) = rw entered.2 (has_entered new entered.0 entered.1)
   has_run new text (inr spent) = rw (spent.1, spent.2) (has_spent spent.0)
 
-  module _ (since : LeftSince) (new : CoreState) (follows : Follows mid since old new) where
+  module _ (since : LeftSince) (new : CoreState) (follows : Follows mid since old new) (size : KeepsSize old new) where
     from : Follows past since begun new
     from = follows_further past mid since begun old new served.from follows
 
@@ -144,6 +131,7 @@ module _ (lines : List Line) (line : Line) (later : (l : Line) → Contains line
       Served-line : Served (lines ++ line ∷ []) past since begun new held gained
       Served-line = record {
         from = from;
+        size = size ∙ served.size;
         answers = run.answers;
         up_to = run.up_to;
         gained = rw run.both (Gains-append held holds gained (out_text lines old.history) serves.text served.gained serves.gained);
@@ -152,7 +140,7 @@ module _ (lines : List Line) (line : Line) (later : (l : Line) → Contains line
       spare_left : old.spare ≤ new.spare + 1
       spare_left = run.spare
 
-      behind_left : IsBehind begun old → IsBehind begun new
+      behind_left : IsUncommitted begun old → IsUncommitted begun new
       behind_left = run.behind
 
     -- one more line was run, and printed in part or not at all
@@ -169,6 +157,7 @@ module _ (lines : List Line) (line : Line) (later : (l : Line) → Contains line
           split = split;
           one = omega arith;
           from = from;
+          size = size ∙ served.size;
           answers = run.answers;
           printed = part.0;
           gained = rw (run.earlier, run.own, began)
@@ -186,6 +175,7 @@ Serving-none lines left core held sound none room = record {
   split = refl;
   served = record {
     from = follows_itself left core sound;
+    size = refl;
     answers = rw none (answers_none core.last);
     up_to = λ e has. (let lt = (subst (λ (h : List Entry). Contains h e) none has).1 in absurd (omega (arith, lt)));
     gained = Gains-none held;
@@ -206,24 +196,25 @@ ServedInPart-none lines left begun core held sound keeps none =
       split = refl;
       one = omega arith;
       from = subst (λ (c : CoreState). Follows left left begun c) (sym keeps) (follows_spare left begun core.spare sound);
+      size = ap (λ (c : CoreState). c.flush.header.bigblocks) keeps;
       answers = rw empty (answers_none core.last);
       printed = 0;
       gained = Gains-none held.told;
       cut = inl refl;
     }
 
-module _ (lines before rest : List Line) (line : Line) (each : All IsServedLine lines) (rising : AreRising lines)
-    (past mid since : LeftSince) (begun old new : CoreState) (follows : Follows mid since old new) where
+module _ (lines before rest : List Line) (line : Line) (each : All IsServedLine lines) (rising : NumbersRise lines)
+    (past mid since : LeftSince) (begun old new : CoreState) (follows : Follows mid since old new) (size : KeepsSize old new) where
   pub Serving-more : (held holds gained : Option (List ℕ)) → Serving lines before (line ∷ rest) past mid begun old held holds
       → ServesLine old new line holds gained → Serving lines (before ++ line ∷ []) rest past since begun new held gained
   Serving-more held holds gained so_far serves =
       let later = below_next lines before rest line rising so_far.split in
       let is_alone = (served_next lines before rest line each so_far.split).by_itself in
-      let left = spare_left before line later is_alone past mid begun old held holds so_far.served since new follows gained serves in
+      let left = spare_left before line later is_alone past mid begun old held holds so_far.served since new follows size gained serves in
       record {
         split = so_far.split ∙ sym (append_assoc before (line ∷ []) rest);
-        served = Served-line before line later is_alone past mid begun old held holds so_far.served since new follows gained serves;
-        behind = behind_left before line later is_alone past mid begun old held holds so_far.served since new follows gained serves so_far.behind;
+        served = Served-line before line later is_alone past mid begun old held holds so_far.served since new follows size gained serves;
+        behind = behind_left before line later is_alone past mid begun old held holds so_far.served since new follows size gained serves so_far.behind;
         room = (let room = so_far.room in omega (arith, room, left));
       }
 
@@ -233,7 +224,7 @@ module _ (lines before rest : List Line) (line : Line) (each : All IsServedLine 
       → StoppedServing old new line second third stop → ServedInPart lines past since begun new first third
   ServedInPart-stopped first second third stop so_far earlier stopped =
       part_line before line (below_next lines before rest line rising so_far.split) (served_next lines before rest line each so_far.split).by_itself
-      past mid begun old first.told second.told so_far.served since new follows lines rest first second third stop refl refl earlier so_far.split stopped
+      past mid begun old first.told second.told so_far.served since new follows size lines rest first second third stop refl refl earlier so_far.split stopped
 
 -- what was served from a core in which room was made was served from it
 module _ (lines : List Line) (past since : LeftSince) (a b c : CoreState) (sound : IsSoundCore a) (keeps : b ≡ record a { spare = b.spare }) where
@@ -242,18 +233,22 @@ module _ (lines : List Line) (past since : LeftSince) (a b c : CoreState) (sound
       follows_further past past since a (record a { spare = b.spare }) c (follows_spare past a b.spare sound)
       (subst (λ (x : CoreState). Follows past since x c) keeps follows)
 
+  size_before : KeepsSize b c → KeepsSize a c
+  size_before size = size ∙ ap (λ (x : CoreState). x.flush.header.bigblocks) keeps
+
   -- the same where there was no error, and where there was one
   pub served_after : (held holds : Option (List ℕ)) (r : Result (Unit {0}) RunStop) → OnOk r (Served lines past since b c held holds)
       → OnOk r (Served lines past since a c held holds)
   served_after held holds (Ok done) served = record {
     from = from_before served.from;
+    size = size_before served.size;
     answers = served.answers;
     up_to = served.up_to;
     gained = served.gained;
   }
   served_after held holds (Err stop) served = tt
 
-  pub behind_after : (r : Result (Unit {0}) RunStop) → OnOk r (IsBehind b c) → OnOk r (IsBehind a c)
+  pub behind_after : (r : Result (Unit {0}) RunStop) → OnOk r (IsUncommitted b c) → OnOk r (IsUncommitted a c)
   behind_after (Ok done) behind = record {
     behind = behind.behind;
     idle = λ none. behind.idle none ∙ ap (λ (x : CoreState). record x { spare = c.spare }) keeps;
@@ -270,6 +265,7 @@ module _ (lines : List Line) (past since : LeftSince) (a b c : CoreState) (sound
     split = part.split;
     one = part.one;
     from = from_before part.from;
+    size = size_before part.size;
     answers = part.answers;
     printed = part.printed;
     gained = part.gained;

@@ -1,7 +1,9 @@
 -- A core that waits for a flush, and is then entered.
-use Rattle.std.proofs.Common.{◌≡◌, ◌⊎◌, ℕ, ◌+◌, ◌<◌, Some, length, [], ◌∷◌, ◌++◌, refl, sym, ◌∙◌, ap, subst, inl, inr, arith}
+use Rattle.std.proofs.Common.{◌≡◌, ◌⊎◌, ℕ, ◌+◌, ◌<◌, Some, length, [], ◌∷◌, ◌++◌, refl, sym, ◌∙◌}
+use Rattle.std.proofs.Common.{ap, subst, inl, inr, arith}
 use Rattle.hm_types.specs.declared.limits.TheConstants.{GREATEST_ID}
 use Rattle.hm_disk.specs.Moments.{LeftSince}
+use Rattle.hm_flush.specs.declared.flush.Flush.{Flush}
 use Rattle.hm_model.specs.declared.command.Command.{Command}
 use Rattle.hm_core.specs.Core.{Enters, Follows, KeepsStreams, Steps, Waits}
 use Rattle.hm_core.specs.Staged.{MakesStage, Stages}
@@ -9,7 +11,7 @@ use Rattle.hm_core.specs.declared.staged.Staged.TheVariants.{More, Refused}
 use Rattle.hm_core.specs.declared.step.Step.TheVariants.{Answered, MustFlush}
 use Rattle.hm_core.specs.State.{CoreDevices, CoreState}
 use Rattle.hm_core.proofs.CoreLemmas.{follows_further}
-use Rattle.hm_shell.specs.Serving.{AnswersLine, Waited}
+use Rattle.hm_shell.specs.Serving.{AnswersLine, KeepsSize, Waited}
 use Rattle.hm_shell.proofs.FlushLemmas.{stages_fall, stages_left, waiting_open}
 
 -- two steps keep the streams where each does
@@ -78,9 +80,15 @@ module _ (old mid : CoreState) (lane number since : ℕ) (command waiting : Comm
       → AnswersLine old new lane number command (Some place)
   answered_after new place steps = enters_after new place steps.0 steps.1 steps.3
 
+  pub size_answered : (new : CoreState) (place : ℕ) → Steps mid new lane number since waiting (Answered place) → KeepsSize old mid → KeepsSize old new
+  size_answered new place steps size = ap (λ (f : Flush). f.header.bigblocks) steps.2 ∙ size
+
   -- it waits for a stage
   module _ (same new : CoreState) (back : Command) (must : Steps mid same lane number since waiting (MustFlush back)) where
     -- which failed
+    pub size_refused : (place : ℕ) → Stages same new lane number back (Refused place) → KeepsSize old mid → KeepsSize old new
+    size_refused place stages size = stages.1.failed.volume ∙ ap (λ (x : CoreState). x.flush.header.bigblocks) must.1 ∙ size
+
     pub refused_after : (place : ℕ) → Stages same new lane number back (Refused place) → AnswersLine old new lane number command (Some place)
     refused_after place stages =
         let enters : Enters mid new lane number mid.last waiting =
@@ -96,6 +104,9 @@ module _ (old mid : CoreState) (lane number since : ℕ) (command waiting : Comm
 
     pub waited_after : (again : Command) → Stages same new lane number back (More again) → Waited old new
     waited_after again stages = waited_more old mid new waited must.2 (made again stages).waits
+
+    pub size_after : (again : Command) → Stages same new lane number back (More again) → KeepsSize old mid → KeepsSize old new
+    size_after again stages size = (made again stages).made.volume ∙ size
 
     pub again_is : (again : Command) → Stages same new lane number back (More again) → again ≡ command
     again_is again stages = stages.0 ∙ must.0 ∙ command_is

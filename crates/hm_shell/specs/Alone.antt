@@ -32,7 +32,7 @@ TellsAfter history number reply =
     IfSome (told_boundary reply) (λ boundary. (e : Entry) → Contains history e → e.line < number → e.id.0 ≤ boundary.0)
 
 -- exactly one entry of the history is the line's, and a boundary that it tells is at least the ids of earlier lines
-pub record HasEntry (history : List Entry) (line : Line) : Type 0 where
+pub record HasEntryOfLine (history : List Entry) (line : Line) : Type 0 where
   pub entry : Entry
   pub only : filter (answers line.number) history ≡ entry ∷ []
   pub own : IsOf line entry
@@ -46,7 +46,7 @@ pub record FoundNone (history : List Entry) (end : ℕ) (line : Line) : Type 0 w
 
 -- a line was answered in one of these ways
 abbrev pub HasAnswer : List Entry → ℕ → Line → Type 0
-HasAnswer history end line = HasEntry history line ⊎ FoundNone history end line
+HasAnswer history end line = HasEntryOfLine history line ⊎ FoundNone history end line
 
 -- A history whose last id is this one answers the lines: each has its entry, or found no id left; every entry belongs to
 -- a line; and the ids of a line lie before those of the lines after it.

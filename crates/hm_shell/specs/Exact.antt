@@ -10,7 +10,7 @@ use Rattle.hm_model.specs.Volume.{Volume}
 use Rattle.hm_core.specs.Crash.{StandsRecovered}
 use Rattle.hm_core.specs.Opened.{HasDamage, IsTooSmall}
 use Rattle.hm_shell.specs.Devices.{Sight}
-use Rattle.hm_shell.specs.Lines.{IsFirstBad, IsGoodScript}
+use Rattle.hm_shell.specs.Lines.{IsFirstRefused, IsGoodScript}
 use Rattle.hm_shell.specs.Opening.{HasWhole}
 use Rattle.hm_shell.specs.Words.{HasPlan, IsPlan}
 
@@ -41,7 +41,7 @@ DiskBrings (Some size) t status = NewBrings size t status
 -- Which status a script brings: it is too long, or it has a line that is not served, or the disk says which.
 pub record ScriptBrings (newfs : Option ℕ) (disk : Option Told) (script : List ℕ) (status : ℕ) : Type 0 where
   pub too_long : IsTooLong script → Contains (9 ∷ 5 ∷ 7 ∷ []) status
-  pub bad : (number : ℕ) → (IsTooLong script → ⊥) → IsFirstBad script number →
+  pub bad : (number : ℕ) → (IsTooLong script → ⊥) → IsFirstRefused script number →
       Contains (8 ∷ 5 ∷ 7 ∷ []) status
   pub good : (IsTooLong script → ⊥) → IsGoodScript script →
       Contains (0 ∷ 3 ∷ 4 ∷ 5 ∷ 6 ∷ 7 ∷ 10 ∷ []) status × IfSome disk (λ t. DiskBrings newfs t status)

@@ -18,7 +18,7 @@ abbrev pub IsGoodScript : List ℕ → Type 0
 IsGoodScript bytes = All IsServedText (texts_of bytes)
 
 -- the first line of the script that is none has this number
-pub record IsFirstBad (bytes : List ℕ) (number : ℕ) : Type 0 where
+pub record IsFirstRefused (bytes : List ℕ) (number : ℕ) : Type 0 where
   pub before : List (List ℕ)
   pub bad : List ℕ
   pub rest : List (List ℕ)
@@ -37,8 +37,8 @@ pub record IsServedLine (line : Line) : Type 0 where
   pub asked : IsAsked line.command
 
 -- each line has a greater number than those before it
-abbrev pub AreRising : List Line → Type 0
-AreRising lines =
+abbrev pub NumbersRise : List Line → Type 0
+NumbersRise lines =
     (before rest : List Line) (line earlier : Line) → lines ≡ before ++ line ∷ rest → Contains before earlier →
     earlier.number < line.number
 
@@ -47,11 +47,11 @@ pub record AreServedLines (script : List ℕ) (lines : List Line) : Type 0 where
   pub good : IsGoodScript script
   pub lines_are : HasLines script lines
   pub each : All IsServedLine lines
-  pub rising : AreRising lines
+  pub rising : NumbersRise lines
 
 -- why there are no such lines
 abbrev pub IsLinesStop : List ℕ → RunStop → Type 0
-IsLinesStop script (BadLine number why) = IsFirstBad script number
+IsLinesStop script (BadLine number why) = IsFirstRefused script number
 IsLinesStop script TooLong = IsTooLong script
 IsLinesStop script NoMemory = Unit {0}
 IsLinesStop script Usage = ⊥

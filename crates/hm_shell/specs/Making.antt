@@ -5,6 +5,6 @@ use Rattle.hm_disk.specs.Crash.{Told}
 use Rattle.hm_core.specs.Opened.{IsMade}
 
 -- it is as before, or a volume of this size was made on it
-abbrev pub MakesVolume : Option ℕ → Option Told → Option Told → Type 0
-MakesVolume None old new = new ≡ old
-MakesVolume (Some size) old new = BothTell old new (IsMade size)
+abbrev pub MakesWhereAsked : Option ℕ → Option Told → Option Told → Type 0
+MakesWhereAsked None old new = new ≡ old
+MakesWhereAsked (Some size) old new = BothTell old new (IsMade size)

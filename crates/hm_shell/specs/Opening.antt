@@ -24,7 +24,7 @@ pub record HasWhole (bytes : List ℕ) : Type 0 where
 
 -- A volume was opened on a disk that told this, and tells that: it was recovered, and nothing was written but where its header named
 -- entries of the UNDO log, and then all is settled. What it tells now is whole.
-pub record Opens (old new : Told) : Type 0 where
+pub record OpensDisk (old new : Told) : Type 0 where
   pub recovers : RecoversTo old.bytes new.bytes
   pub written : (new ≡ old) ⊎ (HasWholeRange old.bytes × (new.unsettled ≡ []))
   pub whole : HasWhole new.bytes

@@ -6,7 +6,7 @@ use Rattle.hm_model.specs.declared.line.Line.{Line}
 use Rattle.hm_shell.specs.declared.job.Job.{Job}
 use Rattle.hm_shell.specs.declared.stop.RunStop.{RunStop}
 use Rattle.hm_shell.specs.declared.stop.RunStop.TheVariants.{Usage, NotVolume, BadField, DiskFault, Damaged, ScriptFault, OutFault, NoMemory, BadLine, TooLong}
-use Rattle.hm_shell.specs.Lines.{AreRising, HasLines, IsFirstBad, IsGoodScript, IsServedLine}
+use Rattle.hm_shell.specs.Lines.{NumbersRise, HasLines, IsFirstRefused, IsGoodScript, IsServedLine}
 use Rattle.hm_shell.specs.Reading.{StoppedReading, WasRead}
 use Rattle.hm_shell.specs.Seen.{Seen}
 use Rattle.hm_shell.specs.Words.{HasPlan, IsPlan, IsUsageFault}
@@ -22,23 +22,23 @@ pub record IsPrepared (words : List (List ℕ)) (newfs : Option ℕ) (lines : Li
   pub lines_are : HasLines script lines
 
 -- A job that may be run: each of its lines runs by itself and is served, their numbers rise, and they are not too many.
-pub record IsDue (job : Job) : Type 0 where
+pub record MayRun (job : Job) : Type 0 where
   pub size : IfSome job.newfs IsSize
   pub each : All IsServedLine job.lines.items
-  pub rising : AreRising job.lines.items
+  pub rising : NumbersRise job.lines.items
   pub few : length job.lines.items ≤ MOST_SCRIPT_LINES
 
 -- the job is what the words and the script ask for, and may be run
 pub record WasPrepared (words : List (List ℕ)) (old new : Seen (List ℕ)) (job : Job) : Type 0 where
   pub prepared : IsPrepared words job.newfs job.lines.items old new
-  pub due : IsDue job
+  pub due : MayRun job
 
 -- Why nothing was made ready: the words break the rule, and nothing was taken from the source; the reading stopped; a line
 -- is not served, and this is the first; or memory ran out.
 abbrev pub StoppedPreparing : List (List ℕ) → Seen (List ℕ) → Seen (List ℕ) → RunStop → Type 0
 StoppedPreparing words old new Usage = IsUsageFault words × (new ≡ old)
 StoppedPreparing words old new (BadLine number why) =
-    HasPlan words × (script : List ℕ) × WasRead old new script × IsFirstBad script number
+    HasPlan words × (script : List ℕ) × WasRead old new script × IsFirstRefused script number
 StoppedPreparing words old new (ScriptFault before after) =
     HasPlan words × StoppedReading old new (ScriptFault before after)
 StoppedPreparing words old new TooLong = HasPlan words × StoppedReading old new TooLong

@@ -25,8 +25,8 @@ use Rattle.hm_core.specs.History.{setting_of}
 use Rattle.hm_shell.specs.declared.stop.RunStop.{RunStop}
 use Rattle.hm_shell.specs.declared.stop.RunStop.TheVariants.{Usage, NotVolume, BadField, DiskFault, Damaged, ScriptFault, OutFault, NoMemory, BadLine, TooLong}
 use Rattle.hm_shell.specs.Alone.{alone, out_text}
-use Rattle.hm_shell.specs.Making.{MakesVolume}
-use Rattle.hm_shell.specs.Opening.{Opens, StoppedOpening}
+use Rattle.hm_shell.specs.Making.{MakesWhereAsked}
+use Rattle.hm_shell.specs.Opening.{OpensDisk, StoppedOpening}
 use Rattle.hm_shell.specs.Seen.{Seen}
 
 -- What a core tells of a run: its history, the last id as it began and at its end, how many big-blocks were free as it began,
@@ -52,7 +52,7 @@ pub record SurvivesCrashes (ran : Ran) (since : LeftSince) (opening : Volume) (f
   pub now : Each (MayLeave new.bytes new.unsettled) (RecoversToPrefix (HoldsSyncs ran) opening foreigners events)
 
 -- its counts lie between two counts of the disk's faults, and none fell
-pub record IsCounted (old new : ℕ) (ran : Ran) : Type 0 where
+pub record IsCountedBetween (old new : ℕ) (ran : Ran) : Type 0 where
   pub begin : old ≤ ran.start.disk
   pub rose : AreLater ran.start ran.counts
   pub end : ran.counts.disk ≤ new
@@ -75,7 +75,7 @@ pub record BeginsOn (ran : Ran) (t : Told) : Type 0 where
   pub free_is : (volume : Volume) → StandsFor t.bytes volume → ran.free ≡ free_in t.bytes header
 
 -- All lines of a script were answered, and the sink gained what a run with this history prints.
-pub record AnswersAll (lines : List Line) (ran : Ran) (old new : Option (List ℕ)) : Type 0 where
+pub record AnswersEveryLine (lines : List Line) (ran : Ran) (old new : Option (List ℕ)) : Type 0 where
   pub text : List ℕ
   pub out : IsOut (alone lines) ran.history ran.last text
   pub gained : Gains old text new
@@ -116,24 +116,41 @@ OverEach opened P = IfSome opened (λ t. (opening : Volume) (foreigners : Foreig
 -- What came of a disk that told the one as mounting began, the next once a volume was opened on it, and tells the last now: it stands
 -- for the volume after the history, over each that it stood for. Where the history has no entry nothing was written since it was
 -- opened, and else all is settled.
-pub record IsKept (since : LeftSince) (began opened new : Option Told) (ran : Ran) : Type 0 where
+pub record KeepsVolume (since : LeftSince) (began opened new : Option Told) (ran : Ran) : Type 0 where
   pub unwritten : ran.history ≡ [] → new ≡ opened
   pub settled : ran.history ≢ [] → IfSome new (λ t. t.unsettled ≡ [])
   pub volume : OverEach opened (StandsForHistory ran since began new)
+
+-- On a disk that told the one once a volume was opened, and tells the other now, the header that counts is that volume's, or one of a
+-- flush since, whether the disk stands for a volume or not: it is of as many big-blocks, and its boundary is one that the run may leave.
+pub record KeepsHeader (ran : Ran) (opened new : Told) : Type 0 where
+  pub was : Header
+  pub was_slot : ℕ
+  pub counted : HasHeader opened.bytes was was_slot
+  pub now : Header
+  pub now_slot : ℕ
+  pub counts : HasHeader new.bytes now now_slot
+  pub bigblocks : now.bigblocks ≡ was.bigblocks
+  pub boundary : HoldsSyncs ran now.last.0
+
+-- the same where both tell
+abbrev pub KeepsHeaderOn : Ran → Option Told → Option Told → Type 0
+KeepsHeaderOn ran opened new = IfSome opened (λ s. IfSome new (KeepsHeader ran s))
 
 -- The whole run of a script's lines: a volume is made or not, opened and used, and all is committed. Each reply has its cause.
 pub record RunsAll (newfs : Option ℕ) (lines : List Line) (since : LeftSince) (old_disk new_disk : Seen Told)
     (old_out new_out : Option (List ℕ)) : Type 0 where
   pub began : Option Told
-  pub makes : MakesVolume newfs old_disk.told began
+  pub makes : MakesWhereAsked newfs old_disk.told began
   pub opened : Option Told
-  pub opens : BothTell began opened Opens
+  pub opens : BothTell began opened OpensDisk
   pub ran : Ran
   pub begins : IfSome opened (BeginsOn ran)
-  pub counted : IsCounted old_disk.faults new_disk.faults ran
+  pub counted : IsCountedBetween old_disk.faults new_disk.faults ran
   pub caused : HasCauses ran
-  pub answered : AnswersAll lines ran old_out new_out
-  pub kept : IsKept since began opened new_disk.told ran
+  pub answered : AnswersEveryLine lines ran old_out new_out
+  pub header : KeepsHeaderOn ran opened new_disk.told
+  pub kept : KeepsVolume since began opened new_disk.told ran
 
 -- what made the run stop at a line: the sink failed, or memory ran out
 abbrev pub IsOutCause : ℕ → ℕ → RunStop → Type 0
@@ -173,24 +190,25 @@ IsWriteCause before after TooLong = ⊥
 -- All lines were answered and printed, and a stage of the last flush failed, over which the count of faults went from one to another,
 -- and no reply had told more of them than the one.
 pub record StopsWriting (lines : List Line) (ran : Ran) (faults : ℕ) (old_out new_out : Option (List ℕ)) (stop : RunStop) : Type 0 where
-  pub answered : AnswersAll lines ran old_out new_out
+  pub answered : AnswersEveryLine lines ran old_out new_out
   pub before : ℕ
   pub later : ran.start.disk ≤ before
   pub caused : HasCausesBy before ran
   pub cause : IsWriteCause before faults stop
 
 -- A run stopped with an open volume: at a line, or in the last flush. Each reply of its history has its cause,
--- and it is a legal one over each volume that the disk stood for as it was opened.
+-- and it is a legal one over each volume that the disk stood for as it was opened. The header that counts is of that volume still.
 pub record StoppedUsing (newfs : Option ℕ) (lines : List Line) (since : LeftSince) (old_disk new_disk : Seen Told)
     (old_out new_out : Seen (List ℕ)) (stop : RunStop) : Type 0 where
   pub began : Option Told
-  pub makes : MakesVolume newfs old_disk.told began
+  pub makes : MakesWhereAsked newfs old_disk.told began
   pub opened : Option Told
-  pub opens : BothTell began opened Opens
+  pub opens : BothTell began opened OpensDisk
   pub ran : Ran
   pub begins : IfSome opened (BeginsOn ran)
-  pub counted : IsCounted old_disk.faults new_disk.faults ran
+  pub counted : IsCountedBetween old_disk.faults new_disk.faults ran
   pub caused : HasCauses ran
+  pub header : KeepsHeaderOn ran opened new_disk.told
   pub legal : OverEach opened (HasHistory ran since began new_disk.told)
   pub stops : StopsAtLine lines ran old_out new_out stop
       ⊎ StopsWriting lines ran new_disk.faults old_out.told new_out.told stop

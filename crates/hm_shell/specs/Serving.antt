@@ -21,13 +21,18 @@ use Rattle.hm_shell.specs.Running.{IsOutCause, IsWriteCause}
 use Rattle.hm_shell.specs.Seen.{Seen}
 
 -- Where a history has an entry, not all of it is committed; and where it has none, all of the core but its room is as it was.
-pub record IsBehind (begun core : CoreState) : Type 0 where
+pub record IsUncommitted (begun core : CoreState) : Type 0 where
   pub behind : core.history ≢ [] → core.boundary < core.last
   pub idle : core.history ≡ [] → core ≡ record begun { spare = core.spare }
+
+-- the header that counts is of as many big-blocks as before
+abbrev pub KeepsSize : CoreState → CoreState → Type 0
+KeepsSize old new = new.flush.header.bigblocks ≡ old.flush.header.bigblocks
 
 -- The core's history answers the lines, by ids up to its last one, and the sink gained what the lines print.
 pub record Served (lines : List Line) (past since : LeftSince) (begun core : CoreState) (old new : Option (List ℕ)) : Type 0 where
   pub from : Follows past since begun core
+  pub size : KeepsSize begun core
   pub answers : AnswersEach core.last lines core.history
   pub up_to : (e : Entry) → Contains core.history e → e.id.0 ≤ core.last
   pub gained : Gains old (out_text lines core.history) new
@@ -37,7 +42,7 @@ pub record Serving (lines before rest : List Line) (past since : LeftSince) (beg
     : Type 0 where
   pub split : lines ≡ before ++ rest
   pub served : Served before past since begun core old new
-  pub behind : IsBehind begun core
+  pub behind : IsUncommitted begun core
   pub room : 2 * length rest ≤ core.spare
 
 -- The lines before the rest were served; all of them but at most the last were printed whole, and a front of what the last
@@ -49,6 +54,7 @@ pub record ServedInPart (lines : List Line) (past since : LeftSince) (begun core
   pub split : lines ≡ before ++ (last ++ rest)
   pub one : length last ≤ 1
   pub from : Follows past since begun core
+  pub size : KeepsSize begun core
   pub answers : AnswersEach core.last (before ++ last) core.history
   pub printed : ℕ
   pub gained : Gains old.told (out_text before core.history ++ take printed (out_text last core.history)) new.told
@@ -92,7 +98,7 @@ pub record Commits (old new : CoreState) : Type 0 where
   pub made : (new ≡ old) ⊎ ((¬ IsFlushed old) × IfSome new.heap.disk (λ t. t.unsettled ≡ []))
 
 -- A core by its end: the disk has its volume. Where its history has an entry, nothing is unsettled, and else the disk is as it was.
-pub record IsEnded (begun core : CoreState) : Type 0 where
+pub record IsCommittedAtEnd (begun core : CoreState) : Type 0 where
   pub committed : IfSome core.heap.disk (IsCommittedOn core)
   pub settled : core.history ≢ [] → IfSome core.heap.disk (λ t. t.unsettled ≡ [])
   pub unwritten : core.history ≡ [] → core.heap.disk ≡ begun.heap.disk
@@ -107,7 +113,7 @@ pub record UsesAll (lines : List Line) (past since : LeftSince) (begun : CoreSta
     : Type 0 where
   pub core : CoreState
   pub served : Served lines past since begun core old new
-  pub ended : IsEnded begun core
+  pub ended : IsCommittedAtEnd begun core
   pub disk_is : IsDiskOf core disk
 
 -- a line was not served to its end, and the volume was left as it was then

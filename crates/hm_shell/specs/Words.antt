@@ -17,13 +17,13 @@ pub record IsVolumeWord (word : List ℕ) : Type 0 where
   pub no_option : slice_index word 0 ≢ 0x2D
 
 -- a number of big-blocks that a volume may have, in decimal digits without a sign or a leading zero
-pub record IsSize (word : List ℕ) (size : ℕ) : Type 0 where
+pub record SpellsSize (word : List ℕ) (size : ℕ) : Type 0 where
   pub digits : word ≡ decimal size
   pub least : LEAST_BIGBLOCKS ≤ size
   pub most : size ≤ MOST_BIGBLOCKS
 
 abbrev pub IsNoSize : List ℕ → Type 0
-IsNoSize word = (size : ℕ) → IsSize word size → ⊥
+IsNoSize word = (size : ℕ) → SpellsSize word size → ⊥
 
 -- the option that makes a volume
 abbrev pub newfs_option : List ℕ
@@ -32,7 +32,7 @@ newfs_option = codes "--newfs"
 -- the words are VOLUME with `--newfs` and this size, before it or after it
 pub record IsPlanWithSize (words : List (List ℕ)) (volume : List ℕ) (size : ℕ) : Type 0 where
   pub word : List ℕ
-  pub size_is : IsSize word size
+  pub size_is : SpellsSize word size
   pub volume_is : IsVolumeWord volume
   pub order :
       (words ≡ volume ∷ newfs_option ∷ word ∷ []) ⊎ (words ≡ newfs_option ∷ word ∷ volume ∷ [])

@@ -2,7 +2,7 @@
 ghost use Rattle.std.specs.Prelude.{◌≡◌, All, IfErr, IfOk, MatchOption};
 ghost use Rattle.hm_model.specs.Out.{lines_in};
 ghost use Rattle.hm_model.specs.Script.{IsFirstBadLine};
-ghost use Rattle.hm_shell.specs.Lines.{AreServedLines, IsFirstBad, IsFirstUnserved, IsLinesStop, IsServable};
+ghost use Rattle.hm_shell.specs.Lines.{AreServedLines, IsFirstRefused, IsFirstUnserved, IsLinesStop, IsServable};
 
 use crate::stop::RunStop;
 use crate::why::Why;
@@ -48,7 +48,7 @@ fn first_bad(alloc: Global, script: &[u8], number: u32) -> RunStop
 
 // What is told of the first line that is not served.
 fn bad_line(script: &[u8], number: u32) -> RunStop
-    requires { IsFirstBad script.now number }
+    requires { IsFirstRefused script.now number }
     ensures { IsLinesStop script.now result }
 {
     RunStop::BadLine {

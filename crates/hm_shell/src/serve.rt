@@ -4,10 +4,10 @@ ghost use Rattle.hm_types.specs.declared.limits.TheConstants.{MOST_SCRIPT_LINES}
 ghost use Rattle.hm_core.specs.Core.{Follows, KeepsStreams};
 ghost use Rattle.hm_core.specs.Seen.{devices as devices_of, seen as seen_core};
 ghost use Rattle.hm_core.specs.Served.{IsAsked};
-ghost use Rattle.hm_shell.specs.Lines.{AreRising, IsServedLine};
+ghost use Rattle.hm_shell.specs.Lines.{NumbersRise, IsServedLine};
 ghost use Rattle.hm_shell.specs.Running.{IsOutCause};
 ghost use Rattle.hm_shell.specs.Seen.{seen};
-ghost use Rattle.hm_shell.specs.Serving.{AnswersLine, IsBehind, Served, ServedInPart, ServesLine, StoppedServing};
+ghost use Rattle.hm_shell.specs.Serving.{AnswersLine, IsUncommitted, KeepsSize, Served, ServedInPart, ServesLine, StoppedServing};
 
 use crate::print::{print_entry, print_spent};
 use crate::stop::RunStop;
@@ -26,13 +26,13 @@ pub(crate) fn serve_script<D: Disk, I, O, K: Sink>(
     out: &mut K,
 ) -> Result<(), RunStop>
     requires each { All IsServedLine lines.items }
-    requires rising { AreRising lines.items }
+    requires rising { NumbersRise lines.items }
     requires few { length lines.items ≤ MOST_SCRIPT_LINES }
     requires start { (seen_core core.old).history ≡ [] }
     ensures ok { OnOk result (Served lines.items (D.left_since (devices_of core.old).disk)
         (D.left_since (devices_of core.new).disk) (seen_core core.old) (seen_core core.new)
         (K.held out.old) (K.held out.new)) }
-    ensures behind { OnOk result (IsBehind (seen_core core.old) (seen_core core.new)) }
+    ensures behind { OnOk result (IsUncommitted (seen_core core.old) (seen_core core.new)) }
     ensures err { OnErr result (ServedInPart lines.items (D.left_since (devices_of core.old).disk)
         (D.left_since (devices_of core.new).disk) (seen_core core.old) (seen_core core.new)
         (seen K.held K.faults out.old) (seen K.held K.faults out.new)) }
@@ -52,13 +52,13 @@ fn serve_lines<D: Disk, I, O, K: Sink>(
     out: &mut K,
 ) -> Result<(), RunStop>
     requires each { All IsServedLine lines.items }
-    requires rising { AreRising lines.items }
+    requires rising { NumbersRise lines.items }
     requires start { (seen_core core.old).history ≡ [] }
     requires room { 2 * length lines.items ≤ (seen_core core.old).spare }
     ensures ok { OnOk result (Served lines.items (D.left_since (devices_of core.old).disk)
         (D.left_since (devices_of core.new).disk) (seen_core core.old) (seen_core core.new)
         (K.held out.old) (K.held out.new)) }
-    ensures behind { OnOk result (IsBehind (seen_core core.old) (seen_core core.new)) }
+    ensures behind { OnOk result (IsUncommitted (seen_core core.old) (seen_core core.new)) }
     ensures err { OnErr result (ServedInPart lines.items (D.left_since (devices_of core.old).disk)
         (D.left_since (devices_of core.new).disk) (seen_core core.old) (seen_core core.new)
         (seen K.held K.faults out.old) (seen K.held K.faults out.new)) }
@@ -88,6 +88,7 @@ fn serve_line<D: Disk, I, O, K: Sink>(
         (seen K.held K.faults out.old) (seen K.held K.faults out.new)) }
     ensures follows { Follows (D.left_since (devices_of core.old).disk)
         (D.left_since (devices_of core.new).disk) (seen_core core.old) (seen_core core.new) }
+    ensures size { KeepsSize (seen_core core.old) (seen_core core.new) }
     ensures streams { KeepsStreams (devices_of core.old) (devices_of core.new) }
     ensures never_falls { K.faults out.old ≤ K.faults out.new }
 {
@@ -115,6 +116,7 @@ fn answer_line<D: Disk, I, O>(
     ensures answers { AnswersLine (seen_core core.old) (seen_core core.new) lane number command result }
     ensures follows { Follows (D.left_since (devices_of core.old).disk)
         (D.left_since (devices_of core.new).disk) (seen_core core.old) (seen_core core.new) }
+    ensures size { KeepsSize (seen_core core.old) (seen_core core.new) }
     ensures streams { KeepsStreams (devices_of core.old) (devices_of core.new) }
 {
     core.core_is_sound();

@@ -5,13 +5,13 @@ ghost use Rattle.hm_types.specs.declared.limits.TheConstants.{MOST_SCRIPT_LINES}
 ghost use Rattle.hm_core.specs.Core.{Follows, KeepsStreams, Waits};
 ghost use Rattle.hm_core.specs.Seen.{devices as devices_of, seen as seen_core};
 ghost use Rattle.hm_core.specs.Staged.{IsFlushed};
-ghost use Rattle.hm_shell.specs.Lines.{AreRising, IsServedLine};
-ghost use Rattle.hm_shell.specs.Making.{MakesVolume};
+ghost use Rattle.hm_shell.specs.Lines.{NumbersRise, IsServedLine};
+ghost use Rattle.hm_shell.specs.Making.{MakesWhereAsked};
 ghost use Rattle.hm_shell.specs.Opening.{StoppedOpening};
-ghost use Rattle.hm_shell.specs.Preparing.{IsDue};
+ghost use Rattle.hm_shell.specs.Preparing.{MayRun};
 ghost use Rattle.hm_shell.specs.Running.{IsWriteCause, RunsAll, StoppedRunning};
 ghost use Rattle.hm_shell.specs.Seen.{seen};
-ghost use Rattle.hm_shell.specs.Serving.{Commits, StopsUsing, UsesAll};
+ghost use Rattle.hm_shell.specs.Serving.{Commits, KeepsSize, StopsUsing, UsesAll};
 
 use crate::job::Job;
 use crate::serve::serve_script;
@@ -42,7 +42,7 @@ pub(crate) fn run_job<D: Disk, I, O, K: Sink>(
     stream_out: O,
     out: &mut K,
 ) -> Closed<D, I, O>
-    requires due { IsDue job }
+    requires due { MayRun job }
     ensures ok { OnOk result.outcome (RunsAll job.newfs job.lines.items (D.left_since result.disk)
         (seen D.told D.faults disk) (seen D.told D.faults result.disk) (K.held out.old) (K.held out.new)) }
     ensures err { IfErr result.outcome (StoppedRunning job.newfs job.lines.items
@@ -76,7 +76,7 @@ fn run_on<D: Disk, I, O, K: Sink>(
     stream_out: O,
     out: &mut K,
 ) -> Closed<D, I, O>
-    requires due { IsDue job }
+    requires due { MayRun job }
     ensures ok { OnOk result.outcome (RunsAll job.newfs job.lines.items (D.left_since result.disk)
         (seen D.told D.faults disk) (seen D.told D.faults result.disk) (K.held out.old) (K.held out.new)) }
     ensures err { IfErr result.outcome (StoppedRunning job.newfs job.lines.items
@@ -110,7 +110,7 @@ fn run_on<D: Disk, I, O, K: Sink>(
 // Makes a volume of this size, where one is asked for.
 fn make_volume<D: Disk>(disk: &mut D, bigblocks: Option<u32>) -> Result<(), RunStop>
     requires size { IfSome bigblocks IsSize }
-    ensures ok { OnOk result (MakesVolume bigblocks (D.told disk.old) (D.told disk.new)) }
+    ensures ok { OnOk result (MakesWhereAsked bigblocks (D.told disk.old) (D.told disk.new)) }
     ensures err { IfErr result (StoppedOpening bigblocks (D.left_since disk.old) (D.left_since disk.new)
         (seen D.told D.faults disk.old) (seen D.told D.faults disk.new)) }
     ensures as_was { (bigblocks ≡ None) → disk.new ≡ disk.old }
@@ -133,7 +133,7 @@ fn run_lines<D: Disk, I, O, K: Sink>(
     out: &mut K,
 ) -> Closed<D, I, O>
     requires each { All IsServedLine lines.items }
-    requires rising { AreRising lines.items }
+    requires rising { NumbersRise lines.items }
     requires few { length lines.items ≤ MOST_SCRIPT_LINES }
     requires start { (seen_core core).history ≡ [] }
     requires flushed { IsFlushed (seen_core core) }
@@ -167,7 +167,7 @@ fn use_core<D: Disk, I, O, K: Sink>(
     out: &mut K,
 ) -> Result<(), RunStop>
     requires each { All IsServedLine lines.items }
-    requires rising { AreRising lines.items }
+    requires rising { NumbersRise lines.items }
     requires few { length lines.items ≤ MOST_SCRIPT_LINES }
     requires start { (seen_core core.old).history ≡ [] }
     requires flushed { IsFlushed (seen_core core.old) }
@@ -196,6 +196,7 @@ fn commit_all<D: Disk, I, O>(core: &mut Core<D, I, O>) -> Result<(), RunStop>
     ensures waits { Waits (seen_core core.old) (seen_core core.new) }
     ensures follows { Follows (D.left_since (devices_of core.old).disk)
         (D.left_since (devices_of core.new).disk) (seen_core core.old) (seen_core core.new) }
+    ensures size { KeepsSize (seen_core core.old) (seen_core core.new) }
     ensures streams { KeepsStreams (devices_of core.old) (devices_of core.new) }
     ensures never_falls { (seen_core core.old).counts.disk ≤ (seen_core core.new).counts.disk }
 {

@@ -1,6 +1,6 @@
 // The words of the command line.
 ghost use Rattle.std.specs.Prelude.{◌↔◌, ◌∷◌, [], IfErr, IfOk, IsTrue, List, MatchOption, ℕ};
-ghost use Rattle.hm_shell.specs.Words.{IsNoSize, IsPlan, IsPlanFault, IsPlanned, IsSize, IsUsageFault, IsVolumeWord, texts};
+ghost use Rattle.hm_shell.specs.Words.{IsNoSize, IsPlan, IsPlanFault, IsPlanned, SpellsSize, IsUsageFault, IsVolumeWord, texts};
 
 use crate::plan::{Plan, PlanFault};
 use hm_types::{LEAST_BIGBLOCKS, MOST_BIGBLOCKS};
@@ -92,7 +92,7 @@ fn is_volume_word(word: &str) -> bool
 
 // The number of big-blocks that a word spells, without a sign or a leading zero.
 fn size_of_word(word: &str) -> Option<u32>
-    ensures { MatchOption result (IsNoSize word.now) (IsSize word.now) }
+    ensures { MatchOption result (IsNoSize word.now) (SpellsSize word.now) }
 {
     let Ok(size) = word.parse::<u32>() else {
         return None;

@@ -1,5 +1,5 @@
 -- What the call of a space that gives room to zones answers.
-use Rattle.std.proofs.Common.{◌≡◌, Bool, true, false, ℕ, ◌^◌, Option, Result, Ok, Err, refl, sym, ap, ◌∙◌, arith, cond}
+use Rattle.std.proofs.Common.{◌≡◌, Bool, true, false, ℕ, ◌^◌, Option, None, Result, Ok, Err, refl, sym, ap, ◌∙◌, arith, cond}
 use Rattle.std.specs.Prelude.{IfErr, OnOk}
 use Rattle.hm_types.specs.Space.{LacksSpace, needed}
 use Rattle.hm_types.specs.declared.fault.Fault.{Fault}
@@ -26,6 +26,13 @@ module _ (old new : Store) (disk : Option Told) (books books' : Books) (zones : 
   abbrev h' : Heap
   h' = heap_of new disk books'
 
+  -- the same beside the disk
+  abbrev d : Heap
+  d = heap_of old None books
+
+  abbrev d' : Heap
+  d' = heap_of new None books'
+
   based : SameBasis h h'
   based = basis old new disk disk books books' frame same
 
@@ -33,10 +40,10 @@ module _ (old new : Store) (disk : Option Told) (books books' : Books) (zones : 
   unfolding heap_of
   framed = frame_same h h' based refl
 
-  pub renewed : Renews zones most old new books books' → AnswersRoom zones most h h' (Ok tt) × ∥ IsKept h' ∥₁
+  pub renewed : Renews zones most d d' → AnswersRoom zones most h h' (Ok tt) × ∥ IsKept h' ∥₁
   unfolding heap_of
   renewed renews =
-      let log = ap (λ l. l.items) renews.log in
+      let log = renews.log in
       let still = renews.whole ∙ whole in (
         record {
           ok = admits h h' zones most books.most based refl log renews.gave whole still none renews.admitted;
@@ -53,14 +60,14 @@ module _ (old new : Store) (disk : Option Told) (books books' : Books) (zones : 
         kept_admit h h' zones most books.most based refl log renews.gave whole still none renews.admitted kept,
       )
 
-  pub refused : (free needed : ℕ) → Refuses zones most old new books books' free needed
+  pub refused : (free needed : ℕ) → Refuses zones most d d' free needed
       → AnswersRoom zones most h h' (Err (NoSpace free needed)) × ∥ IsKept h' ∥₁
   unfolding heap_of
   refused free need refuses =
-      let append = ap (λ (b : Books). b.append) refuses.books in
-      let log = ap (λ (b : Books). b.log.items) refuses.books in
-      let gave = ap (λ (b : Books). b.gave) refuses.books in
-      let still = ap (λ (b : Books). b.whole) refuses.books in
+      let append = ap (λ (x : Heap). x.append) refuses.rest in
+      let log = ap (λ (x : Heap). x.log) refuses.rest in
+      let gave = ap (λ (x : Heap). x.gave) refuses.rest in
+      let still = ap (λ (x : Heap). x.whole) refuses.rest in
       let rest = rest_still h h' books.most books.below based refl append log gave still refuses.refused.same in (
         record {
           ok = tt;
@@ -103,9 +110,10 @@ module _ (old new : Store) (disk : Option Told) (books books' : Books) (zones : 
         kept_broken old new disk disk books books' frame same broken (λ is. is) kept,
       )
 
-  pub answers : (result : Result (Unit {0}) SpaceFault) → OnOk result (Renews zones most old new books books')
-      → IfErr result (IsNotRenewed zones most old new books books')
+  pub answers : (result : Result (Unit {0}) SpaceFault) → OnOk result (Renews zones most d d')
+      → IfErr result (IsNotRenewed zones most d d')
       → AnswersRoom zones most h h' result × ∥ IsKept h' ∥₁
+  unfolding heap_of
   answers (Ok done) renews missed = renewed renews
   answers (Err (NoSpace free need)) renews missed = refused free need missed
   answers (Err (of_store fault)) renews missed = failed fault missed

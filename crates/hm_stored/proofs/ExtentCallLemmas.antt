@@ -3,18 +3,16 @@ use Rattle.std.proofs.Common.{◌≡◌, ◌≢◌, Bool, true, false, ℕ, ◌<
 use Rattle.std.proofs.Common.{subst, ◌∙◌, arith, cond}
 use Rattle.std.specs.Prelude.{IfSome, option_map, IsSomeAnd, OnOk}
 use Rattle.hm_types.specs.Faults.{HasStoreCause}
-use Rattle.hm_types.specs.Layout.{block_of}
-use Rattle.hm_types.specs.Offset.{byte_of, zone_of}
+use Rattle.hm_types.specs.Offset.{zone_of}
 use Rattle.hm_types.specs.Space.{nothing, rounded}
 use Rattle.hm_types.specs.declared.fault.Fault.{Fault}
 use Rattle.hm_types.specs.declared.zone.TheConstants.{FREEMAP_ZONE}
 use Rattle.hm_disk.specs.Crash.{Told}
 use Rattle.hm_key.specs.Extents.{Extent, extent_at, given_back_at, shared_at}
-use Rattle.hm_freemap.specs.Faults.{HasExtentCause}
 use Rattle.hm_freemap.specs.Places.{HasLayer2}
 use Rattle.hm_pages.specs.Store.{Store, frame_of as pages_frame, layer2}
 use Rattle.hm_stored.specs.Basis.{Basis}
-use Rattle.hm_stored.specs.Calls.{ChangesExtents, GivesExtent, LeavesBooks, SameBooks, SharesExtent, Stays}
+use Rattle.hm_stored.specs.Calls.{ChangesExtents, GivesExtent, HasReferCause, LeavesBooks, SameBooks, SharesExtent, Stays}
 use Rattle.hm_stored.specs.Heap.{Heap, basis_with, bytes_of, does_tell, elements_with, extents_in, frame_of, heap_of, places_in}
 use Rattle.hm_stored.specs.Held.{IsKept}
 use Rattle.hm_stored.specs.Log.{after_change, after_changes, filled, places_of}
@@ -44,6 +42,13 @@ module _ (old new : Store) (disk : Option Told) (books books' : Books) (frame : 
   abbrev h' : Heap
   h' = heap_of new disk books'
 
+  -- the same beside the disk
+  abbrev d : Heap
+  d = heap_of old None books
+
+  abbrev d' : Heap
+  d' = heap_of new None books'
+
   based : SameBooks books books' → SameBasis h h'
   based same = basis old new disk disk books books' frame same
 
@@ -64,21 +69,21 @@ module _ (old new : Store) (disk : Option Told) (books books' : Books) (frame : 
 
   -- An extent was shared.
   module _ (at len : ℕ) (live_one : IfSome (extents_in h) (λ xs. IsSomeAnd (extent_at at xs) (λ x. (x.len ≡ rounded len) × (x.refs < 64)))) where
-    pub shared_ok : (result : Result (Unit {0}) Fault) → LeavesBooks books books' result → OnOk result (SharesExtent at len old new books books')
+    pub shared_ok : (result : Result (Unit {0}) Fault) → LeavesBooks books books' result → OnOk result (SharesExtent at len d d')
         → OnOk result (ChangesExtents (λ xs ys. ys ≡ shared_at at xs) h h')
     unfolding heap_of
     shared_ok (Ok done) leaves shares = share_ok h h' at len books.most (tree done leaves shares.shares.pages) refl shares.shares
         (places_noted h h' (based leaves.same) (Shared at) shares.noted) shares.gave live_one
     shared_ok (Err fault) leaves shares = tt
 
-    pub shared_kept : (result : Result (Unit {0}) Fault) → LeavesBooks books books' result → OnOk result (SharesExtent at len old new books books')
+    pub shared_kept : (result : Result (Unit {0}) Fault) → LeavesBooks books books' result → OnOk result (SharesExtent at len d d')
         → ∥ IsKept h' ∥₁
     unfolding heap_of
     shared_kept (Ok done) leaves shares = share_kept h h' at len books.most (tree done leaves shares.shares.pages) refl shares.shares
         (places_noted h h' (based leaves.same) (Shared at) shares.noted) shares.gave live_one kept
     shared_kept (Err fault) leaves shares = broken fault leaves
 
-    pub shared_stays : (result : Result (Unit {0}) Fault) → LeavesBooks books books' result → OnOk result (SharesExtent at len old new books books')
+    pub shared_stays : (result : Result (Unit {0}) Fault) → LeavesBooks books books' result → OnOk result (SharesExtent at len d d')
         → Stays nothing h h'
     unfolding heap_of
     shared_stays (Ok done) leaves shares =
@@ -88,21 +93,21 @@ module _ (old new : Store) (disk : Option Told) (books books' : Books) (frame : 
 
   -- One reference was given back.
   module _ (at len : ℕ) (live_one : IfSome (extents_in h) (λ xs. IsSomeAnd (extent_at at xs) (λ x. x.len ≡ rounded len))) where
-    pub given_ok : (result : Result (Unit {0}) Fault) → LeavesBooks books books' result → OnOk result (GivesExtent at len old new books books')
+    pub given_ok : (result : Result (Unit {0}) Fault) → LeavesBooks books books' result → OnOk result (GivesExtent at len d d')
         → OnOk result (ChangesExtents (λ xs ys. ys ≡ given_back_at at xs) h h')
     unfolding heap_of
     given_ok (Ok done) leaves gives = give_ok h h' at len books.most (tree done leaves gives.gives.pages) refl gives.gives
         (places_noted h h' (based leaves.same) (GivenBack at) gives.noted) gives.gave live_one
     given_ok (Err fault) leaves gives = tt
 
-    pub given_kept : (result : Result (Unit {0}) Fault) → LeavesBooks books books' result → OnOk result (GivesExtent at len old new books books')
+    pub given_kept : (result : Result (Unit {0}) Fault) → LeavesBooks books books' result → OnOk result (GivesExtent at len d d')
         → ∥ IsKept h' ∥₁
     unfolding heap_of
     given_kept (Ok done) leaves gives = give_kept h h' at len books.most (tree done leaves gives.gives.pages) refl gives.gives
         (places_noted h h' (based leaves.same) (GivenBack at) gives.noted) gives.gave live_one kept
     given_kept (Err fault) leaves gives = broken fault leaves
 
-    pub given_stays : (result : Result (Unit {0}) Fault) → LeavesBooks books books' result → OnOk result (GivesExtent at len old new books books')
+    pub given_stays : (result : Result (Unit {0}) Fault) → LeavesBooks books books' result → OnOk result (GivesExtent at len d d')
         → Stays nothing h h'
     unfolding heap_of
     given_stays (Ok done) leaves gives =
@@ -124,7 +129,7 @@ module _ (old : Store) (disk : Option Told) (books : Books) (faults : ℕ) (kept
 
   pub extent_cause : (at len : ℕ) (P : Extent → Type 0) (result : Result (Unit {0}) Fault) → ((x : Extent) → P x → x.len ≡ rounded len)
       → IfSome (extents_in space) (λ xs. IsSomeAnd (extent_at at xs) P)
-      → HasExtentCause books.bigblocks books.append (block_of (byte_of at)) (rounded len) (Some old.committed) (Some old.frozen) (Some old.current) 0 0 result
+      → HasReferCause at len (heap_of old None books) result
       → HasStoreCause (extents_in space) faults faults result
   unfolding heap_of
   extent_cause at len P (Ok done) long live_one cause = record { counted = record { never_falls = omega arith; caused = tt }; undamaged = nothing_told space }

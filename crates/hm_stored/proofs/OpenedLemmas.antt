@@ -11,7 +11,7 @@ use Rattle.hm_key.specs.Balance.{IsBalanced, full_elements}
 use Rattle.hm_stored.specs.Basis.{Basis, IsFirm, elements_in, fulls_in}
 use Rattle.hm_stored.specs.Content.{HaveContent, OpensContent, TellsContent}
 use Rattle.hm_stored.specs.Heap.{Heap, basis_with, bytes_of, content_by, content_of, content_with, does_tell, places_in}
-use Rattle.hm_stored.specs.Held.{IsKept}
+use Rattle.hm_stored.specs.Held.{IsKept, IsSized}
 use Rattle.hm_stored.specs.Known.{is_known}
 use Rattle.hm_stored.specs.Log.{filled}
 use Rattle.hm_stored.specs.Standing.{Holds, HoldsBy, basis_now}
@@ -21,7 +21,7 @@ use Rattle.hm_stored.proofs.BeginLemmas.{firm_places, image_extents}
 use Rattle.hm_stored.proofs.CauseLemmas.{tells_parts}
 use Rattle.hm_stored.proofs.PutCallLemmas.{sized_kept}
 use Rattle.hm_stored.proofs.ToldLemmas.{content_firm, content_found, content_known, elements_at, live_in, of_lists}
-use Rattle.hm_stored.proofs.TurnLemmas.{IsSized, places_are}
+use Rattle.hm_stored.proofs.TurnLemmas.{places_are}
 
 -- a call was opened, over a state whose books are in order
 module _ (h : Heap) (t : Told) (es : List FullElement) (whole : h.whole ≡ true) (begin : h.pages.begin ≡ Some h.pages.current) (append : h.begun ≡ h.append)

@@ -16,12 +16,11 @@ use Rattle.hm_disk.specs.Disk.{MayBeTorn, Written, moment_of}
 use Rattle.hm_disk.specs.WriteLaws.{MayLeave-overwritten}
 use Rattle.hm_header.proofs.SliceLemmas.{slice-overwritten}
 use Rattle.hm_key.specs.Extents.{with_extent}
-use Rattle.hm_freemap.specs.Faults.{HasFreemapCause}
-use Rattle.hm_freemap.specs.Stand.{append_of, room_in}
+use Rattle.hm_freemap.specs.Stand.{room_in}
 use Rattle.hm_pages.specs.Store.{Store, frame_of as pages_frame}
-use Rattle.hm_stored.specs.Calls.{Alters, LeavesBooks, MayTear, Places, PutsBytes, SameBooks, Stays, Tears}
+use Rattle.hm_stored.specs.Calls.{Alters, HasTakeCause, LeavesBooks, MayTear, Places, PutsBytes, SameBooks, Stays, Tears}
 use Rattle.hm_stored.specs.Heap.{Heap, bytes_of, extents_in, frame_of, heap_of, places_in, room_of}
-use Rattle.hm_stored.specs.Held.{IsKept}
+use Rattle.hm_stored.specs.Held.{IsKept, IsSized}
 use Rattle.hm_stored.specs.Log.{one_of}
 use Rattle.hm_stored.specs.declared.books.Books.{Books}
 use Rattle.hm_stored.specs.declared.change.Change.TheVariants.{Placed}
@@ -84,7 +83,7 @@ written_there (Some t) (Some u) place bytes most size within both told =
     ap (λ (b : List ℕ). slice_range b place (place + length bytes)) both.bytes_are ∙ slice-overwritten t.bytes place bytes (omega (arith, size, within))
 
 -- what a disk that tells has of the volume
-pub sized_kept : (h : Heap) → ∥ IsKept h ∥₁ → IfSome h.disk (λ (t : Told). h.bigblocks * BIGBLOCK_BYTES ≤ length t.bytes)
+pub sized_kept : (h : Heap) → ∥ IsKept h ∥₁ → IsSized h
 sized_kept h kept = by_disk h.disk (∥∥₁_elim kept squash₁ (λ k. ∣ k.size ∣₁)) where
   by_disk : (o : Option Told) → ∥ IfSome o (λ (t : Told). h.bigblocks * BIGBLOCK_BYTES ≤ length t.bytes) ∥₁
       → IfSome o (λ (t : Told). h.bigblocks * BIGBLOCK_BYTES ≤ length t.bytes)
@@ -123,12 +122,13 @@ module _ (old new : Store) (was is : Option Told) (books books' : Books) (zone :
   size_of = sized_of old was books kept
 
   -- the bytes were written
-  module _ (at : ℕ) (leaves : LeavesBooks {A = ℕ} books books' (Ok at)) (puts : PutsBytes zone bytes at old new was is books books') where
+  module _ (at : ℕ) (leaves : LeavesBooks {A = ℕ} books books' (Ok at)) (puts : PutsBytes zone bytes at h h') where
     fits : byte_of at + rounded (length bytes) ≤ books.bigblocks * BIGBLOCK_BYTES
     unfolding heap_of
     fits = take_within h zone at (length bytes) new.current books.below low high some puts.taken.takes has_room
 
     alters : Alters (byte_of at) (rounded (length bytes)) was is
+    unfolding heap_of
     alters = written_alters was is (byte_of at) bytes (books.bigblocks * BIGBLOCK_BYTES) size_of fits puts.wrote
 
     noted : places_in h' ≡ with_extent (one_of at (length bytes)) (places_in h)
@@ -161,20 +161,21 @@ module _ (old new : Store) (was is : Option Told) (books books' : Books) (zone :
         leaves.append leaves.whole (sym puts.taken.gave) noted payload
 
   -- they were not, or not all of them
-  module _ (fault : Fault) (leaves : LeavesBooks {A = ℕ} books books' (Err fault)) (tears : MayTear zone (length bytes) old new was is books) where
+  module _ (fault : Fault) (leaves : LeavesBooks {A = ℕ} books books' (Err fault)) (tears : MayTear zone (length bytes) h h') where
     torn_frame : frame_of h' ≡ frame_of h
     unfolding heap_of
     torn_frame = ⊎_elim (λ (same : is ≡ was). frame_same h h' (based leaves.same) same)
-        (λ (t : Tears zone (length bytes) old new was is books).
+        (λ (t : Tears zone (length bytes) h h').
         frame_put h h' zone t.at (length bytes) books.most books.below (based leaves.same) whole low high some t.takes has_room
         (torn_alters was is (byte_of t.at) (length bytes) t.torn) kept books.pool moment)
         tears
 
     torn_size : IfSome was (λ (t : Told). books.bigblocks * BIGBLOCK_BYTES ≤ length t.bytes)
         → IfSome is (λ (t : Told). books.bigblocks * BIGBLOCK_BYTES ≤ length t.bytes)
+    unfolding heap_of
     torn_size size = ⊎_elim (λ (same : is ≡ was). subst
         (λ (o : Option Told). IfSome o (λ (t : Told). books.bigblocks * BIGBLOCK_BYTES ≤ length t.bytes)) (sym same) size)
-        (λ (t : Tears zone (length bytes) old new was is books). by_disk was is (byte_of t.at) (torn_alters was is (byte_of t.at) (length bytes) t.torn) size)
+        (λ (t : Tears zone (length bytes) h h'). by_disk was is (byte_of t.at) (torn_alters was is (byte_of t.at) (length bytes) t.torn) size)
         tears where
           by_disk : (o p : Option Told) (place : ℕ) → Alters place (rounded (length bytes)) o p
               → IfSome o (λ (t : Told). books.bigblocks * BIGBLOCK_BYTES ≤ length t.bytes)
@@ -194,25 +195,23 @@ module _ (old new : Store) (was is : Option Told) (books books' : Books) (zone :
     pub torn_kept : ∥ IsKept h' ∥₁
     torn_kept = kept_broken old new was is books books' frame leaves.same leaves.whole torn_size kept
 
-  pub puts_ok : (result : Result ℕ Fault) → LeavesBooks books books' result → IfOk result (λ at. PutsBytes zone bytes at old new was is books books')
+  pub puts_ok : (result : Result ℕ Fault) → LeavesBooks books books' result → IfOk result (λ at. PutsBytes zone bytes at h h')
       → IfOk result (Places zone bytes h h')
   puts_ok (Ok at) leaves puts = place_ok at leaves puts
   puts_ok (Err fault) leaves puts = tt
 
-  pub puts_stays : (result : Result ℕ Fault) → LeavesBooks books books' result → IfOk result (λ at. PutsBytes zone bytes at old new was is books books')
-      → OnErr result (MayTear zone (length bytes) old new was is books) → Stays (in_zone zone (rounded (length bytes))) h h'
+  pub puts_stays : (result : Result ℕ Fault) → LeavesBooks books books' result → IfOk result (λ at. PutsBytes zone bytes at h h')
+      → OnErr result (MayTear zone (length bytes) h h') → Stays (in_zone zone (rounded (length bytes))) h h'
   puts_stays (Ok at) leaves puts tears = place_stays at leaves puts
   puts_stays (Err fault) leaves puts tears = torn_stays fault leaves tears
 
-  pub puts_kept : (result : Result ℕ Fault) → LeavesBooks books books' result → IfOk result (λ at. PutsBytes zone bytes at old new was is books books')
-      → OnErr result (MayTear zone (length bytes) old new was is books) → ∥ IsKept h' ∥₁
+  pub puts_kept : (result : Result ℕ Fault) → LeavesBooks books books' result → IfOk result (λ at. PutsBytes zone bytes at h h')
+      → OnErr result (MayTear zone (length bytes) h h') → ∥ IsKept h' ∥₁
   puts_kept (Ok at) leaves puts tears = place_kept at leaves puts
   puts_kept (Err fault) leaves puts tears = torn_kept fault leaves tears
 
   pub puts_cause : (faults faults' : ℕ) (result : Result ℕ Fault)
-      → HasFreemapCause books.bigblocks books.append (λ one. one ≡ append_of books.append zone) (Some old.committed) (Some old.frozen)
-      (Some old.current) faults faults' result
-      → HasStoreCause (extents_in h) faults faults' result
+      → HasTakeCause zone h faults faults' result → HasStoreCause (extents_in h) faults faults' result
   unfolding heap_of
   puts_cause faults faults' (Ok at) cause = record { counted = cause.counted; undamaged = nothing_told h }
   puts_cause faults faults' (Err fault) cause = record {

@@ -19,17 +19,13 @@ use Rattle.hm_pages.specs.Store.{Store, layer2}
 use Rattle.hm_stored.specs.Basis.{Basis, IsFirm, elements_in, states_of}
 use Rattle.hm_stored.specs.DecideFirm.{from_firm, is_firm}
 use Rattle.hm_stored.specs.Heap.{Heap, basis_with, bytes_of, content_with, does_tell, elements_with, heap_of, is_firm_with, places_in}
-use Rattle.hm_stored.specs.Held.{AreNodes, Held, HeldBy, IsInUse, IsKept, IsSafe, Safe}
+use Rattle.hm_stored.specs.Held.{AreNodes, Held, HeldBy, IsInUse, IsKept, IsSafe, IsSized, Safe}
 use Rattle.hm_stored.specs.Log.{after_changes, places_of}
 use Rattle.hm_stored.specs.Turn.{IsClosed}
 use Rattle.hm_stored.specs.declared.books.Books.{Books}
 use Rattle.hm_stored.proofs.BeginLemmas.{held_begin}
 use Rattle.hm_stored.proofs.CauseLemmas.{tells_parts}
 use Rattle.hm_stored.proofs.PutLemmas.{unfirm}
-
--- the disk has the size of the volume
-abbrev pub IsSized : Heap → Type 0
-IsSized h = IfSome h.disk (λ (t : Told). h.bigblocks * BIGBLOCK_BYTES ≤ length t.bytes)
 
 -- where no call is open, nothing is told
 pub kept_closed : (h : Heap) → h.pages.begin ≡ None → AreNodes h.pages.current → IsSized h → IsKept h
@@ -139,7 +135,8 @@ module _ (old new : Store) (disk : Option Told) (books : Books) (whole : books.w
   keep_kept kept = kept_closed (heap_of new disk books) keeps.begin (subst AreNodes (sym keeps.current) (kept.nodes whole)) kept.size
 
 -- One that was dropped.
-module _ (old new : Store) (disk : Option Told) (books books' : Books) (drops : IsUndone old new) (opened : IsSome old.begin) where
+module _ (old new : Store) (disk : Option Told) (books books' : Books) (drops : IsUndone old new)
+    (opened : IsSome (heap_of old disk books).pages.begin) where
   pub undo_kept : books'.bigblocks ≡ books.bigblocks → IsKept (heap_of old disk books) → IsKept (heap_of new disk books')
   unfolding heap_of
   undo_kept same kept = kept_closed (heap_of new disk books') drops.begin (by_begin old.begin drops.current kept.begun opened)

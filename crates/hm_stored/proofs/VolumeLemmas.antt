@@ -107,7 +107,7 @@ module _ (old new : Store) (disk : Option Told) (books books' : Books) (size : b
     either at true b first second is = first refl
     either at false b first second is = second is
 
-  pub volume_dropped : IsUndone old new → IsSome old.begin → IsOfVolume (heap_of new disk books')
+  pub volume_dropped : IsUndone old new → IsSome (heap_of old disk books).pages.begin → IsOfVolume (heap_of new disk books')
   unfolding heap_of
   volume_dropped drops opened = record {
     only = with_size new.current (by_begin old.begin drops.current kept.begun opened);

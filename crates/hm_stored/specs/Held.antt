@@ -66,12 +66,16 @@ Held h = IsTrue (does_tell h) → IfSome h.pages.begin (λ begin. (refs : List R
 abbrev pub AreNodes : PageMap → Type 0
 AreNodes pages = (at : ℕ) → IfSome (nodes pages at) (λ bytes. (at < 2 ^ 64) × (IsNodeOffset at → HoldsNode bytes))
 
+-- the disk is at least as long as the volume
+abbrev pub IsSized : Heap → Type 0
+IsSized h = IfSome h.disk (λ t. h.bigblocks * BIGBLOCK_BYTES ≤ length t.bytes)
+
 -- What always holds of a space: its pages are nodes, as they were when the open call began, its disk has the size of
 -- the volume, and its books are in order.
 pub record IsKept (h : Heap) : Type 0 where
   pub nodes : IsTrue h.whole → AreNodes h.pages.current
   pub begun : IfSome h.pages.begin AreNodes
-  pub size : IfSome h.disk (λ t. h.bigblocks * BIGBLOCK_BYTES ≤ length t.bytes)
+  pub size : IsSized h
   pub safe : Safe h
   pub held : Held h
 

@@ -1,15 +1,13 @@
 // Extents of payloads in the pages and the books of a space.
-ghost use Rattle.std.specs.Prelude.{◌≡◌, ◌≤◌, ◌<◌, ◌^◌, IfErr, IfOk, OnOk, Some};
-ghost use Rattle.hm_types.specs.Layout.{block_of};
-ghost use Rattle.hm_types.specs.Offset.{byte_of};
+ghost use Rattle.std.specs.Prelude.{◌≡◌, ◌≤◌, IfErr, IfOk, OnOk, true};
 ghost use Rattle.hm_types.specs.Space.{rounded};
-ghost use Rattle.hm_freemap.specs.Admit.{HasAdmissionCause};
-ghost use Rattle.hm_freemap.specs.Faults.{HasExtentCause, HasFreemapCause};
 ghost use Rattle.hm_freemap.specs.Places.{HasLayer2};
-ghost use Rattle.hm_freemap.specs.Stand.{append_of, room_in};
 ghost use Rattle.hm_pages.specs.Store.{contents, frame_of, layer2};
-ghost use Rattle.hm_stored.specs.Calls.{GivesExtent, IsNotRenewed, LeavesBooks, Renews, SameBooks, SharesExtent, TakesExtent};
+ghost use Rattle.hm_stored.specs.Calls.{GivesExtent, HasReferCause, HasRenewCause, HasTakeCause, IsNotRenewed};
+ghost use Rattle.hm_stored.specs.Calls.{LeavesBooks, Renews, SameBooks, SharesExtent, TakesExtent};
+ghost use Rattle.hm_stored.specs.Heap.{room_of};
 ghost use Rattle.hm_stored.specs.Nodes.{spots};
+ghost use Rattle.hm_stored.specs.Space.{diskless};
 
 use crate::books::Books;
 use crate::change::Change;
@@ -26,16 +24,14 @@ pub(crate) fn take(
 ) -> Result<HOff, Fault>
     requires there { HasLayer2 books.old.bigblocks (layer2 (contents pages.old.store)) }
     requires some { 1 ≤ len }
-    requires room { rounded len ≤ room_in books.old.append (contents pages.old.store).current zone }
+    requires whole { books.old.whole ≡ true }
+    requires room { rounded len ≤ room_of (diskless pages.old.store books.old) zone }
     ensures ok { IfOk result (λ at. TakesExtent zone len at
-        (contents pages.old.store) (contents pages.new.store) books.old books.new) }
+        (diskless pages.old.store books.old) (diskless pages.new.store books.new)) }
     ensures books { LeavesBooks books.old books.new result }
     ensures frame { frame_of (contents pages.new.store) ≡ frame_of (contents pages.old.store) }
     ensures spots { spots (contents pages.new.store) ≡ spots (contents pages.old.store) }
-    ensures cause { HasFreemapCause books.old.bigblocks books.old.append
-        (λ one. one ≡ append_of books.old.append zone)
-        (Some (contents pages.old.store).committed) (Some (contents pages.old.store).frozen)
-        (Some (contents pages.old.store).current) 0 0 result }
+    ensures cause { HasTakeCause zone (diskless pages.old.store books.old) 0 0 result }
 {
     books.whole = false;
     books.log.reserve(1)?;
@@ -54,14 +50,11 @@ pub(crate) fn share(
 ) -> Result<(), Fault>
     requires there { HasLayer2 books.old.bigblocks (layer2 (contents pages.old.store)) }
     ensures ok { OnOk result (SharesExtent at len
-        (contents pages.old.store) (contents pages.new.store) books.old books.new) }
+        (diskless pages.old.store books.old) (diskless pages.new.store books.new)) }
     ensures books { LeavesBooks books.old books.new result }
     ensures frame { frame_of (contents pages.new.store) ≡ frame_of (contents pages.old.store) }
     ensures spots { spots (contents pages.new.store) ≡ spots (contents pages.old.store) }
-    ensures cause { HasExtentCause books.old.bigblocks books.old.append
-        (block_of (byte_of at)) (rounded len)
-        (Some (contents pages.old.store).committed) (Some (contents pages.old.store).frozen)
-        (Some (contents pages.old.store).current) 0 0 result }
+    ensures cause { HasReferCause at len (diskless pages.old.store books.old) result }
 {
     books.whole = false;
     books.log.reserve(1)?;
@@ -80,14 +73,11 @@ pub(crate) fn give(
 ) -> Result<(), Fault>
     requires there { HasLayer2 books.old.bigblocks (layer2 (contents pages.old.store)) }
     ensures ok { OnOk result (GivesExtent at len
-        (contents pages.old.store) (contents pages.new.store) books.old books.new) }
+        (diskless pages.old.store books.old) (diskless pages.new.store books.new)) }
     ensures books { LeavesBooks books.old books.new result }
     ensures frame { frame_of (contents pages.new.store) ≡ frame_of (contents pages.old.store) }
     ensures spots { spots (contents pages.new.store) ≡ spots (contents pages.old.store) }
-    ensures cause { HasExtentCause books.old.bigblocks books.old.append
-        (block_of (byte_of at)) (rounded len)
-        (Some (contents pages.old.store).committed) (Some (contents pages.old.store).frozen)
-        (Some (contents pages.old.store).current) 0 0 result }
+    ensures cause { HasReferCause at len (diskless pages.old.store books.old) result }
 {
     books.whole = false;
     books.log.reserve(1)?;
@@ -107,15 +97,13 @@ pub(crate) fn renew(
 ) -> Result<(), SpaceFault>
     requires there { HasLayer2 books.old.bigblocks (layer2 (contents pages.old.store)) }
     ensures ok { OnOk result (Renews zones held
-        (contents pages.old.store) (contents pages.new.store) books.old books.new) }
+        (diskless pages.old.store books.old) (diskless pages.new.store books.new)) }
     ensures err { IfErr result (IsNotRenewed zones held
-        (contents pages.old.store) (contents pages.new.store) books.old books.new) }
+        (diskless pages.old.store books.old) (diskless pages.new.store books.new)) }
     ensures books { SameBooks books.old books.new }
     ensures frame { frame_of (contents pages.new.store) ≡ frame_of (contents pages.old.store) }
     ensures spots { spots (contents pages.new.store) ≡ spots (contents pages.old.store) }
-    ensures cause { HasAdmissionCause books.old.bigblocks books.old.append
-        (Some (contents pages.old.store).committed) (Some (contents pages.old.store).frozen)
-        (Some (contents pages.old.store).current) 0 0 result }
+    ensures cause { HasRenewCause (diskless pages.old.store books.old) result }
 {
     match grants::admit(pages, books.bigblocks, books.append, zones, held) {
         Ok(append) => {

@@ -82,7 +82,7 @@ impl<D: Disk> Space<D> {
     /// Closes the open call, none of whose changes failed half-way, and keeps what it changed. It takes
     /// no memory.
     pub fn keep(&mut self)
-        requires opened { IsSome (contents self.old.pages.store).begin }
+        requires opened { IsSome (heap self.old).pages.begin }
         requires whole { self.old.books.whole ≡ true }
         ensures turn { IsKeptOf (heap self.old) (heap self.new) }
         ensures content { KeepsContent (heap self.old) (heap self.new) }
@@ -94,7 +94,7 @@ impl<D: Disk> Space<D> {
     /// Closes the open call, and drops what it changed: pages and append big-blocks are as they were
     /// when it was opened. It takes no memory.
     pub fn undo(&mut self)
-        requires opened { IsSome (contents self.old.pages.store).begin }
+        requires opened { IsSome (heap self.old).pages.begin }
         ensures turn { IsDropped (heap self.old) (heap self.new) }
         ensures content { DropsContent (heap self.old) (heap self.new) }
         ensures disk { self.new.disk ≡ self.old.disk }

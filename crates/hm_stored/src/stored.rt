@@ -137,7 +137,6 @@ impl<D: Disk> Stored<D> {
 impl<D: Disk> Stored<D> {
     ghost use Rattle.std.specs.Prelude.{◌≡◌, ◌↔◌, IfSome, IsSome, IsTrue, List};
     ghost use Rattle.hm_types.specs.Elements.{FullElement};
-    ghost use Rattle.hm_pages.specs.Store.{contents};
     ghost use Rattle.hm_stored.specs.Content.{KeepsContent};
     ghost use Rattle.hm_stored.specs.Heap.{content_of};
     ghost use Rattle.hm_stored.specs.Known.{AreKnown};
@@ -163,7 +162,7 @@ impl<D: Disk> Stored<D> {
     /// Closes the open call, and keeps what it changed: `can_keep` says whether it may. It takes no
     /// memory.
     pub fn keep(&mut self)
-        requires opened { IsSome (contents self.old.space.pages.store).begin }
+        requires opened { IsSome (heap self.old.space).pages.begin }
         requires keepable { IsKeepable (heap self.old.space) self.old.root }
         ensures turn { IsKeptOf (heap self.old.space) (heap self.new.space) }
         ensures root { self.new.root ≡ self.old.root }
@@ -177,7 +176,7 @@ impl<D: Disk> Stored<D> {
     /// Closes the open call, and drops what it changed: the volume holds what it held when the call was
     /// opened. It takes no memory.
     pub fn undo(&mut self)
-        requires opened { IsSome (contents self.old.space.pages.store).begin }
+        requires opened { IsSome (heap self.old.space).pages.begin }
         ensures turn { IsDropped (heap self.old.space) (heap self.new.space) }
         ensures root { self.new.root ≡ self.old.space.books.roots.current }
         ensures disk { self.new.space.disk ≡ self.old.space.disk }

@@ -4,7 +4,6 @@ ghost use Rattle.hm_header.specs.Range.{IsRoot};
 ghost use Rattle.hm_key.specs.Element.{IsElement};
 ghost use Rattle.hm_key.specs.Key.{IsBefore, greatest_key, key_of};
 ghost use Rattle.hm_newfs.specs.Steps.{HasSpace};
-ghost use Rattle.hm_pages.specs.Store.{contents};
 ghost use Rattle.hm_stored.specs.Heap.{frame_of};
 ghost use Rattle.hm_stored.specs.Space.{heap};
 ghost use Rattle.hm_stored.specs.Turn.{IsClosed, IsKeepable};
@@ -39,7 +38,7 @@ pub fn mounted<D: Disk + Drop>(alloc: Global, mut disk: D) -> Result<Space<D>, F
 // The store over a volume of 24 big-blocks, in which a call was opened.
 fn opened<D: Disk + Drop>(alloc: Global, mut disk: D) -> Result<Stored<D>, Failed>
     requires room { IfSome (D.told disk) (HasSpace 24) }
-    ensures { IfOk result (λ s. IsSome (contents s.space.pages.store).begin) }
+    ensures { IfOk result (λ s. IsSome (heap s.space).pages.begin) }
 {
     write_volume(&mut disk, 24)?;
     let space = mounted(alloc, disk)?;
@@ -51,7 +50,7 @@ fn opened<D: Disk + Drop>(alloc: Global, mut disk: D) -> Result<Stored<D>, Faile
 
 // The same over a file, whose disk tells nothing of what it holds.
 fn opened_file(rt: HostRuntime) -> Result<Stored<FileDisk<HostRuntime>>, Fail>
-    ensures { IfOk result (λ s. IsSome (contents s.space.pages.store).begin) }
+    ensures { IfOk result (λ s. IsSome (heap s.space).pages.begin) }
 {
     let name = String::from_str(rt.alloc(), "volume")?;
     match opened(rt.alloc(), FileDisk::named(rt, name, Some(24))) {
@@ -62,8 +61,8 @@ fn opened_file(rt: HostRuntime) -> Result<Stored<FileDisk<HostRuntime>>, Fail>
 
 // Closes the open call, whose changes are dropped, and opens another.
 fn drop_call<D: Disk>(store: &mut Stored<D>)
-    requires opened { IsSome (contents store.old.space.pages.store).begin }
-    ensures begun { IsSome (contents store.new.space.pages.store).begin }
+    requires opened { IsSome (heap store.old.space).pages.begin }
+    ensures begun { IsSome (heap store.new.space).pages.begin }
 {
     store.undo();
     store.begin(Id(9));
@@ -71,9 +70,9 @@ fn drop_call<D: Disk>(store: &mut Stored<D>)
 
 // Closes the open call, whose changes are kept, and opens another.
 fn keep_call<D: Disk>(store: &mut Stored<D>)
-    requires opened { IsSome (contents store.old.space.pages.store).begin }
+    requires opened { IsSome (heap store.old.space).pages.begin }
     requires keepable { IsKeepable (heap store.old.space) store.old.root }
-    ensures begun { IsSome (contents store.new.space.pages.store).begin }
+    ensures begun { IsSome (heap store.new.space).pages.begin }
 {
     store.keep();
     store.begin(Id(9));

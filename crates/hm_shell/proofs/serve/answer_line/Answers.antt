@@ -1,13 +1,15 @@
 use Rattle.std.proofs.Common.{inl, refl}
 use Rattle.hm_core.specs.Seen.{seen as seen_core}
 use Rattle.hm_core.proofs.CoreLemmas.{follows_further, follows_itself}
-use Rattle.hm_shell.proofs.WaitLemmas.{again_is, answered_after, falls_after, refused_after, streams_more, waited_after}
+use Rattle.hm_shell.proofs.WaitLemmas.{again_is, answered_after, falls_after, refused_after, size_after, size_answered, size_refused}
+use Rattle.hm_shell.proofs.WaitLemmas.{streams_more, waited_after}
 use Rattle.hm_shell.proofs.serve.answer_line.Goals as goal
 
 pub waiting-init : goal.waiting-init
 waiting-init g c = record {
   waited = inl refl;
   follows = follows_itself _ (seen_core c.args.core.now) c.core_is_sound.ensures;
+  size = refl;
   streams = record { input = refl; output = refl };
   since_is = c.last-since.ensures;
   command_is = refl;
@@ -37,6 +39,19 @@ returns-in-Refused-clause-answers g c =
     c.waiting.waiting c.waiting.invariant.waited c.waiting.invariant.since_is c.waiting.invariant.command_is (seen_core c.call.new.self)
     (seen_core c.flush_stage.new.self) c.in-MustFlush.back c.in-MustFlush.ensures.steps c.in-Refused.place c.in-Refused.ensures.stages
 
+pub returns-in-Answered-clause-size : goal.returns-in-Answered-clause-size
+returns-in-Answered-clause-size g c =
+    size_answered (seen_core c.args.core.now) (seen_core c.waiting.core) c.args.lane c.args.number c.last-since.result.0 c.args.command
+    c.waiting.waiting c.waiting.invariant.waited c.waiting.invariant.since_is c.waiting.invariant.command_is (seen_core c.call.new.self)
+    c.in-Answered.place c.in-Answered.ensures.steps c.waiting.invariant.size
+
+pub returns-in-Refused-clause-size : goal.returns-in-Refused-clause-size
+returns-in-Refused-clause-size g c =
+    size_refused (seen_core c.args.core.now) (seen_core c.waiting.core) c.args.lane c.args.number c.last-since.result.0 c.args.command
+    c.waiting.waiting c.waiting.invariant.waited c.waiting.invariant.since_is c.waiting.invariant.command_is (seen_core c.call.new.self)
+    (seen_core c.flush_stage.new.self) c.in-MustFlush.back c.in-MustFlush.ensures.steps c.in-Refused.place c.in-Refused.ensures.stages
+    c.waiting.invariant.size
+
 pub waiting-preserved : goal.waiting-preserved
 waiting-preserved g c =
     let old = seen_core c.args.core.now in
@@ -51,6 +66,8 @@ waiting-preserved g c =
           c.in-MustFlush.back c.in-MustFlush.ensures.steps c.in-More.back c.in-More.ensures.stages;
       follows = follows_further _ _ _ old same new (follows_further _ _ _ old mid same c.waiting.invariant.follows c.call.ensures.follows)
           c.flush_stage.ensures.follows;
+      size = size_after old mid c.args.lane c.args.number c.last-since.result.0 c.args.command c.waiting.waiting waited since_is command_is same new
+          c.in-MustFlush.back c.in-MustFlush.ensures.steps c.in-More.back c.in-More.ensures.stages c.waiting.invariant.size;
       streams = streams_more _ _ _ c.waiting.invariant.streams (streams_more _ _ _ (rw c.in-MustFlush.ensures.streams (record { input = refl; output = refl }))
           c.flush_stage.ensures.streams);
       since_is = since_is;

@@ -25,7 +25,7 @@ loop-line-preserved g c = (
   Serving-more c.args.lines.items c.loop-line.yielded c.next.new.self.rest.items c.in-Some.line c.requires.each c.requires.rising
       (g.D.Disk.left_since (devices_of c.args.core.now).disk) (g.D.Disk.left_since (devices_of c.loop-line.core).disk)
       (g.D.Disk.left_since (devices_of c.serve_line.new.core).disk)
-      (seen_core c.args.core.now) (seen_core c.loop-line.core) (seen_core c.serve_line.new.core) c.serve_line.ensures.follows
+      (seen_core c.args.core.now) (seen_core c.loop-line.core) (seen_core c.serve_line.new.core) c.serve_line.ensures.follows c.serve_line.ensures.size
       (g.K.Sink.held c.args.out.now) (g.K.Sink.held c.loop-line.out) (g.K.Sink.held c.serve_line.new.out)
       (rw c.in-Some.ensures.steps.0 at c.loop-line.invariant.0) c.in_ok-serve_line.ensures.ok,
   omega (arith, c.loop-line.invariant.1, c.serve_line.ensures.never_falls),
@@ -41,6 +41,6 @@ returns-in_err-serve_line-clause-err g c =
     (ServedInPart-stopped c.args.lines.items c.loop-line.yielded c.next.new.self.rest.items c.in-Some.line c.requires.each c.requires.rising
     (g.D.Disk.left_since (devices_of c.args.core.now).disk) (g.D.Disk.left_since (devices_of c.loop-line.core).disk)
     (g.D.Disk.left_since (devices_of c.serve_line.new.core).disk)
-    (seen_core c.args.core.now) (seen_core c.loop-line.core) (seen_core c.serve_line.new.core) c.serve_line.ensures.follows
+    (seen_core c.args.core.now) (seen_core c.loop-line.core) (seen_core c.serve_line.new.core) c.serve_line.ensures.follows c.serve_line.ensures.size
     (seen g.K.Sink.held g.K.Sink.faults c.args.out.now) _ _ _ (rw c.in-Some.ensures.steps.0 at c.loop-line.invariant.0) c.loop-line.invariant.1
     c.in_err-serve_line.ensures.err)

@@ -3,7 +3,7 @@ use Rattle.std.specs.Prelude.{Ok}
 use Rattle.hm_core.specs.Seen.{seen as seen_core}
 use Rattle.hm_core.specs.Staged.{EndsBy}
 use Rattle.hm_core.proofs.CoreLemmas.{follows_further}
-use Rattle.hm_shell.proofs.CommitLemmas.{commits_all, so_far_more, waits_at_end, write_cause}
+use Rattle.hm_shell.proofs.CommitLemmas.{commits_all, size_at_end, so_far_more, waits_at_end, write_cause}
 use Rattle.hm_shell.proofs.FlushLemmas.{stages_fall, unflushed_open}
 use Rattle.hm_shell.proofs.WaitLemmas.{streams_more}
 use Rattle.hm_shell.proofs.volume.commit_all.Goals as goal
@@ -26,6 +26,16 @@ returns-in-Ok-true-clause-follows g c =
     follows_further _ _ _ (seen_core c.args.core.now) (seen_core c.flushing.core) (seen_core c.end_stage.new.self) c.flushing.invariant.follows
     c.end_stage.ensures.follows
 
+pub returns-in-Ok-true-clause-size : goal.returns-in-Ok-true-clause-size
+returns-in-Ok-true-clause-size g c =
+    size_at_end (seen_core c.args.core.now) (seen_core c.flushing.core) (seen_core c.end_stage.new.self) c.end_stage.result
+    c.flushing.invariant.size c.end_stage.ensures.ends
+
+pub returns-in-Err-clause-size : goal.returns-in-Err-clause-size
+returns-in-Err-clause-size g c =
+    size_at_end (seen_core c.args.core.now) (seen_core c.flushing.core) (seen_core c.end_stage.new.self) c.end_stage.result
+    c.flushing.invariant.size c.end_stage.ensures.ends
+
 pub flushing-preserved : goal.flushing-preserved
 flushing-preserved g c =
     let old = seen_core c.args.core.now in
@@ -36,6 +46,7 @@ flushing-preserved g c =
           (subst (λ (b : Bool). EndsBy mid new (Ok b)) c.in-Ok-false.field-0-test c.in-Ok-false.ensures.ends);
       waits = waits_at_end old mid new c.end_stage.result c.flushing.invariant.waits c.end_stage.ensures.ends;
       follows = follows_further _ _ _ old mid new c.flushing.invariant.follows c.end_stage.ensures.follows;
+      size = size_at_end old mid new c.end_stage.result c.flushing.invariant.size c.end_stage.ensures.ends;
       streams = streams_more _ _ _ c.flushing.invariant.streams c.end_stage.ensures.streams;
     }
 

@@ -21,7 +21,7 @@ returns-in-Ok-clause-ok g c =
     (g.D.Disk.left_since (devices_of c.serve_script.new.core).disk) (g.D.Disk.left_since (devices_of c.commit_all.new.core).disk)
     (seen_core c.args.core.now) (seen_core c.serve_script.new.core) (seen_core c.commit_all.new.core)
     (g.K.Sink.held c.args.out.now) (g.K.Sink.held c.serve_script.new.out) c.in-Ok.ensures.ok c.commit_all.ensures.waits c.commit_all.ensures.follows
-    c.requires.flushed c.in-Ok.ensures.behind c.commit_all.result c.commit_all.ensures.ok
+    c.commit_all.ensures.size c.requires.flushed c.in-Ok.ensures.behind c.commit_all.result c.commit_all.ensures.ok
 
 pub returns-in-Ok-clause-err : goal.returns-in-Ok-clause-err
 unfolding heap_of
@@ -30,4 +30,4 @@ returns-in-Ok-clause-err g c =
     (g.D.Disk.left_since (devices_of c.serve_script.new.core).disk) (g.D.Disk.left_since (devices_of c.commit_all.new.core).disk)
     (seen_core c.args.core.now) (seen_core c.serve_script.new.core) (seen_core c.commit_all.new.core)
     (seen g.K.Sink.held g.K.Sink.faults c.args.out.now) (seen g.K.Sink.held g.K.Sink.faults c.serve_script.new.out) c.in-Ok.ensures.ok
-    c.commit_all.ensures.waits c.commit_all.ensures.follows c.commit_all.result c.commit_all.ensures.err
+    c.commit_all.ensures.waits c.commit_all.ensures.follows c.commit_all.ensures.size c.commit_all.result c.commit_all.ensures.err

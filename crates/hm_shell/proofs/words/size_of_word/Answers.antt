@@ -2,11 +2,11 @@ use Rattle.std.proofs.Common.{◌≡◌, ℕ, List, ◌∙◌, arith, Result, Ok
 use Rattle.std.specs.Str.Parse.{ParsesUnsigned}
 use Rattle.std.proofs.lemmas.Fmt.{parse-decimal}
 use Rattle.std.proofs.lemmas.Slice.Eq.{bytes_eq-Decides}
-use Rattle.hm_shell.specs.Words.{IsSize}
+use Rattle.hm_shell.specs.Words.{SpellsSize}
 use Rattle.hm_shell.proofs.words.size_of_word.Goals as goal
 
 -- a word that spells a size parses to that size
-parses_size : {E : Type 0} (word : List ℕ) (r : Result ℕ E) (n : ℕ) → ParsesUnsigned 32 10 word r → IsSize word n → r ≡ Ok n
+parses_size : {E : Type 0} (word : List ℕ) (r : Result ℕ E) (n : ℕ) → ParsesUnsigned 32 10 word r → SpellsSize word n → r ≡ Ok n
 parses_size word r n p s = parse-decimal 32 n word r (omega arith) (omega arith) s.digits p
 
 pub returns-in_default : goal.returns-in_default

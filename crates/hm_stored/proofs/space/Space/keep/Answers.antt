@@ -8,6 +8,10 @@ use Rattle.hm_stored.proofs.TurnLemmas.{keep_kept, layer2_kept}
 use Rattle.hm_stored.proofs.VolumeLemmas.{volume_closed}
 use Rattle.hm_stored.proofs.space.Space.keep.Goals as goal
 
+pub keep-requires : goal.keep-requires
+unfolding heap_of
+keep-requires g c = record { opened = c.requires.opened }
+
 pub invariant_of-self : goal.invariant_of-self
 invariant_of-self g c =
     let s = c.args.self.now in

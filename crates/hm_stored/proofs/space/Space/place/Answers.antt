@@ -1,23 +1,12 @@
 -- Bytes are put into a new extent.
-use Rattle.std.proofs.Common.{ℕ, subst, ◌≤◌, length}
-use Rattle.hm_types.specs.Space.{rounded}
 use Rattle.hm_pages.specs.Store.{contents}
-use Rattle.hm_stored.specs.Heap.{heap_of}
 use Rattle.hm_stored.proofs.ExtentCallLemmas.{layer2_stays}
-use Rattle.hm_stored.proofs.NewNodeLemmas.{room_whole}
-use Rattle.hm_stored.proofs.PutCallLemmas.{puts_cause, puts_kept, puts_ok, puts_stays, sized_of}
+use Rattle.hm_stored.proofs.PutCallLemmas.{puts_cause, puts_kept, puts_ok, puts_stays, sized_kept}
 use Rattle.hm_stored.proofs.VolumeLemmas.{volume_still}
 use Rattle.hm_stored.proofs.space.Space.place.Goals as goal
 
-pub put-requires-clause-room : goal.put-requires-clause-room
-unfolding heap_of
-put-requires-clause-room g c =
-    let s = c.args.self.now in
-    subst (λ (n : ℕ). rounded (length c.args.bytes.now) ≤ n)
-    (room_whole (heap_of (contents s.pages.store) (g.D.Disk.told s.disk) s.books) c.if-not-self.false c.args.zone) c.requires.room
-
 pub put-requires-clause-size : goal.put-requires-clause-size
-put-requires-clause-size g c = let s = c.args.self.now in sized_of (contents s.pages.store) (g.D.Disk.told s.disk) s.books s.kept
+put-requires-clause-size g c = sized_kept _ c.args.self.now.kept
 
 pub invariant_of-self : goal.invariant_of-self
 invariant_of-self g c =

@@ -8,6 +8,10 @@ use Rattle.hm_stored.proofs.TurnLemmas.{undo_kept, layer2_kept}
 use Rattle.hm_stored.proofs.VolumeLemmas.{volume_dropped}
 use Rattle.hm_stored.proofs.space.Space.undo.Goals as goal
 
+pub undo-requires : goal.undo-requires
+unfolding heap_of
+undo-requires g c = record { opened = c.requires.opened }
+
 pub invariant_of-self-3 : goal.invariant_of-self-3
 invariant_of-self-3 g c =
     let s = c.args.self.now in
