@@ -175,11 +175,13 @@ printf '%-50s %8s us\n' 'cat of a block after 163 overwrites' \
 # Files of 20,000 bytes, each made and filled by a call of its own.
 awk 'BEGIN { for (i = 0; i < 1000; i++) printf "touch /f%04d\nfill /f%04d 0 20000 61\n", i, i }' >"$room/files"
 sqlite() { rm -f "$room/base.db"*; "$room/sqlite_blobs" "$room/base.db" fill 1000 20000; }
+synced() { SYNCHRONOUS=NORMAL sqlite; }
 for _ in 1 2 3; do
     make_volume
     timed 0 ok over "$room/nothing"; keep open_files
     timed 2000 ok over "$room/files"; keep files
     timed 2000 ok sqlite; keep sqlite
+    timed 2000 ok synced; keep synced
 done
 
 # The bytes that the words write to files, into $bytes, where strace can tell.
@@ -199,7 +201,7 @@ hammer_bytes=$bytes
 rm -f "$room/base.db"*
 count_bytes "$room/sqlite_blobs" "$room/base.db" fill 1000 20000
 echo
-printf '%-34s %10s %14s %12s\n' '1,000 files of 20,000 bytes' hammer 'opening of it' SQLite
-printf '%-34s %8s s %12s s %10s s\n' 'touch and fill of each' "${least[files]}" "${least[open_files]}" \
-    "${least[sqlite]}"
+printf '%-34s %10s %14s %12s %12s\n' '1,000 files of 20,000 bytes' hammer 'opening of it' SQLite 'SQLite NORMAL'
+printf '%-34s %8s s %12s s %10s s %11s s\n' 'touch and fill of each' "${least[files]}" "${least[open_files]}" \
+    "${least[sqlite]}" "${least[synced]}"
 printf '%-34s %10s %14s %12s\n' 'bytes written to files' "$hammer_bytes" '' "$bytes"
