@@ -1,8 +1,9 @@
 #!/usr/bin/env bash
 # The bytes of files: a file of 15,728,640 bytes written, read, and overwritten with both versions read,
 # beside plain pwrite and pread; overwriting at random places, and reading the present and the past; many
-# short appends; and 1,000 files of 20,000 bytes, beside the library of SQLite, a row a block. Processor
-# time, user and system, the best of three, and of ten where the digits are taken off.
+# short appends; and 1,000 files of 20,000 bytes, beside the library of SQLite, a row a block, without syncs
+# and with `synchronous = NORMAL`. Processor time, user and system, the best of three, and of ten where the
+# digits are taken off.
 . "$(dirname "${BASH_SOURCE[0]}")/common.bash"
 
 cc=${CC:-cc}

@@ -77,7 +77,7 @@ echo "memory of the last run of 50,000 looks: ${peak:-unknown} bytes"
 
 # The calls of the flushes of one run: what it reads and syncs once its first line is answered, and what it writes
 # but for payloads, which are written as their calls are run.
-command -v strace >/dev/null || stop 'needs strace for the calls of the flushes'
+command -v strace >/dev/null || { echo 'no strace: the calls of the flushes were not measured'; exit 0; }
 "$cc" -O2 -o "$room/plain_calls" "$top/bench/plain_calls.c" 2>"$room/err" || stop "the plain program was not built"
 make_volume
 over "$room/touch-b" >"$room/out"

@@ -5,7 +5,8 @@
 //
 // A file is a row of the table of files, and each of its blocks a row of the table of blocks: the file, which
 // block it is, the id of the call that wrote it, and its bytes. Making a file and filling it are a transaction
-// each, as they are a call each of hammer. Nothing is synced, and each reply is printed before the next call.
+// each, as they are a call each of hammer. Nothing is synced, unless the word SYNCHRONOUS of the environment says so,
+// and each reply is printed before the next call.
 #include "sqlite.h"
 
 enum { BLOCK = 16384 };
